@@ -1,0 +1,4 @@
+pub mod Number
+pub mod Sort
+pub mod Record
+pub mod Store
