@@ -1,0 +1,97 @@
+// The records of a sheet, read field by field.
+
+// Why a sheet is refused; `refusalNumber` of specs/Reader.antt gives document 01's number of each.
+pub enum Refusal {
+    // The sheet is under 6 or over 65,536 bytes.
+    Length,
+    // A count of the header is over its limit.
+    Header,
+    // A record runs past the end.
+    PastEnd,
+    // The bit of the kind is missing, the kind unknown, or the bit map not the kind's.
+    Map,
+    // A list length, a number or a name list is outside what its kind takes.
+    Value,
+    // A reference is not to an earlier record.
+    Reference,
+    // Bytes stand after the last record.
+    Trailing,
+    // Fewer rows than 2 T or fewer answers than Q are lent.
+    Lent,
+    // A sort's tree size is over 4,096.
+    TreeSize,
+    // The store cannot hold the sheet's sorts.
+    Store,
+}
+
+// A place in a sheet.
+pub struct Cursor {
+    pub at: usize,
+}
+
+// A number and the place behind it.
+pub enum ReadNumber {
+    Number(usize, Cursor),
+    NoNumber(Refusal),
+}
+
+// Where a list starts, how many entries it has, and the place behind it.
+pub enum ReadList {
+    List(usize, usize, Cursor),
+    NoList(Refusal),
+}
+
+// The bit map and the kind that open a record, and the place behind them.
+pub enum ReadHead {
+    Head(usize, usize, Cursor),
+    NoHead(Refusal),
+}
+
+// The fields of a sort record; of a list where it starts and how many entries it has.
+pub struct SortRecord {
+    pub kind: usize,
+    pub name: usize,
+    pub number: usize,
+    pub list: usize,
+    pub count: usize,
+    pub names: usize,
+    pub named: usize,
+}
+
+pub enum ReadSort {
+    Sort(SortRecord, Cursor),
+    NoSort(Refusal),
+}
+
+// The fields of a term record.
+pub struct TermRecord {
+    pub kind: usize,
+    pub name: usize,
+    pub number: usize,
+    pub sort: usize,
+    pub list: usize,
+    pub count: usize,
+    pub pairs: usize,
+    pub paired: usize,
+    pub second: usize,
+    pub seconds: usize,
+}
+
+pub enum ReadTerm {
+    Term(TermRecord, Cursor),
+    NoTerm(Refusal),
+}
+
+// The fields of a question record.
+pub struct QuestionRecord {
+    pub kind: usize,
+    pub list: usize,
+    pub count: usize,
+    pub names: usize,
+    pub named: usize,
+}
+
+pub enum ReadQuestion {
+    Question(QuestionRecord, Cursor),
+    NoQuestion(Refusal),
+}
