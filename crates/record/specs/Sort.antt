@@ -75,6 +75,18 @@ set a = node 14 0 0 (a then end)
 abbrev pub tuple : Sorts → Sort
 tuple ss = node 15 0 0 ss
 
+-- The kind of a sort, the number of its constructor in enum Sort.
+abbrev pub kindOf : Sort → ℕ
+kindOf (var v) = 2
+kindOf (par ns b) = 12
+kindOf (node k a w ss) = k
+
+-- The number that a sort carries: the width of a BitVec, else 0.
+abbrev pub numberIn : Sort → ℕ
+numberIn (var v) = 0
+numberIn (par ns b) = 0
+numberIn (node k a w ss) = w
+
 -- How many sorts a list has.
 unfoldable pub count : Sorts → ℕ
 count end = 0

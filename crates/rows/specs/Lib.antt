@@ -1,0 +1,4 @@
+pub mod Verdict
+pub mod Lists
+pub mod Term
+pub mod Outcome

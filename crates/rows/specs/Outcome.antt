@@ -1,0 +1,61 @@
+-- A verdict meets the limits: 22 by the answer, 23 by the store; the row is coded, and an accepted answer is interned.
+use Prim.Native.Nat.{ℕ, _+_, _*_}
+use mathlib.Core.Bool.{Bool, true, false, cond, _&&_}
+use mathlib.Core.List.{List, [], _∷_}
+use mathlib.Core.Option.{Option, none, some}
+use lib.ListN.{length, getD}
+use lib.Dec.{leb, ltb}
+use Rattle.record.specs.Sort.{Sort, Sorts, var, par, node, end, _then_, count, size}
+use Rattle.record.specs.Record.{leaf}
+use Rattle.record.specs.Store.{intern, indexOf, room}
+use Rattle.sheet.specs.Sheet.{Lengths}
+use Rattle.rows.specs.declared.Cause.{Cause}
+use Rattle.rows.specs.declared.Cause.the-variants.{Limit, Full}
+use Rattle.rows.specs.Verdict.{Verdict, sort, refused, numberOf}
+
+-- Every width is at most 65,535 and every list at most 64 long, at every depth.
+unfoldable mutual
+  unfolding count
+
+  pub shallow : Sort → Bool
+  shallow (var v) = true
+  shallow (par ns b) = leb (length ns) 64 && shallow b
+  shallow (node k a w ss) = leb w 65535 && (leb (count ss) 64 && shallowAll ss)
+
+  pub shallowAll : Sorts → Bool
+  shallowAll end = true
+  shallowAll (s then ss) = shallow s && shallowAll ss
+
+-- An answer within the limits of its width, its lists and its tree, 4,096; else 22.
+unfoldable pub within : Sort → Bool
+unfolding shallow size
+within s = shallow s && leb (size s) 4096
+
+-- The store after a row or an answer, and its code.
+pub record Outcome : Type 0 where
+  pub store : List Sort
+  pub code : ℕ
+
+-- "left as it was: store", whatever the cause.
+abbrev pub refusal : List Sort → Cause → Outcome
+refusal st c = record { store = st; code = numberOf c * 65536 }
+
+abbrev pub outcomeBy : Bool → Outcome → Outcome → Outcome
+outcomeBy true a b = a
+outcomeBy false a b = b
+
+-- THE OUTCOME OF A VERDICT over a store: "An answer adds only the sorts inside it."
+unfoldable pub outcome : Lengths → List Sort → Verdict → Outcome
+unfolding within room intern indexOf
+outcome l st (refused c) = refusal st c
+outcome l st (sort s) =
+    outcomeBy (within s)
+    (outcomeBy (room (l .records) (l .places) (intern s st))
+    (record { store = intern s st; code = indexOf s (intern s st) })
+    (refusal st Full))
+    (refusal st Limit)
+
+-- The sort of the term i in a column of the rows, 0 the inferred, 1 the checked one; none where that row is refused.
+unfoldable pub rowSort : List Sort → List ℕ → ℕ → ℕ → Option Sort
+rowSort st rows column i =
+    cond (ltb (getD rows (2 * i + column) 0) 65536) (some (getD st (getD rows (2 * i + column) 0) leaf)) none
