@@ -6,6 +6,7 @@ use mathlib.Core.List.{List, [], _∷_}
 use lib.ListN.{length, getD}
 use lib.Dec.{leb, ltb, eqb}
 use Rattle.record.specs.Number.{u16At, u32At, numbersAt}
+use Rattle.record.specs.Names.{distinct}
 use Rattle.record.specs.Record.{bit, mapOf, leastOf, mostOf}
 use Rattle.reader.specs.Tables.{termMapOf, termNumberOf, termLeastOf, termMostOf, secondLeastOf, secondMostOf, questionMapOf, questionLeastOf, questionMostOf, namesLeastOf, namesMostOf}
 use Rattle.reader.specs.declared.Refusal.{Refusal}
@@ -117,16 +118,6 @@ readList s least most x =
 unfoldable pub allBelow : ℕ → List ℕ → Bool
 allBelow i [] = true
 allBelow i (v ∷ vs) = ltb v i && allBelow i vs
-
--- Names of which none stands twice.
-unfoldable pub member : ℕ → List ℕ → Bool
-member v [] = false
-member v (n ∷ ns) = eqb n v || member v ns
-
-unfoldable pub distinct : List ℕ → Bool
-unfolding member
-distinct [] = true
-distinct (v ∷ vs) = not (member v vs) && distinct vs
 
 -- Bit 16: a list of references below `limit`, 6.
 unfoldable pub readReferences : List ℕ → ℕ → ℕ → ℕ → ℕ → ℕ → ReadList

@@ -1,0 +1,4 @@
+pub mod Rank
+pub mod Ranks
+pub mod Checked
+pub mod Routes

@@ -1,0 +1,1 @@
+// The checked sort of a term.

@@ -1,0 +1,1 @@
+// Rows, answers, and the judgement of a whole sheet.
