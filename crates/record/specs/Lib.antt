@@ -1,4 +1,6 @@
 pub mod Number
 pub mod Sort
+pub mod Cases
+pub mod SortLaws
 pub mod Record
 pub mod Store

@@ -1,0 +1,83 @@
+-- Small laws of Bool and Option that the laws of sorts, substitution and matching use: taking tests apart, and cases that keep their equation.
+use Prim.Native.Nat.{ℕ}
+use mathlib.Core.Path.{_≡_, refl, sym}
+use mathlib.Core.Bool.{Bool, true, false, not, _&&_, _||_, false≢true, true≢false}
+use mathlib.Core.Option.{Option, none, some}
+use lib.Dec.{eqb}
+use borrow.Author.Tests.{eq-eqb, eqb-true}
+
+-- Both sides of a conjunction that holds; `search conj` finds them where they are nested.
+pub and-left : (a b : Bool) → (a && b) ≡ true → a ≡ true
+and-left true b e = refl
+and-left false b e = e
+
+pub and-right : (a b : Bool) → (a && b) ≡ true → b ≡ true
+and-right true b e = e
+and-right false b e = absurd (false≢true e)
+
+pub ruleset conj = (and-left, and-right)
+
+pub and-true : (a b : Bool) → a ≡ true → b ≡ true → (a && b) ≡ true
+and-true a b p q = rw (p, q)
+
+-- The three sides of a conjunction of three.
+pub three : (a b c : Bool) → (a && b && c) ≡ true → (a ≡ true) × (b ≡ true) × (c ≡ true)
+three true true c e = (refl, refl, e)
+three true false c e = absurd (false≢true e)
+three false b c e = absurd (false≢true e)
+
+-- Both sides of a disjunction that fails.
+pub or-left : (a b : Bool) → (a || b) ≡ false → a ≡ false
+or-left true b e = e
+or-left false b e = refl
+
+pub or-right : (a b : Bool) → (a || b) ≡ false → b ≡ false
+or-right true b e = absurd (true≢false e)
+or-right false b e = e
+
+-- A disjunction holds if its right side does.
+pub or-second : (a b : Bool) → b ≡ true → (a || b) ≡ true
+or-second true b e = refl
+or-second false b e = e
+
+pub not-true : (a : Bool) → not a ≡ true → a ≡ false
+not-true true e = sym e
+not-true false e = refl
+
+pub not-false : (a : Bool) → not a ≡ false → a ≡ true
+not-false true e = refl
+not-false false e = sym e
+
+-- A test cannot both hold and fail.
+pub clash : {C : Type 0} {a : Bool} → a ≡ true → a ≡ false → C
+clash {C} {a} p q = let z : true ≡ false = cc in absurd (true≢false z)
+
+-- Two tests that hold together are equal.
+pub both-ways : (a b : Bool) → (a ≡ true → b ≡ true) → (b ≡ true → a ≡ true) → a ≡ b
+both-ways true b f g = sym (f refl)
+both-ways false true f g = g refl
+both-ways false false f g = refl
+
+-- A number is equal to itself, and the test does not mind the order.
+pub eqb-self : (n : ℕ) → eqb n n ≡ true
+eqb-self n = eq-eqb n n refl
+
+pub eqb-swap : (m n : ℕ) → eqb m n ≡ eqb n m
+eqb-swap m n =
+    both-ways (eqb m n) (eqb n m) (λ e. eq-eqb n m (sym (eqb-true m n e))) (λ e. eq-eqb m n (sym (eqb-true n m e)))
+
+-- By cases on a test or an option, with the equation kept.
+pub byTest : {C : Type 0} (b : Bool) → (b ≡ true → C) → (b ≡ false → C) → C
+byTest true t f = t refl
+byTest false t f = f refl
+
+pub byOption : {A : Type 0} {C : Type 0} (o : Option A) → (o ≡ none → C) → ((a : A) → o ≡ some a → C) → C
+byOption none n s = n refl
+byOption (some a) n s = s a refl
+
+-- The constructors of Option are apart, and `some` takes no two values to one.
+pub none-some : {A C : Type 0} {x : A} → none ≡ some x → C
+none-some {A} {C} {x} e = let z : true ≡ false = cc in absurd (true≢false z)
+
+pub some-inj : {A : Type 0} {x y : A} → some x ≡ some y → x ≡ y
+some-inj {A} {x} {y} e = cc
