@@ -1,0 +1,10 @@
+pub mod Substitution
+pub mod Premises
+pub mod Matching
+pub mod MatchWith
+pub mod Compatible
+pub mod Examples
+pub mod SubstitutionLaws
+pub mod MatchingLaws
+pub mod MatchWithLaws
+pub mod CompatibleLaws

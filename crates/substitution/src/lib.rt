@@ -1,0 +1,1 @@
+// Substitution, matching and compatibility of sorts: definitions and laws only, in specs/.
