@@ -8,7 +8,7 @@ use lib.Dec.{eqb}
 use borrow.Author.Tests.{eqb-true, eqb-false, eq-eqb, ne-eqb}
 use Rattle.record.specs.Sort.{Sort, Sorts, var, par, node, end, _then_, same, sameAll, tuple}
 use Rattle.record.specs.SortLaws.{same-sound, same-refl, same-complete}
-use Rattle.record.specs.Cases.{and-left, and-right, conj, and-true, or-left, or-right, not-true, three, eqb-self, byTest, byOption, none-some, some-inj, clash}
+use Rattle.record.specs.Cases.{and-left, and-right, conj, and-true, or-left, or-right, or-second, not-true, three, eqb-self, byTest, byOption, none-some, some-inj, clash}
 use Rattle.substitution.specs.Substitution.{Map, empty, bind, find, orElse, isSome, bound, apply, applyAll, through, member, occurs, occursAny}
 use Rattle.substitution.specs.Premises.{touches, proper, properAll, properMap, parless, parlessAll}
 use Rattle.substitution.specs.SubstitutionLaws.{proper-parless, find-untouched, image-untouched, image-proper, find-through, find-through-none}
@@ -255,3 +255,139 @@ mutual
   matchAll-moved σ ns (p then ps) (t then ts) m m′ e d h =
       let (k, g, r) = andThen-middle (matches ns p t m) (λ k. matchesAll ns ps ts k) m′ h in
       rw (match-moved σ ns p t m k e d g) (matchAll-moved σ ns ps ts k m′ e d r)
+
+-- The map of a match with proper targets is proper.
+mutual
+  unfolding matches proper properMap
+
+  pub match-proper : (l : ℕ → Bool) (p t : Sort) (m m′ : Map) → proper t ≡ true → properMap m ≡ true → matches l p t m ≡ some m′ → properMap m′ ≡ true
+  match-proper l (var v) t m m′ e d h =
+      byTest (l v)
+      (λ q. byOption (find m v)
+      (λ f. rw (← some-inj (rw (q, f) at h)) (and-true (proper t) (properMap m) e d))
+      (λ s f. rw (← some-inj (keep-rest (same s t) (some m) m′ (rw (q, f) at h))) d))
+      (λ q. rw (← some-inj (keep-rest (same (var v) t) (some m) m′ (rw q at h))) d)
+  match-proper l (par us b) t m m′ e d h = none-some h
+  match-proper l (node k a w ps) (var v) m m′ e d h = none-some h
+  match-proper l (node k a w ps) (par us b) m m′ e d h = none-some h
+  match-proper l (node k a w ps) (node j c x ts) m m′ e d h =
+      matchAll-proper l ps ts m m′ (search conj) d (keep-rest (eqb k j && eqb a c && eqb w x) (matchesAll l ps ts m) m′ h)
+
+  pub matchAll-proper : (l : ℕ → Bool) (ps ts : Sorts) (m m′ : Map) → properAll ts ≡ true → properMap m ≡ true → matchesAll l ps ts m ≡ some m′ → properMap m′ ≡ true
+  matchAll-proper l end end m m′ e d h = rw (← some-inj h) d
+  matchAll-proper l end (t then ts) m m′ e d h = none-some h
+  matchAll-proper l (p then ps) end m m′ e d h = none-some h
+  matchAll-proper l (p then ps) (t then ts) m m′ e d h =
+      let (k, g, r) = andThen-middle (matches l p t m) (λ k. matchesAll l ps ts k) m′ h in
+      matchAll-proper l ps ts k m′ (search conj) (match-proper l p t m k (search conj) d g) r
+
+-- What a match binds newly is a listed variable of the pattern.
+mutual
+  unfolding matches occurs
+
+  pub match-only : (ns : ℕ → Bool) (p t : Sort) (m m′ : Map) (v : ℕ) → matches ns p t m ≡ some m′ → bound m v ≡ false → bound m′ v ≡ true
+      → (ns v ≡ true) × (occurs v p ≡ true)
+  match-only ns (var u) t m m′ v e f b =
+      byTest (ns u)
+      (λ q. byOption (find m u)
+      (λ g. let y : some (bind u t m) ≡ some m′ = rw (q, g) at e in let z : bound (bind u t m) v ≡ true = ap (λ (n : Map). bound n v) (some-inj y) ∙ b in
+      byTest (eqb u v)
+      (λ r. (rw (eqb-true u v r) at q, r))
+      (λ r. let x : bound m v ≡ true = rw r at z in clash x f))
+      (λ s g. let z : bound m v ≡ true = rw (some-inj (keep-rest (same s t) (some m) m′ (rw (q, g) at e))) b in clash z f))
+      (λ q. let z : bound m v ≡ true = rw (some-inj (keep-rest (same (var u) t) (some m) m′ (rw q at e))) b in clash z f)
+  match-only ns (par us b) t m m′ v e f h = none-some e
+  match-only ns (node k a w ps) (var u) m m′ v e f b = none-some e
+  match-only ns (node k a w ps) (par us c) m m′ v e f b = none-some e
+  match-only ns (node k a w ps) (node l c x ts) m m′ v e f b =
+      matchAll-only ns ps ts m m′ v (keep-rest (eqb k l && eqb a c && eqb w x) (matchesAll ns ps ts m) m′ e) f b
+
+  pub matchAll-only : (ns : ℕ → Bool) (ps ts : Sorts) (m m′ : Map) (v : ℕ) → matchesAll ns ps ts m ≡ some m′ → bound m v ≡ false → bound m′ v ≡ true
+      → (ns v ≡ true) × (occursAny v ps ≡ true)
+  matchAll-only ns end end m m′ v e f b = let z : bound m v ≡ true = rw (some-inj e) b in clash z f
+  matchAll-only ns end (t then ts) m m′ v e f b = none-some e
+  matchAll-only ns (p then ps) end m m′ v e f b = none-some e
+  matchAll-only ns (p then ps) (t then ts) m m′ v e f b =
+      let (k, g, h) = andThen-middle (matches ns p t m) (λ k. matchesAll ns ps ts k) m′ e in
+      byTest (bound k v)
+      (λ q. let (l, o) = match-only ns p t m k v g f q in (l, rw o refl))
+      (λ q. let (l, o) = matchAll-only ns ps ts k m′ v h q b in (l, or-second (occurs v p) (occursAny v ps) o))
+
+---------------------------------------------------------------- the statement of document 01
+-- "Success exactly when some assignment turns pattern into target; other variables stand for themselves", from an empty map.
+-- An assignment is a map that binds listed names only (`Within`).
+pub record Matching (ns : ℕ → Bool) (p t : Sort) : Type 0 where
+  -- A success is an assignment that turns pattern into target.
+  pub success : (m : Map) → matches ns p t empty ≡ some m → Within ns m × (apply m p ≡ t)
+  -- It binds the listed variables of the pattern, each of them and nothing else.
+  pub binds : (m : Map) → matches ns p t empty ≡ some m → (v : ℕ) → ns v ≡ true → occurs v p ≡ true → bound m v ≡ true
+  pub only : (m : Map) → matches ns p t empty ≡ some m → (v : ℕ) → bound m v ≡ true → (ns v ≡ true) × (occurs v p ≡ true)
+  -- Where an assignment turns pattern into target, there is a success, and it is that assignment on the listed variables of the pattern.
+  pub found : (θ : Map) → Within ns θ → apply θ p ≡ t
+      → (m : Map) × (matches ns p t empty ≡ some m) × ((v : ℕ) → ns v ≡ true → occurs v p ≡ true → find m v ≡ some (apply θ (var v)))
+  -- So any two such assignments agree there.
+  pub unique : (θ η : Map) → Within ns θ → Within ns η → apply θ p ≡ t → apply η p ≡ t
+      → (v : ℕ) → ns v ≡ true → occurs v p ≡ true → apply θ (var v) ≡ apply η (var v)
+  -- There is no success exactly when there is no such assignment.
+  pub refusal : matches ns p t empty ≡ none → (θ : Map) → Within ns θ → apply θ p ≡ t → ⊥
+  pub refused : ((θ : Map) → Within ns θ → apply θ p ≡ t → ⊥) → matches ns p t empty ≡ none
+
+-- The same for lists of patterns and targets, with one assignment for all.
+pub record MatchingAll (ns : ℕ → Bool) (ps ts : Sorts) : Type 0 where
+  pub success : (m : Map) → matchesAll ns ps ts empty ≡ some m → Within ns m × (applyAll m ps ≡ ts)
+  pub binds : (m : Map) → matchesAll ns ps ts empty ≡ some m → (v : ℕ) → ns v ≡ true → occursAny v ps ≡ true → bound m v ≡ true
+  pub only : (m : Map) → matchesAll ns ps ts empty ≡ some m → (v : ℕ) → bound m v ≡ true → (ns v ≡ true) × (occursAny v ps ≡ true)
+  pub found : (θ : Map) → Within ns θ → applyAll θ ps ≡ ts
+      → (m : Map) × (matchesAll ns ps ts empty ≡ some m) × ((v : ℕ) → ns v ≡ true → occursAny v ps ≡ true → find m v ≡ some (apply θ (var v)))
+  pub unique : (θ η : Map) → Within ns θ → Within ns η → applyAll θ ps ≡ ts → applyAll η ps ≡ ts
+      → (v : ℕ) → ns v ≡ true → occursAny v ps ≡ true → apply θ (var v) ≡ apply η (var v)
+  pub refusal : matchesAll ns ps ts empty ≡ none → (θ : Map) → Within ns θ → applyAll θ ps ≡ ts → ⊥
+  pub refused : ((θ : Map) → Within ns θ → applyAll θ ps ≡ ts → ⊥) → matchesAll ns ps ts empty ≡ none
+
+pub match-success : (ns : ℕ → Bool) (p t : Sort) (m : Map) → matches ns p t empty ≡ some m → Within ns m × (apply m p ≡ t)
+unfolding find
+match-success ns p t m h =
+    let w : Within ns m = match-within ns p t empty m h (λ v q. refl) in
+    (w, match-sound ns p t empty m m h w (agrees-self m))
+
+pub match-found : (ns : ℕ → Bool) (p t : Sort) → parless p ≡ true → (θ : Map) → Within ns θ → apply θ p ≡ t
+    → (m : Map) × (matches ns p t empty ≡ some m) × ((v : ℕ) → ns v ≡ true → occurs v p ≡ true → find m v ≡ some (apply θ (var v)))
+unfolding find
+match-found ns p t e θ w h =
+    let (m, f, g) = match-complete ns p empty θ e w (λ v s q. none-some q) in (
+      m,
+      rw h at f,
+      λ v l o. let b = match-binds ns p (apply θ p) empty m v f l o in
+          byOption (find m v) (λ q. let z : false ≡ true = rw q at b in absurd (false≢true z)) (λ s q. q ∙ ap some (sym (g v s q))),
+    )
+
+-- Document 01 asks it for a pattern and target without Par and ParamBitVec, the target without listed names; it holds for every pattern without Par.
+pub matching : (ns : ℕ → Bool) (p t : Sort) → parless p ≡ true → Matching ns p t
+unfolding find
+matching ns p t e = record {
+  success = λ m h. match-success ns p t m h;
+  binds = λ m h v l o. match-binds ns p t empty m v h l o;
+  only = λ m h v b. match-only ns p t empty m v h refl b;
+  found = λ θ w h. match-found ns p t e θ w h;
+  unique = λ θ η w x h k v l o.
+      let (m, f, g) = match-found ns p t e θ w h in
+      let (n, i, j) = match-found ns p t e η x k in
+      let q : m ≡ n = some-inj (sym f ∙ i) in
+      some-inj (sym (g v l o) ∙ ap (λ (z : Map). find z v) q ∙ j v l o);
+  refusal = λ h θ w k. let (m, f, g) = match-found ns p t e θ w k in none-some (sym h ∙ f);
+  refused = λ h. byOption (matches ns p t empty) (λ q. q) (λ m q. let (w, s) = match-success ns p t m q in absurd (h m w s));
+}
+
+-- A list of patterns is matched as one Tuple of them.
+pub matchingAll : (ns : ℕ → Bool) (ps ts : Sorts) → parlessAll ps ≡ true → MatchingAll ns ps ts
+unfolding matches apply occurs parless
+matchingAll ns ps ts e =
+    let all = matching ns (tuple ps) (tuple ts) e in record {
+      success = λ m h. let (w, s) = all .success m h in (w, cc);
+      binds = λ m h v l o. all .binds m h v l o;
+      only = λ m h v b. all .only m h v b;
+      found = λ θ w h. all .found θ w (ap tuple h);
+      unique = λ θ η w x h k v l o. all .unique θ η w x (ap tuple h) (ap tuple k) v l o;
+      refusal = λ h θ w k. all .refusal h θ w (ap tuple k);
+      refused = λ h. all .refused (λ θ w k. h θ w (cc));
+    }
