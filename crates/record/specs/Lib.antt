@@ -5,3 +5,15 @@ pub mod Cases
 pub mod SortLaws
 pub mod Record
 pub mod Store
+pub mod Decode
+pub mod Table
+pub mod Bytes
+pub mod Codec
+pub mod Forms
+pub mod SameLaws
+pub mod SortLists
+pub mod StoreLaws
+pub mod Sizes
+pub mod Entries
+pub mod Append
+pub mod Whole
