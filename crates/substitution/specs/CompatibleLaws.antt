@@ -1,1 +1,104 @@
--- to come
+-- Laws of is_compatible on all sorts: a Var fits everything, it is reflexive and symmetric, a Par fits what its body fits, and it is not transitive.
+use Prim.Native.Nat.{ℕ}
+use mathlib.Core.Path.{_≡_, refl, sym, ap, _∙_}
+use mathlib.Core.Bool.{Bool, true, false, _&&_, _||_, false≢true}
+use mathlib.Core.List.{List, [], _∷_}
+use lib.Dec.{eqb}
+use borrow.Author.Tests.{eqb-true}
+use Rattle.record.specs.Sort.{Sort, Sorts, var, par, node, end, _then_, same, bool, int}
+use Rattle.record.specs.SortLaws.{same-sound, same-refl, same-swap}
+use Rattle.record.specs.Cases.{or-second, both-ways, eqb-self, eqb-swap, byTest}
+use Rattle.substitution.specs.MatchWith.{isParamBitVec, isBitVec, paramEq}
+use Rattle.substitution.specs.Compatible.{reach, compatible, compatibleAll}
+
+---------------------------------------------------------------- param_eq
+pub paramEq-refl : (s : Sort) → paramEq s s ≡ true
+unfolding paramEq
+paramEq-refl s = rw (same-refl s) refl
+
+pub last-two : (a b c : Bool) → (a || b || c) ≡ (a || c || b)
+last-two true b c = refl
+last-two false true true = refl
+last-two false true false = refl
+last-two false false true = refl
+last-two false false false = refl
+
+pub paramEq-symmetric : (s t : Sort) → paramEq s t ≡ paramEq t s
+unfolding paramEq
+paramEq-symmetric s t = rw (same-swap s t) (last-two (same t s) (isParamBitVec s && isBitVec t) (isParamBitVec t && isBitVec s))
+
+-- A Par is no vector, so it is equal to nothing else.
+pub par-paramEq : (us : List ℕ) (b t : Sort) → paramEq (par us b) t ≡ true → par us b ≡ t
+unfolding paramEq
+par-paramEq us b t e =
+    byTest (same (par us b) t)
+    (λ q. same-sound (par us b) t q)
+    (λ q. byTest (isParamBitVec t)
+    (λ r. let z : false ≡ true = rw (q, r) at e in absurd (false≢true z))
+    (λ r. let z : false ≡ true = rw (q, r) at e in absurd (false≢true z)))
+
+---------------------------------------------------------------- is_compatible
+-- "Var fits everything", on the left and on the right.
+pub compatible-var : (v : ℕ) (t : Sort) → compatible (var v) t ≡ true
+unfolding compatible
+compatible-var v t = refl
+
+pub compatible-to-var : (s : Sort) (v : ℕ) → compatible s (var v) ≡ true
+unfolding compatible
+compatible-to-var (var u) v = refl
+compatible-to-var (par us b) v = or-second (paramEq (par us b) (var v)) (compatible b (var v)) (compatible-to-var b v)
+compatible-to-var (node k a w ss) v = refl
+
+-- Reflexive: the first test is of equality.
+pub compatible-refl : (s : Sort) → compatible s s ≡ true
+unfolding compatible
+compatible-refl (var v) = refl
+compatible-refl (par us b) = rw (paramEq-refl (par us b)) refl
+compatible-refl (node k a w ss) = rw (paramEq-refl (node k a w ss)) refl
+
+-- A Par fits exactly what its body fits, on either side: the one equality that is tested before it is opened is met below it too.
+pub opened : (us : List ℕ) (b t : Sort) → compatible b (par us b) ≡ true → compatible (par us b) t ≡ compatible b t
+unfolding compatible
+opened us b t h =
+    byTest (paramEq (par us b) t)
+    (λ q. let z = par-paramEq us b t q in rw (q, ← z, h) refl)
+    (λ q. rw q refl)
+
+pub compatible-to-par : (s : Sort) (us : List ℕ) (b : Sort) → compatible s (par us b) ≡ compatible s b
+unfolding compatible
+compatible-to-par (var v) us b = refl
+compatible-to-par (par ws c) us b =
+    let h = compatible-to-par c ws c ∙ compatible-refl c in
+    opened ws c (par us b) h ∙ compatible-to-par c us b ∙ sym (opened ws c b h)
+compatible-to-par (node k a w ss) us b = refl
+
+pub compatible-par : (us : List ℕ) (b t : Sort) → compatible (par us b) t ≡ compatible b t
+compatible-par us b t = opened us b t (compatible-to-par b us b ∙ compatible-refl b)
+
+-- Symmetric. A node against any sort, by recursion on that sort, given that its parts are; then all sorts.
+pub node-symmetric : (k a w : ℕ) (ss : Sorts) → ((ts : Sorts) → compatibleAll ss ts ≡ compatibleAll ts ss)
+    → (t : Sort) → compatible (node k a w ss) t ≡ compatible t (node k a w ss)
+unfolding compatible
+node-symmetric k a w ss h (var v) = refl
+node-symmetric k a w ss h (par us b) = node-symmetric k a w ss h b ∙ sym (compatible-par us b (node k a w ss))
+node-symmetric k a w ss h (node l c x ts) =
+    rw (paramEq-symmetric (node k a w ss) (node l c x ts), eqb-swap k l, eqb-swap a c, eqb-swap w x, h ts) refl
+
+mutual
+  unfolding compatible
+
+  pub compatible-symmetric : (s t : Sort) → compatible s t ≡ compatible t s
+  compatible-symmetric (var v) t = sym (compatible-to-var t v)
+  compatible-symmetric (par us b) t = compatible-par us b t ∙ compatible-symmetric b t ∙ sym (compatible-to-par t us b)
+  compatible-symmetric (node k a w ss) t = node-symmetric k a w ss (λ ts. compatibleAll-symmetric ss ts) t
+
+  pub compatibleAll-symmetric : (ss ts : Sorts) → compatibleAll ss ts ≡ compatibleAll ts ss
+  compatibleAll-symmetric end end = refl
+  compatibleAll-symmetric end (t then ts) = refl
+  compatibleAll-symmetric (s then ss) end = refl
+  compatibleAll-symmetric (s then ss) (t then ts) = rw (compatible-symmetric s t, compatibleAll-symmetric ss ts) refl
+
+-- "Compatible is not transitive": Int fits a Var, that fits Bool, and Int does not fit Bool.
+pub compatible-not-transitive : ((r s t : Sort) → compatible r s ≡ true → compatible s t ≡ true → compatible r t ≡ true) → ⊥
+unfolding compatible
+compatible-not-transitive h = false≢true (h int (var 1) bool refl refl)
