@@ -81,3 +81,8 @@ none-some {A} {C} {x} e = let z : true ≡ false = cc in absurd (true≢false z)
 
 pub some-inj : {A : Type 0} {x y : A} → some x ≡ some y → x ≡ y
 some-inj {A} {x} {y} e = cc
+
+-- A test that does not hold is false.
+pub not-true-false : (a : Bool) → (a ≡ true → ⊥) → a ≡ false
+not-true-false true h = absurd (h refl)
+not-true-false false h = refl

@@ -10,7 +10,6 @@ pub mod Table
 pub mod Bytes
 pub mod Codec
 pub mod Forms
-pub mod SameLaws
 pub mod SortLists
 pub mod StoreLaws
 pub mod Sizes

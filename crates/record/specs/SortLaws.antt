@@ -6,7 +6,7 @@ use mathlib.Core.List.{List, [], _∷_}
 use lib.Dec.{eqb}
 use borrow.Author.Tests.{eqb-true}
 use Rattle.record.specs.Sort.{Sort, Sorts, var, par, node, end, _then_, sameNames, same, sameAll}
-use Rattle.record.specs.Cases.{and-left, and-right, both-ways, eqb-self}
+use Rattle.record.specs.Cases.{and-left, and-right, both-ways, eqb-self, not-true-false}
 
 -- Lists of names: by induction, name by name.
 pub sameNames-sound : (ms ns : List ℕ) → sameNames ms ns ≡ true → ms ≡ ns
@@ -80,3 +80,7 @@ sameAll-complete rs ss e = rw (← e) (sameAll-refl rs)
 pub same-swap : (r s : Sort) → same r s ≡ same s r
 same-swap r s =
     both-ways (same r s) (same s r) (λ e. same-complete s r (sym (same-sound r s e))) (λ e. same-complete r s (sym (same-sound s r e)))
+
+-- Different sorts are told apart.
+pub same-other : (r s : Sort) → (r ≡ s → ⊥) → same r s ≡ false
+same-other r s h = not-true-false (same r s) (λ e. h (same-sound r s e))

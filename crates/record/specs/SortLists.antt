@@ -12,7 +12,8 @@ use lib.Seq.{getD-at, take-append-le, take-at}
 use Rattle.record.specs.Sort.{Sort, Sorts, var, par, node, end, _then_, same}
 use Rattle.record.specs.Record.{leaf}
 use Rattle.record.specs.Store.{memb, addOnce, intern, internAll, indexOf, recordSize, bytesOf}
-use Rattle.record.specs.SameLaws.{and-left, and-right, same-true, same-self, same-other, not-true-false}
+use Rattle.record.specs.Cases.{and-left, and-right, not-true-false}
+use Rattle.record.specs.SortLaws.{same-sound, same-refl, same-other}
 
 -- What holds of each index below n, and of n, holds of each below suc n.
 pub below-suc : (P : ℕ → Type 0) (n : ℕ) → ((k : ℕ) → k < n → P k) → P n → (k : ℕ) → k < suc n → P k
@@ -31,7 +32,7 @@ or-neither false b e f = f
 pub memb-at : (st : List Sort) (d : Sort) (k : ℕ) → k < length st → memb (getD st k d) st ≡ true
 unfolding memb
 memb-at [] d k h = absurd (not-suc-le-zero h)
-memb-at (t ∷ ts) d zero h = ap (λ (x : Bool). x || memb t ts) (same-self t)
+memb-at (t ∷ ts) d zero h = ap (λ (x : Bool). x || memb t ts) (same-refl t)
 memb-at (t ∷ ts) d (suc k) h =
     or-right (same t (getD ts k d)) (memb (getD ts k d) ts) (memb-at ts d k (omega arith))
 
@@ -49,7 +50,7 @@ memb-absent st s e k l q = true≢false (sym (subst (λ (t : Sort). memb t st �
 -- `indexOf` is the place of an entry that is equal.
 index-by : (t s : Sort) (ts : List Sort) (c : Bool) → same t s ≡ c → (memb s ts ≡ true → (indexOf s ts < length ts) × (getD ts (indexOf s ts) leaf ≡ s))
     → c || memb s ts ≡ true → (cond c 0 (suc (indexOf s ts)) < suc (length ts)) × (getD (t ∷ ts) (cond c 0 (suc (indexOf s ts))) leaf ≡ s)
-index-by t s ts true e h m = (omega arith, same-true t s e)
+index-by t s ts true e h m = (omega arith, same-sound t s e)
 index-by t s ts false e h m = (omega (arith, h m .0), h m .1)
 
 pub index-found : (st : List Sort) (s : Sort) → memb s st ≡ true → (indexOf s st < length st) × (getD st (indexOf s st) leaf ≡ s)
@@ -73,7 +74,7 @@ once-head t ts k o l e = let z : zero ≡ suc k = o 0 (suc k) (omega arith) (ome
 pub index-at : (st : List Sort) → Once st → (k : ℕ) → k < length st → indexOf (getD st k leaf) st ≡ k
 unfolding indexOf
 index-at [] o k l = absurd (not-suc-le-zero l)
-index-at (t ∷ ts) o zero l = rw (same-self t)
+index-at (t ∷ ts) o zero l = rw (same-refl t)
 index-at (t ∷ ts) o (suc k) l =
     rw (same-other t (getD ts k leaf) (once-head t ts k o (omega arith))) (ap suc (index-at ts (once-tail t ts o) k (omega arith)))
 
