@@ -11,6 +11,7 @@ pub mod Bytes
 pub mod Codec
 pub mod Forms
 pub mod SortLists
+pub mod StoreTheorems
 pub mod StoreLaws
 pub mod Sizes
 pub mod Entries

@@ -2,3 +2,4 @@ pub mod Verdict
 pub mod Lists
 pub mod Term
 pub mod Outcome
+pub mod OutcomeLaws

@@ -1,0 +1,142 @@
+-- What the outcome of a verdict leaves: a refusal the store as it was, an answer the store with the sorts inside it and its
+-- number there; and when a limit is met, 22 or 23. A coded row keeps its meaning while the store grows.
+use Prim.Native.Nat.{ℕ, zero, suc, _+_, _*_, _≤_, _<_}
+use mathlib.Core.Path.{_≡_, refl, sym, ap, subst, _∙_}
+use mathlib.Core.Bool.{Bool, true, false, cond, _&&_, _||_, true≢false, false≢true}
+use mathlib.Core.List.{List, [], _∷_}
+use mathlib.Core.Logic.{_↔_}
+use native.Mathlib.Omega.{arith}
+use lib.ListN.{length, getD}
+use lib.Dec.{eqb, leb}
+use borrow.Author.Tests.{leb-true, eq-eqb}
+use Rattle.record.specs.Sort.{Sort}
+use Rattle.record.specs.Record.{leaf}
+use Rattle.record.specs.Store.{memb, intern, indexOf, bytesOf, room}
+use Rattle.record.specs.Cases.{and-left, and-right, or-left, or-right, clash}
+use Rattle.record.specs.SortLists.{Once, Ordered, Starts, starts-self, starts-intern, starts-at, starts-count, once-intern, ordered-intern, index-found, memb-intern}
+use Rattle.record.specs.StoreTheorems.{inside, intern-holds}
+use Rattle.sheet.specs.Sheet.{Lengths}
+use Rattle.rows.specs.declared.Cause.{Cause}
+use Rattle.rows.specs.declared.Cause.the-variants.{Below, Panics, Limit, Full, NoRank, Count, Misfit, Unassigned, Barred, NoAssignment}
+use Rattle.rows.specs.Verdict.{Verdict, sort, refused, numberOf}
+use Rattle.rows.specs.Outcome.{within, Outcome, refusal, outcomeBy, outcome}
+
+-- Every refusal is coded by 65,536 or more, every number of a store with room by less than 4,096.
+pub refusal-large : (c : Cause) → 65536 ≤ numberOf c * 65536
+refusal-large Below = omega arith
+refusal-large Panics = omega arith
+refusal-large Limit = omega arith
+refusal-large Full = omega arith
+refusal-large NoRank = omega arith
+refusal-large Count = omega arith
+refusal-large Misfit = omega arith
+refusal-large Unassigned = omega arith
+refusal-large Barred = omega arith
+refusal-large NoAssignment = omega arith
+
+pub room-few : (b p : ℕ) (st : List Sort) → room b p st ≡ true → length st ≤ 4096
+unfolding room
+room-few b p st e =
+    leb-true (length st) 4096
+    (and-right (leb (length st) p) (leb (length st) 4096) (and-right (leb (bytesOf st) b) (leb (length st) p && leb (length st) 4096) e))
+
+-- The number of an interned sort.
+pub interned-at : (s : Sort) (st : List Sort) → (indexOf s (intern s st) < length (intern s st)) × (getD (intern s st) (indexOf s (intern s st)) leaf ≡ s)
+interned-at s st = index-found (intern s st) s (memb-intern s st)
+
+---------------------------------------------------------------- the three ways
+-- The outcome of an answer, by the two tests: within its limits, and room for the store after interning it.
+abbrev pub answered : Lengths → List Sort → Sort → Bool → Bool → Outcome
+answered l st s w r = outcomeBy w (outcomeBy r (record { store = intern s st; code = indexOf s (intern s st) }) (refusal st Full)) (refusal st Limit)
+
+pub outcome-is : (l : Lengths) (st : List Sort) (s : Sort) → outcome l st (sort s) ≡ answered l st s (within s) (room (l .records) (l .places) (intern s st))
+unfolding outcome
+outcome-is l st s = refl
+
+-- AN ACCEPTED OUTCOME: the store after interning the answer, which has room, and the answer's number in it.
+pub record Accepted (l : Lengths) (st : List Sort) (s : Sort) (o : Outcome) : Type 0 where
+  pub limits : within s ≡ true
+  pub roomy : room (l .records) (l .places) (o .store) ≡ true
+  pub grown : o .store ≡ intern s st
+  pub number : o .code ≡ indexOf s (o .store)
+  pub below : o .code < length (o .store)
+  pub small : o .code < 4096
+  pub there : getD (o .store) (o .code) leaf ≡ s
+  -- It adds only the sorts inside the answer.
+  pub only : (t : Sort) → memb t (o .store) ≡ memb t st || inside t s
+
+accepted-by : (l : Lengths) (st : List Sort) (s : Sort) (w r : Bool) → within s ≡ w → room (l .records) (l .places) (intern s st) ≡ r
+    → answered l st s w r .code < 65536 → Accepted l st s (answered l st s w r)
+accepted-by l st s true true ew er h =
+    record {
+      limits = ew;
+      roomy = er;
+      grown = refl;
+      number = refl;
+      below = interned-at s st .0;
+      small = omega (arith, interned-at s st .0, room-few (l .records) (l .places) (intern s st) er);
+      there = interned-at s st .1;
+      only = λ t. intern-holds t s st;
+    }
+accepted-by l st s true false ew er h = absurd (omega arith)
+accepted-by l st s false r ew er h = absurd (omega arith)
+
+pub outcome-accepted : (l : Lengths) (st : List Sort) (s : Sort) → outcome l st (sort s) .code < 65536 → Accepted l st s (outcome l st (sort s))
+unfolding outcome
+outcome-accepted l st s h = accepted-by l st s (within s) (room (l .records) (l .places) (intern s st)) refl refl h
+
+-- Only a sort is accepted.
+pub accepted-sort : (l : Lengths) (st : List Sort) (v : Verdict) → outcome l st v .code < 65536 → (s : Sort) × (v ≡ sort s)
+unfolding outcome
+accepted-sort l st (sort s) h = (s, refl)
+accepted-sort l st (refused c) h = absurd (omega (arith, refusal-large c))
+
+-- A REFUSED OUTCOME LEAVES THE STORE AS IT WAS.
+refused-by : (l : Lengths) (st : List Sort) (s : Sort) (w r : Bool) → room (l .records) (l .places) (intern s st) ≡ r
+    → 65536 ≤ answered l st s w r .code → answered l st s w r .store ≡ st
+refused-by l st s true true er h = absurd (omega (arith, interned-at s st .0, room-few (l .records) (l .places) (intern s st) er))
+refused-by l st s true false er h = refl
+refused-by l st s false r er h = refl
+
+pub outcome-refused : (l : Lengths) (st : List Sort) (v : Verdict) → 65536 ≤ outcome l st v .code → outcome l st v .store ≡ st
+unfolding outcome
+outcome-refused l st (refused c) h = refl
+outcome-refused l st (sort s) h = refused-by l st s (within s) (room (l .records) (l .places) (intern s st)) refl h
+
+-- 22 EXACTLY WHEN THE ANSWER PASSES A LIMIT, 23 EXACTLY WHEN IT PASSES NONE AND THE STORE HAS NO ROOM FOR THE SORTS INSIDE IT.
+limit-by : (l : Lengths) (st : List Sort) (s : Sort) (w r : Bool) → room (l .records) (l .places) (intern s st) ≡ r
+    → (answered l st s w r .code ≡ numberOf Limit * 65536) ↔ (w ≡ false)
+limit-by l st s true true er =
+    (
+      λ e. absurd (omega (arith, interned-at s st .0, room-few (l .records) (l .places) (intern s st) er)),
+      λ e. absurd (true≢false e),
+    )
+limit-by l st s true false er = (λ e. absurd (omega arith), λ e. absurd (true≢false e))
+limit-by l st s false r er = (λ e. refl, λ e. refl)
+
+pub outcome-limit : (l : Lengths) (st : List Sort) (s : Sort) → (outcome l st (sort s) .code ≡ numberOf Limit * 65536) ↔ (within s ≡ false)
+unfolding outcome
+outcome-limit l st s = limit-by l st s (within s) (room (l .records) (l .places) (intern s st)) refl
+
+full-by : (l : Lengths) (st : List Sort) (s : Sort) (w r : Bool) → room (l .records) (l .places) (intern s st) ≡ r
+    → (answered l st s w r .code ≡ numberOf Full * 65536) ↔ ((w ≡ true) × (r ≡ false))
+full-by l st s true true er =
+    (
+      λ e. absurd (omega (arith, interned-at s st .0, room-few (l .records) (l .places) (intern s st) er)),
+      λ e. absurd (true≢false (e .1)),
+    )
+full-by l st s true false er = (λ e. (refl, refl), λ e. refl)
+full-by l st s false r er = (λ e. absurd (omega arith), λ e. absurd (false≢true (e .0)))
+
+pub outcome-full : (l : Lengths) (st : List Sort) (s : Sort)
+    → (outcome l st (sort s) .code ≡ numberOf Full * 65536) ↔ ((within s ≡ true) × (room (l .records) (l .places) (intern s st) ≡ false))
+unfolding outcome
+outcome-full l st s = full-by l st s (within s) (room (l .records) (l .places) (intern s st)) refl
+
+---------------------------------------------------------------- growth
+-- WHAT AN OUTCOME KEEPS OF A STORE: it only appends, and distinct sorts, parts before wholes and room stay.
+pub record Grown (l : Lengths) (st st′ : List Sort) : Type 0 where
+  pub starts : Starts st st′
+  pub once : Once st → Once st′
+  pub ordered : Ordered st → Ordered st′
+  pub room : room (l .records) (l .places) st ≡ true → room (l .records) (l .places) st′ ≡ true
