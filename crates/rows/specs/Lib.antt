@@ -2,4 +2,6 @@ pub mod Verdict
 pub mod Lists
 pub mod Term
 pub mod Outcome
+pub mod Meaning
 pub mod OutcomeLaws
+pub mod TermLaws

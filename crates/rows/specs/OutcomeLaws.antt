@@ -13,13 +13,14 @@ use Rattle.record.specs.Sort.{Sort}
 use Rattle.record.specs.Record.{leaf}
 use Rattle.record.specs.Store.{memb, intern, indexOf, bytesOf, room}
 use Rattle.record.specs.Cases.{and-left, and-right, or-left, or-right, clash}
-use Rattle.record.specs.SortLists.{Once, Ordered, Starts, starts-self, starts-intern, starts-at, starts-count, once-intern, ordered-intern, index-found, memb-intern}
+use Rattle.record.specs.SortLists.{Once, Ordered, Starts, starts-self, starts-trans, starts-intern, starts-at, starts-count, once-intern, ordered-intern, index-found, memb-intern}
 use Rattle.record.specs.StoreTheorems.{inside, intern-holds}
 use Rattle.sheet.specs.Sheet.{Lengths}
 use Rattle.rows.specs.declared.Cause.{Cause}
 use Rattle.rows.specs.declared.Cause.the-variants.{Below, Panics, Limit, Full, NoRank, Count, Misfit, Unassigned, Barred, NoAssignment}
 use Rattle.rows.specs.Verdict.{Verdict, sort, refused, numberOf}
 use Rattle.rows.specs.Outcome.{within, Outcome, refusal, outcomeBy, outcome}
+use Rattle.rows.specs.Meaning.{Means, limited}
 
 -- Every refusal is coded by 65,536 or more, every number of a store with room by less than 4,096.
 pub refusal-large : (c : Cause) → 65536 ≤ numberOf c * 65536
@@ -134,9 +135,58 @@ unfolding outcome
 outcome-full l st s = full-by l st s (within s) (room (l .records) (l .places) (intern s st)) refl
 
 ---------------------------------------------------------------- growth
--- WHAT AN OUTCOME KEEPS OF A STORE: it only appends, and distinct sorts, parts before wholes and room stay.
+-- WHAT MAY BECOME OF A STORE: it only grows, and distinct sorts, parts before wholes and room stay.
 pub record Grown (l : Lengths) (st st′ : List Sort) : Type 0 where
   pub starts : Starts st st′
   pub once : Once st → Once st′
   pub ordered : Ordered st → Ordered st′
-  pub room : room (l .records) (l .places) st ≡ true → room (l .records) (l .places) st′ ≡ true
+  pub roomy : room (l .records) (l .places) st ≡ true → room (l .records) (l .places) st′ ≡ true
+
+pub grown-self : (l : Lengths) (st : List Sort) → Grown l st st
+grown-self l st = record { starts = starts-self st; once = λ o. o; ordered = λ o. o; roomy = λ o. o }
+
+pub grown-trans : (l : Lengths) (a b c : List Sort) → Grown l a b → Grown l b c → Grown l a c
+grown-trans l a b c g h =
+    record {
+      starts = starts-trans a b c (g .starts) (h .starts);
+      once = λ o. h .once (g .once o);
+      ordered = λ o. h .ordered (g .ordered o);
+      roomy = λ o. h .roomy (g .roomy o);
+    }
+
+grown-by : (l : Lengths) (st : List Sort) (s : Sort) (w r : Bool) → room (l .records) (l .places) (intern s st) ≡ r
+    → Grown l st (answered l st s w r .store)
+grown-by l st s true true er =
+    record { starts = starts-intern s st; once = once-intern s st; ordered = ordered-intern s st; roomy = λ o. er }
+grown-by l st s true false er = grown-self l st
+grown-by l st s false r er = grown-self l st
+
+-- A row or an answer only adds to the store, and keeps it a store.
+pub outcome-grown : (l : Lengths) (st : List Sort) (v : Verdict) → Grown l st (outcome l st v .store)
+unfolding outcome
+outcome-grown l st (refused c) = grown-self l st
+outcome-grown l st (sort s) = grown-by l st s (within s) (room (l .records) (l .places) (intern s st)) refl
+
+---------------------------------------------------------------- meaning
+-- A CODED ROW KEEPS ITS MEANING WHILE THE STORE GROWS.
+pub means-stays : (st st′ : List Sort) (code : ℕ) (v : Verdict) → Starts st st′ → Means st code v → Means st′ code v
+means-stays st st′ code (sort s) g h = (omega (arith, h .0, starts-count st st′ g), starts-at st st′ g code (h .0) ∙ h .1)
+means-stays st st′ code (refused c) g h = h
+
+-- A code below 65,536 means a sort, and that is the entry of this number.
+pub means-sort : (st : List Sort) (code : ℕ) (v : Verdict) → Means st code v → code < 65536 → v ≡ sort (getD st code leaf)
+means-sort st code (sort s) h l = ap sort (sym (h .1))
+means-sort st code (refused c) h l = absurd (omega (arith, refusal-large c))
+
+means-by : (l : Lengths) (st : List Sort) (s : Sort) (w r : Bool) → limited (answered l st s w r .code) ≡ false
+    → Means (answered l st s w r .store) (answered l st s w r .code) (sort s)
+means-by l st s true true f = interned-at s st
+means-by l st s true false f = absurd (true≢false f)
+means-by l st s false r f = absurd (true≢false f)
+
+-- An outcome that meets no limit means its verdict.
+pub outcome-means : (l : Lengths) (st : List Sort) (v : Verdict) → limited (outcome l st v .code) ≡ false
+    → Means (outcome l st v .store) (outcome l st v .code) v
+unfolding outcome
+outcome-means l st (refused c) f = refl
+outcome-means l st (sort s) f = means-by l st s (within s) (room (l .records) (l .places) (intern s st)) f
