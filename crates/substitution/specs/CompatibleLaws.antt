@@ -102,3 +102,29 @@ mutual
 pub compatible-not-transitive : ((r s t : Sort) → compatible r s ≡ true → compatible s t ≡ true → compatible r t ≡ true) → ⊥
 unfolding compatible
 compatible-not-transitive h = false≢true (h int (var 1) bool refl refl)
+
+---------------------------------------------------------------- is_compatible line by line
+-- What is_compatible says of two sorts that param_eq does not make equal, arm by arm as the Rust matches on the pair.
+abbrev pub otherwise : Sort → Sort → Bool
+otherwise (var v) t = true
+otherwise (par us b) (var v) = true
+otherwise (par us b) (par ws c) = compatible b (par ws c)
+otherwise (par us b) (node l c x ts) = compatible b (node l c x ts)
+otherwise (node k a w ss) (var v) = true
+otherwise (node k a w ss) (par us b) = compatible (node k a w ss) b
+otherwise (node k a w ss) (node l c x ts) = eqb k l && eqb a c && eqb w x && compatibleAll ss ts
+
+pub node-par-paramEq : (k a w : ℕ) (ss : Sorts) (us : List ℕ) (b : Sort) → paramEq (node k a w ss) (par us b) ≡ false
+unfolding paramEq
+node-par-paramEq k a w ss us b = byTest (eqb k 10) (λ q. rw q refl) (λ q. rw q refl)
+
+-- param_eq first, then the arms: the definition above it says the same, in an order that goes down one side at a time.
+pub compatible-is : (s t : Sort) → compatible s t ≡ (paramEq s t || otherwise s t)
+unfolding compatible
+compatible-is (var v) t = sym (or-second (paramEq (var v) t) true refl)
+compatible-is (par us b) (var v) = rw (compatible-to-var b v) refl
+compatible-is (par us b) (par ws c) = refl
+compatible-is (par us b) (node l c x ts) = refl
+compatible-is (node k a w ss) (var v) = sym (or-second (paramEq (node k a w ss) (var v)) true refl)
+compatible-is (node k a w ss) (par us b) = rw (node-par-paramEq k a w ss us b) refl
+compatible-is (node k a w ss) (node l c x ts) = refl

@@ -13,7 +13,7 @@ use Rattle.substitution.specs.Substitution.{Map, empty, bind, find, memb
 use Rattle.substitution.specs.Premises.{parless, parlessAll}
 use Rattle.substitution.specs.Matching.{keep, andThen, meet, matches, matchesAll, listedIn, known, knownAll, apart, unlisted, unlistedAll, premise}
 use Rattle.substitution.specs.MatchingLaws.{keep-rest, andThen-middle, match-self, Matching, MatchingAll, matching, matchingAll}
-use Rattle.substitution.specs.MatchWith.{isParamBitVec, isBitVec, paramEq, towards, matchWith, matchAllWith}
+use Rattle.substitution.specs.MatchWith.{isParamBitVec, isBitVec, paramEq, meetWith, allMembers, towards, matchWith, matchAllWith}
 
 ---------------------------------------------------------------- the premise, read off
 mutual
@@ -57,6 +57,33 @@ mutual
   unlistedAll-free ns (t then ts) v e i =
       rw (unlisted-free ns t v (and-left (unlisted ns t) (unlistedAll ns ts) e) i)
       (unlistedAll-free ns ts v (and-right (unlisted ns t) (unlistedAll ns ts) e) i)
+
+-- And a sort in which none stands is unlisted.
+pub free-apart : (ns us : List ℕ) → ((v : ℕ) → member v ns ≡ true → member v us ≡ false) → apart ns us ≡ true
+unfolding apart member
+free-apart ns [] h = refl
+free-apart ns (u ∷ us) h =
+    byTest (member u ns)
+    (λ q. let z : (eqb u u || member u us) ≡ false = h u q in clash (eqb-self u) (or-left (eqb u u) (member u us) z))
+    (λ q. rw q (free-apart ns us (λ v i. or-right (eqb u v) (member v us) (h v i))))
+
+mutual
+  unfolding unlisted occurs
+
+  pub free-unlisted : (ns : List ℕ) (t : Sort) → ((v : ℕ) → member v ns ≡ true → occurs v t ≡ false) → unlisted ns t ≡ true
+  free-unlisted ns (var u) h = byTest (member u ns) (λ q. clash (eqb-self u) (h u q)) (λ q. rw q refl)
+  free-unlisted ns (par us b) h =
+      and-true (apart ns us) (unlisted ns b)
+      (free-apart ns us (λ v i. or-left (member v us) (occurs v b) (h v i)))
+      (free-unlisted ns b (λ v i. or-right (member v us) (occurs v b) (h v i)))
+  free-unlisted ns (node k a w ts) h = free-unlistedAll ns ts h
+
+  pub free-unlistedAll : (ns : List ℕ) (ts : Sorts) → ((v : ℕ) → member v ns ≡ true → occursAny v ts ≡ false) → unlistedAll ns ts ≡ true
+  free-unlistedAll ns end h = refl
+  free-unlistedAll ns (t then ts) h =
+      and-true (unlisted ns t) (unlistedAll ns ts)
+      (free-unlisted ns t (λ v i. or-left (occurs v t) (occursAny v ts) (h v i)))
+      (free-unlistedAll ns ts (λ v i. or-right (occurs v t) (occursAny v ts) (h v i)))
 
 ---------------------------------------------------------------- param_eq
 -- Without ParamBitVec it is equality.
@@ -112,7 +139,26 @@ mutual
       let (k, g, r) = andThen-middle (matches l p t m) (λ k. matchesAll l ps ts k) m′ h in
       matchAll-known l ps ts k m′ (and-right (known t) (knownAll ts) q) (match-known l p t m k (and-left (known t) (knownAll ts) q) e g) r
 
----------------------------------------------------------------- match_with
+---------------------------------------------------------------- match_with line by line
+-- What match_with does with two sorts that are not equal, arm by arm as the Rust tests and matches on the pair.
+abbrev pub otherwise : List ℕ → Sort → Sort → Map → Option Map
+otherwise ns (var v) t m = cond (member v ns) (meetWith (find m v) v t m) none
+otherwise ns (par us b) t m = matchWith (ns ++ us) b t m
+otherwise ns (node k a w ps) (var v) m = keep (paramEq (node k a w ps) (var v)) (some m)
+otherwise ns (node k a w ps) (par us b) m = keep (allMembers us ns) (matchWith ns (node k a w ps) b m)
+otherwise ns (node k a w ps) (node l c x ts) m =
+    cond (eqb k l) (keep (eqb a c && eqb w x) (matchAllWith ns ps ts m)) (keep (paramEq (node k a w ps) (node l c x ts)) (some m))
+
+-- Equality first, then the arms: the definition says the same, in an order that goes down one side at a time.
+pub matchWith-is : (ns : List ℕ) (p t : Sort) (m : Map) → matchWith ns p t m ≡ cond (same p t) (some m) (otherwise ns p t m)
+unfolding matchWith
+matchWith-is ns (var v) t m = refl
+matchWith-is ns (par us b) t m = refl
+matchWith-is ns (node k a w ps) (var v) m = byTest (eqb k 10) (λ q. rw q refl) (λ q. rw q refl)
+matchWith-is ns (node k a w ps) (par us b) m = refl
+matchWith-is ns (node k a w ps) (node l c x ts) m = refl
+
+---------------------------------------------------------------- match_with and the definition
 -- Equal sorts match, and nothing is bound: the first test of match_with, on all sorts.
 pub matchWith-equal : (ns : List ℕ) (s : Sort) (m : Map) → matchWith ns s s m ≡ some m
 unfolding matchWith

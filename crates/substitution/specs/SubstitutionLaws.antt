@@ -8,7 +8,7 @@ use native.Mathlib.Omega.{arith}
 use lib.Dec.{eqb}
 use borrow.Author.Tests.{eqb-true, eqb-false, eq-eqb, ne-eqb}
 use Rattle.record.specs.Sort.{Sort, Sorts, var, par, node, end, _then_, size, sizes}
-use Rattle.record.specs.Cases.{and-left, and-right, conj, and-true, or-left, or-right, not-true, eqb-self, byTest, byOption, none-some, some-inj, clash}
+use Rattle.record.specs.Cases.{and-left, and-right, conj, and-true, or-left, or-right, or-second, not-true, eqb-self, byTest, byOption, none-some, some-inj, clash}
 use Rattle.substitution.specs.Substitution.{Map, empty, bind, find, orElse, isSome, bound, left, under, apply, applyAll, through, member, occurs, occursAny}
 use Rattle.substitution.specs.Premises.{touches, untouched, clear, clearAll, usual, proper, properAll, properMap, parless, parlessAll, anyName, named, namedAll}
 
@@ -170,6 +170,29 @@ mutual
   applyAll-empty-named (s then ss) e =
       let p : apply empty s ≡ s = cc in let q : applyAll empty ss ≡ ss = cc in
       and-true (named s) (namedAll ss) (apply-empty-named s p) (applyAll-empty-named ss q)
+
+---------------------------------------------------------------- only the names that stand in a sort matter
+pub left-agree : (m n : Map) (ns : List ℕ) → ((v : ℕ) → member v ns ≡ true → find m v ≡ find n v) → left m ns ≡ left n ns
+unfolding left member
+left-agree m n [] h = refl
+left-agree m n (u ∷ us) h =
+    rw (h u (rw (eqb-self u) refl), left-agree m n us (λ v i. h v (or-second (eqb u v) (member v us) i))) refl
+
+-- Two maps that give the names in a sort the same images do the same to it.
+mutual
+  unfolding apply occurs
+
+  pub apply-agree : (m n : Map) (s : Sort) → ((v : ℕ) → occurs v s ≡ true → find m v ≡ find n v) → apply m s ≡ apply n s
+  apply-agree m n (var v) h = rw (h v (eqb-self v)) refl
+  apply-agree m n (par ns b) h =
+      rw (left-agree m n ns (λ v i. h v (rw i refl)), apply-agree m n b (λ v i. h v (or-second (member v ns) (occurs v b) i))) refl
+  apply-agree m n (node k a w ss) h = ap (node k a w) (applyAll-agree m n ss h)
+
+  pub applyAll-agree : (m n : Map) (ss : Sorts) → ((v : ℕ) → occursAny v ss ≡ true → find m v ≡ find n v) → applyAll m ss ≡ applyAll n ss
+  applyAll-agree m n end h = refl
+  applyAll-agree m n (s then ss) h =
+      let p = apply-agree m n s (λ v i. h v (rw i refl)) in
+      let q = applyAll-agree m n ss (λ v i. h v (or-second (occurs v s) (occursAny v ss) i)) in cc
 
 ---------------------------------------------------------------- names that a map does not touch
 -- An untouched name is not replaced.
