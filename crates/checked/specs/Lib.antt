@@ -2,3 +2,8 @@ pub mod Rank
 pub mod Ranks
 pub mod Checked
 pub mod Routes
+pub mod RankLaws
+pub mod RankSound
+pub mod Kept
+pub mod StepsKept
+pub mod RouteLaws
