@@ -2,7 +2,7 @@
 -- number there; and when a limit is met, 22 or 23. A coded row keeps its meaning while the store grows.
 use Prim.Native.Nat.{ℕ, zero, suc, _+_, _*_, _≤_, _<_}
 use mathlib.Core.Path.{_≡_, refl, sym, ap, subst, _∙_}
-use mathlib.Core.Bool.{Bool, true, false, cond, _&&_, _||_, true≢false, false≢true}
+use mathlib.Core.Bool.{Bool, true, false, not, cond, _&&_, _||_, true≢false, false≢true}
 use mathlib.Core.List.{List, [], _∷_}
 use mathlib.Core.Logic.{_↔_}
 use native.Mathlib.Omega.{arith}
@@ -12,7 +12,7 @@ use borrow.Author.Tests.{leb-true, eq-eqb}
 use Rattle.record.specs.Sort.{Sort}
 use Rattle.record.specs.Record.{leaf}
 use Rattle.record.specs.Store.{memb, intern, indexOf, bytesOf, room}
-use Rattle.record.specs.Cases.{and-left, and-right, or-left, or-right, clash}
+use Rattle.record.specs.Cases.{and-left, and-right, or-second, not-true, clash}
 use Rattle.record.specs.SortLists.{Once, Ordered, Starts, starts-self, starts-trans, starts-intern, starts-at, starts-count, once-intern, ordered-intern, index-found, memb-intern}
 use Rattle.record.specs.StoreTheorems.{inside, intern-holds}
 use Rattle.sheet.specs.Sheet.{Lengths}
@@ -133,6 +133,58 @@ pub outcome-full : (l : Lengths) (st : List Sort) (s : Sort)
     → (outcome l st (sort s) .code ≡ numberOf Full * 65536) ↔ ((within s ≡ true) × (room (l .records) (l .places) (intern s st) ≡ false))
 unfolding outcome
 outcome-full l st s = full-by l st s (within s) (room (l .records) (l .places) (intern s st)) refl
+
+or-true : (a b : Bool) → a ≡ true → a || b ≡ true
+or-true true b e = refl
+or-true false b e = absurd (false≢true e)
+
+-- The same of any verdict that is no 22 or 23 by itself; those of both columns and of the questions are none.
+unfoldable pub plain : Verdict → Bool
+plain (sort s) = true
+plain (refused c) = not (limited (numberOf c * 65536))
+
+-- The verdict is a sort that passes a limit; and one within the limits whose sorts the store cannot hold.
+abbrev pub Passes : Verdict → Type 0
+Passes v = (s : Sort) × (v ≡ sort s) × (within s ≡ false)
+
+abbrev pub Overflows : Lengths → List Sort → Verdict → Type 0
+Overflows l st v = (s : Sort) × (v ≡ sort s) × (within s ≡ true) × (room (l .records) (l .places) (intern s st) ≡ false)
+
+refused-sort : {C : Type 0} {c : Cause} {s : Sort} → refused c ≡ sort s → C
+refused-sort {C} {c} {s} e = let z : true ≡ false = cc in absurd (true≢false z)
+
+sort-one : {r s : Sort} → sort r ≡ sort s → r ≡ s
+sort-one {r} {s} e = cc
+
+pub plain-limit : (l : Lengths) (st : List Sort) (v : Verdict) → plain v ≡ true → (outcome l st v .code ≡ numberOf Limit * 65536) ↔ Passes v
+unfolding outcome plain
+plain-limit l st (sort s) p =
+    (
+      λ e. (s, refl, outcome-limit l st s .0 e),
+      λ h. outcome-limit l st s .1 (subst (λ (r : Sort). within r ≡ false) (sym (sort-one (h .1))) (h .2)),
+    )
+plain-limit l st (refused c) p =
+    (
+      λ e. absurd (clash (or-true (eqb (numberOf c * 65536) (numberOf Limit * 65536)) (eqb (numberOf c * 65536) (numberOf Full * 65536)) (eq-eqb (numberOf c * 65536) (numberOf Limit * 65536) e)) (not-true (limited (numberOf c * 65536)) p)),
+      λ h. refused-sort (h .1),
+    )
+
+pub plain-full : (l : Lengths) (st : List Sort) (v : Verdict) → plain v ≡ true → (outcome l st v .code ≡ numberOf Full * 65536) ↔ Overflows l st v
+unfolding outcome plain
+plain-full l st (sort s) p =
+    (
+      λ e. let f = outcome-full l st s .0 e in (s, refl, f .0, f .1),
+      λ h. outcome-full l st s .1
+      (
+        subst (λ (r : Sort). within r ≡ true) (sym (sort-one (h .1))) (h .2),
+        subst (λ (r : Sort). room (l .records) (l .places) (intern r st) ≡ false) (sym (sort-one (h .1))) (h .3),
+      ),
+    )
+plain-full l st (refused c) p =
+    (
+      λ e. absurd (clash (or-second (eqb (numberOf c * 65536) (numberOf Limit * 65536)) (eqb (numberOf c * 65536) (numberOf Full * 65536)) (eq-eqb (numberOf c * 65536) (numberOf Full * 65536) e)) (not-true (limited (numberOf c * 65536)) p)),
+      λ h. refused-sort (h .1),
+    )
 
 ---------------------------------------------------------------- growth
 -- WHAT MAY BECOME OF A STORE: it only grows, and distinct sorts, parts before wholes and room stay.

@@ -1,4 +1,5 @@
 pub mod Rows
 pub mod RowLaws
 pub mod Questions
+pub mod QuestionLaws
 pub mod Judged

@@ -1,0 +1,116 @@
+-- What an answer leaves: question 0 adds nothing and answers 1 or 0; the others are outcomes of their verdicts, with 22 and 23
+-- exactly where document 01 says. Over all questions the store only grows.
+use Prim.Native.Nat.{ℕ, zero, suc, _+_, _*_, _≤_, _<_}
+use mathlib.Core.Path.{_≡_, refl, sym, ap, subst, _∙_}
+use mathlib.Core.Bool.{Bool, true, false, cond, true≢false, false≢true}
+use mathlib.Core.List.{List, [], _∷_, _++_}
+use mathlib.Core.Option.{Option, none, some}
+use mathlib.Core.Logic.{_↔_}
+use native.Mathlib.Omega.{arith}
+use lib.ListN.{length, length-append}
+use lib.Dec.{eqb}
+use Rattle.record.specs.Sort.{Sort}
+use Rattle.record.specs.Store.{intern, room}
+use Rattle.record.specs.Cases.{byTest, clash}
+use Rattle.sheet.specs.Sheet.{Lengths, QuestionFields}
+use Rattle.substitution.specs.Substitution.{Map, empty}
+use Rattle.substitution.specs.Matching.{matches, listedIn, premise}
+use Rattle.substitution.specs.Compatible.{compatible}
+use Rattle.rows.specs.declared.Cause.{Cause}
+use Rattle.rows.specs.declared.Cause.the-variants.{Limit, Full, Barred, NoAssignment}
+use Rattle.rows.specs.Verdict.{Verdict, sort, refused, need, numberOf}
+use Rattle.rows.specs.Outcome.{Outcome, outcome, within}
+use Rattle.rows.specs.OutcomeLaws.{plain, Accepted, Passes, Overflows, accepted-sort, outcome-accepted, outcome-refused, plain-limit, plain-full, Grown, grown-self, grown-trans, outcome-grown}
+use Rattle.verdicts.specs.Questions.{firstOf, restOf, yesNo, assigned, matchAnswer, applyAnswer, answerOf, Answered, answersOf}
+
+-- The verdict of a question 1 or 2.
+unfoldable pub answerVerdict : QuestionFields → Verdict
+unfolding matchAnswer applyAnswer
+answerVerdict q =
+    cond (eqb (q .kind) 1)
+    (matchAnswer (q .names) (firstOf (q .sorts)) (firstOf (restOf (q .sorts))) (firstOf (restOf (restOf (q .sorts)))))
+    (applyAnswer (q .names) (firstOf (q .sorts)) (restOf (q .sorts)))
+
+-- QUESTION 0 ADDS NOTHING AND ANSWERS 1 OR 0, as the two sorts are compatible or not.
+pub answer-compatible : (l : Lengths) (q : QuestionFields) (st : List Sort) → eqb (q .kind) 0 ≡ true
+    → answerOf l q st ≡ record { store = st; code = yesNo (compatible (firstOf (q .sorts)) (firstOf (restOf (q .sorts)))) }
+unfolding answerOf
+answer-compatible l q st e = simp e
+
+yesNo-small : (b : Bool) → yesNo b ≤ 1
+yesNo-small true = omega arith
+yesNo-small false = omega arith
+
+-- QUESTIONS 1 AND 2 ARE ANSWERED BY THEIR VERDICTS.
+pub answer-is : (l : Lengths) (q : QuestionFields) (st : List Sort) → eqb (q .kind) 0 ≡ false → answerOf l q st ≡ outcome l st (answerVerdict q)
+unfolding answerOf answerVerdict
+answer-is l q st e = byTest (eqb (q .kind) 1) (λ f. simp (e, f)) (λ f. simp (e, f))
+
+-- No verdict of a question is 22 or 23 by itself.
+assigned-plain : (b : Bool) (r : Sort) (o : Option Map) → plain (need b Barred (assigned r o)) ≡ true
+unfolding plain
+assigned-plain true r none = refl
+assigned-plain true r (some m) = refl
+assigned-plain false r o = refl
+
+pub answer-plain : (q : QuestionFields) → plain (answerVerdict q) ≡ true
+unfolding answerVerdict matchAnswer applyAnswer plain
+answer-plain q =
+    byTest (eqb (q .kind) 1)
+    (λ f. rw f (assigned-plain
+    (premise (q .names) (firstOf (q .sorts)) (firstOf (restOf (q .sorts))))
+    (firstOf (restOf (restOf (q .sorts))))
+    (matches (listedIn (q .names)) (firstOf (q .sorts)) (firstOf (restOf (q .sorts))) empty)))
+    (λ f. rw f refl)
+
+-- A REFUSED ANSWER LEAVES THE STORE AS IT WAS.
+pub answer-refused : (l : Lengths) (q : QuestionFields) (st : List Sort) → 65536 ≤ answerOf l q st .code → answerOf l q st .store ≡ st
+answer-refused l q st h =
+    byTest (eqb (q .kind) 0)
+    (λ e. ap (λ (o : Outcome). o .store) (answer-compatible l q st e))
+    (λ e.
+    let i = answer-is l q st e in
+    ap (λ (o : Outcome). o .store) i ∙ outcome-refused l st (answerVerdict q) (subst (λ (o : Outcome). 65536 ≤ o .code) i h))
+
+-- AN ACCEPTED ANSWER to question 1 or 2 adds only the sorts inside it, and its code is its number.
+pub answer-accepted : (l : Lengths) (q : QuestionFields) (st : List Sort) → eqb (q .kind) 0 ≡ false → answerOf l q st .code < 65536
+    → (s : Sort) × (answerVerdict q ≡ sort s) × Accepted l st s (answerOf l q st)
+answer-accepted l q st e h =
+    let i = answer-is l q st e in
+    let k = subst (λ (o : Outcome). o .code < 65536) i h in
+    let (s, v) = accepted-sort l st (answerVerdict q) k in
+    (
+      s,
+      v,
+      subst (Accepted l st s) (sym i)
+      (subst (λ (w : Verdict). Accepted l st s (outcome l st w)) (sym v)
+      (outcome-accepted l st s (subst (λ (w : Verdict). outcome l st w .code < 65536) v k))),
+    )
+
+-- 22 AND 23 OF AN ANSWER, exactly.
+pub answer-limit : (l : Lengths) (q : QuestionFields) (st : List Sort) → eqb (q .kind) 0 ≡ false
+    → (answerOf l q st .code ≡ numberOf Limit * 65536) ↔ Passes (answerVerdict q)
+answer-limit l q st e = rw (answer-is l q st e) (plain-limit l st (answerVerdict q) (answer-plain q))
+
+pub answer-full : (l : Lengths) (q : QuestionFields) (st : List Sort) → eqb (q .kind) 0 ≡ false
+    → (answerOf l q st .code ≡ numberOf Full * 65536) ↔ Overflows l st (answerVerdict q)
+answer-full l q st e = rw (answer-is l q st e) (plain-full l st (answerVerdict q) (answer-plain q))
+
+-- THE STORE ONLY GROWS over the questions, and stays a store.
+pub answer-grown : (l : Lengths) (q : QuestionFields) (st : List Sort) → Grown l st (answerOf l q st .store)
+answer-grown l q st =
+    byTest (eqb (q .kind) 0) (λ e. rw (answer-compatible l q st e) (grown-self l st))
+    (λ e. rw (answer-is l q st e) (outcome-grown l st (answerVerdict q)))
+
+pub answers-grown : (l : Lengths) (st : List Sort) (qs : List QuestionFields) → Grown l st (answersOf l st qs .store)
+unfolding answersOf
+answers-grown l st [] = grown-self l st
+answers-grown l st (q ∷ qs) =
+    grown-trans l st (answersOf l st qs .store) (answerOf l q (answersOf l st qs .store) .store) (answers-grown l st qs)
+    (answer-grown l q (answersOf l st qs .store))
+
+-- ONE ANSWER A QUESTION.
+pub answers-count : (l : Lengths) (st : List Sort) (qs : List QuestionFields) → length (answersOf l st qs .answers) ≡ length qs
+unfolding answersOf
+answers-count l st [] = refl
+answers-count l st (q ∷ qs) = simp length-append (omega (arith, answers-count l st qs))
