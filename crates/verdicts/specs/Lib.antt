@@ -3,3 +3,4 @@ pub mod RowLaws
 pub mod Questions
 pub mod QuestionLaws
 pub mod Judged
+pub mod TwoRoutes
