@@ -92,6 +92,16 @@ unfolding outcome
 accepted-sort l st (sort s) h = (s, refl)
 accepted-sort l st (refused c) h = absurd (omega (arith, refusal-large c))
 
+pub any-accepted : (l : Lengths) (st : List Sort) (v : Verdict) → outcome l st v .code < 65536 → (s : Sort) × (v ≡ sort s) × Accepted l st s (outcome l st v)
+any-accepted l st v h =
+    let (s, e) = accepted-sort l st v h in
+    (
+      s,
+      e,
+      subst (λ (w : Verdict). Accepted l st s (outcome l st w)) (sym e)
+      (outcome-accepted l st s (subst (λ (w : Verdict). outcome l st w .code < 65536) e h)),
+    )
+
 -- A REFUSED OUTCOME LEAVES THE STORE AS IT WAS.
 refused-by : (l : Lengths) (st : List Sort) (s : Sort) (w r : Bool) → room (l .records) (l .places) (intern s st) ≡ r
     → 65536 ≤ answered l st s w r .code → answered l st s w r .store ≡ st

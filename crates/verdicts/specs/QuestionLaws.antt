@@ -20,7 +20,7 @@ use Rattle.rows.specs.declared.Cause.{Cause}
 use Rattle.rows.specs.declared.Cause.the-variants.{Limit, Full, Barred, NoAssignment}
 use Rattle.rows.specs.Verdict.{Verdict, sort, refused, need, numberOf}
 use Rattle.rows.specs.Outcome.{Outcome, outcome, within}
-use Rattle.rows.specs.OutcomeLaws.{plain, Accepted, Passes, Overflows, accepted-sort, outcome-accepted, outcome-refused, plain-limit, plain-full, Grown, grown-self, grown-trans, outcome-grown}
+use Rattle.rows.specs.OutcomeLaws.{plain, Accepted, Passes, Overflows, any-accepted, outcome-refused, plain-limit, plain-full, Grown, grown-self, grown-trans, outcome-grown}
 use Rattle.verdicts.specs.Questions.{firstOf, restOf, yesNo, assigned, matchAnswer, applyAnswer, answerOf, Answered, answersOf}
 
 -- The verdict of a question 1 or 2.
@@ -77,15 +77,8 @@ pub answer-accepted : (l : Lengths) (q : QuestionFields) (st : List Sort) → eq
     → (s : Sort) × (answerVerdict q ≡ sort s) × Accepted l st s (answerOf l q st)
 answer-accepted l q st e h =
     let i = answer-is l q st e in
-    let k = subst (λ (o : Outcome). o .code < 65536) i h in
-    let (s, v) = accepted-sort l st (answerVerdict q) k in
-    (
-      s,
-      v,
-      subst (Accepted l st s) (sym i)
-      (subst (λ (w : Verdict). Accepted l st s (outcome l st w)) (sym v)
-      (outcome-accepted l st s (subst (λ (w : Verdict). outcome l st w .code < 65536) v k))),
-    )
+    let (s, v, a) = any-accepted l st (answerVerdict q) (subst (λ (o : Outcome). o .code < 65536) i h) in
+    (s, v, subst (Accepted l st s) (sym i) a)
 
 -- 22 AND 23 OF AN ANSWER, exactly.
 pub answer-limit : (l : Lengths) (q : QuestionFields) (st : List Sort) → eqb (q .kind) 0 ≡ false

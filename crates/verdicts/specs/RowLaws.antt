@@ -22,7 +22,7 @@ use Rattle.rows.specs.Verdict.{Verdict, sort, refused}
 use Rattle.rows.specs.Term.{Site, Term, treeOf, termAt, verdictOf, verdictAt}
 use Rattle.rows.specs.Outcome.{Outcome, outcome, rowSort}
 use Rattle.rows.specs.Meaning.{Means, limited, allOf, free}
-use Rattle.rows.specs.OutcomeLaws.{Grown, grown-self, grown-trans, outcome-grown, outcome-means, outcome-refused, means-stays, room-few}
+use Rattle.rows.specs.OutcomeLaws.{Accepted, any-accepted, Grown, grown-self, grown-trans, outcome-grown, outcome-means, outcome-refused, means-stays, room-few}
 use Rattle.rows.specs.TermLaws.{verdict-is}
 use Rattle.inferred.specs.Inferred.{inferred, infer}
 use Rattle.checked.specs.Rank.{Rank}
@@ -60,6 +60,14 @@ module _ (R : ℕ → List Rank) (l : Lengths) (st : List Sort) where
   rows-count [] = refl
   rows-count (r ∷ rs) = simp length-append (omega (arith, rows-count rs))
 
+  -- THE ROWS OF A TERM: the inferred one over the store so far, then the checked one over the store after that, each from its own
+  -- column of the rows below.
+  rows-new : (rs : List TermFields) (r : TermFields) (i : ℕ) → getD (tabled (r ∷ rs) .rows) (2 * length rs + i) 0 ≡ getD (first rs r .code ∷ second rs r .code ∷ []) i 0
+  unfolding rowsOf
+  rows-new rs r i =
+      subst (λ (k : ℕ). getD (tabled rs .rows ++ (first rs r .code ∷ second rs r .code ∷ [])) (k + i) 0 ≡ getD (first rs r .code ∷ second rs r .code ∷ []) i 0)
+      (rows-count rs) (getD-append-add (tabled rs .rows) (first rs r .code ∷ second rs r .code ∷ []) i 0)
+
   -- A row only adds to the store; a refused one leaves it as it was.
   row-grown : (J : Site → Verdict) (column : ℕ) (rs : List TermFields) (r : TermFields) (rows : List ℕ) (now : List Sort) → Grown l now (rowOf J column l rs r rows now .store)
   unfolding rowOf
@@ -70,7 +78,15 @@ module _ (R : ℕ → List Rank) (l : Lengths) (st : List Sort) where
   unfolding rowOf
   row-refused J column rs r rows now h = outcome-refused l now (verdictAt J (λ i. rowSort now rows column i) rs r) h
 
-  turn-grown : (rs : List TermFields) (r : TermFields) → Grown l (tabled rs .store) (second rs r .store)
+  -- AN ACCEPTED ROW adds only the sorts inside its answer, and its code is the answer's number.
+  pub row-accepted : (J : Site → Verdict) (column : ℕ) (rs : List TermFields) (r : TermFields) (rows : List ℕ) (now : List Sort)
+      → rowOf J column l rs r rows now .code < 65536
+      → (s : Sort) × (verdictAt J (λ i. rowSort now rows column i) rs r ≡ sort s) × Accepted l now s (rowOf J column l rs r rows now)
+  unfolding rowOf
+  row-accepted J column rs r rows now h = any-accepted l now (verdictAt J (λ i. rowSort now rows column i) rs r) h
+
+  turn-grown : (rs : List TermFields) (r : TermFields) → Grown l (tabled rs .store) (tabled (r ∷ rs) .store)
+  unfolding rowsOf
   turn-grown rs r =
       grown-trans l (tabled rs .store) (first rs r .store) (second rs r .store)
       (row-grown inferred 0 rs r (tabled rs .rows) (tabled rs .store))
@@ -80,25 +96,18 @@ module _ (R : ℕ → List Rank) (l : Lengths) (st : List Sort) where
   pub rows-grown : (rs : List TermFields) → Grown l st (tabled rs .store)
   unfolding rowsOf
   rows-grown [] = grown-self l st
-  rows-grown (r ∷ rs) = grown-trans l st (tabled rs .store) (second rs r .store) (rows-grown rs) (turn-grown rs r)
+  rows-grown (r ∷ rs) = grown-trans l st (tabled rs .store) (tabled (r ∷ rs) .store) (rows-grown rs) (turn-grown rs r)
 
-  -- The rows of earlier terms stay, and behind them stand the two new ones.
+  -- The rows of earlier terms stay.
   rows-old : (rs : List TermFields) (r : TermFields) (i : ℕ) → i < 2 * length rs → getD (tabled (r ∷ rs) .rows) i 0 ≡ getD (tabled rs .rows) i 0
   unfolding rowsOf
   rows-old rs r i h = List·getD-append (tabled rs .rows) _ 0 i (omega (arith, rows-count rs))
 
-  rows-new : (rs : List TermFields) (r : TermFields) (i : ℕ) → getD (tabled (r ∷ rs) .rows) (2 * length rs + i) 0 ≡ getD (first rs r .code ∷ second rs r .code ∷ []) i 0
-  unfolding rowsOf
-  rows-new rs r i =
-      subst (λ (k : ℕ). getD (tabled rs .rows ++ (first rs r .code ∷ second rs r .code ∷ [])) (k + i) 0 ≡ getD (first rs r .code ∷ second rs r .code ∷ []) i 0)
-      (rows-count rs) (getD-append-add (tabled rs .rows) (first rs r .code ∷ second rs r .code ∷ []) i 0)
-
   -- EACH ROW KEEPS ITS MEANING while further terms are judged.
   pub row-stays : (rs : List TermFields) (r : TermFields) (i : ℕ) (v : Verdict) → i < 2 * length rs
       → Means (tabled rs .store) (getD (tabled rs .rows) i 0) v → Means (tabled (r ∷ rs) .store) (getD (tabled (r ∷ rs) .rows) i 0) v
-  unfolding rowsOf
   row-stays rs r i v h m =
-      rw (rows-old rs r i h) (means-stays (tabled rs .store) (second rs r .store) (getD (tabled rs .rows) i 0) v (turn-grown rs r .starts) m)
+      rw (rows-old rs r i h) (means-stays (tabled rs .store) (tabled (r ∷ rs) .store) (getD (tabled rs .rows) i 0) v (turn-grown rs r .starts) m)
 
   -- The store has at most 4,096 sorts where it began with room.
   few : (now : List Sort) → room (l .records) (l .places) st ≡ true → Grown l st now → length now ≤ 65536
