@@ -1,5 +1,6 @@
 pub mod Rows
 pub mod RowLaws
+pub mod PlainLaws
 pub mod Questions
 pub mod QuestionLaws
 pub mod Judged
