@@ -4,4 +4,5 @@ pub mod PlainLaws
 pub mod Questions
 pub mod QuestionLaws
 pub mod Judged
+pub mod JudgedLaws
 pub mod TwoRoutes

@@ -7,9 +7,12 @@ use mathlib.Core.List.{List, [], _∷_, _++_}
 use mathlib.Core.Option.{Option, none, some}
 use mathlib.Core.Logic.{_↔_}
 use native.Mathlib.Omega.{arith}
-use lib.ListN.{length, length-append}
+use native.Mathlib.Nat.{not-suc-le-zero}
+use lib.ListN.{length, getD, length-append, List·getD-append}
+use lib.Seq.{getD-at}
 use lib.Dec.{eqb}
-use Rattle.record.specs.Sort.{Sort}
+use borrow.Author.Tests.{eqb-true, eqb-false}
+use Rattle.record.specs.Sort.{Sort, end}
 use Rattle.record.specs.Store.{intern, room}
 use Rattle.record.specs.Cases.{byTest, clash}
 use Rattle.sheet.specs.Sheet.{Lengths, QuestionFields}
@@ -20,7 +23,8 @@ use Rattle.rows.specs.declared.Cause.{Cause}
 use Rattle.rows.specs.declared.Cause.the-variants.{Limit, Full, Barred, NoAssignment}
 use Rattle.rows.specs.Verdict.{Verdict, sort, refused, need, numberOf}
 use Rattle.rows.specs.Outcome.{Outcome, outcome, within}
-use Rattle.rows.specs.OutcomeLaws.{plain, Accepted, Passes, Overflows, any-accepted, outcome-refused, plain-limit, plain-full, Grown, grown-self, grown-trans, outcome-grown}
+use Rattle.rows.specs.Meaning.{Means, limited}
+use Rattle.rows.specs.OutcomeLaws.{plain, Accepted, Passes, Overflows, any-accepted, outcome-refused, plain-limit, plain-full, Grown, grown-self, grown-trans, outcome-grown, outcome-means, means-stays}
 use Rattle.verdicts.specs.Questions.{firstOf, restOf, yesNo, assigned, matchAnswer, applyAnswer, answerOf, Answered, answersOf}
 
 -- The verdict of a question 1 or 2.
@@ -107,3 +111,58 @@ pub answers-count : (l : Lengths) (st : List Sort) (qs : List QuestionFields) �
 unfolding answersOf
 answers-count l st [] = refl
 answers-count l st (q ∷ qs) = simp length-append (omega (arith, answers-count l st qs))
+
+---------------------------------------------------------------- all answers
+-- THE QUESTION WITH THE NUMBER k of a sheet's questions, the latest first; what stands for one that is not there is never asked.
+unfoldable pub questionAt : List QuestionFields → ℕ → QuestionFields
+questionAt [] k = record { kind = 0; sorts = end; names = [] }
+questionAt (q ∷ qs) k = cond (eqb k (length qs)) q (questionAt qs k)
+
+-- An answer stays while further questions are answered, and the next one stands behind it.
+answers-old : (l : Lengths) (st : List Sort) (q : QuestionFields) (qs : List QuestionFields) (k : ℕ) → k < length qs
+    → getD (answersOf l st (q ∷ qs) .answers) k 0 ≡ getD (answersOf l st qs .answers) k 0
+unfolding answersOf
+answers-old l st q qs k h = List·getD-append (answersOf l st qs .answers) _ 0 k (omega (arith, answers-count l st qs))
+
+answers-new : (l : Lengths) (st : List Sort) (q : QuestionFields) (qs : List QuestionFields)
+    → getD (answersOf l st (q ∷ qs) .answers) (length qs) 0 ≡ answerOf l q (answersOf l st qs .store) .code
+unfolding answersOf
+answers-new l st q qs =
+    getD-at (answersOf l st qs .answers) (answerOf l q (answersOf l st qs .store) .code) [] 0 (length qs) (answers-count l st qs)
+
+-- What an answer of code c says over the store st: 1 or 0 to question 0; to the others, where no limit is met, their verdict.
+abbrev pub Answers : List Sort → ℕ → QuestionFields → Type 0
+Answers st c q =
+    (eqb (q .kind) 0 ≡ true → c ≡ yesNo (compatible (firstOf (q .sorts)) (firstOf (restOf (q .sorts)))))
+    × (eqb (q .kind) 0 ≡ false → limited c ≡ false → Means st c (answerVerdict q))
+
+answer-says : (l : Lengths) (q : QuestionFields) (st : List Sort) → Answers (answerOf l q st .store) (answerOf l q st .code) q
+answer-says l q st =
+    (
+      λ e. ap (λ (o : Outcome). o .code) (answer-compatible l q st e),
+      λ e f.
+      let i = answer-is l q st e in
+      subst (λ (o : Outcome). Means (o .store) (o .code) (answerVerdict q)) (sym i)
+      (outcome-means l st (answerVerdict q) (subst (λ (o : Outcome). limited (o .code) ≡ false) i f)),
+    )
+
+-- EVERY ANSWER SAYS WHAT ITS QUESTION ASKS, over the store after all of them.
+pub answers-say : (l : Lengths) (st : List Sort) (qs : List QuestionFields) (k : ℕ) → k < length qs
+    → Answers (answersOf l st qs .store) (getD (answersOf l st qs .answers) k 0) (questionAt qs k)
+unfolding answersOf questionAt
+answers-say l st [] k h = absurd (not-suc-le-zero h)
+answers-say l st (q ∷ qs) k h =
+    byTest (eqb k (length qs))
+    (λ e. rw (e, eqb-true k (length qs) e, answers-new l st q qs) (answer-says l q (answersOf l st qs .store)))
+    (λ e.
+    let low : k < length qs = lower k (length qs) h (eqb-false k (length qs) e) in
+    let s = answers-say l st qs k low in
+    rw (e, answers-old l st q qs k low)
+    (
+      s .0,
+      λ o f. means-stays (answersOf l st qs .store) (answerOf l q (answersOf l st qs .store) .store) (getD (answersOf l st qs .answers) k 0)
+      (answerVerdict (questionAt qs k)) (answer-grown l q (answersOf l st qs .store) .starts) (s .1 o f),
+    ))
+  where
+    lower : (a b : ℕ) → a < suc b → (a ≡ b → ⊥) → a < b
+    lower a b h n = omega arith

@@ -1,94 +1,29 @@
 -- DEMAND 3 ON SHEETS: the row of a term on an accepted sheet is the verdict of its tree where no limit is met (RowLaws), and on
 -- trees the two routes agree (RouteLaws of the crate checked).
-use Prim.Native.Nat.{ℕ, zero, suc, _+_, _*_, _≤_, _<_}
-use mathlib.Core.Path.{_≡_, refl, sym, ap, subst, _∙_}
-use mathlib.Core.Bool.{Bool, true, false, true≢false}
-use mathlib.Core.List.{List, [], _∷_}
+use Prim.Native.Nat.{ℕ, _+_, _*_, _<_}
+use mathlib.Core.Path.{_≡_, sym, ap, subst, _∙_}
+use mathlib.Core.Bool.{true}
+use mathlib.Core.List.{List}
 use native.Mathlib.Omega.{arith}
 use lib.ListN.{length, getD}
 use Rattle.record.specs.Sort.{Sort}
 use Rattle.record.specs.Record.{leaf}
-use Rattle.record.specs.Store.{room}
-use Rattle.record.specs.SortLists.{Once, Ordered, Starts}
-use Rattle.sheet.specs.Sheet.{Lengths, Sheet, Reading, readSheet}
-use Rattle.sheet.specs.Sheet.Reading.{refused as unread, got}
-use Rattle.sheet.specs.SheetLaws.{SheetIs, sheet-is}
-use Rattle.reader.specs.declared.Refusal.{Refusal}
+use Rattle.sheet.specs.Sheet.{Lengths, Sheet}
 use Rattle.substitution.specs.Substitution.{Map, apply}
 use Rattle.substitution.specs.Premises.{properMap}
 use Rattle.rows.specs.Verdict.{Verdict, sort}
 use Rattle.rows.specs.Term.{termAt, verdictOf}
 use Rattle.rows.specs.Meaning.{Means, free}
-use Rattle.rows.specs.OutcomeLaws.{Grown, means-stays, means-sort, room-few}
+use Rattle.rows.specs.OutcomeLaws.{means-sort, room-few}
 use Rattle.checked.specs.Rank.{Rank}
 use Rattle.checked.specs.Ranks.{smtLib}
 use Rattle.checked.specs.Checked.{check}
 use Rattle.checked.specs.Routes.{replace, clearTerm}
 use Rattle.checked.specs.RankSound.{Sound, smtLib-sound}
 use Rattle.checked.specs.RouteLaws.{routes}
-use Rattle.verdicts.specs.Rows.{rowsOf}
-use Rattle.verdicts.specs.Questions.{answersOf}
-use Rattle.verdicts.specs.Judged.{Judgement, refused, accepted, withRows, judgedSheet, judgedBy, judged}
-use Rattle.verdicts.specs.RowLaws.{judging, judging-check, rows-count, rows-grown, row-is}
-use Rattle.verdicts.specs.QuestionLaws.{answers-grown}
-
--- What an accepted judgement tells: the sheet that was read, its rows, and the store after rows and questions.
-pub record Told (R : ℕ → List Rank) (s : List ℕ) (l : Lengths) (h : Sheet) (st : List Sort) (rows answers : List ℕ) : Type 0 where
-  pub sheet : SheetIs s l h
-  pub rows-are : rowsOf R l (h .store) (h .terms) .rows ≡ rows
-  pub store-is : answersOf l (rowsOf R l (h .store) (h .terms) .store) (h .questions) .store ≡ st
-  pub answers-are : answersOf l (rowsOf R l (h .store) (h .terms) .store) (h .questions) .answers ≡ answers
-
--- The parts of two equal judgements are equal.
-module _ {g h : Sheet} {st st′ : List Sort} {rows rows′ answers answers′ : List ℕ} (e : accepted g st rows answers ≡ accepted h st′ rows′ answers′) where
-  sheet-one : g ≡ h
-  sheet-one = cc
-
-  store-one : st ≡ st′
-  store-one = cc
-
-  rows-one : rows ≡ rows′
-  rows-one = cc
-
-  answers-one : answers ≡ answers′
-  answers-one = cc
-
-told-by : (R : ℕ → List Rank) (s : List ℕ) (l : Lengths) (h : Sheet) (st : List Sort) (rows answers : List ℕ) (r : Reading Sheet) → readSheet s l ≡ r
-    → judgedSheet R l r ≡ accepted h st rows answers → Told R s l h st rows answers
-told-by R s l h st rows answers (unread x) q e = let z : true ≡ false = cc in absurd (true≢false z)
-told-by R s l h st rows answers (got g x) q e =
-    subst (λ (k : Sheet). Told R s l k st rows answers) (sheet-one e)
-    (record { sheet = sheet-is s l g x q; rows-are = rows-one e; store-is = store-one e; answers-are = answers-one e })
-
-pub told : (R : ℕ → List Rank) (s : List ℕ) (l : Lengths) (h : Sheet) (st : List Sort) (rows answers : List ℕ)
-    → judgedBy R s l ≡ accepted h st rows answers → Told R s l h st rows answers
-unfolding judgedBy
-told R s l h st rows answers e = told-by R s l h st rows answers (readSheet s l) refl e
-
--- THE LAW OF THE ROWS ON A JUDGED SHEET: where no limit is met at a term or below it, its row in a column means the verdict of its
--- tree in that column, over the store that is left behind all rows and answers.
-pub judged-row : (R : ℕ → List Rank) (s : List ℕ) (l : Lengths) (h : Sheet) (st : List Sort) (rows answers : List ℕ)
-    → judgedBy R s l ≡ accepted h st rows answers
-    → (column t : ℕ) → column < 2 → t < length (h .terms) → free rows column (h .terms) t ≡ true
-    → Means st (getD rows (2 * t + column) 0) (verdictOf (judging R column) (termAt (h .terms) t))
-judged-row R s l h st rows answers e column t col low f =
-    let k = told R s l h st rows answers e in
-    let m = rowsOf R l (h .store) (h .terms) in
-    let v = verdictOf (judging R column) (termAt (h .terms) t) in
-    subst (λ (z : List ℕ). Means st (getD z (2 * t + column) 0) v) (k .rows-are)
-    (means-stays (m .store) st (getD (m .rows) (2 * t + column) 0) v
-    (subst (λ (z : List Sort). Starts (m .store) z) (k .store-is) (answers-grown l (m .store) (h .questions) .starts))
-    (row-is R l (h .store) (h .terms) (k .sheet .sorted .roomy) (k .sheet .terms-are .below) column t col low
-    (subst (λ (z : List ℕ). free z column (h .terms) t ≡ true) (sym (k .rows-are)) f)))
-
--- The store that is left has room, so its numbers are below 4,096.
-judged-room : (R : ℕ → List Rank) (s : List ℕ) (l : Lengths) (h : Sheet) (st : List Sort) (rows answers : List ℕ)
-    → judgedBy R s l ≡ accepted h st rows answers → room (l .records) (l .places) st ≡ true
-judged-room R s l h st rows answers e =
-    let k = told R s l h st rows answers e in
-    let m = rowsOf R l (h .store) (h .terms) in
-    subst (λ (z : List Sort). room (l .records) (l .places) z ≡ true) (k .store-is)
-    (answers-grown l (m .store) (h .questions) .roomy (rows-grown R l (h .store) (h .terms) .roomy (k .sheet .sorted .roomy)))
+use Rattle.verdicts.specs.Judged.{accepted, judgedBy, judged}
+use Rattle.verdicts.specs.RowLaws.{judging, judging-check}
+use Rattle.verdicts.specs.JudgedLaws.{judged-row, judged-store}
 
 -- The checked row of a term, and the sort that it gives: its code is no refusal, and is the number of s.
 abbrev pub checkedRow : List ℕ → ℕ → ℕ
@@ -114,7 +49,7 @@ checked-gives : (R : ℕ → List Rank) (s : List ℕ) (l : Lengths) (h : Sheet)
 checked-gives R s l h st rows answers e t low f a c =
     let m = subst (λ (v : Verdict). Means st (checkedRow rows t) v) (judging-check R (termAt (h .terms) t) ∙ c)
     (judged-row R s l h st rows answers e 1 t (omega arith) low f) in
-    let few = room-few (l .records) (l .places) st (judged-room R s l h st rows answers e) in
+    let few = room-few (l .records) (l .places) st (judged-store R s l h st rows answers e .3) in
     (m .0, (omega (arith, m .0), m .1))
 
 -- DEMAND 3, ENTIRE, over any sound ranks.
