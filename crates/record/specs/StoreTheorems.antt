@@ -1,7 +1,7 @@
 -- THE STORE AS A LIST OF DISTINCT SORTS, in document 01's words: it "keeps each distinct sort once, in first-made order, parts
 -- first"; "Two sorts are equal exactly when their store numbers are"; "An answer adds only the sorts inside it."
-use Prim.Native.Nat.{ℕ, zero, suc, _≤_, _<_}
-use mathlib.Core.Path.{_≡_, refl, sym, ap, ap₂, subst, _∙_}
+use Prim.Native.Nat.{ℕ, _≤_, _<_}
+use mathlib.Core.Path.{_≡_, refl, sym, ap, subst, _∙_}
 use mathlib.Core.Bool.{Bool, true, false, cond, _||_}
 use mathlib.Core.List.{List, [], _∷_, _++_}
 use mathlib.Core.Logic.{_↔_}
@@ -10,9 +10,8 @@ use lib.ListN.{length, getD}
 use Rattle.record.specs.Sort.{Sort, Sorts, var, par, node, end, _then_, same}
 use Rattle.record.specs.Record.{leaf}
 use Rattle.record.specs.Store.{memb, addOnce, intern, internAll, indexOf}
-use Rattle.record.specs.Cases.{byTest, clash}
 use Rattle.record.specs.SortLaws.{same-sound}
-use Rattle.record.specs.SortLists.{Once, Ordered, Starts, memb-at, index-found, index-at, once-intern, ordered-intern, starts-intern, starts-at, starts-count, intern-known}
+use Rattle.record.specs.SortLists.{Once, Ordered, Starts, memb-at, index-found, once-intern, ordered-intern, starts-intern, starts-at, starts-count, intern-known}
 
 -- THE SORTS INSIDE A SORT: t is the sort itself, or inside one of its parts.
 unfoldable mutual

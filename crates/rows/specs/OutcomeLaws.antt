@@ -1,9 +1,9 @@
 -- What the outcome of a verdict leaves: a refusal the store as it was, an answer the store with the sorts inside it and its
 -- number there; and when a limit is met, 22 or 23. A coded row keeps its meaning while the store grows.
-use Prim.Native.Nat.{ℕ, zero, suc, _+_, _*_, _≤_, _<_}
+use Prim.Native.Nat.{ℕ, _*_, _≤_, _<_}
 use mathlib.Core.Path.{_≡_, refl, sym, ap, subst, _∙_}
-use mathlib.Core.Bool.{Bool, true, false, not, cond, _&&_, _||_, true≢false, false≢true}
-use mathlib.Core.List.{List, [], _∷_}
+use mathlib.Core.Bool.{Bool, true, false, not, _&&_, _||_, true≢false, false≢true}
+use mathlib.Core.List.{List}
 use mathlib.Core.Logic.{_↔_}
 use native.Mathlib.Omega.{arith}
 use lib.ListN.{length, getD}
@@ -12,7 +12,7 @@ use borrow.Author.Tests.{leb-true, eq-eqb}
 use Rattle.record.specs.Sort.{Sort}
 use Rattle.record.specs.Record.{leaf}
 use Rattle.record.specs.Store.{memb, intern, indexOf, bytesOf, room}
-use Rattle.record.specs.Cases.{and-left, and-right, or-second, not-true, clash}
+use Rattle.record.specs.Cases.{and-right, or-second, not-true, clash}
 use Rattle.record.specs.SortLists.{Once, Ordered, Starts, starts-self, starts-trans, starts-intern, starts-at, starts-count, once-intern, ordered-intern, index-found, memb-intern}
 use Rattle.record.specs.StoreTheorems.{inside, intern-holds}
 use Rattle.sheet.specs.Sheet.{Lengths}

@@ -1,20 +1,19 @@
 -- The verdict on one record, from rows that mean the verdicts of the trees below it, is the verdict of its tree.
-use Prim.Native.Nat.{ℕ, zero, suc, _+_, _*_, _≤_, _<_}
-use mathlib.Core.Path.{_≡_, refl, sym, ap, ap₂, subst, _∙_}
-use mathlib.Core.Bool.{Bool, true, false, cond, _&&_}
+use Prim.Native.Nat.{ℕ, _+_, _*_, _≤_, _<_}
+use mathlib.Core.Path.{_≡_, refl, ap, ap₂, _∙_}
+use mathlib.Core.Bool.{Bool, true}
 use mathlib.Core.List.{List, [], _∷_}
 use mathlib.Core.Option.{Option, none, some}
 use native.Mathlib.Omega.{arith}
 use lib.ListN.{length, getD}
 use lib.Dec.{eqb, ltb}
 use borrow.Author.Tests.{lt-ltb, le-ltb, ltb-true}
-use Rattle.record.specs.Sort.{Sort, Sorts, end, _then_}
-use Rattle.record.specs.Record.{leaf}
+use Rattle.record.specs.Sort.{Sort, Sorts}
 use Rattle.record.specs.Cases.{and-left, and-right, byTest}
 use Rattle.reader.specs.Reader.{allBelow}
 use Rattle.sheet.specs.Sheet.{TermFields}
 use Rattle.rows.specs.Verdict.{Verdict, sort, refused}
-use Rattle.rows.specs.Term.{Site, Term, Terms, term, stop, _also_, overParts, termsOf, treeOf, termAt, constantOf, constantsOf, besides, verdictOf, verdictsOf, constantAt, constantsAt, consed, sortsAt, verdictAt}
+use Rattle.rows.specs.Term.{Site, Term, termsOf, treeOf, termAt, constantOf, constantsOf, besides, verdictOf, verdictsOf, constantAt, constantsAt, consed, sortsAt, verdictAt}
 use Rattle.rows.specs.Outcome.{rowSort}
 use Rattle.rows.specs.Meaning.{Means, allOf}
 use Rattle.rows.specs.OutcomeLaws.{refusal-large}

@@ -2,7 +2,7 @@
 -- distinct sorts, parts before wholes, with room in the lent lengths.
 use Prim.Native.Nat.{ℕ, zero, suc, _+_, _*_, _≤_, _<_}
 use mathlib.Core.Path.{_≡_, refl, sym, ap, ap₂, subst, _∙_}
-use mathlib.Core.Bool.{Bool, true, false, not, cond, _&&_, _||_, true≢false, false≢true}
+use mathlib.Core.Bool.{Bool, true, false, cond, _&&_, _||_, true≢false, false≢true}
 use mathlib.Core.List.{List, [], _∷_, _++_}
 use native.Mathlib.Omega.{arith}
 use native.Mathlib.Nat.{not-suc-le-zero}
@@ -10,12 +10,12 @@ use lib.ListN.{length, getD, length-append, List·getD-append}
 use lib.Dec.{eqb, leb, ltb}
 use lib.Seq.{getD-at}
 use borrow.Author.Tests.{eqb-true, leb-true, ltb-true, le-leb}
-use Rattle.record.specs.Number.{numbersAt, u16At}
-use Rattle.record.specs.Sort.{Sort, Sorts, var, par, node, end, _then_, size}
+use Rattle.record.specs.Number.{numbersAt}
+use Rattle.record.specs.Sort.{Sort, size}
 use Rattle.record.specs.Record.{Fields, bit, mapOf, leastOf, mostOf, leaf, sortsOf, sortOf}
 use Rattle.record.specs.Store.{memb, addOnce, bytesOf, room}
 use Rattle.record.specs.Codec.{length-numbersAt}
-use Rattle.record.specs.Cases.{and-left, and-right, or-second, byTest, clash}
+use Rattle.record.specs.Cases.{and-left, and-right, or-second, byTest}
 use Rattle.record.specs.SortLists.{below-suc, Once, Ordered, once-add, ordered-add, partsIn, membAll, memb-add, memb-starts, starts-add}
 use Rattle.reader.specs.Tables.{termMapOf, termNumberOf, termLeastOf, termMostOf, secondLeastOf, secondMostOf}
 use Rattle.reader.specs.Reader.{need, byNumber, byList, byHead, place, allBelow, readByte, readHead, readList, readReferences, readSecond, readName, readNumber, readOwn, readPairs, readNames, readSortFields, readSort, readTermFields, readTerm}

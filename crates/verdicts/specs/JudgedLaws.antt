@@ -4,6 +4,7 @@ use Prim.Native.Nat.{ℕ, _+_, _*_, _<_}
 use mathlib.Core.Path.{_≡_, refl, sym, ap, subst, _∙_}
 use mathlib.Core.Bool.{true, false, true≢false}
 use mathlib.Core.List.{List}
+use native.Mathlib.Omega.{arith}
 use lib.ListN.{length, getD}
 use Rattle.record.specs.Sort.{Sort}
 use Rattle.record.specs.Store.{room}
@@ -11,14 +12,17 @@ use Rattle.record.specs.SortLists.{Once, Ordered, Starts}
 use Rattle.sheet.specs.Sheet.{Lengths, Sheet, Reading, readSheet}
 use Rattle.sheet.specs.Sheet.Reading.{refused as unread, got}
 use Rattle.sheet.specs.SheetLaws.{SheetIs, sheet-is}
+use Rattle.rows.specs.Verdict.{Verdict}
 use Rattle.rows.specs.Term.{termAt, verdictOf}
 use Rattle.rows.specs.Meaning.{Means, free}
 use Rattle.rows.specs.OutcomeLaws.{Grown, means-stays, grown-trans}
+use Rattle.inferred.specs.Inferred.{infer}
 use Rattle.checked.specs.Rank.{Rank}
+use Rattle.checked.specs.Checked.{check}
 use Rattle.verdicts.specs.Rows.{rowsOf}
 use Rattle.verdicts.specs.Questions.{answersOf}
 use Rattle.verdicts.specs.Judged.{accepted, judgedSheet, judgedBy}
-use Rattle.verdicts.specs.RowLaws.{judging, rows-count, rows-grown, row-is}
+use Rattle.verdicts.specs.RowLaws.{judging, judging-infer, judging-check, rows-count, rows-grown, row-is}
 use Rattle.verdicts.specs.QuestionLaws.{Answers, questionAt, answers-grown, answers-count, answers-say}
 
 -- What an accepted judgement tells: the sheet that was read, its rows, and the store after rows and questions.
@@ -54,57 +58,64 @@ pub told : (R : ℕ → List Rank) (s : List ℕ) (l : Lengths) (h : Sheet) (st 
 unfolding judgedBy
 told R s l h st rows answers e = told-by R s l h st rows answers (readSheet s l) refl e
 
--- THE LAW OF THE ROWS ON A JUDGED SHEET: where no limit is met at a term or below it, its row in a column means the verdict of its
--- tree in that column, over the store that is left behind all rows and answers.
-pub judged-row : (R : ℕ → List Rank) (s : List ℕ) (l : Lengths) (h : Sheet) (st : List Sort) (rows answers : List ℕ)
-    → judgedBy R s l ≡ accepted h st rows answers
-    → (column t : ℕ) → column < 2 → t < length (h .terms) → free rows column (h .terms) t ≡ true
-    → Means st (getD rows (2 * t + column) 0) (verdictOf (judging R column) (termAt (h .terms) t))
-judged-row R s l h st rows answers e column t col low f =
-    let k = told R s l h st rows answers e in
-    let m = rowsOf R l (h .store) (h .terms) in
-    let v = verdictOf (judging R column) (termAt (h .terms) t) in
-    subst (λ (z : List ℕ). Means st (getD z (2 * t + column) 0) v) (k .rows-are)
-    (means-stays (m .store) st (getD (m .rows) (2 * t + column) 0) v
-    (subst (λ (z : List Sort). Starts (m .store) z) (k .store-is) (answers-grown l (m .store) (h .questions) .starts))
-    (row-is R l (h .store) (h .terms) (k .sheet .sorted .roomy) (k .sheet .terms-are .below) column t col low
-    (subst (λ (z : List ℕ). free z column (h .terms) t ≡ true) (sym (k .rows-are)) f)))
+-- An accepted sheet: the bytes s with the lent lengths l.
+module _ (R : ℕ → List Rank) (s : List ℕ) (l : Lengths) (h : Sheet) (st : List Sort) (rows answers : List ℕ)
+    (e : judgedBy R s l ≡ accepted h st rows answers) where
+  abbrev tale : Told R s l h st rows answers
+  tale = told R s l h st rows answers e
 
--- The store only grows from the sheet's own through all rows and answers.
-pub judged-grown : (R : ℕ → List Rank) (s : List ℕ) (l : Lengths) (h : Sheet) (st : List Sort) (rows answers : List ℕ)
-    → judgedBy R s l ≡ accepted h st rows answers → Grown l (h .store) st
-judged-grown R s l h st rows answers e =
-    let k = told R s l h st rows answers e in
-    let m = rowsOf R l (h .store) (h .terms) in
-    subst (Grown l (h .store)) (k .store-is)
-    (grown-trans l (h .store) (m .store) (answersOf l (m .store) (h .questions) .store) (rows-grown R l (h .store) (h .terms))
-    (answers-grown l (m .store) (h .questions)))
+  -- The store after all rows, before the questions.
+  abbrev ruled : List Sort
+  ruled = rowsOf R l (h .store) (h .terms) .store
 
--- THE STORE THAT IS LEFT: distinct sorts, parts before wholes, with room in the lent lengths; it begins with the sheet's own store.
-pub judged-store : (R : ℕ → List Rank) (s : List ℕ) (l : Lengths) (h : Sheet) (st : List Sort) (rows answers : List ℕ)
-    → judgedBy R s l ≡ accepted h st rows answers → Once st × Ordered st × Starts (h .store) st × (room (l .records) (l .places) st ≡ true)
-judged-store R s l h st rows answers e =
-    let k = told R s l h st rows answers e in
-    let g = judged-grown R s l h st rows answers e in
-    (g .once (k .sheet .sorted .once), g .ordered (k .sheet .sorted .ordered), g .starts, g .roomy (k .sheet .sorted .roomy))
+  -- THE LAW OF THE ROWS: where no limit is met at a term or below it, its row in a column means the verdict of its tree in that
+  -- column (0 the inferred, 1 the checked one), over the store that is left behind all rows and answers.
+  pub judged-row : (column t : ℕ) → column < 2 → t < length (h .terms) → free rows column (h .terms) t ≡ true
+      → Means st (getD rows (2 * t + column) 0) (verdictOf (judging R column) (termAt (h .terms) t))
+  judged-row column t col low f =
+      let k = tale in
+      let v = verdictOf (judging R column) (termAt (h .terms) t) in
+      let codes = rowsOf R l (h .store) (h .terms) .rows in
+      subst (λ (z : List ℕ). Means st (getD z (2 * t + column) 0) v) (k .rows-are)
+      (means-stays ruled st (getD codes (2 * t + column) 0) v
+      (subst (λ (z : List Sort). Starts ruled z) (k .store-is) (answers-grown l ruled (h .questions) .starts))
+      (row-is R l (h .store) (h .terms) (k .sheet .sorted .roomy) (k .sheet .terms-are .below) column t col low
+      (subst (λ (z : List ℕ). free z column (h .terms) t ≡ true) (sym (k .rows-are)) f)))
 
--- TWO ROWS A TERM, ONE ANSWER A QUESTION.
-pub judged-counts : (R : ℕ → List Rank) (s : List ℕ) (l : Lengths) (h : Sheet) (st : List Sort) (rows answers : List ℕ)
-    → judgedBy R s l ≡ accepted h st rows answers → (length rows ≡ 2 * length (h .terms)) × (length answers ≡ length (h .questions))
-judged-counts R s l h st rows answers e =
-    let k = told R s l h st rows answers e in
-    (
-      ap length (sym (k .rows-are)) ∙ rows-count R l (h .store) (h .terms),
-      ap length (sym (k .answers-are)) ∙ answers-count l (rowsOf R l (h .store) (h .terms) .store) (h .questions),
-    )
+  -- Its two columns: the inferred row means what `infer` says of the tree, the checked row what `check` says.
+  pub judged-inferred : (t : ℕ) → t < length (h .terms) → free rows 0 (h .terms) t ≡ true → Means st (getD rows (2 * t + 0) 0) (infer (termAt (h .terms) t))
+  judged-inferred t low f =
+      subst (λ (v : Verdict). Means st (getD rows (2 * t + 0) 0) v) (judging-infer R (termAt (h .terms) t)) (judged-row 0 t (omega arith) low f)
 
--- THE ANSWERS OF A JUDGED SHEET say what their questions ask.
-pub judged-answer : (R : ℕ → List Rank) (s : List ℕ) (l : Lengths) (h : Sheet) (st : List Sort) (rows answers : List ℕ)
-    → judgedBy R s l ≡ accepted h st rows answers
-    → (k : ℕ) → k < length (h .questions) → Answers st (getD answers k 0) (questionAt (h .questions) k)
-judged-answer R s l h st rows answers e k low =
-    let t = told R s l h st rows answers e in
-    let m = rowsOf R l (h .store) (h .terms) in
-    subst (λ (z : List Sort). Answers z (getD answers k 0) (questionAt (h .questions) k)) (t .store-is)
-    (subst (λ (z : List ℕ). Answers (answersOf l (m .store) (h .questions) .store) (getD z k 0) (questionAt (h .questions) k)) (t .answers-are)
-    (answers-say l (m .store) (h .questions) k low))
+  pub judged-checked : (t : ℕ) → t < length (h .terms) → free rows 1 (h .terms) t ≡ true → Means st (getD rows (2 * t + 1) 0) (check R (termAt (h .terms) t))
+  judged-checked t low f =
+      subst (λ (v : Verdict). Means st (getD rows (2 * t + 1) 0) v) (judging-check R (termAt (h .terms) t)) (judged-row 1 t (omega arith) low f)
+
+  -- THE ANSWERS say what their questions ask, over that store.
+  pub judged-answer : (k : ℕ) → k < length (h .questions) → Answers st (getD answers k 0) (questionAt (h .questions) k)
+  judged-answer k low =
+      let t = tale in
+      subst (λ (z : List Sort). Answers z (getD answers k 0) (questionAt (h .questions) k)) (t .store-is)
+      (subst (λ (z : List ℕ). Answers (answersOf l ruled (h .questions) .store) (getD z k 0) (questionAt (h .questions) k)) (t .answers-are)
+      (answers-say l ruled (h .questions) k low))
+
+  -- THE STORE only grows from the sheet's own through all rows and answers: what is left has distinct sorts, parts before wholes,
+  -- and room in the lent lengths.
+  judged-grown : Grown l (h .store) st
+  judged-grown =
+      subst (Grown l (h .store)) (tale .store-is)
+      (grown-trans l (h .store) ruled (answersOf l ruled (h .questions) .store) (rows-grown R l (h .store) (h .terms))
+      (answers-grown l ruled (h .questions)))
+
+  pub judged-store : Once st × Ordered st × Starts (h .store) st × (room (l .records) (l .places) st ≡ true)
+  judged-store =
+      let k = tale .sheet .sorted in
+      let g = judged-grown in (g .once (k .once), g .ordered (k .ordered), g .starts, g .roomy (k .roomy))
+
+  -- TWO ROWS A TERM, ONE ANSWER A QUESTION.
+  pub judged-counts : (length rows ≡ 2 * length (h .terms)) × (length answers ≡ length (h .questions))
+  judged-counts =
+      (
+        ap length (sym (tale .rows-are)) ∙ rows-count R l (h .store) (h .terms),
+        ap length (sym (tale .answers-are)) ∙ answers-count l ruled (h .questions),
+      )

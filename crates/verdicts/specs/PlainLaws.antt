@@ -1,13 +1,13 @@
 -- No verdict on a record is 22 or 23 by itself: those come only from the limits of its answer. So a row has 22 exactly when its
 -- answer passes a limit, and 23 exactly when it passes none and the store cannot hold its sorts. By cases over each definition.
-use Prim.Native.Nat.{ℕ, zero, suc, _+_, _*_, _-_}
+use Prim.Native.Nat.{ℕ, suc, _+_, _*_, _-_}
 use mathlib.Core.Path.{_≡_, refl}
 use mathlib.Core.Bool.{Bool, true, false, not, cond, _&&_, _||_}
 use mathlib.Core.List.{List, [], _∷_}
 use mathlib.Core.Option.{Option, none, some}
 use mathlib.Core.Logic.{_↔_}
 use lib.Dec.{eqb, leb, ltb}
-use Rattle.record.specs.Sort.{Sort, Sorts, var, par, node, end, _then_, function, bool, array, bitvec, paramBitVec, numberIn, kindOf, count, same, int, real, string, reglan, set, tuple}
+use Rattle.record.specs.Sort.{Sort, Sorts, var, par, node, end, _then_, function, bool, array, bitvec, numberIn, count, same, int, reglan}
 use Rattle.sheet.specs.Sheet.{Lengths, TermFields, Binding}
 use Rattle.substitution.specs.Substitution.{Map, empty, apply}
 use Rattle.substitution.specs.Matching.{matchesAll}
@@ -16,9 +16,9 @@ use Rattle.substitution.specs.Premises.{proper, properAll}
 use Rattle.rows.specs.declared.Cause.{Cause}
 use Rattle.rows.specs.declared.Cause.the-variants.{Limit, Full, NoRank, Count, Misfit, Unassigned, Barred, Panics}
 use Rattle.rows.specs.Verdict.{Verdict, sort, refused, need, orElse, numberOf}
-use Rattle.rows.specs.Lists.{firsts, others, remaining, lastOf, joined, bindingSorts}
+use Rattle.rows.specs.Lists.{firsts, others, remaining, joined, bindingSorts}
 use Rattle.rows.specs.Term.{Site, overParts, constantsAt, sortsAt, verdictAt}
-use Rattle.rows.specs.Outcome.{outcome, rowSort}
+use Rattle.rows.specs.Outcome.{rowSort}
 use Rattle.rows.specs.OutcomeLaws.{plain, Passes, Overflows, plain-limit, plain-full}
 use Rattle.inferred.specs.declared.Family.{Family}
 use Rattle.inferred.specs.declared.Family.the-variants.{Truth, Integer, Decimal, Text, Regular, Vector, OneBit, Bits, Constant, Concat, First, Second, Last, Sum, Element, RareList, Singleton, Tuple, UnitTuple, Transpose, Join, Product}

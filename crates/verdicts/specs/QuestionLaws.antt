@@ -1,9 +1,9 @@
 -- What an answer leaves: question 0 adds nothing and answers 1 or 0; the others are outcomes of their verdicts, with 22 and 23
 -- exactly where document 01 says. Over all questions the store only grows.
-use Prim.Native.Nat.{ℕ, zero, suc, _+_, _*_, _≤_, _<_}
+use Prim.Native.Nat.{ℕ, suc, _*_, _≤_, _<_}
 use mathlib.Core.Path.{_≡_, refl, sym, ap, subst, _∙_}
-use mathlib.Core.Bool.{Bool, true, false, cond, true≢false, false≢true}
-use mathlib.Core.List.{List, [], _∷_, _++_}
+use mathlib.Core.Bool.{Bool, true, false, cond}
+use mathlib.Core.List.{List, [], _∷_}
 use mathlib.Core.Option.{Option, none, some}
 use mathlib.Core.Logic.{_↔_}
 use native.Mathlib.Omega.{arith}
@@ -13,19 +13,17 @@ use lib.Seq.{getD-at}
 use lib.Dec.{eqb}
 use borrow.Author.Tests.{eqb-true, eqb-false}
 use Rattle.record.specs.Sort.{Sort, end}
-use Rattle.record.specs.Store.{intern, room}
-use Rattle.record.specs.Cases.{byTest, clash}
+use Rattle.record.specs.Cases.{byTest}
 use Rattle.sheet.specs.Sheet.{Lengths, QuestionFields}
 use Rattle.substitution.specs.Substitution.{Map, empty}
 use Rattle.substitution.specs.Matching.{matches, listedIn, premise}
 use Rattle.substitution.specs.Compatible.{compatible}
-use Rattle.rows.specs.declared.Cause.{Cause}
-use Rattle.rows.specs.declared.Cause.the-variants.{Limit, Full, Barred, NoAssignment}
-use Rattle.rows.specs.Verdict.{Verdict, sort, refused, need, numberOf}
-use Rattle.rows.specs.Outcome.{Outcome, outcome, within}
+use Rattle.rows.specs.declared.Cause.the-variants.{Limit, Full, Barred}
+use Rattle.rows.specs.Verdict.{Verdict, sort, need, numberOf}
+use Rattle.rows.specs.Outcome.{Outcome, outcome}
 use Rattle.rows.specs.Meaning.{Means, limited}
 use Rattle.rows.specs.OutcomeLaws.{plain, Accepted, Passes, Overflows, any-accepted, outcome-refused, plain-limit, plain-full, Grown, grown-self, grown-trans, outcome-grown, outcome-means, means-stays}
-use Rattle.verdicts.specs.Questions.{firstOf, restOf, yesNo, assigned, matchAnswer, applyAnswer, answerOf, Answered, answersOf}
+use Rattle.verdicts.specs.Questions.{firstOf, restOf, yesNo, assigned, matchAnswer, applyAnswer, answerOf, answersOf}
 
 -- The verdict of a question 1 or 2.
 unfoldable pub answerVerdict : QuestionFields → Verdict

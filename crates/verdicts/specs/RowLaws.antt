@@ -1,8 +1,8 @@
 -- The rows of a sheet's terms: how many they are, that the store only grows and stays a store, and THE LAW: where no limit is met
 -- at a term or below it, its row means the verdict of its tree. By induction over the records, the earlier ones first.
 use Prim.Native.Nat.{ℕ, zero, suc, _+_, _*_, _≤_, _<_}
-use mathlib.Core.Path.{_≡_, refl, sym, ap, subst, _∙_}
-use mathlib.Core.Bool.{Bool, true, false, not, cond, _&&_, true≢false, false≢true}
+use mathlib.Core.Path.{_≡_, refl, ap, subst, _∙_}
+use mathlib.Core.Bool.{Bool, true, false, not, _&&_}
 use mathlib.Core.List.{List, [], _∷_, _++_}
 use native.Mathlib.Omega.{arith}
 use native.Mathlib.Nat.{not-suc-le-zero}
@@ -11,14 +11,12 @@ use lib.Seq.{getD-append-add}
 use lib.Dec.{eqb}
 use borrow.Author.Tests.{eqb-true, eqb-false}
 use Rattle.record.specs.Sort.{Sort}
-use Rattle.record.specs.Record.{leaf}
 use Rattle.record.specs.Store.{room}
 use Rattle.record.specs.Cases.{and-left, and-right, not-true, byTest}
-use Rattle.record.specs.SortLists.{Once, Ordered, Starts, starts-self, starts-trans}
 use Rattle.reader.specs.Reader.{allBelow}
 use Rattle.sheet.specs.Sheet.{Lengths, TermFields}
 use Rattle.sheet.specs.SheetLaws.{referring}
-use Rattle.rows.specs.Verdict.{Verdict, sort, refused}
+use Rattle.rows.specs.Verdict.{Verdict, sort}
 use Rattle.rows.specs.Term.{Site, Term, treeOf, termAt, verdictOf, verdictAt}
 use Rattle.rows.specs.Outcome.{Outcome, outcome, rowSort}
 use Rattle.rows.specs.Meaning.{Means, limited, allOf, free}
@@ -27,7 +25,7 @@ use Rattle.rows.specs.TermLaws.{verdict-is}
 use Rattle.inferred.specs.Inferred.{inferred, infer}
 use Rattle.checked.specs.Rank.{Rank}
 use Rattle.checked.specs.Checked.{checked, check}
-use Rattle.verdicts.specs.Rows.{Tabled, rowOf, rowsAdded, rowsOf}
+use Rattle.verdicts.specs.Rows.{Tabled, rowOf, rowsOf}
 
 -- The verdict that a column holds: 0 the inferred one, 1 the checked one.
 abbrev pub judging : (ℕ → List Rank) → ℕ → Site → Verdict

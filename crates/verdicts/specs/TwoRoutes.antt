@@ -1,7 +1,7 @@
 -- DEMAND 3 ON SHEETS: the row of a term on an accepted sheet is the verdict of its tree where no limit is met (RowLaws), and on
 -- trees the two routes agree (RouteLaws of the crate checked).
 use Prim.Native.Nat.{ℕ, _+_, _*_, _<_}
-use mathlib.Core.Path.{_≡_, sym, ap, subst, _∙_}
+use mathlib.Core.Path.{_≡_, ap, subst, _∙_}
 use mathlib.Core.Bool.{true}
 use mathlib.Core.List.{List}
 use native.Mathlib.Omega.{arith}
@@ -12,7 +12,7 @@ use Rattle.sheet.specs.Sheet.{Lengths, Sheet}
 use Rattle.substitution.specs.Substitution.{Map, apply}
 use Rattle.substitution.specs.Premises.{properMap}
 use Rattle.rows.specs.Verdict.{Verdict, sort}
-use Rattle.rows.specs.Term.{termAt, verdictOf}
+use Rattle.rows.specs.Term.{termAt}
 use Rattle.rows.specs.Meaning.{Means, free}
 use Rattle.rows.specs.OutcomeLaws.{means-sort, room-few}
 use Rattle.checked.specs.Rank.{Rank}
@@ -22,8 +22,7 @@ use Rattle.checked.specs.Routes.{replace, clearTerm}
 use Rattle.checked.specs.RankSound.{Sound, smtLib-sound}
 use Rattle.checked.specs.RouteLaws.{routes}
 use Rattle.verdicts.specs.Judged.{accepted, judgedBy, judged}
-use Rattle.verdicts.specs.RowLaws.{judging, judging-check}
-use Rattle.verdicts.specs.JudgedLaws.{judged-row, judged-store}
+use Rattle.verdicts.specs.JudgedLaws.{judged-checked, judged-store}
 
 -- The checked row of a term, and the sort that it gives: its code is no refusal, and is the number of s.
 abbrev pub checkedRow : List ℕ → ℕ → ℕ
@@ -32,25 +31,20 @@ checkedRow rows t = getD rows (2 * t + 1) 0
 abbrev pub Gives : List Sort → List ℕ → ℕ → Sort → Type 0
 Gives st rows t s = (checkedRow rows t < 65536) × (getD st (checkedRow rows t) leaf ≡ s)
 
--- A checked row that is no refusal is the sort that `check` gives the tree, and back.
-checked-sort : (R : ℕ → List Rank) (s : List ℕ) (l : Lengths) (h : Sheet) (st : List Sort) (rows answers : List ℕ)
-    → judgedBy R s l ≡ accepted h st rows answers
-    → (t : ℕ) → t < length (h .terms) → free rows 1 (h .terms) t ≡ true
-    → (a : Sort) → Gives st rows t a → check R (termAt (h .terms) t) ≡ sort a
-checked-sort R s l h st rows answers e t low f a g =
-    sym (judging-check R (termAt (h .terms) t))
-    ∙ means-sort st (checkedRow rows t) (verdictOf (judging R 1) (termAt (h .terms) t)) (judged-row R s l h st rows answers e 1 t (omega arith) low f) (g .0)
-    ∙ ap sort (g .1)
+-- Where no limit is met, a checked row gives a sort exactly when `check` gives it to the tree.
+module _ (R : ℕ → List Rank) (s : List ℕ) (l : Lengths) (h : Sheet) (st : List Sort) (rows answers : List ℕ)
+    (e : judgedBy R s l ≡ accepted h st rows answers) (t : ℕ) (low : t < length (h .terms)) (f : free rows 1 (h .terms) t ≡ true) (a : Sort) where
+  row-meant : Means st (checkedRow rows t) (check R (termAt (h .terms) t))
+  row-meant = judged-checked R s l h st rows answers e t low f
 
-checked-gives : (R : ℕ → List Rank) (s : List ℕ) (l : Lengths) (h : Sheet) (st : List Sort) (rows answers : List ℕ)
-    → judgedBy R s l ≡ accepted h st rows answers
-    → (t : ℕ) → t < length (h .terms) → free rows 1 (h .terms) t ≡ true
-    → (a : Sort) → check R (termAt (h .terms) t) ≡ sort a → (checkedRow rows t < length st) × Gives st rows t a
-checked-gives R s l h st rows answers e t low f a c =
-    let m = subst (λ (v : Verdict). Means st (checkedRow rows t) v) (judging-check R (termAt (h .terms) t) ∙ c)
-    (judged-row R s l h st rows answers e 1 t (omega arith) low f) in
-    let few = room-few (l .records) (l .places) st (judged-store R s l h st rows answers e .3) in
-    (m .0, (omega (arith, m .0), m .1))
+  given-checked : Gives st rows t a → check R (termAt (h .terms) t) ≡ sort a
+  given-checked g = means-sort st (checkedRow rows t) (check R (termAt (h .terms) t)) row-meant (g .0) ∙ ap sort (g .1)
+
+  checked-given : check R (termAt (h .terms) t) ≡ sort a → (checkedRow rows t < length st) × Gives st rows t a
+  checked-given c =
+      let m = subst (λ (v : Verdict). Means st (checkedRow rows t) v) c row-meant in
+      let few = room-few (l .records) (l .places) st (judged-store R s l h st rows answers e .3) in
+      (m .0, (omega (arith, m .0), m .1))
 
 -- DEMAND 3, ENTIRE, over any sound ranks.
 pub two-routes-over : (R : ℕ → List Rank) → ((n : ℕ) → Sound (R n))
@@ -62,8 +56,8 @@ pub two-routes-over : (R : ℕ → List Rank) → ((n : ℕ) → Sound (R n))
     → free rowsA 1 (hA .terms) t ≡ true → free rowsB 1 (hB .terms) t′ ≡ true
     → (s : Sort) → Gives stA rowsA t s → (checkedRow rowsB t′ < length stB) × Gives stB rowsB t′ (apply σ s)
 two-routes-over R S A B lA lB hA hB stA stB rowsA rowsB answersA answersB jA jB t t′ lowA lowB σ p c same fA fB s g =
-    checked-gives R B lB hB stB rowsB answersB jB t′ lowB fB (apply σ s)
-    (ap (check R) same ∙ routes R S σ (termAt (hA .terms) t) s p c (checked-sort R A lA hA stA rowsA answersA jA t lowA fA s g))
+    checked-given R B lB hB stB rowsB answersB jB t′ lowB fB (apply σ s)
+    (ap (check R) same ∙ routes R S σ (termAt (hA .terms) t) s p c (given-checked R A lA hA stA rowsA answersA jA t lowA fA s g))
 
 -- DEMAND 3, ENTIRE: "Between two routes there is no difference where the first gives a sort." For any two accepted sheets A and B
 -- and any lent lengths; for any term t of A, and t′ of B whose tree is that of t with its sort variables replaced by σ; where σ's
