@@ -6,3 +6,4 @@ pub mod QuestionLaws
 pub mod Judged
 pub mod JudgedLaws
 pub mod TwoRoutes
+pub mod RoutesExample
