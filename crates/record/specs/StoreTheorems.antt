@@ -123,8 +123,7 @@ unfolding Once
 entries-one st o i j li lj = (λ e. o i j li lj e, λ e. ap (λ (k : ℕ). getD st k leaf) e)
 
 pub numbers-one : (st : List Sort) (s t : Sort) → memb s st ≡ true → memb t st ≡ true → (indexOf s st ≡ indexOf t st) ↔ (s ≡ t)
-numbers-one st s t m n =
-    (
-      λ e. sym (index-found st s m .1) ∙ ap (λ (k : ℕ). getD st k leaf) e ∙ index-found st t n .1,
-      λ e. ap (λ (x : Sort). indexOf x st) e,
-    )
+numbers-one st s t m n = (
+  λ e. sym (index-found st s m .1) ∙ ap (λ (k : ℕ). getD st k leaf) e ∙ index-found st t n .1,
+  λ e. ap (λ (x : Sort). indexOf x st) e,
+)

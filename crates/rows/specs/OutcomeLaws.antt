@@ -12,7 +12,7 @@ use borrow.Author.Tests.{leb-true, eq-eqb}
 use Rattle.record.specs.Sort.{Sort}
 use Rattle.record.specs.Record.{leaf}
 use Rattle.record.specs.Store.{memb, intern, indexOf, bytesOf, room}
-use Rattle.record.specs.Cases.{and-right, or-second, not-true, clash}
+use Rattle.record.specs.Cases.{and-right, or-second, not-true, byTest, clash}
 use Rattle.record.specs.SortLists.{Once, Ordered, Starts, starts-self, starts-trans, starts-intern, starts-at, starts-count, once-intern, ordered-intern, index-found, memb-intern}
 use Rattle.record.specs.StoreTheorems.{inside, intern-holds}
 use Rattle.sheet.specs.Sheet.{Lengths}
@@ -44,6 +44,19 @@ room-few b p st e =
 -- The number of an interned sort.
 pub interned-at : (s : Sort) (st : List Sort) → (indexOf s (intern s st) < length (intern s st)) × (getD (intern s st) (indexOf s (intern s st)) leaf ≡ s)
 interned-at s st = index-found (intern s st) s (memb-intern s st)
+
+-- A REFUSED OUTCOME LEAVES THE STORE AS IT WAS. An answer that is within its limits and has room is no refusal.
+pub outcome-refused : (l : Lengths) (st : List Sort) (v : Verdict) → 65536 ≤ outcome l st v .code → outcome l st v .store ≡ st
+unfolding outcome
+outcome-refused l st (refused c) h = refl
+outcome-refused l st (sort s) h =
+    byTest (within s)
+    (λ w. byTest (room (l .records) (l .places) (intern s st))
+    (λ r.
+    let code : 65536 ≤ indexOf s (intern s st) = rw (w, r) at h in
+    absurd (omega (arith, interned-at s st .0, room-few (l .records) (l .places) (intern s st) r)))
+    (λ r. rw (w, r) refl))
+    (λ w. rw w refl)
 
 ---------------------------------------------------------------- the three ways
 -- The outcome of an answer, by the two tests: within its limits, and room for the store after interning it.
@@ -94,34 +107,20 @@ accepted-sort l st (refused c) h = absurd (omega (arith, refusal-large c))
 
 pub any-accepted : (l : Lengths) (st : List Sort) (v : Verdict) → outcome l st v .code < 65536 → (s : Sort) × (v ≡ sort s) × Accepted l st s (outcome l st v)
 any-accepted l st v h =
-    let (s, e) = accepted-sort l st v h in
-    (
+    let (s, e) = accepted-sort l st v h in (
       s,
       e,
       subst (λ (w : Verdict). Accepted l st s (outcome l st w)) (sym e)
-      (outcome-accepted l st s (subst (λ (w : Verdict). outcome l st w .code < 65536) e h)),
+          (outcome-accepted l st s (subst (λ (w : Verdict). outcome l st w .code < 65536) e h)),
     )
-
--- A REFUSED OUTCOME LEAVES THE STORE AS IT WAS.
-refused-by : (l : Lengths) (st : List Sort) (s : Sort) (w r : Bool) → room (l .records) (l .places) (intern s st) ≡ r
-    → 65536 ≤ answered l st s w r .code → answered l st s w r .store ≡ st
-refused-by l st s true true er h = absurd (omega (arith, interned-at s st .0, room-few (l .records) (l .places) (intern s st) er))
-refused-by l st s true false er h = refl
-refused-by l st s false r er h = refl
-
-pub outcome-refused : (l : Lengths) (st : List Sort) (v : Verdict) → 65536 ≤ outcome l st v .code → outcome l st v .store ≡ st
-unfolding outcome
-outcome-refused l st (refused c) h = refl
-outcome-refused l st (sort s) h = refused-by l st s (within s) (room (l .records) (l .places) (intern s st)) refl h
 
 -- 22 EXACTLY WHEN THE ANSWER PASSES A LIMIT, 23 EXACTLY WHEN IT PASSES NONE AND THE STORE HAS NO ROOM FOR THE SORTS INSIDE IT.
 limit-by : (l : Lengths) (st : List Sort) (s : Sort) (w r : Bool) → room (l .records) (l .places) (intern s st) ≡ r
     → (answered l st s w r .code ≡ numberOf Limit * 65536) ↔ (w ≡ false)
-limit-by l st s true true er =
-    (
-      λ e. absurd (omega (arith, interned-at s st .0, room-few (l .records) (l .places) (intern s st) er)),
-      λ e. absurd (true≢false e),
-    )
+limit-by l st s true true er = (
+  λ e. absurd (omega (arith, interned-at s st .0, room-few (l .records) (l .places) (intern s st) er)),
+  λ e. absurd (true≢false e),
+)
 limit-by l st s true false er = (λ e. absurd (omega arith), λ e. absurd (true≢false e))
 limit-by l st s false r er = (λ e. refl, λ e. refl)
 
@@ -131,11 +130,10 @@ outcome-limit l st s = limit-by l st s (within s) (room (l .records) (l .places)
 
 full-by : (l : Lengths) (st : List Sort) (s : Sort) (w r : Bool) → room (l .records) (l .places) (intern s st) ≡ r
     → (answered l st s w r .code ≡ numberOf Full * 65536) ↔ ((w ≡ true) × (r ≡ false))
-full-by l st s true true er =
-    (
-      λ e. absurd (omega (arith, interned-at s st .0, room-few (l .records) (l .places) (intern s st) er)),
-      λ e. absurd (true≢false (e .1)),
-    )
+full-by l st s true true er = (
+  λ e. absurd (omega (arith, interned-at s st .0, room-few (l .records) (l .places) (intern s st) er)),
+  λ e. absurd (true≢false (e .1)),
+)
 full-by l st s true false er = (λ e. (refl, refl), λ e. refl)
 full-by l st s false r er = (λ e. absurd (omega arith), λ e. absurd (false≢true (e .0)))
 
@@ -168,33 +166,28 @@ sort-one {r} {s} e = cc
 
 pub plain-limit : (l : Lengths) (st : List Sort) (v : Verdict) → plain v ≡ true → (outcome l st v .code ≡ numberOf Limit * 65536) ↔ Passes v
 unfolding outcome plain
-plain-limit l st (sort s) p =
-    (
-      λ e. (s, refl, outcome-limit l st s .0 e),
-      λ h. outcome-limit l st s .1 (subst (λ (r : Sort). within r ≡ false) (sym (sort-one (h .1))) (h .2)),
-    )
-plain-limit l st (refused c) p =
-    (
-      λ e. absurd (clash (or-true (eqb (numberOf c * 65536) (numberOf Limit * 65536)) (eqb (numberOf c * 65536) (numberOf Full * 65536)) (eq-eqb (numberOf c * 65536) (numberOf Limit * 65536) e)) (not-true (limited (numberOf c * 65536)) p)),
-      λ h. refused-sort (h .1),
-    )
+plain-limit l st (sort s) p = (
+  λ e. (s, refl, outcome-limit l st s .0 e),
+  λ h. outcome-limit l st s .1 (subst (λ (r : Sort). within r ≡ false) (sym (sort-one (h .1))) (h .2)),
+)
+plain-limit l st (refused c) p = (
+  λ e. absurd (clash (or-true (eqb (numberOf c * 65536) (numberOf Limit * 65536)) (eqb (numberOf c * 65536) (numberOf Full * 65536)) (eq-eqb (numberOf c * 65536) (numberOf Limit * 65536) e)) (not-true (limited (numberOf c * 65536)) p)),
+  λ h. refused-sort (h .1),
+)
 
 pub plain-full : (l : Lengths) (st : List Sort) (v : Verdict) → plain v ≡ true → (outcome l st v .code ≡ numberOf Full * 65536) ↔ Overflows l st v
 unfolding outcome plain
-plain-full l st (sort s) p =
-    (
-      λ e. let f = outcome-full l st s .0 e in (s, refl, f .0, f .1),
-      λ h. outcome-full l st s .1
-      (
-        subst (λ (r : Sort). within r ≡ true) (sym (sort-one (h .1))) (h .2),
-        subst (λ (r : Sort). room (l .records) (l .places) (intern r st) ≡ false) (sym (sort-one (h .1))) (h .3),
-      ),
-    )
-plain-full l st (refused c) p =
-    (
-      λ e. absurd (clash (or-second (eqb (numberOf c * 65536) (numberOf Limit * 65536)) (eqb (numberOf c * 65536) (numberOf Full * 65536)) (eq-eqb (numberOf c * 65536) (numberOf Full * 65536) e)) (not-true (limited (numberOf c * 65536)) p)),
-      λ h. refused-sort (h .1),
-    )
+plain-full l st (sort s) p = (
+  λ e. let f = outcome-full l st s .0 e in (s, refl, f .0, f .1),
+  λ h. outcome-full l st s .1 (
+    subst (λ (r : Sort). within r ≡ true) (sym (sort-one (h .1))) (h .2),
+    subst (λ (r : Sort). room (l .records) (l .places) (intern r st) ≡ false) (sym (sort-one (h .1))) (h .3),
+  ),
+)
+plain-full l st (refused c) p = (
+  λ e. absurd (clash (or-second (eqb (numberOf c * 65536) (numberOf Limit * 65536)) (eqb (numberOf c * 65536) (numberOf Full * 65536)) (eq-eqb (numberOf c * 65536) (numberOf Full * 65536) e)) (not-true (limited (numberOf c * 65536)) p)),
+  λ h. refused-sort (h .1),
+)
 
 ---------------------------------------------------------------- growth
 -- WHAT MAY BECOME OF A STORE: it only grows, and distinct sorts, parts before wholes and room stay.

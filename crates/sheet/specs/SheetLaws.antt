@@ -252,10 +252,10 @@ more-are l n ts st t a p r =
     record {
       many = omega (arith, length-append ts (t ∷ []), a .many);
       held =
-        λ k h. below-suc (λ (k : ℕ). memb (getD (ts ++ (t ∷ [])) k leaf) (addOnce st t) ≡ true) (length ts)
-        (λ i o. rw (List·getD-append ts (t ∷ []) leaf i o) (memb-starts st (addOnce st t) (getD ts i leaf) (starts-add st t) (a .held i o)))
-        (rw (getD-at ts t [] leaf (length ts) refl) (memb-add st t))
-        k (omega (arith, length-append ts (t ∷ [])));
+          λ k h. below-suc (λ (k : ℕ). memb (getD (ts ++ (t ∷ [])) k leaf) (addOnce st t) ≡ true) (length ts)
+          (λ i o. rw (List·getD-append ts (t ∷ []) leaf i o) (memb-starts st (addOnce st t) (getD ts i leaf) (starts-add st t) (a .held i o)))
+          (rw (getD-at ts t [] leaf (length ts) refl) (memb-add st t))
+          k (omega (arith, length-append ts (t ∷ [])));
       once = once-add st t (a .once);
       ordered = ordered-add st t (a .ordered) p;
       roomy = r;

@@ -114,8 +114,7 @@ module _ (R : ℕ → List Rank) (s : List ℕ) (l : Lengths) (h : Sheet) (st : 
 
   -- TWO ROWS A TERM, ONE ANSWER A QUESTION.
   pub judged-counts : (length rows ≡ 2 * length (h .terms)) × (length answers ≡ length (h .questions))
-  judged-counts =
-      (
-        ap length (sym (tale .rows-are)) ∙ rows-count R l (h .store) (h .terms),
-        ap length (sym (tale .answers-are)) ∙ answers-count l ruled (h .questions),
-      )
+  judged-counts = (
+    ap length (sym (tale .rows-are)) ∙ rows-count R l (h .store) (h .terms),
+    ap length (sym (tale .answers-are)) ∙ answers-count l ruled (h .questions),
+  )

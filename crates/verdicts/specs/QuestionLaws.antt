@@ -135,14 +135,13 @@ Answers st c q =
     × (eqb (q .kind) 0 ≡ false → limited c ≡ false → Means st c (answerVerdict q))
 
 answer-says : (l : Lengths) (q : QuestionFields) (st : List Sort) → Answers (answerOf l q st .store) (answerOf l q st .code) q
-answer-says l q st =
-    (
-      λ e. ap (λ (o : Outcome). o .code) (answer-compatible l q st e),
-      λ e f.
+answer-says l q st = (
+  λ e. ap (λ (o : Outcome). o .code) (answer-compatible l q st e),
+  λ e f.
       let i = answer-is l q st e in
       subst (λ (o : Outcome). Means (o .store) (o .code) (answerVerdict q)) (sym i)
       (outcome-means l st (answerVerdict q) (subst (λ (o : Outcome). limited (o .code) ≡ false) i f)),
-    )
+)
 
 -- EVERY ANSWER SAYS WHAT ITS QUESTION ASKS, over the store after all of them.
 pub answers-say : (l : Lengths) (st : List Sort) (qs : List QuestionFields) (k : ℕ) → k < length qs
@@ -155,11 +154,10 @@ answers-say l st (q ∷ qs) k h =
     (λ e.
     let low : k < length qs = lower k (length qs) h (eqb-false k (length qs) e) in
     let s = answers-say l st qs k low in
-    rw (e, answers-old l st q qs k low)
-    (
+    rw (e, answers-old l st q qs k low) (
       s .0,
       λ o f. means-stays (answersOf l st qs .store) (answerOf l q (answersOf l st qs .store) .store) (getD (answersOf l st qs .answers) k 0)
-      (answerVerdict (questionAt qs k)) (answer-grown l q (answersOf l st qs .store) .starts) (s .1 o f),
+          (answerVerdict (questionAt qs k)) (answer-grown l q (answersOf l st qs .store) .starts) (s .1 o f),
     ))
   where
     lower : (a b : ℕ) → a < suc b → (a ≡ b → ⊥) → a < b
