@@ -27,6 +27,11 @@ use Rattle.checked.specs.Rank.{Rank}
 use Rattle.checked.specs.Checked.{checked, check}
 use Rattle.verdicts.specs.Rows.{Tabled, rowOf, rowsOf}
 
+-- The sides of a conjunction of three, grouped to the right.
+three-true : (a b c : Bool) → (a && (b && c)) ≡ true → (a ≡ true) × (b ≡ true) × (c ≡ true)
+three-true a b c e =
+    let f = and-right a (b && c) e in (and-left a (b && c) e, and-left b c f, and-right b c f)
+
 -- The verdict that a column holds: 0 the inferred one, 1 the checked one.
 abbrev pub judging : (ℕ → List Rank) → ℕ → Site → Verdict
 judging R zero = inferred
@@ -41,6 +46,42 @@ pub judging-check : (R : ℕ → List Rank) (t : Term) → verdictOf (judging R 
 unfolding check
 judging-check R t = refl
 
+---------------------------------------------------------------- one row
+-- A row in any column, by any verdict J, of the record r behind the records rs, over the rows so far and the store `now`.
+module _ (J : Site → Verdict) (column : ℕ) (l : Lengths) (rs : List TermFields) (r : TermFields) (rows : List ℕ) (now : List Sort) where
+  abbrev verdict : Verdict
+  verdict = verdictAt J (λ i. rowSort now rows column i) rs r
+
+  -- It only adds to the store, and keeps it a store.
+  pub row-grown : Grown l now (rowOf J column l rs r rows now .store)
+  unfolding rowOf
+  row-grown = outcome-grown l now verdict
+
+  -- A REFUSED ROW LEAVES THE STORE AS IT WAS.
+  pub row-refused : 65536 ≤ rowOf J column l rs r rows now .code → rowOf J column l rs r rows now .store ≡ now
+  unfolding rowOf
+  row-refused h = outcome-refused l now verdict h
+
+  -- AN ACCEPTED ROW adds only the sorts inside its answer, and its code is the answer's number.
+  pub row-accepted : rowOf J column l rs r rows now .code < 65536
+      → (s : Sort) × (verdictAt J (λ i. rowSort now rows column i) rs r ≡ sort s) × Accepted l now s (rowOf J column l rs r rows now)
+  unfolding rowOf
+  row-accepted h = any-accepted l now verdict h
+
+  -- Over a store in which the rows below it mean the verdicts of their trees, it means the verdict of its own, if it meets no limit.
+  row-means : (ok : ℕ → Bool) → length now ≤ 65536
+      → ((i : ℕ) → i < length rs → ok i ≡ true → Means now (getD rows (2 * i + column) 0) (verdictOf J (termAt rs i)))
+      → referring (r ∷ rs) ≡ true → allOf ok (r .list) ≡ true → allOf ok (r .second) ≡ true
+      → limited (rowOf J column l rs r rows now .code) ≡ false
+      → Means (rowOf J column l rs r rows now .store) (rowOf J column l rs r rows now .code) (verdictOf J (treeOf (λ j. termAt rs j) r))
+  unfolding rowOf referring
+  row-means ok small below refs a b f =
+      let both = three-true (allBelow (length rs) (r .list)) (allBelow (length rs) (r .second)) (referring rs) refs in
+      let o = outcome l now verdict in
+      subst (λ (v : Verdict). Means (o .store) (o .code) v) (verdict-is J now rows column rs r ok small below (both .0) (both .1) a b)
+      (outcome-means l now verdict f)
+
+---------------------------------------------------------------- all rows
 module _ (R : ℕ → List Rank) (l : Lengths) (st : List Sort) where
   abbrev tabled : List TermFields → Tabled
   tabled rs = rowsOf R l st rs
@@ -66,29 +107,12 @@ module _ (R : ℕ → List Rank) (l : Lengths) (st : List Sort) where
       subst (λ (k : ℕ). getD (tabled rs .rows ++ (first rs r .code ∷ second rs r .code ∷ [])) (k + i) 0 ≡ getD (first rs r .code ∷ second rs r .code ∷ []) i 0)
       (rows-count rs) (getD-append-add (tabled rs .rows) (first rs r .code ∷ second rs r .code ∷ []) i 0)
 
-  -- A row only adds to the store; a refused one leaves it as it was.
-  row-grown : (J : Site → Verdict) (column : ℕ) (rs : List TermFields) (r : TermFields) (rows : List ℕ) (now : List Sort) → Grown l now (rowOf J column l rs r rows now .store)
-  unfolding rowOf
-  row-grown J column rs r rows now = outcome-grown l now (verdictAt J (λ i. rowSort now rows column i) rs r)
-
-  pub row-refused : (J : Site → Verdict) (column : ℕ) (rs : List TermFields) (r : TermFields) (rows : List ℕ) (now : List Sort)
-      → 65536 ≤ rowOf J column l rs r rows now .code → rowOf J column l rs r rows now .store ≡ now
-  unfolding rowOf
-  row-refused J column rs r rows now h = outcome-refused l now (verdictAt J (λ i. rowSort now rows column i) rs r) h
-
-  -- AN ACCEPTED ROW adds only the sorts inside its answer, and its code is the answer's number.
-  pub row-accepted : (J : Site → Verdict) (column : ℕ) (rs : List TermFields) (r : TermFields) (rows : List ℕ) (now : List Sort)
-      → rowOf J column l rs r rows now .code < 65536
-      → (s : Sort) × (verdictAt J (λ i. rowSort now rows column i) rs r ≡ sort s) × Accepted l now s (rowOf J column l rs r rows now)
-  unfolding rowOf
-  row-accepted J column rs r rows now h = any-accepted l now (verdictAt J (λ i. rowSort now rows column i) rs r) h
-
   turn-grown : (rs : List TermFields) (r : TermFields) → Grown l (tabled rs .store) (tabled (r ∷ rs) .store)
   unfolding rowsOf
   turn-grown rs r =
       grown-trans l (tabled rs .store) (first rs r .store) (second rs r .store)
-      (row-grown inferred 0 rs r (tabled rs .rows) (tabled rs .store))
-      (row-grown (checked R) 1 rs r (tabled rs .rows) (first rs r .store))
+      (row-grown inferred 0 l rs r (tabled rs .rows) (tabled rs .store))
+      (row-grown (checked R) 1 l rs r (tabled rs .rows) (first rs r .store))
 
   -- THE STORE ONLY GROWS over the terms, and stays a store: distinct sorts, parts before wholes, room.
   pub rows-grown : (rs : List TermFields) → Grown l st (tabled rs .store)
@@ -111,23 +135,6 @@ module _ (R : ℕ → List Rank) (l : Lengths) (st : List Sort) where
   few : (now : List Sort) → room (l .records) (l .places) st ≡ true → Grown l st now → length now ≤ 65536
   few now r g = omega (arith, room-few (l .records) (l .places) now (g .roomy r))
 
-  -- One row over a store in which the rows below it mean the verdicts of their trees.
-  row-means : (J : Site → Verdict) (column : ℕ) (rs : List TermFields) (r : TermFields) (rows : List ℕ) (now : List Sort) (ok : ℕ → Bool)
-      → length now ≤ 65536
-      → ((i : ℕ) → i < length rs → ok i ≡ true → Means now (getD rows (2 * i + column) 0) (verdictOf J (termAt rs i)))
-      → referring (r ∷ rs) ≡ true → allOf ok (r .list) ≡ true → allOf ok (r .second) ≡ true
-      → limited (rowOf J column l rs r rows now .code) ≡ false
-      → Means (rowOf J column l rs r rows now .store) (rowOf J column l rs r rows now .code) (verdictOf J (treeOf (λ j. termAt rs j) r))
-  unfolding rowOf referring
-  row-means J column rs r rows now ok small below refs a b f =
-      let later = and-right (allBelow (length rs) (r .list)) (allBelow (length rs) (r .second) && referring rs) refs in
-      let o = outcome l now (verdictAt J (λ i. rowSort now rows column i) rs r) in
-      subst (λ (v : Verdict). Means (o .store) (o .code) v)
-      (verdict-is J now rows column rs r ok small below
-      (and-left (allBelow (length rs) (r .list)) (allBelow (length rs) (r .second) && referring rs) refs)
-      (and-left (allBelow (length rs) (r .second)) (referring rs) later) a b)
-      (outcome-means l now (verdictAt J (λ i. rowSort now rows column i) rs r) f)
-
   -- What is known of the earlier rows, in one column.
   abbrev Meant : List TermFields → ℕ → (ℕ → Bool) → Type 0
   Meant rs column ok = (i : ℕ) → i < length rs → ok i ≡ true
@@ -140,11 +147,11 @@ module _ (R : ℕ → List Rank) (l : Lengths) (st : List Sort) where
       → Means (second rs r .store) (getD (first rs r .code ∷ second rs r .code ∷ []) column 0) (verdictOf (judging R column) (treeOf (λ j. termAt rs j) r))
   turn-means rs r zero ok col roomy below refs a b f =
       means-stays (first rs r .store) (second rs r .store) (first rs r .code) (verdictOf inferred (treeOf (λ j. termAt rs j) r))
-      (row-grown (checked R) 1 rs r (tabled rs .rows) (first rs r .store) .starts)
-      (row-means inferred 0 rs r (tabled rs .rows) (tabled rs .store) ok (few (tabled rs .store) roomy (rows-grown rs)) below refs a b f)
+      (row-grown (checked R) 1 l rs r (tabled rs .rows) (first rs r .store) .starts)
+      (row-means inferred 0 l rs r (tabled rs .rows) (tabled rs .store) ok (few (tabled rs .store) roomy (rows-grown rs)) below refs a b f)
   turn-means rs r (suc zero) ok col roomy below refs a b f =
-      let g = row-grown inferred 0 rs r (tabled rs .rows) (tabled rs .store) in
-      row-means (checked R) 1 rs r (tabled rs .rows) (first rs r .store) ok
+      let g = row-grown inferred 0 l rs r (tabled rs .rows) (tabled rs .store) in
+      row-means (checked R) 1 l rs r (tabled rs .rows) (first rs r .store) ok
       (few (first rs r .store) roomy (grown-trans l st (tabled rs .store) (first rs r .store) (rows-grown rs) g))
       (λ i h o. means-stays (tabled rs .store) (first rs r .store) (getD (tabled rs .rows) (2 * i + 1) 0) (verdictOf (checked R) (termAt rs i)) (g .starts) (below i h o))
       refs a b f
@@ -158,26 +165,23 @@ module _ (R : ℕ → List Rank) (l : Lengths) (st : List Sort) where
   unfolding rowsOf free termAt referring
   rows-mean rows roomy [] refs agree column n col low f = absurd (not-suc-le-zero low)
   rows-mean rows roomy (r ∷ rs) refs agree column n col low f =
-      let refs′ = and-right (allBelow (length rs) (r .second)) (referring rs) (and-right (allBelow (length rs) (r .list)) (allBelow (length rs) (r .second) && referring rs) refs) in
-      let agree′ : (i : ℕ) → i < 2 * length rs → getD rows i 0 ≡ getD (tabled rs .rows) i 0 = λ i h. agree i (omega arith) ∙ rows-old rs r i h in
+      let earlier = three-true (allBelow (length rs) (r .list)) (allBelow (length rs) (r .second)) (referring rs) refs .2 in
+      let agree′ : (i : ℕ) → i < 2 * length rs → getD rows i 0 ≡ getD (tabled rs .rows) i 0 =
+      λ i h. agree i (omega arith) ∙ rows-old rs r i h in
+      let ok : ℕ → Bool = λ j. free rows column rs j in
       byTest (eqb n (length rs))
       (λ q.
       let e = eqb-true n (length rs) q in
-      let t = rw q at f in
-      let two = and-right (not (limited (getD rows (2 * n + column) 0))) (allOf (λ j. free rows column rs j) (r .list) && allOf (λ j. free rows column rs j) (r .second)) t in
+      let t = three-true (not (limited (getD rows (2 * n + column) 0))) (allOf ok (r .list)) (allOf ok (r .second)) (rw q at f) in
       let c : getD rows (2 * n + column) 0 ≡ getD (first rs r .code ∷ second rs r .code ∷ []) column 0 =
       ap (λ (k : ℕ). getD rows (2 * k + column) 0) e ∙ agree (2 * length rs + column) (omega arith) ∙ rows-new rs r column in
       rw (q, e, rows-new rs r column)
-      (turn-means rs r column (λ j. free rows column rs j) col roomy
-      (λ i h o. rows-mean rows roomy rs refs′ agree′ column i col h o) refs
-      (and-left (allOf (λ j. free rows column rs j) (r .list)) (allOf (λ j. free rows column rs j) (r .second)) two)
-      (and-right (allOf (λ j. free rows column rs j) (r .list)) (allOf (λ j. free rows column rs j) (r .second)) two)
-      (subst (λ (k : ℕ). limited k ≡ false) c
-      (not-true (limited (getD rows (2 * n + column) 0)) (and-left (not (limited (getD rows (2 * n + column) 0))) (allOf (λ j. free rows column rs j) (r .list) && allOf (λ j. free rows column rs j) (r .second)) t)))))
+      (turn-means rs r column ok col roomy (λ i h o. rows-mean rows roomy rs earlier agree′ column i col h o) refs (t .1) (t .2)
+      (subst (λ (k : ℕ). limited k ≡ false) c (not-true (limited (getD rows (2 * n + column) 0)) (t .0)))))
       (λ q.
       let o : n < length rs = lower n (length rs) low (eqb-false n (length rs) q) in
       rw q (row-stays rs r (2 * n + column) (verdictOf (judging R column) (termAt rs n)) (omega arith)
-      (rows-mean rows roomy rs refs′ agree′ column n col o (rw q at f))))
+      (rows-mean rows roomy rs earlier agree′ column n col o (rw q at f))))
     where
       lower : (a b : ℕ) → a < suc b → (a ≡ b → ⊥) → a < b
       lower a b h n = omega arith
