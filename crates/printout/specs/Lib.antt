@@ -1,4 +1,5 @@
 pub mod Text
 pub mod Lines
 pub mod Printed
+pub mod Sheets
 pub mod Examples
