@@ -1,4 +1,5 @@
--- Matching by its definition: "success exactly when some assignment turns pattern into target; other variables stand for themselves". Definitions only.
+-- Matching by its definition: "success exactly when some assignment turns pattern into target; other variables stand for
+-- themselves". Definitions only.
 use Prim.Native.Nat.{ℕ}
 use mathlib.Core.Path.{_≡_}
 use mathlib.Core.Bool.{Bool, true, false, not, cond, _&&_}
