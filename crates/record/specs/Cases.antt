@@ -40,13 +40,21 @@ pub or-second : (a b : Bool) → b ≡ true → (a || b) ≡ true
 or-second true b e = refl
 or-second false b e = e
 
+-- The last two sides may change places, and a side said twice counts once.
+pub last-two : (a b c : Bool) → (a || b || c) ≡ (a || c || b)
+last-two true b c = refl
+last-two false true true = refl
+last-two false true false = refl
+last-two false false true = refl
+last-two false false false = refl
+
+pub said-twice : (a : Bool) → (a || false || false || a) ≡ a
+said-twice true = refl
+said-twice false = refl
+
 pub not-true : (a : Bool) → not a ≡ true → a ≡ false
 not-true true e = sym e
 not-true false e = refl
-
-pub not-false : (a : Bool) → not a ≡ false → a ≡ true
-not-false true e = refl
-not-false false e = sym e
 
 -- A test cannot both hold and fail.
 pub clash : {C : Type 0} {a : Bool} → a ≡ true → a ≡ false → C

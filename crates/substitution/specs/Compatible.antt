@@ -1,7 +1,6 @@
 -- Sort::is_compatible of src/ast/sort.rs, on all sorts. Definitions only.
 use Prim.Native.Nat.{ℕ}
 use mathlib.Core.Bool.{Bool, true, false, _&&_, _||_}
-use mathlib.Core.List.{List, [], _∷_}
 use lib.Dec.{eqb}
 use Rattle.record.specs.Sort.{Sort, Sorts, var, par, node, end, _then_}
 use Rattle.substitution.specs.MatchWith.{paramEq}

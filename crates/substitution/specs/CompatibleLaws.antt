@@ -1,27 +1,20 @@
 -- Laws of is_compatible on all sorts: a Var fits everything, it is reflexive and symmetric, a Par fits what its body fits, and it is not transitive.
 use Prim.Native.Nat.{ℕ}
-use mathlib.Core.Path.{_≡_, refl, sym, ap, _∙_}
-use mathlib.Core.Bool.{Bool, true, false, _&&_, _||_, false≢true}
-use mathlib.Core.List.{List, [], _∷_}
+use mathlib.Core.Path.{_≡_, refl, sym, _∙_}
+use mathlib.Core.Bool.{Bool, true, false, not, _&&_, _||_, false≢true}
+use mathlib.Core.List.{List}
 use lib.Dec.{eqb}
-use borrow.Author.Tests.{eqb-true}
-use Rattle.record.specs.Sort.{Sort, Sorts, var, par, node, end, _then_, same, bool, int}
+use Rattle.record.specs.Sort.{Sort, Sorts, var, par, node, end, _then_, same, sameAll, bool, int}
 use Rattle.record.specs.SortLaws.{same-sound, same-refl, same-swap}
-use Rattle.record.specs.Cases.{or-second, both-ways, eqb-self, eqb-swap, byTest}
+use Rattle.record.specs.Cases.{and-left, and-right, not-true, last-two, said-twice, or-second, eqb-swap, byTest}
+use Rattle.substitution.specs.Premises.{ground, groundAll}
 use Rattle.substitution.specs.MatchWith.{isParamBitVec, isBitVec, paramEq}
-use Rattle.substitution.specs.Compatible.{reach, compatible, compatibleAll}
+use Rattle.substitution.specs.Compatible.{compatible, compatibleAll}
 
 ---------------------------------------------------------------- param_eq
 pub paramEq-refl : (s : Sort) → paramEq s s ≡ true
 unfolding paramEq
 paramEq-refl s = rw (same-refl s) refl
-
-pub last-two : (a b c : Bool) → (a || b || c) ≡ (a || c || b)
-last-two true b c = refl
-last-two false true true = refl
-last-two false true false = refl
-last-two false false true = refl
-last-two false false false = refl
 
 pub paramEq-symmetric : (s t : Sort) → paramEq s t ≡ paramEq t s
 unfolding paramEq
@@ -102,3 +95,56 @@ mutual
 pub compatible-not-transitive : ((r s t : Sort) → compatible r s ≡ true → compatible s t ≡ true → compatible r t ≡ true) → ⊥
 unfolding compatible
 compatible-not-transitive h = false≢true (h int (var 1) bool refl refl)
+
+-- Without Var, Par and ParamBitVec it is equality.
+mutual
+  unfolding compatible ground same
+
+  pub compatible-ground : (s t : Sort) → ground s ≡ true → ground t ≡ true → compatible s t ≡ same s t
+  compatible-ground (var v) t p q = absurd (false≢true p)
+  compatible-ground (par us b) t p q = absurd (false≢true p)
+  compatible-ground (node k a w ss) (var v) p q = absurd (false≢true q)
+  compatible-ground (node k a w ss) (par us b) p q = absurd (false≢true q)
+  compatible-ground (node k a w ss) (node l c x ts) p q =
+      rw (
+        not-true (eqb k 10) (and-left (not (eqb k 10)) (groundAll ss) p),
+        not-true (eqb l 10) (and-left (not (eqb l 10)) (groundAll ts) q),
+        compatibleAll-ground ss ts (and-right (not (eqb k 10)) (groundAll ss) p) (and-right (not (eqb l 10)) (groundAll ts) q),
+      )
+      (said-twice (eqb k l && eqb a c && eqb w x && sameAll ss ts))
+
+  pub compatibleAll-ground : (ss ts : Sorts) → groundAll ss ≡ true → groundAll ts ≡ true → compatibleAll ss ts ≡ sameAll ss ts
+  compatibleAll-ground end end p q = refl
+  compatibleAll-ground end (t then ts) p q = refl
+  compatibleAll-ground (s then ss) end p q = refl
+  compatibleAll-ground (s then ss) (t then ts) p q =
+      rw (
+        compatible-ground s t (and-left (ground s) (groundAll ss) p) (and-left (ground t) (groundAll ts) q),
+        compatibleAll-ground ss ts (and-right (ground s) (groundAll ss) p) (and-right (ground t) (groundAll ts) q),
+      ) refl
+
+---------------------------------------------------------------- is_compatible line by line
+-- What is_compatible says of two sorts that param_eq does not make equal, arm by arm as the Rust matches on the pair.
+abbrev pub compatibleArms : Sort → Sort → Bool
+compatibleArms (var v) t = true
+compatibleArms (par us b) (var v) = true
+compatibleArms (par us b) (par ws c) = compatible b (par ws c)
+compatibleArms (par us b) (node l c x ts) = compatible b (node l c x ts)
+compatibleArms (node k a w ss) (var v) = true
+compatibleArms (node k a w ss) (par us b) = compatible (node k a w ss) b
+compatibleArms (node k a w ss) (node l c x ts) = eqb k l && eqb a c && eqb w x && compatibleAll ss ts
+
+pub node-par-paramEq : (k a w : ℕ) (ss : Sorts) (us : List ℕ) (b : Sort) → paramEq (node k a w ss) (par us b) ≡ false
+unfolding paramEq
+node-par-paramEq k a w ss us b = byTest (eqb k 10) (λ q. rw q refl) (λ q. rw q refl)
+
+-- param_eq first, then the arms: the definition above it says the same, in an order that goes down one side at a time.
+pub compatible-is : (s t : Sort) → compatible s t ≡ (paramEq s t || compatibleArms s t)
+unfolding compatible
+compatible-is (var v) t = sym (or-second (paramEq (var v) t) true refl)
+compatible-is (par us b) (var v) = rw (compatible-to-var b v) refl
+compatible-is (par us b) (par ws c) = refl
+compatible-is (par us b) (node l c x ts) = refl
+compatible-is (node k a w ss) (var v) = sym (or-second (paramEq (node k a w ss) (var v)) true refl)
+compatible-is (node k a w ss) (par us b) = rw (node-par-paramEq k a w ss us b) refl
+compatible-is (node k a w ss) (node l c x ts) = refl

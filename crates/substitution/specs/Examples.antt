@@ -1,10 +1,10 @@
 -- Worked examples, each by computation: K11 of document 01, and cases that tell readings of substitution, match_with and is_compatible apart.
 use mathlib.Core.Path.{_≡_, refl}
 use mathlib.Core.Bool.{true, false}
-use mathlib.Core.List.{List, [], _∷_}
-use mathlib.Core.Option.{Option, none, some}
-use Rattle.record.specs.Sort.{Sort, Sorts, var, par, node, end, _then_, function, atom, bool, int, real, array, bitvec, paramBitVec, datatype, set}
-use Rattle.substitution.specs.Substitution.{Map, empty, bind, apply, member}
+use mathlib.Core.List.{[], _∷_}
+use mathlib.Core.Option.{none, some}
+use Rattle.record.specs.Sort.{var, par, end, _then_, function, atom, bool, int, real, array, bitvec, paramBitVec, datatype, set}
+use Rattle.substitution.specs.Substitution.{empty, bind, apply, member}
 use Rattle.substitution.specs.Matching.{matches, matchesAll, listedIn, premise}
 use Rattle.substitution.specs.MatchWith.{matchWith, matchAllWith}
 use Rattle.substitution.specs.Compatible.{compatible}

@@ -1,62 +1,17 @@
 -- Under matching's premise match_with is matching by the definition, so what is proved of that holds of match_with.
 use Prim.Native.Nat.{ℕ}
-use mathlib.Core.Path.{_≡_, refl, sym, ap, subst, _∙_}
-use mathlib.Core.Bool.{Bool, true, false, not, cond, _&&_, _||_, false≢true, true≢false}
-use mathlib.Core.List.{List, [], _∷_, _++_}
+use mathlib.Core.Path.{_≡_, refl, sym, subst, _∙_}
+use mathlib.Core.Bool.{Bool, true, false, not, cond, _&&_, false≢true, true≢false}
+use mathlib.Core.List.{List, _++_}
 use mathlib.Core.Option.{Option, none, some}
 use lib.Dec.{eqb}
-use borrow.Author.Tests.{eqb-true, eqb-false, eq-eqb, ne-eqb}
-use Rattle.record.specs.Sort.{Sort, Sorts, var, par, node, end, _then_, same, sameAll}
-use Rattle.record.specs.SortLaws.{same-sound, same-refl, same-complete}
-use Rattle.record.specs.Cases.{and-left, and-right, conj, and-true, or-left, or-right, not-true, three, eqb-self, byTest, byOption, none-some, some-inj, clash}
+use Rattle.record.specs.Sort.{Sort, Sorts, var, par, node, end, _then_, same}
+use Rattle.record.specs.SortLaws.{same-sound, same-refl}
+use Rattle.record.specs.Cases.{and-left, and-right, and-true, or-left, or-right, not-true, three, eqb-self, byTest, byOption, none-some, some-inj}
 use Rattle.substitution.specs.Substitution.{Map, empty, bind, find, member, occurs, occursAny}
-use Rattle.substitution.specs.Premises.{parless, parlessAll}
-use Rattle.substitution.specs.Matching.{keep, andThen, meet, matches, matchesAll, listedIn, known, knownAll, apart, unlisted, unlistedAll, premise}
-use Rattle.substitution.specs.MatchingLaws.{keep-rest, andThen-middle, match-self, Matching, MatchingAll, matching, matchingAll}
-use Rattle.substitution.specs.MatchWith.{isParamBitVec, isBitVec, paramEq, towards, matchWith, matchAllWith}
-
----------------------------------------------------------------- the premise, read off
-mutual
-  unfolding known parless
-
-  pub known-parless : (s : Sort) → known s ≡ true → parless s ≡ true
-  known-parless (var v) e = refl
-  known-parless (par ns b) e = e
-  known-parless (node k a w ss) e = knownAll-parless ss (and-right (not (eqb k 10)) (knownAll ss) e)
-
-  pub knownAll-parless : (ss : Sorts) → knownAll ss ≡ true → parlessAll ss ≡ true
-  knownAll-parless end e = refl
-  knownAll-parless (s then ss) e =
-      and-true (parless s) (parlessAll ss) (known-parless s (and-left (known s) (knownAll ss) e)) (knownAll-parless ss (and-right (known s) (knownAll ss) e))
-
--- A name of the first list is none of a list apart from it.
-pub apart-free : (ns us : List ℕ) (v : ℕ) → apart ns us ≡ true → member v ns ≡ true → member v us ≡ false
-unfolding apart member
-apart-free ns [] v e i = refl
-apart-free ns (u ∷ us) v e i =
-    byTest (eqb u v)
-    (λ q. let z : member u ns ≡ true = rw (eqb-true u v q) i in clash z (not-true (member u ns) (and-left (not (member u ns)) (apart ns us) e)))
-    (λ q. rw q (apart-free ns us v (and-right (not (member u ns)) (apart ns us) e) i))
-
--- No listed name stands in an unlisted sort.
-mutual
-  unfolding unlisted occurs
-
-  pub unlisted-free : (ns : List ℕ) (t : Sort) (v : ℕ) → unlisted ns t ≡ true → member v ns ≡ true → occurs v t ≡ false
-  unlisted-free ns (var u) v e i =
-      byTest (eqb u v)
-      (λ q. let z : member u ns ≡ true = rw (eqb-true u v q) i in clash z (not-true (member u ns) e))
-      (λ q. q)
-  unlisted-free ns (par us b) v e i =
-      rw (apart-free ns us v (and-left (apart ns us) (unlisted ns b) e) i)
-      (unlisted-free ns b v (and-right (apart ns us) (unlisted ns b) e) i)
-  unlisted-free ns (node k a w ts) v e i = unlistedAll-free ns ts v e i
-
-  pub unlistedAll-free : (ns : List ℕ) (ts : Sorts) (v : ℕ) → unlistedAll ns ts ≡ true → member v ns ≡ true → occursAny v ts ≡ false
-  unlistedAll-free ns end v e i = refl
-  unlistedAll-free ns (t then ts) v e i =
-      rw (unlisted-free ns t v (and-left (unlisted ns t) (unlistedAll ns ts) e) i)
-      (unlistedAll-free ns ts v (and-right (unlisted ns t) (unlistedAll ns ts) e) i)
+use Rattle.substitution.specs.Matching.{keep, meet, matches, matchesAll, listedIn, known, knownAll, unlisted, unlistedAll, premise}
+use Rattle.substitution.specs.MatchingLaws.{keep-rest, andThen-middle, match-self, known-parless, knownAll-parless, unlisted-free, unlistedAll-free, Matching, MatchingAll, matching, matchingAll}
+use Rattle.substitution.specs.MatchWith.{isParamBitVec, paramEq, meetWith, allMembers, matchWith, matchAllWith}
 
 ---------------------------------------------------------------- param_eq
 -- Without ParamBitVec it is equality.
@@ -112,7 +67,26 @@ mutual
       let (k, g, r) = andThen-middle (matches l p t m) (λ k. matchesAll l ps ts k) m′ h in
       matchAll-known l ps ts k m′ (and-right (known t) (knownAll ts) q) (match-known l p t m k (and-left (known t) (knownAll ts) q) e g) r
 
----------------------------------------------------------------- match_with
+---------------------------------------------------------------- match_with line by line
+-- What match_with does with two sorts that are not equal, arm by arm as the Rust tests and matches on the pair.
+abbrev pub matchArms : List ℕ → Sort → Sort → Map → Option Map
+matchArms ns (var v) t m = cond (member v ns) (meetWith (find m v) v t m) none
+matchArms ns (par us b) t m = matchWith (ns ++ us) b t m
+matchArms ns (node k a w ps) (var v) m = keep (paramEq (node k a w ps) (var v)) (some m)
+matchArms ns (node k a w ps) (par us b) m = keep (allMembers us ns) (matchWith ns (node k a w ps) b m)
+matchArms ns (node k a w ps) (node l c x ts) m =
+    cond (eqb k l) (keep (eqb a c && eqb w x) (matchAllWith ns ps ts m)) (keep (paramEq (node k a w ps) (node l c x ts)) (some m))
+
+-- Equality first, then the arms: the definition says the same, in an order that goes down one side at a time.
+pub matchWith-is : (ns : List ℕ) (p t : Sort) (m : Map) → matchWith ns p t m ≡ cond (same p t) (some m) (matchArms ns p t m)
+unfolding matchWith
+matchWith-is ns (var v) t m = refl
+matchWith-is ns (par us b) t m = refl
+matchWith-is ns (node k a w ps) (var v) m = byTest (eqb k 10) (λ q. rw q refl) (λ q. rw q refl)
+matchWith-is ns (node k a w ps) (par us b) m = refl
+matchWith-is ns (node k a w ps) (node l c x ts) m = refl
+
+---------------------------------------------------------------- match_with and the definition
 -- Equal sorts match, and nothing is bound: the first test of match_with, on all sorts.
 pub matchWith-equal : (ns : List ℕ) (s : Sort) (m : Map) → matchWith ns s s m ≡ some m
 unfolding matchWith

@@ -1,11 +1,13 @@
--- Matching by its definition: "success exactly when some assignment turns pattern into target; other variables stand for themselves". Definitions only.
+-- Matching by its definition: "success exactly when some assignment turns pattern into target; other variables stand for
+-- themselves". Definitions only.
 use Prim.Native.Nat.{ℕ}
+use mathlib.Core.Path.{_≡_}
 use mathlib.Core.Bool.{Bool, true, false, not, cond, _&&_}
 use mathlib.Core.List.{List, [], _∷_}
 use mathlib.Core.Option.{Option, none, some}
 use lib.Dec.{eqb}
 use Rattle.record.specs.Sort.{Sort, Sorts, var, par, node, end, _then_, same}
-use Rattle.substitution.specs.Substitution.{Map, empty, bind, find, member}
+use Rattle.substitution.specs.Substitution.{Map, bind, find, member}
 
 -- Goes on where a test passes.
 abbrev pub keep : Bool → Option Map → Option Map
@@ -39,6 +41,10 @@ unfoldable mutual
   matchesAll ns end (t then ts) m = none
   matchesAll ns (p then ps) end m = none
   matchesAll ns (p then ps) (t then ts) m = andThen (matches ns p t m) (λ m′. matchesAll ns ps ts m′)
+
+-- "Some assignment": a map that binds listed names only.
+abbrev pub Within : (ℕ → Bool) → Map → Type 0
+Within ns θ = (v : ℕ) → ns v ≡ false → find θ v ≡ none
 
 -- The test that a name is one of a list.
 abbrev pub listedIn : List ℕ → ℕ → Bool

@@ -1,18 +1,18 @@
 -- Laws of matching: it finds an assignment exactly where there is one, the only one; it stays a match under substitution.
 use Prim.Native.Nat.{ℕ}
-use mathlib.Core.Path.{_≡_, refl, sym, ap, subst, _∙_}
-use mathlib.Core.Bool.{Bool, true, false, not, cond, _&&_, _||_, false≢true, true≢false}
+use mathlib.Core.Path.{_≡_, refl, sym, ap, _∙_}
+use mathlib.Core.Bool.{Bool, true, false, not, _&&_, _||_, false≢true, true≢false}
 use mathlib.Core.List.{List, [], _∷_}
 use mathlib.Core.Option.{Option, none, some}
 use lib.Dec.{eqb}
-use borrow.Author.Tests.{eqb-true, eqb-false, eq-eqb, ne-eqb}
-use Rattle.record.specs.Sort.{Sort, Sorts, var, par, node, end, _then_, same, sameAll, tuple}
+use borrow.Author.Tests.{eqb-true}
+use Rattle.record.specs.Sort.{Sort, Sorts, var, par, node, end, _then_, same, tuple}
 use Rattle.record.specs.SortLaws.{same-sound, same-refl, same-complete}
 use Rattle.record.specs.Cases.{and-left, and-right, conj, and-true, or-left, or-right, or-second, not-true, three, eqb-self, byTest, byOption, none-some, some-inj, clash}
-use Rattle.substitution.specs.Substitution.{Map, empty, bind, find, orElse, isSome, bound, apply, applyAll, through, member, occurs, occursAny}
+use Rattle.substitution.specs.Substitution.{Map, empty, bind, find, orElse, bound, apply, applyAll, through, member, occurs, occursAny}
 use Rattle.substitution.specs.Premises.{touches, proper, properAll, properMap, parless, parlessAll}
-use Rattle.substitution.specs.SubstitutionLaws.{proper-parless, find-untouched, image-untouched, image-proper, find-through, find-through-none}
-use Rattle.substitution.specs.Matching.{keep, andThen, meet, matches, matchesAll}
+use Rattle.substitution.specs.SubstitutionLaws.{proper-parless, find-untouched, image-untouched, image-proper, find-through, find-through-none, apply-keeps}
+use Rattle.substitution.specs.Matching.{keep, andThen, meet, matches, matchesAll, Within, listedIn, known, knownAll, apart, unlisted, unlistedAll, premise}
 
 ---------------------------------------------------------------- taking a success apart
 pub keep-test : (b : Bool) (o : Option Map) (m : Map) → keep b o ≡ some m → b ≡ true
@@ -23,22 +23,18 @@ pub keep-rest : (b : Bool) (o : Option Map) (m : Map) → keep b o ≡ some m �
 keep-rest true o m e = e
 keep-rest false o m e = none-some e
 
--- the middle map of a sequence
+-- The middle map of a sequence.
 pub andThen-middle : (o : Option Map) (f : Map → Option Map) (m : Map) → andThen o f ≡ some m
     → (n : Map) × (o ≡ some n) × (f n ≡ some m)
 andThen-middle none f m e = none-some e
 andThen-middle (some n) f m e = (n, refl, e)
 
----------------------------------------------------------------- what a matches means
--- θ replaces listed names only
-abbrev pub Within : (ℕ → Bool) → Map → Type 0
-Within ns θ = (v : ℕ) → ns v ≡ false → find θ v ≡ none
-
--- θ gives each name that m binds the sort that m gives it
+---------------------------------------------------------------- what a match means
+-- θ gives each name that m binds the sort that m gives it.
 abbrev pub Agrees : Map → Map → Type 0
 Agrees m θ = (v : ℕ) (s : Sort) → find m v ≡ some s → apply θ (var v) ≡ s
 
--- a matches's map holds what it held before
+-- The map found holds what was held before.
 pub meet-extends : (o : Option Sort) (v : ℕ) (t : Sort) (m m′ : Map) → find m v ≡ o → meet o v t m ≡ some m′
     → (u : ℕ) (s : Sort) → find m u ≡ some s → find m′ u ≡ some s
 unfolding find
@@ -73,7 +69,8 @@ mutual
       let (n, g, h) = andThen-middle (matches ns p t m) (λ n. matchesAll ns ps ts n) m′ e in
       matchAll-extends ns ps ts n m′ h u s (match-extends ns p t m n g u s f)
 
--- success: every assignment of listed names that agrees with the map found turns pattern into target
+-- Soundness: every assignment that agrees with the map found turns pattern into target. By induction; a part matched earlier stays right,
+-- since the map only grows.
 pub meet-sound : (o : Option Sort) (v : ℕ) (t : Sort) (m m′ θ : Map) → find m v ≡ o → meet o v t m ≡ some m′
     → Agrees m′ θ → apply θ (var v) ≡ t
 unfolding find
@@ -108,7 +105,7 @@ mutual
       let z = match-sound ns p t m k θ f n (λ v s q. g v s (matchAll-extends ns ps ts k m′ h v s q)) in
       let y = matchAll-sound ns ps ts k m′ θ h n g in cc
 
--- completeness: an assignment that turns pattern into target is found, from every map that it agrees with
+-- Completeness: an assignment that turns pattern into target is found, from every map that it agrees with.
 pub agrees-bind : (v : ℕ) (m θ : Map) → Agrees m θ → Agrees (bind v (apply θ (var v)) m) θ
 unfolding find
 agrees-bind v m θ g u s f =
@@ -140,7 +137,7 @@ mutual
       let (m′, f′, h′) = matchAll-complete ns ps k θ (search conj) n h in
       (m′, rw f f′, h′)
 
--- only listed names are bound
+-- Only listed names are bound.
 mutual
   unfolding matches
 
@@ -167,11 +164,12 @@ mutual
       let (k, g, h) = andThen-middle (matches ns p t m) (λ k. matchesAll ns ps ts k) m′ e in
       matchAll-within ns ps ts k m′ h (match-within ns p t m k g n)
 
+-- A map agrees with itself.
 pub agrees-self : (m : Map) → Agrees m m
 unfolding apply
 agrees-self m v s f = rw f refl
 
--- each listed variable of the pattern is bound
+-- Each listed variable of the pattern is bound.
 pub bound-kept : (m m′ : Map) (v : ℕ) → ((u : ℕ) (s : Sort) → find m u ≡ some s → find m′ u ≡ some s) → bound m v ≡ true → bound m′ v ≡ true
 bound-kept m m′ v k b =
     byOption (find m v) (λ q. let z : false ≡ true = rw q at b in absurd (false≢true z)) (λ s q. rw (k v s q) refl)
@@ -201,7 +199,7 @@ mutual
       (λ q. bound-kept k m′ v (matchAll-extends ns ps ts k m′ r) (match-binds ns p t m k v g h q))
       (λ q. matchAll-binds ns ps ts k m′ v r h (rw q at o))
 
--- a sort without listed variables matches itself
+-- A sort without listed variables matches itself, and nothing is bound.
 mutual
   unfolding matches occurs parless
 
@@ -221,7 +219,9 @@ mutual
       rw (match-self ns s m (search conj) (λ v q. or-left (occurs v s) (occursAny v ss) (h v q)))
       (matchAll-self ns ss m (search conj) (λ v q. or-right (occurs v s) (occursAny v ss) (h v q)))
 
--- a matches stays a matches when both sides are put through σ
+---------------------------------------------------------------- matching under substitution
+-- A match stays a match when both sides are put through σ, if σ touches no listed name. By induction; where σ replaces a variable of the
+-- pattern that is not listed, the same image stands on both sides and matches itself.
 mutual
   unfolding matches apply through
 
@@ -255,6 +255,35 @@ mutual
   matchAll-moved σ ns (p then ps) (t then ts) m m′ e d h =
       let (k, g, r) = andThen-middle (matches ns p t m) (λ k. matchesAll ns ps ts k) m′ h in
       rw (match-moved σ ns p t m k e d g) (matchAll-moved σ ns ps ts k m′ e d r)
+
+-- A match stays one when only the target is put through σ, any map, if every variable of the pattern is listed.
+mutual
+  unfolding matches apply through occurs
+
+  pub match-target-moved : (σ : Map) (ns : ℕ → Bool) (p t : Sort) (m m′ : Map) → ((v : ℕ) → occurs v p ≡ true → ns v ≡ true)
+      → matches ns p t m ≡ some m′ → matches ns p (apply σ t) (through σ m) ≡ some (through σ m′)
+  match-target-moved σ ns (var v) t m m′ d h =
+      let q = d v (eqb-self v) in
+      byOption (find m v)
+      (λ f. rw (q, find-through-none σ m v f, ← some-inj (rw (q, f) at h)) refl)
+      (λ s f. let k : keep (same s t) (some m) ≡ some m′ = rw (q, f) at h in
+      rw (q, find-through σ m v s f, ← same-sound s t (keep-test (same s t) (some m) m′ k), same-refl (apply σ s), some-inj (keep-rest (same s t) (some m) m′ k)) refl)
+  match-target-moved σ ns (par us b) t m m′ d h = none-some h
+  match-target-moved σ ns (node k a w ps) (var v) m m′ d h = none-some h
+  match-target-moved σ ns (node k a w ps) (par us b) m m′ d h = none-some h
+  match-target-moved σ ns (node k a w ps) (node l c x ts) m m′ d h =
+      rw (keep-test (eqb k l && eqb a c && eqb w x) (matchesAll ns ps ts m) m′ h)
+      (matchAll-target-moved σ ns ps ts m m′ d (keep-rest (eqb k l && eqb a c && eqb w x) (matchesAll ns ps ts m) m′ h))
+
+  pub matchAll-target-moved : (σ : Map) (ns : ℕ → Bool) (ps ts : Sorts) (m m′ : Map) → ((v : ℕ) → occursAny v ps ≡ true → ns v ≡ true)
+      → matchesAll ns ps ts m ≡ some m′ → matchesAll ns ps (applyAll σ ts) (through σ m) ≡ some (through σ m′)
+  matchAll-target-moved σ ns end end m m′ d h = ap some (ap (through σ) (some-inj h))
+  matchAll-target-moved σ ns end (t then ts) m m′ d h = none-some h
+  matchAll-target-moved σ ns (p then ps) end m m′ d h = none-some h
+  matchAll-target-moved σ ns (p then ps) (t then ts) m m′ d h =
+      let (k, g, r) = andThen-middle (matches ns p t m) (λ k. matchesAll ns ps ts k) m′ h in
+      rw (match-target-moved σ ns p t m k (λ v o. d v (rw o refl)) g)
+      (matchAll-target-moved σ ns ps ts k m′ (λ v o. d v (or-second (occurs v p) (occursAny v ps) o)) r)
 
 -- The map of a match with proper targets is proper.
 mutual
@@ -391,3 +420,93 @@ matchingAll ns ps ts e =
       refusal = λ h θ w k. all .refusal h θ w (ap tuple k);
       refused = λ h. all .refused (λ θ w k. h θ w (cc));
     }
+
+---------------------------------------------------------------- the premise, read off
+mutual
+  unfolding known parless
+
+  pub known-parless : (s : Sort) → known s ≡ true → parless s ≡ true
+  known-parless (var v) e = refl
+  known-parless (par ns b) e = e
+  known-parless (node k a w ss) e = knownAll-parless ss (and-right (not (eqb k 10)) (knownAll ss) e)
+
+  pub knownAll-parless : (ss : Sorts) → knownAll ss ≡ true → parlessAll ss ≡ true
+  knownAll-parless end e = refl
+  knownAll-parless (s then ss) e =
+      and-true (parless s) (parlessAll ss) (known-parless s (and-left (known s) (knownAll ss) e)) (knownAll-parless ss (and-right (known s) (knownAll ss) e))
+
+-- A name of the first list is none of a list apart from it.
+pub apart-free : (ns us : List ℕ) (v : ℕ) → apart ns us ≡ true → member v ns ≡ true → member v us ≡ false
+unfolding apart member
+apart-free ns [] v e i = refl
+apart-free ns (u ∷ us) v e i =
+    byTest (eqb u v)
+    (λ q. let z : member u ns ≡ true = rw (eqb-true u v q) i in clash z (not-true (member u ns) (and-left (not (member u ns)) (apart ns us) e)))
+    (λ q. rw q (apart-free ns us v (and-right (not (member u ns)) (apart ns us) e) i))
+
+-- No listed name stands in an unlisted sort.
+mutual
+  unfolding unlisted occurs
+
+  pub unlisted-free : (ns : List ℕ) (t : Sort) (v : ℕ) → unlisted ns t ≡ true → member v ns ≡ true → occurs v t ≡ false
+  unlisted-free ns (var u) v e i =
+      byTest (eqb u v)
+      (λ q. let z : member u ns ≡ true = rw (eqb-true u v q) i in clash z (not-true (member u ns) e))
+      (λ q. q)
+  unlisted-free ns (par us b) v e i =
+      rw (apart-free ns us v (and-left (apart ns us) (unlisted ns b) e) i)
+      (unlisted-free ns b v (and-right (apart ns us) (unlisted ns b) e) i)
+  unlisted-free ns (node k a w ts) v e i = unlistedAll-free ns ts v e i
+
+  pub unlistedAll-free : (ns : List ℕ) (ts : Sorts) (v : ℕ) → unlistedAll ns ts ≡ true → member v ns ≡ true → occursAny v ts ≡ false
+  unlistedAll-free ns end v e i = refl
+  unlistedAll-free ns (t then ts) v e i =
+      rw (unlisted-free ns t v (and-left (unlisted ns t) (unlistedAll ns ts) e) i)
+      (unlistedAll-free ns ts v (and-right (unlisted ns t) (unlistedAll ns ts) e) i)
+
+-- And a sort in which none stands is unlisted.
+pub free-apart : (ns us : List ℕ) → ((v : ℕ) → member v ns ≡ true → member v us ≡ false) → apart ns us ≡ true
+unfolding apart member
+free-apart ns [] h = refl
+free-apart ns (u ∷ us) h =
+    byTest (member u ns)
+    (λ q. let z : (eqb u u || member u us) ≡ false = h u q in clash (eqb-self u) (or-left (eqb u u) (member u us) z))
+    (λ q. rw q (free-apart ns us (λ v i. or-right (eqb u v) (member v us) (h v i))))
+
+mutual
+  unfolding unlisted occurs
+
+  pub free-unlisted : (ns : List ℕ) (t : Sort) → ((v : ℕ) → member v ns ≡ true → occurs v t ≡ false) → unlisted ns t ≡ true
+  free-unlisted ns (var u) h = byTest (member u ns) (λ q. clash (eqb-self u) (h u q)) (λ q. rw q refl)
+  free-unlisted ns (par us b) h =
+      and-true (apart ns us) (unlisted ns b)
+      (free-apart ns us (λ v i. or-left (member v us) (occurs v b) (h v i)))
+      (free-unlisted ns b (λ v i. or-right (member v us) (occurs v b) (h v i)))
+  free-unlisted ns (node k a w ts) h = free-unlistedAll ns ts h
+
+  pub free-unlistedAll : (ns : List ℕ) (ts : Sorts) → ((v : ℕ) → member v ns ≡ true → occursAny v ts ≡ false) → unlistedAll ns ts ≡ true
+  free-unlistedAll ns end h = refl
+  free-unlistedAll ns (t then ts) h =
+      and-true (unlisted ns t) (unlistedAll ns ts)
+      (free-unlisted ns t (λ v i. or-left (occurs v t) (occursAny v ts) (h v i)))
+      (free-unlistedAll ns ts (λ v i. or-right (occurs v t) (occursAny v ts) (h v i)))
+
+-- Matching on document 01's premise.
+pub matching-premise : (ns : List ℕ) (p t : Sort) → premise ns p t ≡ true → Matching (listedIn ns) p t
+unfolding premise
+matching-premise ns p t h =
+    let (e, q, u) = three (known p) (known t) (unlisted ns t) h in matching (listedIn ns) p t (known-parless p e)
+
+-- There the map found is every assignment that turns pattern into target, on the listed variables of the pattern: such an assignment binds
+-- them all, since one that it left would stand in the target.
+pub match-exact : (ns : List ℕ) (p t : Sort) (m θ : Map) → premise ns p t ≡ true → matches (listedIn ns) p t empty ≡ some m
+    → Within (listedIn ns) θ → apply θ p ≡ t → (v : ℕ) → member v ns ≡ true → occurs v p ≡ true → find m v ≡ find θ v
+unfolding premise apply
+match-exact ns p t m θ h f w k v l o =
+    let (e, q, u) = three (known p) (known t) (unlisted ns t) h in
+    let (n, g, j) = match-found (listedIn ns) p t (known-parless p e) θ w k in
+    let y : m ≡ n = some-inj (sym f ∙ g) in
+    let x : find m v ≡ some (apply θ (var v)) = ap (λ (z : Map). find z v) y ∙ j v l o in
+    byOption (find θ v)
+    (λ i. let z : occurs v t ≡ true = ap (occurs v) (sym k) ∙ apply-keeps θ v p i o in clash z (unlisted-free ns t v u l))
+    (λ r i. x ∙ rw i refl)

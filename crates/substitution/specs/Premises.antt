@@ -77,3 +77,14 @@ unfoldable mutual
   pub namedAll : Sorts → Bool
   namedAll end = true
   namedAll (s then ss) = named s && namedAll ss
+
+-- No Var, Par or ParamBitVec anywhere in a sort.
+unfoldable mutual
+  pub ground : Sort → Bool
+  ground (var v) = false
+  ground (par ns b) = false
+  ground (node k a w ss) = not (eqb k 10) && groundAll ss
+
+  pub groundAll : Sorts → Bool
+  groundAll end = true
+  groundAll (s then ss) = ground s && groundAll ss

@@ -1,15 +1,15 @@
 -- Laws of substitution: what it does to a variable and to a Par, when it changes nothing, which names are left, and how two of them follow each other.
-use Prim.Native.Nat.{ℕ, zero, suc, _+_, _≤_}
-use mathlib.Core.Path.{_≡_, refl, sym, ap, subst, _∙_}
-use mathlib.Core.Bool.{Bool, true, false, not, cond, _&&_, _||_, false≢true, true≢false}
-use mathlib.Core.List.{List, [], _∷_, _++_}
-use mathlib.Core.Option.{Option, none, some}
+use Prim.Native.Nat.{ℕ, _+_, _≤_}
+use mathlib.Core.Path.{_≡_, refl, sym, ap, _∙_}
+use mathlib.Core.Bool.{true, false, not, _&&_, _||_, false≢true}
+use mathlib.Core.List.{List, [], _∷_}
+use mathlib.Core.Option.{none, some}
 use native.Mathlib.Omega.{arith}
 use lib.Dec.{eqb}
-use borrow.Author.Tests.{eqb-true, eqb-false, eq-eqb, ne-eqb}
+use borrow.Author.Tests.{eqb-true}
 use Rattle.record.specs.Sort.{Sort, Sorts, var, par, node, end, _then_, size, sizes}
-use Rattle.record.specs.Cases.{and-left, and-right, conj, and-true, or-left, or-right, not-true, eqb-self, byTest, byOption, none-some, some-inj, clash}
-use Rattle.substitution.specs.Substitution.{Map, empty, bind, find, orElse, isSome, bound, left, under, apply, applyAll, through, member, occurs, occursAny}
+use Rattle.record.specs.Cases.{and-left, and-right, conj, and-true, or-left, or-right, or-second, not-true, eqb-self, byTest, byOption, none-some, some-inj, clash}
+use Rattle.substitution.specs.Substitution.{Map, empty, bind, find, bound, left, under, apply, applyAll, through, member, occurs, occursAny}
 use Rattle.substitution.specs.Premises.{touches, untouched, clear, clearAll, usual, proper, properAll, properMap, parless, parlessAll, anyName, named, namedAll}
 
 ---------------------------------------------------------------- variables
@@ -138,6 +138,10 @@ pub apply-empty : (s : Sort) → named s ≡ true → apply empty s ≡ s
 unfolding find
 apply-empty s e = apply-outside empty s e (λ v r q. none-some q)
 
+pub applyAll-empty : (ss : Sorts) → namedAll ss ≡ true → applyAll empty ss ≡ ss
+unfolding find
+applyAll-empty ss e = applyAll-outside empty ss e (λ v r q. none-some q)
+
 -- And no other: it takes a Par without names away, which makes the tree smaller.
 pub under-size : (ns : List ℕ) (b : Sort) → size (under ns b) ≤ 1 + size b
 unfolding size
@@ -170,6 +174,29 @@ mutual
   applyAll-empty-named (s then ss) e =
       let p : apply empty s ≡ s = cc in let q : applyAll empty ss ≡ ss = cc in
       and-true (named s) (namedAll ss) (apply-empty-named s p) (applyAll-empty-named ss q)
+
+---------------------------------------------------------------- only the names that stand in a sort matter
+pub left-agree : (m n : Map) (ns : List ℕ) → ((v : ℕ) → member v ns ≡ true → find m v ≡ find n v) → left m ns ≡ left n ns
+unfolding left member
+left-agree m n [] h = refl
+left-agree m n (u ∷ us) h =
+    rw (h u (rw (eqb-self u) refl), left-agree m n us (λ v i. h v (or-second (eqb u v) (member v us) i))) refl
+
+-- Two maps that give the names in a sort the same images do the same to it.
+mutual
+  unfolding apply occurs
+
+  pub apply-agree : (m n : Map) (s : Sort) → ((v : ℕ) → occurs v s ≡ true → find m v ≡ find n v) → apply m s ≡ apply n s
+  apply-agree m n (var v) h = rw (h v (eqb-self v)) refl
+  apply-agree m n (par ns b) h =
+      rw (left-agree m n ns (λ v i. h v (rw i refl)), apply-agree m n b (λ v i. h v (or-second (member v ns) (occurs v b) i))) refl
+  apply-agree m n (node k a w ss) h = ap (node k a w) (applyAll-agree m n ss h)
+
+  pub applyAll-agree : (m n : Map) (ss : Sorts) → ((v : ℕ) → occursAny v ss ≡ true → find m v ≡ find n v) → applyAll m ss ≡ applyAll n ss
+  applyAll-agree m n end h = refl
+  applyAll-agree m n (s then ss) h =
+      let p = apply-agree m n s (λ v i. h v (rw i refl)) in
+      let q = applyAll-agree m n ss (λ v i. h v (or-second (occurs v s) (occursAny v ss) i)) in cc
 
 ---------------------------------------------------------------- names that a map does not touch
 -- An untouched name is not replaced.
@@ -231,6 +258,26 @@ mutual
       rw (apply-occurs m n s i (λ z. or-left (occurs n s) (occursAny n ss) (h z)))
       (applyAll-occurs m n ss i (λ z. or-right (occurs n s) (occursAny n ss) (h z)))
 
+-- A name that stands in the sort and that the map does not replace stands in the result.
+mutual
+  unfolding apply occurs
+
+  pub apply-keeps : (m : Map) (n : ℕ) (s : Sort) → find m n ≡ none → occurs n s ≡ true → occurs n (apply m s) ≡ true
+  apply-keeps m n (var v) f o = let q = eqb-true v n o in let g : find m v ≡ none = rw q f in rw g o
+  apply-keeps m n (par ns b) f o =
+      rw (under-occurs n (left m ns) (apply m b), left-member m n ns, f)
+      (byTest (member n ns)
+      (λ q. rw q refl)
+      (λ q. rw q (apply-keeps m n b f (rw q at o))))
+  apply-keeps m n (node k a w ss) f o = applyAll-keeps m n ss f o
+
+  pub applyAll-keeps : (m : Map) (n : ℕ) (ss : Sorts) → find m n ≡ none → occursAny n ss ≡ true → occursAny n (applyAll m ss) ≡ true
+  applyAll-keeps m n end f o = o
+  applyAll-keeps m n (s then ss) f o =
+      byTest (occurs n s)
+      (λ q. rw (apply-keeps m n s f q) refl)
+      (λ q. or-second (occurs n (apply m s)) (occursAny n (applyAll m ss)) (applyAll-keeps m n ss f (rw q at o)))
+
 -- An untouched name stands in the result only if it stood there.
 pub apply-untouched : (m : Map) (n : ℕ) (s : Sort) → touches m n ≡ false → occurs n s ≡ false → occurs n (apply m s) ≡ false
 apply-untouched m n s t o = apply-occurs m n s (λ v r q. image-untouched m n v r t q) (λ z. o)
@@ -263,6 +310,20 @@ mutual
 
 pub proper-named : (s : Sort) → proper s ≡ true → named s ≡ true
 proper-named s e = parless-named s (proper-parless s e)
+
+-- A proper sort has no Par whose parameters a map could touch.
+mutual
+  unfolding proper clear
+
+  pub proper-clear : (σ : Map) (s : Sort) → proper s ≡ true → clear σ s ≡ true
+  proper-clear σ (var v) e = refl
+  proper-clear σ (par ns b) e = absurd (false≢true e)
+  proper-clear σ (node k a w ss) e = properAll-clear σ ss (search conj)
+
+  pub properAll-clear : (σ : Map) (ss : Sorts) → properAll ss ≡ true → clearAll σ ss ≡ true
+  properAll-clear σ end e = refl
+  properAll-clear σ (s then ss) e =
+      and-true (clear σ s) (clearAll σ ss) (proper-clear σ s (search conj)) (properAll-clear σ ss (search conj))
 
 ---------------------------------------------------------------- one substitution after another
 -- The image of a name in a map put through another.
