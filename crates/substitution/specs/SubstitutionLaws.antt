@@ -9,7 +9,8 @@ use lib.Dec.{eqb}
 use borrow.Author.Tests.{eqb-true}
 use Rattle.record.specs.Sort.{Sort, Sorts, var, par, node, end, _then_, size, sizes}
 use Rattle.record.specs.Cases.{and-left, and-right, conj, and-true, or-left, or-right, or-second, not-true, eqb-self, byTest, byOption, none-some, some-inj, clash}
-use Rattle.substitution.specs.Substitution.{Map, empty, bind, find, bound, left, under, apply, applyAll, through, member, occurs, occursAny}
+use Rattle.record.specs.Names.{member}
+use Rattle.substitution.specs.Substitution.{Map, empty, bind, find, bound, left, under, apply, applyAll, through, occurs, occursAny}
 use Rattle.substitution.specs.Premises.{touches, untouched, clear, clearAll, usual, proper, properAll, properMap, parless, parlessAll, anyName, named, namedAll}
 
 ---------------------------------------------------------------- variables
