@@ -1,4 +1,5 @@
 // The records of a sheet, read field by field.
+use record::SortRecord;
 
 // Why a sheet is refused; `refusalNumber` of specs/Reader.antt gives document 01's number of each.
 pub enum Refusal {
@@ -47,17 +48,7 @@ pub enum ReadHead {
     NoHead(Refusal),
 }
 
-// The fields of a sort record; of a list where it starts and how many entries it has.
-pub struct SortRecord {
-    pub kind: usize,
-    pub name: usize,
-    pub number: usize,
-    pub list: usize,
-    pub count: usize,
-    pub names: usize,
-    pub named: usize,
-}
-
+// A sort record and the place behind it.
 pub enum ReadSort {
     Sort(SortRecord, Cursor),
     NoSort(Refusal),

@@ -18,8 +18,9 @@ use Rattle.record.specs.Forms.{Which, isVar, isPar, isNode, which, sort-var, so
 use Rattle.record.specs.StoreLaws.{sort-node}
 use Rattle.record.specs.Sizes.{most-few, size-sort}
 use Rattle.store.specs.Good.{Sized}
-use Rattle.store.specs.Entry.{kindOf, nameOf, numberOf, partsOf, namesOf, isOne, PlaceAsks, PlaceIs, EntryAsks, EntryIs, EntryHas, KindHas, SizeHas, TreeAsks, TreeHas}
-use Rattle.store.specs.declared.entries.SortRecord.{SortRecord}
+use Rattle.record.specs.Sort.{kindOf, nameIn, numberIn, partsOf, namesOf}
+use Rattle.store.specs.Entry.{isOne, PlaceAsks, PlaceIs, EntryAsks, EntryIs, EntryHas, KindHas, SizeHas, TreeAsks, TreeHas}
+use Rattle.record.specs.declared.SortRecord.{SortRecord}
 
 -- a bit as a number
 pub bit-on : (w m v : ℕ) → m / w % 2 ≡ 1 → v ≡ given (bit w m) v
@@ -141,7 +142,6 @@ place-asks b p k a = record { within = a .held .within; stands = a .held .stands
 -- The fields of a record are those of its sort.
 module _ (st : List Sort) (f : Fields) (s : Shape f) where
   pub kind-sort : f .kind ≡ kindOf (sortOf st f)
-  unfolding kindOf
   kind-sort = go (which (f .kind))
     where
       go : Which (f .kind) → f .kind ≡ kindOf (sortOf st f)
@@ -149,26 +149,24 @@ module _ (st : List Sort) (f : Fields) (s : Shape f) where
       go (isPar e) = e ∙ sym (ap kindOf (sort-par st f e))
       go (isNode p q) = sym (ap kindOf (sort-other st f p q))
 
-  name-sort : f .name ≡ nameOf (sortOf st f)
-  unfolding nameOf
+  name-sort : f .name ≡ nameIn (sortOf st f)
   name-sort = go (which (f .kind))
     where
-      go : Which (f .kind) → f .name ≡ nameOf (sortOf st f)
-      go (isVar e) = sym (ap nameOf (sort-var st f e))
-      go (isPar e) = par-name f (s .proper) e ∙ sym (ap nameOf (sort-par st f e))
-      go (isNode p q) = sym (ap nameOf (sort-other st f p q))
+      go : Which (f .kind) → f .name ≡ nameIn (sortOf st f)
+      go (isVar e) = sym (ap nameIn (sort-var st f e))
+      go (isPar e) = par-name f (s .proper) e ∙ sym (ap nameIn (sort-par st f e))
+      go (isNode p q) = sym (ap nameIn (sort-other st f p q))
 
-  number-sort : f .number ≡ numberOf (sortOf st f)
-  unfolding numberOf
+  number-sort : f .number ≡ numberIn (sortOf st f)
   number-sort = go (which (f .kind))
     where
-      go : Which (f .kind) → f .number ≡ numberOf (sortOf st f)
-      go (isVar e) = var-number f (s .proper) e ∙ sym (ap numberOf (sort-var st f e))
-      go (isPar e) = par-number f (s .proper) e ∙ sym (ap numberOf (sort-par st f e))
-      go (isNode p q) = sym (ap numberOf (sort-other st f p q))
+      go : Which (f .kind) → f .number ≡ numberIn (sortOf st f)
+      go (isVar e) = var-number f (s .proper) e ∙ sym (ap numberIn (sort-var st f e))
+      go (isPar e) = par-number f (s .proper) e ∙ sym (ap numberIn (sort-par st f e))
+      go (isNode p q) = sym (ap numberIn (sort-other st f p q))
 
   parts-sort : sortsOf st (f .list) ≡ partsOf (sortOf st f)
-  unfolding partsOf sortsOf
+  unfolding sortsOf
   parts-sort = go (which (f .kind))
     where
       go : Which (f .kind) → sortsOf st (f .list) ≡ partsOf (sortOf st f)
@@ -177,7 +175,6 @@ module _ (st : List Sort) (f : Fields) (s : Shape f) where
       go (isNode p q) = sym (ap partsOf (sort-other st f p q))
 
   names-sort : f .names ≡ namesOf (sortOf st f)
-  unfolding namesOf
   names-sort = go (which (f .kind))
     where
       go : Which (f .kind) → f .names ≡ namesOf (sortOf st f)
@@ -206,8 +203,8 @@ module _ (b p : List ℕ) (k : ℕ) (r : SortRecord) (e : PlaceIs b (getD p k 0)
       let wide : length (f .names) ≡ r .named = ap (λ (g : Fields). length (g .names)) (e .same) ∙ length-numbersAt b (r .names) (r .named) in
       record {
         kind = sym (ap (λ (g : Fields). g .kind) (e .same)) ∙ kind-sort st f s ∙ sym (ap kindOf node-is);
-        name = sym (ap (λ (g : Fields). g .name) (e .same)) ∙ name-sort st f s ∙ sym (ap nameOf node-is);
-        number = sym (ap (λ (g : Fields). g .number) (e .same)) ∙ number-sort st f s ∙ sym (ap numberOf node-is);
+        name = sym (ap (λ (g : Fields). g .name) (e .same)) ∙ name-sort st f s ∙ sym (ap nameIn node-is);
+        number = sym (ap (λ (g : Fields). g .number) (e .same)) ∙ number-sort st f s ∙ sym (ap numberIn node-is);
         parts = sym (ap (λ (g : Fields). sortsOf st (g .list)) (e .same)) ∙ parts-sort st f s ∙ sym (ap partsOf node-is);
         names = sym (ap (λ (g : Fields). g .names) (e .same)) ∙ names-sort st f s ∙ sym (ap namesOf node-is);
         below = λ j h.

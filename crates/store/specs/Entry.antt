@@ -6,37 +6,11 @@ use mathlib.Core.List.{List, [], _∷_}
 use lib.ListN.{length, getD}
 use lib.Dec.{eqb}
 use Rattle.record.specs.Number.{u16At, numbersAt}
-use Rattle.record.specs.Sort.{Sort, Sorts, var, par, node, end, _then_, size}
+use Rattle.record.specs.Sort.{Sort, Sorts, var, par, node, end, _then_, size, kindOf, nameIn, numberIn, partsOf, namesOf}
 use Rattle.record.specs.Record.{recordBytes, sortsOf, sortOf}
 use Rattle.record.specs.Decode.{fields, fieldsAt, Stands, Held, Fresh, storeOf, sortAt, Stored}
 use Rattle.store.specs.Good.{Sized}
-use Rattle.store.specs.declared.entries.SortRecord.{SortRecord}
-
--- The fields of a sort as a record has them; one that the kind lacks is 0 or empty.
-unfoldable pub kindOf : Sort → ℕ
-kindOf (var v) = 2
-kindOf (par ns b) = 12
-kindOf (node k a w ss) = k
-
-unfoldable pub nameOf : Sort → ℕ
-nameOf (var v) = v
-nameOf (par ns b) = 0
-nameOf (node k a w ss) = a
-
-unfoldable pub numberOf : Sort → ℕ
-numberOf (var v) = 0
-numberOf (par ns b) = 0
-numberOf (node k a w ss) = w
-
-unfoldable pub partsOf : Sort → Sorts
-partsOf (var v) = end
-partsOf (par ns b) = b then end
-partsOf (node k a w ss) = ss
-
-unfoldable pub namesOf : Sort → List ℕ
-namesOf (var v) = []
-namesOf (par ns b) = ns
-namesOf (node k a w ss) = []
+use Rattle.record.specs.declared.SortRecord.{SortRecord}
 
 abbrev pub isOne : ℕ → Bool
 isOne b = eqb b 1
@@ -60,8 +34,8 @@ pub record EntryAsks (b p : List ℕ) (k : ℕ) : Type 0 where
 -- THE SORT k OF A STORE of n sorts, taken apart.
 pub record EntryIs (b p : List ℕ) (n k : ℕ) (r : SortRecord) : Type 0 where
   pub kind : r .kind ≡ kindOf (sortAt b p n k)
-  pub name : r .name ≡ nameOf (sortAt b p n k)
-  pub number : r .number ≡ numberOf (sortAt b p n k)
+  pub name : r .name ≡ nameIn (sortAt b p n k)
+  pub number : r .number ≡ numberIn (sortAt b p n k)
   pub parts : sortsOf (storeOf b p n) (numbersAt b (r .list) (r .count)) ≡ partsOf (sortAt b p n k)
   pub names : numbersAt b (r .names) (r .named) ≡ namesOf (sortAt b p n k)
   pub below : (j : ℕ) → j < r .count → u16At b (r .list + 2 * j) < k

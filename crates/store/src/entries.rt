@@ -1,4 +1,5 @@
 // An entry of the store taken apart: where its fields stand, by the bits of its map and without a test of the kind.
+use record::SortRecord;
 use record::u16_at;
 ghost use mathlib.Core.Path.{_≡_};
 ghost use Prim.Native.Nat.{ℕ, _+_, _≤_, _<_};
@@ -7,17 +8,6 @@ ghost use Rattle.record.specs.Number.{u16At, u32At};
 ghost use Rattle.record.specs.Record.{bit};
 ghost use Rattle.record.specs.Store.{given};
 ghost use Rattle.store.specs.Entry.{isOne, PlaceAsks, PlaceIs, EntryAsks, EntryHas, KindHas, SizeHas, TreeAsks, TreeHas};
-
-// The fields of a sort record; of its two lists where they start and how long they are.
-pub struct SortRecord {
-    pub kind: usize,
-    pub name: usize,
-    pub number: usize,
-    pub list: usize,
-    pub count: usize,
-    pub names: usize,
-    pub named: usize,
-}
 
 // The name, where its bit stands in the map; else 0.
 pub fn name_at(records: &[u8], at: usize, map: usize) -> usize
