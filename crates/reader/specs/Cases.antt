@@ -24,6 +24,7 @@ use Rattle.reader.specs.declared.ReadHead.the-variants.{Head, NoHead}
 use Rattle.reader.specs.declared.Scalars.{Scalars}
 use Rattle.reader.specs.declared.ReadSort.{ReadSort}
 use Rattle.reader.specs.declared.ReadSort.the-variants.{Sort, NoSort}
+use Rattle.reader.specs.declared.TermRecord.{TermRecord}
 use Rattle.reader.specs.declared.ReadTerm.{ReadTerm}
 use Rattle.reader.specs.declared.ReadTerm.the-variants.{Term, NoTerm}
 use Rattle.reader.specs.declared.QuestionRecord.{QuestionRecord}
@@ -69,8 +70,8 @@ module _ (s : List ℕ) (x : ℕ) where
       let o : x + 1 ≡ c .at = ap (λ (k : Cursor). k .at) q in
       omega (arith, o, leb-true (x + 1) (length s) e)
 
-  pub byte-inside : (v : ℕ) (c : Cursor) → readByte s x ≡ Number v c → c .at ≤ length s
-  byte-inside v c r = byte-tests v c (leb (x + 1) (length s)) refl r
+  pub byte-inside : {v : ℕ} {c : Cursor} → readByte s x ≡ Number v c → c .at ≤ length s
+  byte-inside {v} {c} r = byte-tests v c (leb (x + 1) (length s)) refl r
 
 -- THE BITS OF A MAP
 pub bit-on : (w m : ℕ) → m / w % 2 ≡ 1 → bit w m ≡ true
@@ -83,22 +84,22 @@ bit-off w m h = ne-eqb (m / w % 2) 1 h
 
 -- THE BIT MAP AND THE KIND
 module _ (s : List ℕ) (x : ℕ) where
-  pub head-1 : (e : Refusal) → readByte s x ≡ NoNumber e → NoHead e ≡ readHead s x
+  pub head-1 : {e : Refusal} → readByte s x ≡ NoNumber e → NoHead e ≡ readHead s x
   unfolding readHead
-  head-1 e r = simp r
+  head-1 r = simp r
 
-  module _ (m : ℕ) (c : Cursor) (r : readByte s x ≡ Number m c) where
+  module _ {m : ℕ} {c : Cursor} (r : readByte s x ≡ Number m c) where
     pub head-2 : m % 2 ≡ 0 → NoHead Map ≡ readHead s x
     unfolding readHead
     head-2 h = simp (r, bit-off 1 m (λ e. omega arith))
 
-    pub head-3 : (e : Refusal) → (m % 2 ≡ 0 → ⊥) → readByte s (c .at) ≡ NoNumber e → NoHead e ≡ readHead s x
+    pub head-3 : {e : Refusal} → (m % 2 ≡ 0 → ⊥) → readByte s (c .at) ≡ NoNumber e → NoHead e ≡ readHead s x
     unfolding readHead
-    head-3 e h r2 = simp (r, bit-on 1 m (omega arith), r2)
+    head-3 h r2 = simp (r, bit-on 1 m (omega arith), r2)
 
-    pub head-4 : (k : ℕ) (d : Cursor) → (m % 2 ≡ 0 → ⊥) → readByte s (c .at) ≡ Number k d → Head m k d ≡ readHead s x
+    pub head-4 : {k : ℕ} {d : Cursor} → (m % 2 ≡ 0 → ⊥) → readByte s (c .at) ≡ Number k d → Head m k d ≡ readHead s x
     unfolding readHead
-    head-4 k d h r2 = simp (r, bit-on 1 m (omega arith), r2)
+    head-4 h r2 = simp (r, bit-on 1 m (omega arith), r2)
 
 -- THE NAME
 module _ (s : List ℕ) (m x : ℕ) where
@@ -116,17 +117,17 @@ module _ (s : List ℕ) (m most x : ℕ) where
   unfolding readNumber
   number-off h = simp (bit-off 4 m h)
 
-  pub number-fails : (e : Refusal) → m / 4 % 2 ≡ 1 → readU32 s x ≡ NoNumber e → NoNumber e ≡ readNumber s m most x
+  pub number-fails : {e : Refusal} → m / 4 % 2 ≡ 1 → readU32 s x ≡ NoNumber e → NoNumber e ≡ readNumber s m most x
   unfolding readNumber
-  number-fails e h r = simp (bit-on 4 m h, r)
+  number-fails h r = simp (bit-on 4 m h, r)
 
-  pub number-over : (v : ℕ) (c : Cursor) → m / 4 % 2 ≡ 1 → readU32 s x ≡ Number v c → most < v → NoNumber Value ≡ readNumber s m most x
+  pub number-over : {v : ℕ} {c : Cursor} → m / 4 % 2 ≡ 1 → readU32 s x ≡ Number v c → most < v → NoNumber Value ≡ readNumber s m most x
   unfolding readNumber
-  number-over v c h r l = simp (bit-on 4 m h, r, lt-leb v most l)
+  number-over {v} h r l = simp (bit-on 4 m h, r, lt-leb v most l)
 
-  pub number-is : (v : ℕ) (c : Cursor) → m / 4 % 2 ≡ 1 → readU32 s x ≡ Number v c → v ≤ most → Number v c ≡ readNumber s m most x
+  pub number-is : {v : ℕ} {c : Cursor} → m / 4 % 2 ≡ 1 → readU32 s x ≡ Number v c → v ≤ most → Number v c ≡ readNumber s m most x
   unfolding readNumber
-  number-is v c h r l = simp (bit-on 4 m h, r, le-leb v most l)
+  number-is {v} h r l = simp (bit-on 4 m h, r, le-leb v most l)
 
 -- THE RECORD'S OWN SORT
 module _ (s : List ℕ) (m sorts x : ℕ) where
@@ -134,25 +135,25 @@ module _ (s : List ℕ) (m sorts x : ℕ) where
   unfolding readOwn
   own-off h = simp (bit-off 8 m h)
 
-  pub own-fails : (e : Refusal) → m / 8 % 2 ≡ 1 → readU16 s x ≡ NoNumber e → NoNumber e ≡ readOwn s m sorts x
+  pub own-fails : {e : Refusal} → m / 8 % 2 ≡ 1 → readU16 s x ≡ NoNumber e → NoNumber e ≡ readOwn s m sorts x
   unfolding readOwn
-  own-fails e h r = simp (bit-on 8 m h, r)
+  own-fails h r = simp (bit-on 8 m h, r)
 
-  pub own-far : (v : ℕ) (c : Cursor) → m / 8 % 2 ≡ 1 → readU16 s x ≡ Number v c → sorts ≤ v → NoNumber Reference ≡ readOwn s m sorts x
+  pub own-far : {v : ℕ} {c : Cursor} → m / 8 % 2 ≡ 1 → readU16 s x ≡ Number v c → sorts ≤ v → NoNumber Reference ≡ readOwn s m sorts x
   unfolding readOwn
-  own-far v c h r l = simp (bit-on 8 m h, r, le-ltb v sorts l)
+  own-far {v} h r l = simp (bit-on 8 m h, r, le-ltb v sorts l)
 
-  pub own-is : (v : ℕ) (c : Cursor) → m / 8 % 2 ≡ 1 → readU16 s x ≡ Number v c → v < sorts → Number v c ≡ readOwn s m sorts x
+  pub own-is : {v : ℕ} {c : Cursor} → m / 8 % 2 ≡ 1 → readU16 s x ≡ Number v c → v < sorts → Number v c ≡ readOwn s m sorts x
   unfolding readOwn
-  own-is v c h r l = simp (bit-on 8 m h, r, lt-ltb v sorts l)
+  own-is {v} h r l = simp (bit-on 8 m h, r, lt-ltb v sorts l)
 
 -- A LIST
 module _ (s : List ℕ) (least most x : ℕ) where
-  pub list-fails : (e : Refusal) → readByte s x ≡ NoNumber e → NoList e ≡ readList s least most x
+  pub list-fails : {e : Refusal} → readByte s x ≡ NoNumber e → NoList e ≡ readList s least most x
   unfolding readList
-  list-fails e r = simp r
+  list-fails r = simp r
 
-  module _ (n : ℕ) (c : Cursor) (r : readByte s x ≡ Number n c) where
+  module _ {n : ℕ} {c : Cursor} (r : readByte s x ≡ Number n c) where
     pub list-short : length s < c .at + 2 * n → NoList PastEnd ≡ readList s least most x
     unfolding readList
     list-short h = simp (r, lt-leb (c .at + 2 * n) (length s) h)
@@ -178,27 +179,27 @@ pub record ListIs (s : List ℕ) (low high x a n : ℕ) (c : Cursor) : Type 0 wh
   pub least : low ≤ n
   pub most : n ≤ high
 
-module _ (s : List ℕ) (low high x a n : ℕ) (c : Cursor) (r : readList s low high x ≡ Found a n c) where
+module _ (s : List ℕ) (low high x : ℕ) {a n : ℕ} {c : Cursor} (r : readList s low high x ≡ Found a n c) where
   list-tests : (t1 t2 t3 t4 : Bool) → leb (x + 1) (length s) ≡ t1 → leb (x + 1 + 2 * getD s x 0) (length s) ≡ t2
       → leb low (getD s x 0) ≡ t3 → leb (getD s x 0) high ≡ t4 → ListIs s low high x a n c
   list-tests false t2 t3 t4 e1 e2 e3 e4 =
-      let d = list-fails s low high x PastEnd (sym (byte-short s x (omega (arith, leb-false (x + 1) (length s) e1)))) in
+      let d = list-fails s low high x (sym (byte-short s x (omega (arith, leb-false (x + 1) (length s) e1)))) in
       let z : _≡_ {A = ℕ} 0 1 = cc in absurd (omega arith)
   list-tests true false t3 t4 e1 e2 e3 e4 =
       let b = sym (byte-is s x (omega (arith, leb-true (x + 1) (length s) e1))) in
-      let d = list-short s low high x (getD s x 0) (place (x + 1)) b (leb-false (x + 1 + 2 * getD s x 0) (length s) e2) in
+      let d = list-short s low high x b (leb-false (x + 1 + 2 * getD s x 0) (length s) e2) in
       let z : _≡_ {A = ℕ} 0 1 = cc in absurd (omega arith)
   list-tests true true false t4 e1 e2 e3 e4 =
       let b = sym (byte-is s x (omega (arith, leb-true (x + 1) (length s) e1))) in
-      let d = list-less s low high x (getD s x 0) (place (x + 1)) b (leb-true (x + 1 + 2 * getD s x 0) (length s) e2) (leb-false low (getD s x 0) e3) in
+      let d = list-less s low high x b (leb-true (x + 1 + 2 * getD s x 0) (length s) e2) (leb-false low (getD s x 0) e3) in
       let z : _≡_ {A = ℕ} 0 1 = cc in absurd (omega arith)
   list-tests true true true false e1 e2 e3 e4 =
       let b = sym (byte-is s x (omega (arith, leb-true (x + 1) (length s) e1))) in
-      let d = list-more s low high x (getD s x 0) (place (x + 1)) b (leb-true (x + 1 + 2 * getD s x 0) (length s) e2) (leb-true low (getD s x 0) e3) (leb-false (getD s x 0) high e4) in
+      let d = list-more s low high x b (leb-true (x + 1 + 2 * getD s x 0) (length s) e2) (leb-true low (getD s x 0) e3) (leb-false (getD s x 0) high e4) in
       let z : _≡_ {A = ℕ} 0 1 = cc in absurd (omega arith)
   list-tests true true true true e1 e2 e3 e4 =
       let b = sym (byte-is s x (omega (arith, leb-true (x + 1) (length s) e1))) in
-      let d = list-is s low high x (getD s x 0) (place (x + 1)) b (leb-true (x + 1 + 2 * getD s x 0) (length s) e2) (leb-true low (getD s x 0) e3) (leb-true (getD s x 0) high e4) in
+      let d = list-is s low high x b (leb-true (x + 1 + 2 * getD s x 0) (length s) e2) (leb-true low (getD s x 0) e3) (leb-true (getD s x 0) high e4) in
       let p : x + 1 ≡ a = cc in
       let q : getD s x 0 ≡ n = cc in
       let o : place (x + 1 + 2 * getD s x 0) ≡ c = cc in
@@ -224,11 +225,11 @@ module _ (s : List ℕ) (m least most limit x : ℕ) where
   unfolding readReferences
   references-off h = simp (bit-off 16 m h)
 
-  pub references-fail : (e : Refusal) → m / 16 % 2 ≡ 1 → readList s least most x ≡ NoList e → NoList e ≡ readReferences s m least most limit x
+  pub references-fail : {e : Refusal} → m / 16 % 2 ≡ 1 → readList s least most x ≡ NoList e → NoList e ≡ readReferences s m least most limit x
   unfolding readReferences
-  references-fail e h r = simp (bit-on 16 m h, r)
+  references-fail h r = simp (bit-on 16 m h, r)
 
-  module _ (a n : ℕ) (c : Cursor) (h : m / 16 % 2 ≡ 1) (r : readList s least most x ≡ Found a n c) where
+  module _ {a n : ℕ} {c : Cursor} (h : m / 16 % 2 ≡ 1) (r : readList s least most x ≡ Found a n c) where
     pub references-far : allBelow limit (numbersAt s a n) ≡ false → NoList Reference ≡ readReferences s m least most limit x
     unfolding readReferences
     references-far t = simp (bit-on 16 m h, r, t)
@@ -243,11 +244,11 @@ module _ (s : List ℕ) (m least most x : ℕ) where
   unfolding readNames
   names-off h = simp (bit-off 64 m h)
 
-  pub names-fail : (e : Refusal) → m / 64 % 2 ≡ 1 → readList s least most x ≡ NoList e → NoList e ≡ readNames s m least most x
+  pub names-fail : {e : Refusal} → m / 64 % 2 ≡ 1 → readList s least most x ≡ NoList e → NoList e ≡ readNames s m least most x
   unfolding readNames
-  names-fail e h r = simp (bit-on 64 m h, r)
+  names-fail h r = simp (bit-on 64 m h, r)
 
-  module _ (a n : ℕ) (c : Cursor) (h : m / 64 % 2 ≡ 1) (r : readList s least most x ≡ Found a n c) where
+  module _ {a n : ℕ} {c : Cursor} (h : m / 64 % 2 ≡ 1) (r : readList s least most x ≡ Found a n c) where
     pub names-twice : distinct (numbersAt s a n) ≡ false → NoList Value ≡ readNames s m least most x
     unfolding readNames
     names-twice t = simp (bit-on 64 m h, r, t)
@@ -262,22 +263,23 @@ module _ (s : List ℕ) (m k n limit x : ℕ) where
   unfolding readSecond
   second-off h = simp (bit-off 64 m h)
 
-  pub second-fails : (e : Refusal) → m / 64 % 2 ≡ 1 → readList s (secondLeastOf k n) (secondMostOf k n) x ≡ NoList e → NoList e ≡ readSecond s m k n limit x
-  unfolding readSecond
-  second-fails e h r = simp (bit-on 64 m h, r)
-
-  module _ (a q : ℕ) (c : Cursor) (h : m / 64 % 2 ≡ 1) (r : readList s (secondLeastOf k n) (secondMostOf k n) x ≡ Found a q c) where
-    pub second-let : k ≡ 9 → Found a q c ≡ readSecond s m k n limit x
+  module _ {lo hi : ℕ} (el : lo ≡ secondLeastOf k n) (eh : hi ≡ secondMostOf k n) (h : m / 64 % 2 ≡ 1) where
+    pub second-fails : {e : Refusal} → readList s lo hi x ≡ NoList e → NoList e ≡ readSecond s m k n limit x
     unfolding readSecond
-    second-let e = rw (bit-on 64 m h, r, eq-eqb k 9 e)
+    second-fails r = simp (bit-on 64 m h, rw (el, eh) at r)
 
-    pub second-far : (k ≡ 9 → ⊥) → allBelow limit (numbersAt s a q) ≡ false → NoList Reference ≡ readSecond s m k n limit x
-    unfolding readSecond
-    second-far o t = rw (bit-on 64 m h, r, ne-eqb k 9 o, t)
+    module _ {a q : ℕ} {c : Cursor} (r : readList s lo hi x ≡ Found a q c) where
+      pub second-let : k ≡ 9 → Found a q c ≡ readSecond s m k n limit x
+      unfolding readSecond
+      second-let e = rw (bit-on 64 m h, rw (el, eh) at r, eq-eqb k 9 e)
 
-    pub second-are : (k ≡ 9 → ⊥) → allBelow limit (numbersAt s a q) ≡ true → Found a q c ≡ readSecond s m k n limit x
-    unfolding readSecond
-    second-are o t = rw (bit-on 64 m h, r, ne-eqb k 9 o, t)
+      pub second-far : (k ≡ 9 → ⊥) → allBelow limit (numbersAt s a q) ≡ false → NoList Reference ≡ readSecond s m k n limit x
+      unfolding readSecond
+      second-far o t = rw (bit-on 64 m h, rw (el, eh) at r, ne-eqb k 9 o, t)
+
+      pub second-are : (k ≡ 9 → ⊥) → allBelow limit (numbersAt s a q) ≡ true → Found a q c ≡ readSecond s m k n limit x
+      unfolding readSecond
+      second-are o t = rw (bit-on 64 m h, rw (el, eh) at r, ne-eqb k 9 o, t)
 
 -- PAIRS
 module _ (s : List ℕ) (m sorts x : ℕ) where
@@ -285,11 +287,11 @@ module _ (s : List ℕ) (m sorts x : ℕ) where
   unfolding readPairs
   pairs-off h = simp (bit-off 32 m h)
 
-  pub pairs-fail : (e : Refusal) → m / 32 % 2 ≡ 1 → readByte s x ≡ NoNumber e → NoList e ≡ readPairs s m sorts x
+  pub pairs-fail : {e : Refusal} → m / 32 % 2 ≡ 1 → readByte s x ≡ NoNumber e → NoList e ≡ readPairs s m sorts x
   unfolding readPairs
-  pairs-fail e h r = simp (bit-on 32 m h, r)
+  pairs-fail h r = simp (bit-on 32 m h, r)
 
-  module _ (n : ℕ) (c : Cursor) (h : m / 32 % 2 ≡ 1) (r : readByte s x ≡ Number n c) where
+  module _ {n : ℕ} {c : Cursor} (h : m / 32 % 2 ≡ 1) (r : readByte s x ≡ Number n c) where
     pub pairs-short : length s < c .at + 4 * n → NoList PastEnd ≡ readPairs s m sorts x
     unfolding readPairs
     pairs-short l = simp (bit-on 32 m h, r, lt-leb (c .at + 4 * n) (length s) l)
@@ -308,131 +310,133 @@ module _ (s : List ℕ) (m sorts x : ℕ) where
     pairs-are l o t = simp (bit-on 32 m h, r, le-leb (c .at + 4 * n) (length s) l, le-leb n 64 o, t)
 
 -- THE SORT RECORD: its lists, its fields one after the other, and the whole
-module _ (s : List ℕ) (m i : ℕ) (f : Scalars) (x : ℕ) where
-  pub sort-lists-1 : (e : Refusal) → readReferences s m (leastOf (f .kind)) (mostOf (f .kind)) i x ≡ NoList e → NoSort e ≡ readSortLists s m i f x
+module _ (s : List ℕ) (m i : ℕ) (f : Scalars) (x : ℕ) {lo hi : ℕ} (el : lo ≡ leastOf (f .kind)) (eh : hi ≡ mostOf (f .kind)) where
+  pub sort-lists-1 : {e : Refusal} → readReferences s m lo hi i x ≡ NoList e → NoSort e ≡ readSortLists s m i f x
   unfolding readSortLists
-  sort-lists-1 e r = simp r
+  sort-lists-1 r = simp (rw (el, eh) at r)
 
-  module _ (l n : ℕ) (c5 : Cursor) (r5 : readReferences s m (leastOf (f .kind)) (mostOf (f .kind)) i x ≡ Found l n c5) where
-    pub sort-lists-2 : (e : Refusal) → readNames s m 1 64 (c5 .at) ≡ NoList e → NoSort e ≡ readSortLists s m i f x
+  module _ {l n : ℕ} {c5 : Cursor} (r5 : readReferences s m lo hi i x ≡ Found l n c5) where
+    pub sort-lists-2 : {e : Refusal} → readNames s m 1 64 (c5 .at) ≡ NoList e → NoSort e ≡ readSortLists s m i f x
     unfolding readSortLists
-    sort-lists-2 e r6 = simp (r5, r6)
+    sort-lists-2 r6 = simp (rw (el, eh) at r5, r6)
 
-    pub sort-lists-3 : (ns q : ℕ) (c6 : Cursor) → readNames s m 1 64 (c5 .at) ≡ Found ns q c6 → Sort (sortOf f l n ns q) c6 ≡ readSortLists s m i f x
+    pub sort-lists-3 : {ns q : ℕ} {c6 : Cursor} → readNames s m 1 64 (c5 .at) ≡ Found ns q c6 → Sort (sortOf f l n ns q) c6 ≡ readSortLists s m i f x
     unfolding readSortLists
-    sort-lists-3 ns q c6 r6 = simp (r5, r6)
+    sort-lists-3 r6 = simp (rw (el, eh) at r5, r6)
 
 module _ (s : List ℕ) (m k i x : ℕ) where
-  pub sort-fields-1 : (e : Refusal) → readName s m x ≡ NoNumber e → NoSort e ≡ readSortFields s m k i x
+  pub sort-fields-1 : {e : Refusal} → readName s m x ≡ NoNumber e → NoSort e ≡ readSortFields s m k i x
   unfolding readSortFields
-  sort-fields-1 e r = simp r
+  sort-fields-1 r = simp r
 
-  module _ (a : ℕ) (c3 : Cursor) (r3 : readName s m x ≡ Number a c3) where
-    pub sort-fields-2 : (e : Refusal) → readNumber s m 65535 (c3 .at) ≡ NoNumber e → NoSort e ≡ readSortFields s m k i x
+  module _ {a : ℕ} {c3 : Cursor} (r3 : readName s m x ≡ Number a c3) where
+    pub sort-fields-2 : {e : Refusal} → readNumber s m 65535 (c3 .at) ≡ NoNumber e → NoSort e ≡ readSortFields s m k i x
     unfolding readSortFields
-    sort-fields-2 e r4 = simp (r3, r4)
+    sort-fields-2 r4 = simp (r3, r4)
 
-    pub sort-fields-3 : (w : ℕ) (c4 : Cursor) → readNumber s m 65535 (c3 .at) ≡ Number w c4 → readSortLists s m i (scalars k a w 0) (c4 .at) ≡ readSortFields s m k i x
+    pub sort-fields-3 : {w : ℕ} {c4 : Cursor} → readNumber s m 65535 (c3 .at) ≡ Number w c4 → readSortLists s m i (scalars k a w 0) (c4 .at) ≡ readSortFields s m k i x
     unfolding readSortFields readSortLists
-    sort-fields-3 w c4 r4 = simp (r3, r4)
+    sort-fields-3 r4 = simp (r3, r4)
 
 module _ (s : List ℕ) (i x : ℕ) where
-  pub sort-1 : (e : Refusal) → readHead s x ≡ NoHead e → NoSort e ≡ readSort s i x
+  pub sort-1 : {e : Refusal} → readHead s x ≡ NoHead e → NoSort e ≡ readSort s i x
   unfolding readSort
-  sort-1 e r = simp r
+  sort-1 r = simp r
 
-  module _ (m k : ℕ) (c : Cursor) (r : readHead s x ≡ Head m k c) where
-    pub sort-2 : (m ≡ mapOf k → ⊥) → NoSort Map ≡ readSort s i x
+  module _ {m k : ℕ} {c : Cursor} (r : readHead s x ≡ Head m k c) {right : ℕ} (er : right ≡ mapOf k) where
+    pub sort-2 : (m ≡ right → ⊥) → NoSort Map ≡ readSort s i x
     unfolding readSort
-    sort-2 o = simp (r, ne-eqb m (mapOf k) o)
+    sort-2 o = simp (r, ne-eqb m (mapOf k) (λ e. o (e ∙ sym er)))
 
-    pub sort-3 : m ≡ mapOf k → readSortFields s m k i (c .at) ≡ readSort s i x
+    pub sort-3 : m ≡ right → readSortFields s m k i (c .at) ≡ readSort s i x
     unfolding readSort
-    sort-3 o = simp (r, eq-eqb m (mapOf k) o)
+    sort-3 o = simp (r, eq-eqb m (mapOf k) (o ∙ er))
 
 -- THE TERM RECORD
-module _ (s : List ℕ) (m sorts t : ℕ) (f : Scalars) (x : ℕ) where
-  pub term-lists-1 : (e : Refusal) → readReferences s m (termLeastOf (f .kind)) (termMostOf (f .kind)) t x ≡ NoList e → NoTerm e ≡ readTermLists s m sorts t f x
+module _ (s : List ℕ) (m sorts t : ℕ) (f : Scalars) (x : ℕ) {lo hi : ℕ} (el : lo ≡ termLeastOf (f .kind)) (eh : hi ≡ termMostOf (f .kind)) where
+  pub term-lists-1 : {e : Refusal} → readReferences s m lo hi t x ≡ NoList e → NoTerm e ≡ readTermLists s m sorts t f x
   unfolding readTermLists
-  term-lists-1 e r = simp r
+  term-lists-1 r = simp (rw (el, eh) at r)
 
-  module _ (l n : ℕ) (c6 : Cursor) (r6 : readReferences s m (termLeastOf (f .kind)) (termMostOf (f .kind)) t x ≡ Found l n c6) where
-    pub term-lists-2 : (e : Refusal) → readPairs s m sorts (c6 .at) ≡ NoList e → NoTerm e ≡ readTermLists s m sorts t f x
+  module _ {l n : ℕ} {c6 : Cursor} (r6 : readReferences s m lo hi t x ≡ Found l n c6) where
+    pub term-lists-2 : {e : Refusal} → readPairs s m sorts (c6 .at) ≡ NoList e → NoTerm e ≡ readTermLists s m sorts t f x
     unfolding readTermLists
-    term-lists-2 e r7 = simp (r6, r7)
+    term-lists-2 r7 = simp (rw (el, eh) at r6, r7)
 
-    module _ (ps p : ℕ) (c7 : Cursor) (r7 : readPairs s m sorts (c6 .at) ≡ Found ps p c7) where
-      pub term-lists-3 : (e : Refusal) → readSecond s m (f .kind) n t (c7 .at) ≡ NoList e → NoTerm e ≡ readTermLists s m sorts t f x
+    module _ {ps p : ℕ} {c7 : Cursor} (r7 : readPairs s m sorts (c6 .at) ≡ Found ps p c7) where
+      pub term-lists-3 : {e : Refusal} → readSecond s m (f .kind) n t (c7 .at) ≡ NoList e → NoTerm e ≡ readTermLists s m sorts t f x
       unfolding readTermLists
-      term-lists-3 e r8 = simp (r6, r7, r8)
+      term-lists-3 r8 = simp (rw (el, eh) at r6, r7, r8)
 
-      pub term-lists-4 : (r q : ℕ) (c8 : Cursor) → readSecond s m (f .kind) n t (c7 .at) ≡ Found r q c8 → Term (termOf f l n ps p r q) c8 ≡ readTermLists s m sorts t f x
+      pub term-lists-4 : {r q : ℕ} {c8 : Cursor} {v : TermRecord} → v ≡ termOf f l n ps p r q → readSecond s m (f .kind) n t (c7 .at) ≡ Found r q c8
+          → Term v c8 ≡ readTermLists s m sorts t f x
       unfolding readTermLists
-      term-lists-4 r q c8 r8 = simp (r6, r7, r8)
+      term-lists-4 ev r8 = rw ev (simp (rw (el, eh) at r6, r7, r8))
 
 module _ (s : List ℕ) (m k sorts t x : ℕ) where
-  pub term-fields-1 : (e : Refusal) → readName s m x ≡ NoNumber e → NoTerm e ≡ readTermFields s m k sorts t x
+  pub term-fields-1 : {e : Refusal} → readName s m x ≡ NoNumber e → NoTerm e ≡ readTermFields s m k sorts t x
   unfolding readTermFields
-  term-fields-1 e r = simp r
+  term-fields-1 r = simp r
 
-  module _ (a : ℕ) (c3 : Cursor) (r3 : readName s m x ≡ Number a c3) where
-    pub term-fields-2 : (e : Refusal) → readNumber s m (termNumberOf k) (c3 .at) ≡ NoNumber e → NoTerm e ≡ readTermFields s m k sorts t x
-    unfolding readTermFields
-    term-fields-2 e r4 = simp (r3, r4)
-
-    module _ (w : ℕ) (c4 : Cursor) (r4 : readNumber s m (termNumberOf k) (c3 .at) ≡ Number w c4) where
-      pub term-fields-3 : (e : Refusal) → readOwn s m sorts (c4 .at) ≡ NoNumber e → NoTerm e ≡ readTermFields s m k sorts t x
+  module _ {a : ℕ} {c3 : Cursor} (r3 : readName s m x ≡ Number a c3) where
+    module _ {most : ℕ} (em : most ≡ termNumberOf k) where
+      pub term-fields-2 : {e : Refusal} → readNumber s m most (c3 .at) ≡ NoNumber e → NoTerm e ≡ readTermFields s m k sorts t x
       unfolding readTermFields
-      term-fields-3 e r5 = simp (r3, r4, r5)
+      term-fields-2 r4 = simp (r3, rw em at r4)
 
-      pub term-fields-4 : (o : ℕ) (c5 : Cursor) → readOwn s m sorts (c4 .at) ≡ Number o c5
-          → readTermLists s m sorts t (scalars k a w o) (c5 .at) ≡ readTermFields s m k sorts t x
-      unfolding readTermFields readTermLists
-      term-fields-4 o c5 r5 = simp (r3, r4, r5)
+      module _ {w : ℕ} {c4 : Cursor} (r4 : readNumber s m most (c3 .at) ≡ Number w c4) where
+        pub term-fields-3 : {e : Refusal} → readOwn s m sorts (c4 .at) ≡ NoNumber e → NoTerm e ≡ readTermFields s m k sorts t x
+        unfolding readTermFields
+        term-fields-3 r5 = simp (r3, rw em at r4, r5)
+
+        pub term-fields-4 : {o : ℕ} {c5 : Cursor} → readOwn s m sorts (c4 .at) ≡ Number o c5
+            → readTermLists s m sorts t (scalars k a w o) (c5 .at) ≡ readTermFields s m k sorts t x
+        unfolding readTermFields readTermLists
+        term-fields-4 r5 = simp (r3, rw em at r4, r5)
 
 module _ (s : List ℕ) (sorts t x : ℕ) where
-  pub term-1 : (e : Refusal) → readHead s x ≡ NoHead e → NoTerm e ≡ readTerm s sorts t x
+  pub term-1 : {e : Refusal} → readHead s x ≡ NoHead e → NoTerm e ≡ readTerm s sorts t x
   unfolding readTerm
-  term-1 e r = simp r
+  term-1 r = simp r
 
-  module _ (m k : ℕ) (c : Cursor) (r : readHead s x ≡ Head m k c) where
-    pub term-2 : (m ≡ termMapOf k → ⊥) → NoTerm Map ≡ readTerm s sorts t x
+  module _ {m k : ℕ} {c : Cursor} (r : readHead s x ≡ Head m k c) {right : ℕ} (er : right ≡ termMapOf k) where
+    pub term-2 : (m ≡ right → ⊥) → NoTerm Map ≡ readTerm s sorts t x
     unfolding readTerm
-    term-2 o = simp (r, ne-eqb m (termMapOf k) o)
+    term-2 o = simp (r, ne-eqb m (termMapOf k) (λ e. o (e ∙ sym er)))
 
-    pub term-3 : m ≡ termMapOf k → readTermFields s m k sorts t (c .at) ≡ readTerm s sorts t x
+    pub term-3 : m ≡ right → readTermFields s m k sorts t (c .at) ≡ readTerm s sorts t x
     unfolding readTerm
-    term-3 o = simp (r, eq-eqb m (termMapOf k) o)
+    term-3 o = simp (r, eq-eqb m (termMapOf k) (o ∙ er))
 
 -- THE QUESTION RECORD
-module _ (s : List ℕ) (m k sorts x : ℕ) where
-  pub question-fields-1 : (e : Refusal) → readReferences s m (questionLeastOf k) (questionMostOf k) sorts x ≡ NoList e → NoQuestion e ≡ readQuestionFields s m k sorts x
+module _ (s : List ℕ) (m k sorts x : ℕ) {lo hi : ℕ} (el : lo ≡ questionLeastOf k) (eh : hi ≡ questionMostOf k) where
+  pub question-fields-1 : {e : Refusal} → readReferences s m lo hi sorts x ≡ NoList e → NoQuestion e ≡ readQuestionFields s m k sorts x
   unfolding readQuestionFields
-  question-fields-1 e r = simp r
+  question-fields-1 r = simp (rw (el, eh) at r)
 
-  module _ (l n : ℕ) (c4 : Cursor) (r4 : readReferences s m (questionLeastOf k) (questionMostOf k) sorts x ≡ Found l n c4) where
-    pub question-fields-2 : (e : Refusal) → readNames s m (namesLeastOf k n) (namesMostOf k n) (c4 .at) ≡ NoList e → NoQuestion e ≡ readQuestionFields s m k sorts x
+  module _ {l n : ℕ} {c4 : Cursor} (r4 : readReferences s m lo hi sorts x ≡ Found l n c4) {few many : ℕ} (ef : few ≡ namesLeastOf k n) (em : many ≡ namesMostOf k n) where
+    pub question-fields-2 : {e : Refusal} → readNames s m few many (c4 .at) ≡ NoList e → NoQuestion e ≡ readQuestionFields s m k sorts x
     unfolding readQuestionFields
-    question-fields-2 e r5 = simp (r4, r5)
+    question-fields-2 r5 = simp (rw (el, eh) at r4, rw (ef, em) at r5)
 
-    pub question-fields-3 : (ns q : ℕ) (c5 : Cursor) → readNames s m (namesLeastOf k n) (namesMostOf k n) (c4 .at) ≡ Found ns q c5
+    pub question-fields-3 : {ns q : ℕ} {c5 : Cursor} → readNames s m few many (c4 .at) ≡ Found ns q c5
         → Question (record { kind = k; list = l; count = n; names = ns; named = q }) c5 ≡ readQuestionFields s m k sorts x
     unfolding readQuestionFields
-    question-fields-3 ns q c5 r5 = simp (r4, r5)
+    question-fields-3 r5 = simp (rw (el, eh) at r4, rw (ef, em) at r5)
 
 module _ (s : List ℕ) (sorts x : ℕ) where
-  pub question-1 : (e : Refusal) → readHead s x ≡ NoHead e → NoQuestion e ≡ readQuestion s sorts x
+  pub question-1 : {e : Refusal} → readHead s x ≡ NoHead e → NoQuestion e ≡ readQuestion s sorts x
   unfolding readQuestion
-  question-1 e r = simp r
+  question-1 r = simp r
 
-  module _ (m k : ℕ) (c : Cursor) (r : readHead s x ≡ Head m k c) where
-    pub question-2 : (m ≡ questionMapOf k → ⊥) → NoQuestion Map ≡ readQuestion s sorts x
+  module _ {m k : ℕ} {c : Cursor} (r : readHead s x ≡ Head m k c) {right : ℕ} (er : right ≡ questionMapOf k) where
+    pub question-2 : (m ≡ right → ⊥) → NoQuestion Map ≡ readQuestion s sorts x
     unfolding readQuestion
-    question-2 o = simp (r, ne-eqb m (questionMapOf k) o)
+    question-2 o = simp (r, ne-eqb m (questionMapOf k) (λ e. o (e ∙ sym er)))
 
-    pub question-3 : m ≡ questionMapOf k → readQuestionFields s m k sorts (c .at) ≡ readQuestion s sorts x
+    pub question-3 : m ≡ right → readQuestionFields s m k sorts (c .at) ≡ readQuestion s sorts x
     unfolding readQuestion
-    question-3 o = simp (r, eq-eqb m (questionMapOf k) o)
+    question-3 o = simp (r, eq-eqb m (questionMapOf k) (o ∙ er))
 
 -- THE NUMBERS OF A LIST ONE AFTER THE OTHER, as the loops over them ask
 pub numbers-more : (b : List ℕ) (x n : ℕ) → 0 < n → numbersAt b x n ≡ u16At b x ∷ numbersAt b (x + 2) (n - 1)

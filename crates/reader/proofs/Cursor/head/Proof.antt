@@ -18,7 +18,8 @@ returns c =
     let a = c .before .before .before .before .before .before .args in
     let s = a .s .now in
     let x = a .self .at in
-    head-2 s x (c .before .before .first .given .0 .0) (c .before .before .first .given .0 .1 .0) (sym (c .before .before .before .before .byte .ensures) ∙ c .before .before .first .given .1) (c .if1 .taken)
+    let r = sym (c .before .before .before .before .byte .ensures) ∙ c .before .before .first .given .1 in
+    head-2 s x r (c .if1 .taken)
 
 byte-requires-2 : tie.Need-byte-requires-2
 byte-requires-2 c κs = search needs
@@ -37,21 +38,23 @@ returns-2 c =
     let a = c .before .before .before .before .before .before .before .before .before .before .args in
     let s = a .s .now in
     let x = a .self .at in
-    head-4 s x (c .before .before .before .before .before .before .first .given .0 .0) (c .before .before .before .before .before .before .first .given .0 .1 .0) (sym (c .before .before .before .before .before .before .before .before .byte .ensures) ∙ c .before .before .before .before .before .before .first .given .1) (c .before .second .given .0 .0) (c .before .second .given .0 .1 .0) (c .before .before .before .before .if1 .left) (sym (c .before .before .before .byte2 .ensures) ∙ c .before .second .given .1)
+    let r = sym (c .before .before .before .before .before .before .before .before .byte .ensures) ∙ c .before .before .before .before .before .before .first .given .1 in
+    head-4 s x r (c .before .before .before .before .if1 .left) (sym (c .before .before .before .byte2 .ensures) ∙ c .before .second .given .1)
 
 returns-3 : tie.Need-returns-3
 returns-3 c =
     let a = c .before .before .before .before .before .before .before .before .before .before .args in
     let s = a .s .now in
     let x = a .self .at in
-    head-3 s x (c .before .before .before .before .before .before .first .given .0 .0) (c .before .before .before .before .before .before .first .given .0 .1 .0) (sym (c .before .before .before .before .before .before .before .before .byte .ensures) ∙ c .before .before .before .before .before .before .first .given .1) (c .before .second2 .given .0 .0) (c .before .before .before .before .if1 .left) (sym (c .before .before .before .byte2 .ensures) ∙ c .before .second2 .given .1)
+    let r = sym (c .before .before .before .before .before .before .before .before .byte .ensures) ∙ c .before .before .before .before .before .before .first .given .1 in
+    head-3 s x r (c .before .before .before .before .if1 .left) (sym (c .before .before .before .byte2 .ensures) ∙ c .before .second2 .given .1)
 
 returns-4 : tie.Need-returns-4
 returns-4 c =
     let a = c .before .before .before .before .before .args in
     let s = a .s .now in
     let x = a .self .at in
-    head-1 s x (c .before .first2 .given .0 .0) (sym (c .before .before .before .byte .ensures) ∙ c .before .first2 .given .1)
+    head-1 s x (sym (c .before .before .before .byte .ensures) ∙ c .before .first2 .given .1)
 
 pub head-spec : {M : Type 1} → statement M
 head-spec = tie.close (tie.spec byte-requires enum-known-first returns byte-requires-2 enum-known-second enum-known-second-2 enum-known-first-2 returns-2 returns-3 returns-4)

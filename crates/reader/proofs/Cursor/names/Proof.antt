@@ -25,20 +25,16 @@ distinct-at-requires c κs =
     let a = c .before .before .before .before .before .before .args in
     let s = a .s .now in
     let x = a .self .at in
-    let y = c .before .read .given .0 .0 in
-    let n = c .before .read .given .0 .1 .0 in
-    let k = c .before .read .given .0 .1 .1 .0 in
-    list-within s (a .least) (a .most) x y n k (sym (c .before .before .before .list .ensures) ∙ c .before .read .given .1)
+    let r = sym (c .before .before .before .list .ensures) ∙ c .before .read .given .1 in
+    list-within s (a .least) (a .most) x r
 
 returns-2 : tie.Need-returns-2
 returns-2 c =
     let a = c .before .before .before .before .before .before .before .before .args in
     let s = a .s .now in
     let x = a .self .at in
-    let y = c .before .before .before .read .given .0 .0 in
-    let n = c .before .before .before .read .given .0 .1 .0 in
-    let k = c .before .before .before .read .given .0 .1 .1 .0 in
-    names-are s (a .map) (a .least) (a .most) x y n k (c .before .before .before .before .before .before .if1 .left) (sym (c .before .before .before .before .before .list .ensures) ∙ c .before .before .before .read .given .1) (sym (c .before .distinct-at .ensures) ∙ c .if2 .taken)
+    let r = sym (c .before .before .before .before .before .list .ensures) ∙ c .before .before .before .read .given .1 in
+    names-are s (a .map) (a .least) (a .most) x (c .before .before .before .before .before .before .if1 .left) r (sym (c .before .distinct-at .ensures) ∙ c .if2 .taken)
 
 enum-known-read-2 : tie.Need-enum-known-read-2
 enum-known-read-2 c = search needs
@@ -48,17 +44,15 @@ returns-3 c =
     let a = c .before .before .before .before .before .before .before .before .args in
     let s = a .s .now in
     let x = a .self .at in
-    let y = c .before .before .before .read .given .0 .0 in
-    let n = c .before .before .before .read .given .0 .1 .0 in
-    let k = c .before .before .before .read .given .0 .1 .1 .0 in
-    names-twice s (a .map) (a .least) (a .most) x y n k (c .before .before .before .before .before .before .if1 .left) (sym (c .before .before .before .before .before .list .ensures) ∙ c .before .before .before .read .given .1) (sym (c .before .distinct-at .ensures) ∙ c .if2 .left)
+    let r = sym (c .before .before .before .before .before .list .ensures) ∙ c .before .before .before .read .given .1 in
+    names-twice s (a .map) (a .least) (a .most) x (c .before .before .before .before .before .before .if1 .left) r (sym (c .before .distinct-at .ensures) ∙ c .if2 .left)
 
 returns-4 : tie.Need-returns-4
 returns-4 c =
     let a = c .before .before .before .before .before .before .args in
     let s = a .s .now in
     let x = a .self .at in
-    names-fail s (a .map) (a .least) (a .most) x (c .before .read2 .given .0 .0) (c .before .before .before .before .if1 .left) (sym (c .before .before .before .list .ensures) ∙ c .before .read2 .given .1)
+    names-fail s (a .map) (a .least) (a .most) x (c .before .before .before .before .if1 .left) (sym (c .before .before .before .list .ensures) ∙ c .before .read2 .given .1)
 
 pub names-spec : {M : Type 1} → statement M
 names-spec = tie.close (tie.spec returns list-requires enum-known-read distinct-at-requires returns-2 enum-known-read-2 returns-3 returns-4)

@@ -25,7 +25,7 @@ returns-2 c =
     let a = c .before .before .before .before .before .before .before .args in
     let s = a .s .now in
     let x = a .self .at in
-    own-far s (a .map) (a .sorts) x (c .before .before .read .given .0 .0) (c .before .before .read .given .0 .1 .0) (c .before .before .before .before .before .if1 .left) (sym (c .before .before .before .before .u16 .ensures) ∙ c .before .before .read .given .1) (c .if2 .taken)
+    own-far s (a .map) (a .sorts) x (c .before .before .before .before .before .if1 .left) (sym (c .before .before .before .before .u16 .ensures) ∙ c .before .before .read .given .1) (c .if2 .taken)
 
 enum-known-read-2 : tie.Need-enum-known-read-2
 enum-known-read-2 c = search needs
@@ -35,14 +35,14 @@ returns-3 c =
     let a = c .before .before .before .before .before .before .before .args in
     let s = a .s .now in
     let x = a .self .at in
-    own-is s (a .map) (a .sorts) x (c .before .before .read .given .0 .0) (c .before .before .read .given .0 .1 .0) (c .before .before .before .before .before .if1 .left) (sym (c .before .before .before .before .u16 .ensures) ∙ c .before .before .read .given .1) (c .if2 .left)
+    own-is s (a .map) (a .sorts) x (c .before .before .before .before .before .if1 .left) (sym (c .before .before .before .before .u16 .ensures) ∙ c .before .before .read .given .1) (c .if2 .left)
 
 returns-4 : tie.Need-returns-4
 returns-4 c =
     let a = c .before .before .before .before .before .before .args in
     let s = a .s .now in
     let x = a .self .at in
-    own-fails s (a .map) (a .sorts) x (c .before .read2 .given .0 .0) (c .before .before .before .before .if1 .left) (sym (c .before .before .before .u16 .ensures) ∙ c .before .read2 .given .1)
+    own-fails s (a .map) (a .sorts) x (c .before .before .before .before .if1 .left) (sym (c .before .before .before .u16 .ensures) ∙ c .before .read2 .given .1)
 
 pub own-spec : {M : Type 1} → statement M
 own-spec = tie.close (tie.spec returns u16-requires enum-known-read returns-2 enum-known-read-2 returns-3 returns-4)

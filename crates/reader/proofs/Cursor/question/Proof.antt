@@ -21,7 +21,8 @@ returns c =
     let a = c .before .before .before .before .before .before .before .args in
     let s = a .s .now in
     let x = a .self .at in
-    question-2 s (a .sorts) x (c .before .before .before .first .given .0 .0) (c .before .before .before .first .given .0 .1 .0) (c .before .before .before .first .given .0 .1 .1 .0) (sym (c .before .before .before .before .before .head .ensures) ∙ c .before .before .before .first .given .1) (λ e. c .if1 .taken (e ∙ sym (c .before .question-map-of .ensures)))
+    let r = sym (c .before .before .before .before .before .head .ensures) ∙ c .before .before .before .first .given .1 in
+    question-2 s (a .sorts) x r (c .before .question-map-of .ensures) (c .if1 .taken)
 
 question-fields-requires : tie.Need-question-fields-requires
 question-fields-requires c κs = search needs
@@ -34,14 +35,15 @@ returns-2 c =
     let a = c .before .before .before .before .before .before .before .before .args in
     let s = a .s .now in
     let x = a .self .at in
-    c .question-fields .ensures ∙ question-3 s (a .sorts) x (c .before .before .before .before .first .given .0 .0) (c .before .before .before .before .first .given .0 .1 .0) (c .before .before .before .before .first .given .0 .1 .1 .0) (sym (c .before .before .before .before .before .before .head .ensures) ∙ c .before .before .before .before .first .given .1) (c .before .if1 .left ∙ c .before .before .question-map-of .ensures)
+    let r = sym (c .before .before .before .before .before .before .head .ensures) ∙ c .before .before .before .before .first .given .1 in
+    c .question-fields .ensures ∙ question-3 s (a .sorts) x r (c .before .before .question-map-of .ensures) (c .before .if1 .left)
 
 returns-3 : tie.Need-returns-3
 returns-3 c =
     let a = c .before .before .before .before .before .args in
     let s = a .s .now in
     let x = a .self .at in
-    question-1 s (a .sorts) x (c .before .first2 .given .0 .0) (sym (c .before .before .before .head .ensures) ∙ c .before .first2 .given .1)
+    question-1 s (a .sorts) x (sym (c .before .before .before .head .ensures) ∙ c .before .first2 .given .1)
 
 pub question-spec : {M : Type 1} → statement M
 question-spec = tie.close (tie.spec head-requires enum-known-first question-map-of-requires returns question-fields-requires enum-known-first-2 returns-2 returns-3)

@@ -4,8 +4,6 @@ use native.Mathlib.Omega.{arith}
 use borrow.Author.Needs.{needs}
 use Rattle.reader.specs.Cases.{question-fields-1, question-fields-2, question-fields-3}
 use mathlib.Core.Path.{_≡_, refl, sym, _∙_}
-use Rattle.reader.specs.Tables.{questionLeastOf, questionMostOf, namesLeastOf, namesMostOf}
-use Rattle.reader.specs.Reader.{readReferences, readNames}
 use Rattle.reader.proofs.Cursor.question_fields.Statement.{statement}
 use Rattle.reader.proofs.Cursor.question_fields.Tie as tie
 
@@ -44,30 +42,26 @@ returns c =
     let a = c .before .before .before .before .before .before .before .before .before .before .before .before .before .args in
     let s = a .s .now in
     let x = a .self .at in
-    let r : c .before .before .before .before .before .before .before .before .before .references .result ≡ readReferences s (a .map) (questionLeastOf (a .kind)) (questionMostOf (a .kind)) (a .sorts) x = rw (c .before .before .before .before .before .before .before .before .before .before .before .question-least-of .ensures, c .before .before .before .before .before .before .before .before .before .before .question-most-of .ensures) at (c .before .before .before .before .before .before .before .before .before .references .ensures) in
-    let n = c .before .before .before .before .before .before .before .first .given .0 .1 .0 in
-    let c4 = c .before .before .before .before .before .before .before .first .given .0 .1 .1 .0 in
-    let o : c .before .before .before .names .result ≡ readNames s (a .map) (namesLeastOf (a .kind) n) (namesMostOf (a .kind) n) (c4 .at) = rw (c .before .before .before .before .before .names-least-of .ensures, c .before .before .before .before .names-most-of .ensures) at (c .before .before .before .names .ensures) in
-    question-fields-3 s (a .map) (a .kind) (a .sorts) x (c .before .before .before .before .before .before .before .first .given .0 .0) (c .before .before .before .before .before .before .before .first .given .0 .1 .0) (c .before .before .before .before .before .before .before .first .given .0 .1 .1 .0) (sym r ∙ c .before .before .before .before .before .before .before .first .given .1) (c .before .last .given .0 .0) (c .before .last .given .0 .1 .0) (c .before .last .given .0 .1 .1 .0) (sym o ∙ c .before .last .given .1)
+    let l = sym (c .before .before .before .before .before .before .before .before .before .references .ensures) ∙ c .before .before .before .before .before .before .before .first .given .1 in
+    let ns = sym (c .before .before .before .names .ensures) ∙ c .before .last .given .1 in
+    question-fields-3 s (a .map) (a .kind) (a .sorts) x (c .before .before .before .before .before .before .before .before .before .before .before .question-least-of .ensures) (c .before .before .before .before .before .before .before .before .before .before .question-most-of .ensures) l (c .before .before .before .before .before .names-least-of .ensures) (c .before .before .before .before .names-most-of .ensures) ns
 
 returns-2 : tie.Need-returns-2
 returns-2 c =
     let a = c .before .before .before .before .before .before .before .before .before .before .before .before .before .args in
     let s = a .s .now in
     let x = a .self .at in
-    let r : c .before .before .before .before .before .before .before .before .before .references .result ≡ readReferences s (a .map) (questionLeastOf (a .kind)) (questionMostOf (a .kind)) (a .sorts) x = rw (c .before .before .before .before .before .before .before .before .before .before .before .question-least-of .ensures, c .before .before .before .before .before .before .before .before .before .before .question-most-of .ensures) at (c .before .before .before .before .before .before .before .before .before .references .ensures) in
-    let n = c .before .before .before .before .before .before .before .first .given .0 .1 .0 in
-    let c4 = c .before .before .before .before .before .before .before .first .given .0 .1 .1 .0 in
-    let o : c .before .before .before .names .result ≡ readNames s (a .map) (namesLeastOf (a .kind) n) (namesMostOf (a .kind) n) (c4 .at) = rw (c .before .before .before .before .before .names-least-of .ensures, c .before .before .before .before .names-most-of .ensures) at (c .before .before .before .names .ensures) in
-    question-fields-2 s (a .map) (a .kind) (a .sorts) x (c .before .before .before .before .before .before .before .first .given .0 .0) (c .before .before .before .before .before .before .before .first .given .0 .1 .0) (c .before .before .before .before .before .before .before .first .given .0 .1 .1 .0) (sym r ∙ c .before .before .before .before .before .before .before .first .given .1) (c .before .last2 .given .0 .0) (sym o ∙ c .before .last2 .given .1)
+    let l = sym (c .before .before .before .before .before .before .before .before .before .references .ensures) ∙ c .before .before .before .before .before .before .before .first .given .1 in
+    let ns = sym (c .before .before .before .names .ensures) ∙ c .before .last2 .given .1 in
+    question-fields-2 s (a .map) (a .kind) (a .sorts) x (c .before .before .before .before .before .before .before .before .before .before .before .question-least-of .ensures) (c .before .before .before .before .before .before .before .before .before .before .question-most-of .ensures) l (c .before .before .before .before .before .names-least-of .ensures) (c .before .before .before .before .names-most-of .ensures) ns
 
 returns-3 : tie.Need-returns-3
 returns-3 c =
     let a = c .before .before .before .before .before .before .before .args in
     let s = a .s .now in
     let x = a .self .at in
-    let r : c .before .before .before .references .result ≡ readReferences s (a .map) (questionLeastOf (a .kind)) (questionMostOf (a .kind)) (a .sorts) x = rw (c .before .before .before .before .before .question-least-of .ensures, c .before .before .before .before .question-most-of .ensures) at (c .before .before .before .references .ensures) in
-    question-fields-1 s (a .map) (a .kind) (a .sorts) x (c .before .first2 .given .0 .0) (sym r ∙ c .before .first2 .given .1)
+    let l = sym (c .before .before .before .references .ensures) ∙ c .before .first2 .given .1 in
+    question-fields-1 s (a .map) (a .kind) (a .sorts) x (c .before .before .before .before .before .question-least-of .ensures) (c .before .before .before .before .question-most-of .ensures) l
 
 pub question-fields-spec : {M : Type 1} → statement M
 question-fields-spec = tie.close (tie.spec question-least-of-requires question-most-of-requires references-requires enum-known-first names-least-of-requires names-most-of-requires names-requires enum-known-last enum-known-last-2 enum-known-first-2 returns returns-2 returns-3)

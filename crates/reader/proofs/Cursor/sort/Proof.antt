@@ -21,7 +21,8 @@ returns c =
     let a = c .before .before .before .before .before .before .before .args in
     let s = a .s .now in
     let x = a .self .at in
-    sort-2 s (a .index) x (c .before .before .before .first .given .0 .0) (c .before .before .before .first .given .0 .1 .0) (c .before .before .before .first .given .0 .1 .1 .0) (sym (c .before .before .before .before .before .head .ensures) ∙ c .before .before .before .first .given .1) (λ e. c .if1 .taken (e ∙ sym (c .before .map-of .ensures)))
+    let r = sym (c .before .before .before .before .before .head .ensures) ∙ c .before .before .before .first .given .1 in
+    sort-2 s (a .index) x r (c .before .map-of .ensures) (c .if1 .taken)
 
 sort-fields-requires : tie.Need-sort-fields-requires
 sort-fields-requires c κs = search needs
@@ -34,14 +35,15 @@ returns-2 c =
     let a = c .before .before .before .before .before .before .before .before .args in
     let s = a .s .now in
     let x = a .self .at in
-    c .sort-fields .ensures ∙ sort-3 s (a .index) x (c .before .before .before .before .first .given .0 .0) (c .before .before .before .before .first .given .0 .1 .0) (c .before .before .before .before .first .given .0 .1 .1 .0) (sym (c .before .before .before .before .before .before .head .ensures) ∙ c .before .before .before .before .first .given .1) (c .before .if1 .left ∙ c .before .before .map-of .ensures)
+    let r = sym (c .before .before .before .before .before .before .head .ensures) ∙ c .before .before .before .before .first .given .1 in
+    c .sort-fields .ensures ∙ sort-3 s (a .index) x r (c .before .before .map-of .ensures) (c .before .if1 .left)
 
 returns-3 : tie.Need-returns-3
 returns-3 c =
     let a = c .before .before .before .before .before .args in
     let s = a .s .now in
     let x = a .self .at in
-    sort-1 s (a .index) x (c .before .first2 .given .0 .0) (sym (c .before .before .before .head .ensures) ∙ c .before .first2 .given .1)
+    sort-1 s (a .index) x (sym (c .before .before .before .head .ensures) ∙ c .before .first2 .given .1)
 
 pub sort-spec : {M : Type 1} → statement M
 sort-spec = tie.close (tie.spec head-requires enum-known-first map-of-requires returns sort-fields-requires enum-known-first-2 returns-2 returns-3)

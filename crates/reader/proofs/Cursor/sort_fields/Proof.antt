@@ -33,21 +33,26 @@ returns c =
     let a = c .before .before .before .before .before .before .before .before .before .before .args in
     let s = a .s .now in
     let x = a .self .at in
-    c .sort-lists .ensures ∙ sort-fields-3 s (a .map) (a .kind) (a .index) x (c .before .before .before .before .before .before .first .given .0 .0) (c .before .before .before .before .before .before .first .given .0 .1 .0) (sym (c .before .before .before .before .before .before .before .before .name .ensures) ∙ c .before .before .before .before .before .before .first .given .1) (c .before .before .last .given .0 .0) (c .before .before .last .given .0 .1 .0) (sym (c .before .before .before .before .number .ensures) ∙ c .before .before .last .given .1)
+    let v = sym (c .before .before .before .before .before .before .before .before .name .ensures) ∙ c .before .before .before .before .before .before .first .given .1 in
+    let w = sym (c .before .before .before .before .number .ensures) ∙ c .before .before .last .given .1 in
+    c .sort-lists .ensures ∙ sort-fields-3 s (a .map) (a .kind) (a .index) x v w
 
 returns-2 : tie.Need-returns-2
 returns-2 c =
     let a = c .before .before .before .before .before .before .before .before .before .args in
     let s = a .s .now in
     let x = a .self .at in
-    sort-fields-2 s (a .map) (a .kind) (a .index) x (c .before .before .before .before .before .first .given .0 .0) (c .before .before .before .before .before .first .given .0 .1 .0) (sym (c .before .before .before .before .before .before .before .name .ensures) ∙ c .before .before .before .before .before .first .given .1) (c .before .last2 .given .0 .0) (sym (c .before .before .before .number .ensures) ∙ c .before .last2 .given .1)
+    let v = sym (c .before .before .before .before .before .before .before .name .ensures) ∙ c .before .before .before .before .before .first .given .1 in
+    let w = sym (c .before .before .before .number .ensures) ∙ c .before .last2 .given .1 in
+    sort-fields-2 s (a .map) (a .kind) (a .index) x v w
 
 returns-3 : tie.Need-returns-3
 returns-3 c =
     let a = c .before .before .before .before .before .args in
     let s = a .s .now in
     let x = a .self .at in
-    sort-fields-1 s (a .map) (a .kind) (a .index) x (c .before .first2 .given .0 .0) (sym (c .before .before .before .name .ensures) ∙ c .before .first2 .given .1)
+    let v = sym (c .before .before .before .name .ensures) ∙ c .before .first2 .given .1 in
+    sort-fields-1 s (a .map) (a .kind) (a .index) x v
 
 pub sort-fields-spec : {M : Type 1} → statement M
 sort-fields-spec = tie.close (tie.spec name-requires enum-known-first number-requires enum-known-last sort-lists-requires enum-known-last-2 enum-known-first-2 returns returns-2 returns-3)

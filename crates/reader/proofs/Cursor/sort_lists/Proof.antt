@@ -4,8 +4,6 @@ use native.Mathlib.Omega.{arith}
 use borrow.Author.Needs.{needs}
 use Rattle.reader.specs.Cases.{sort-lists-1, sort-lists-2, sort-lists-3}
 use mathlib.Core.Path.{_≡_, refl, sym, _∙_}
-use Rattle.record.specs.Record.{leastOf, mostOf}
-use Rattle.reader.specs.Reader.{readReferences}
 use Rattle.reader.proofs.Cursor.sort_lists.Statement.{statement}
 use Rattle.reader.proofs.Cursor.sort_lists.Tie as tie
 
@@ -38,27 +36,26 @@ returns c =
     let a = c .before .before .before .before .before .before .before .before .before .before .before .args in
     let s = a .s .now in
     let x = a .self .at in
-    let f = a .found in
-    let r : c .before .before .before .before .before .before .before .references .result ≡ readReferences s (a .map) (leastOf (f .kind)) (mostOf (f .kind)) (a .index) x = rw (c .before .before .before .before .before .before .before .before .before .least-of .ensures, c .before .before .before .before .before .before .before .before .most-of .ensures) at (c .before .before .before .before .before .before .before .references .ensures) in
-    sort-lists-3 s (a .map) (a .index) f x (c .before .before .before .before .before .first .given .0 .0) (c .before .before .before .before .before .first .given .0 .1 .0) (c .before .before .before .before .before .first .given .0 .1 .1 .0) (sym r ∙ c .before .before .before .before .before .first .given .1) (c .before .last .given .0 .0) (c .before .last .given .0 .1 .0) (c .before .last .given .0 .1 .1 .0) (sym (c .before .before .before .names .ensures) ∙ c .before .last .given .1)
+    let l = sym (c .before .before .before .before .before .before .before .references .ensures) ∙ c .before .before .before .before .before .first .given .1 in
+    let ns = sym (c .before .before .before .names .ensures) ∙ c .before .last .given .1 in
+    sort-lists-3 s (a .map) (a .index) (a .found) x (c .before .before .before .before .before .before .before .before .before .least-of .ensures) (c .before .before .before .before .before .before .before .before .most-of .ensures) l ns
 
 returns-2 : tie.Need-returns-2
 returns-2 c =
     let a = c .before .before .before .before .before .before .before .before .before .before .before .args in
     let s = a .s .now in
     let x = a .self .at in
-    let f = a .found in
-    let r : c .before .before .before .before .before .before .before .references .result ≡ readReferences s (a .map) (leastOf (f .kind)) (mostOf (f .kind)) (a .index) x = rw (c .before .before .before .before .before .before .before .before .before .least-of .ensures, c .before .before .before .before .before .before .before .before .most-of .ensures) at (c .before .before .before .before .before .before .before .references .ensures) in
-    sort-lists-2 s (a .map) (a .index) f x (c .before .before .before .before .before .first .given .0 .0) (c .before .before .before .before .before .first .given .0 .1 .0) (c .before .before .before .before .before .first .given .0 .1 .1 .0) (sym r ∙ c .before .before .before .before .before .first .given .1) (c .before .last2 .given .0 .0) (sym (c .before .before .before .names .ensures) ∙ c .before .last2 .given .1)
+    let l = sym (c .before .before .before .before .before .before .before .references .ensures) ∙ c .before .before .before .before .before .first .given .1 in
+    let ns = sym (c .before .before .before .names .ensures) ∙ c .before .last2 .given .1 in
+    sort-lists-2 s (a .map) (a .index) (a .found) x (c .before .before .before .before .before .before .before .before .before .least-of .ensures) (c .before .before .before .before .before .before .before .before .most-of .ensures) l ns
 
 returns-3 : tie.Need-returns-3
 returns-3 c =
     let a = c .before .before .before .before .before .before .before .args in
     let s = a .s .now in
     let x = a .self .at in
-    let f = a .found in
-    let r : c .before .before .before .references .result ≡ readReferences s (a .map) (leastOf (f .kind)) (mostOf (f .kind)) (a .index) x = rw (c .before .before .before .before .before .least-of .ensures, c .before .before .before .before .most-of .ensures) at (c .before .before .before .references .ensures) in
-    sort-lists-1 s (a .map) (a .index) f x (c .before .first2 .given .0 .0) (sym r ∙ c .before .first2 .given .1)
+    let l = sym (c .before .before .before .references .ensures) ∙ c .before .first2 .given .1 in
+    sort-lists-1 s (a .map) (a .index) (a .found) x (c .before .before .before .before .before .least-of .ensures) (c .before .before .before .before .most-of .ensures) l
 
 pub sort-lists-spec : {M : Type 1} → statement M
 sort-lists-spec = tie.close (tie.spec least-of-requires most-of-requires references-requires enum-known-first names-requires enum-known-last enum-known-last-2 enum-known-first-2 returns returns-2 returns-3)

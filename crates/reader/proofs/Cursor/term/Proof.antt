@@ -21,7 +21,8 @@ returns c =
     let a = c .before .before .before .before .before .before .before .args in
     let s = a .s .now in
     let x = a .self .at in
-    term-2 s (a .sorts) (a .index) x (c .before .before .before .first .given .0 .0) (c .before .before .before .first .given .0 .1 .0) (c .before .before .before .first .given .0 .1 .1 .0) (sym (c .before .before .before .before .before .head .ensures) ∙ c .before .before .before .first .given .1) (λ e. c .if1 .taken (e ∙ sym (c .before .term-map-of .ensures)))
+    let r = sym (c .before .before .before .before .before .head .ensures) ∙ c .before .before .before .first .given .1 in
+    term-2 s (a .sorts) (a .index) x r (c .before .term-map-of .ensures) (c .if1 .taken)
 
 term-fields-requires : tie.Need-term-fields-requires
 term-fields-requires c κs = search needs
@@ -34,14 +35,15 @@ returns-2 c =
     let a = c .before .before .before .before .before .before .before .before .args in
     let s = a .s .now in
     let x = a .self .at in
-    c .term-fields .ensures ∙ term-3 s (a .sorts) (a .index) x (c .before .before .before .before .first .given .0 .0) (c .before .before .before .before .first .given .0 .1 .0) (c .before .before .before .before .first .given .0 .1 .1 .0) (sym (c .before .before .before .before .before .before .head .ensures) ∙ c .before .before .before .before .first .given .1) (c .before .if1 .left ∙ c .before .before .term-map-of .ensures)
+    let r = sym (c .before .before .before .before .before .before .head .ensures) ∙ c .before .before .before .before .first .given .1 in
+    c .term-fields .ensures ∙ term-3 s (a .sorts) (a .index) x r (c .before .before .term-map-of .ensures) (c .before .if1 .left)
 
 returns-3 : tie.Need-returns-3
 returns-3 c =
     let a = c .before .before .before .before .before .args in
     let s = a .s .now in
     let x = a .self .at in
-    term-1 s (a .sorts) (a .index) x (c .before .first2 .given .0 .0) (sym (c .before .before .before .head .ensures) ∙ c .before .first2 .given .1)
+    term-1 s (a .sorts) (a .index) x (sym (c .before .before .before .head .ensures) ∙ c .before .first2 .given .1)
 
 pub term-spec : {M : Type 1} → statement M
 term-spec = tie.close (tie.spec head-requires enum-known-first term-map-of-requires returns term-fields-requires enum-known-first-2 returns-2 returns-3)

@@ -4,8 +4,6 @@ use native.Mathlib.Omega.{arith}
 use borrow.Author.Needs.{needs}
 use Rattle.reader.specs.Cases.{term-fields-1, term-fields-2, term-fields-3, term-fields-4}
 use mathlib.Core.Path.{_≡_, refl, sym, _∙_}
-use Rattle.reader.specs.Tables.{termNumberOf}
-use Rattle.reader.specs.Reader.{readNumber}
 use Rattle.reader.proofs.Cursor.term_fields.Statement.{statement}
 use Rattle.reader.proofs.Cursor.term_fields.Tie as tie
 
@@ -47,34 +45,37 @@ returns c =
     let a = c .before .before .before .before .before .before .before .before .before .before .before .before .before .before .before .args in
     let s = a .s .now in
     let x = a .self .at in
-    let c3 = c .before .before .before .before .before .before .before .before .before .before .before .first .given .0 .1 .0 in
-    let r : c .before .before .before .before .before .before .before .before .number .result ≡ readNumber s (a .map) (termNumberOf (a .kind)) (c3 .at) = rw (c .before .before .before .before .before .before .before .before .before .term-number-of .ensures) at (c .before .before .before .before .before .before .before .before .number .ensures) in
-    c .term-lists .ensures ∙ term-fields-4 s (a .map) (a .kind) (a .sorts) (a .index) x (c .before .before .before .before .before .before .before .before .before .before .before .first .given .0 .0) (c .before .before .before .before .before .before .before .before .before .before .before .first .given .0 .1 .0) (sym (c .before .before .before .before .before .before .before .before .before .before .before .before .before .name .ensures) ∙ c .before .before .before .before .before .before .before .before .before .before .before .first .given .1) (c .before .before .before .before .before .before .between .given .0 .0) (c .before .before .before .before .before .before .between .given .0 .1 .0) (sym r ∙ c .before .before .before .before .before .before .between .given .1) (c .before .before .last .given .0 .0) (c .before .before .last .given .0 .1 .0) (sym (c .before .before .before .before .own .ensures) ∙ c .before .before .last .given .1)
+    let v = sym (c .before .before .before .before .before .before .before .before .before .before .before .before .before .name .ensures) ∙ c .before .before .before .before .before .before .before .before .before .before .before .first .given .1 in
+    let w = sym (c .before .before .before .before .before .before .before .before .number .ensures) ∙ c .before .before .before .before .before .before .between .given .1 in
+    let o = sym (c .before .before .before .before .own .ensures) ∙ c .before .before .last .given .1 in
+    c .term-lists .ensures ∙ term-fields-4 s (a .map) (a .kind) (a .sorts) (a .index) x v (c .before .before .before .before .before .before .before .before .before .term-number-of .ensures) w o
 
 returns-2 : tie.Need-returns-2
 returns-2 c =
     let a = c .before .before .before .before .before .before .before .before .before .before .before .before .before .before .args in
     let s = a .s .now in
     let x = a .self .at in
-    let c3 = c .before .before .before .before .before .before .before .before .before .before .first .given .0 .1 .0 in
-    let r : c .before .before .before .before .before .before .before .number .result ≡ readNumber s (a .map) (termNumberOf (a .kind)) (c3 .at) = rw (c .before .before .before .before .before .before .before .before .term-number-of .ensures) at (c .before .before .before .before .before .before .before .number .ensures) in
-    term-fields-3 s (a .map) (a .kind) (a .sorts) (a .index) x (c .before .before .before .before .before .before .before .before .before .before .first .given .0 .0) (c .before .before .before .before .before .before .before .before .before .before .first .given .0 .1 .0) (sym (c .before .before .before .before .before .before .before .before .before .before .before .before .name .ensures) ∙ c .before .before .before .before .before .before .before .before .before .before .first .given .1) (c .before .before .before .before .before .between .given .0 .0) (c .before .before .before .before .before .between .given .0 .1 .0) (sym r ∙ c .before .before .before .before .before .between .given .1) (c .before .last2 .given .0 .0) (sym (c .before .before .before .own .ensures) ∙ c .before .last2 .given .1)
+    let v = sym (c .before .before .before .before .before .before .before .before .before .before .before .before .name .ensures) ∙ c .before .before .before .before .before .before .before .before .before .before .first .given .1 in
+    let w = sym (c .before .before .before .before .before .before .before .number .ensures) ∙ c .before .before .before .before .before .between .given .1 in
+    let o = sym (c .before .before .before .own .ensures) ∙ c .before .last2 .given .1 in
+    term-fields-3 s (a .map) (a .kind) (a .sorts) (a .index) x v (c .before .before .before .before .before .before .before .before .term-number-of .ensures) w o
 
 returns-3 : tie.Need-returns-3
 returns-3 c =
     let a = c .before .before .before .before .before .before .before .before .before .before .args in
     let s = a .s .now in
     let x = a .self .at in
-    let c3 = c .before .before .before .before .before .before .first .given .0 .1 .0 in
-    let r : c .before .before .before .number .result ≡ readNumber s (a .map) (termNumberOf (a .kind)) (c3 .at) = rw (c .before .before .before .before .term-number-of .ensures) at (c .before .before .before .number .ensures) in
-    term-fields-2 s (a .map) (a .kind) (a .sorts) (a .index) x (c .before .before .before .before .before .before .first .given .0 .0) (c .before .before .before .before .before .before .first .given .0 .1 .0) (sym (c .before .before .before .before .before .before .before .before .name .ensures) ∙ c .before .before .before .before .before .before .first .given .1) (c .before .between2 .given .0 .0) (sym r ∙ c .before .between2 .given .1)
+    let v = sym (c .before .before .before .before .before .before .before .before .name .ensures) ∙ c .before .before .before .before .before .before .first .given .1 in
+    let w = sym (c .before .before .before .number .ensures) ∙ c .before .between2 .given .1 in
+    term-fields-2 s (a .map) (a .kind) (a .sorts) (a .index) x v (c .before .before .before .before .term-number-of .ensures) w
 
 returns-4 : tie.Need-returns-4
 returns-4 c =
     let a = c .before .before .before .before .before .args in
     let s = a .s .now in
     let x = a .self .at in
-    term-fields-1 s (a .map) (a .kind) (a .sorts) (a .index) x (c .before .first2 .given .0 .0) (sym (c .before .before .before .name .ensures) ∙ c .before .first2 .given .1)
+    let v = sym (c .before .before .before .name .ensures) ∙ c .before .first2 .given .1 in
+    term-fields-1 s (a .map) (a .kind) (a .sorts) (a .index) x v
 
 pub term-fields-spec : {M : Type 1} → statement M
 term-fields-spec = tie.close (tie.spec name-requires enum-known-first term-number-of-requires number-requires enum-known-between own-requires enum-known-last term-lists-requires enum-known-last-2 enum-known-between-2 enum-known-first-2 returns returns-2 returns-3 returns-4)

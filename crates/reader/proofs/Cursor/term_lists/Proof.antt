@@ -4,8 +4,6 @@ use native.Mathlib.Omega.{arith}
 use borrow.Author.Needs.{needs}
 use Rattle.reader.specs.Cases.{term-lists-1, term-lists-2, term-lists-3, term-lists-4}
 use mathlib.Core.Path.{_≡_, refl, sym, _∙_}
-use Rattle.reader.specs.Tables.{termLeastOf, termMostOf}
-use Rattle.reader.specs.Reader.{readReferences}
 use Rattle.reader.proofs.Cursor.term_lists.Statement.{statement}
 use Rattle.reader.proofs.Cursor.term_lists.Tie as tie
 
@@ -50,36 +48,37 @@ returns c =
     let a = c .before .before .before .before .before .before .before .before .before .before .before .before .before .before .before .before .args in
     let s = a .s .now in
     let x = a .self .at in
-    let f = a .found in
-    let r : c .before .before .before .before .before .before .before .before .before .before .before .before .references .result ≡ readReferences s (a .map) (termLeastOf (f .kind)) (termMostOf (f .kind)) (a .index) x = rw (c .before .before .before .before .before .before .before .before .before .before .before .before .before .before .term-least-of .ensures, c .before .before .before .before .before .before .before .before .before .before .before .before .before .term-most-of .ensures) at (c .before .before .before .before .before .before .before .before .before .before .before .before .references .ensures) in
-    rw (c .with-lists .ensures) (term-lists-4 s (a .map) (a .sorts) (a .index) f x (c .before .before .before .before .before .before .before .before .before .before .first .given .0 .0) (c .before .before .before .before .before .before .before .before .before .before .first .given .0 .1 .0) (c .before .before .before .before .before .before .before .before .before .before .first .given .0 .1 .1 .0) (sym r ∙ c .before .before .before .before .before .before .before .before .before .before .first .given .1) (c .before .before .before .before .before .before .between .given .0 .0) (c .before .before .before .before .before .before .between .given .0 .1 .0) (c .before .before .before .before .before .before .between .given .0 .1 .1 .0) (sym (c .before .before .before .before .before .before .before .before .pairs .ensures) ∙ c .before .before .before .before .before .before .between .given .1) (c .before .before .last .given .0 .0) (c .before .before .last .given .0 .1 .0) (c .before .before .last .given .0 .1 .1 .0) (sym (c .before .before .before .before .second .ensures) ∙ c .before .before .last .given .1))
+    let l = sym (c .before .before .before .before .before .before .before .before .before .before .before .before .references .ensures) ∙ c .before .before .before .before .before .before .before .before .before .before .first .given .1 in
+    let ps = sym (c .before .before .before .before .before .before .before .before .pairs .ensures) ∙ c .before .before .before .before .before .before .between .given .1 in
+    let q = sym (c .before .before .before .before .second .ensures) ∙ c .before .before .last .given .1 in
+    term-lists-4 s (a .map) (a .sorts) (a .index) (a .found) x (c .before .before .before .before .before .before .before .before .before .before .before .before .before .before .term-least-of .ensures) (c .before .before .before .before .before .before .before .before .before .before .before .before .before .term-most-of .ensures) l ps (c .with-lists .ensures) q
 
 returns-2 : tie.Need-returns-2
 returns-2 c =
     let a = c .before .before .before .before .before .before .before .before .before .before .before .before .before .before .before .args in
     let s = a .s .now in
     let x = a .self .at in
-    let f = a .found in
-    let r : c .before .before .before .before .before .before .before .before .before .before .before .references .result ≡ readReferences s (a .map) (termLeastOf (f .kind)) (termMostOf (f .kind)) (a .index) x = rw (c .before .before .before .before .before .before .before .before .before .before .before .before .before .term-least-of .ensures, c .before .before .before .before .before .before .before .before .before .before .before .before .term-most-of .ensures) at (c .before .before .before .before .before .before .before .before .before .before .before .references .ensures) in
-    term-lists-3 s (a .map) (a .sorts) (a .index) f x (c .before .before .before .before .before .before .before .before .before .first .given .0 .0) (c .before .before .before .before .before .before .before .before .before .first .given .0 .1 .0) (c .before .before .before .before .before .before .before .before .before .first .given .0 .1 .1 .0) (sym r ∙ c .before .before .before .before .before .before .before .before .before .first .given .1) (c .before .before .before .before .before .between .given .0 .0) (c .before .before .before .before .before .between .given .0 .1 .0) (c .before .before .before .before .before .between .given .0 .1 .1 .0) (sym (c .before .before .before .before .before .before .before .pairs .ensures) ∙ c .before .before .before .before .before .between .given .1) (c .before .last2 .given .0 .0) (sym (c .before .before .before .second .ensures) ∙ c .before .last2 .given .1)
+    let l = sym (c .before .before .before .before .before .before .before .before .before .before .before .references .ensures) ∙ c .before .before .before .before .before .before .before .before .before .first .given .1 in
+    let ps = sym (c .before .before .before .before .before .before .before .pairs .ensures) ∙ c .before .before .before .before .before .between .given .1 in
+    let q = sym (c .before .before .before .second .ensures) ∙ c .before .last2 .given .1 in
+    term-lists-3 s (a .map) (a .sorts) (a .index) (a .found) x (c .before .before .before .before .before .before .before .before .before .before .before .before .before .term-least-of .ensures) (c .before .before .before .before .before .before .before .before .before .before .before .before .term-most-of .ensures) l ps q
 
 returns-3 : tie.Need-returns-3
 returns-3 c =
     let a = c .before .before .before .before .before .before .before .before .before .before .before .args in
     let s = a .s .now in
     let x = a .self .at in
-    let f = a .found in
-    let r : c .before .before .before .before .before .before .before .references .result ≡ readReferences s (a .map) (termLeastOf (f .kind)) (termMostOf (f .kind)) (a .index) x = rw (c .before .before .before .before .before .before .before .before .before .term-least-of .ensures, c .before .before .before .before .before .before .before .before .term-most-of .ensures) at (c .before .before .before .before .before .before .before .references .ensures) in
-    term-lists-2 s (a .map) (a .sorts) (a .index) f x (c .before .before .before .before .before .first .given .0 .0) (c .before .before .before .before .before .first .given .0 .1 .0) (c .before .before .before .before .before .first .given .0 .1 .1 .0) (sym r ∙ c .before .before .before .before .before .first .given .1) (c .before .between2 .given .0 .0) (sym (c .before .before .before .pairs .ensures) ∙ c .before .between2 .given .1)
+    let l = sym (c .before .before .before .before .before .before .before .references .ensures) ∙ c .before .before .before .before .before .first .given .1 in
+    let ps = sym (c .before .before .before .pairs .ensures) ∙ c .before .between2 .given .1 in
+    term-lists-2 s (a .map) (a .sorts) (a .index) (a .found) x (c .before .before .before .before .before .before .before .before .before .term-least-of .ensures) (c .before .before .before .before .before .before .before .before .term-most-of .ensures) l ps
 
 returns-4 : tie.Need-returns-4
 returns-4 c =
     let a = c .before .before .before .before .before .before .before .args in
     let s = a .s .now in
     let x = a .self .at in
-    let f = a .found in
-    let r : c .before .before .before .references .result ≡ readReferences s (a .map) (termLeastOf (f .kind)) (termMostOf (f .kind)) (a .index) x = rw (c .before .before .before .before .before .term-least-of .ensures, c .before .before .before .before .term-most-of .ensures) at (c .before .before .before .references .ensures) in
-    term-lists-1 s (a .map) (a .sorts) (a .index) f x (c .before .first2 .given .0 .0) (sym r ∙ c .before .first2 .given .1)
+    let l = sym (c .before .before .before .references .ensures) ∙ c .before .first2 .given .1 in
+    term-lists-1 s (a .map) (a .sorts) (a .index) (a .found) x (c .before .before .before .before .before .term-least-of .ensures) (c .before .before .before .before .term-most-of .ensures) l
 
 pub term-lists-spec : {M : Type 1} → statement M
 term-lists-spec = tie.close (tie.spec term-least-of-requires term-most-of-requires references-requires enum-known-first pairs-requires enum-known-between second-requires enum-known-last with-lists-requires enum-known-last-2 enum-known-between-2 enum-known-first-2 returns returns-2 returns-3 returns-4)
