@@ -1,4 +1,5 @@
 pub mod Text
+pub mod DecimalLaws
 pub mod Lines
 pub mod Printed
 pub mod Sheets
