@@ -1,2 +1,4 @@
 pub mod Tables
 pub mod Reader
+pub mod Parts
+pub mod Cases

@@ -1,4 +1,12 @@
-// The records of a sheet, read field by field.
+// The records of a sheet, read field by field: each method of a cursor reads one field and returns the next cursor with
+// what it read, or the refusal. Here stand the types; fields.rt has the methods for single fields, records.rt those for
+// whole records, tables.rt the limits of each kind and scans.rt the tests of the numbers of a list.
+mod fields;
+mod records;
+pub mod scans;
+pub mod tables;
+
+use record::SortRecord;
 
 // Why a sheet is refused; `refusalNumber` of specs/Reader.antt gives document 01's number of each.
 pub enum Refusal {
@@ -47,17 +55,15 @@ pub enum ReadHead {
     NoHead(Refusal),
 }
 
-// The fields of a sort record; of a list where it starts and how many entries it has.
-pub struct SortRecord {
+// The fields of a record that are no lists; a sort record has no `sort`, which is 0 then.
+pub struct Scalars {
     pub kind: usize,
     pub name: usize,
     pub number: usize,
-    pub list: usize,
-    pub count: usize,
-    pub names: usize,
-    pub named: usize,
+    pub sort: usize,
 }
 
+// A sort record and the place behind it.
 pub enum ReadSort {
     Sort(SortRecord, Cursor),
     NoSort(Refusal),
@@ -77,6 +83,7 @@ pub struct TermRecord {
     pub seconds: usize,
 }
 
+// A term record and the place behind it.
 pub enum ReadTerm {
     Term(TermRecord, Cursor),
     NoTerm(Refusal),
@@ -91,6 +98,7 @@ pub struct QuestionRecord {
     pub named: usize,
 }
 
+// A question record and the place behind it.
 pub enum ReadQuestion {
     Question(QuestionRecord, Cursor),
     NoQuestion(Refusal),

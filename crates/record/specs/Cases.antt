@@ -56,10 +56,6 @@ pub not-true : (a : Bool) → not a ≡ true → a ≡ false
 not-true true e = sym e
 not-true false e = refl
 
-pub not-false : (a : Bool) → not a ≡ false → a ≡ true
-not-false true e = refl
-not-false false e = sym e
-
 -- A test cannot both hold and fail.
 pub clash : {C : Type 0} {a : Bool} → a ≡ true → a ≡ false → C
 clash {C} {a} p q = let z : true ≡ false = cc in absurd (true≢false z)

@@ -6,6 +6,7 @@ use mathlib.Core.Bool.{Bool, true, false, not, _&&_, _||_}
 use mathlib.Core.List.{List, [], _∷_, _++_}
 use lib.ListN.{length, getD, take, drop}
 use lib.Dec.{eqb}
+use Rattle.record.specs.Names.{distinct}
 use Rattle.record.specs.Number.{u16At, u32At, numbersAt}
 use Rattle.record.specs.Sort.{Sort}
 use Rattle.record.specs.Record.{Fields, mapOf, bit, leastOf, mostOf, recordBytes, leaf, sortOf}
@@ -58,16 +59,6 @@ pub record Proper (f : Fields) : Type 0 where
   pub noNumber : bit 4 (mapOf (f .kind)) ≡ false → f .number ≡ 0
   pub noList : bit 16 (mapOf (f .kind)) ≡ false → f .list ≡ []
   pub noNames : bit 64 (mapOf (f .kind)) ≡ false → f .names ≡ []
-
--- No name stands twice.
-unfoldable pub memberOf : ℕ → List ℕ → Bool
-memberOf v [] = false
-memberOf v (w ∷ ws) = eqb w v || memberOf v ws
-
-unfoldable pub distinct : List ℕ → Bool
-unfolding memberOf
-distinct [] = true
-distinct (v ∷ vs) = not (memberOf v vs) && distinct vs
 
 -- Fields of a sort record of document 01: a known kind, ranges, list lengths, distinct names.
 pub record Shape (f : Fields) : Type 0 where

@@ -81,11 +81,26 @@ kindOf (var v) = 2
 kindOf (par ns b) = 12
 kindOf (node k a w ss) = k
 
--- The number that a sort carries: the width of a BitVec, else 0.
+-- The fields of a sort as a record has them; one that the kind lacks is 0 or empty.
+abbrev pub nameIn : Sort → ℕ
+nameIn (var v) = v
+nameIn (par ns b) = 0
+nameIn (node k a w ss) = a
+
 abbrev pub numberIn : Sort → ℕ
 numberIn (var v) = 0
 numberIn (par ns b) = 0
 numberIn (node k a w ss) = w
+
+abbrev pub partsOf : Sort → Sorts
+partsOf (var v) = end
+partsOf (par ns b) = b then end
+partsOf (node k a w ss) = ss
+
+abbrev pub namesOf : Sort → List ℕ
+namesOf (var v) = []
+namesOf (par ns b) = ns
+namesOf (node k a w ss) = []
 
 -- How many sorts a list has.
 unfoldable pub count : Sorts → ℕ

@@ -1,8 +1,19 @@
-// Numbers in bytes.
+// Numbers in bytes, and the fields of a sort record.
 ghost use mathlib.Core.Path.{_≡_};
 ghost use Prim.Native.Nat.{_+_, _≤_, _<_};
 ghost use lib.ListN.{length};
 ghost use Rattle.record.specs.Number.{u16At};
+
+// The fields of a sort record; of its two lists where they start and how long they are.
+pub struct SortRecord {
+    pub kind: usize,
+    pub name: usize,
+    pub number: usize,
+    pub list: usize,
+    pub count: usize,
+    pub names: usize,
+    pub named: usize,
+}
 
 // The u16 at `at`, low byte first.
 pub fn u16_at(s: &[u8], at: usize) -> usize

@@ -12,7 +12,7 @@ use Rattle.record.specs.Store.{addOnce, room}
 use Rattle.reader.specs.Reader.{need, readSort, readTerm, readQuestion, pairNamesAt, pairSortsAt}
 use Rattle.reader.specs.declared.Refusal.{Refusal}
 use Rattle.reader.specs.declared.Refusal.the-variants.{Length, Header, Trailing, Lent, TreeSize, Store}
-use Rattle.reader.specs.declared.SortRecord.{SortRecord}
+use Rattle.record.specs.declared.SortRecord.{SortRecord}
 use Rattle.reader.specs.declared.ReadSort.{ReadSort}
 use Rattle.reader.specs.declared.ReadSort.the-variants.{Sort as SortAt, NoSort}
 use Rattle.reader.specs.declared.TermRecord.{TermRecord}

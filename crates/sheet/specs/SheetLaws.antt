@@ -28,7 +28,7 @@ use Rattle.reader.specs.declared.ReadList.{ReadList}
 use Rattle.reader.specs.declared.ReadList.the-variants.{List as Found, NoList}
 use Rattle.reader.specs.declared.ReadHead.{ReadHead}
 use Rattle.reader.specs.declared.ReadHead.the-variants.{Head, NoHead}
-use Rattle.reader.specs.declared.SortRecord.{SortRecord}
+use Rattle.record.specs.declared.SortRecord.{SortRecord}
 use Rattle.reader.specs.declared.ReadSort.{ReadSort}
 use Rattle.reader.specs.declared.ReadSort.the-variants.{Sort as SortAt, NoSort}
 use Rattle.reader.specs.declared.TermRecord.{TermRecord}

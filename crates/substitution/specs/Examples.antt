@@ -4,7 +4,8 @@ use mathlib.Core.Bool.{true, false}
 use mathlib.Core.List.{[], _∷_}
 use mathlib.Core.Option.{none, some}
 use Rattle.record.specs.Sort.{var, par, end, _then_, function, atom, bool, int, real, array, bitvec, paramBitVec, datatype, set}
-use Rattle.substitution.specs.Substitution.{empty, bind, apply, member}
+use Rattle.record.specs.Names.{member}
+use Rattle.substitution.specs.Substitution.{empty, bind, apply}
 use Rattle.substitution.specs.Matching.{matches, matchesAll, listedIn, premise}
 use Rattle.substitution.specs.MatchWith.{matchWith, matchAllWith}
 use Rattle.substitution.specs.Compatible.{compatible}

@@ -5,7 +5,8 @@ use mathlib.Core.List.{List, [], _∷_, _++_}
 use mathlib.Core.Option.{Option, none, some}
 use lib.Dec.{eqb}
 use Rattle.record.specs.Sort.{Sort, Sorts, var, par, node, end, _then_, same}
-use Rattle.substitution.specs.Substitution.{Map, bind, find, member}
+use Rattle.record.specs.Names.{member}
+use Rattle.substitution.specs.Substitution.{Map, bind, find}
 use Rattle.substitution.specs.Matching.{keep, andThen}
 
 -- *self == Sort::ParamBitVec

@@ -8,7 +8,8 @@ use lib.Dec.{eqb}
 use Rattle.record.specs.Sort.{Sort, Sorts, var, par, node, end, _then_, same}
 use Rattle.record.specs.SortLaws.{same-sound, same-refl}
 use Rattle.record.specs.Cases.{and-left, and-right, and-true, or-left, or-right, not-true, three, eqb-self, byTest, byOption, none-some, some-inj}
-use Rattle.substitution.specs.Substitution.{Map, empty, bind, find, member, occurs, occursAny}
+use Rattle.record.specs.Names.{member}
+use Rattle.substitution.specs.Substitution.{Map, empty, bind, find, occurs, occursAny}
 use Rattle.substitution.specs.Matching.{keep, meet, matches, matchesAll, listedIn, known, knownAll, unlisted, unlistedAll, premise}
 use Rattle.substitution.specs.MatchingLaws.{keep-rest, andThen-middle, match-self, known-parless, knownAll-parless, unlisted-free, unlistedAll-free, Matching, MatchingAll, matching, matchingAll}
 use Rattle.substitution.specs.MatchWith.{isParamBitVec, paramEq, meetWith, allMembers, matchWith, matchAllWith}

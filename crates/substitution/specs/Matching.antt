@@ -1,4 +1,5 @@
--- Matching by its definition: "success exactly when some assignment turns pattern into target; other variables stand for themselves". Definitions only.
+-- Matching by its definition: "success exactly when some assignment turns pattern into target; other variables stand for
+-- themselves". Definitions only.
 use Prim.Native.Nat.{ℕ}
 use mathlib.Core.Path.{_≡_}
 use mathlib.Core.Bool.{Bool, true, false, not, cond, _&&_}
@@ -6,7 +7,8 @@ use mathlib.Core.List.{List, [], _∷_}
 use mathlib.Core.Option.{Option, none, some}
 use lib.Dec.{eqb}
 use Rattle.record.specs.Sort.{Sort, Sorts, var, par, node, end, _then_, same}
-use Rattle.substitution.specs.Substitution.{Map, bind, find, member}
+use Rattle.record.specs.Names.{member}
+use Rattle.substitution.specs.Substitution.{Map, bind, find}
 
 -- Goes on where a test passes.
 abbrev pub keep : Bool → Option Map → Option Map

@@ -9,7 +9,8 @@ use borrow.Author.Tests.{eqb-true}
 use Rattle.record.specs.Sort.{Sort, Sorts, var, par, node, end, _then_, same, tuple}
 use Rattle.record.specs.SortLaws.{same-sound, same-refl, same-complete}
 use Rattle.record.specs.Cases.{and-left, and-right, conj, and-true, or-left, or-right, or-second, not-true, three, eqb-self, byTest, byOption, none-some, some-inj, clash}
-use Rattle.substitution.specs.Substitution.{Map, empty, bind, find, orElse, bound, apply, applyAll, through, member, occurs, occursAny}
+use Rattle.record.specs.Names.{member}
+use Rattle.substitution.specs.Substitution.{Map, empty, bind, find, orElse, bound, apply, applyAll, through, occurs, occursAny}
 use Rattle.substitution.specs.Premises.{touches, proper, properAll, properMap, parless, parlessAll}
 use Rattle.substitution.specs.SubstitutionLaws.{proper-parless, find-untouched, image-untouched, image-proper, find-through, find-through-none, apply-keeps}
 use Rattle.substitution.specs.Matching.{keep, andThen, meet, matches, matchesAll, Within, listedIn, known, knownAll, apart, unlisted, unlistedAll, premise}

@@ -4,6 +4,7 @@ use mathlib.Core.Bool.{Bool, true, false, cond, _||_}
 use mathlib.Core.List.{List, [], _∷_}
 use mathlib.Core.Option.{Option, none, some}
 use lib.Dec.{eqb}
+use Rattle.record.specs.Names.{member}
 use Rattle.record.specs.Sort.{Sort, Sorts, var, par, node, end, _then_}
 
 -- The field `map` of SortSubstitution, a RapidHashMap<String, Rc<Sort>>: names with their images. The newest pair of a name counts.
@@ -59,11 +60,6 @@ unfoldable pub through : Map → Map → Map
 unfolding apply
 through σ empty = empty
 through σ (bind n s m) = bind n (apply σ s) (through σ m)
-
--- params.contains(v): a name is one of a list.
-unfoldable pub member : ℕ → List ℕ → Bool
-member v [] = false
-member v (n ∷ ns) = eqb n v || member v ns
 
 -- A name stands in a sort, as a variable or as a parameter of a Par.
 unfoldable mutual

@@ -9,8 +9,9 @@ use lib.Dec.{eqb}
 use borrow.Author.Tests.{eqb-true}
 use Rattle.record.specs.Sort.{Sort, Sorts, var, par, node, end, _then_, size, sizes}
 use Rattle.record.specs.Cases.{and-left, and-right, conj, and-true, or-left, or-right, or-second, not-true, eqb-self, byTest, byOption, none-some, some-inj, clash}
-use Rattle.substitution.specs.Substitution.{Map, empty, bind, find, bound, left, under, apply, applyAll, through, member, occurs, occursAny}
-use Rattle.substitution.specs.Premises.{touches, untouched, usual, proper, properAll, properMap, parless, parlessAll, anyName, named, namedAll}
+use Rattle.record.specs.Names.{member}
+use Rattle.substitution.specs.Substitution.{Map, empty, bind, find, bound, left, under, apply, applyAll, through, occurs, occursAny}
+use Rattle.substitution.specs.Premises.{touches, untouched, clear, clearAll, usual, proper, properAll, properMap, parless, parlessAll, anyName, named, namedAll}
 
 ---------------------------------------------------------------- variables
 -- A variable of the map becomes its image, whatever names that holds: "images are not replaced again".
@@ -137,6 +138,10 @@ mutual
 pub apply-empty : (s : Sort) → named s ≡ true → apply empty s ≡ s
 unfolding find
 apply-empty s e = apply-outside empty s e (λ v r q. none-some q)
+
+pub applyAll-empty : (ss : Sorts) → namedAll ss ≡ true → applyAll empty ss ≡ ss
+unfolding find
+applyAll-empty ss e = applyAll-outside empty ss e (λ v r q. none-some q)
 
 -- And no other: it takes a Par without names away, which makes the tree smaller.
 pub under-size : (ns : List ℕ) (b : Sort) → size (under ns b) ≤ 1 + size b
@@ -306,6 +311,20 @@ mutual
 
 pub proper-named : (s : Sort) → proper s ≡ true → named s ≡ true
 proper-named s e = parless-named s (proper-parless s e)
+
+-- A proper sort has no Par whose parameters a map could touch.
+mutual
+  unfolding proper clear
+
+  pub proper-clear : (σ : Map) (s : Sort) → proper s ≡ true → clear σ s ≡ true
+  proper-clear σ (var v) e = refl
+  proper-clear σ (par ns b) e = absurd (false≢true e)
+  proper-clear σ (node k a w ss) e = properAll-clear σ ss (search conj)
+
+  pub properAll-clear : (σ : Map) (ss : Sorts) → properAll ss ≡ true → clearAll σ ss ≡ true
+  properAll-clear σ end e = refl
+  properAll-clear σ (s then ss) e =
+      and-true (clear σ s) (clearAll σ ss) (proper-clear σ s (search conj)) (properAll-clear σ ss (search conj))
 
 ---------------------------------------------------------------- one substitution after another
 -- The image of a name in a map put through another.

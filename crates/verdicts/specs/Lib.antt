@@ -7,3 +7,4 @@ pub mod Judged
 pub mod JudgedLaws
 pub mod TwoRoutes
 pub mod RoutesExample
+pub mod Examples

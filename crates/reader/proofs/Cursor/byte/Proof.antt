@@ -1,0 +1,34 @@
+-- The test of the length is the definition's, so each return is its case;
+-- the bytes read lie in the slice by that test.
+use native.Mathlib.Omega.{arith}
+use borrow.Author.Needs.{needs}
+use Rattle.reader.specs.Cases.{byte-short, byte-is}
+use mathlib.Core.Path.{_≡_, refl, sym, _∙_}
+use Rattle.reader.proofs.Cursor.byte.Statement.{statement}
+use Rattle.reader.proofs.Cursor.byte.Tie as tie
+
+returns : tie.Need-returns
+returns c =
+    let a = c .before .args in
+    let s = a .s .now in
+    let x = a .self .at in
+    byte-short s x (c .if1 .taken)
+
+shared-slice-read-v : tie.Need-shared-slice-read-v
+shared-slice-read-v c = search needs
+
+cast-v : tie.Need-cast-v
+cast-v c = omega (arith, c .shared-slice-known .given (c .before .before .args .self .at))
+
+add-t5 : tie.Need-add-t5
+add-t5 c = search needs
+
+returns-2 : tie.Need-returns-2
+returns-2 c =
+    let a = c .before .before .args in
+    let s = a .s .now in
+    let x = a .self .at in
+    byte-is s x (c .before .if1 .left)
+
+pub byte-spec : {M : Type 1} → statement M
+byte-spec = tie.close (tie.spec returns shared-slice-read-v cast-v add-t5 returns-2)

@@ -1,0 +1,5 @@
+mod BufferLaws
+mod FindLaws
+mod InternLaws
+mod UndoLaws
+mod EntryLaws

@@ -1,0 +1,4 @@
+pub mod Index
+pub mod Good
+pub mod Contract
+pub mod Entry

@@ -1,0 +1,207 @@
+// The sort store: records back to back in a lent buffer, their places in another, and beside them the library's own
+// chained hash index and tree sizes. A record is found, interned, and taken back.
+pub mod buffers;
+pub mod entries;
+
+use buffers::clear_at;
+use buffers::copy_at;
+use check::same;
+ghost use mathlib.Core.Path.{_≡_};
+ghost use mathlib.Core.Bool.{true};
+ghost use Prim.Native.Nat.{ℕ, _+_, _-_, _≤_, _<_};
+ghost use lib.ListN.{length, getD};
+ghost use Rattle.record.specs.Decode.{fieldsAt};
+ghost use Rattle.store.specs.Index.{hashOf};
+ghost use Rattle.store.specs.Contract.{RecordAsks, FindAsks, FoundIs, PushAsks, PushedIs, InternAsks, InternedIs, PopAsks, CutTo, UndoAsks, UndoIs};
+
+pub enum Found {
+    At(usize),
+    Nothing,
+}
+
+pub enum Pushed {
+    Added,
+    Full,
+}
+
+pub enum Interned {
+    // The number of the sort, and the store's count and bytes in use.
+    Is(usize, usize, usize),
+    NoRoom,
+}
+
+// The hash of a record's bytes.
+pub fn hash(rec: &[u8]) -> usize
+    ensures { λ r. ⌜ (r ≡ hashOf (now (rec .entry))) × (r < 1024) ⌝ }
+{
+    let mut h = 0;
+    let mut i = 0;
+    while i < rec.len() {
+        let v = rec[i] as usize;
+        h = (h * 31 + v) % 1024;
+        i += 1;
+    }
+    h
+}
+
+// Whether the record `k` is this one: its bytes are there, since no record is the beginning of another.
+pub fn record_is(records: &[u8], places: &[u32], k: usize, rec: &[u8]) -> bool
+    requires { ⌜ RecordAsks (now records) (now places) k (now rec) ⌝ }
+    ensures { λ r. ⌜ (r ≡ true → fieldsAt (now (records .entry)) (getD (now (places .entry)) k 0) ≡ fieldsAt (now (rec .entry)) 0) × (fieldsAt (now (records .entry)) (getD (now (places .entry)) k 0) ≡ fieldsAt (now (rec .entry)) 0 → r ≡ true) ⌝ }
+{
+    let at = places[k] as usize;
+    let n = rec.len();
+    if records.len() < at {
+        return false;
+    }
+    if records.len() - at < n {
+        return false;
+    }
+    let end = at + n;
+    same(&records[at..end], rec)
+}
+
+// The number of a record, along the chain of its hash; `Nothing` where no record of the store is this one.
+pub fn find(
+    records: &[u8],
+    places: &[u32],
+    heads: &[u16],
+    next: &[u16],
+    count: usize,
+    rec: &[u8],
+) -> Found
+    requires { ⌜ FindAsks (now records) (now places) (now heads) (now next) count (now rec) ⌝ }
+    ensures { λ r. ⌜ FoundIs (now (records .entry)) (now (places .entry)) count (now (rec .entry)) r ⌝ }
+{
+    let h = hash(rec);
+    let mut j = heads[h] as usize;
+    while 0 < j {
+        let k = j - 1;
+        if record_is(records, places, k, rec) {
+            return Found::At(k);
+        }
+        j = next[k] as usize;
+    }
+    Found::Nothing
+}
+
+// Appends a record with its tree size where there is room, and enters it into the index; else leaves all as it was.
+pub fn push(
+    records: &mut [u8],
+    places: &mut [u32],
+    heads: &mut [u16],
+    next: &mut [u16],
+    sizes: &mut [u16],
+    count: usize,
+    used: usize,
+    rec: &[u8],
+    weight: usize,
+) -> Pushed
+    requires { ⌜ PushAsks (now records) (now heads) (now next) (now sizes) used weight ⌝ }
+    ensures { λ r. ⌜ PushedIs (now (records .entry)) (now (places .entry)) (now (heads .entry)) (now (next .entry)) (now (sizes .entry)) count used (now (rec .entry)) weight (now (records .exit)) (now (places .exit)) (now (heads .exit)) (now (next .exit)) (now (sizes .exit)) r ⌝ }
+{
+    if 4096 <= count {
+        return Pushed::Full;
+    }
+    if places.len() <= count {
+        return Pushed::Full;
+    }
+    if records.len() - used < rec.len() {
+        return Pushed::Full;
+    }
+    copy_at(records, used, rec);
+    places[count] = used as u32;
+    let h = hash(rec);
+    let last = heads[h];
+    next[count] = last;
+    heads[h] = (count + 1) as u16;
+    sizes[count] = weight as u16;
+    Pushed::Added
+}
+
+// The number of a record's sort: the one that the store has, or a new one; `NoRoom`, with all as it was, where the
+// store with that sort would be too long.
+pub fn intern(
+    records: &mut [u8],
+    places: &mut [u32],
+    heads: &mut [u16],
+    next: &mut [u16],
+    sizes: &mut [u16],
+    count: usize,
+    used: usize,
+    rec: &[u8],
+    weight: usize,
+) -> Interned
+    requires { ⌜ InternAsks (now records) (now places) (now heads) (now next) (now sizes) count used (now rec) weight ⌝ }
+    ensures { λ r. ⌜ InternedIs (now (records .entry)) (now (places .entry)) (now (heads .entry)) (now (next .entry)) (now (sizes .entry)) count used (now (rec .entry)) (now (records .exit)) (now (places .exit)) (now (heads .exit)) (now (next .exit)) (now (sizes .exit)) r ⌝ }
+{
+    let found = find(records, places, heads, next, count, rec);
+    match found {
+        Found::At(k) => Interned::Is(k, count, used),
+        Found::Nothing => {
+            let pushed = push(
+                records,
+                places,
+                heads,
+                next,
+                sizes,
+                count,
+                used,
+                rec,
+                weight,
+            );
+            match pushed {
+                Pushed::Added => Interned::Is(count, count + 1, used + rec.len()),
+                Pushed::Full => Interned::NoRoom,
+            }
+        }
+    }
+}
+
+// Takes the last record out of the store, its index and its sizes; the bytes in use that are left.
+pub fn pop(
+    records: &mut [u8],
+    places: &mut [u32],
+    heads: &mut [u16],
+    next: &mut [u16],
+    sizes: &mut [u16],
+    count: usize,
+    used: usize,
+) -> usize
+    requires { ⌜ PopAsks (now records) (now places) (now heads) (now next) (now sizes) count used ⌝ }
+    ensures { λ r. ⌜ CutTo (now (records .entry)) (now (places .entry)) count (now (records .exit)) (now (places .exit)) (now (heads .exit)) (now (next .exit)) (now (sizes .exit)) (count - 1) r ⌝ }
+{
+    let k = count - 1;
+    let at = places[k] as usize;
+    let h = hash(&records[at..used]);
+    let last = next[k];
+    heads[h] = last;
+    next[k] = 0;
+    sizes[k] = 0;
+    places[k] = 0;
+    clear_at(records, at, used - at);
+    at
+}
+
+// The store as it was when it had `from` sorts; the bytes that were in use then.
+pub fn undo(
+    records: &mut [u8],
+    places: &mut [u32],
+    heads: &mut [u16],
+    next: &mut [u16],
+    sizes: &mut [u16],
+    count: usize,
+    used: usize,
+    from: usize,
+) -> usize
+    requires { ⌜ UndoAsks (now records) (now places) (now heads) (now next) (now sizes) count used from ⌝ }
+    ensures { λ r. ⌜ UndoIs (now (records .entry)) (now (places .entry)) count (now (records .exit)) (now (places .exit)) (now (heads .exit)) (now (next .exit)) (now (sizes .exit)) from r ⌝ }
+{
+    let mut n = count;
+    let mut u = used;
+    while from < n {
+        u = pop(records, places, heads, next, sizes, n, u);
+        n -= 1;
+    }
+    u
+}
