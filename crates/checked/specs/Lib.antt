@@ -2,8 +2,11 @@ pub mod Rank
 pub mod Ranks
 pub mod Checked
 pub mod Routes
+pub mod Fits
 pub mod RankLaws
 pub mod RankSound
 pub mod Kept
+pub mod FitLaws
+pub mod RankTheorems
 pub mod StepsKept
 pub mod RouteLaws
