@@ -10,3 +10,4 @@ pub mod FitLaws
 pub mod RankTheorems
 pub mod StepsKept
 pub mod RouteLaws
+pub mod AppTheorems
