@@ -11,3 +11,4 @@ pub mod RankTheorems
 pub mod StepsKept
 pub mod RouteLaws
 pub mod AppTheorems
+pub mod Widths
