@@ -10,8 +10,7 @@ use mathlib.Core.Option.{Option, none, some}
 use native.Mathlib.Omega.{arith}
 use lib.Dec.{eqb, ltb}
 use borrow.Author.Tests.{eqb-true, ltb-true, ltb-false, lt-ltb, le-ltb}
-use Rattle.record.specs.Names.{member}
-use Rattle.record.specs.Sort.{Sort, Sorts, var, par, node, end, _then_, function, int, real, set, count}
+use Rattle.record.specs.Sort.{Sort, Sorts, var, par, node, end, _then_, function, count}
 use Rattle.record.specs.Cases.{and-left, and-right, conj, and-true, or-left, or-right, or-second, not-true, eqb-self, byTest, byOption, none-some, some-inj, clash}
 use Rattle.substitution.specs.Substitution.{Map, empty, find, bound, apply, applyAll, occurs, occursAny}
 use Rattle.substitution.specs.SubstitutionLaws.{proper-parless, properAll-parlessAll, parless-named, parlessAll-named, apply-outside, applyAll-outside}
@@ -22,46 +21,11 @@ use Rattle.rows.specs.declared.Cause.{Cause}
 use Rattle.rows.specs.declared.Cause.the-variants.{Count, Misfit, Unassigned}
 use Rattle.rows.specs.Verdict.{Verdict, sort, refused, need}
 use Rattle.rows.specs.Lists.{firsts, others, remaining}
+use Rattle.checked.specs.Fits.{Assigned, rest, Fixed, Applies, Unfixed, oneOf}
 use Rattle.checked.specs.Checked.{values, parameters, listOf, settled, settledAll, delivered, called, application}
 use Rattle.checked.specs.Kept.{refused-sort, sort-inj}
 use Rattle.checked.specs.StepsKept.{others-proper, remaining-proper}
 use Rattle.checked.specs.FitLaws.{apply-like, sort-refused, other-cause}
-
----------------------------------------------------------------- assignments
--- Some assignment of the listed names makes the first entries of a Function's list the actual argument sorts.
-pub record Assigned (listed : ℕ → Bool) (ss ts : Sorts) : Type 0 where
-  pub assignment : Map
-  pub within : Within listed assignment
-  pub turns : applyAll assignment (firsts ss ts) ≡ ts
-
--- What the list leaves behind the arguments: its last entry, or a Function of the remaining ones.
-abbrev pub rest : Sorts → Sorts → Sort
-rest ss ts = remaining (others ss ts)
-
--- The arguments fix the result: each parameter that stands in what is left stands among the declared argument sorts, where
--- an assignment that turns them into the actual ones says what it is.
-abbrev pub Fixed : (ℕ → Bool) → Sorts → Sorts → Type 0
-Fixed listed ss ts = (v : ℕ) → listed v ≡ true → occurs v (rest ss ts) ≡ true → occursAny v (firsts ss ts) ≡ true
-
--- THE FUNCTION WITH THE LIST ss TAKES THE ARGUMENTS ts AND GIVES s.
-pub record Applies (listed : ℕ → Bool) (ss ts : Sorts) (s : Sort) : Type 0 where
-  pub any : 0 < count ts
-  pub few : count ts < count ss
-  pub given : values ts ≡ true
-  pub assigned : Assigned listed ss ts
-  pub fixed : Fixed listed ss ts
-  pub result : apply (assigned .assignment) (rest ss ts) ≡ s
-
--- The arguments fit, and a parameter that they do not fix stands in the result.
-pub record Unfixed (listed : ℕ → Bool) (ss ts : Sorts) : Type 0 where
-  pub any : 0 < count ts
-  pub few : count ts < count ss
-  pub given : values ts ≡ true
-  pub assigned : Assigned listed ss ts
-  pub parameter : ℕ
-  pub isListed : listed parameter ≡ true
-  pub stands : occurs parameter (rest ss ts) ≡ true
-  pub unassigned : occursAny parameter (firsts ss ts) ≡ false
 
 ---------------------------------------------------------------- laws
 pub firsts-proper : (ss ts : Sorts) → properAll ss ≡ true → properAll (firsts ss ts) ≡ true
@@ -253,10 +217,6 @@ pub no-function : (h t : Sort) (ts : Sorts) → listOf h ≡ none → applicatio
 unfolding application called
 no-function h t ts e = rw e refl
 
--- The parameters of a Par-sorted head.
-abbrev pub oneOf : List ℕ → ℕ → Bool
-oneOf ns v = member v ns
-
 -- A PARAMETRIC FUNCTION IS ACCEPTED with the sort s exactly when it is given at least one argument and fewer than its list has
 -- entries, no argument is a Par, and some assignment of its parameters makes its declared argument sorts the actual ones and
 -- fixes its result, which is s. (The declared sorts are proper, as those of every Var that a row accepts.)
@@ -344,34 +304,3 @@ entry-turned θ (q then ps) (u then ts) (suc i) p t a e f = let z : applyAll θ 
 pub argument-as-it-stands : (ns : List ℕ) (ss ts : Sorts) (s : Sort) (A : Applies (oneOf ns) ss ts s) (i v : ℕ) (t : Sort)
     → entry (firsts ss ts) i ≡ some (var v) → entry ts i ≡ some t → apply (A .assigned .assignment) (var v) ≡ t
 argument-as-it-stands ns ss ts s A i v t e f = entry-turned (A .assigned .assignment) (firsts ss ts) ts i (var v) t (A .assigned .turns) e f
-
--- The head (par (n1) (-> 'n1 'n1 (Set 'n1))): at 'n1, 'n1 the parameter is assigned the argument's variable; at 'n1, Int it cannot
--- be both, and at Int, 'n1 neither. K8 and K9 of document 01 beside them.
-abbrev pub twice : Sort
-twice = par (1 ∷ []) (function (var 1 then var 1 then set (var 1) then end))
-
-pub twice-same : application (twice then var 1 then var 1 then end) ≡ sort (set (var 1))
-unfolding application
-twice-same = refl
-
-pub twice-first : application (twice then var 1 then int then end) ≡ refused Misfit
-unfolding application
-twice-first = refl
-
-pub twice-second : application (twice then int then var 1 then end) ≡ refused Misfit
-unfolding application
-twice-second = refl
-
-pub twice-other : application (twice then int then real then end) ≡ refused Misfit
-unfolding application
-twice-other = refl
-
--- 27 is judged on the parameters, before images are put in: (par (n1 n2) (-> 'n1 'n1)) at 'n2 gives 'n2, and (par (n1 n2)
--- (-> 'n1 'n2)) at Int is refused with 27.
-pub image-no-parameter : application (par (1 ∷ 2 ∷ []) (function (var 1 then var 1 then end)) then var 2 then end) ≡ sort (var 2)
-unfolding application
-image-no-parameter = refl
-
-pub parameter-left : application (par (1 ∷ 2 ∷ []) (function (var 1 then var 2 then end)) then int then end) ≡ refused Unassigned
-unfolding application
-parameter-left = refl

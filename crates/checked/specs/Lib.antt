@@ -2,6 +2,8 @@ pub mod Rank
 pub mod Ranks
 pub mod Checked
 pub mod Routes
+pub mod AppExamples
+pub mod RouteExamples
 pub mod Fits
 pub mod RankLaws
 pub mod RankSound
