@@ -22,7 +22,7 @@ use Rattle.rows.specs.declared.Cause.the-variants.{Count, Misfit, Unassigned}
 use Rattle.rows.specs.Verdict.{Verdict, sort, refused, need}
 use Rattle.rows.specs.Lists.{firsts, others, remaining}
 use Rattle.checked.specs.Fits.{Assigned, rest, Fixed, Applies, Unfixed, oneOf}
-use Rattle.checked.specs.Checked.{values, parameters, listOf, settled, settledAll, delivered, called, application}
+use Rattle.checked.specs.Checked.{carried, values, parameters, listOf, settled, settledAll, delivered, called, application}
 use Rattle.checked.specs.Kept.{refused-sort, sort-inj}
 use Rattle.checked.specs.StepsKept.{others-proper, remaining-proper}
 use Rattle.checked.specs.FitLaws.{apply-like, sort-refused, other-cause}
@@ -257,33 +257,45 @@ unlisted-still θ s w e = apply-outside θ s (parless-named s e) (λ v r q. none
 pub unlisted-stillAll : (θ : Map) (ss : Sorts) → Within (λ v. false) θ → parlessAll ss ≡ true → applyAll θ ss ≡ ss
 unlisted-stillAll θ ss w e = applyAll-outside θ ss (parlessAll-named ss e) (λ v r q. none-some (sym (w v refl) ∙ q))
 
--- A PLAIN FUNCTION IS ACCEPTED exactly when its arguments are the declared sorts, and gives what its list leaves.
-pub plain-accepted : (ss ts : Sorts) (s : Sort) → properAll ss ≡ true
-    → application (function ss then ts) ≡ sort s
+pub called-plain : (ss ts : Sorts) (s : Sort) → properAll ss ≡ true → 0 < count ts
+    → called (λ v. false) (some ss) ts ≡ sort s
     ↔ (0 < count ts) × (count ts < count ss) × (values ts ≡ true) × (firsts ss ts ≡ ts) × (rest ss ts ≡ s)
-unfolding application count
-plain-accepted ss end s p = (λ h. refused-sort h, λ g. let z = g .0 in absurd (omega arith))
-plain-accepted ss (t then ts) s p =
-    let (f, g) = called-accepted (λ v. false) ss (t then ts) p s (omega arith) in
-    let q = properAll-parlessAll (firsts ss (t then ts)) (firsts-proper ss (t then ts) p) in
-    let r = parlessRest (λ v. false) ss (t then ts) p in (
+called-plain ss ts s p one =
+    let (f, g) = called-accepted (λ v. false) ss ts p s one in
+    let q = properAll-parlessAll (firsts ss ts) (firsts-proper ss ts p) in
+    let r = parlessRest (λ v. false) ss ts p in
+    let still : Within (λ v. false) empty = λ v i. unfold find in refl in (
       λ h. let A = f h in (
         A .any,
         A .few,
         A .given,
-        sym (unlisted-stillAll (A .assigned .assignment) (firsts ss (t then ts)) (A .assigned .within) q) ∙ A .assigned .turns,
-        sym (unlisted-still (A .assigned .assignment) (rest ss (t then ts)) (A .assigned .within) r) ∙ A .result,
+        sym (unlisted-stillAll (A .assigned .assignment) (firsts ss ts) (A .assigned .within) q) ∙ A .assigned .turns,
+        sym (unlisted-still (A .assigned .assignment) (rest ss ts) (A .assigned .within) r) ∙ A .result,
       ),
       λ k. let (any, few, given, turns, result) = k in
           g (record {
             any = any;
             few = few;
             given = given;
-            assigned = record { assignment = empty; within = λ v i. unfold find in refl; turns = unlisted-stillAll empty (firsts ss (t then ts)) (λ v i. unfold find in refl) q ∙ turns };
+            assigned = record { assignment = empty; within = still; turns = unlisted-stillAll empty (firsts ss ts) still q ∙ turns };
             fixed = λ v i o. absurd (false≢true i);
-            result = unlisted-still empty (rest ss (t then ts)) (λ v i. unfold find in refl) r ∙ result;
+            result = unlisted-still empty (rest ss ts) still r ∙ result;
           }),
     )
+
+-- A PLAIN FUNCTION IS ACCEPTED exactly when its arguments are the declared sorts, and gives what its list leaves.
+pub plain-accepted : (ss ts : Sorts) (s : Sort) → properAll ss ≡ true
+    → application (function ss then ts) ≡ sort s
+    ↔ (0 < count ts) × (count ts < count ss) × (values ts ≡ true) × (firsts ss ts ≡ ts) × (rest ss ts ≡ s)
+unfolding application count
+plain-accepted ss end s p = (λ h. refused-sort h, λ g. let z = g .0 in absurd (omega arith))
+plain-accepted ss (t then ts) s p = called-plain ss (t then ts) s p (omega arith)
+
+-- The premise of these theorems holds of every head that a row accepts: what a Var may carry has a proper list.
+pub carried-list : (ns : List ℕ) (ss : Sorts) → carried (par ns (function ss)) ≡ true → properAll ss ≡ true
+unfolding proper
+carried-list [] ss c = absurd (false≢true c)
+carried-list (n ∷ ns) ss c = c
 
 ---------------------------------------------------------------- "A variable in an argument's sort is never the head's parameter."
 -- The entry with the number i of a list of sorts.

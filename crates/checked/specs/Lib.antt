@@ -5,6 +5,7 @@ pub mod Routes
 pub mod AppExamples
 pub mod RouteExamples
 pub mod Fits
+pub mod Rules
 pub mod RankLaws
 pub mod RankSound
 pub mod Kept
@@ -14,3 +15,4 @@ pub mod StepsKept
 pub mod RouteLaws
 pub mod AppTheorems
 pub mod Widths
+pub mod RuleTheorems
