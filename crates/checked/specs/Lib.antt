@@ -2,8 +2,17 @@ pub mod Rank
 pub mod Ranks
 pub mod Checked
 pub mod Routes
+pub mod AppExamples
+pub mod RouteExamples
+pub mod Fits
+pub mod Rules
 pub mod RankLaws
 pub mod RankSound
 pub mod Kept
+pub mod FitLaws
+pub mod RankTheorems
 pub mod StepsKept
 pub mod RouteLaws
+pub mod AppTheorems
+pub mod Widths
+pub mod RuleTheorems
