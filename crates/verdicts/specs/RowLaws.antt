@@ -93,26 +93,30 @@ module _ (R : ℕ → List Rank) (l : Lengths) (st : List Sort) where
   abbrev second : List TermFields → TermFields → Outcome
   second rs r = rowOf (checked R) 1 l rs r (tabled rs .rows) (first rs r .store)
 
+  -- THE ROWS OF ONE MORE TERM: the inferred one over the store so far, then the checked one over the store after that, each from
+  -- its own column of the rows below.
+  pub rows-more : (rs : List TermFields) (r : TermFields)
+      → tabled (r ∷ rs) ≡ record { store = second rs r .store; rows = tabled rs .rows ++ (first rs r .code ∷ second rs r .code ∷ []) }
+  unfolding rowsOf
+  rows-more rs r = refl
+
   -- TWO ROWS A TERM.
   pub rows-count : (rs : List TermFields) → length (tabled rs .rows) ≡ 2 * length rs
   unfolding rowsOf
   rows-count [] = refl
   rows-count (r ∷ rs) = simp length-append (omega (arith, rows-count rs))
 
-  -- THE ROWS OF A TERM: the inferred one over the store so far, then the checked one over the store after that, each from its own
-  -- column of the rows below.
-  rows-new : (rs : List TermFields) (r : TermFields) (i : ℕ) → getD (tabled (r ∷ rs) .rows) (2 * length rs + i) 0 ≡ getD (first rs r .code ∷ second rs r .code ∷ []) i 0
-  unfolding rowsOf
+  rows-new : (rs : List TermFields) (r : TermFields) (i : ℕ)
+      → getD (tabled (r ∷ rs) .rows) (2 * length rs + i) 0 ≡ getD (first rs r .code ∷ second rs r .code ∷ []) i 0
   rows-new rs r i =
-      subst (λ (k : ℕ). getD (tabled rs .rows ++ (first rs r .code ∷ second rs r .code ∷ [])) (k + i) 0 ≡ getD (first rs r .code ∷ second rs r .code ∷ []) i 0)
-      (rows-count rs) (getD-append-add (tabled rs .rows) (first rs r .code ∷ second rs r .code ∷ []) i 0)
+      rw (rows-more rs r, ← rows-count rs) (getD-append-add (tabled rs .rows) (first rs r .code ∷ second rs r .code ∷ []) i 0)
 
   turn-grown : (rs : List TermFields) (r : TermFields) → Grown l (tabled rs .store) (tabled (r ∷ rs) .store)
-  unfolding rowsOf
   turn-grown rs r =
-      grown-trans l (tabled rs .store) (first rs r .store) (second rs r .store)
+      rw (rows-more rs r)
+      (grown-trans l (tabled rs .store) (first rs r .store) (second rs r .store)
       (row-grown inferred 0 l rs r (tabled rs .rows) (tabled rs .store))
-      (row-grown (checked R) 1 l rs r (tabled rs .rows) (first rs r .store))
+      (row-grown (checked R) 1 l rs r (tabled rs .rows) (first rs r .store)))
 
   -- THE STORE ONLY GROWS over the terms, and stays a store: distinct sorts, parts before wholes, room.
   pub rows-grown : (rs : List TermFields) → Grown l st (tabled rs .store)
