@@ -1,8 +1,10 @@
--- Small laws of Bool and Option that the laws of sorts, substitution and matching use: taking tests apart, and cases that keep their equation.
-use Prim.Native.Nat.{ℕ}
+-- Small laws of Bool, Option and numbers that the laws of sorts, substitution, matching and rows use: taking tests apart, and cases that keep
+-- their equation.
+use Prim.Native.Nat.{ℕ, suc, _<_}
 use mathlib.Core.Path.{_≡_, refl, sym}
 use mathlib.Core.Bool.{Bool, true, false, not, _&&_, _||_, false≢true, true≢false}
 use mathlib.Core.Option.{Option, none, some}
+use native.Mathlib.Omega.{arith}
 use lib.Dec.{eqb}
 use borrow.Author.Tests.{eq-eqb, eqb-true}
 
@@ -26,6 +28,10 @@ three true true c e = (refl, refl, e)
 three true false c e = absurd (false≢true e)
 three false b c e = absurd (false≢true e)
 
+-- The same, grouped to the right.
+pub three-right : (a b c : Bool) → (a && (b && c)) ≡ true → (a ≡ true) × (b ≡ true) × (c ≡ true)
+three-right a b c e = let f = and-right a (b && c) e in (and-left a (b && c) e, and-left b c f, and-right b c f)
+
 -- Both sides of a disjunction that fails.
 pub or-left : (a b : Bool) → (a || b) ≡ false → a ≡ false
 or-left true b e = e
@@ -35,10 +41,18 @@ pub or-right : (a b : Bool) → (a || b) ≡ false → b ≡ false
 or-right true b e = absurd (true≢false e)
 or-right false b e = e
 
--- A disjunction holds if its right side does.
+-- A disjunction holds if one of its sides does, and then one of them does.
+pub or-first : (a b : Bool) → a ≡ true → (a || b) ≡ true
+or-first true b e = refl
+or-first false b e = absurd (false≢true e)
+
 pub or-second : (a b : Bool) → b ≡ true → (a || b) ≡ true
 or-second true b e = refl
 or-second false b e = e
+
+pub or-cases : {C : Type 0} (a b : Bool) → (a || b) ≡ true → (a ≡ true → C) → (b ≡ true → C) → C
+or-cases true b e f g = f refl
+or-cases false b e f g = g e
 
 -- The last two sides may change places, and a side said twice counts once.
 pub last-two : (a b c : Bool) → (a || b || c) ≡ (a || c || b)
@@ -94,3 +108,7 @@ some-inj {A} {x} {y} e = cc
 pub not-true-false : (a : Bool) → (a ≡ true → ⊥) → a ≡ false
 not-true-false true h = absurd (h refl)
 not-true-false false h = refl
+
+-- A number below the next one and other than this one is below this one.
+pub below-other : (a b : ℕ) → a < suc b → (a ≡ b → ⊥) → a < b
+below-other a b h n = omega arith

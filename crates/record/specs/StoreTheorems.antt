@@ -10,6 +10,7 @@ use lib.ListN.{length, getD}
 use Rattle.record.specs.Sort.{Sort, Sorts, var, par, node, end, _then_, same}
 use Rattle.record.specs.Record.{leaf}
 use Rattle.record.specs.Store.{memb, addOnce, intern, internAll, indexOf}
+use Rattle.record.specs.Cases.{or-cases}
 use Rattle.record.specs.SortLaws.{same-sound}
 use Rattle.record.specs.SortLists.{Once, Ordered, Starts, memb-at, index-found, once-intern, ordered-intern, starts-intern, starts-at, starts-count, intern-known}
 
@@ -39,10 +40,6 @@ or-absorb : (a b : Bool) → (b ≡ true → a ≡ true) → a ≡ a || b
 or-absorb true b h = refl
 or-absorb false true h = h refl
 or-absorb false false h = refl
-
-or-cases : {C : Type 0} (a b : Bool) → a || b ≡ true → (a ≡ true → C) → (b ≡ true → C) → C
-or-cases true b e f g = f refl
-or-cases false b e f g = g e
 
 -- A sort behind the others: those that were there, and that one.
 memb-last : (t s : Sort) (st : List Sort) → memb t (st ++ (s ∷ [])) ≡ memb t st || same s t

@@ -25,7 +25,7 @@ allOf f [] = true
 allOf f (i ∷ is) = f i && allOf f is
 
 -- NO LIMIT IS MET in a column of the rows (0 inferred, 1 checked) at the term n or at one below it: neither row code stands at
--- the term, at the terms of its list or its second list, or below those.
+-- the term, at the terms of its list or its second list, or below those (`free-exactly` of FreeLaws).
 unfoldable pub free : List ℕ → ℕ → List TermFields → ℕ → Bool
 unfolding allOf
 free rows column [] n = true

@@ -12,7 +12,7 @@ use borrow.Author.Tests.{leb-true, eq-eqb}
 use Rattle.record.specs.Sort.{Sort}
 use Rattle.record.specs.Record.{leaf}
 use Rattle.record.specs.Store.{memb, intern, indexOf, bytesOf, room}
-use Rattle.record.specs.Cases.{and-right, or-second, not-true, byTest, clash}
+use Rattle.record.specs.Cases.{and-right, or-first, or-second, not-true, byTest, clash}
 use Rattle.record.specs.SortLists.{Once, Ordered, Starts, starts-self, starts-trans, starts-intern, starts-at, starts-count, once-intern, ordered-intern, index-found, memb-intern}
 use Rattle.record.specs.StoreTheorems.{inside, intern-holds}
 use Rattle.sheet.specs.Sheet.{Lengths}
@@ -142,10 +142,6 @@ pub outcome-full : (l : Lengths) (st : List Sort) (s : Sort)
 unfolding outcome
 outcome-full l st s = full-by l st s (within s) (room (l .records) (l .places) (intern s st)) refl
 
-or-true : (a b : Bool) → a ≡ true → a || b ≡ true
-or-true true b e = refl
-or-true false b e = absurd (false≢true e)
-
 -- The same of any verdict that is no 22 or 23 by itself; those of both columns and of the questions are none.
 unfoldable pub plain : Verdict → Bool
 plain (sort s) = true
@@ -171,7 +167,7 @@ plain-limit l st (sort s) p = (
   λ h. outcome-limit l st s .1 (subst (λ (r : Sort). within r ≡ false) (sym (sort-one (h .1))) (h .2)),
 )
 plain-limit l st (refused c) p = (
-  λ e. absurd (clash (or-true (eqb (numberOf c * 65536) (numberOf Limit * 65536)) (eqb (numberOf c * 65536) (numberOf Full * 65536)) (eq-eqb (numberOf c * 65536) (numberOf Limit * 65536) e)) (not-true (limited (numberOf c * 65536)) p)),
+  λ e. absurd (clash (or-first (eqb (numberOf c * 65536) (numberOf Limit * 65536)) (eqb (numberOf c * 65536) (numberOf Full * 65536)) (eq-eqb (numberOf c * 65536) (numberOf Limit * 65536) e)) (not-true (limited (numberOf c * 65536)) p)),
   λ h. refused-sort (h .1),
 )
 

@@ -1,6 +1,6 @@
 -- What an answer leaves: question 0 adds nothing and answers 1 or 0; the others are outcomes of their verdicts, with 22 and 23
 -- exactly where document 01 says. Over all questions the store only grows.
-use Prim.Native.Nat.{ℕ, suc, _*_, _≤_, _<_}
+use Prim.Native.Nat.{ℕ, _*_, _≤_, _<_}
 use mathlib.Core.Path.{_≡_, refl, sym, ap, subst, _∙_}
 use mathlib.Core.Bool.{Bool, true, false, cond}
 use mathlib.Core.List.{List, [], _∷_}
@@ -13,7 +13,7 @@ use lib.Seq.{getD-at}
 use lib.Dec.{eqb}
 use borrow.Author.Tests.{eqb-true, eqb-false}
 use Rattle.record.specs.Sort.{Sort, end}
-use Rattle.record.specs.Cases.{byTest}
+use Rattle.record.specs.Cases.{byTest, below-other}
 use Rattle.sheet.specs.Sheet.{Lengths, QuestionFields}
 use Rattle.substitution.specs.Substitution.{Map, empty}
 use Rattle.substitution.specs.Matching.{matches, listedIn, premise}
@@ -152,13 +152,10 @@ answers-say l st (q ∷ qs) k h =
     byTest (eqb k (length qs))
     (λ e. rw (e, eqb-true k (length qs) e, answers-new l st q qs) (answer-says l q (answersOf l st qs .store)))
     (λ e.
-    let low : k < length qs = lower k (length qs) h (eqb-false k (length qs) e) in
+    let low : k < length qs = below-other k (length qs) h (eqb-false k (length qs) e) in
     let s = answers-say l st qs k low in
     rw (e, answers-old l st q qs k low) (
       s .0,
       λ o f. means-stays (answersOf l st qs .store) (answerOf l q (answersOf l st qs .store) .store) (getD (answersOf l st qs .answers) k 0)
           (answerVerdict (questionAt qs k)) (answer-grown l q (answersOf l st qs .store) .starts) (s .1 o f),
     ))
-  where
-    lower : (a b : ℕ) → a < suc b → (a ≡ b → ⊥) → a < b
-    lower a b h n = omega arith

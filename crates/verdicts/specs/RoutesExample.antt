@@ -5,7 +5,7 @@ use mathlib.Core.List.{List, [], _∷_}
 use native.Mathlib.Omega.{arith}
 use Rattle.record.specs.Sort.{Sort, var, par, function, int, bool, end, _then_}
 use Rattle.sheet.specs.Sheet.{Lengths, TermFields, Sheet}
-use Rattle.substitution.specs.Substitution.{Map, empty, bind, apply}
+use Rattle.substitution.specs.Substitution.{empty, bind, apply}
 use Rattle.substitution.specs.Premises.{properMap}
 use Rattle.rows.specs.Term.{termAt}
 use Rattle.rows.specs.Meaning.{free}

@@ -2,7 +2,7 @@
 -- at a term or below it, its row means the verdict of its tree. By induction over the records, the earlier ones first.
 use Prim.Native.Nat.{ℕ, zero, suc, _+_, _*_, _≤_, _<_}
 use mathlib.Core.Path.{_≡_, refl, ap, subst, _∙_}
-use mathlib.Core.Bool.{Bool, true, false, not, _&&_}
+use mathlib.Core.Bool.{Bool, true, false, not}
 use mathlib.Core.List.{List, [], _∷_, _++_}
 use native.Mathlib.Omega.{arith}
 use native.Mathlib.Nat.{not-suc-le-zero}
@@ -12,7 +12,7 @@ use lib.Dec.{eqb}
 use borrow.Author.Tests.{eqb-true, eqb-false}
 use Rattle.record.specs.Sort.{Sort}
 use Rattle.record.specs.Store.{room}
-use Rattle.record.specs.Cases.{and-left, and-right, not-true, byTest}
+use Rattle.record.specs.Cases.{three-right, not-true, byTest, below-other}
 use Rattle.reader.specs.Reader.{allBelow}
 use Rattle.sheet.specs.Sheet.{Lengths, TermFields}
 use Rattle.sheet.specs.SheetLaws.{referring}
@@ -26,11 +26,6 @@ use Rattle.inferred.specs.Inferred.{inferred, infer}
 use Rattle.checked.specs.Rank.{Rank}
 use Rattle.checked.specs.Checked.{checked, check}
 use Rattle.verdicts.specs.Rows.{Tabled, rowOf, rowsOf}
-
--- The sides of a conjunction of three, grouped to the right.
-three-true : (a b c : Bool) → (a && (b && c)) ≡ true → (a ≡ true) × (b ≡ true) × (c ≡ true)
-three-true a b c e =
-    let f = and-right a (b && c) e in (and-left a (b && c) e, and-left b c f, and-right b c f)
 
 -- The verdict that a column holds: 0 the inferred one, 1 the checked one.
 abbrev pub judging : (ℕ → List Rank) → ℕ → Site → Verdict
@@ -76,7 +71,7 @@ module _ (J : Site → Verdict) (column : ℕ) (l : Lengths) (rs : List TermFiel
       → Means (rowOf J column l rs r rows now .store) (rowOf J column l rs r rows now .code) (verdictOf J (treeOf (λ j. termAt rs j) r))
   unfolding rowOf referring
   row-means ok small below refs a b f =
-      let both = three-true (allBelow (length rs) (r .list)) (allBelow (length rs) (r .second)) (referring rs) refs in
+      let both = three-right (allBelow (length rs) (r .list)) (allBelow (length rs) (r .second)) (referring rs) refs in
       let o = outcome l now verdict in
       subst (λ (v : Verdict). Means (o .store) (o .code) v) (verdict-is J now rows column rs r ok small below (both .0) (both .1) a b)
       (outcome-means l now verdict f)
@@ -169,26 +164,23 @@ module _ (R : ℕ → List Rank) (l : Lengths) (st : List Sort) where
   unfolding rowsOf free termAt referring
   rows-mean rows roomy [] refs agree column n col low f = absurd (not-suc-le-zero low)
   rows-mean rows roomy (r ∷ rs) refs agree column n col low f =
-      let earlier = three-true (allBelow (length rs) (r .list)) (allBelow (length rs) (r .second)) (referring rs) refs .2 in
+      let earlier = three-right (allBelow (length rs) (r .list)) (allBelow (length rs) (r .second)) (referring rs) refs .2 in
       let agree′ : (i : ℕ) → i < 2 * length rs → getD rows i 0 ≡ getD (tabled rs .rows) i 0 =
       λ i h. agree i (omega arith) ∙ rows-old rs r i h in
       let ok : ℕ → Bool = λ j. free rows column rs j in
       byTest (eqb n (length rs))
       (λ q.
       let e = eqb-true n (length rs) q in
-      let t = three-true (not (limited (getD rows (2 * n + column) 0))) (allOf ok (r .list)) (allOf ok (r .second)) (rw q at f) in
+      let t = three-right (not (limited (getD rows (2 * n + column) 0))) (allOf ok (r .list)) (allOf ok (r .second)) (rw q at f) in
       let c : getD rows (2 * n + column) 0 ≡ getD (first rs r .code ∷ second rs r .code ∷ []) column 0 =
       ap (λ (k : ℕ). getD rows (2 * k + column) 0) e ∙ agree (2 * length rs + column) (omega arith) ∙ rows-new rs r column in
       rw (q, e, rows-new rs r column)
       (turn-means rs r column ok col roomy (λ i h o. rows-mean rows roomy rs earlier agree′ column i col h o) refs (t .1) (t .2)
       (subst (λ (k : ℕ). limited k ≡ false) c (not-true (limited (getD rows (2 * n + column) 0)) (t .0)))))
       (λ q.
-      let o : n < length rs = lower n (length rs) low (eqb-false n (length rs) q) in
+      let o : n < length rs = below-other n (length rs) low (eqb-false n (length rs) q) in
       rw q (row-stays rs r (2 * n + column) (verdictOf (judging R column) (termAt rs n)) (omega arith)
       (rows-mean rows roomy rs earlier agree′ column n col o (rw q at f))))
-    where
-      lower : (a b : ℕ) → a < suc b → (a ≡ b → ⊥) → a < b
-      lower a b h n = omega arith
 
   -- THE LAW: where no limit is met at a term or below it, its row in a column means the verdict of its tree in that column.
   pub row-is : (rs : List TermFields) → room (l .records) (l .places) st ≡ true → referring rs ≡ true
