@@ -1,9 +1,10 @@
 -- What an accepted judgement tells of a sheet: its counts, its store, and what each of its rows and answers means over the store
 -- that is left behind all of them. From the laws of the reader, of the rows and of the questions.
-use Prim.Native.Nat.{ℕ, _+_, _*_, _<_}
+use Prim.Native.Nat.{ℕ, _+_, _*_, _≤_, _<_}
 use mathlib.Core.Path.{_≡_, refl, sym, ap, subst, _∙_}
 use mathlib.Core.Bool.{true, false, true≢false}
 use mathlib.Core.List.{List}
+use mathlib.Core.Logic.{_↔_}
 use native.Mathlib.Omega.{arith}
 use lib.ListN.{length, getD}
 use Rattle.record.specs.Sort.{Sort}
@@ -14,7 +15,8 @@ use Rattle.sheet.specs.Sheet.Reading.{refused as unread, got}
 use Rattle.sheet.specs.SheetLaws.{SheetIs, sheet-is}
 use Rattle.rows.specs.Verdict.{Verdict}
 use Rattle.rows.specs.Term.{termAt, verdictOf}
-use Rattle.rows.specs.Meaning.{Means, free}
+use Rattle.rows.specs.Meaning.{Means, limited, free}
+use Rattle.rows.specs.FreeLaws.{AtOrBelow, free-exactly}
 use Rattle.rows.specs.OutcomeLaws.{Grown, means-stays, grown-trans}
 use Rattle.inferred.specs.Inferred.{infer}
 use Rattle.checked.specs.Rank.{Rank}
@@ -118,3 +120,15 @@ module _ (R : ℕ → List Rank) (s : List ℕ) (l : Lengths) (h : Sheet) (st : 
     ap length (sym (tale .rows-are)) ∙ rows-count R l (h .store) (h .terms),
     ap length (sym (tale .answers-are)) ∙ answers-count l ruled (h .questions),
   )
+
+  -- They fit the lent rows and answers.
+  pub judged-fits : (length rows ≤ l .rows) × (length answers ≤ l .answers)
+  judged-fits =
+      let k = tale .sheet in
+      let c = judged-counts in
+      (omega (arith, c .0, k .terms-are .many, k .rows-fit), omega (arith, c .1, k .asked, k .answers-fit))
+
+  -- "No limit is met at a term or below it" says that no row of a term reached from it is 22 or 23.
+  pub judged-free : (column t : ℕ) → t < length (h .terms)
+      → (free rows column (h .terms) t ≡ true) ↔ ((u : ℕ) → AtOrBelow (h .terms) t u → limited (getD rows (2 * u + column) 0) ≡ false)
+  judged-free column t low = free-exactly rows column (h .terms) (tale .sheet .terms-are .below) t low
