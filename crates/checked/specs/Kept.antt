@@ -22,6 +22,7 @@ pub record Kept (σ : Map) (s : Sort) (v : Verdict) : Type 0 where
   pub carries : carried s ≡ true
   pub clears : clear σ s ≡ true
 
+-- A refusal is no sort.
 pub refused-sort : {C : Type 0} {n : Cause} {s : Sort} → refused n ≡ sort s → C
 refused-sort {C} {n} {s} e = let z : true ≡ false = cc in absurd (true≢false z)
 
@@ -40,6 +41,7 @@ pub cond-kept : (σ : Map) (s : Sort) (b : Bool) (u v u′ v′ : Verdict) → (
 cond-kept σ s true u v u′ v′ f g e = f e
 cond-kept σ s false u v u′ v′ f g e = g e
 
+-- A proper sort is one that a Var may carry, and has no parameter to touch.
 pub proper-carried : (s : Sort) → proper s ≡ true → carried s ≡ true
 unfolding proper
 proper-carried (var v) e = refl
@@ -95,6 +97,7 @@ proper-values end e = refl
 proper-values (s then ss) e =
     and-true (value s) (values ss) (proper-value s (search conj)) (proper-values ss (search conj))
 
+-- Values stay values, counts stay, and the last of a list is the replaced last.
 pub values-moved : (σ : Map) (ss : Sorts) → properMap σ ≡ true → carriedAll ss ≡ true → values ss ≡ true → values (applyAll σ ss) ≡ true
 values-moved σ ss e c h = proper-values (applyAll σ ss) (applyAll-proper σ ss e (carried-values ss c h))
 

@@ -14,5 +14,6 @@ pub mod RankTheorems
 pub mod StepsKept
 pub mod RouteLaws
 pub mod AppTheorems
+pub mod Renaming
 pub mod Widths
 pub mod RuleTheorems

@@ -17,6 +17,7 @@ use Rattle.substitution.specs.MatchingLaws.{keep-test, keep-rest, andThen-middl
 use Rattle.checked.specs.Rank.{Rank, rank, repeated, stretched, patterns, sameCount, counts, vector, vectorsIn, every, answer, fit, someCounts}
 
 ---------------------------------------------------------------- only the count of the arguments chooses the patterns
+-- Replacing changes no count, so a rank has the same patterns for replaced arguments.
 pub repeated-moved : (σ : Map) (p : Sort) (ts : Sorts) → repeated p (applyAll σ ts) ≡ repeated p ts
 unfolding repeated apply
 repeated-moved σ p end = refl
@@ -41,6 +42,7 @@ sameCount-moved σ end (t then ts) = refl
 sameCount-moved σ (p then ps) end = refl
 sameCount-moved σ (p then ps) (t then ts) = sameCount-moved σ ps ts
 
+-- So a rank has the count of replaced arguments exactly when it has that of the arguments.
 pub counts-moved : (σ : Map) (r : Rank) (ts : Sorts) → counts r (applyAll σ ts) ≡ counts r ts
 unfolding counts
 counts-moved σ (rank rep vs ps r) ts = rw (patterns-moved σ rep ps ts) (sameCount-moved σ (patterns rep ps ts) ts)

@@ -372,3 +372,7 @@ checked-exactly R S t s = (λ h. has-only R S t s h, λ h. has-when R S t s h)
 
 pub checked-exactly-smtLib : (t : Term) (s : Sort) → check smtLib t ≡ sort s ↔ HasSort smtLib t s
 checked-exactly-smtLib = checked-exactly smtLib smtLib-sound
+
+-- The rules give a term one sort at most.
+pub one-sort : (R : ℕ → List Rank) → ((n : ℕ) → Sound (R n)) → (t : Term) (s u : Sort) → HasSort R t s → HasSort R t u → s ≡ u
+one-sort R S t s u a b = sort-inj (sym ((checked-exactly R S t s) .1 a) ∙ (checked-exactly R S t u) .1 b)
