@@ -1,12 +1,10 @@
 -- What one step of the checked verdict keeps between the two routes, and the laws that follow the shape of its definition: one
 -- for each `need`, one for each `cond`, one for a result.
-use Prim.Native.Nat.{ℕ, suc}
+use Prim.Native.Nat.{suc}
 use mathlib.Core.Path.{_≡_, refl, ap}
 use mathlib.Core.Bool.{Bool, true, false, cond, _&&_, false≢true, true≢false}
-use mathlib.Core.List.{List, [], _∷_}
-use lib.Dec.{eqb}
 use Rattle.record.specs.Sort.{Sort, Sorts, var, par, node, end, _then_, count}
-use Rattle.record.specs.Cases.{and-left, and-right, conj, and-true}
+use Rattle.record.specs.Cases.{conj, and-true}
 use Rattle.substitution.specs.Substitution.{Map, apply, applyAll}
 use Rattle.substitution.specs.SubstitutionLaws.{applyAll-proper}
 use Rattle.substitution.specs.Premises.{clear, clearAll, proper, properAll, properMap}

@@ -2,18 +2,17 @@
 -- them when they are put through a map, with its result put through it.
 use Prim.Native.Nat.{ℕ}
 use mathlib.Core.Path.{_≡_, refl, sym, ap, _∙_}
-use mathlib.Core.Bool.{Bool, true, false, _&&_, _||_, false≢true}
+use mathlib.Core.Bool.{Bool, true, false, _&&_, false≢true}
 use mathlib.Core.List.{List, [], _∷_}
-use mathlib.Core.Option.{Option, none, some}
-use lib.Dec.{eqb}
-use Rattle.record.specs.Sort.{Sort, Sorts, var, par, node, end, _then_, bitvec, numberIn, same}
-use Rattle.record.specs.SortLaws.{same-sound, same-refl}
-use Rattle.record.specs.Cases.{and-left, and-right, conj, and-true, byTest, byOption, none-some, some-inj}
+use mathlib.Core.Option.{none, some}
+use Rattle.record.specs.Sort.{Sort, Sorts, var, par, node, end, _then_, bitvec, numberIn}
+use Rattle.record.specs.SortLaws.{same-sound}
+use Rattle.record.specs.Cases.{and-left, conj, and-true, byTest, byOption, none-some, some-inj}
 use Rattle.substitution.specs.Substitution.{Map, empty, bind, find, bound, apply, applyAll, through, occurs, occursAny}
-use Rattle.substitution.specs.SubstitutionLaws.{apply-proper, find-through, find-through-none}
+use Rattle.substitution.specs.SubstitutionLaws.{apply-proper, find-through}
 use Rattle.substitution.specs.Premises.{proper, properAll, properMap, parless, parlessAll}
-use Rattle.substitution.specs.Matching.{keep, matches, matchesAll}
-use Rattle.substitution.specs.MatchingLaws.{keep-test, keep-rest, andThen-middle, matchAll-binds, matchAll-proper, matchAll-target-moved}
+use Rattle.substitution.specs.Matching.{matchesAll}
+use Rattle.substitution.specs.MatchingLaws.{matchAll-binds, matchAll-proper, matchAll-target-moved}
 use Rattle.checked.specs.Rank.{Rank, rank, repeated, stretched, patterns, sameCount, counts, vector, vectorsIn, every, answer, fit, someCounts}
 
 ---------------------------------------------------------------- only the count of the arguments chooses the patterns

@@ -4,15 +4,15 @@ use Prim.Native.Nat.{ℕ, suc}
 use mathlib.Core.Path.{_≡_, refl, sym, ap, _∙_}
 use mathlib.Core.Bool.{Bool, true, false, not, _&&_, true≢false}
 use mathlib.Core.List.{List, [], _∷_}
-use mathlib.Core.Option.{Option, none, some}
+use mathlib.Core.Option.{none, some}
 use lib.Dec.{eqb, leb}
 use borrow.Author.Tests.{eqb-true, eqb-false}
 use Rattle.record.specs.Sort.{Sort, Sorts, var, par, node, end, _then_}
-use Rattle.record.specs.Cases.{and-left, and-right, conj, not-true, three, byTest, byOption, none-some, some-inj}
+use Rattle.record.specs.Cases.{conj, not-true, three, byTest, byOption, none-some, some-inj}
 use Rattle.substitution.specs.Substitution.{Map, empty, apply, applyAll}
 use Rattle.substitution.specs.Premises.{proper, properAll}
-use Rattle.substitution.specs.Matching.{keep, matches, matchesAll}
-use Rattle.substitution.specs.MatchingLaws.{keep-test, keep-rest, andThen-middle}
+use Rattle.substitution.specs.Matching.{matches, matchesAll}
+use Rattle.substitution.specs.MatchingLaws.{keep-test, andThen-middle}
 use Rattle.checked.specs.Rank.{Rank, rank, stretched, patterns, every, answer, fit, firstFit}
 use Rattle.checked.specs.Ranks.{Table, done, row, ranksIn, standard, smtLib}
 use Rattle.checked.specs.RankLaws.{wellRank, fit-moved, fit-proper}

@@ -3,7 +3,7 @@
 -- those names, so counts, causes and the result stay.
 use Prim.Native.Nat.{ℕ, suc}
 use mathlib.Core.Path.{_≡_, refl, sym, ap, _∙_}
-use mathlib.Core.Bool.{Bool, true, false, not, cond, _&&_, _||_, false≢true, true≢false}
+use mathlib.Core.Bool.{Bool, true, false, cond, _&&_, false≢true}
 use mathlib.Core.List.{List, [], _∷_}
 use mathlib.Core.Option.{Option, none, some}
 use lib.Dec.{eqb, ltb}
@@ -11,15 +11,15 @@ use borrow.Author.Tests.{eqb-true, eqb-false, eq-eqb, ne-eqb}
 use Rattle.record.specs.Names.{member}
 use Rattle.record.specs.Sort.{Sort, Sorts, var, par, node, end, _then_, function, count, same}
 use Rattle.record.specs.Cases.{and-left, and-right, conj, and-true, or-second, eqb-self, byTest, byOption, none-some, some-inj, clash}
-use Rattle.substitution.specs.Substitution.{Map, empty, bind, find, bound, apply, applyAll, occurs, occursAny}
+use Rattle.substitution.specs.Substitution.{Map, empty, bind, find, apply, applyAll, occurs, occursAny}
 use Rattle.substitution.specs.SubstitutionLaws.{proper-parless}
-use Rattle.substitution.specs.Premises.{proper, properAll, parless, parlessAll}
-use Rattle.substitution.specs.Matching.{keep, andThen, meet, matches, matchesAll}
+use Rattle.substitution.specs.Premises.{properAll, parless, parlessAll}
+use Rattle.substitution.specs.Matching.{keep, matches, matchesAll}
 use Rattle.substitution.specs.MatchingLaws.{keep-rest, andThen-middle}
-use Rattle.rows.specs.declared.Cause.the-variants.{Count, Misfit, Unassigned}
-use Rattle.rows.specs.Verdict.{Verdict, sort, refused, need}
+use Rattle.rows.specs.declared.Cause.the-variants.{Count, Misfit}
+use Rattle.rows.specs.Verdict.{Verdict, need}
 use Rattle.rows.specs.Lists.{firsts, others, remaining}
-use Rattle.checked.specs.Checked.{values, settled, settledAll, delivered, called, application}
+use Rattle.checked.specs.Checked.{values, settled, settledAll, called, application}
 use Rattle.checked.specs.StepsKept.{others-proper, remaining-proper}
 use Rattle.checked.specs.Fits.{rest, oneOf}
 

@@ -1,6 +1,6 @@
 -- The two routes, one rule of the checked verdict after the other: where a rule gives a sort, it gives the replaced sort on
 -- replaced arguments. Each law follows the `need`s of its definition.
-use Prim.Native.Nat.{ℕ, zero, suc, _+_, _-_, _*_, _<_}
+use Prim.Native.Nat.{ℕ, suc, _+_, _-_, _*_, _<_}
 use mathlib.Core.Path.{_≡_, refl, sym, ap, _∙_}
 use mathlib.Core.Bool.{Bool, true, false, not, cond, _&&_, _||_, false≢true, true≢false}
 use mathlib.Core.List.{List, [], _∷_}
@@ -20,7 +20,7 @@ use Rattle.substitution.specs.Matching.{matchesAll}
 use Rattle.substitution.specs.MatchingLaws.{matchAll-within, matchAll-moved, matchAll-proper}
 use Rattle.rows.specs.declared.Cause.{Cause}
 use Rattle.rows.specs.declared.Cause.the-variants.{NoRank, Count, Misfit, Unassigned, Barred}
-use Rattle.rows.specs.Verdict.{Verdict, sort, refused, need}
+use Rattle.rows.specs.Verdict.{Verdict, sort, need}
 use Rattle.rows.specs.Lists.{firsts, others, remaining, lastOf, joined}
 use Rattle.checked.specs.Rank.{Rank, vector, firstFit, someCounts}
 use Rattle.checked.specs.RankLaws.{someCounts-moved, vector-is, vector-still}

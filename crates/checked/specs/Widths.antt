@@ -3,25 +3,25 @@
 use Prim.Native.Nat.{ℕ, zero, suc, _+_, _*_, _-_, _≤_, _<_}
 use mathlib.Core.Path.{_≡_, refl, sym, ap, _∙_}
 use mathlib.Core.Logic.{_↔_, _⊎_, inl, inr, ⊎-elim}
-use mathlib.Core.Bool.{Bool, true, false, not, cond, _&&_, _||_, false≢true}
+use mathlib.Core.Bool.{Bool, true, false, not, _&&_, false≢true}
 use mathlib.Core.List.{List, [], _∷_}
-use mathlib.Core.Option.{Option, none, some}
+use mathlib.Core.Option.{some}
 use native.Mathlib.Omega.{arith}
 use native.Mathlib.Numerals.{add-one}
 use lib.Dec.{eqb, leb, ltb}
-use borrow.Author.Tests.{eqb-true, eqb-false, eq-eqb, ne-eqb, leb-true, leb-false, ltb-true, ltb-false, lt-ltb, le-ltb, le-leb, lt-leb}
-use Rattle.record.specs.Sort.{Sort, Sorts, end, _then_, bool, int, bitvec, numberIn, same, sameAll}
+use borrow.Author.Tests.{eqb-true, eqb-false, ne-eqb, leb-true, leb-false, ltb-true, lt-ltb, le-leb}
+use Rattle.record.specs.Sort.{Sort, Sorts, end, _then_, bool, int, bitvec, same, sameAll}
 use Rattle.record.specs.SortLaws.{same-sound, sameAll-sound}
-use Rattle.record.specs.Cases.{and-left, and-right, and-true, eqb-self, byTest, clash}
-use Rattle.substitution.specs.Substitution.{Map, empty, bind, apply, applyAll, occurs}
+use Rattle.record.specs.Cases.{and-left, and-right, eqb-self, byTest}
+use Rattle.substitution.specs.Substitution.{empty, bind, apply, applyAll, occurs}
 use Rattle.rows.specs.declared.Cause.the-variants.{Count, Misfit}
-use Rattle.rows.specs.Verdict.{Verdict, sort, refused, need}
+use Rattle.rows.specs.Verdict.{sort, refused, need}
 use Rattle.checked.specs.Rank.{Rank, rank, repeated, stretched}
-use Rattle.checked.specs.Ranks.{x, one, two, ranksIn, standard, smtLib}
+use Rattle.checked.specs.Ranks.{x, one, two, smtLib}
 use Rattle.checked.specs.Fits.{rankAt}
 use Rattle.checked.specs.Checked.{values, ranked, operated, indexing}
 use Rattle.checked.specs.Kept.{refused-sort, sort-inj}
-use Rattle.checked.specs.FitLaws.{sort-refused, other-cause, operated-ranked}
+use Rattle.checked.specs.FitLaws.{sort-refused, operated-ranked}
 use Rattle.checked.specs.RankTheorems.{accepted-smtLib, concat-accepted}
 
 ---------------------------------------------------------------- the operators that share a rank
