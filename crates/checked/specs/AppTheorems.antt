@@ -3,26 +3,25 @@
 -- cause of refusal stands exactly where document 01 puts it.
 use Prim.Native.Nat.{ℕ, zero, suc, _<_}
 use mathlib.Core.Path.{_≡_, refl, sym, ap, _∙_}
-use mathlib.Core.Logic.{_↔_, _⊎_, inl, inr, ⊎-elim}
-use mathlib.Core.Bool.{Bool, true, false, not, _&&_, _||_, false≢true, true≢false}
+use mathlib.Core.Logic.{_↔_, _⊎_, inl, inr, ⊎-elim, ⊎-map}
+use mathlib.Core.Bool.{Bool, true, false, false≢true, true≢false}
 use mathlib.Core.List.{List, [], _∷_}
 use mathlib.Core.Option.{Option, none, some}
 use native.Mathlib.Omega.{arith}
-use lib.Dec.{eqb, ltb}
-use borrow.Author.Tests.{eqb-true, ltb-true, ltb-false, lt-ltb, le-ltb}
+use lib.Dec.{ltb}
+use borrow.Author.Tests.{eqb-true, ltb-true, ltb-false}
 use Rattle.record.specs.Sort.{Sort, Sorts, var, par, node, end, _then_, function, count}
-use Rattle.record.specs.Cases.{and-left, and-right, conj, and-true, or-left, or-right, or-second, not-true, eqb-self, byTest, byOption, none-some, some-inj, clash}
+use Rattle.record.specs.Cases.{and-left, and-right, conj, and-true, or-second, eqb-self, byTest, byOption, none-some, some-inj, clash}
 use Rattle.substitution.specs.Substitution.{Map, empty, find, bound, apply, applyAll, occurs, occursAny}
 use Rattle.substitution.specs.SubstitutionLaws.{proper-parless, properAll-parlessAll, parless-named, parlessAll-named, apply-outside, applyAll-outside}
 use Rattle.substitution.specs.Premises.{proper, properAll, parless, parlessAll}
 use Rattle.substitution.specs.Matching.{matchesAll, Within}
 use Rattle.substitution.specs.MatchingLaws.{MatchingAll, matchingAll}
-use Rattle.rows.specs.declared.Cause.{Cause}
 use Rattle.rows.specs.declared.Cause.the-variants.{Count, Misfit, Unassigned}
-use Rattle.rows.specs.Verdict.{Verdict, sort, refused, need}
-use Rattle.rows.specs.Lists.{firsts, others, remaining}
+use Rattle.rows.specs.Verdict.{sort, refused}
+use Rattle.rows.specs.Lists.{firsts, others}
 use Rattle.checked.specs.Fits.{Assigned, rest, Fixed, Applies, Unfixed, oneOf}
-use Rattle.checked.specs.Checked.{carried, values, parameters, listOf, settled, settledAll, delivered, called, application}
+use Rattle.checked.specs.Checked.{carried, values, listOf, settled, settledAll, called, application}
 use Rattle.checked.specs.Kept.{refused-sort, sort-inj}
 use Rattle.checked.specs.StepsKept.{others-proper, remaining-proper}
 use Rattle.checked.specs.FitLaws.{apply-like, sort-refused, other-cause}
@@ -257,6 +256,7 @@ unlisted-still θ s w e = apply-outside θ s (parless-named s e) (λ v r q. none
 pub unlisted-stillAll : (θ : Map) (ss : Sorts) → Within (λ v. false) θ → parlessAll ss ≡ true → applyAll θ ss ≡ ss
 unlisted-stillAll θ ss w e = applyAll-outside θ ss (parlessAll-named ss e) (λ v r q. none-some (sym (w v refl) ∙ q))
 
+-- So a function without parameters takes exactly its declared sorts.
 pub called-plain : (ss ts : Sorts) (s : Sort) → properAll ss ≡ true → 0 < count ts
     → called (λ v. false) (some ss) ts ≡ sort s
     ↔ (0 < count ts) × (count ts < count ss) × (values ts ≡ true) × (firsts ss ts ≡ ts) × (rest ss ts ≡ s)
@@ -290,6 +290,37 @@ pub plain-accepted : (ss ts : Sorts) (s : Sort) → properAll ss ≡ true
 unfolding application count
 plain-accepted ss end s p = (λ h. refused-sort h, λ g. let z = g .0 in absurd (omega arith))
 plain-accepted ss (t then ts) s p = called-plain ss (t then ts) s p (omega arith)
+
+-- 25 exactly when the count of arguments is not one of 1 to (length − 1).
+pub plain-miscounted : (ss ts : Sorts) → properAll ss ≡ true
+    → application (function ss then ts) ≡ refused Count ↔ ((0 < count ts) × (count ts < count ss) → ⊥)
+unfolding application count
+plain-miscounted ss end p = (λ h g. let z = g .0 in omega arith, λ g. refl)
+plain-miscounted ss (t then ts) p =
+    let (f, g) = called-miscounted (λ v. false) ss (t then ts) p in (λ h k. f h (k .1), λ n. g (λ few. n (omega arith, few)))
+
+-- 26 exactly when the count is right, and an argument is a Par or the arguments are not the declared sorts.
+pub plain-misfit : (ss ts : Sorts) → properAll ss ≡ true
+    → application (function ss then ts) ≡ refused Misfit
+    ↔ (0 < count ts) × (count ts < count ss) × ((values ts ≡ false) ⊎ (firsts ss ts ≡ ts → ⊥))
+unfolding application count
+plain-misfit ss end p = (λ h. other-cause refl h, λ g. let z = g .0 in absurd (omega arith))
+plain-misfit ss (t then ts) p =
+    let us = t then ts in
+    let (f, g) = called-misfit (λ v. false) ss us p in
+    let q = properAll-parlessAll (firsts ss us) (firsts-proper ss us p) in
+    let still : Within (λ v. false) empty = λ v i. unfold find in refl in
+    let there : firsts ss us ≡ us → Assigned (λ v. false) ss us = λ e. record { assignment = empty; within = still; turns = unlisted-stillAll empty (firsts ss us) still q ∙ e } in
+    let back : Assigned (λ v. false) ss us → firsts ss us ≡ us = λ A. sym (unlisted-stillAll (A .assignment) (firsts ss us) (A .within) q) ∙ A .turns in (
+      λ h. let (few, why) = f h in (omega arith, few, ⊎-map (λ v. v) (λ n e. n (there e)) why),
+      λ k. g (k .1, ⊎-map (λ v. v) (λ n A. n (back A)) (k .2)),
+    )
+
+-- And never 27.
+pub plain-fixed : (ss ts : Sorts) → properAll ss ≡ true → application (function ss then ts) ≡ refused Unassigned → ⊥
+unfolding application count
+plain-fixed ss end p h = other-cause refl h
+plain-fixed ss (t then ts) p h = false≢true (((called-unassigned (λ v. false) ss (t then ts) p (omega arith)) .0 h) .isListed)
 
 -- The premise of these theorems holds of every head that a row accepts: what a Var may carry has a proper list.
 pub carried-list : (ns : List ℕ) (ss : Sorts) → carried (par ns (function ss)) ≡ true → properAll ss ≡ true

@@ -2,28 +2,27 @@
 -- assignment that turns its argument sorts into the actual ones is found.
 use Prim.Native.Nat.{ℕ, zero, suc}
 use mathlib.Core.Path.{_≡_, refl, sym, ap, _∙_}
-use mathlib.Core.Bool.{Bool, true, false, _&&_, _||_, false≢true, true≢false}
+use mathlib.Core.Bool.{Bool, true, false, _&&_, false≢true, true≢false}
 use mathlib.Core.List.{List, [], _∷_}
-use mathlib.Core.Option.{Option, none, some}
+use mathlib.Core.Option.{none, some}
 use lib.Dec.{eqb}
 use borrow.Author.Tests.{eqb-true, eqb-false, ne-eqb}
 use Rattle.record.specs.Sort.{Sort, Sorts, var, par, node, end, _then_, bitvec, numberIn, same}
 use Rattle.record.specs.SortLaws.{same-complete}
 use Rattle.record.specs.Cases.{and-left, and-right, conj, and-true, or-second, three, eqb-self, byTest, byOption, none-some, some-inj}
-use Rattle.substitution.specs.Substitution.{Map, empty, bind, find, bound, apply, applyAll, occurs, occursAny}
+use Rattle.substitution.specs.Substitution.{Map, empty, bind, find, apply, applyAll, occurs, occursAny}
 use Rattle.substitution.specs.SubstitutionLaws.{proper-parless}
 use Rattle.substitution.specs.Premises.{proper, parless, parlessAll}
-use Rattle.substitution.specs.Matching.{keep, matches, matchesAll}
-use Rattle.substitution.specs.MatchingLaws.{keep-test, keep-rest, andThen-middle, matchAll-binds, MatchingAll, matchingAll}
+use Rattle.substitution.specs.Matching.{matches, matchesAll}
+use Rattle.substitution.specs.MatchingLaws.{keep-rest, andThen-middle, matchingAll}
 use Rattle.rows.specs.declared.Cause.{Cause}
 use Rattle.rows.specs.declared.Cause.the-variants.{NoRank, Count, Misfit}
-use Rattle.rows.specs.Verdict.{Verdict, sort, refused, need, orElse, numberOf}
+use Rattle.rows.specs.Verdict.{sort, refused, orElse, numberOf}
 use Rattle.checked.specs.Rank.{Rank, rank, repeated, stretched, patterns, sameCount, counts, vector, vectorsIn, every, answer, fit, firstFit, someCounts}
 use Rattle.checked.specs.RankLaws.{closed, closedAll, patterns-occurs, vector-is, wellRank}
 use Rattle.checked.specs.RankSound.{Sound}
 use Rattle.checked.specs.Fits.{Fits, rankAt, SomeFits}
 use Rattle.checked.specs.Checked.{values, nonempty, ranked, operated}
-use Rattle.checked.specs.Kept.{refused-sort}
 
 ---------------------------------------------------------------- two assignments that agree
 -- Two maps that make the same of every variable in a sort without Par make the same of the sort.

@@ -14,7 +14,8 @@ use Rattle.checked.specs.Rank.{Rank, rank, patterns}
 use Rattle.checked.specs.Checked.{values}
 
 ---------------------------------------------------------------- ranks
--- The argument sorts of a rank, its last one as often as the actual arguments ask; its variables' sorts; its result.
+-- The argument sorts of a rank: its last one as often as the actual arguments ask, and as they are printed; whether its variables
+-- stand for vectors; its result.
 abbrev pub patternsFor : Rank → Sorts → Sorts
 patternsFor (rank rep vs ps r) ts = patterns rep ps ts
 

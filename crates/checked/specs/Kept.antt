@@ -1,12 +1,10 @@
 -- What one step of the checked verdict keeps between the two routes, and the laws that follow the shape of its definition: one
 -- for each `need`, one for each `cond`, one for a result.
-use Prim.Native.Nat.{ℕ, suc}
+use Prim.Native.Nat.{suc}
 use mathlib.Core.Path.{_≡_, refl, ap}
 use mathlib.Core.Bool.{Bool, true, false, cond, _&&_, false≢true, true≢false}
-use mathlib.Core.List.{List, [], _∷_}
-use lib.Dec.{eqb}
 use Rattle.record.specs.Sort.{Sort, Sorts, var, par, node, end, _then_, count}
-use Rattle.record.specs.Cases.{and-left, and-right, conj, and-true}
+use Rattle.record.specs.Cases.{conj, and-true}
 use Rattle.substitution.specs.Substitution.{Map, apply, applyAll}
 use Rattle.substitution.specs.SubstitutionLaws.{applyAll-proper}
 use Rattle.substitution.specs.Premises.{clear, clearAll, proper, properAll, properMap}
@@ -22,6 +20,7 @@ pub record Kept (σ : Map) (s : Sort) (v : Verdict) : Type 0 where
   pub carries : carried s ≡ true
   pub clears : clear σ s ≡ true
 
+-- A refusal is no sort.
 pub refused-sort : {C : Type 0} {n : Cause} {s : Sort} → refused n ≡ sort s → C
 refused-sort {C} {n} {s} e = let z : true ≡ false = cc in absurd (true≢false z)
 
@@ -40,6 +39,7 @@ pub cond-kept : (σ : Map) (s : Sort) (b : Bool) (u v u′ v′ : Verdict) → (
 cond-kept σ s true u v u′ v′ f g e = f e
 cond-kept σ s false u v u′ v′ f g e = g e
 
+-- A proper sort is one that a Var may carry, and has no parameter to touch.
 pub proper-carried : (s : Sort) → proper s ≡ true → carried s ≡ true
 unfolding proper
 proper-carried (var v) e = refl
@@ -95,6 +95,7 @@ proper-values end e = refl
 proper-values (s then ss) e =
     and-true (value s) (values ss) (proper-value s (search conj)) (proper-values ss (search conj))
 
+-- Values stay values, counts stay, and the last of a list is the replaced last.
 pub values-moved : (σ : Map) (ss : Sorts) → properMap σ ≡ true → carriedAll ss ≡ true → values ss ≡ true → values (applyAll σ ss) ≡ true
 values-moved σ ss e c h = proper-values (applyAll σ ss) (applyAll-proper σ ss e (carried-values ss c h))
 

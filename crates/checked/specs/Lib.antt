@@ -2,6 +2,7 @@ pub mod Rank
 pub mod Ranks
 pub mod Checked
 pub mod Routes
+pub mod CheckedExamples
 pub mod AppExamples
 pub mod RouteExamples
 pub mod Fits
@@ -13,6 +14,8 @@ pub mod FitLaws
 pub mod RankTheorems
 pub mod StepsKept
 pub mod RouteLaws
+pub mod RouteTheorems
 pub mod AppTheorems
+pub mod Renaming
 pub mod Widths
 pub mod RuleTheorems

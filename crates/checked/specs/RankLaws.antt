@@ -2,21 +2,21 @@
 -- them when they are put through a map, with its result put through it.
 use Prim.Native.Nat.{ℕ}
 use mathlib.Core.Path.{_≡_, refl, sym, ap, _∙_}
-use mathlib.Core.Bool.{Bool, true, false, _&&_, _||_, false≢true}
+use mathlib.Core.Bool.{Bool, true, false, _&&_, false≢true}
 use mathlib.Core.List.{List, [], _∷_}
-use mathlib.Core.Option.{Option, none, some}
-use lib.Dec.{eqb}
-use Rattle.record.specs.Sort.{Sort, Sorts, var, par, node, end, _then_, bitvec, numberIn, same}
-use Rattle.record.specs.SortLaws.{same-sound, same-refl}
-use Rattle.record.specs.Cases.{and-left, and-right, conj, and-true, byTest, byOption, none-some, some-inj}
+use mathlib.Core.Option.{none, some}
+use Rattle.record.specs.Sort.{Sort, Sorts, var, par, node, end, _then_, bitvec, numberIn}
+use Rattle.record.specs.SortLaws.{same-sound}
+use Rattle.record.specs.Cases.{and-left, conj, and-true, byTest, byOption, none-some, some-inj}
 use Rattle.substitution.specs.Substitution.{Map, empty, bind, find, bound, apply, applyAll, through, occurs, occursAny}
-use Rattle.substitution.specs.SubstitutionLaws.{apply-proper, find-through, find-through-none}
+use Rattle.substitution.specs.SubstitutionLaws.{apply-proper, find-through}
 use Rattle.substitution.specs.Premises.{proper, properAll, properMap, parless, parlessAll}
-use Rattle.substitution.specs.Matching.{keep, matches, matchesAll}
-use Rattle.substitution.specs.MatchingLaws.{keep-test, keep-rest, andThen-middle, matchAll-binds, matchAll-proper, matchAll-target-moved}
+use Rattle.substitution.specs.Matching.{matchesAll}
+use Rattle.substitution.specs.MatchingLaws.{matchAll-binds, matchAll-proper, matchAll-target-moved}
 use Rattle.checked.specs.Rank.{Rank, rank, repeated, stretched, patterns, sameCount, counts, vector, vectorsIn, every, answer, fit, someCounts}
 
 ---------------------------------------------------------------- only the count of the arguments chooses the patterns
+-- Replacing changes no count, so a rank has the same patterns for replaced arguments.
 pub repeated-moved : (σ : Map) (p : Sort) (ts : Sorts) → repeated p (applyAll σ ts) ≡ repeated p ts
 unfolding repeated apply
 repeated-moved σ p end = refl
@@ -41,6 +41,7 @@ sameCount-moved σ end (t then ts) = refl
 sameCount-moved σ (p then ps) end = refl
 sameCount-moved σ (p then ps) (t then ts) = sameCount-moved σ ps ts
 
+-- So a rank has the count of replaced arguments exactly when it has that of the arguments.
 pub counts-moved : (σ : Map) (r : Rank) (ts : Sorts) → counts r (applyAll σ ts) ≡ counts r ts
 unfolding counts
 counts-moved σ (rank rep vs ps r) ts = rw (patterns-moved σ rep ps ts) (sameCount-moved σ (patterns rep ps ts) ts)

@@ -4,15 +4,15 @@ use Prim.Native.Nat.{ℕ, suc}
 use mathlib.Core.Path.{_≡_, refl, sym, ap, _∙_}
 use mathlib.Core.Bool.{Bool, true, false, not, _&&_, true≢false}
 use mathlib.Core.List.{List, [], _∷_}
-use mathlib.Core.Option.{Option, none, some}
+use mathlib.Core.Option.{none, some}
 use lib.Dec.{eqb, leb}
 use borrow.Author.Tests.{eqb-true, eqb-false}
 use Rattle.record.specs.Sort.{Sort, Sorts, var, par, node, end, _then_}
-use Rattle.record.specs.Cases.{and-left, and-right, conj, not-true, three, byTest, byOption, none-some, some-inj}
+use Rattle.record.specs.Cases.{conj, not-true, three, byTest, byOption, none-some, some-inj}
 use Rattle.substitution.specs.Substitution.{Map, empty, apply, applyAll}
 use Rattle.substitution.specs.Premises.{proper, properAll}
-use Rattle.substitution.specs.Matching.{keep, matches, matchesAll}
-use Rattle.substitution.specs.MatchingLaws.{keep-test, keep-rest, andThen-middle}
+use Rattle.substitution.specs.Matching.{matches, matchesAll}
+use Rattle.substitution.specs.MatchingLaws.{keep-test, andThen-middle}
 use Rattle.checked.specs.Rank.{Rank, rank, stretched, patterns, every, answer, fit, firstFit}
 use Rattle.checked.specs.Ranks.{Table, done, row, ranksIn, standard, smtLib}
 use Rattle.checked.specs.RankLaws.{wellRank, fit-moved, fit-proper}
@@ -42,6 +42,7 @@ unfolding wellRank apartFrom
 wellRanks [] = true
 wellRanks (r ∷ rs) = wellRank r && apartFrom (rankTop r) rs && wellRanks rs
 
+-- A pattern that is no variable matches arguments of its own kind only.
 pub stretched-first : (ps ts : Sorts) → firstTop (stretched ps ts) ≡ firstTop ps
 unfolding stretched
 stretched-first end ts = refl
@@ -78,6 +79,7 @@ fit-kind (rank rep vs ps r) ts s z h =
     (λ q. let y : answer vs r none ≡ some s = rw q at h in none-some y)
     (λ m q. let f = patterns-first rep ps ts in matchAll-kind (patterns rep ps ts) ts empty m (rw f z) q ∙ f)
 
+-- So ranks whose first arguments are of different kinds do not fit the same arguments.
 pub firstFit-apart : (k : ℕ) (rs : List Rank) (ts : Sorts) (s : Sort) → apartFrom k rs ≡ true → firstFit rs ts ≡ some s → firstTop ts ≡ k → ⊥
 unfolding firstFit apartFrom
 firstFit-apart k [] ts s e h q = none-some h
@@ -100,6 +102,7 @@ abbrev pub Sound : List Rank → Type 0
 Sound [] = Unit {0}
 Sound (r ∷ rs) = (wellRank r ≡ true) × ((ts : Sorts) (s u : Sort) → fit r ts ≡ some s → firstFit rs ts ≡ some u → ⊥) × Sound rs
 
+-- A list that passes the test is sound.
 pub well-sound : (rs : List Rank) → wellRanks rs ≡ true → Sound rs
 unfolding wellRanks
 well-sound [] e = tt
@@ -119,6 +122,7 @@ firstFit-moved σ (r ∷ rs) ts s w h =
     (λ u g. absurd (w .1 (applyAll σ ts) u (apply σ s) g i)))
     (λ u n. let z : some u ≡ some s = rw n at h in rw (fit-moved σ r ts u (w .0) n, some-inj z) refl)
 
+-- The result that is found over proper arguments is proper.
 pub firstFit-proper : (rs : List Rank) (ts : Sorts) (s : Sort) → Sound rs → properAll ts ≡ true → firstFit rs ts ≡ some s → proper s ≡ true
 unfolding firstFit
 firstFit-proper [] ts s w p h = none-some h
@@ -133,6 +137,7 @@ unfolding wellRanks
 wellTable done = true
 wellTable (row a b rs t) = wellRanks rs && wellTable t
 
+-- The test of every row of a table, and that document 01's passes it.
 pub table-well : (t : Table) (n : ℕ) → wellTable t ≡ true → wellRanks (ranksIn t n) ≡ true
 unfolding wellTable ranksIn
 table-well done n e = refl

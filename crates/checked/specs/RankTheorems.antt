@@ -17,8 +17,8 @@ use Rattle.checked.specs.Ranks.{smtLib}
 use Rattle.checked.specs.RankLaws.{vector-is}
 use Rattle.checked.specs.RankSound.{Sound, smtLib-sound}
 use Rattle.checked.specs.Fits.{Fits, rankAt, SomeFits}
-use Rattle.checked.specs.FitLaws.{vector-when, sound-well, fits-fit, fit-counts, firstFit-when, someCounts-when, someCounts-nonempty, firstFit-some, some-fit, some-firstFit, sort-refused, other-cause, ranked-unranked, ranked-miscounted, ranked-par, ranked-values, byRanked, operated-ranked}
-use Rattle.checked.specs.Checked.{values, concatenation, nonempty, ranked, operated}
+use Rattle.checked.specs.FitLaws.{sound-well, fits-fit, fit-counts, firstFit-when, someCounts-when, firstFit-some, some-fit, some-firstFit, sort-refused, other-cause, ranked-unranked, ranked-miscounted, ranked-par, ranked-values, byRanked, operated-ranked}
+use Rattle.checked.specs.Checked.{values, concatenation, nonempty, operated}
 use Rattle.checked.specs.Kept.{refused-sort, sort-inj}
 
 ---------------------------------------------------------------- accepted exactly when some rank fits

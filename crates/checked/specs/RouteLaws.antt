@@ -2,16 +2,16 @@
 -- checking, give the same sort wherever the first gives one. By induction over the term; StepsKept has each rule.
 use Prim.Native.Nat.{ℕ}
 use mathlib.Core.Path.{_≡_, refl, ap}
-use mathlib.Core.Bool.{Bool, true, false, not, cond, _&&_, false≢true}
+use mathlib.Core.Bool.{true, not, _&&_, false≢true}
 use mathlib.Core.List.{List, [], _∷_}
 use mathlib.Core.Option.{Option, none, some}
 use lib.Dec.{eqb}
-use Rattle.record.specs.Sort.{Sort, Sorts, var, par, node, end, _then_, int, real, string, reglan, bitvec}
+use Rattle.record.specs.Sort.{Sort, Sorts, var, par, node, _then_, int, real, string, reglan, bitvec}
 use Rattle.record.specs.Cases.{and-left, and-right, conj, and-true, not-true, none-some, some-inj}
 use Rattle.sheet.specs.Sheet.{Binding}
 use Rattle.substitution.specs.Substitution.{Map, apply, applyAll}
 use Rattle.substitution.specs.SubstitutionLaws.{apply-proper, left-untouched}
-use Rattle.substitution.specs.Premises.{untouched, clear, clearAll, proper, properMap}
+use Rattle.substitution.specs.Premises.{clear, clearAll, proper, properMap}
 use Rattle.rows.specs.declared.Cause.the-variants.{Barred}
 use Rattle.rows.specs.Verdict.{Verdict, sort, refused}
 use Rattle.rows.specs.Lists.{bindingSorts}

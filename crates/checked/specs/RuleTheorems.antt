@@ -1,35 +1,35 @@
 -- THE CHECKED VERDICT IS A SORT EXACTLY BY THE RULES of Rules: for every record, and by induction for every term. The tests of
 -- Checked are taken apart one after the other, each giving a premise of a rule; and the premises make the tests pass.
-use Prim.Native.Nat.{ℕ, zero, suc, _+_, _*_, _-_, _≤_, _<_}
+use Prim.Native.Nat.{ℕ, suc, _+_, _*_, _-_, _<_}
 use mathlib.Core.Path.{_≡_, refl, sym, ap, _∙_}
-use mathlib.Core.Logic.{_↔_, _⊎_, inl, inr}
-use mathlib.Core.Bool.{Bool, true, false, not, cond, _&&_, _||_, false≢true, true≢false}
+use mathlib.Core.Logic.{_↔_, inl, inr}
+use mathlib.Core.Bool.{Bool, true, false, not, _&&_, _||_, false≢true}
 use mathlib.Core.List.{List, [], _∷_}
 use mathlib.Core.Option.{Option, none, some}
 use native.Mathlib.Omega.{arith}
 use native.Mathlib.Numerals.{add-one}
 use lib.Dec.{eqb, leb, ltb}
-use borrow.Author.Tests.{eqb-true, eqb-false, eq-eqb, ne-eqb, leb-true, ltb-true, lt-ltb, le-leb}
-use Rattle.record.specs.Sort.{Sort, Sorts, var, par, node, end, _then_, function, bool, int, real, string, reglan, array, bitvec, numberIn, count, same}
+use borrow.Author.Tests.{eqb-true, eqb-false, ne-eqb, leb-true, ltb-true, lt-ltb}
+use Rattle.record.specs.Sort.{Sort, Sorts, var, par, node, end, _then_, function, bool, int, reglan, array, bitvec, numberIn, count, same}
 use Rattle.record.specs.SortLaws.{same-sound, same-complete, same-refl}
-use Rattle.record.specs.Cases.{and-left, and-right, conj, and-true, not-true, eqb-self, byTest, none-some, some-inj}
-use Rattle.substitution.specs.Substitution.{Map, empty}
-use Rattle.substitution.specs.Premises.{touches, untouched, clear, clearAll, proper, properAll, properMap}
+use Rattle.record.specs.Cases.{and-left, and-right, conj, and-true, not-true, byTest, some-inj}
+use Rattle.substitution.specs.Substitution.{empty}
+use Rattle.substitution.specs.Premises.{untouched, clear, clearAll, proper, properAll, properMap}
 use Rattle.sheet.specs.Sheet.{Binding}
 use Rattle.rows.specs.declared.Cause.{Cause}
 use Rattle.rows.specs.declared.Cause.the-variants.{NoRank, Count, Misfit, Barred}
-use Rattle.rows.specs.Verdict.{Verdict, sort, refused, need}
+use Rattle.rows.specs.Verdict.{Verdict, sort, need}
 use Rattle.rows.specs.Lists.{lastOf, joined, bindingSorts}
-use Rattle.rows.specs.Term.{Site, Term, Terms, term, stop, _also_, overParts, besides, constantsOf, verdictOf, verdictsOf}
+use Rattle.rows.specs.Term.{Site, Term, Terms, term, stop, _also_, constantsOf, verdictOf, verdictsOf}
 use Rattle.checked.specs.Rank.{Rank, vector}
 use Rattle.checked.specs.RankLaws.{vector-is}
 use Rattle.checked.specs.RankSound.{Sound, smtLib-sound}
 use Rattle.checked.specs.Ranks.{smtLib}
-use Rattle.checked.specs.Checked.{carried, value, values, called, application, operated, onlyOf, boundBody, binder, innerOf, letting, resized, indexed₁, indexed₂, indexedBy, indexedOn, indexing, constantArray, qualified, checked, check}
+use Rattle.checked.specs.Checked.{carried, value, values, called, application, operated, onlyOf, boundBody, binder, letting, resized, indexed₁, indexed₂, indexedOn, indexing, constantArray, qualified, checked, check}
 use Rattle.checked.specs.Routes.{clearBindings, clearTerm, clearTerms}
-use Rattle.checked.specs.Kept.{Kept, refused-sort, sort-inj, carriedAll}
-use Rattle.checked.specs.RouteLaws.{KeptAll, verdicts-kept, parts, besides-parts}
-use Rattle.checked.specs.Fits.{SomeFits, rest, Applies, oneOf}
+use Rattle.checked.specs.Kept.{refused-sort, sort-inj, carriedAll}
+use Rattle.checked.specs.RouteLaws.{verdicts-kept, parts, besides-parts}
+use Rattle.checked.specs.Fits.{oneOf}
 use Rattle.checked.specs.RankTheorems.{accepted, concat-accepted}
 use Rattle.checked.specs.AppTheorems.{called-accepted, called-plain}
 use Rattle.checked.specs.Widths.{extend-width, rotate-width, repeat-width, extract-accepted, int-width}
@@ -372,3 +372,7 @@ checked-exactly R S t s = (λ h. has-only R S t s h, λ h. has-when R S t s h)
 
 pub checked-exactly-smtLib : (t : Term) (s : Sort) → check smtLib t ≡ sort s ↔ HasSort smtLib t s
 checked-exactly-smtLib = checked-exactly smtLib smtLib-sound
+
+-- The rules give a term one sort at most.
+pub one-sort : (R : ℕ → List Rank) → ((n : ℕ) → Sound (R n)) → (t : Term) (s u : Sort) → HasSort R t s → HasSort R t u → s ≡ u
+one-sort R S t s u a b = sort-inj (sym ((checked-exactly R S t s) .1 a) ∙ (checked-exactly R S t u) .1 b)

@@ -1,6 +1,6 @@
 -- The two routes, one rule of the checked verdict after the other: where a rule gives a sort, it gives the replaced sort on
 -- replaced arguments. Each law follows the `need`s of its definition.
-use Prim.Native.Nat.{ℕ, zero, suc, _+_, _-_, _*_, _<_}
+use Prim.Native.Nat.{ℕ, suc, _+_, _-_, _*_, _<_}
 use mathlib.Core.Path.{_≡_, refl, sym, ap, _∙_}
 use mathlib.Core.Bool.{Bool, true, false, not, cond, _&&_, _||_, false≢true, true≢false}
 use mathlib.Core.List.{List, [], _∷_}
@@ -20,7 +20,7 @@ use Rattle.substitution.specs.Matching.{matchesAll}
 use Rattle.substitution.specs.MatchingLaws.{matchAll-within, matchAll-moved, matchAll-proper}
 use Rattle.rows.specs.declared.Cause.{Cause}
 use Rattle.rows.specs.declared.Cause.the-variants.{NoRank, Count, Misfit, Unassigned, Barred}
-use Rattle.rows.specs.Verdict.{Verdict, sort, refused, need}
+use Rattle.rows.specs.Verdict.{Verdict, sort, need}
 use Rattle.rows.specs.Lists.{firsts, others, remaining, lastOf, joined}
 use Rattle.checked.specs.Rank.{Rank, vector, firstFit, someCounts}
 use Rattle.checked.specs.RankLaws.{someCounts-moved, vector-is, vector-still}
@@ -29,6 +29,7 @@ use Rattle.checked.specs.Checked.{carried, value, values, settled, settl
 use Rattle.checked.specs.Kept.{Kept, refused-sort, need-kept, cond-kept, kept, carriedAll, carried-value, carried-values, proper-value, values-moved, count-moved, lastOf-moved, lastOf-proper}
 
 ---------------------------------------------------------------- operators
+-- Ranks: the counts stay, values stay values, and the rank that fits is the one that fits.
 pub ranked-kept : (σ : Map) (rs : List Rank) (ts : Sorts) (s : Sort) → properMap σ ≡ true → carriedAll ts ≡ true → Sound rs
     → ranked rs ts ≡ sort s → Kept σ s (ranked rs (applyAll σ ts))
 unfolding ranked
@@ -40,7 +41,7 @@ ranked-kept σ rs ts s e c w =
     (λ f. refused-sort (rw f at h))
     (λ r f. kept σ r s _ (firstFit-proper rs ts r w (carried-values ts c v) f) (rw (firstFit-moved σ rs ts r w f) refl) (rw f at h)))))
 
--- positive widths
+-- A vector of positive width is proper, and a proper vector has positive width.
 pub width-proper : (w : ℕ) → 0 < w → proper (bitvec w) ≡ true
 unfolding proper
 width-proper w h = rw (ne-eqb w 0 (λ q. omega arith)) refl
@@ -53,12 +54,14 @@ proper-width s v e =
     (λ q. let z : false ≡ true = rw q at h in absurd (false≢true z))
     (λ q. let n : numberIn s ≡ 0 → ⊥ = eqb-false (numberIn s) 0 q in omega (arith, n))
 
+-- An argument that is a vector is proper, and stays a vector.
 pub vector-proper : (s : Sort) → carried s ≡ true → vector s ≡ true → proper s ≡ true
 vector-proper s c v = carried-value s c (ap value (vector-is s v))
 
 pub vector-moved : (σ : Map) (s : Sort) → vector s ≡ true → vector (apply σ s) ≡ true
 vector-moved σ s v = rw (vector-still σ s v) v
 
+-- BvConcat: two vectors stay as they are.
 pub concatenation-kept : (σ : Map) (ts : Sorts) (s : Sort) → carriedAll ts ≡ true
     → concatenation ts ≡ sort s → Kept σ s (concatenation (applyAll σ ts))
 unfolding concatenation apply carriedAll
@@ -75,6 +78,7 @@ concatenation-kept σ (a then (b then end)) s c h =
     h
 concatenation-kept σ (a then (b then (d then ss))) s c h = refused-sort h
 
+-- Every operator, by its number.
 pub operated-kept : (R : ℕ → List Rank) → ((n : ℕ) → Sound (R n)) → (σ : Map) (n : ℕ) (ts : Sorts) (s : Sort) → properMap σ ≡ true → carriedAll ts ≡ true
     → operated R n ts ≡ sort s → Kept σ s (operated R n (applyAll σ ts))
 unfolding operated
@@ -82,6 +86,7 @@ operated-kept R S σ n ts s e c =
     cond-kept σ s (eqb n 90) _ _ _ _ (concatenation-kept σ ts s c) (ranked-kept σ (R n) ts s e c (S n))
 
 ---------------------------------------------------------------- application
+-- The lists that App takes apart, replaced: parts of the replaced list; and parts of a proper list are proper.
 pub firsts-moved : (σ : Map) (ss ts : Sorts) → firsts (applyAll σ ss) (applyAll σ ts) ≡ applyAll σ (firsts ss ts)
 unfolding firsts apply
 firsts-moved σ ss end = refl
@@ -112,7 +117,7 @@ remaining-proper end e = refl
 remaining-proper (s then end) e = and-left (proper s) true e
 remaining-proper (s then (r then rs)) e = e
 
--- what the arguments settle, they settle on the other route
+-- What the arguments settle, they settle on the other route.
 pub bound-through : (σ m : Map) (v : ℕ) → bound m v ≡ true → bound (through σ m) v ≡ true
 bound-through σ m v b =
     byOption (find m v) (λ q. let z : false ≡ true = rw q at b in absurd (false≢true z)) (λ s q. rw (find-through σ m v s q) refl)
@@ -157,6 +162,8 @@ mutual
       (settled-moved σ listed m s e d (search conj) (search conj))
       (settledAll-moved σ listed m ss e d (search conj) (search conj))
 
+-- App: a match of the declared sorts with the actual ones stays one when both are replaced, since no parameter is touched; what it
+-- settles stays settled, and the result is the replaced result (`apply-apply`).
 pub called-kept : (σ : Map) (listed : ℕ → Bool) (ss ts : Sorts) (s : Sort) → properMap σ ≡ true → ((v : ℕ) → listed v ≡ true → touches σ v ≡ false)
     → properAll ss ≡ true → carriedAll ts ≡ true
     → called listed (some ss) ts ≡ sort s → Kept σ s (called listed (some (applyAll σ ss)) (applyAll σ ts))
@@ -179,6 +186,7 @@ called-kept σ listed ss ts s e d p c =
     (λ o. none-some (sym (matchAll-within listed (firsts ss ts) ts empty m f (λ _ _. refl) u o) ∙ g)))))))
     (rw f at h))))))
 
+-- A parameter of an untouched Par is not touched.
 pub untouched-member : (σ : Map) (ns : List ℕ) (v : ℕ) → untouched σ ns ≡ true → member v ns ≡ true → touches σ v ≡ false
 unfolding untouched member
 untouched-member σ [] v u h = absurd (false≢true h)
@@ -187,6 +195,7 @@ untouched-member σ (n ∷ ns) v u h =
     (λ q. rw (← eqb-true n v q) (not-true (touches σ n) (search conj)))
     (λ q. untouched-member σ ns v (search conj) (rw q at h))
 
+-- A head with a list, or none.
 pub listed-kept : (σ : Map) (k : ℕ) (listed : ℕ → Bool) (ss ts : Sorts) (s : Sort) → properMap σ ≡ true → ((v : ℕ) → listed v ≡ true → touches σ v ≡ false)
     → properAll ss ≡ true → carriedAll ts ≡ true
     → called listed (cond (eqb k 0) (some ss) none) ts ≡ sort s → Kept σ s (called listed (cond (eqb k 0) (some (applyAll σ ss)) none) (applyAll σ ts))
@@ -196,6 +205,7 @@ listed-kept σ k listed ss ts s e d p c h =
     (λ q. rw q (called-kept σ listed ss ts s e d p c (rw q at h)))
     (λ q. refused-sort (rw q at h))
 
+-- App, by the head: a Par keeps its names, since none is touched.
 pub application-kept : (σ : Map) (ts : Sorts) (s : Sort) → properMap σ ≡ true → carriedAll ts ≡ true → clearAll σ ts ≡ true
     → application ts ≡ sort s → Kept σ s (application (applyAll σ ts))
 unfolding application apply carriedAll clear proper
@@ -216,6 +226,7 @@ application-kept σ (node k a w ss then (t then ts)) s e c u h =
     listed-kept σ k (λ v. false) ss (t then ts) s e (λ v q. absurd (false≢true q)) (search conj) (search conj) h
 
 ---------------------------------------------------------------- binders
+-- A Lambda's list, replaced, and proper.
 pub joined-moved : (σ : Map) (bs : Sorts) (b : Sort) → joined (applyAll σ bs) (apply σ b) ≡ applyAll σ (joined bs b)
 unfolding joined apply
 joined-moved σ end b = refl
@@ -285,10 +296,12 @@ letting-kept σ ts s e c =
     (λ v. inner-kept σ ts s (carried-values ts c v)))
 
 ---------------------------------------------------------------- indexed operators
+-- What follows a test that held.
 pub need-rest : (b : Bool) (n : Cause) (v : Verdict) (s : Sort) → need b n v ≡ sort s → v ≡ sort s
 need-rest true n v s e = e
 need-rest false n v s e = refused-sort e
 
+-- An indexed operator on a vector: the vector stays as it is, so test and new width do.
 pub resized-kept : (σ : Map) (f f′ : Bool) (a : Sort) (w w′ : ℕ) (s : Sort) → carried a ≡ true → (f ≡ true → apply σ a ≡ a → f′ ≡ true) → (apply σ a ≡ a → w′ ≡ w)
     → (f ≡ true → 0 < numberIn a → 0 < w)
     → resized f a w ≡ sort s → Kept σ s (resized f′ (apply σ a) w′)
@@ -301,6 +314,7 @@ resized-kept σ f f′ a w w′ s c ff fw pw h =
     kept σ (bitvec w) s _ (width-proper w (pw t (proper-width a v (vector-proper a c v)))) (rw (fw q) refl))) h)
     (λ v. refused-sort (rw v at (need-rest f Count (need (vector a) Misfit (sort (bitvec w))) s h)))
 
+-- One index, two indices, as many as there are.
 pub indexed₁-kept : (σ : Map) (n i : ℕ) (a s : Sort) → carried a ≡ true → indexed₁ n i a ≡ sort s → Kept σ s (indexed₁ n i (apply σ a))
 unfolding apply proper
 indexed₁-kept σ n i a s c =
@@ -342,6 +356,7 @@ indexedOn-kept σ n is end s c h = refused-sort h
 indexedOn-kept σ n is (a then end) s c h = indexedBy-kept σ n is a s (search conj) h
 indexedOn-kept σ n is (a then (b then bs)) s c h = refused-sort h
 
+-- (as const): an Array stays an Array, and its element sort the argument's.
 pub constantArray-kept : (σ : Map) (o : Sort) (ts : Sorts) (s : Sort) → properMap σ ≡ true → proper o ≡ true → constantArray o ts ≡ sort s → Kept σ s (constantArray (apply σ o) (applyAll σ ts))
 unfolding apply
 constantArray-kept σ o end s e p h = refused-sort h

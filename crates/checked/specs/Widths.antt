@@ -3,25 +3,26 @@
 use Prim.Native.Nat.{ℕ, zero, suc, _+_, _*_, _-_, _≤_, _<_}
 use mathlib.Core.Path.{_≡_, refl, sym, ap, _∙_}
 use mathlib.Core.Logic.{_↔_, _⊎_, inl, inr, ⊎-elim}
-use mathlib.Core.Bool.{Bool, true, false, not, cond, _&&_, _||_, false≢true}
+use mathlib.Core.Bool.{Bool, true, false, not, _&&_, false≢true}
 use mathlib.Core.List.{List, [], _∷_}
-use mathlib.Core.Option.{Option, none, some}
+use mathlib.Core.Option.{some}
 use native.Mathlib.Omega.{arith}
 use native.Mathlib.Numerals.{add-one}
 use lib.Dec.{eqb, leb, ltb}
-use borrow.Author.Tests.{eqb-true, eqb-false, eq-eqb, ne-eqb, leb-true, leb-false, ltb-true, ltb-false, lt-ltb, le-ltb, le-leb, lt-leb}
-use Rattle.record.specs.Sort.{Sort, Sorts, end, _then_, bool, int, bitvec, numberIn, same, sameAll}
+use borrow.Author.Tests.{eqb-true, eqb-false, ne-eqb, leb-true, leb-false, ltb-true, lt-ltb, le-leb}
+use Rattle.record.specs.Sort.{Sort, Sorts, end, _then_, bool, int, bitvec, same, sameAll}
 use Rattle.record.specs.SortLaws.{same-sound, sameAll-sound}
-use Rattle.record.specs.Cases.{and-left, and-right, and-true, eqb-self, byTest, clash}
-use Rattle.substitution.specs.Substitution.{Map, empty, bind, apply}
+use Rattle.record.specs.Cases.{and-left, and-right, eqb-self, byTest}
+use Rattle.substitution.specs.Substitution.{empty, bind, apply, applyAll, occurs}
 use Rattle.rows.specs.declared.Cause.the-variants.{Count, Misfit}
-use Rattle.rows.specs.Verdict.{Verdict, sort, refused, need}
-use Rattle.checked.specs.Rank.{Rank, rank}
-use Rattle.checked.specs.Ranks.{x, one, two, ranksIn, standard, smtLib}
-use Rattle.checked.specs.Checked.{ranked, operated, indexing}
+use Rattle.rows.specs.Verdict.{sort, refused, need}
+use Rattle.checked.specs.Rank.{Rank, rank, repeated, stretched}
+use Rattle.checked.specs.Ranks.{x, one, two, smtLib}
+use Rattle.checked.specs.Fits.{rankAt}
+use Rattle.checked.specs.Checked.{values, ranked, operated, indexing}
 use Rattle.checked.specs.Kept.{refused-sort, sort-inj}
-use Rattle.checked.specs.FitLaws.{sort-refused, other-cause, operated-ranked}
-use Rattle.checked.specs.RankTheorems.{concat-accepted}
+use Rattle.checked.specs.FitLaws.{sort-refused, operated-ranked}
+use Rattle.checked.specs.RankTheorems.{accepted-smtLib, concat-accepted}
 
 ---------------------------------------------------------------- the operators that share a rank
 -- An operator has this one rank, by computation.
@@ -115,6 +116,42 @@ equal-widths n w a = two-widths n w w a ∙ rw (eqb-self w) refl
 -- and refuse vectors of unequal widths with 26.
 pub unequal-widths : (n w v : ℕ) → TwoPlace n → (w ≡ v → ⊥) → operated smtLib n (bitvec w then bitvec v then end) ≡ refused Misfit
 unequal-widths n w v a d = two-widths n w v a ∙ rw (ne-eqb w v d) refl
+
+-- 81 BvAnd, 82 BvOr, 83 BvAdd and 84 BvMul take two or more: the same width for all, and for the result.
+unfoldable pub copies : ℕ → Sort → Sorts
+copies zero s = end
+copies (suc k) s = s then copies k s
+
+pub copies-values : (k : ℕ) (w : ℕ) → values (copies k (bitvec w)) ≡ true
+unfolding copies values
+copies-values zero w = refl
+copies-values (suc k) w = copies-values k w
+
+pub copies-turned : (k w : ℕ) → applyAll (bind 0 (bitvec w) empty) (repeated x (copies k (bitvec w))) ≡ copies k (bitvec w)
+unfolding copies repeated apply
+copies-turned zero w = refl
+copies-turned (suc k) w = ap (bitvec w then_) (copies-turned k w)
+
+pub many-widths : (n k w : ℕ) → 81 ≤ n → n ≤ 84 → operated smtLib n (copies (2 + k) (bitvec w)) ≡ sort (bitvec w)
+unfolding share copies stretched apply occurs rankAt
+many-widths n k w a b =
+    let θ = bind 0 (bitvec w) empty in
+    let e : smtLib n ≡ many ∷ [] = shared many 81 4 n refl a (omega arith) in
+    let c : 2 + k ≡ suc (suc k) = omega arith in
+    rw c ((accepted-smtLib n (λ e. omega arith) (bitvec w then bitvec w then copies k (bitvec w)) (bitvec w)) .1 (
+      copies-values (suc (suc k)) w,
+      record {
+        place = 0;
+        chosen = many;
+        listed = rw e refl;
+        fits = record {
+          assignment = θ;
+          turns = ap (λ (ts : Sorts). bitvec w then bitvec w then ts) (copies-turned k w);
+          widths = λ q v o. (w, byTest (eqb 0 v) (λ z. rw z refl) (λ z. let y : false ≡ true = rw z at o in absurd (false≢true y)));
+          result = refl;
+        };
+      },
+    ))
 
 -- 79 BvNot and 80 BvNeg give a vector of the width of their argument.
 pub one-width : (n w : ℕ) → 79 ≤ n → n ≤ 80 → operated smtLib n (bitvec w then end) ≡ sort (bitvec w)
