@@ -21,6 +21,7 @@ use Rattle.checked.specs.Checked.{check}
 use Rattle.checked.specs.Routes.{replace, clearTerm}
 use Rattle.checked.specs.RankSound.{Sound, smtLib-sound}
 use Rattle.checked.specs.RouteLaws.{routes}
+use Rattle.checked.specs.RouteTheorems.{Allowed, routes-allowed}
 use Rattle.verdicts.specs.Judged.{accepted, judgedBy, judged}
 use Rattle.verdicts.specs.JudgedLaws.{judged-checked, judged-store}
 
@@ -46,18 +47,29 @@ module _ (R : ℕ → List Rank) (s : List ℕ) (l : Lengths) (h : Sheet) (st : 
       let few = room-few (l .records) (l .places) st (judged-store R s l h st rows answers e .3) in
       (m .0, (omega (arith, m .0), m .1))
 
--- DEMAND 3, ENTIRE, over any sound ranks.
+-- What holds of the trees of two terms holds of their checked rows: if the tree of t′ has the sort b wherever the tree of t has a,
+-- then so have their rows.
+rows-follow : (R : ℕ → List Rank) (A B : List ℕ) (lA lB : Lengths) (hA hB : Sheet) (stA stB : List Sort) (rowsA rowsB answersA answersB : List ℕ)
+    → judgedBy R A lA ≡ accepted hA stA rowsA answersA → judgedBy R B lB ≡ accepted hB stB rowsB answersB
+    → (t t′ : ℕ) → t < length (hA .terms) → t′ < length (hB .terms)
+    → free rowsA 1 (hA .terms) t ≡ true → free rowsB 1 (hB .terms) t′ ≡ true
+    → (a b : Sort) → (check R (termAt (hA .terms) t) ≡ sort a → check R (termAt (hB .terms) t′) ≡ sort b)
+    → Gives stA rowsA t a → (checkedRow rowsB t′ < length stB) × Gives stB rowsB t′ b
+rows-follow R A B lA lB hA hB stA stB rowsA rowsB answersA answersB jA jB t t′ lowA lowB fA fB a b go g =
+    checked-given R B lB hB stB rowsB answersB jB t′ lowB fB b (go (given-checked R A lA hA stA rowsA answersA jA t lowA fA a g))
+
+-- The two routes over any sound ranks, under the weakest premises on σ: `Allowed` of RouteTheorems, where only what σ finds for a name
+-- counts.
 pub two-routes-over : (R : ℕ → List Rank) → ((n : ℕ) → Sound (R n))
     → (A B : List ℕ) (lA lB : Lengths) (hA hB : Sheet) (stA stB : List Sort) (rowsA rowsB answersA answersB : List ℕ)
     → judgedBy R A lA ≡ accepted hA stA rowsA answersA → judgedBy R B lB ≡ accepted hB stB rowsB answersB
     → (t t′ : ℕ) → t < length (hA .terms) → t′ < length (hB .terms)
-    → (σ : Map) → properMap σ ≡ true → clearTerm σ (termAt (hA .terms) t) ≡ true
-    → termAt (hB .terms) t′ ≡ replace σ (termAt (hA .terms) t)
+    → (σ : Map) → Allowed σ (termAt (hA .terms) t) → termAt (hB .terms) t′ ≡ replace σ (termAt (hA .terms) t)
     → free rowsA 1 (hA .terms) t ≡ true → free rowsB 1 (hB .terms) t′ ≡ true
     → (s : Sort) → Gives stA rowsA t s → (checkedRow rowsB t′ < length stB) × Gives stB rowsB t′ (apply σ s)
-two-routes-over R S A B lA lB hA hB stA stB rowsA rowsB answersA answersB jA jB t t′ lowA lowB σ p c same fA fB s g =
-    checked-given R B lB hB stB rowsB answersB jB t′ lowB fB (apply σ s)
-    (ap (check R) same ∙ routes R S σ (termAt (hA .terms) t) s p c (given-checked R A lA hA stA rowsA answersA jA t lowA fA s g))
+two-routes-over R S A B lA lB hA hB stA stB rowsA rowsB answersA answersB jA jB t t′ lowA lowB σ o same fA fB s =
+    rows-follow R A B lA lB hA hB stA stB rowsA rowsB answersA answersB jA jB t t′ lowA lowB fA fB s (apply σ s)
+    (λ e. ap (check R) same ∙ routes-allowed R S σ (termAt (hA .terms) t) s o e)
 
 -- DEMAND 3, ENTIRE: "Between two routes there is no difference where the first gives a sort." For any two accepted sheets A and B
 -- and any lent lengths; for any term t of A, and t′ of B whose tree is that of t with its sort variables replaced by σ; where σ's
@@ -72,4 +84,16 @@ pub two-routes : (A B : List ℕ) (lA lB : Lengths) (hA hB : Sheet) (stA stB : L
     → free rowsA 1 (hA .terms) t ≡ true → free rowsB 1 (hB .terms) t′ ≡ true
     → (s : Sort) → Gives stA rowsA t s → (checkedRow rowsB t′ < length stB) × Gives stB rowsB t′ (apply σ s)
 unfolding judged
-two-routes = two-routes-over smtLib smtLib-sound
+two-routes A B lA lB hA hB stA stB rowsA rowsB answersA answersB jA jB t t′ lowA lowB σ p c same fA fB s =
+    rows-follow smtLib A B lA lB hA hB stA stB rowsA rowsB answersA answersB jA jB t t′ lowA lowB fA fB s (apply σ s)
+    (λ e. ap (check smtLib) same ∙ routes smtLib smtLib-sound σ (termAt (hA .terms) t) s p c e)
+
+-- THE SAME UNDER THE WEAKEST PREMISES on σ.
+pub two-routes-allowed : (A B : List ℕ) (lA lB : Lengths) (hA hB : Sheet) (stA stB : List Sort) (rowsA rowsB answersA answersB : List ℕ)
+    → judged A lA ≡ accepted hA stA rowsA answersA → judged B lB ≡ accepted hB stB rowsB answersB
+    → (t t′ : ℕ) → t < length (hA .terms) → t′ < length (hB .terms)
+    → (σ : Map) → Allowed σ (termAt (hA .terms) t) → termAt (hB .terms) t′ ≡ replace σ (termAt (hA .terms) t)
+    → free rowsA 1 (hA .terms) t ≡ true → free rowsB 1 (hB .terms) t′ ≡ true
+    → (s : Sort) → Gives stA rowsA t s → (checkedRow rowsB t′ < length stB) × Gives stB rowsB t′ (apply σ s)
+unfolding judged
+two-routes-allowed = two-routes-over smtLib smtLib-sound
