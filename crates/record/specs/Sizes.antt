@@ -1,6 +1,6 @@
 -- How long records are: the bytes of a record by its fields and by its sort, at most 266; the size of a record's sort.
-use Prim.Native.Nat.{ℕ, zero, suc, _+_, _*_, _≤_, _<_}
-use mathlib.Core.Path.{_≡_, refl, sym, ap, ap₂, subst, _∙_}
+use Prim.Native.Nat.{ℕ, suc, _+_, _*_, _≤_, _<_}
+use mathlib.Core.Path.{_≡_, refl, sym, ap, subst, _∙_}
 use mathlib.Core.Bool.{Bool, true, false}
 use mathlib.Core.List.{List, [], _∷_, _++_}
 use native.Mathlib.Omega.{arith}
@@ -9,7 +9,7 @@ use lib.Dec.{leb, leb→le}
 use Rattle.record.specs.Sort.{Sort, Sorts, var, par, node, end, _then_, count, size, sizes}
 use Rattle.record.specs.Record.{Fields, bit, maps, mapOf, mosts, mostOf, nameBytes, numberBytes, listBytes, recordBytes, leaf, sortsOf, sortOf}
 use Rattle.record.specs.Store.{given, recordSize, bytesOf, indexOf, indicesOf, fieldsOf, recordOf, recordsOf}
-use Rattle.record.specs.Decode.{fields, Proper, Shape}
+use Rattle.record.specs.Decode.{fields, Shape}
 use Rattle.record.specs.Table.{at}
 use Rattle.record.specs.Codec.{length-numbers, length-name, length-number, fields-equal}
 use Rattle.record.specs.Forms.{Which, isVar, isPar, isNode, which, sort-var, sort-par, sort-other, par-one, par-name, par-number, var-list, var-number, var-names, other-names, no-names}

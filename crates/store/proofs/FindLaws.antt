@@ -1,13 +1,13 @@
 -- Laws of the search: whether a record is there by its bytes, and the walk along the chain of a hash.
-use Prim.Native.Nat.{ℕ, zero, suc, _+_, _*_, _-_, _≤_, _<_}
+use Prim.Native.Nat.{ℕ, zero, suc, _+_, _-_, _≤_, _<_}
 use mathlib.Core.Path.{_≡_, refl, sym, ap, subst, _∙_}
-use mathlib.Core.Bool.{Bool, true, false, false≢true}
-use mathlib.Core.List.{List, [], _∷_}
+use mathlib.Core.Bool.{true, false, false≢true}
+use mathlib.Core.List.{List}
 use native.Mathlib.Omega.{arith}
 use native.Mathlib.Decide.{decLt}
 use lib.ListN.{length, getD, take, drop}
 use lib.Seq.{getD-take, getD-drop}
-use Rattle.record.specs.Record.{Fields, recordBytes}
+use Rattle.record.specs.Record.{recordBytes}
 use Rattle.record.specs.Decode.{fieldsAt, Stands, Held}
 use Rattle.record.specs.Bytes.{stands-each, stands-part}
 use Rattle.record.specs.Codec.{decoded}

@@ -1,5 +1,5 @@
 -- What finding, appending, interning and undoing promise.
-use Prim.Native.Nat.{ℕ, zero, suc, _+_, _*_, _-_, _≤_, _<_}
+use Prim.Native.Nat.{ℕ, _+_, _≤_, _<_}
 use mathlib.Core.Path.{_≡_}
 use mathlib.Core.Bool.{true, false}
 use mathlib.Core.List.{List}
@@ -7,7 +7,7 @@ use lib.ListN.{length, getD, set, take}
 use Rattle.record.specs.Sort.{size}
 use Rattle.record.specs.Record.{recordBytes, sortOf}
 use Rattle.record.specs.Store.{addOnce, indexOf, room}
-use Rattle.record.specs.Decode.{fieldsAt, Shape, Proper, Held, Fresh, storeOf, sortAt, Stored, written}
+use Rattle.record.specs.Decode.{fieldsAt, Proper, Held, Fresh, storeOf, sortAt, Stored, written}
 use Rattle.store.specs.Index.{hashOf}
 use Rattle.store.specs.Good.{Indexed, Good, Kept}
 use Rattle.store.specs.declared.Found.{Found}

@@ -1,8 +1,8 @@
 -- A store in its lent buffers with the library's side tables: when all of it is well formed. Such a state is fixed by
 -- the list of its sorts and the two lent lengths alone.
-use Prim.Native.Nat.{ℕ, zero, suc, _+_, _*_, _≤_, _<_}
-use mathlib.Core.Path.{_≡_, refl, sym, ap, ap₂, subst, _∙_}
-use mathlib.Core.Bool.{Bool, true, false, _&&_}
+use Prim.Native.Nat.{ℕ, _≤_, _<_}
+use mathlib.Core.Path.{_≡_, refl, sym, ap, ap₂, _∙_}
+use mathlib.Core.Bool.{true, _&&_}
 use mathlib.Core.List.{List}
 use native.Mathlib.Omega.{arith}
 use native.Mathlib.Decide.{decLt}
@@ -65,6 +65,10 @@ module _ (b p hs ns zs : List ℕ) (n u : ℕ) (g : Good b p hs ns zs n u) where
 
   pub good-places : p ≡ storePlaces (length p) (storeOf b p n)
   good-places = whole-places b p n u (g .stored) (g .distinct) (g .running) (g .packed) (g .total) (g .places)
+
+  -- They decode back to those sorts.
+  pub good-back : storeOf (storeBytes (length b) (storeOf b p n)) (storePlaces (length p) (storeOf b p n)) n ≡ storeOf b p n
+  good-back = sym (ap₂ (λ (x y : List ℕ). storeOf x y n) good-bytes good-places)
 
   -- The bytes in use are bounded by the count, whatever was lent.
   pub good-short : u ≤ 1089536

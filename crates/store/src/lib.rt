@@ -8,22 +8,25 @@ use buffers::copy_at;
 use check::same;
 ghost use mathlib.Core.Path.{_≡_};
 ghost use mathlib.Core.Bool.{true};
-ghost use Prim.Native.Nat.{ℕ, _+_, _-_, _≤_, _<_};
-ghost use lib.ListN.{length, getD};
+ghost use Prim.Native.Nat.{_-_, _<_};
+ghost use lib.ListN.{getD};
 ghost use Rattle.record.specs.Decode.{fieldsAt};
 ghost use Rattle.store.specs.Index.{hashOf};
 ghost use Rattle.store.specs.Contract.{RecordAsks, FindAsks, FoundIs, PushAsks, PushedIs, InternAsks, InternedIs, PopAsks, CutTo, UndoAsks, UndoIs};
 
+// Where a record is in the store.
 pub enum Found {
     At(usize),
     Nothing,
 }
 
+// Whether a record was appended, or had no room.
 pub enum Pushed {
     Added,
     Full,
 }
 
+// What became of a record's sort.
 pub enum Interned {
     // The number of the sort, and the store's count and bytes in use.
     Is(usize, usize, usize),

@@ -1,8 +1,9 @@
--- The chain of the hash falls strictly; no entry from the present one on is the record.
+-- A number of the equal record, or none is equal.
+-- The chain of the hash falls strictly, and no entry from the present one on is the record.
 use native.Mathlib.Omega.{arith}
 use borrow.Author.Needs.{needs}
-use Prim.Native.Nat.{ℕ, zero, suc, _+_, _*_, _-_, _/_, _%_, _≤_, _<_}
-use mathlib.Core.Path.{_≡_, refl, sym, ap, ap₂, subst, _∙_}
+use Prim.Native.Nat.{_-_}
+use mathlib.Core.Path.{sym, _∙_}
 use mathlib.Core.Bool.{true≢false}
 use Rattle.store.proofs.FindLaws.{FindInv, record-asks, find-start, find-step, find-less, find-end}
 use Rattle.store.proofs.find.Statement.{statement}
@@ -96,8 +97,6 @@ returns-2 c =
     let a = s .args in
     let b = a .records .now in
     let p = a .places .now in
-    let hs = a .heads .now in
-    let ns = a .next .now in
     let r = a .rec .now in
     let n = a .count in
     find-end b p n r (c .before .loop .j) (c .loop-test .left) (c .before .loop .inv)

@@ -1,8 +1,8 @@
--- Found: nothing changes. Absent: appended, or no room for the store with the sort.
+-- The store after is the store before with the sort added once, or there is no room for that.
+-- Found: nothing changes. Absent: the record stands for a new sort, appended or refused by `push`.
 use native.Mathlib.Omega.{arith}
 use borrow.Author.Needs.{needs}
-use Prim.Native.Nat.{ℕ, zero, suc, _+_, _*_, _-_, _/_, _%_, _≤_, _<_}
-use mathlib.Core.Path.{_≡_, refl, sym, ap, ap₂, subst, _∙_}
+use mathlib.Core.Path.{subst}
 use Rattle.store.specs.Good.{good-short}
 use Rattle.store.specs.Contract.{FoundIs, PushedIs}
 use Rattle.store.proofs.InternLaws.{found-holds, made-holds, full-means}
@@ -29,10 +29,8 @@ push-requires c κs =
     let hs = a .heads .now in
     let ns = a .next .now in
     let zs = a .sizes .now in
-    let r = a .rec .now in
     let n = a .count in
     let u = a .used in
-    let w = a .weight in
     record { used = s .pre .good .packed .used; short = good-short b p hs ns zs n u (s .pre .good); heads = s .pre .good .indexed .heads; next = s .pre .good .indexed .next; table = s .pre .good .sized .table; weight = s .pre .small }
 
 enum-told-2 : tie.Need-enum-told-2
@@ -54,7 +52,6 @@ add-t35 c =
     let n = a .count in
     let u = a .used in
     let w = a .weight in
-    let absent = subst (FoundIs b p n r) (c .before .before .before .before .before .before .before .before .before .before .before .before .before .before .before .before .before .before .enum-told .given .1) (c .before .before .before .before .before .before .before .before .before .before .before .before .before .before .before .before .before .before .before .before .find .ensures) in
     let d = c .before .before .before .before .before .before .before .before .before .before .before .before .push .last in
     omega (arith, (subst (PushedIs b p hs ns zs n u r w (d .0) (d .1 .0) (d .1 .1 .0) (d .1 .1 .1 .0) (d .1 .1 .1 .1 .0)) (c .enum-told2 .given .1) (c .before .before .before .before .before .before .before .before .before .before .before .before .push .ensures)) .room, s .good .0)
 

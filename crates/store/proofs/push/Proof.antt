@@ -1,8 +1,9 @@
--- Each exit list is the one that the code writes; the three tests are the three ways to have no room.
+-- The exit lists are the entry lists with the record, its place, its link and its size written.
+-- The three tests are the three ways to have no room; then nothing was written.
 use native.Mathlib.Omega.{arith}
 use borrow.Author.Needs.{needs}
-use Prim.Native.Nat.{ℕ, zero, suc, _+_, _*_, _-_, _/_, _%_, _≤_, _<_}
-use mathlib.Core.Path.{_≡_, refl, sym, ap, ap₂, subst, _∙_}
+use Prim.Native.Nat.{ℕ, _+_}
+use mathlib.Core.Path.{refl, ap}
 use lib.ListN.{getD, set}
 use Rattle.store.specs.Contract.{NoRoomFor}
 use Rattle.store.proofs.push.Statement.{statement}
@@ -87,15 +88,9 @@ returns-4 : tie.Need-returns-4
 returns-4 c =
     let s = c .before .before .before .before .before .before .before .before .before .before .before .before .before .before .before in
     let a = s .args in
-    let b = a .records .now in
-    let p = a .places .now in
     let hs = a .heads .now in
     let ns = a .next .now in
-    let zs = a .sizes .now in
-    let r = a .rec .now in
     let n = a .count in
-    let u = a .used in
-    let w = a .weight in
     record {
       room = omega (arith, c .before .before .before .before .before .before .if3 .left, s .pre .used);
       place = search needs;

@@ -1,8 +1,7 @@
--- Each turn cuts the store by its last sort; at the end it is fixed by its sorts, so it is the one that was.
+-- The store as it was with `from` sorts, whole.
+-- Each turn cuts the last sort; a good state is fixed by its sorts and lengths, so it is the one that was.
 use native.Mathlib.Omega.{arith}
-use borrow.Author.Needs.{needs}
-use Prim.Native.Nat.{ℕ, zero, suc, _+_, _*_, _-_, _/_, _%_, _≤_, _<_}
-use mathlib.Core.Path.{_≡_, refl, sym, ap, ap₂, subst, _∙_}
+use mathlib.Core.Path.{sym, _∙_}
 use Rattle.store.proofs.UndoLaws.{UndoInv, undo-start, undo-step, undo-end}
 use Rattle.store.proofs.undo.Statement.{statement}
 use Rattle.store.proofs.undo.Tie as tie
@@ -36,9 +35,6 @@ loop-again c =
     let a = s .args in
     let b = a .records .now in
     let p = a .places .now in
-    let hs = a .heads .now in
-    let ns = a .next .now in
-    let zs = a .sizes .now in
     let l = c .before .before .before .before .before .before .before .before .before .before .before .before .before .before .before .before .before .loop in
     let d = c .before .before .before .before .before .before .before .before .before .before .pop .last in
     undo-step b p (a .count) (a .from) (l .records) (l .places) (l .heads) (l .next) (l .sizes) (l .n) (l .u) (d .0) (d .1 .0) (d .1 .1 .0) (d .1 .1 .1 .0) (d .1 .1 .1 .1 .0) (c .before .before .before .before .before .before .before .before .before .before .pop .result) (l .inv) (c .before .before .before .before .before .before .before .before .before .before .before .before .before .before .before .before .loop-test .taken) (c .before .before .before .before .before .before .before .before .before .before .pop .ensures)
@@ -64,9 +60,6 @@ returns c =
     let a = s .args in
     let b = a .records .now in
     let p = a .places .now in
-    let hs = a .heads .now in
-    let ns = a .next .now in
-    let zs = a .sizes .now in
     let l = c .before .loop in
     undo-end b p (a .count) (a .from) (l .records) (l .places) (l .heads) (l .next) (l .sizes) (l .n) (l .u) (l .inv) (c .loop-test .left)
 

@@ -1,8 +1,6 @@
--- By the bit that is given as a number.
+-- The length byte of a list, if its bit is 1.
+-- By the test of the code.
 use native.Mathlib.Omega.{arith}
-use borrow.Author.Needs.{needs}
-use Prim.Native.Nat.{ℕ, zero, suc, _+_, _*_, _-_, _/_, _%_, _≤_, _<_}
-use mathlib.Core.Path.{_≡_, refl, sym, ap, ap₂, subst, _∙_}
 use lib.ListN.{getD}
 use Rattle.store.proofs.EntryLaws.{one-on, one-off}
 use Rattle.store.proofs.entries.count_at.Statement.{statement}
@@ -11,7 +9,6 @@ use Rattle.store.proofs.entries.count_at.Tie as tie
 shared-slice-read-result : tie.Need-shared-slice-read-result
 shared-slice-read-result c =
     let a = c .before .before .args in
-    let b = a .records .now in
     omega (arith, one-on (a .bit) 1 (c .before .if1 .taken))
 
 cast-result : tie.Need-cast-result

@@ -1,8 +1,9 @@
--- The byte behind the map is the kind.
+-- The kind of the sort k.
+-- The byte behind the map of a record is its kind.
 use native.Mathlib.Omega.{arith}
 use borrow.Author.Needs.{needs}
-use Prim.Native.Nat.{ℕ, zero, suc, _+_, _*_, _-_, _/_, _%_, _≤_, _<_}
-use mathlib.Core.Path.{_≡_, refl, sym, ap, ap₂, subst, _∙_}
+use Prim.Native.Nat.{_+_}
+use mathlib.Core.Path.{refl}
 use lib.ListN.{getD}
 use Rattle.store.proofs.EntryLaws.{place-asks, name-room, kind-has}
 use Rattle.store.proofs.entries.kind_at.Statement.{statement}
@@ -39,7 +40,6 @@ cast-result : tie.Need-cast-result
 cast-result c =
     let s = c .before .before in
     let a = s .args in
-    let b = a .records .now in
     let p = a .places .now in
     omega (arith, c .shared-slice-known2 .given (getD p (a .k) 0 + 1))
 

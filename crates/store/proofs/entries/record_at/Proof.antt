@@ -1,8 +1,9 @@
--- Each place is the definition's (`number-place`, `list-place`, `names-place`), and all lie before the record's end.
+-- The fields of the record at the place.
+-- Each place is the definition's, computed without a branch; all lie before the end of the record.
 use native.Mathlib.Omega.{arith}
 use borrow.Author.Needs.{needs}
-use Prim.Native.Nat.{ℕ, zero, suc, _+_, _*_, _-_, _/_, _%_, _≤_, _<_}
-use mathlib.Core.Path.{_≡_, refl, sym, ap, ap₂, subst, _∙_}
+use Prim.Native.Nat.{_+_}
+use mathlib.Core.Path.{refl}
 use lib.ListN.{getD}
 use Rattle.store.proofs.EntryLaws.{name-room, number-room, list-room, names-room, entry-at}
 use Rattle.store.proofs.entries.record_at.Statement.{statement}
@@ -94,7 +95,6 @@ number-at-requires c κs =
     let b = a .records .now in
     let x = a .at in
     let m = getD b x 0 in
-    let r = name-room b x (s .pre) m refl in
     number-room b x (s .pre) m refl
 
 mul-third : tie.Need-mul-third
@@ -117,7 +117,6 @@ count-at-requires c κs =
     let b = a .records .now in
     let x = a .at in
     let m = getD b x 0 in
-    let r = name-room b x (s .pre) m refl in
     list-room b x (s .pre) m refl
 
 add-list : tie.Need-add-list
@@ -150,7 +149,6 @@ count-at-requires-2 c κs =
     let b = a .records .now in
     let x = a .at in
     let m = getD b x 0 in
-    let r = name-room b x (s .pre) m refl in
     names-room b x (s .pre) m refl (c .count-at .result) (c .count-at .ensures .0)
 
 add-names : tie.Need-add-names
@@ -170,7 +168,6 @@ returns c =
     let b = a .records .now in
     let x = a .at in
     let m = getD b x 0 in
-    let r = name-room b x (s .pre) m refl in
     entry-at b x (s .pre) m refl (c .before .count-at .result) (c .before .count-at .ensures .0) (c .before .before .before .name-at .result) (c .before .before .number-at .result) (c .count-at2 .result) (c .before .before .before .name-at .ensures) (c .before .before .number-at .ensures) (c .count-at2 .ensures .0)
 
 pub record-at-spec : {M : Type 1} → statement M
