@@ -66,10 +66,6 @@ module _ (b p hs ns zs : List ℕ) (n u : ℕ) (g : Good b p hs ns zs n u) where
   pub good-places : p ≡ storePlaces (length p) (storeOf b p n)
   good-places = whole-places b p n u (g .stored) (g .distinct) (g .running) (g .packed) (g .total) (g .places)
 
-  -- They decode back to those sorts.
-  pub good-back : storeOf (storeBytes (length b) (storeOf b p n)) (storePlaces (length p) (storeOf b p n)) n ≡ storeOf b p n
-  good-back = sym (ap₂ (λ (x y : List ℕ). storeOf x y n) good-bytes good-places)
-
   -- The bytes in use are bounded by the count, whatever was lent.
   pub good-short : u ≤ 1089536
   good-short = omega (arith, g .total, store-short b p n (g .stored) n (omega arith), g .indexed .count)
