@@ -14,7 +14,7 @@ use Rattle.record.specs.Codec.{decoded}
 use Rattle.record.specs.SortLists.{below-suc}
 use Rattle.store.specs.Index.{hashOf, lastWith, last-le, last-at, last-above}
 use Rattle.store.specs.Good.{hashAt}
-use Rattle.store.specs.Contract.{RecordAsks, FindAsks, Absent}
+use Rattle.store.specs.Contract.{RecordAsks, Searched, Absent}
 
 -- Whether a record is there.
 module _ (b p : List ℕ) (k : ℕ) (r : List ℕ) (a : RecordAsks b p k r) where
@@ -50,7 +50,7 @@ pub record FindInv (b p : List ℕ) (n : ℕ) (r : List ℕ) (j : ℕ) : Type 0 
   pub hashed : (k : ℕ) → j ≡ suc k → hashAt b p k ≡ hashOf r
   pub absent : AbsentFrom b p j n r
 
-module _ (b p hs ns : List ℕ) (n : ℕ) (r : List ℕ) (a : FindAsks b p hs ns n r) where
+module _ (b p hs ns : List ℕ) (n : ℕ) (r : List ℕ) (a : Searched b p hs ns n r) where
   hash-same : (k : ℕ) → fieldsAt b (getD p k 0) ≡ fieldsAt r 0 → hashAt b p k ≡ hashOf r
   hash-same k e = ap hashOf (ap recordBytes e ∙ a .fresh .whole)
 

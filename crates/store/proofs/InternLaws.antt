@@ -22,7 +22,12 @@ use Rattle.store.specs.declared.Found.the-variants.{At}
 use Rattle.store.specs.declared.Pushed.the-variants.{Added, Full}
 use Rattle.store.specs.Index.{hashOf, Chained, chained-same, chained-push, hash-small}
 use Rattle.store.specs.Good.{hashAt, Indexed, Sized, Good, good-room}
-use Rattle.store.specs.Contract.{Absent, FoundIs, NoRoomFor, PushedIs, InternAsks, Holds, Untouched}
+use Rattle.store.specs.Contract.{Searched, Absent, FoundIs, NoRoomFor, PushedIs, InternAsks, Holds, Untouched}
+
+-- What is interned can be searched for.
+pub intern-searched : (b p hs ns zs : List ℕ) (n u : ℕ) (r : List ℕ) (w : ℕ) → InternAsks b p hs ns zs n u r w → Searched b p hs ns n r
+intern-searched b p hs ns zs n u r w a =
+    record { stored = a .good .stored; indexed = a .good .indexed; fresh = a .fresh }
 
 -- A record that is found changes nothing.
 module _ (b p hs ns zs : List ℕ) (n u : ℕ) (r : List ℕ) (w : ℕ) (a : InternAsks b p hs ns zs n u r w) (k : ℕ) (f : FoundIs b p n r (At k)) where

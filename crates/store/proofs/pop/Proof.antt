@@ -148,6 +148,7 @@ returns c =
     let zs = a .sizes .now in
     let n = a .count in
     let u = a .used in
+    let low = pop-place b p hs ns zs n u (s .pre) in
     pop-to b p hs ns zs n u (s .pre) (c .before .before .before .before .before .hash .result) (c .before .before .before .before .before .hash .ensures .0) (c .before .before .clear-at .last .0) (c .before .before .clear-at .ensures)
 
 pub pop-spec : {M : Type 1} → statement M

@@ -88,9 +88,15 @@ returns-4 : tie.Need-returns-4
 returns-4 c =
     let s = c .before .before .before .before .before .before .before .before .before .before .before .before .before .before .before in
     let a = s .args in
+    let b = a .records .now in
+    let p = a .places .now in
     let hs = a .heads .now in
     let ns = a .next .now in
+    let zs = a .sizes .now in
+    let r = a .rec .now in
     let n = a .count in
+    let u = a .used in
+    let w = a .weight in
     record {
       room = omega (arith, c .before .before .before .before .before .before .if3 .left, s .pre .used);
       place = search needs;

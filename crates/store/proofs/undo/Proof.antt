@@ -35,6 +35,9 @@ loop-again c =
     let a = s .args in
     let b = a .records .now in
     let p = a .places .now in
+    let hs = a .heads .now in
+    let ns = a .next .now in
+    let zs = a .sizes .now in
     let l = c .before .before .before .before .before .before .before .before .before .before .before .before .before .before .before .before .before .loop in
     let d = c .before .before .before .before .before .before .before .before .before .before .pop .last in
     undo-step b p (a .count) (a .from) (l .records) (l .places) (l .heads) (l .next) (l .sizes) (l .n) (l .u) (d .0) (d .1 .0) (d .1 .1 .0) (d .1 .1 .1 .0) (d .1 .1 .1 .1 .0) (c .before .before .before .before .before .before .before .before .before .before .pop .result) (l .inv) (c .before .before .before .before .before .before .before .before .before .before .before .before .before .before .before .before .loop-test .taken) (c .before .before .before .before .before .before .before .before .before .before .pop .ensures)
@@ -60,6 +63,9 @@ returns c =
     let a = s .args in
     let b = a .records .now in
     let p = a .places .now in
+    let hs = a .heads .now in
+    let ns = a .next .now in
+    let zs = a .sizes .now in
     let l = c .before .loop in
     undo-end b p (a .count) (a .from) (l .records) (l .places) (l .heads) (l .next) (l .sizes) (l .n) (l .u) (l .inv) (c .loop-test .left)
 

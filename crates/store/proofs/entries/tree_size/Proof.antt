@@ -42,6 +42,7 @@ shared-slice-read-sum c =
     let rec = a .rec .now in
     let l = c .before .before .before .loop in
     let w = c .before .before .before .before .record-at .result in
+    let k = c .before .u16-at .result in
     let known = sum-known zs rec (w .list) (w .count) (l .sum) (l .next) (l .left) (l .inv) (c .before .before .loop-test .taken) in
     omega (arith, known, c .before .u16-at .ensures .0, s .pre .table)
 
@@ -50,8 +51,14 @@ cast-sum c = omega (arith, c .shared-slice-known3 .given (c .before .u16-at .res
 
 add-sum : tie.Need-add-sum Inv-loop μ-loop
 add-sum c =
+    let s = c .before .before .before .before .before .before .before in
+    let a = s .args in
+    let zs = a .sizes .now in
+    let rec = a .rec .now in
     let l = c .before .before .before .loop in
+    let w = c .before .before .before .before .record-at .result in
     let k = c .before .u16-at .result in
+    let known = sum-known zs rec (w .list) (w .count) (l .sum) (l .next) (l .left) (l .inv) (c .before .before .loop-test .taken) in
     omega (arith, c .shared-slice-known3 .given k, l .inv .small, l .inv .few, c .before .before .loop-test .taken)
 
 add-next : tie.Need-add-next Inv-loop μ-loop
@@ -72,6 +79,7 @@ loop-again c =
     let l = c .before .before .before .loop in
     let w = c .before .before .before .before .record-at .result in
     let k = c .before .u16-at .result in
+    let known = sum-known zs rec (w .list) (w .count) (l .sum) (l .next) (l .left) (l .inv) (c .before .before .loop-test .taken) in
     sum-step zs rec (w .list) (w .count) (l .sum) (l .next) (l .left) (l .inv) (c .before .before .loop-test .taken) k (c .before .u16-at .ensures .0) (omega (arith, c .shared-slice-known3 .given k))
 
 returns : tie.Need-returns Inv-loop μ-loop
