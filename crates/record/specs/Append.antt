@@ -1,5 +1,5 @@
 -- A record appended to a well-formed store: the sorts before it stay, and it adds one.
-use Prim.Native.Nat.{ℕ, zero, suc, _+_, _*_, _-_, _≤_, _<_}
+use Prim.Native.Nat.{ℕ, zero, suc, _+_, _-_, _≤_, _<_}
 use mathlib.Core.Path.{_≡_, refl, sym, ap, ap₂, subst, _∙_}
 use mathlib.Core.List.{List, [], _∷_, _++_}
 use native.Mathlib.Omega.{arith}
@@ -14,7 +14,7 @@ use Rattle.record.specs.SortLists.{below-suc}
 use Rattle.record.specs.Bytes.{stands-same, stands-self}
 use Rattle.record.specs.Codec.{decoded}
 
--- what stands where after the append
+-- What stands where after the append.
 pub written-before : (b : List ℕ) (u : ℕ) (r : List ℕ) (i : ℕ) → u ≤ length b → i < u → getD b i 0 ≡ getD (written b u r) i 0
 unfolding written
 written-before b u r i h l =
@@ -46,7 +46,7 @@ pub length-written : (b : List ℕ) (u : ℕ) (r : List ℕ) → u + length r �
 unfolding written
 length-written b u r h = simp (length-append, length-take, length-drop) (omega arith)
 
--- THE FIELDS OF A RECORD DEPEND ONLY ON ITS OWN BYTES
+-- THE FIELDS OF A RECORD DEPEND ONLY ON ITS OWN BYTES.
 pub fields-moved : (f : Fields) (b c : List ℕ) (x y n : ℕ) → Lies f b x n → ((i : ℕ) → i < length (recordBytes f) → getD b (x + i) 0 ≡ getD c (y + i) 0) → fieldsAt c y ≡ f
 fields-moved f b c x y n h same = decoded f c y (h .shape .proper) (stands-same (recordBytes f) b c x y same (h .stands))
 
@@ -56,7 +56,7 @@ held-moved f b c x y n h same fits =
     subst (λ (g : Fields). Lies g c y n) (sym (fields-moved f b c x y n h same))
     (record { within = fits; stands = stands-same (recordBytes f) b c x y same (h .stands); shape = h .shape; below = h .below })
 
--- stores that agree on the used bytes and the places hold the same records
+-- Stores that agree on the used bytes and the places hold the same records.
 module _ (b p c q : List ℕ) (n u : ℕ) (stored : Stored b p n) (packed : Packed b p n u)
     (sb : (i : ℕ) → i < u → getD b i 0 ≡ getD c i 0) (sp : (k : ℕ) → k < n → getD p k 0 ≡ getD q k 0) where
   pub record-kept : (k : ℕ) → k < n → fieldsAt c (getD q k 0) ≡ fieldsAt b (getD p k 0)
@@ -72,7 +72,7 @@ module _ (b p c q : List ℕ) (n u : ℕ) (stored : Stored b p n) (packed : Pack
       let e : storeOf b p m ≡ storeOf c q m = store-kept m (omega arith) in
       ap₂ (λ (st : List Sort) (s : Sort). st ++ (s ∷ [])) e (ap₂ sortOf e (sym (record-kept m (omega arith))))
 
-  -- and the same sorts
+  -- And the same sorts.
   pub store-same : storeOf b p n ≡ storeOf c q n
   store-same = store-kept n (omega arith)
 
@@ -111,7 +111,7 @@ module _ (b p c q : List ℕ) (n u : ℕ) (stored : Stored b p n) (packed : Pack
       sym (sp k l) ∙ r k l
       ∙ ap bytesOf (store-kept b p c q n u stored packed sb sp k (omega arith))
 
--- the bytes of any fields are one
+-- The bytes of any fields are one.
 pub fresh-fields : (f : Fields) → Shape f → fieldsAt (recordBytes f) 0 ≡ f
 fresh-fields f s = decoded f (recordBytes f) 0 (s .proper) (stands-self (recordBytes f))
 
@@ -131,7 +131,7 @@ module _ (b p : List ℕ) (n u : ℕ) (r : List ℕ) (stored : Stored b p n) (pa
   new-place : getD (set p n u) n 0 ≡ u
   new-place = getD-set-same p n u 0 place
 
-  -- the record r as it lies in itself
+  -- The record r as it lies in itself.
   lies : Lies (fieldsAt r 0) r 0 n
   lies =
       record {
@@ -196,7 +196,7 @@ module _ (b p : List ℕ) (n u : ℕ) (r : List ℕ) (stored : Stored b p n) (pa
       (λ q. refl))
       i hi j hj e
 
-  -- the places run on, and zeros behind stay zeros
+  -- The places run on, and zeros behind stay zeros.
   pub pushed-running : Running b p n → u ≡ bytesOf (storeOf b p n) → Running (written b u r) (set p n u) (suc n)
   unfolding Running
   pushed-running run total =

@@ -1,13 +1,12 @@
 -- Laws of bytes that stand at a place of a list (`Stands`): parts, joins, and where they stand again.
-use Prim.Native.Nat.{ℕ, zero, suc, _+_, _*_, _/_, _%_, _<_, _≤_}
+use Prim.Native.Nat.{ℕ, suc, _+_, _<_, _≤_}
 use mathlib.Core.Path.{_≡_, refl, sym, ap, ap₂, subst, _∙_}
-use mathlib.Core.Bool.{Bool, true, false}
 use mathlib.Core.List.{List, [], _∷_, _++_}
 use native.Mathlib.Omega.{arith}
 use native.Mathlib.Numerals.{add-one}
 use native.Mathlib.Nat.{add-zero, zero-add}
 use lib.ListN.{length, getD, take, drop}
-use lib.Seq.{drop-cons, take-nil}
+use lib.Seq.{drop-cons}
 use Rattle.record.specs.Decode.{Stands}
 
 pub stands-move : (s b : List ℕ) (x y : ℕ) → x ≡ y → Stands s b x → Stands s b y
@@ -32,7 +31,7 @@ stands-append (a ∷ s) t b x h k =
     let e : x + suc (length s) ≡ x + 1 + length s = omega arith in
     (h .0, stands-append s t b (x + 1) (h .1) (subst (λ (i : ℕ). Stands t b i) e k))
 
--- they are that part of b
+-- They are that part of b.
 pub stands-part : (s b : List ℕ) (x : ℕ) → x + length s ≤ length b → Stands s b x → s ≡ take (length s) (drop x b)
 unfolding Stands
 stands-part [] b x l h = refl
@@ -41,12 +40,12 @@ stands-part (a ∷ s) b x l h =
     (rw add-one at (stands-part s b (x + 1) (omega arith) (h .1)))
     ∙ sym (ap (take (suc (length s))) (drop-cons b x 0 (omega arith)))
 
--- what stands in a list stands wherever those bytes are the same
+-- What stands in a list stands wherever those bytes are the same.
 pub stands-same : (s b c : List ℕ) (x y : ℕ) → ((i : ℕ) → i < length s → getD b (x + i) 0 ≡ getD c (y + i) 0) → Stands s b x → Stands s c y
 unfolding Stands
 stands-same [] b c x y e h = tt
 stands-same (a ∷ s) b c x y e h = (
-  h .0 ∙ rw (add-zero, add-zero) at (e 0 (omega arith)),
+  h .0 ∙ rw (add-zero x, add-zero y) at (e 0 (omega arith)),
   stands-same s b c (x + 1) (y + 1)
       (λ i l.
       let p : x + suc i ≡ x + 1 + i = omega arith in
@@ -55,7 +54,7 @@ stands-same (a ∷ s) b c x y e h = (
       (h .1),
 )
 
--- and wherever its elements are found
+-- And wherever its elements are found.
 pub stands-each : (s b : List ℕ) (x : ℕ) → ((i : ℕ) → i < length s → getD s i 0 ≡ getD b (x + i) 0) → Stands s b x
 unfolding Stands
 stands-each [] b x e = tt

@@ -1,11 +1,10 @@
 -- Reading the bytes of a record gives its fields back, and a record's bytes are those of its fields.
-use Prim.Native.Nat.{ℕ, zero, suc, _+_, _*_, _/_, _%_, _<_, _≤_}
-use mathlib.Core.Path.{_≡_, refl, sym, ap, ap₂, subst, _∙_}
+use Prim.Native.Nat.{ℕ, zero, suc, _+_, _*_, _/_, _%_, _<_}
+use mathlib.Core.Path.{_≡_, refl, sym, ap, ap₂, _∙_}
 use mathlib.Core.Bool.{Bool, true, false}
 use mathlib.Core.List.{List, [], _∷_, _++_}
 use native.Mathlib.Omega.{arith}
-use native.Mathlib.Nat.{add-zero, zero-add}
-use lib.ListN.{length, getD, take, drop, length-append}
+use lib.ListN.{length, getD, length-append}
 use Rattle.record.specs.Number.{u16At, u32At, numbersAt, numbersBytes}
 use Rattle.record.specs.Record.{Fields, mapOf, bit, nameBytes, numberBytes, listBytes, recordBytes}
 use Rattle.record.specs.Store.{given}
@@ -15,7 +14,7 @@ use Rattle.record.specs.Bytes.{stands-move, stands-left, stands-right, s
 abbrev pub Bytes : List ℕ → Type 0
 Bytes b = (i : ℕ) → getD b i 0 < 256
 
--- a number of two bytes
+-- A number of two bytes.
 pub u16-read : (v : ℕ) (b : List ℕ) (x : ℕ) → v % 256 ≡ getD b x 0 → v / 256 ≡ getD b (x + 1) 0 → u16At b x ≡ v
 unfolding u16At
 u16-read v b x p q = omega (arith, p, q)
@@ -28,7 +27,7 @@ pub u16-high : (b : List ℕ) → Bytes b → (x : ℕ) → u16At b x / 256 ≡ 
 unfolding u16At
 u16-high b h x = omega (arith, h x, h (x + 1))
 
--- numbers of two bytes each
+-- Numbers of two bytes each.
 pub length-numbers : (vs : List ℕ) → length (numbersBytes vs) ≡ 2 * length vs
 unfolding numbersBytes
 length-numbers [] = refl
@@ -54,7 +53,7 @@ numbers-stand b h x (suc n) =
     let e : x + 2 ≡ x + 1 + 1 = omega arith in
     (u16-low b h x, (u16-high b h x, stands-move (numbersBytes (numbersAt b (x + 2) n)) b (x + 2) (x + 1 + 1) e (numbers-stand b h (x + 2) n)))
 
--- each field: read back, and standing
+-- Each field: read back, and standing.
 pub name-read : (t : Bool) (v : ℕ) (b : List ℕ) (x : ℕ) → (t ≡ false → v ≡ 0) → Stands (nameBytes t v) b x → given t (u16At b x) ≡ v
 unfolding Stands
 name-read true v b x z h = u16-read v b x (h .0) (h .1 .0)
@@ -117,7 +116,7 @@ fields-equal k a w l ns k′ a′ w′ l′ ns′ p q r s t =
     ap (λ (i : ℕ). fields i a w l ns) p ∙ ap (λ (i : ℕ). fields k′ i w l ns) q ∙ ap (λ (i : ℕ). fields k′ a′ i l ns) r
     ∙ ap (λ (i : List ℕ). fields k′ a′ w′ i ns) s ∙ ap (λ (i : List ℕ). fields k′ a′ w′ l′ i) t
 
--- where each field of a record that stands at x stands
+-- Where each field of a record that stands at x stands.
 pub record Laid (f : Fields) (b : List ℕ) (x : ℕ) : Type 0 where
   pub map : mapOf (f .kind) ≡ getD b x 0
   pub kind : f .kind ≡ getD b (x + 1) 0
@@ -153,7 +152,7 @@ laid f b x h =
       names = stands-move n64 b (listPlace m x + length n16) (namesPlace m b x) e64 (stands-right n16 n64 b (listPlace m x) s16);
     }
 
--- DECODING AN ENCODING GIVES IT BACK, wherever it stands
+-- DECODING AN ENCODING GIVES IT BACK, wherever it stands.
 pub decoded : (f : Fields) (b : List ℕ) (x : ℕ) → Proper f → Stands (recordBytes f) b x → fieldsAt b x ≡ f
 unfolding fieldsAt fieldsBy
 decoded f b x p h =
@@ -167,7 +166,7 @@ decoded f b x p h =
     (list-read (bit 16 m) (f .list) b (listPlace m x) (p .noList) (l .list))
     (list-read (bit 64 m) (f .names) b (namesPlace m b x) (p .noNames) (l .names)))
 
--- how long it is
+-- How long it is.
 pub record-end : (f : Fields) (b : List ℕ) (x : ℕ) → Stands (recordBytes f) b x → endPlace (getD b x 0) b x ≡ x + length (recordBytes f)
 unfolding recordBytes
 record-end f b x h =
@@ -189,7 +188,7 @@ record-end f b x h =
       length-append n16 n64,
     ))
 
--- A RECORD'S BYTES ARE THOSE OF ITS FIELDS, where its map is the kind's: so equal fields mean equal bytes
+-- A RECORD'S BYTES ARE THOSE OF ITS FIELDS, where its map is the kind's: so equal fields mean equal bytes.
 pub canonical : (b : List ℕ) (x : ℕ) → Bytes b → getD b x 0 ≡ mapOf (getD b (x + 1) 0) → Stands (recordBytes (fieldsAt b x)) b x
 unfolding recordBytes fieldsAt fieldsBy Stands
 canonical b x h e =

@@ -2,17 +2,17 @@
 -- them are the store of m.
 use Prim.Native.Nat.{ℕ, zero, suc, _+_, _*_, _≤_, _<_}
 use mathlib.Core.Path.{_≡_, refl, sym, ap, ap₂, subst, _∙_}
-use mathlib.Core.Bool.{Bool, true, false, _&&_}
+use mathlib.Core.Bool.{true, _&&_}
 use mathlib.Core.List.{List, [], _∷_, _++_}
 use mathlib.Core.Logic.{⊎-elim}
 use native.Mathlib.Omega.{arith}
-use native.Mathlib.Nat.{eq-or-lt-of-le, le-of-suc-le-suc}
-use lib.ListN.{length, getD, take, drop, length-append, take-append-drop}
+use native.Mathlib.Nat.{eq-or-lt-of-le}
+use lib.ListN.{length, getD, take, drop, take-append-drop}
 use lib.Seq.{take-append-le, take-length}
-use Rattle.record.specs.Sort.{Sort, Sorts, var, par, node, end, _then_}
-use Rattle.record.specs.Record.{Fields, recordBytes, leaf, sortsOf, sortOf}
-use Rattle.record.specs.Store.{memb, recordsOf, recordSize, bytesOf}
-use Rattle.record.specs.Decode.{fieldsAt, Shape, Below, storeOf, sortAt, Stored, Distinct, Packed, Running}
+use Rattle.record.specs.Sort.{Sort}
+use Rattle.record.specs.Record.{Fields, leaf, sortsOf, sortOf}
+use Rattle.record.specs.Store.{recordsOf, recordSize, bytesOf}
+use Rattle.record.specs.Decode.{fieldsAt, Shape, Below, storeOf, sortAt, Stored, Packed, Running}
 use Rattle.record.specs.Forms.{Which, isVar, isPar, isNode, which, sort-var, sort-par, sort-other, par-one}
 use Rattle.record.specs.SortLists.{memb-at, membAll, partsIn, Ordered, Starts, starts-bytes, bytes-append}
 use Rattle.record.specs.StoreLaws.{storeOf-length, sort-made}

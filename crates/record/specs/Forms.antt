@@ -1,18 +1,18 @@
 -- The three forms of a sort record, Var, Par and every other kind: its sort, and what the tables say of its fields.
-use Prim.Native.Nat.{ℕ, zero, suc, _+_, _*_, _-_, _≤_, _<_}
-use mathlib.Core.Path.{_≡_, refl, sym, ap, ap₂, subst, _∙_}
+use Prim.Native.Nat.{ℕ, _<_}
+use mathlib.Core.Path.{_≡_, refl, ap}
 use mathlib.Core.Bool.{Bool, true, false, not, _||_}
 use mathlib.Core.List.{List, [], _∷_}
 use native.Mathlib.Omega.{arith}
 use lib.ListN.{length, getD}
-use lib.Dec.{eqb, leb, T, leb→le}
+use lib.Dec.{eqb, T}
 use borrow.Author.Tests.{eqb-true, eqb-false, eq-eqb, ne-eqb}
-use Rattle.record.specs.Sort.{Sort, Sorts, var, par, node, end, _then_, size, sizes}
+use Rattle.record.specs.Sort.{Sort, var, par, node}
 use Rattle.record.specs.Record.{Fields, maps, mapOf, bit, leasts, leastOf, mosts, mostOf, leaf, sortsOf, sortOf}
 use Rattle.record.specs.Decode.{Proper, Shape}
 use Rattle.record.specs.Table.{at}
 
--- the three forms of a kind
+-- The three forms of a kind.
 pub data Which (k : ℕ) : Type 0 where
   isVar : k ≡ 2 → Which k
   isPar : k ≡ 12 → Which k
@@ -38,7 +38,7 @@ pub sort-other : (st : List Sort) (f : Fields) → (f .kind ≡ 2 → ⊥) → (
 unfolding sortOf
 sort-other st f h k = rw (ne-eqb (f .kind) 2 h, ne-eqb (f .kind) 12 k)
 
--- what the tables say of the three forms
+-- What the tables say of the three forms.
 or-false : (a c : Bool) → T (a || not c) → a ≡ false → c ≡ false
 or-false true c t e = let z : _≡_ {A = ℕ} 0 1 = cc in absurd (omega arith)
 or-false false true t e = absurd t

@@ -17,3 +17,4 @@ pub mod Sizes
 pub mod Entries
 pub mod Append
 pub mod Whole
+pub mod Back

@@ -1,6 +1,6 @@
 -- How long records are: the bytes of a record by its fields and by its sort, at most 266; the size of a record's sort.
-use Prim.Native.Nat.{ℕ, zero, suc, _+_, _*_, _≤_, _<_}
-use mathlib.Core.Path.{_≡_, refl, sym, ap, ap₂, subst, _∙_}
+use Prim.Native.Nat.{ℕ, suc, _+_, _*_, _≤_, _<_}
+use mathlib.Core.Path.{_≡_, refl, sym, ap, subst, _∙_}
 use mathlib.Core.Bool.{Bool, true, false}
 use mathlib.Core.List.{List, [], _∷_, _++_}
 use native.Mathlib.Omega.{arith}
@@ -9,7 +9,7 @@ use lib.Dec.{leb, leb→le}
 use Rattle.record.specs.Sort.{Sort, Sorts, var, par, node, end, _then_, count, size, sizes}
 use Rattle.record.specs.Record.{Fields, bit, maps, mapOf, mosts, mostOf, nameBytes, numberBytes, listBytes, recordBytes, leaf, sortsOf, sortOf}
 use Rattle.record.specs.Store.{given, recordSize, bytesOf, indexOf, indicesOf, fieldsOf, recordOf, recordsOf}
-use Rattle.record.specs.Decode.{fields, Proper, Shape}
+use Rattle.record.specs.Decode.{fields, Shape}
 use Rattle.record.specs.Table.{at}
 use Rattle.record.specs.Codec.{length-numbers, length-name, length-number, fields-equal}
 use Rattle.record.specs.Forms.{Which, isVar, isPar, isNode, which, sort-var, sort-par, sort-other, par-one, par-name, par-number, var-list, var-number, var-names, other-names, no-names}
@@ -105,11 +105,17 @@ record-short f s =
       given-most (bit 64 m) (1 + 2 * length (f .names)) 129 (omega (arith, s .few)),
     )
 
--- A well-formed sort: its own record has the shape that document 01 asks of a sort record. Whether it has does not
+-- A node has no kind that has a constructor of its own; that it is not Par's the shape says.
+abbrev pub Own : Sort → Type 0
+Own (var v) = Unit {0}
+Own (par ns b) = Unit {0}
+Own (node k a w ss) = k ≡ 2 → ⊥
+
+-- A WELL-FORMED SORT: its own record has the shape that document 01 asks of a sort record. Whether it has does not
 -- depend on a store, so the empty one serves.
-unfoldable pub Formed : Sort → Type 0
-unfolding fieldsOf
-Formed s = Shape (fieldsOf [] s)
+pub record Formed (s : Sort) : Type 0 where
+  pub shape : Shape (fieldsOf [] s)
+  pub own : Own s
 
 pub length-indices : (ss : Sorts) (st : List Sort) → length (indicesOf ss st) ≡ count ss
 unfolding indicesOf count
@@ -136,47 +142,59 @@ shape-list f s l e =
     none (a ∷ l) q = absurd (omega arith)
 
 pub formed-shape : (st : List Sort) (s : Sort) → Formed s → Shape (fieldsOf st s)
-unfolding Formed fieldsOf
-formed-shape st (var v) h = h
-formed-shape st (par ns b) h = shape-list (fieldsOf [] (par ns b)) h (indexOf b st ∷ []) refl
+unfolding fieldsOf
+formed-shape st (var v) h = h .shape
+formed-shape st (par ns b) h = shape-list (fieldsOf [] (par ns b)) (h .shape) (indexOf b st ∷ []) refl
 formed-shape st (node k a w ss) h =
-    shape-list (fieldsOf [] (node k a w ss)) h (indicesOf ss st) (length-indices ss st ∙ sym (length-indices ss []))
+    shape-list (fieldsOf [] (node k a w ss)) (h .shape) (indicesOf ss st) (length-indices ss st ∙ sym (length-indices ss []))
 
 -- The sort of a record of that shape is well formed.
 pub sort-formed : (st : List Sort) (f : Fields) → Shape f → Formed (sortOf st f)
-unfolding Formed fieldsOf
+unfolding fieldsOf
 sort-formed st f s = go (which (f .kind))
   where
     go : Which (f .kind) → Formed (sortOf st f)
     go (isVar e) =
         subst Formed (sym (sort-var st f e))
-        (subst Shape
-        (fields-equal (f .kind) (f .name) (f .number) (f .list) (f .names) 2 (f .name) 0 [] [] e refl
-        (var-number f (s .proper) e) (var-list f (s .proper) e) (var-names f (s .proper) e))
-        s)
+        (record {
+          shape =
+              subst Shape
+              (fields-equal (f .kind) (f .name) (f .number) (f .list) (f .names) 2 (f .name) 0 [] [] e refl
+              (var-number f (s .proper) e) (var-list f (s .proper) e) (var-names f (s .proper) e))
+              s;
+          own = tt;
+        })
     go (isPar e) =
         let l = indexOf (getD st (getD (f .list) 0 0) leaf) [] ∷ [] in
         subst Formed (sym (sort-par st f e))
-        (subst Shape
-        (fields-equal (f .kind) (f .name) (f .number) l (f .names) 12 0 0 l (f .names) e
-        (par-name f (s .proper) e) (par-number f (s .proper) e) refl refl)
-        (shape-list f s l (sym (par-one f s e))))
+        (record {
+          shape =
+              subst Shape
+              (fields-equal (f .kind) (f .name) (f .number) l (f .names) 12 0 0 l (f .names) e
+              (par-name f (s .proper) e) (par-number f (s .proper) e) refl refl)
+              (shape-list f s l (sym (par-one f s e)));
+          own = tt;
+        })
     go (isNode p q) =
         let l = indicesOf (sortsOf st (f .list)) [] in
         subst Formed (sym (sort-other st f p q))
-        (subst Shape
-        (fields-equal (f .kind) (f .name) (f .number) l (f .names) (f .kind) (f .name) (f .number) l [] refl refl refl refl
-        (other-names f (s .proper) (s .known) q))
-        (shape-list f s l (length-indices (sortsOf st (f .list)) [] ∙ count-sorts st (f .list))))
+        (record {
+          shape =
+              subst Shape
+              (fields-equal (f .kind) (f .name) (f .number) l (f .names) (f .kind) (f .name) (f .number) l [] refl refl refl refl
+              (other-names f (s .proper) (s .known) q))
+              (shape-list f s l (length-indices (sortsOf st (f .list)) [] ∙ count-sorts st (f .list)));
+          own = p;
+        })
 
 -- THE LENGTH OF THE RECORD OF A WELL-FORMED SORT, whatever the store.
 pub record-of-size : (st : List Sort) (s : Sort) → Formed s → length (recordOf st s) ≡ recordSize s
-unfolding Formed fieldsOf recordOf recordSize
+unfolding fieldsOf recordOf recordSize
 record-of-size st (var v) h = record-length (fieldsOf st (var v)) ∙ size-var 2 0 0 refl
 record-of-size st (par ns b) h = record-length (fieldsOf st (par ns b)) ∙ size-par 12 (length ns) refl
 record-of-size st (node k a w ss) h =
     record-length (fieldsOf st (node k a w ss))
-    ∙ size-other k (length (indicesOf ss st)) 0 (h .known) (λ e. absurd (omega (arith, h .some e)))
+    ∙ size-other k (length (indicesOf ss st)) 0 (h .shape .known) (λ e. absurd (omega (arith, h .shape .some e)))
     ∙ ap (λ (i : ℕ). 2 + given (bit 2 (mapOf k)) 2 + given (bit 4 (mapOf k)) 4 + given (bit 16 (mapOf k)) (1 + 2 * i)) (length-indices ss st)
 
 -- Every sort of the list is well formed.

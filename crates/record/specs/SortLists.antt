@@ -1,6 +1,6 @@
 -- A store as a list of sorts: adding and interning keep its sorts distinct and parts before wholes, only append,
 -- and change nothing where the sort is there; `indexOf` finds the only equal entry.
-use Prim.Native.Nat.{ℕ, zero, suc, _+_, _*_, _≤_, _<_}
+use Prim.Native.Nat.{ℕ, zero, suc, _+_, _≤_, _<_}
 use mathlib.Core.Path.{_≡_, refl, sym, ap, ap₂, subst, _∙_}
 use mathlib.Core.Bool.{Bool, true, false, cond, _&&_, _||_, true≢false, false≢true}
 use mathlib.Core.List.{List, [], _∷_, _++_}
@@ -9,9 +9,11 @@ use native.Mathlib.Omega.{arith}
 use native.Mathlib.Nat.{not-suc-le-zero, eq-or-lt-of-le, le-of-suc-le-suc}
 use lib.ListN.{length, getD, take, drop, length-append, take-append-drop, List·getD-append}
 use lib.Seq.{getD-at, take-append-le, take-at}
+use lib.Dec.{leb}
+use borrow.Author.Tests.{le-leb, leb-true}
 use Rattle.record.specs.Sort.{Sort, Sorts, var, par, node, end, _then_, same}
 use Rattle.record.specs.Record.{leaf}
-use Rattle.record.specs.Store.{memb, addOnce, intern, internAll, indexOf, recordSize, bytesOf}
+use Rattle.record.specs.Store.{memb, addOnce, intern, internAll, indexOf, recordSize, bytesOf, room}
 use Rattle.record.specs.Cases.{and-left, and-right, not-true-false}
 use Rattle.record.specs.SortLaws.{same-sound, same-refl, same-other}
 
@@ -317,3 +319,25 @@ unfolding intern partsIn
 intern-parts (var v) st o m = refl
 intern-parts (par ns b) st o m = ap (λ (l : List Sort). addOnce l (par ns b)) (intern-known b st o m)
 intern-parts (node k a w ss) st o m = ap (λ (l : List Sort). addOnce l (node k a w ss)) (intern-all-known ss st o m)
+
+-- A store with no room leaves none for what is appended to it.
+and-off : (x y x′ y′ : Bool) → (x′ ≡ true → x ≡ true) → (y′ ≡ true → y ≡ true) → x && y ≡ false → x′ && y′ ≡ false
+and-off true y true y′ h k e = not-true-false y′ (λ q. true≢false (sym (k q) ∙ e))
+and-off true y false y′ h k e = refl
+and-off false y true y′ h k e = absurd (false≢true (h refl))
+and-off false y false y′ h k e = refl
+
+leb-down : (a a′ n : ℕ) → a ≤ a′ → leb a′ n ≡ true → leb a n ≡ true
+leb-down a a′ n h e = le-leb a n (omega (arith, leb-true a′ n e))
+
+pub room-starts : (records places : ℕ) (st st′ : List Sort) → Starts st st′ → room records places st ≡ false → room records places st′ ≡ false
+unfolding room
+room-starts records places st st′ h e =
+    let b = starts-bytes st st′ h in
+    let c = starts-count st st′ h in
+    and-off (leb (bytesOf st) records) (leb (length st) places && leb (length st) 4096) (leb (bytesOf st′) records)
+    (leb (length st′) places && leb (length st′) 4096) (leb-down (bytesOf st) (bytesOf st′) records b)
+    (λ q.
+    ap₂ _&&_ (leb-down (length st) (length st′) places c (and-left (leb (length st′) places) (leb (length st′) 4096) q))
+    (leb-down (length st) (length st′) 4096 c (and-right (leb (length st′) places) (leb (length st′) 4096) q)))
+    e

@@ -1,21 +1,21 @@
 -- The law of the store: each sort is the sort of its record over the whole store, and two sorts of a store of
 -- distinct records are equal exactly when their numbers are.
-use Prim.Native.Nat.{ℕ, zero, suc, _+_, _*_, _-_, _≤_, _<_}
+use Prim.Native.Nat.{ℕ, zero, suc, _+_, _-_, _<_}
 use mathlib.Core.Path.{_≡_, refl, sym, ap, ap₂, subst, _∙_}
 use mathlib.Core.Logic.{⊎-elim}
-use mathlib.Core.List.{List, [], _∷_, _++_}
+use mathlib.Core.List.{List, [], _∷_}
 use native.Mathlib.Omega.{arith}
 use native.Mathlib.Nat.{not-suc-le-zero, eq-or-lt-of-le, le-of-suc-le-suc, lt-trans}
 use lib.ListN.{length, getD, length-append, List·getD-append}
 use lib.Seq.{getD-at}
 use Rattle.record.specs.Number.{u16At, numbersAt}
-use Rattle.record.specs.Sort.{Sort, Sorts, var, par, node, end, _then_}
+use Rattle.record.specs.Sort.{Sort, var, par, node, end, _then_}
 use Rattle.record.specs.Record.{Fields, leaf, sortsOf, sortOf}
-use Rattle.record.specs.Decode.{fields, fieldsAt, Shape, Below, Held, storeOf, sortAt, Stored, Distinct}
+use Rattle.record.specs.Decode.{fieldsAt, Shape, Below, storeOf, sortAt, Stored, Distinct}
 use Rattle.record.specs.Codec.{fields-equal}
 use Rattle.record.specs.Forms.{Which, isVar, isPar, isNode, which, sort-var, sort-par, sort-other, var-number, var-list, var-names, par-name, par-number, par-one, other-names, one-element}
 
--- sorts of references that two stores agree on
+-- Sorts of references that two stores agree on.
 below-rest : (r : ℕ) (rs : List ℕ) (k : ℕ) → ((j : ℕ) → j < length (r ∷ rs) → getD (r ∷ rs) j 0 < k) → (j : ℕ) → j < length rs → getD rs j 0 < k
 below-rest r rs k h j l = h (suc j) (omega arith)
 
@@ -46,7 +46,7 @@ storeOf-length b p zero = refl
 storeOf-length b p (suc n) =
     omega (arith, length-append (storeOf b p n) (sortOf (storeOf b p n) (fieldsAt b (getD p n 0)) ∷ []), storeOf-length b p n)
 
--- the sort k was made over the sorts before it
+-- The sort k was made over the sorts before it.
 pub sort-made : (b p : List ℕ) (k n : ℕ) → k < n → sortAt b p n k ≡ sortOf (storeOf b p k) (fieldsAt b (getD p k 0))
 unfolding storeOf sortAt
 sort-made b p k zero h = absurd (not-suc-le-zero h)
@@ -61,7 +61,7 @@ sort-made b p k (suc n) h =
     ∙ sort-made b p k n l)
     (eq-or-lt-of-le (le-of-suc-le-suc h))
 
--- THE LAW OF THE STORE: the sort k is the sort of its record over the whole store
+-- THE LAW OF THE STORE: the sort k is the sort of its record over the whole store.
 pub sort-node : (b p : List ℕ) (n k : ℕ) → Stored b p n → k < n → sortAt b p n k ≡ sortOf (storeOf b p n) (fieldsAt b (getD p k 0))
 unfolding sortAt
 sort-node b p n k s h =
@@ -70,7 +70,7 @@ sort-node b p n k s h =
     (λ i l. sort-made b p i k l ∙ sym (sort-made b p i n (lt-trans l h)))
     (fieldsAt b (getD p k 0)) (s .each k h .shape) (s .each k h .below)
 
--- the law of a list of references
+-- The law of a list of references.
 pub parts-end : (st : List Sort) (b : List ℕ) (at n : ℕ) → n ≡ 0 → sortsOf st (numbersAt b at n) ≡ end
 unfolding sortsOf numbersAt
 parts-end st b at n e = rw e
@@ -82,7 +82,7 @@ parts-more st b x (suc n) h =
     let e : n ≡ suc n - 1 = omega arith in
     ap (λ (i : ℕ). getD st (u16At b x) leaf then sortsOf st (numbersAt b (x + 2) i)) e
 
--- equal sorts have equal records, where the sorts that they refer to are numbered one to one
+-- Equal sorts have equal records, where the sorts that they refer to are numbered one to one.
 module _ (st : List Sort) (k n : ℕ) (one : (r s : ℕ) → r < k → s < n → getD st r leaf ≡ getD st s leaf → r ≡ s) where
   lists-one : (rs ss : List ℕ) → ((j : ℕ) → j < length rs → getD rs j 0 < k) → ((j : ℕ) → j < length ss → getD ss j 0 < n) → sortsOf st rs ≡ sortsOf st ss → rs ≡ ss
   unfolding sortsOf
@@ -143,11 +143,11 @@ module _ (b p : List ℕ) (n : ℕ) (stored : Stored b p n) (distinct : Distinct
       (stored .each i hi .below) (λ l q. omega (arith, stored .each j hj .below l q))
       (sym (sort-node b p n i stored hi) ∙ e ∙ sort-node b p n j stored hj))
 
-  -- TWO SORTS ARE EQUAL EXACTLY WHEN THEIR NUMBERS ARE
+  -- TWO SORTS ARE EQUAL EXACTLY WHEN THEIR NUMBERS ARE.
   pub sorts-one : (i j : ℕ) → i < n → j < n → sortAt b p n i ≡ sortAt b p n j → i ≡ j
   sorts-one i j hi hj e = one-below (suc i) i j (omega arith) hi hj e
 
-  -- a sort of the store that a record stands for has the record's fields
+  -- A sort of the store that a record stands for has the record's fields.
   pub same-record : (f : Fields) → Shape f → Below f n → (k : ℕ) → k < n → sortAt b p n k ≡ sortOf (storeOf b p n) f → fieldsAt b (getD p k 0) ≡ f
   unfolding sortAt
   same-record f s h k l e =

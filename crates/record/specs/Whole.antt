@@ -1,16 +1,15 @@
 -- The lent buffers are the definition's: the used bytes of a store of distinct records back to back are `recordsOf`
 -- its sorts and the places `offsetsOf` them, so with zeros behind the buffers are `storeBytes` and `storePlaces`.
-use Prim.Native.Nat.{ℕ, zero, suc, _+_, _*_, _-_, _≤_, _<_}
+use Prim.Native.Nat.{ℕ, zero, suc, _+_, _-_, _≤_, _<_}
 use mathlib.Core.Path.{_≡_, refl, sym, ap, ap₂, subst, _∙_}
 use mathlib.Core.List.{List, [], _∷_, _++_}
 use native.Mathlib.Omega.{arith}
-use native.Mathlib.Nat.{zero-add}
 use lib.ListN.{length, getD, take, drop, replicate, length-append, length-replicate, getD-replicate, take-append-drop, length-drop}
 use lib.Seq.{take-add, take-suc, length-take-le, getD-drop, ext-getD}
-use Rattle.record.specs.Sort.{Sort, Sorts, var, par, node, end, _then_}
+use Rattle.record.specs.Sort.{Sort}
 use Rattle.record.specs.Record.{Fields, recordBytes, leaf, sortsOf, sortOf}
-use Rattle.record.specs.Store.{indexOf, indicesOf, fieldsOf, recordOf, recordsOf, offsetsOf, padded, storeBytes, storePlaces, recordSize, bytesOf}
-use Rattle.record.specs.Decode.{fields, fieldsAt, Shape, Below, storeOf, sortAt, Stored, Distinct, Packed, Running, Zeros}
+use Rattle.record.specs.Store.{indexOf, indicesOf, fieldsOf, recordOf, recordsOf, offsetsOf, padded, storeBytes, storePlaces, bytesOf}
+use Rattle.record.specs.Decode.{fieldsAt, Shape, Below, storeOf, sortAt, Stored, Distinct, Packed, Running, Zeros}
 use Rattle.record.specs.Bytes.{stands-part}
 use Rattle.record.specs.Codec.{fields-equal}
 use Rattle.record.specs.Forms.{Which, isVar, isPar, isNode, which, sort-var, sort-par, sort-other, var-number, var-list, var-names, par-name, par-number, par-one, other-names, one-element}
@@ -54,7 +53,7 @@ module _ (st : List Sort) (once : Once st) where
           ∙ fields-equal (f .kind) (f .name) (f .number) (indicesOf (sortsOf st (f .list)) st) [] (f .kind) (f .name) (f .number) (f .list) (f .names)
           refl refl refl (indices-back (f .list) h) (sym (other-names f (s .proper) (s .known) q))
 
--- records and offsets of one sort more
+-- Records and offsets of one sort more.
 records-append : (st ss : List Sort) (s : Sort) → recordsOf st (ss ++ (s ∷ [])) ≡ recordsOf st ss ++ recordOf st s
 unfolding recordsOf
 records-append st [] s = append-nil (recordOf st s)
@@ -90,7 +89,7 @@ module _ (b p : List ℕ) (n : ℕ) (stored : Stored b p n) (distinct : Distinct
       (fields-back st (store-once b p n stored distinct) (fieldsAt b (getD p k 0)) (stored .each k l .shape)
       (λ j h. omega (arith, stored .each k l .below j h, storeOf-length b p n)))
 
-  -- and so is that of the sort that was made there
+  -- And so is that of the sort that was made there.
   made-back : (k : ℕ) → k < n → recordOf (storeOf b p n) (sortOf (storeOf b p k) (fieldsAt b (getD p k 0))) ≡ recordBytes (fieldsAt b (getD p k 0))
   made-back k l = sym (ap (recordOf (storeOf b p n)) (sort-made b p k n l)) ∙ record-back k l
 

@@ -1,11 +1,11 @@
 -- Laws of the loops that write zeros: what is written so far, one zero more.
 use Prim.Native.Nat.{ℕ, zero, suc, _+_, _≤_, _<_}
-use mathlib.Core.Path.{_≡_, refl, sym, ap, ap₂, subst, _∙_}
+use mathlib.Core.Path.{_≡_, refl, sym, ap, _∙_}
 use mathlib.Core.List.{List, [], _∷_, _++_}
 use native.Mathlib.Omega.{arith}
 use native.Mathlib.Numerals.{add-one}
-use lib.ListN.{length, getD, take, drop, set, replicate, length-replicate, getD-replicate, replicate-append-replicate, length-append, length-drop}
-use lib.Seq.{paste, paste-zero, paste-suc, take-length, drop-cons, drop-length, set-at, append-snoc}
+use lib.ListN.{length, getD, drop, set, replicate, length-replicate, getD-replicate, length-append, length-drop}
+use lib.Seq.{paste, paste-suc, take-length, drop-cons, drop-length, set-at, append-snoc}
 use Rattle.record.specs.Decode.{written}
 
 -- Zeros from a place on, as a copy of zeros.

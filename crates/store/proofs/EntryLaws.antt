@@ -8,10 +8,10 @@ use native.Mathlib.Nat.{not-suc-le-zero}
 use lib.ListN.{length, getD}
 use borrow.Author.Tests.{eq-eqb, ne-eqb}
 use Rattle.record.specs.Number.{u16At, u32At, numbersAt}
-use Rattle.record.specs.Sort.{Sort, Sorts, var, par, node, end, _then_, size, sizes}
-use Rattle.record.specs.Record.{Fields, bit, recordBytes, leaf, sortsOf, sortOf}
+use Rattle.record.specs.Sort.{Sort, end, size, sizes}
+use Rattle.record.specs.Record.{Fields, bit, sortsOf, sortOf}
 use Rattle.record.specs.Store.{given}
-use Rattle.record.specs.Decode.{listOf, listWidth, numberPlace, listPlace, namesPlace, endPlace, fields, fieldsBy, fieldsAt, Stands, Shape, Fresh, storeOf, sortAt, Stored}
+use Rattle.record.specs.Decode.{listOf, listWidth, numberPlace, listPlace, namesPlace, endPlace, fieldsBy, fieldsAt, Stands, Shape, storeOf, sortAt}
 use Rattle.record.specs.Bytes.{stands-self}
 use Rattle.record.specs.Codec.{fields-equal, record-end, length-numbersAt}
 use Rattle.record.specs.Forms.{Which, isVar, isPar, isNode, which, sort-var, sort-par, sort-other, par-one, par-name, par-number, var-number, var-list, var-names, other-names, one-element}
@@ -21,6 +21,7 @@ use Rattle.store.specs.Good.{Sized}
 use Rattle.record.specs.Sort.{kindOf, nameIn, numberIn, partsOf, namesOf}
 use Rattle.store.specs.Entry.{isOne, PlaceAsks, PlaceIs, EntryAsks, EntryIs, EntryHas, KindHas, SizeHas, TreeAsks, TreeHas}
 use Rattle.record.specs.declared.SortRecord.{SortRecord}
+use Rattle.store.specs.Walk.{number-at}
 
 -- a bit as a number
 pub bit-on : (w m v : ℕ) → m / w % 2 ≡ 1 → v ≡ given (bit w m) v
@@ -182,15 +183,6 @@ module _ (st : List Sort) (f : Fields) (s : Shape f) where
       go (isPar e) = sym (ap namesOf (sort-par st f e))
       go (isNode p q) = other-names f (s .proper) (s .known) q ∙ sym (ap namesOf (sort-other st f p q))
 
--- A number of a list, by its place.
-number-at : (b : List ℕ) (x n j : ℕ) → j < n → getD (numbersAt b x n) j 0 ≡ u16At b (x + 2 * j)
-unfolding numbersAt
-number-at b x zero j l = absurd (not-suc-le-zero l)
-number-at b x (suc n) zero l = let e : x ≡ x + 2 * 0 = omega arith in ap (u16At b) e
-number-at b x (suc n) (suc j) l =
-    let e : x + 2 + 2 * j ≡ x + 2 * suc j = omega arith in
-    number-at b (x + 2) n j (omega arith) ∙ ap (u16At b) e
-
 -- THE ENTRY of a store, by what its record says.
 module _ (b p : List ℕ) (k : ℕ) (r : SortRecord) (e : PlaceIs b (getD p k 0) r) where
   pub entry-has : EntryHas b p k r
@@ -236,7 +228,7 @@ sum-sizes b p zs n z [] h = refl
 sum-sizes b p zs n z (r ∷ rs) h =
     ap₂ _+_ (z .each r (h 0 (omega arith))) (sum-sizes b p zs n z rs (λ j l. h (suc j) (omega arith)))
 
-module _ (zs : List ℕ) (n : ℕ) (rec : List ℕ) (a : TreeAsks zs n rec) where
+module _ (zs rec : List ℕ) (a : TreeAsks zs rec) where
   pub tree-place : PlaceAsks rec 0
   tree-place =
       record {
@@ -251,23 +243,23 @@ module _ (zs : List ℕ) (n : ℕ) (rec : List ℕ) (a : TreeAsks zs n rec) wher
     pub tree-few : r .count ≤ 64
     tree-few = omega (arith, long, a .fresh .shape .most, most-few (fieldsAt rec 0 .kind) (a .fresh .shape .known))
 
-    pub tree-below : (j : ℕ) → j < r .count → u16At rec (r .list + 2 * j) < n
+    pub tree-below : (j : ℕ) → j < r .count → u16At rec (r .list + 2 * j) < 4096
     tree-below j h =
         let q : getD (fieldsAt rec 0 .list) j 0 ≡ u16At rec (r .list + 2 * j) =
         ap (λ (g : Fields). getD (g .list) j 0) (e .same) ∙ number-at rec (r .list) (r .count) j h in
         omega (arith, q, a .fresh .below j (omega (arith, long)))
 
-    pub tree-has : (v : ℕ) → v ≡ 1 + sumOf zs (numbersAt rec (r .list) (r .count)) → TreeHas zs n rec v
-    tree-has v q b p z =
+    pub tree-has : (v : ℕ) → v ≡ 1 + sumOf zs (numbersAt rec (r .list) (r .count)) → TreeHas zs rec v
+    tree-has v q b p n z below =
         q
         ∙ ap (λ (vs : List ℕ). 1 + sumOf zs vs) (sym (ap (λ (g : Fields). g .list) (e .same)))
-        ∙ ap (λ (i : ℕ). 1 + i) (sum-sizes b p zs n z (fieldsAt rec 0 .list) (a .fresh .below))
+        ∙ ap (λ (i : ℕ). 1 + i) (sum-sizes b p zs n z (fieldsAt rec 0 .list) below)
         ∙ sym (size-sort (storeOf b p n) (fieldsAt rec 0) (a .fresh .shape))
 
 -- The sum so far and what is left of the references.
-pub record SumInv (zs : List ℕ) (n : ℕ) (rec : List ℕ) (x m sum next left : ℕ) : Type 0 where
+pub record SumInv (zs rec : List ℕ) (x m sum next left : ℕ) : Type 0 where
   pub within : next + 2 * left ≤ length rec
-  pub below : (j : ℕ) → j < left → u16At rec (next + 2 * j) < n
+  pub below : (j : ℕ) → j < left → u16At rec (next + 2 * j) < 4096
   pub few : left ≤ 64
   pub small : sum + 65536 * left ≤ 1 + 65536 * 64
   pub goes : sum + sumOf zs (numbersAt rec next left) ≡ 1 + sumOf zs (numbersAt rec x m)
@@ -279,35 +271,35 @@ sum-first zs rec x (suc m) h =
     let e : m ≡ suc m - 1 = omega arith in
     ap (λ (i : ℕ). getD zs (u16At rec x) 0 + sumOf zs (numbersAt rec (x + 2) i)) e
 
-pub sum-start : (zs : List ℕ) (n : ℕ) (rec : List ℕ) (a : TreeAsks zs n rec) (r : SortRecord) (e : PlaceIs rec 0 r) → SumInv zs n rec (r .list) (r .count) 1 (r .list) (r .count)
-sum-start zs n rec a r e =
+pub sum-start : (zs rec : List ℕ) (a : TreeAsks zs rec) (r : SortRecord) (e : PlaceIs rec 0 r) → SumInv zs rec (r .list) (r .count) 1 (r .list) (r .count)
+sum-start zs rec a r e =
     record {
       within = e .list;
-      below = tree-below zs n rec a r e;
-      few = tree-few zs n rec a r e;
-      small = omega (arith, tree-few zs n rec a r e);
+      below = tree-below zs rec a r e;
+      few = tree-few zs rec a r e;
+      small = omega (arith, tree-few zs rec a r e);
       goes = refl;
     }
 
-module _ (zs : List ℕ) (n : ℕ) (rec : List ℕ) (x m sum next left : ℕ) (i : SumInv zs n rec x m sum next left) (l : 0 < left) where
-  pub sum-known : u16At rec next < n
-  sum-known = let e : next + 2 * 0 ≡ next = omega arith in subst (λ (y : ℕ). u16At rec y < n) e (i .below 0 l)
+module _ (zs rec : List ℕ) (x m sum next left : ℕ) (i : SumInv zs rec x m sum next left) (l : 0 < left) where
+  pub sum-known : u16At rec next < 4096
+  sum-known = let e : next + 2 * 0 ≡ next = omega arith in subst (λ (y : ℕ). u16At rec y < 4096) e (i .below 0 l)
 
-  pub sum-step : (k : ℕ) → k ≡ u16At rec next → getD zs k 0 < 65536 → SumInv zs n rec x m (sum + getD zs k 0) (next + 2) (left - 1)
+  pub sum-step : (k : ℕ) → k ≡ u16At rec next → getD zs k 0 < 65536 → SumInv zs rec x m (sum + getD zs k 0) (next + 2) (left - 1)
   sum-step k ek small =
       let q : getD zs k 0 ≡ getD zs (u16At rec next) 0 = ap (λ (y : ℕ). getD zs y 0) ek in
       record {
         within = omega (arith, i .within);
         below = λ j h.
             let e : next + 2 * suc j ≡ next + 2 + 2 * j = omega arith in
-            subst (λ (y : ℕ). u16At rec y < n) e (i .below (suc j) (omega arith));
+            subst (λ (y : ℕ). u16At rec y < 4096) e (i .below (suc j) (omega arith));
         few = omega (arith, i .few);
         small = omega (arith, i .small);
         goes = omega (arith, i .goes, sum-first zs rec next left l, q);
       }
 
-pub sum-end : (zs : List ℕ) (n : ℕ) (rec : List ℕ) (x m sum next left : ℕ) → SumInv zs n rec x m sum next left → left ≤ 0
+pub sum-end : (zs rec : List ℕ) (x m sum next left : ℕ) → SumInv zs rec x m sum next left → left ≤ 0
     → sum ≡ 1 + sumOf zs (numbersAt rec x m)
 unfolding sumOf numbersAt
-sum-end zs n rec x m sum next zero i h = omega (arith, i .goes)
-sum-end zs n rec x m sum next (suc left) i h = absurd (omega arith)
+sum-end zs rec x m sum next zero i h = omega (arith, i .goes)
+sum-end zs rec x m sum next (suc left) i h = absurd (omega arith)

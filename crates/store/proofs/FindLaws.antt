@@ -1,20 +1,20 @@
 -- Laws of the search: whether a record is there by its bytes, and the walk along the chain of a hash.
-use Prim.Native.Nat.{ℕ, zero, suc, _+_, _*_, _-_, _≤_, _<_}
+use Prim.Native.Nat.{ℕ, zero, suc, _+_, _-_, _≤_, _<_}
 use mathlib.Core.Path.{_≡_, refl, sym, ap, subst, _∙_}
-use mathlib.Core.Bool.{Bool, true, false, false≢true}
-use mathlib.Core.List.{List, [], _∷_}
+use mathlib.Core.Bool.{true, false, false≢true}
+use mathlib.Core.List.{List}
 use native.Mathlib.Omega.{arith}
 use native.Mathlib.Decide.{decLt}
 use lib.ListN.{length, getD, take, drop}
 use lib.Seq.{getD-take, getD-drop}
-use Rattle.record.specs.Record.{Fields, recordBytes}
+use Rattle.record.specs.Record.{recordBytes}
 use Rattle.record.specs.Decode.{fieldsAt, Stands, Held}
 use Rattle.record.specs.Bytes.{stands-each, stands-part}
 use Rattle.record.specs.Codec.{decoded}
 use Rattle.record.specs.SortLists.{below-suc}
 use Rattle.store.specs.Index.{hashOf, lastWith, last-le, last-at, last-above}
 use Rattle.store.specs.Good.{hashAt}
-use Rattle.store.specs.Contract.{RecordAsks, FindAsks, Absent}
+use Rattle.store.specs.Contract.{RecordAsks, Searched, Absent}
 
 -- Whether a record is there.
 module _ (b p : List ℕ) (k : ℕ) (r : List ℕ) (a : RecordAsks b p k r) where
@@ -50,7 +50,7 @@ pub record FindInv (b p : List ℕ) (n : ℕ) (r : List ℕ) (j : ℕ) : Type 0 
   pub hashed : (k : ℕ) → j ≡ suc k → hashAt b p k ≡ hashOf r
   pub absent : AbsentFrom b p j n r
 
-module _ (b p hs ns : List ℕ) (n : ℕ) (r : List ℕ) (a : FindAsks b p hs ns n r) where
+module _ (b p hs ns : List ℕ) (n : ℕ) (r : List ℕ) (a : Searched b p hs ns n r) where
   hash-same : (k : ℕ) → fieldsAt b (getD p k 0) ≡ fieldsAt r 0 → hashAt b p k ≡ hashOf r
   hash-same k e = ap hashOf (ap recordBytes e ∙ a .fresh .whole)
 

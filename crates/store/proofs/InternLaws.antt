@@ -1,5 +1,5 @@
 -- What finding and appending a record say of bytes, said of sorts: the store after interning.
-use Prim.Native.Nat.{ℕ, zero, suc, _+_, _*_, _%_, _≤_, _<_}
+use Prim.Native.Nat.{ℕ, suc, _+_, _≤_, _<_}
 use mathlib.Core.Path.{_≡_, refl, sym, ap, ap₂, subst, _∙_}
 use mathlib.Core.List.{List, [], _∷_, _++_}
 use mathlib.Core.Bool.{Bool, true, false, _&&_, true≢false}
@@ -12,17 +12,22 @@ use borrow.Author.Tests.{lt-leb}
 use Rattle.record.specs.Sort.{Sort, size}
 use Rattle.record.specs.Record.{Fields, recordBytes, leaf, sortOf}
 use Rattle.record.specs.Store.{memb, addOnce, indexOf, bytesOf, room}
-use Rattle.record.specs.Decode.{fieldsAt, Fresh, storeOf, sortAt, written}
+use Rattle.record.specs.Decode.{fieldsAt, storeOf, sortAt, written}
 use Rattle.record.specs.SortLists.{below-suc, memb-at, memb-none, add-known, add-new, bytes-append, index-at}
 use Rattle.record.specs.StoreLaws.{storeOf-length, sort-node, same-record}
 use Rattle.record.specs.Sizes.{record-size}
 use Rattle.record.specs.Whole.{store-once}
 use Rattle.record.specs.Append.{written-before, length-written, new-record, old-record, pushed-store, pushed-packed, pushed-stored, pushed-distinct, pushed-running, pushed-bytes, pushed-places}
-use Rattle.store.specs.declared.Found.the-variants.{At, Nothing}
+use Rattle.store.specs.declared.Found.the-variants.{At}
 use Rattle.store.specs.declared.Pushed.the-variants.{Added, Full}
 use Rattle.store.specs.Index.{hashOf, Chained, chained-same, chained-push, hash-small}
-use Rattle.store.specs.Good.{hashAt, Indexed, Sized, Good, Kept, good-room}
-use Rattle.store.specs.Contract.{Absent, FoundIs, Appended, NoRoomFor, PushedIs, InternAsks, Holds, Untouched}
+use Rattle.store.specs.Good.{hashAt, Indexed, Sized, Good, good-room}
+use Rattle.store.specs.Contract.{Searched, Absent, FoundIs, NoRoomFor, PushedIs, InternAsks, Holds, Untouched}
+
+-- What is interned can be searched for.
+pub intern-searched : (b p hs ns zs : List ℕ) (n u : ℕ) (r : List ℕ) (w : ℕ) → InternAsks b p hs ns zs n u r w → Searched b p hs ns n r
+intern-searched b p hs ns zs n u r w a =
+    record { stored = a .good .stored; indexed = a .good .indexed; fresh = a .fresh }
 
 -- A record that is found changes nothing.
 module _ (b p hs ns zs : List ℕ) (n u : ℕ) (r : List ℕ) (w : ℕ) (a : InternAsks b p hs ns zs n u r w) (k : ℕ) (f : FoundIs b p n r (At k)) where

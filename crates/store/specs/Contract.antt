@@ -1,5 +1,5 @@
 -- What finding, appending, interning and undoing promise.
-use Prim.Native.Nat.{ℕ, zero, suc, _+_, _*_, _-_, _≤_, _<_}
+use Prim.Native.Nat.{ℕ, _+_, _≤_, _<_}
 use mathlib.Core.Path.{_≡_}
 use mathlib.Core.Bool.{true, false}
 use mathlib.Core.List.{List}
@@ -7,7 +7,7 @@ use lib.ListN.{length, getD, set, take}
 use Rattle.record.specs.Sort.{size}
 use Rattle.record.specs.Record.{recordBytes, sortOf}
 use Rattle.record.specs.Store.{addOnce, indexOf, room}
-use Rattle.record.specs.Decode.{fieldsAt, Shape, Proper, Held, Fresh, storeOf, sortAt, Stored, written}
+use Rattle.record.specs.Decode.{fieldsAt, Proper, Held, Fresh, storeOf, sortAt, Stored, written}
 use Rattle.store.specs.Index.{hashOf}
 use Rattle.store.specs.Good.{Indexed, Good, Kept}
 use Rattle.store.specs.declared.Found.{Found}
@@ -24,10 +24,15 @@ pub record RecordAsks (b p : List ℕ) (k : ℕ) (r : List ℕ) : Type 0 where
   pub whole : recordBytes (fieldsAt r 0) ≡ r
   pub proper : Proper (fieldsAt r 0)
 
-pub record FindAsks (b p hs ns : List ℕ) (n : ℕ) (r : List ℕ) : Type 0 where
+-- A store of n sorts with its index, and a whole record r over it.
+pub record Searched (b p hs ns : List ℕ) (n : ℕ) (r : List ℕ) : Type 0 where
   pub stored : Stored b p n
   pub indexed : Indexed b p hs ns n
   pub fresh : Fresh r n
+
+-- Some count of sorts has it; what is found holds for each that has.
+abbrev pub FindAsks : List ℕ → List ℕ → List ℕ → List ℕ → List ℕ → Type 0
+FindAsks b p hs ns r = (n : ℕ) × Searched b p hs ns n r
 
 -- No record below n is r.
 unfoldable pub Absent : List ℕ → List ℕ → ℕ → List ℕ → Type 0
@@ -36,6 +41,9 @@ Absent b p n r = (k : ℕ) → k < n → fieldsAt b (getD p k 0) ≡ fieldsAt r 
 abbrev pub FoundIs : List ℕ → List ℕ → ℕ → List ℕ → Found → Type 0
 FoundIs b p n r (At i) = (i < n) × (fieldsAt b (getD p i 0) ≡ fieldsAt r 0)
 FoundIs b p n r Nothing = Absent b p n r
+
+abbrev pub FindHas : List ℕ → List ℕ → List ℕ → List ℕ → List ℕ → Found → Type 0
+FindHas b p hs ns r f = (n : ℕ) → Searched b p hs ns n r → FoundIs b p n r f
 
 pub record PushAsks (b hs ns zs : List ℕ) (u w : ℕ) : Type 0 where
   pub used : u ≤ length b

@@ -1,14 +1,14 @@
 -- What reading an entry of the store promises, on trees: its kind, name, number, parts and names, and its tree size.
-use Prim.Native.Nat.{ℕ, zero, suc, _+_, _*_, _≤_, _<_}
+use Prim.Native.Nat.{ℕ, _+_, _*_, _≤_, _<_}
 use mathlib.Core.Path.{_≡_}
 use mathlib.Core.Bool.{Bool}
-use mathlib.Core.List.{List, [], _∷_}
+use mathlib.Core.List.{List, []}
 use lib.ListN.{length, getD}
 use lib.Dec.{eqb}
 use Rattle.record.specs.Number.{u16At, numbersAt}
 use Rattle.record.specs.Sort.{Sort, Sorts, var, par, node, end, _then_, size, kindOf, nameIn, numberIn, partsOf, namesOf}
 use Rattle.record.specs.Record.{recordBytes, sortsOf, sortOf}
-use Rattle.record.specs.Decode.{fields, fieldsAt, Stands, Held, Fresh, storeOf, sortAt, Stored}
+use Rattle.record.specs.Decode.{fields, fieldsAt, Below, Stands, Held, Fresh, storeOf, sortAt, Stored}
 use Rattle.store.specs.Good.{Sized}
 use Rattle.record.specs.declared.SortRecord.{SortRecord}
 
@@ -54,11 +54,11 @@ KindHas b p k r = (n : ℕ) → Stored b p n → k < n → r ≡ kindOf (sortAt 
 abbrev pub SizeHas : List ℕ → ℕ → ℕ → Type 0
 SizeHas zs k r = (b p : List ℕ) (n : ℕ) → Sized b p zs n → k < n → r ≡ size (sortAt b p n k)
 
--- The tree size of a record r over n sorts.
-pub record TreeAsks (zs : List ℕ) (n : ℕ) (r : List ℕ) : Type 0 where
+-- A whole record r whose references are numbers of a store.
+pub record TreeAsks (zs r : List ℕ) : Type 0 where
   pub table : length zs ≡ 4096
-  pub count : n ≤ 4096
-  pub fresh : Fresh r n
+  pub fresh : Fresh r 4096
 
-abbrev pub TreeHas : List ℕ → ℕ → List ℕ → ℕ → Type 0
-TreeHas zs n r v = (b p : List ℕ) → Sized b p zs n → v ≡ size (sortOf (storeOf b p n) (fieldsAt r 0))
+-- The tree size of its sort, over every store whose sizes the table has and that it refers into.
+abbrev pub TreeHas : List ℕ → List ℕ → ℕ → Type 0
+TreeHas zs r v = (b p : List ℕ) (n : ℕ) → Sized b p zs n → Below (fieldsAt r 0) n → v ≡ size (sortOf (storeOf b p n) (fieldsAt r 0))

@@ -1,5 +1,5 @@
 -- A chained hash index over numbered entries: what it is, and how it changes by one entry more or less.
-use Prim.Native.Nat.{ℕ, zero, suc, _+_, _*_, _-_, _%_, _≤_, _<_}
+use Prim.Native.Nat.{ℕ, zero, suc, _+_, _*_, _%_, _≤_, _<_}
 use mathlib.Core.Path.{_≡_, refl, sym, ap, ap₂, subst, _∙_}
 use mathlib.Core.Bool.{Bool, true, false, cond}
 use mathlib.Core.List.{List, [], _∷_}
@@ -13,7 +13,7 @@ use lib.Dec.{eqb}
 use borrow.Author.Tests.{eqb-true, eqb-false, eq-eqb, ne-eqb}
 use Rattle.record.specs.SortLists.{below-suc}
 
--- the hash of bytes
+-- The hash of bytes.
 unfoldable pub hashFrom : ℕ → List ℕ → ℕ
 hashFrom h [] = h
 hashFrom h (v ∷ vs) = hashFrom ((h * 31 + v) % 1024) vs
@@ -22,12 +22,12 @@ unfoldable pub hashOf : List ℕ → ℕ
 unfolding hashFrom
 hashOf r = hashFrom 0 r
 
--- one more than the last entry below n with the hash h, where f k is the hash of the entry k; 0 for none
+-- One more than the last entry below n with the hash h, where f k is the hash of the entry k; 0 for none.
 unfoldable pub lastWith : (ℕ → ℕ) → ℕ → ℕ → ℕ
 lastWith f h zero = 0
 lastWith f h (suc n) = cond (eqb (f n) h) (suc n) (lastWith f h n)
 
--- THE INDEX of n entries with the hashes f
+-- THE INDEX of n entries with the hashes f.
 pub record Chained (f : ℕ → ℕ) (n : ℕ) (heads next : List ℕ) : Type 0 where
   pub first : (h : ℕ) → h < length heads → getD heads h 0 ≡ lastWith f h n
   pub rest : (k : ℕ) → k < n → getD next k 0 ≡ lastWith f (f k) k
@@ -49,7 +49,7 @@ unfolding lastWith
 last-le f h zero = omega arith
 last-le f h (suc n) = last-le-by f h n (eqb (f n) h) (last-le f h n)
 
--- the entry that it names has the hash
+-- The entry that it names has the hash.
 last-at-by : (f : ℕ → ℕ) (h n k : ℕ) (t : Bool) → eqb (f n) h ≡ t → (lastWith f h n ≡ suc k → f k ≡ h) → cond t (suc n) (lastWith f h n) ≡ suc k → f k ≡ h
 last-at-by f h n k true e rec q = let o : n ≡ k = omega arith in sym (ap f o) ∙ eqb-true (f n) h e
 last-at-by f h n k false e rec q = rec q
@@ -59,7 +59,7 @@ unfolding lastWith
 last-at f h zero k e = absurd (omega arith)
 last-at f h (suc n) k e = last-at-by f h n k (eqb (f n) h) refl (last-at f h n k) e
 
--- no later entry has it
+-- No later entry has it.
 last-above-by : (f : ℕ → ℕ) (h n k : ℕ) (t : Bool) → eqb (f n) h ≡ t → (lastWith f h n ≤ k → k < n → f k ≡ h → ⊥) → cond t (suc n) (lastWith f h n) ≤ k → k < suc n → f k ≡ h → ⊥
 last-above-by f h n k true e rec l m q = omega arith
 last-above-by f h n k false e rec l m q =
@@ -70,7 +70,7 @@ unfolding lastWith
 last-above f h zero k l m q = not-suc-le-zero m
 last-above f h (suc n) k l m q = last-above-by f h n k (eqb (f n) h) refl (last-above f h n k) l m q
 
--- it depends on the hashes below n only
+-- It depends on the hashes below n only.
 pub last-same : (f g : ℕ → ℕ) (h n : ℕ) → ((k : ℕ) → k < n → f k ≡ g k) → lastWith f h n ≡ lastWith g h n
 unfolding lastWith
 last-same f g h zero e = refl
@@ -84,7 +84,7 @@ chained-same f g n heads next e c =
       rest = λ k l. c .rest k l ∙ last-same f g (f k) k (λ i o. e i (omega arith)) ∙ ap (λ (h : ℕ). lastWith g h k) (e k l);
     }
 
--- ONE ENTRY MORE
+-- ONE ENTRY MORE.
 test : (a b : ℕ) (P : Type 0) → (a ≡ b → P) → ((a ≡ b → ⊥) → P) → P
 test a b P same other = go (eqb a b) refl
   where
@@ -106,7 +106,7 @@ chained-push f n heads next lh ln c =
           (getD-set-same next n (getD heads (f n) 0) 0 ln ∙ c .first (f n) lh);
     }
 
--- ONE ENTRY LESS: the last entry's head goes back to what the entry followed
+-- ONE ENTRY LESS: the last entry's head goes back to what the entry followed.
 pub chained-pop : (f : ℕ → ℕ) (n : ℕ) (heads next : List ℕ) → f n < length heads → Chained f (suc n) heads next
     → Chained f n (set heads (f n) (getD next n 0)) next
 chained-pop f n heads next lh c =

@@ -2,7 +2,7 @@
 use record::SortRecord;
 use record::u16_at;
 ghost use mathlib.Core.Path.{_≡_};
-ghost use Prim.Native.Nat.{ℕ, _+_, _≤_, _<_};
+ghost use Prim.Native.Nat.{_+_, _≤_, _<_};
 ghost use lib.ListN.{length, getD};
 ghost use Rattle.record.specs.Number.{u16At, u32At};
 ghost use Rattle.record.specs.Record.{bit};
@@ -97,10 +97,10 @@ pub fn size_at(sizes: &[u16], k: usize) -> usize
     sizes[k] as usize
 }
 
-// The tree size of the sort of a record over `count` sorts: 1 and the sizes of its references.
-pub fn tree_size(sizes: &[u16], count: usize, rec: &[u8]) -> usize
-    requires { ⌜ TreeAsks (now sizes) count (now rec) ⌝ }
-    ensures { λ r. ⌜ TreeHas (now (sizes .entry)) count (now (rec .entry)) r ⌝ }
+// The tree size of the sort of a record that is over the store: 1 and the sizes of its references.
+pub fn tree_size(sizes: &[u16], rec: &[u8]) -> usize
+    requires { ⌜ TreeAsks (now sizes) (now rec) ⌝ }
+    ensures { λ r. ⌜ TreeHas (now (sizes .entry)) (now (rec .entry)) r ⌝ }
 {
     let whole = record_at(rec, 0);
     let mut sum = 1;

@@ -8,22 +8,25 @@ use buffers::copy_at;
 use check::same;
 ghost use mathlib.Core.Path.{_≡_};
 ghost use mathlib.Core.Bool.{true};
-ghost use Prim.Native.Nat.{ℕ, _+_, _-_, _≤_, _<_};
-ghost use lib.ListN.{length, getD};
+ghost use Prim.Native.Nat.{_-_, _<_};
+ghost use lib.ListN.{getD};
 ghost use Rattle.record.specs.Decode.{fieldsAt};
 ghost use Rattle.store.specs.Index.{hashOf};
-ghost use Rattle.store.specs.Contract.{RecordAsks, FindAsks, FoundIs, PushAsks, PushedIs, InternAsks, InternedIs, PopAsks, CutTo, UndoAsks, UndoIs};
+ghost use Rattle.store.specs.Contract.{RecordAsks, FindAsks, FindHas, PushAsks, PushedIs, InternAsks, InternedIs, PopAsks, CutTo, UndoAsks, UndoIs};
 
+// Where a record is in the store.
 pub enum Found {
     At(usize),
     Nothing,
 }
 
+// Whether a record was appended, or had no room.
 pub enum Pushed {
     Added,
     Full,
 }
 
+// What became of a record's sort.
 pub enum Interned {
     // The number of the sort, and the store's count and bytes in use.
     Is(usize, usize, usize),
@@ -62,16 +65,9 @@ pub fn record_is(records: &[u8], places: &[u32], k: usize, rec: &[u8]) -> bool
 }
 
 // The number of a record, along the chain of its hash; `Nothing` where no record of the store is this one.
-pub fn find(
-    records: &[u8],
-    places: &[u32],
-    heads: &[u16],
-    next: &[u16],
-    count: usize,
-    rec: &[u8],
-) -> Found
-    requires { ⌜ FindAsks (now records) (now places) (now heads) (now next) count (now rec) ⌝ }
-    ensures { λ r. ⌜ FoundIs (now (records .entry)) (now (places .entry)) count (now (rec .entry)) r ⌝ }
+pub fn find(records: &[u8], places: &[u32], heads: &[u16], next: &[u16], rec: &[u8]) -> Found
+    requires { ⌜ FindAsks (now records) (now places) (now heads) (now next) (now rec) ⌝ }
+    ensures { λ r. ⌜ FindHas (now (records .entry)) (now (places .entry)) (now (heads .entry)) (now (next .entry)) (now (rec .entry)) r ⌝ }
 {
     let h = hash(rec);
     let mut j = heads[h] as usize;
@@ -135,7 +131,7 @@ pub fn intern(
     requires { ⌜ InternAsks (now records) (now places) (now heads) (now next) (now sizes) count used (now rec) weight ⌝ }
     ensures { λ r. ⌜ InternedIs (now (records .entry)) (now (places .entry)) (now (heads .entry)) (now (next .entry)) (now (sizes .entry)) count used (now (rec .entry)) (now (records .exit)) (now (places .exit)) (now (heads .exit)) (now (next .exit)) (now (sizes .exit)) r ⌝ }
 {
-    let found = find(records, places, heads, next, count, rec);
+    let found = find(records, places, heads, next, rec);
     match found {
         Found::At(k) => Interned::Is(k, count, used),
         Found::Nothing => {

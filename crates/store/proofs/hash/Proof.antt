@@ -1,8 +1,9 @@
--- The loop keeps: the hash so far over what is left is the hash of the whole.
+-- The result is `hashOf` the bytes, and below 1024.
+-- The loop keeps: the hash so far, carried on over what is left, is the hash of the whole.
 use native.Mathlib.Omega.{arith}
 use borrow.Author.Needs.{needs}
-use Prim.Native.Nat.{ℕ, zero, suc, _+_, _*_, _-_, _/_, _%_, _≤_, _<_}
-use mathlib.Core.Path.{_≡_, refl, sym, ap, ap₂, subst, _∙_}
+use Prim.Native.Nat.{_-_, _≤_, _<_}
+use mathlib.Core.Path.{_≡_, refl, sym, _∙_}
 use lib.ListN.{length, drop}
 use Rattle.store.specs.Index.{hashFrom, hashOf, hash-step, hash-end}
 use Rattle.store.proofs.hash.Statement.{statement}

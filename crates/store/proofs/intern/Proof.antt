@@ -1,18 +1,28 @@
--- Found: nothing changes. Absent: appended, or no room for the store with the sort.
+-- The store after is the store before with the sort added once, or there is no room for that.
+-- Found: nothing changes. Absent: the record stands for a new sort, appended or refused by `push`.
 use native.Mathlib.Omega.{arith}
 use borrow.Author.Needs.{needs}
-use Prim.Native.Nat.{ℕ, zero, suc, _+_, _*_, _-_, _/_, _%_, _≤_, _<_}
-use mathlib.Core.Path.{_≡_, refl, sym, ap, ap₂, subst, _∙_}
+use mathlib.Core.Path.{subst}
 use Rattle.store.specs.Good.{good-short}
 use Rattle.store.specs.Contract.{FoundIs, PushedIs}
-use Rattle.store.proofs.InternLaws.{found-holds, made-holds, full-means}
+use Rattle.store.proofs.InternLaws.{intern-searched, found-holds, made-holds, full-means}
 use Rattle.store.proofs.intern.Statement.{statement}
 use Rattle.store.proofs.intern.Tie as tie
 
 find-requires : tie.Need-find-requires
 find-requires c κs =
     let s = c .before .before .before .before .before .before .before .before .before .before in
-    record { stored = s .pre .good .stored; indexed = s .pre .good .indexed; fresh = s .pre .fresh }
+    let a = s .args in
+    let b = a .records .now in
+    let p = a .places .now in
+    let hs = a .heads .now in
+    let ns = a .next .now in
+    let zs = a .sizes .now in
+    let r = a .rec .now in
+    let n = a .count in
+    let u = a .used in
+    let w = a .weight in
+    (n, intern-searched b p hs ns zs n u r w (s .pre))
 
 enum-known-found : tie.Need-enum-known-found
 enum-known-found c = search needs
@@ -54,7 +64,7 @@ add-t35 c =
     let n = a .count in
     let u = a .used in
     let w = a .weight in
-    let absent = subst (FoundIs b p n r) (c .before .before .before .before .before .before .before .before .before .before .before .before .before .before .before .before .before .before .enum-told .given .1) (c .before .before .before .before .before .before .before .before .before .before .before .before .before .before .before .before .before .before .before .before .find .ensures) in
+    let absent = subst (FoundIs b p n r) (c .before .before .before .before .before .before .before .before .before .before .before .before .before .before .before .before .before .before .enum-told .given .1) (c .before .before .before .before .before .before .before .before .before .before .before .before .before .before .before .before .before .before .before .before .find .ensures n (intern-searched b p hs ns zs n u r w (s .pre))) in
     let d = c .before .before .before .before .before .before .before .before .before .before .before .before .push .last in
     omega (arith, (subst (PushedIs b p hs ns zs n u r w (d .0) (d .1 .0) (d .1 .1 .0) (d .1 .1 .1 .0) (d .1 .1 .1 .1 .0)) (c .enum-told2 .given .1) (c .before .before .before .before .before .before .before .before .before .before .before .before .push .ensures)) .room, s .good .0)
 
@@ -87,7 +97,7 @@ returns c =
     let u = a .used in
     let w = a .weight in
     found-holds b p hs ns zs n u r w (s .pre) (c .before .found .given .0 .0)
-    (subst (FoundIs b p n r) (c .before .found .given .1) (c .before .before .before .find .ensures))
+    (subst (FoundIs b p n r) (c .before .found .given .1) (c .before .before .before .find .ensures n (intern-searched b p hs ns zs n u r w (s .pre))))
 
 same-length-5 : tie.Need-same-length-5
 same-length-5 c = search needs
@@ -117,7 +127,7 @@ returns-2 c =
     let n = a .count in
     let u = a .used in
     let w = a .weight in
-    let absent = subst (FoundIs b p n r) (c .before .before .before .before .before .before .before .before .before .before .before .before .before .before .before .before .before .before .enum-told .given .1) (c .before .before .before .before .before .before .before .before .before .before .before .before .before .before .before .before .before .before .before .before .find .ensures) in
+    let absent = subst (FoundIs b p n r) (c .before .before .before .before .before .before .before .before .before .before .before .before .before .before .before .before .before .before .enum-told .given .1) (c .before .before .before .before .before .before .before .before .before .before .before .before .before .before .before .before .before .before .before .before .find .ensures n (intern-searched b p hs ns zs n u r w (s .pre))) in
     let d = c .before .before .before .before .before .before .before .before .before .before .before .before .push .last in
     made-holds b p hs ns zs n u r w (s .pre) absent (d .0) (d .1 .0) (d .1 .1 .0) (d .1 .1 .1 .0) (d .1 .1 .1 .1 .0)
     (subst (PushedIs b p hs ns zs n u r w (d .0) (d .1 .0) (d .1 .1 .0) (d .1 .1 .1 .0) (d .1 .1 .1 .1 .0)) (c .enum-told2 .given .1) (c .before .before .before .before .before .before .before .before .before .before .before .before .push .ensures))
@@ -150,7 +160,7 @@ returns-3 c =
     let n = a .count in
     let u = a .used in
     let w = a .weight in
-    let absent = subst (FoundIs b p n r) (c .before .before .before .before .before .before .before .before .before .before .before .before .before .before .before .before .before .before .enum-told .given .1) (c .before .before .before .before .before .before .before .before .before .before .before .before .before .before .before .before .before .before .before .before .find .ensures) in
+    let absent = subst (FoundIs b p n r) (c .before .before .before .before .before .before .before .before .before .before .before .before .before .before .before .before .before .before .enum-told .given .1) (c .before .before .before .before .before .before .before .before .before .before .before .before .before .before .before .before .before .before .before .before .find .ensures n (intern-searched b p hs ns zs n u r w (s .pre))) in
     let d = c .before .before .before .before .before .before .before .before .before .before .before .before .push .last in
     full-means b p hs ns zs n u r w (s .pre) absent (d .0) (d .1 .0) (d .1 .1 .0) (d .1 .1 .1 .0) (d .1 .1 .1 .1 .0)
     (subst (PushedIs b p hs ns zs n u r w (d .0) (d .1 .0) (d .1 .1 .0) (d .1 .1 .1 .0) (d .1 .1 .1 .1 .0)) (c .enum-told3 .given .1) (c .before .before .before .before .before .before .before .before .before .before .before .before .push .ensures))

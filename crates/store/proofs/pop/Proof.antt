@@ -1,8 +1,8 @@
+-- The good store of one sort less, in buffers as long.
 -- The last record lies from its place to the end of the bytes in use, so its hash is that of those bytes.
 use native.Mathlib.Omega.{arith}
 use borrow.Author.Needs.{needs}
-use Prim.Native.Nat.{ℕ, zero, suc, _+_, _*_, _-_, _/_, _%_, _≤_, _<_}
-use mathlib.Core.Path.{_≡_, refl, sym, ap, ap₂, subst, _∙_}
+use Prim.Native.Nat.{_-_}
 use Rattle.store.proofs.UndoLaws.{pop-place, pop-to}
 use Rattle.store.proofs.pop.Statement.{statement}
 use Rattle.store.proofs.pop.Tie as tie

@@ -1,8 +1,7 @@
--- Each turn cuts the store by its last sort; at the end it is fixed by its sorts, so it is the one that was.
+-- The store as it was with `from` sorts, whole.
+-- Each turn cuts the last sort; a good state is fixed by its sorts and lengths, so it is the one that was.
 use native.Mathlib.Omega.{arith}
-use borrow.Author.Needs.{needs}
-use Prim.Native.Nat.{ℕ, zero, suc, _+_, _*_, _-_, _/_, _%_, _≤_, _<_}
-use mathlib.Core.Path.{_≡_, refl, sym, ap, ap₂, subst, _∙_}
+use mathlib.Core.Path.{sym, _∙_}
 use Rattle.store.proofs.UndoLaws.{UndoInv, undo-start, undo-step, undo-end}
 use Rattle.store.proofs.undo.Statement.{statement}
 use Rattle.store.proofs.undo.Tie as tie

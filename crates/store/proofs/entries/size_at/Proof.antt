@@ -1,8 +1,7 @@
--- The table has the size of each entry.
+-- The tree size of the sort k.
+-- The table has it.
 use native.Mathlib.Omega.{arith}
 use borrow.Author.Needs.{needs}
-use Prim.Native.Nat.{ℕ, zero, suc, _+_, _*_, _-_, _/_, _%_, _≤_, _<_}
-use mathlib.Core.Path.{_≡_, refl, sym, ap, ap₂, subst, _∙_}
 use Rattle.store.proofs.EntryLaws.{size-has}
 use Rattle.store.proofs.entries.size_at.Statement.{statement}
 use Rattle.store.proofs.entries.size_at.Tie as tie

@@ -1,17 +1,16 @@
+-- The tree size of the record's sort.
 -- The loop keeps: the sum so far and the sizes of the references that are left make the whole.
 use native.Mathlib.Omega.{arith}
 use borrow.Author.Needs.{needs}
-use Prim.Native.Nat.{ℕ, zero, suc, _+_, _*_, _-_, _/_, _%_, _≤_, _<_}
-use mathlib.Core.Path.{_≡_, refl, sym, ap, ap₂, subst, _∙_}
 use Rattle.store.proofs.EntryLaws.{SumInv, tree-place, tree-has, sum-start, sum-known, sum-step, sum-end}
 use Rattle.store.proofs.entries.tree_size.Statement.{statement}
 use Rattle.store.proofs.entries.tree_size.Tie as tie
 
 abbrev Inv-loop : tie.InvT-loop
-Inv-loop sizes count rec sum₀ next₀ left₀ sum next left = SumInv sizes count rec next₀ left₀ sum next left
+Inv-loop sizes rec sum₀ next₀ left₀ sum next left = SumInv sizes rec next₀ left₀ sum next left
 
 abbrev μ-loop : tie.MeasureT-loop
-μ-loop sizes count rec sum₀ next₀ left₀ sum next left = left
+μ-loop sizes rec sum₀ next₀ left₀ sum next left = left
 
 record-at-requires : tie.Need-record-at-requires Inv-loop μ-loop
 record-at-requires c κs =
@@ -19,8 +18,7 @@ record-at-requires c κs =
     let a = s .args in
     let zs = a .sizes .now in
     let rec = a .rec .now in
-    let n = a .count in
-    tree-place zs n rec (s .pre)
+    tree-place zs rec (s .pre)
 
 loop-holds : tie.Need-loop-holds Inv-loop μ-loop
 loop-holds c =
@@ -28,8 +26,7 @@ loop-holds c =
     let a = s .args in
     let zs = a .sizes .now in
     let rec = a .rec .now in
-    let n = a .count in
-    sum-start zs n rec (s .pre) (c .record-at .result) (c .record-at .ensures)
+    sum-start zs rec (s .pre) (c .record-at .result) (c .record-at .ensures)
 
 u16-at-requires : tie.Need-u16-at-requires Inv-loop μ-loop
 u16-at-requires c κs = omega (arith, c .before .loop .inv .within, c .loop-test .taken)
@@ -43,12 +40,11 @@ shared-slice-read-sum c =
     let a = s .args in
     let zs = a .sizes .now in
     let rec = a .rec .now in
-    let n = a .count in
     let l = c .before .before .before .loop in
     let w = c .before .before .before .before .record-at .result in
     let k = c .before .u16-at .result in
-    let known = sum-known zs n rec (w .list) (w .count) (l .sum) (l .next) (l .left) (l .inv) (c .before .before .loop-test .taken) in
-    omega (arith, known, c .before .u16-at .ensures .0, s .pre .count, s .pre .table)
+    let known = sum-known zs rec (w .list) (w .count) (l .sum) (l .next) (l .left) (l .inv) (c .before .before .loop-test .taken) in
+    omega (arith, known, c .before .u16-at .ensures .0, s .pre .table)
 
 cast-sum : tie.Need-cast-sum Inv-loop μ-loop
 cast-sum c = omega (arith, c .shared-slice-known3 .given (c .before .u16-at .result))
@@ -59,11 +55,10 @@ add-sum c =
     let a = s .args in
     let zs = a .sizes .now in
     let rec = a .rec .now in
-    let n = a .count in
     let l = c .before .before .before .loop in
     let w = c .before .before .before .before .record-at .result in
     let k = c .before .u16-at .result in
-    let known = sum-known zs n rec (w .list) (w .count) (l .sum) (l .next) (l .left) (l .inv) (c .before .before .loop-test .taken) in
+    let known = sum-known zs rec (w .list) (w .count) (l .sum) (l .next) (l .left) (l .inv) (c .before .before .loop-test .taken) in
     omega (arith, c .shared-slice-known3 .given k, l .inv .small, l .inv .few, c .before .before .loop-test .taken)
 
 add-next : tie.Need-add-next Inv-loop μ-loop
@@ -81,12 +76,11 @@ loop-again c =
     let a = s .args in
     let zs = a .sizes .now in
     let rec = a .rec .now in
-    let n = a .count in
     let l = c .before .before .before .loop in
     let w = c .before .before .before .before .record-at .result in
     let k = c .before .u16-at .result in
-    let known = sum-known zs n rec (w .list) (w .count) (l .sum) (l .next) (l .left) (l .inv) (c .before .before .loop-test .taken) in
-    sum-step zs n rec (w .list) (w .count) (l .sum) (l .next) (l .left) (l .inv) (c .before .before .loop-test .taken) k (c .before .u16-at .ensures .0) (omega (arith, c .shared-slice-known3 .given k))
+    let known = sum-known zs rec (w .list) (w .count) (l .sum) (l .next) (l .left) (l .inv) (c .before .before .loop-test .taken) in
+    sum-step zs rec (w .list) (w .count) (l .sum) (l .next) (l .left) (l .inv) (c .before .before .loop-test .taken) k (c .before .u16-at .ensures .0) (omega (arith, c .shared-slice-known3 .given k))
 
 returns : tie.Need-returns Inv-loop μ-loop
 returns c =
@@ -94,10 +88,9 @@ returns c =
     let a = s .args in
     let zs = a .sizes .now in
     let rec = a .rec .now in
-    let n = a .count in
     let l = c .before .loop in
     let w = c .before .before .record-at .result in
-    tree-has zs n rec (s .pre) w (c .before .before .record-at .ensures) (l .sum) (sum-end zs n rec (w .list) (w .count) (l .sum) (l .next) (l .left) (l .inv) (c .loop-test .left))
+    tree-has zs rec (s .pre) w (c .before .before .record-at .ensures) (l .sum) (sum-end zs rec (w .list) (w .count) (l .sum) (l .next) (l .left) (l .inv) (c .loop-test .left))
 
 pub tree-size-spec : {M : Type 1} → statement M
 tree-size-spec = tie.close (tie.spec Inv-loop μ-loop record-at-requires loop-holds u16-at-requires mul-sum shared-slice-read-sum cast-sum add-sum add-next sub-left loop-less loop-again returns)
