@@ -6,3 +6,4 @@ pub mod Was
 pub mod SortWas
 pub mod TermWas
 pub mod QuestionWas
+pub mod Examples

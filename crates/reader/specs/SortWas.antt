@@ -52,12 +52,12 @@ known-by k true e h = let z : mapOf k ≡ 0 = List·getD-eq-default maps 0 {n = 
 known-by k false e h = leb-false 16 k e
 
 -- the names' test is the one of a record's shape
-member-same : (v : ℕ) (vs : List ℕ) → memberOf v vs ≡ member v vs
+pub member-same : (v : ℕ) (vs : List ℕ) → memberOf v vs ≡ member v vs
 unfolding memberOf member
 member-same v [] = refl
 member-same v (w ∷ ws) = ap (λ (t : Bool). eqb w v || t) (member-same v ws)
 
-distinct-same : (vs : List ℕ) → distinctNames vs ≡ distinct vs
+pub distinct-same : (vs : List ℕ) → distinctNames vs ≡ distinct vs
 unfolding distinctNames distinct
 distinct-same [] = refl
 distinct-same (v ∷ vs) = ap₂ (λ (t u : Bool). not t && u) (member-same v vs) (distinct-same vs)

@@ -30,7 +30,7 @@ ghost use Rattle.reader.specs.Parts.{readSortLists, readTermLists, termO
 
 impl Scalars {
     // The term record with these fields and the lists given.
-    pub fn with_lists(
+    pub fn with(
         self,
         list: usize,
         count: usize,
@@ -156,14 +156,7 @@ impl Cursor {
                         let last = c7.second(s, map, kind, count, index);
                         match last {
                             ReadList::List(second, seconds, c8) => {
-                                let term = found.with_lists(
-                                    list,
-                                    count,
-                                    pairs,
-                                    paired,
-                                    second,
-                                    seconds,
-                                );
+                                let term = found.with(list, count, pairs, paired, second, seconds);
                                 ReadTerm::Term(term, c8)
                             }
                             ReadList::NoList(e) => ReadTerm::NoTerm(e),
