@@ -41,8 +41,10 @@ pub record QuestionWas (s : List ℕ) (sorts x : ℕ) (r : QuestionRecord) (c : 
   pub named : r .named ≤ 64
   pub names : r .names + 2 * r .named ≤ length s
   pub once : distinct (numbersAt s (r .names) (r .named)) ≡ true
-  -- the next record starts behind it, in the slice
+  -- the next record starts behind all of it, in the slice
   pub after : x + 2 ≤ c .at
+  pub listEnds : r .list + 2 * r .count ≤ c .at
+  pub namesEnd : r .names + 2 * r .named ≤ c .at
   pub inside : c .at ≤ length s
 
 -- what the tables say
@@ -139,6 +141,8 @@ module _ (s : List ℕ) (sorts x m k : ℕ) (c2 : Cursor) (head : HeadWas s x m 
         names = omega (arith, r5 .ends, r5 .inside in4);
         once = once;
         after = omega (arith, head .next, r4 .after, r4 .ends, r5 .after, r5 .ends);
+        listEnds = omega (arith, r4 .ends, r5 .after, r5 .ends);
+        namesEnd = omega (arith, r5 .ends);
         inside = r5 .inside in4;
       }
 

@@ -31,7 +31,7 @@ pub record SortWas (s : List ℕ) (i x : ℕ) (r : SortRecord) (c : Cursor) : Ty
   -- where the list stands, if the record has one
   pub start : bit 16 (getD s x 0) ≡ true → r .list ≡ listPlace (getD s x 0) x + 1
   pub empty : bit 16 (getD s x 0) ≡ false → r .count ≡ 0
-  pub low : x ≤ r .list
+  pub low : x + 2 ≤ r .list
   pub high : r .list + 2 * r .count ≤ c .at
   -- the names behind it, and the end
   pub after : r .list + 2 * r .count ≤ r .names

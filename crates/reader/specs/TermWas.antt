@@ -53,8 +53,11 @@ pub record TermWas (s : List ℕ) (sorts t x : ℕ) (r : TermRecord) (c : Cursor
   pub noList : bit 16 (termMapOf (r .kind)) ≡ false → r .count ≡ 0
   pub noPairs : bit 32 (termMapOf (r .kind)) ≡ false → r .paired ≡ 0
   pub noSecond : bit 64 (termMapOf (r .kind)) ≡ false → r .seconds ≡ 0
-  -- the next record starts behind it, in the slice
+  -- the next record starts behind all of it, in the slice
   pub after : x + 2 ≤ c .at
+  pub listEnds : r .list + 2 * r .count ≤ c .at
+  pub pairsEnd : r .pairs + 4 * r .paired ≤ c .at
+  pub secondEnds : r .second + 2 * r .seconds ≤ c .at
   pub inside : c .at ≤ length s
 
 -- what the tables say
@@ -155,20 +158,10 @@ module _ (s : List ℕ) (bytes : Bytes s) (sorts t x m k : ℕ) (c2 : Cursor) (h
         noList = λ e. r6 .empty (on 16 e);
         noPairs = λ e. r7 .empty (on 32 e);
         noSecond = λ e. r8 .empty (on 64 e);
-        after =
-            omega (
-              arith,
-              head .next,
-              r3 .next,
-              r4 .next,
-              r5 .next,
-              r6 .after,
-              r6 .ends,
-              r7 .after,
-              r7 .ends,
-              r8 .after,
-              r8 .ends,
-            );
+        after = omega (arith, head .next, r3 .next, r4 .next, r5 .next, r6 .after, r6 .ends, r7 .after, r7 .ends, r8 .after, r8 .ends);
+        listEnds = omega (arith, r6 .ends, r7 .after, r7 .ends, r8 .after, r8 .ends);
+        pairsEnd = omega (arith, r7 .ends, r8 .after, r8 .ends);
+        secondEnds = omega (arith, r8 .ends);
         inside = r8 .inside in7;
       }
 
