@@ -1,12 +1,12 @@
 -- The definitions of the reader case by case: what each reading is, by the tests and the readings that led there.
 use Prim.Native.Nat.{ℕ, zero, suc, _+_, _*_, _-_, _/_, _%_, _≤_, _<_}
 use mathlib.Core.Path.{_≡_, refl, sym, ap, _∙_}
-use mathlib.Core.Bool.{Bool, true, false, not, cond, _&&_, _||_}
-use mathlib.Core.List.{List, [], _∷_}
+use mathlib.Core.Bool.{Bool, true, false, cond}
+use mathlib.Core.List.{List, _∷_}
 use native.Mathlib.Omega.{arith}
 use native.Mathlib.Nat.{not-suc-le-zero}
 use lib.ListN.{length, getD}
-use lib.Dec.{leb, ltb, eqb}
+use lib.Dec.{leb, eqb}
 use borrow.Author.Tests.{le-leb, lt-leb, leb-true, leb-false, lt-ltb, le-ltb, eq-eqb, ne-eqb}
 use Rattle.record.specs.Number.{u16At, u32At, numbersAt}
 use Rattle.record.specs.Names.{member, distinct}
@@ -15,22 +15,15 @@ use Rattle.reader.specs.Tables.{termMapOf, termNumberOf, termLeastOf, te
 use Rattle.reader.specs.declared.Refusal.{Refusal}
 use Rattle.reader.specs.declared.Refusal.the-variants.{PastEnd, Map, Value, Reference}
 use Rattle.reader.specs.declared.Cursor.{Cursor}
-use Rattle.reader.specs.declared.ReadNumber.{ReadNumber}
 use Rattle.reader.specs.declared.ReadNumber.the-variants.{Number, NoNumber}
-use Rattle.reader.specs.declared.ReadList.{ReadList}
 use Rattle.reader.specs.declared.ReadList.the-variants.{List as Found, NoList}
-use Rattle.reader.specs.declared.ReadHead.{ReadHead}
 use Rattle.reader.specs.declared.ReadHead.the-variants.{Head, NoHead}
 use Rattle.reader.specs.declared.Scalars.{Scalars}
-use Rattle.reader.specs.declared.ReadSort.{ReadSort}
 use Rattle.reader.specs.declared.ReadSort.the-variants.{Sort, NoSort}
 use Rattle.reader.specs.declared.TermRecord.{TermRecord}
-use Rattle.reader.specs.declared.ReadTerm.{ReadTerm}
 use Rattle.reader.specs.declared.ReadTerm.the-variants.{Term, NoTerm}
-use Rattle.reader.specs.declared.QuestionRecord.{QuestionRecord}
-use Rattle.reader.specs.declared.ReadQuestion.{ReadQuestion}
 use Rattle.reader.specs.declared.ReadQuestion.the-variants.{Question, NoQuestion}
-use Rattle.reader.specs.Reader.{need, byNumber, byList, byHead, place, allBelow, pairSortsAt, readByte, readU16, readU32, readHead, readName, readNumber, readOwn, readList, readReferences, readNames, readSecond, readPairs, readSortFields, readSort, readTermFields, readTerm, readQuestionFields, readQuestion}
+use Rattle.reader.specs.Reader.{place, allBelow, pairSortsAt, readByte, readU16, readU32, readHead, readName, readNumber, readOwn, readList, readReferences, readNames, readSecond, readPairs, readSortFields, readSort, readTermFields, readTerm, readQuestionFields, readQuestion}
 use Rattle.reader.specs.Parts.{scalars, sortOf, termOf, readSortLists, readTermLists}
 
 -- NUMBERS: all their bytes are there, or not

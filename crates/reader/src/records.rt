@@ -30,7 +30,7 @@ ghost use Rattle.reader.specs.Parts.{readSortLists, readTermLists, termO
 
 impl Scalars {
     // The term record with these fields and the lists given.
-    pub fn with_lists(
+    fn with(
         self,
         list: usize,
         count: usize,
@@ -58,7 +58,7 @@ impl Scalars {
 
 impl Cursor {
     // The two lists of a sort record that may name the sorts below `index`, with the fields read before them.
-    pub fn sort_lists(self, s: &[u8], map: usize, index: usize, found: Scalars) -> ReadSort
+    fn sort_lists(self, s: &[u8], map: usize, index: usize, found: Scalars) -> ReadSort
         ensures { λ r. ⌜ r ≡ readSortLists (now (s .entry)) map index found (self .at) ⌝ }
     {
         let kind = found.kind;
@@ -91,7 +91,7 @@ impl Cursor {
     }
 
     // The fields behind the kind of a sort record, one after the other, or the first refusal.
-    pub fn sort_fields(self, s: &[u8], map: usize, kind: usize, index: usize) -> ReadSort
+    fn sort_fields(self, s: &[u8], map: usize, kind: usize, index: usize) -> ReadSort
         ensures { λ r. ⌜ r ≡ readSortFields (now (s .entry)) map kind index (self .at) ⌝ }
     {
         let first = self.name(s, map);
@@ -134,7 +134,7 @@ impl Cursor {
 
     // The list, the pairs and the second list of a term record that may name the terms below `index`, with the fields
     // read before them.
-    pub fn term_lists(
+    fn term_lists(
         self,
         s: &[u8],
         map: usize,
@@ -156,14 +156,7 @@ impl Cursor {
                         let last = c7.second(s, map, kind, count, index);
                         match last {
                             ReadList::List(second, seconds, c8) => {
-                                let term = found.with_lists(
-                                    list,
-                                    count,
-                                    pairs,
-                                    paired,
-                                    second,
-                                    seconds,
-                                );
+                                let term = found.with(list, count, pairs, paired, second, seconds);
                                 ReadTerm::Term(term, c8)
                             }
                             ReadList::NoList(e) => ReadTerm::NoTerm(e),
@@ -177,14 +170,7 @@ impl Cursor {
     }
 
     // The fields behind the kind of a term record, one after the other, or the first refusal.
-    pub fn term_fields(
-        self,
-        s: &[u8],
-        map: usize,
-        kind: usize,
-        sorts: usize,
-        index: usize,
-    ) -> ReadTerm
+    fn term_fields(self, s: &[u8], map: usize, kind: usize, sorts: usize, index: usize) -> ReadTerm
         ensures { λ r. ⌜ r ≡ readTermFields (now (s .entry)) map kind sorts index (self .at) ⌝ }
     {
         let first = self.name(s, map);
@@ -233,7 +219,7 @@ impl Cursor {
     }
 
     // The fields behind the kind of a question record, one after the other, or the first refusal.
-    pub fn question_fields(self, s: &[u8], map: usize, kind: usize, sorts: usize) -> ReadQuestion
+    fn question_fields(self, s: &[u8], map: usize, kind: usize, sorts: usize) -> ReadQuestion
         ensures { λ r. ⌜ r ≡ readQuestionFields (now (s .entry)) map kind sorts (self .at) ⌝ }
     {
         let least = question_least_of(kind);

@@ -33,8 +33,8 @@ pub fn pairs_below(s: &[u8], at: usize, count: usize, limit: usize) -> bool
     let mut next = at;
     let mut left = count;
     while 0 < left {
-        let v = u16_at(s, next + 2);
-        if limit <= v {
+        let sort = u16_at(s, next + 2);
+        if limit <= sort {
             return false;
         }
         next += 4;

@@ -3,7 +3,6 @@
 use native.Mathlib.Omega.{arith}
 use borrow.Author.Needs.{needs}
 use Rattle.reader.specs.Cases.{byte-short, byte-is}
-use mathlib.Core.Path.{_≡_, refl, sym, _∙_}
 use Rattle.reader.proofs.Cursor.byte.Statement.{statement}
 use Rattle.reader.proofs.Cursor.byte.Tie as tie
 

@@ -1,9 +1,8 @@
 -- Each return is the case of the definition that the two bytes and the test of the lowest bit lead to;
 -- the byte's promise says what was read.
-use native.Mathlib.Omega.{arith}
 use borrow.Author.Needs.{needs}
 use Rattle.reader.specs.Cases.{head-1, head-2, head-3, head-4}
-use mathlib.Core.Path.{_≡_, refl, sym, _∙_}
+use mathlib.Core.Path.{sym, _∙_}
 use Rattle.reader.proofs.Cursor.head.Statement.{statement}
 use Rattle.reader.proofs.Cursor.head.Tie as tie
 

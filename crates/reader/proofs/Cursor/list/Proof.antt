@@ -3,7 +3,7 @@
 use native.Mathlib.Omega.{arith}
 use borrow.Author.Needs.{needs}
 use Rattle.reader.specs.Cases.{byte-inside, list-fails, list-short, list-less, list-more, list-is}
-use mathlib.Core.Path.{_≡_, refl, sym, _∙_}
+use mathlib.Core.Path.{sym, _∙_}
 use Rattle.reader.proofs.Cursor.list.Statement.{statement}
 use Rattle.reader.proofs.Cursor.list.Tie as tie
 

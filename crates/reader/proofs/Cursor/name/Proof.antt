@@ -1,9 +1,8 @@
 -- The test of the bit is the definition's, and each return behind it is the case of the definition
 -- that what was read and the tests made lead to.
-use native.Mathlib.Omega.{arith}
 use borrow.Author.Needs.{needs}
 use Rattle.reader.specs.Cases.{name-on, name-off}
-use mathlib.Core.Path.{_≡_, refl, sym, _∙_}
+use mathlib.Core.Path.{_∙_}
 use Rattle.reader.proofs.Cursor.name.Statement.{statement}
 use Rattle.reader.proofs.Cursor.name.Tie as tie
 

@@ -1,9 +1,8 @@
 -- The test of the bit is the definition's, and each return behind it is the case of the definition
 -- that what was read and the tests made lead to.
-use native.Mathlib.Omega.{arith}
 use borrow.Author.Needs.{needs}
 use Rattle.reader.specs.Cases.{own-off, own-fails, own-far, own-is}
-use mathlib.Core.Path.{_≡_, refl, sym, _∙_}
+use mathlib.Core.Path.{sym, _∙_}
 use Rattle.reader.proofs.Cursor.own.Statement.{statement}
 use Rattle.reader.proofs.Cursor.own.Tie as tie
 

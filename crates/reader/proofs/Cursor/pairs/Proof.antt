@@ -3,7 +3,7 @@
 use native.Mathlib.Omega.{arith}
 use borrow.Author.Needs.{needs}
 use Rattle.reader.specs.Cases.{byte-inside, pairs-off, pairs-fail, pairs-short, pairs-more, pairs-far, pairs-are}
-use mathlib.Core.Path.{_≡_, refl, sym, _∙_}
+use mathlib.Core.Path.{sym, _∙_}
 use Rattle.reader.proofs.Cursor.pairs.Statement.{statement}
 use Rattle.reader.proofs.Cursor.pairs.Tie as tie
 
@@ -44,7 +44,7 @@ returns-3 c =
     let x = a .self .at in
     let r = sym (c .before .before .before .before .before .byte .ensures) ∙ c .before .before .before .read .given .1 in
     let i = byte-inside s x r in
-    pairs-more s (a .map) (a .sorts) x (c .before .before .before .before .before .before .if1 .left) r (omega (arith, i, c .before .if2 .left)) (c .if3 .taken)
+    pairs-more s (a .map) (a .sorts) x (c .before .before .before .before .before .before .if1 .left) r (omega (arith, i, c .before .if2 .left)) (omega (arith, c .if3 .taken))
 
 pairs-below-requires : tie.Need-pairs-below-requires
 pairs-below-requires c κs =
@@ -77,7 +77,7 @@ returns-4 c =
     let x = a .self .at in
     let r = sym (c .before .before .before .before .before .before .before .byte .ensures) ∙ c .before .before .before .before .before .read .given .1 in
     let i = byte-inside s x r in
-    pairs-are s (a .map) (a .sorts) x (c .before .before .before .before .before .before .before .before .if1 .left) r (omega (arith, i, c .before .before .before .if2 .left)) (c .before .before .if3 .left) (sym (c .before .pairs-below .ensures) ∙ c .if4 .taken)
+    pairs-are s (a .map) (a .sorts) x (c .before .before .before .before .before .before .before .before .if1 .left) r (omega (arith, i, c .before .before .before .if2 .left)) (omega (arith, c .before .before .if3 .left)) (sym (c .before .pairs-below .ensures) ∙ c .if4 .taken)
 
 enum-known-read-2 : tie.Need-enum-known-read-2
 enum-known-read-2 c = search needs
@@ -89,7 +89,7 @@ returns-5 c =
     let x = a .self .at in
     let r = sym (c .before .before .before .before .before .before .before .byte .ensures) ∙ c .before .before .before .before .before .read .given .1 in
     let i = byte-inside s x r in
-    pairs-far s (a .map) (a .sorts) x (c .before .before .before .before .before .before .before .before .if1 .left) r (omega (arith, i, c .before .before .before .if2 .left)) (c .before .before .if3 .left) (sym (c .before .pairs-below .ensures) ∙ c .if4 .left)
+    pairs-far s (a .map) (a .sorts) x (c .before .before .before .before .before .before .before .before .if1 .left) r (omega (arith, i, c .before .before .before .if2 .left)) (omega (arith, c .before .before .if3 .left)) (sym (c .before .pairs-below .ensures) ∙ c .if4 .left)
 
 returns-6 : tie.Need-returns-6
 returns-6 c =

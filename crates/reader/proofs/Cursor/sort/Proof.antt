@@ -1,9 +1,8 @@
 -- The map read is compared with that of the kind read, as in the definition; the fields behind them
 -- are their own method's promise.
-use native.Mathlib.Omega.{arith}
 use borrow.Author.Needs.{needs}
 use Rattle.reader.specs.Cases.{sort-1, sort-2, sort-3}
-use mathlib.Core.Path.{_≡_, refl, sym, _∙_}
+use mathlib.Core.Path.{sym, _∙_}
 use Rattle.reader.proofs.Cursor.sort.Statement.{statement}
 use Rattle.reader.proofs.Cursor.sort.Tie as tie
 

@@ -1,9 +1,8 @@
 -- Each return is the case of the definition that the readings before it lead to; what each reading
 -- gave is its promise.
-use native.Mathlib.Omega.{arith}
 use borrow.Author.Needs.{needs}
 use Rattle.reader.specs.Cases.{sort-lists-1, sort-lists-2, sort-lists-3}
-use mathlib.Core.Path.{_≡_, refl, sym, _∙_}
+use mathlib.Core.Path.{sym, _∙_}
 use Rattle.reader.proofs.Cursor.sort_lists.Statement.{statement}
 use Rattle.reader.proofs.Cursor.sort_lists.Tie as tie
 

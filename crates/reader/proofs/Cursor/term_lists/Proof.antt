@@ -1,9 +1,8 @@
 -- Each return is the case of the definition that the readings before it lead to; what each reading
 -- gave is its promise.
-use native.Mathlib.Omega.{arith}
 use borrow.Author.Needs.{needs}
 use Rattle.reader.specs.Cases.{term-lists-1, term-lists-2, term-lists-3, term-lists-4}
-use mathlib.Core.Path.{_≡_, refl, sym, _∙_}
+use mathlib.Core.Path.{sym, _∙_}
 use Rattle.reader.proofs.Cursor.term_lists.Statement.{statement}
 use Rattle.reader.proofs.Cursor.term_lists.Tie as tie
 
@@ -31,8 +30,8 @@ second-requires c κs = search needs
 enum-known-last : tie.Need-enum-known-last
 enum-known-last c = search needs
 
-with-lists-requires : tie.Need-with-lists-requires
-with-lists-requires c κs = search needs
+with-requires : tie.Need-with-requires
+with-requires c κs = search needs
 
 enum-known-last-2 : tie.Need-enum-known-last-2
 enum-known-last-2 c = search needs
@@ -51,7 +50,7 @@ returns c =
     let l = sym (c .before .before .before .before .before .before .before .before .before .before .before .before .references .ensures) ∙ c .before .before .before .before .before .before .before .before .before .before .first .given .1 in
     let ps = sym (c .before .before .before .before .before .before .before .before .pairs .ensures) ∙ c .before .before .before .before .before .before .between .given .1 in
     let q = sym (c .before .before .before .before .second .ensures) ∙ c .before .before .last .given .1 in
-    term-lists-4 s (a .map) (a .sorts) (a .index) (a .found) x (c .before .before .before .before .before .before .before .before .before .before .before .before .before .before .term-least-of .ensures) (c .before .before .before .before .before .before .before .before .before .before .before .before .before .term-most-of .ensures) l ps (c .with-lists .ensures) q
+    term-lists-4 s (a .map) (a .sorts) (a .index) (a .found) x (c .before .before .before .before .before .before .before .before .before .before .before .before .before .before .term-least-of .ensures) (c .before .before .before .before .before .before .before .before .before .before .before .before .before .term-most-of .ensures) l ps (c .with .ensures) q
 
 returns-2 : tie.Need-returns-2
 returns-2 c =
@@ -81,4 +80,4 @@ returns-4 c =
     term-lists-1 s (a .map) (a .sorts) (a .index) (a .found) x (c .before .before .before .before .before .term-least-of .ensures) (c .before .before .before .before .term-most-of .ensures) l
 
 pub term-lists-spec : {M : Type 1} → statement M
-term-lists-spec = tie.close (tie.spec term-least-of-requires term-most-of-requires references-requires enum-known-first pairs-requires enum-known-between second-requires enum-known-last with-lists-requires enum-known-last-2 enum-known-between-2 enum-known-first-2 returns returns-2 returns-3 returns-4)
+term-lists-spec = tie.close (tie.spec term-least-of-requires term-most-of-requires references-requires enum-known-first pairs-requires enum-known-between second-requires enum-known-last with-requires enum-known-last-2 enum-known-between-2 enum-known-first-2 returns returns-2 returns-3 returns-4)

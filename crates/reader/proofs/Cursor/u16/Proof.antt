@@ -3,7 +3,6 @@
 use native.Mathlib.Omega.{arith}
 use borrow.Author.Needs.{needs}
 use Rattle.reader.specs.Cases.{u16-short, u16-is}
-use mathlib.Core.Path.{_≡_, refl, sym, _∙_}
 use Rattle.reader.proofs.Cursor.u16.Statement.{statement}
 use Rattle.reader.proofs.Cursor.u16.Tie as tie
 

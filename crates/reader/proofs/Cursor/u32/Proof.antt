@@ -3,7 +3,6 @@
 use native.Mathlib.Omega.{arith}
 use borrow.Author.Needs.{needs}
 use Rattle.reader.specs.Cases.{u32-short, u32-is}
-use mathlib.Core.Path.{_≡_, refl, sym, _∙_}
 use Rattle.reader.proofs.Cursor.u32.Statement.{statement}
 use Rattle.reader.proofs.Cursor.u32.Tie as tie
 

@@ -3,7 +3,7 @@
 use native.Mathlib.Omega.{arith}
 use borrow.Author.Needs.{needs}
 use Rattle.reader.specs.Cases.{pairs-below-far, pairs-below-step, pairs-below-end}
-use mathlib.Core.Path.{_≡_, refl, sym, _∙_}
+use mathlib.Core.Path.{_≡_, refl, _∙_}
 use Prim.Native.Nat.{_+_, _*_, _≤_}
 use lib.ListN.{length}
 use Rattle.reader.specs.Reader.{allBelow, pairSortsAt}
@@ -30,7 +30,7 @@ returns c =
     let a = c .before .before .before .before .before .args in
     let s = a .s .now in
     let l = c .before .before .before .loop in
-    pairs-below-far s (l .next) (l .left) (a .limit) (c .before .u16-at .result) (c .before .before .loop-test .taken) (c .before .u16-at .ensures .0) (c .if1 .taken) ∙ l .inv .1
+    pairs-below-far s (l .next) (l .left) (a .limit) (c .before .u16-at .result) (c .before .before .loop-test .taken) (c .before .u16-at .ensures .0) (omega (arith, c .if1 .taken)) ∙ l .inv .1
 
 add-next : tie.Need-add-next Inv-loop μ-loop
 add-next c = search needs
@@ -46,7 +46,7 @@ loop-again c =
     let a = c .before .before .before .before .before .args in
     let s = a .s .now in
     let l = c .before .before .before .loop in
-    (omega arith, pairs-below-step s (l .next) (l .left) (a .limit) (c .before .u16-at .result) (c .before .before .loop-test .taken) (c .before .u16-at .ensures .0) (c .if1 .left) ∙ l .inv .1)
+    (omega arith, pairs-below-step s (l .next) (l .left) (a .limit) (c .before .u16-at .result) (c .before .before .loop-test .taken) (c .before .u16-at .ensures .0) (omega (arith, c .if1 .left)) ∙ l .inv .1)
 
 returns-2 : tie.Need-returns-2 Inv-loop μ-loop
 returns-2 c =

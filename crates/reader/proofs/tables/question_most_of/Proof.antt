@@ -2,7 +2,7 @@
 -- for a kind past the end the definition gives its default.
 use native.Mathlib.Omega.{arith}
 use borrow.Author.Needs.{needs}
-use mathlib.Core.Path.{_≡_, refl, sym, _∙_}
+use mathlib.Core.Path.{refl, sym}
 use lib.ListN.{List·getD-eq-default}
 use Rattle.reader.specs.Tables.{questionMostOf, questionMosts}
 use Rattle.reader.proofs.tables.question_most_of.Statement.{statement}

@@ -1,9 +1,7 @@
 -- The test of the kind decides the case of the definition; where the list is empty, the natural
 -- numbers' difference is 0, as the code returns without a subtraction.
-use native.Mathlib.Omega.{arith}
 use borrow.Author.Needs.{needs}
 use Rattle.reader.specs.Cases.{count-other, count-less, count-none}
-use mathlib.Core.Path.{_≡_, refl, sym, _∙_}
 use Rattle.reader.specs.Tables.{secondLeastOf}
 use Rattle.reader.proofs.tables.second_least_of.Statement.{statement}
 use Rattle.reader.proofs.tables.second_least_of.Tie as tie
