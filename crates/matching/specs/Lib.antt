@@ -1,0 +1,4 @@
+pub mod Tables
+pub mod Contract
+pub mod TableLaws
+pub mod Entered
