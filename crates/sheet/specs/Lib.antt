@@ -1,2 +1,4 @@
 pub mod Sheet
 pub mod SheetLaws
+pub mod Trees
+pub mod Contract
