@@ -14,13 +14,13 @@ use Rattle.record.specs.Record.{sortsOf}
 use Rattle.record.specs.Decode.{storeOf, sortAt, Stored, Distinct}
 use Rattle.record.specs.declared.SortRecord.{SortRecord}
 use Rattle.substitution.specs.Substitution.{Map, find}
-use Rattle.substitution.specs.Matching.{meet, matches, matchesAll, unlisted, unlistedAll, apart}
+use Rattle.substitution.specs.Matching.{meet, matches, matchesAll, unlisted, unlistedAll, apart, premise}
 use Rattle.substitution.specs.MatchWith.{meetWith, allMembers, matchWith, matchAllWith}
 use Rattle.matching.specs.Tables.{times, Lists, Told, Roomy, imageOf, mapOf, VarIn, Mapped}
 use Rattle.matching.specs.declared.Matched.{Matched}
 use Rattle.matching.specs.declared.Matched.the-variants.{Fits, Misfits}
 use Rattle.matching.specs.declared.Turn.{Turn}
-use Rattle.matching.specs.declared.Turn.the-variants.{Holds, Fails, Meets, Under, Through, Parts}
+use Rattle.matching.specs.declared.Turn.the-variants.{Holds, Fails, Meets, Under, Past, Parts}
 
 ---------------------------------------------------------------- sorts of a store
 -- A store of n distinct sorts.
@@ -196,7 +196,7 @@ MeetWithIs b p n imgs bnd m v j imgs′ bnd′ r =
     Answered b p n imgs′ bnd′ r
     (meetWith (find (mapOf (storeOf b p n) imgs bnd m) v) v (sortAt b p n j) (mapOf (storeOf b p n) imgs bnd m))
 
----------------------------------------------------------------- no listed name
+---------------------------------------------------------------- no listed name, and matching's premise
 pub record UnlistedAsks (b p : List ℕ) (n : ℕ) (prm : List ℕ) (k : ℕ) : Type 0 where
   pub one : OneAsks b p n k
   pub table : length prm ≡ 65536
@@ -211,14 +211,18 @@ UnlistedIs b p n prm k r = (ns : List ℕ) → Lists prm ns → r ≡ unlisted n
 abbrev pub UnlistedAllIs : List ℕ → List ℕ → ℕ → List ℕ → List ℕ → ℕ → ℕ → Bool → Type 0
 UnlistedAllIs b p n prm s x m r = (ns : List ℕ) → Lists prm ns → r ≡ unlistedAll ns (sortsAt b p n s x m)
 
----------------------------------------------------------------- what match_with does next
-pub record TurnAsks (b p : List ℕ) (n : ℕ) (prm : List ℕ) (k j : ℕ) : Type 0 where
+-- Two sorts, and the table of names.
+pub record TestAsks (b p : List ℕ) (n : ℕ) (prm : List ℕ) (k j : ℕ) : Type 0 where
   pub pair : PairAsks b p n k j
   pub table : length prm ≡ 65536
 
+abbrev pub PremiseIs : List ℕ → List ℕ → ℕ → List ℕ → ℕ → ℕ → Bool → Type 0
+PremiseIs b p n prm k j r = (ns : List ℕ) → Lists prm ns → r ≡ premise ns (sortAt b p n k) (sortAt b p n j)
+
+---------------------------------------------------------------- what match_with does next
 -- Two sorts, of which the first is neither a Var nor a Par, by its entry, and not the second.
 pub record NodeAsks (b p : List ℕ) (n : ℕ) (prm : List ℕ) (r : SortRecord) (k j : ℕ) : Type 0 where
-  pub turn : TurnAsks b p n prm k j
+  pub turn : TestAsks b p n prm k j
   pub entry : EntryHas b p k r
   pub noVar : r .kind ≡ 2 → ⊥
   pub noPar : r .kind ≡ 12 → ⊥
@@ -257,5 +261,5 @@ TurnIs b p n prm k j Holds = (ns : List ℕ) → Lists prm ns → (m : Map) → 
 TurnIs b p n prm k j Fails = (ns : List ℕ) → Lists prm ns → (m : Map) → none ≡ matchWith ns (sortAt b p n k) (sortAt b p n j) m
 TurnIs b p n prm k j (Meets v) = Meeting b p n prm k j v
 TurnIs b p n prm k j (Under i x c) = Opened b p n k j i x c
-TurnIs b p n prm k j (Through i) = Passed b p n prm k j i
+TurnIs b p n prm k j (Past i) = Passed b p n prm k j i
 TurnIs b p n prm k j (Parts x y c) = Parted b p n k j x y c

@@ -11,7 +11,7 @@ use super::tables::unlist_names;
 use record::SortRecord;
 use record::u16_at;
 use store::entries::entry;
-ghost use Rattle.matching.specs.Contract.{MeetWithAsks, MeetWithIs, TurnAsks, NodeAsks, TurnIs, WithAsks, WithAllAsks, WithIs, PairWith, PairsWith};
+ghost use Rattle.matching.specs.Contract.{MeetWithAsks, MeetWithIs, TestAsks, NodeAsks, TurnIs, WithAsks, WithAllAsks, WithIs, PairWith, PairsWith};
 
 // A parameter of the pattern against the sort `target`: an unbound one is bound to it, a bound one is compared by param_eq
 // and keeps its image.
@@ -49,7 +49,7 @@ pub fn next_turn(
     p: usize,
     t: usize,
 ) -> Turn
-    requires { ⌜ TurnAsks (now records) (now places) count (now params) p t ⌝ }
+    requires { ⌜ TestAsks (now records) (now places) count (now params) p t ⌝ }
     ensures { λ r. ⌜ TurnIs (now (records .entry)) (now (places .entry)) count (now (params .entry)) p t r ⌝ }
 {
     if p == t {
@@ -92,7 +92,7 @@ pub fn node_turn(
     if c.kind == 12 {
         if all_listed(params, records, c.names, c.named) {
             let body = u16_at(records, to);
-            return Turn::Through(body);
+            return Turn::Past(body);
         }
         return Turn::Fails;
     }
@@ -134,17 +134,7 @@ pub fn match_with(
             unlist_names(params, records, names, named);
             found
         }
-        Turn::Through(body) => match_with(
-            records,
-            places,
-            count,
-            params,
-            images,
-            bound,
-            m,
-            p,
-            body,
-        ),
+        Turn::Past(body) => match_with(records, places, count, params, images, bound, m, p, body),
         Turn::Parts(at, to, left) => match_all_with(
             records,
             places,

@@ -23,7 +23,7 @@ pub enum Turn {
     // The pattern is a Par: its body, and where its names stand and how many they are.
     Under(usize, usize, usize),
     // The target is a Par of parameters: its body.
-    Through(usize),
+    Past(usize),
     // The parts are matched: where the two lists stand and how long they are.
     Parts(usize, usize, usize),
 }

@@ -366,7 +366,8 @@ matches-all-sub-matches-all t c =
     let t = a .targets .now in
     let y = a .to in
     let i = a .left in
-    some-left i (c .before .before .before .before .before .before .before .before .before .before .before .before .before .before .if1 .left)
+    let some = some-left i (c .before .before .before .before .before .before .before .before .before .before .before .before .before .before .if1 .left) in
+    omega (arith, some)
 
 matches-all-matches-all-requires : (t : ℕ) → matches-all-lts.Need-matches-all-requires (matches-all-env t) (matches-all-at t) matches-all.Post
 matches-all-matches-all-requires t c κs =
