@@ -6,3 +6,4 @@ mod PremiseLaws
 mod CompatibleLaws
 mod PlainLaws
 mod GeneralLaws
+mod TurnLaws

@@ -9,7 +9,7 @@ use lib.ListN.{getD}
 use lib.Dec.{eqb}
 use borrow.Author.Tests.{eq-eqb}
 use Rattle.record.specs.Number.{u16At}
-use Rattle.record.specs.Sort.{Sort, Sorts, node, end, _then_, count, same}
+use Rattle.record.specs.Sort.{var, Sort, Sorts, node, end, _then_, count, same}
 use Rattle.record.specs.Forms.{Which, isVar, isPar, isNode, which}
 use Rattle.record.specs.Decode.{storeOf, sortAt}
 use Rattle.record.specs.declared.SortRecord.{SortRecord}
@@ -20,8 +20,8 @@ use Rattle.matching.specs.declared.Matched.{Matched}
 use Rattle.matching.specs.declared.Matched.the-variants.{Fits, Misfits}
 use Rattle.matching.specs.Tables.{mapOf, Mapped, listed, Told}
 use Rattle.matching.specs.TableLaws.{listed-some, listed-none, bind-room}
-use Rattle.matching.specs.Contract.{sortsAt, sameHead, countOf, answerOf, MeetAsks, MeetIs, MatchAsks, MatchIs, MatchAllAsks, MatchAllIs}
-use Rattle.matching.specs.Entered.{sorts-end, sorts-more, same-number, other-number, entry-var, entry-par, entry-node, entry-name, entry-own, head-same}
+use Rattle.matching.specs.Contract.{sortsAt, sameHead, countOf, answerOf, MeetAsks, MeetIs, VarIs, MatchAsks, MatchIs, MatchAllAsks, MatchAllIs}
+use Rattle.matching.specs.Entered.{sorts-end, sorts-more, same-number, other-number, entry-var, entry-par, entry-node, entry-name, entry-own, var-own, head-same}
 use Rattle.matching.proofs.MapLaws.{answered-as, answered-fits, answered-misfits}
 use Rattle.matching.proofs.WalkLaws.{both-parts, pair-first, pair-rest, head-differs}
 
@@ -41,6 +41,34 @@ keep-none : (c : Bool) → keep c none ≡ none
 keep-none true = refl
 keep-none false = refl
 
+---------------------------------------------------------------- a variable of the pattern
+pub var-listed : (prm imgs bnd : List ℕ) (m v k j : ℕ) → (getD prm v 0 ≡ 0 → ⊥) → (imgs′ bnd′ : List ℕ) (q : Matched) → MeetIs imgs bnd m v j imgs′ bnd′ q
+    → VarIs prm imgs bnd m v k j imgs′ bnd′ q
+unfolding matches
+var-listed prm imgs bnd m v k j d imgs′ bnd′ q g b p n a z f told =
+    answered-as (sym (rw (z, told v, listed-some prm v d) refl))
+    (g b p n (a .pair .usable) (a .mapped) (a .pair .right) (var-own b p n k v (a .pair .left) z))
+
+-- One that is not listed stands for itself.
+own : (b p : List ℕ) (n : ℕ) (prm : List ℕ) (k j v : ℕ) (m : Map) → sortAt b p n k ≡ var v → getD prm v 0 ≡ 0 → (f : ℕ → Bool) → Told prm f
+    → keep (same (sortAt b p n k) (sortAt b p n j)) (some m) ≡ matches f (sortAt b p n k) (sortAt b p n j) m
+unfolding matches
+own b p n prm k j v m z d f told = rw (z, told v, listed-none prm v d) refl
+
+pub var-self : (prm imgs bnd : List ℕ) (m v k j : ℕ) → getD prm v 0 ≡ 0 → k ≡ j → VarIs prm imgs bnd m v k j imgs bnd (Fits m)
+var-self prm imgs bnd m v k j d s b p n a z f told =
+    answered-as
+    (sym (rw (same-number b p n (a .pair .usable) k j (a .pair .left) (a .pair .right) s) refl)
+    ∙ own b p n prm k j v (mapOf (storeOf b p n) imgs bnd m) z d f told)
+    (answered-fits b p n imgs bnd m (a .mapped))
+
+pub var-other : (prm imgs bnd : List ℕ) (m v k j : ℕ) → getD prm v 0 ≡ 0 → (k ≡ j → ⊥) → VarIs prm imgs bnd m v k j imgs bnd (Misfits m)
+var-other prm imgs bnd m v k j d s b p n a z f told =
+    answered-as
+    (sym (rw (other-number b p n (a .pair .usable) k j (a .pair .left) (a .pair .right) s) refl)
+    ∙ own b p n prm k j v (mapOf (storeOf b p n) imgs bnd m) z d f told)
+    (answered-misfits b p n imgs bnd m (a .mapped))
+
 ---------------------------------------------------------------- two sorts by their entries
 module _ (b p : List ℕ) (n : ℕ) (prm imgs bnd : List ℕ) (m k j : ℕ) (a : MatchAsks b p n prm imgs bnd m k j) (r : SortRecord) (e : EntryHas b p k r) where
   pub meet-asks : r .kind ≡ 2 → MeetAsks imgs bnd m (r .name) j
@@ -52,33 +80,6 @@ module _ (b p : List ℕ) (n : ℕ) (prm imgs bnd : List ℕ) (m k j : ℕ) (a :
         target = omega (arith, a .pair .right, a .pair .usable .count);
         room = λ z. bind-room b p n imgs bnd m (a .mapped) (r .name) z (entry-own b p n k (a .pair .usable) (a .pair .left) r e h) (a .pair .usable .count);
       }
-
-  pub plain-listed : r .kind ≡ 2 → (getD prm (r .name) 0 ≡ 0 → ⊥) → (imgs′ bnd′ : List ℕ) (q : Matched) → MeetIs imgs bnd m (r .name) j imgs′ bnd′ q
-      → MatchIs b p n prm imgs bnd m k j imgs′ bnd′ q
-  unfolding matches
-  plain-listed h d imgs′ bnd′ q g f told =
-      answered-as
-      (sym (rw (entry-var b p n k (a .pair .usable) (a .pair .left) r e h, told (r .name), listed-some prm (r .name) d) refl))
-      (g b p n (a .pair .usable) (a .mapped) (a .pair .right) (entry-own b p n k (a .pair .usable) (a .pair .left) r e h))
-
-  -- Another variable stands for itself.
-  own : r .kind ≡ 2 → getD prm (r .name) 0 ≡ 0 → (f : ℕ → Bool) → Told prm f
-      → keep (same (sortAt b p n k) (sortAt b p n j)) (some (mapOf (storeOf b p n) imgs bnd m)) ≡ matches f (sortAt b p n k) (sortAt b p n j) (mapOf (storeOf b p n) imgs bnd m)
-  unfolding matches
-  own h d f told =
-      rw (entry-var b p n k (a .pair .usable) (a .pair .left) r e h, told (r .name), listed-none prm (r .name) d) refl
-
-  pub plain-self : r .kind ≡ 2 → getD prm (r .name) 0 ≡ 0 → k ≡ j → MatchIs b p n prm imgs bnd m k j imgs bnd (Fits m)
-  plain-self h d s f told =
-      answered-as
-      (sym (rw (same-number b p n (a .pair .usable) k j (a .pair .left) (a .pair .right) s) refl) ∙ own h d f told)
-      (answered-fits b p n imgs bnd m (a .mapped))
-
-  pub plain-other : r .kind ≡ 2 → getD prm (r .name) 0 ≡ 0 → (k ≡ j → ⊥) → MatchIs b p n prm imgs bnd m k j imgs bnd (Misfits m)
-  plain-other h d s f told =
-      answered-as
-      (sym (rw (other-number b p n (a .pair .usable) k j (a .pair .left) (a .pair .right) s) refl) ∙ own h d f told)
-      (answered-misfits b p n imgs bnd m (a .mapped))
 
   pub plain-par : r .kind ≡ 12 → MatchIs b p n prm imgs bnd m k j imgs bnd (Misfits m)
   unfolding matches

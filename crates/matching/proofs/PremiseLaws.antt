@@ -13,10 +13,10 @@ use Rattle.record.specs.Sort.{Sort, var, par, node, kindOf, namesOf, partsOf}
 use Rattle.record.specs.Decode.{sortAt}
 use Rattle.record.specs.declared.SortRecord.{SortRecord}
 use Rattle.store.specs.Entry.{EntryHas}
-use Rattle.substitution.specs.Matching.{known, knownAll, apart, unlisted, unlistedAll}
+use Rattle.substitution.specs.Matching.{known, knownAll, apart, unlisted, unlistedAll, premise}
 use Rattle.substitution.specs.Premises.{usual, proper, properAll}
 use Rattle.matching.specs.TableLaws.{listed-is}
-use Rattle.matching.specs.Contract.{sortsAt, OneAsks, UnlistedIs, UnlistedAllIs, NoneListed}
+use Rattle.matching.specs.Contract.{sortsAt, OneAsks, UnlistedIs, UnlistedAllIs, NoneListed, PremiseIs}
 use Rattle.matching.specs.Entered.{sorts-end, sorts-more, entry-var, entry-par, entry-node}
 
 ---------------------------------------------------------------- along a list: one test after another
@@ -119,3 +119,18 @@ module _ (b p : List ℕ) (n k : ℕ) (a : OneAsks b p n k) (r : SortRecord) (e 
 
     pub unlisted-other : (f : Bool) → NoneListed prm b (r .names) (r .named) f → f ≡ false → UnlistedIs b p n prm k false
     unlisted-other f h t ns l = sym (ap (λ (c : Bool). c && unlistedAll ns (sortsAt b p n b (r .list) (r .count))) (sym (h ns l) ∙ t)) ∙ by-names ns
+
+---------------------------------------------------------------- matching's premise
+module _ (b p : List ℕ) (n : ℕ) (prm : List ℕ) (k j : ℕ) (f : Bool) (h : f ≡ known (sortAt b p n k)) where
+  pub premise-left : f ≡ false → PremiseIs b p n prm k j false
+  unfolding premise
+  premise-left e ns l = rw (← h, e) refl
+
+  module _ (e : f ≡ true) (g : Bool) (w : g ≡ known (sortAt b p n j)) where
+    pub premise-right : g ≡ false → PremiseIs b p n prm k j false
+    unfolding premise
+    premise-right q ns l = rw (← h, e, ← w, q) refl
+
+    pub premise-both : g ≡ true → (r : Bool) → UnlistedIs b p n prm j r → PremiseIs b p n prm k j r
+    unfolding premise
+    premise-both q r u ns l = rw (← h, e, ← w, q) (u ns l)

@@ -1,22 +1,26 @@
 -- What matching, compatibility and the tests of sorts ask of a store, and what they promise, on trees.
 use Prim.Native.Nat.{ℕ, _+_, _*_, _≤_, _<_}
 use mathlib.Core.Path.{_≡_}
-use mathlib.Core.Bool.{Bool, _&&_}
-use mathlib.Core.List.{List}
+use mathlib.Core.Bool.{Bool, true, _&&_}
+use mathlib.Core.List.{List, _++_}
 use mathlib.Core.Option.{Option, none, some}
 use lib.ListN.{length, getD, set}
 use lib.Dec.{eqb}
 use Rattle.record.specs.Number.{u16At, numbersAt}
-use Rattle.record.specs.Sort.{Sort, Sorts, size, sizes}
+use Rattle.record.specs.Names.{distinct}
+use Rattle.store.specs.Entry.{EntryHas}
+use Rattle.record.specs.Sort.{var, Sort, Sorts, size, sizes}
 use Rattle.record.specs.Record.{sortsOf}
 use Rattle.record.specs.Decode.{storeOf, sortAt, Stored, Distinct}
 use Rattle.record.specs.declared.SortRecord.{SortRecord}
 use Rattle.substitution.specs.Substitution.{Map, find}
-use Rattle.substitution.specs.Matching.{meet, matches, matchesAll, unlisted, unlistedAll, apart}
+use Rattle.substitution.specs.Matching.{meet, matches, matchesAll, unlisted, unlistedAll, apart, premise}
 use Rattle.substitution.specs.MatchWith.{meetWith, allMembers, matchWith, matchAllWith}
 use Rattle.matching.specs.Tables.{times, Lists, Told, Roomy, imageOf, mapOf, VarIn, Mapped}
 use Rattle.matching.specs.declared.Matched.{Matched}
 use Rattle.matching.specs.declared.Matched.the-variants.{Fits, Misfits}
+use Rattle.matching.specs.declared.Turn.{Turn}
+use Rattle.matching.specs.declared.Turn.the-variants.{Holds, Fails, Meets, Under, Past, Parts}
 
 ---------------------------------------------------------------- sorts of a store
 -- A store of n distinct sorts.
@@ -144,6 +148,15 @@ MatchAllIs b p n prm imgs bnd m s x t y e imgs′ bnd′ r =
     (f : ℕ → Bool) → Told prm f
     → Answered b p n imgs′ bnd′ r (matchesAll f (sortsAt b p n s x e) (sortsAt b p n t y e) (mapOf (storeOf b p n) imgs bnd m))
 
+-- A variable of the pattern, whether it is listed or not.
+pub record VarAsks (prm imgs bnd : List ℕ) (m v j : ℕ) : Type 0 where
+  pub table : length prm ≡ 65536
+  pub asks : MeetAsks imgs bnd m v j
+
+abbrev pub VarIs : List ℕ → List ℕ → List ℕ → ℕ → ℕ → ℕ → ℕ → List ℕ → List ℕ → Matched → Type 0
+VarIs prm imgs bnd m v k j imgs′ bnd′ r =
+    (b p : List ℕ) (n : ℕ) → MatchAsks b p n prm imgs bnd m k j → sortAt b p n k ≡ var v → MatchIs b p n prm imgs bnd m k j imgs′ bnd′ r
+
 ---------------------------------------------------------------- match_with
 -- Each Par of the pattern lists each of its names once more, so the table needs room for the pattern's size at most.
 pub record WithAsks (b p : List ℕ) (n : ℕ) (prm imgs bnd : List ℕ) (m k j : ℕ) : Type 0 where
@@ -170,7 +183,7 @@ PairWith b p n imgs bnd m k j ns = matchWith ns (sortAt b p n k) (sortAt b p n j
 abbrev pub PairsWith : List ℕ → List ℕ → ℕ → List ℕ → List ℕ → ℕ → List ℕ → ℕ → List ℕ → ℕ → ℕ → List ℕ → Option Map
 PairsWith b p n imgs bnd m s x t y e ns = matchAllWith ns (sortsAt b p n s x e) (sortsAt b p n t y e) (mapOf (storeOf b p n) imgs bnd m)
 
--- A variable of the pattern, not equal to the target.
+-- A parameter of the pattern, not equal to the target.
 pub record MeetWithAsks (b p : List ℕ) (n : ℕ) (imgs bnd : List ℕ) (m v j : ℕ) : Type 0 where
   pub usable : Usable b p n
   pub mapped : Mapped b p n imgs bnd m
@@ -183,7 +196,7 @@ MeetWithIs b p n imgs bnd m v j imgs′ bnd′ r =
     Answered b p n imgs′ bnd′ r
     (meetWith (find (mapOf (storeOf b p n) imgs bnd m) v) v (sortAt b p n j) (mapOf (storeOf b p n) imgs bnd m))
 
----------------------------------------------------------------- no listed name
+---------------------------------------------------------------- no listed name, and matching's premise
 pub record UnlistedAsks (b p : List ℕ) (n : ℕ) (prm : List ℕ) (k : ℕ) : Type 0 where
   pub one : OneAsks b p n k
   pub table : length prm ≡ 65536
@@ -197,3 +210,56 @@ UnlistedIs b p n prm k r = (ns : List ℕ) → Lists prm ns → r ≡ unlisted n
 
 abbrev pub UnlistedAllIs : List ℕ → List ℕ → ℕ → List ℕ → List ℕ → ℕ → ℕ → Bool → Type 0
 UnlistedAllIs b p n prm s x m r = (ns : List ℕ) → Lists prm ns → r ≡ unlistedAll ns (sortsAt b p n s x m)
+
+-- Two sorts, and the table of names.
+pub record TestAsks (b p : List ℕ) (n : ℕ) (prm : List ℕ) (k j : ℕ) : Type 0 where
+  pub pair : PairAsks b p n k j
+  pub table : length prm ≡ 65536
+
+abbrev pub PremiseIs : List ℕ → List ℕ → ℕ → List ℕ → ℕ → ℕ → Bool → Type 0
+PremiseIs b p n prm k j r = (ns : List ℕ) → Lists prm ns → r ≡ premise ns (sortAt b p n k) (sortAt b p n j)
+
+---------------------------------------------------------------- what match_with does next
+-- Two sorts, of which the first is neither a Var nor a Par, by its entry, and not the second.
+pub record NodeAsks (b p : List ℕ) (n : ℕ) (prm : List ℕ) (r : SortRecord) (k j : ℕ) : Type 0 where
+  pub turn : TestAsks b p n prm k j
+  pub entry : EntryHas b p k r
+  pub noVar : r .kind ≡ 2 → ⊥
+  pub noPar : r .kind ≡ 12 → ⊥
+  pub differ : k ≡ j → ⊥
+
+-- A parameter v meets the target.
+pub record Meeting (b p : List ℕ) (n : ℕ) (prm : List ℕ) (k j v : ℕ) : Type 0 where
+  pub name : v < 65536
+  pub own : VarIn b p n v
+  pub whole : (ns : List ℕ) → Lists prm ns → (m : Map) → meetWith (find m v) v (sortAt b p n j) m ≡ matchWith ns (sortAt b p n k) (sortAt b p n j) m
+
+-- A Par of the pattern, with c names at x, is opened: its body i.
+pub record Opened (b p : List ℕ) (n k j i x c : ℕ) : Type 0 where
+  pub below : i < n
+  pub within : x + 2 * c ≤ length b
+  pub once : distinct (numbersAt b x c) ≡ true
+  pub falls : size (sortAt b p n k) ≡ 1 + size (sortAt b p n i)
+  pub whole : (ns : List ℕ) (m : Map) → matchWith (ns ++ numbersAt b x c) (sortAt b p n i) (sortAt b p n j) m ≡ matchWith ns (sortAt b p n k) (sortAt b p n j) m
+
+-- A Par of the target is opened: its body i.
+pub record Passed (b p : List ℕ) (n : ℕ) (prm : List ℕ) (k j i : ℕ) : Type 0 where
+  pub below : i < n
+  pub falls : size (sortAt b p n j) ≡ 1 + size (sortAt b p n i)
+  pub whole : (ns : List ℕ) → Lists prm ns → (m : Map) → matchWith ns (sortAt b p n k) (sortAt b p n i) m ≡ matchWith ns (sortAt b p n k) (sortAt b p n j) m
+
+-- The c parts at x are matched with those at y.
+pub record Parted (b p : List ℕ) (n k j x y c : ℕ) : Type 0 where
+  pub pairs : PairsAsk b p n b x b y c
+  pub less : sizes (sortsAt b p n b x c) ≤ size (sortAt b p n k)
+  pub falls : sizes (sortsAt b p n b x c) + sizes (sortsAt b p n b y c) + 2 ≡ size (sortAt b p n k) + size (sortAt b p n j)
+  pub whole : (ns : List ℕ) (m : Map) → matchAllWith ns (sortsAt b p n b x c) (sortsAt b p n b y c) m ≡ matchWith ns (sortAt b p n k) (sortAt b p n j) m
+
+-- WHAT IS TO BE DONE GIVES THE WHOLE, whatever the map and the list of names that the table lists.
+abbrev pub TurnIs : List ℕ → List ℕ → ℕ → List ℕ → ℕ → ℕ → Turn → Type 0
+TurnIs b p n prm k j Holds = (ns : List ℕ) → Lists prm ns → (m : Map) → some m ≡ matchWith ns (sortAt b p n k) (sortAt b p n j) m
+TurnIs b p n prm k j Fails = (ns : List ℕ) → Lists prm ns → (m : Map) → none ≡ matchWith ns (sortAt b p n k) (sortAt b p n j) m
+TurnIs b p n prm k j (Meets v) = Meeting b p n prm k j v
+TurnIs b p n prm k j (Under i x c) = Opened b p n k j i x c
+TurnIs b p n prm k j (Past i) = Passed b p n prm k j i
+TurnIs b p n prm k j (Parts x y c) = Parted b p n k j x y c

@@ -83,6 +83,12 @@ sizes-more b p n s x m h = ap sizes (sorts-more b p n s x m h)
 pub entry-asks : (b p : List ℕ) (n k : ℕ) → Stored b p n → k < n → EntryAsks b p k
 entry-asks b p n k s l = record { placed = omega (arith, s .placed); held = s .each k l }
 
+-- The name of a Var of the store.
+pub var-own : (b p : List ℕ) (n k v : ℕ) → k < n → sortAt b p n k ≡ var v → VarIn b p n v
+unfolding sortAt
+var-own b p n k v l e =
+    subst (λ (s : Sort). memb s (storeOf b p n) ≡ true) e (memb-at (storeOf b p n) leaf k (omega (arith, storeOf-length b p n)))
+
 module _ (b p : List ℕ) (n k : ℕ) (u : Usable b p n) (l : k < n) (r : SortRecord) (e : EntryHas b p k r) where
   is : EntryIs b p n k r
   is = e n (u .stored) l
@@ -143,8 +149,7 @@ module _ (b p : List ℕ) (n k : ℕ) (u : Usable b p n) (l : k < n) (r : SortRe
   entry-refs = record { within = is .place .list; below = λ j h. omega (arith, is .below j h) }
 
   pub entry-own : r .kind ≡ 2 → VarIn b p n (r .name)
-  unfolding sortAt
-  entry-own h = subst (λ (s : Sort). memb s (storeOf b p n) ≡ true) (entry-var h) (memb-at (storeOf b p n) leaf k (omega (arith, storeOf-length b p n)))
+  entry-own h = var-own b p n k (r .name) l (entry-var h)
 
   -- THE SIZE FALLS from an entry to its parts.
   pub entry-size : size (sortAt b p n k) ≡ 1 + sizes (sortsAt b p n b (r .list) (r .count))

@@ -2,3 +2,4 @@ pub mod Tables
 pub mod Contract
 pub mod TableLaws
 pub mod Entered
+pub mod Asked

@@ -18,12 +18,12 @@ use Rattle.record.specs.Number.{u16At, numbersAt}
 use Rattle.record.specs.Sort.{Sort, var}
 use Rattle.record.specs.Record.{leaf}
 use Rattle.record.specs.Store.{indexOf}
-use Rattle.record.specs.SortLists.{below-suc, index-found}
+use Rattle.record.specs.SortLists.{below-suc, index-found, Starts, starts-at, starts-count, memb-starts}
 use Rattle.record.specs.StoreLaws.{storeOf-length}
 use Rattle.record.specs.Decode.{storeOf, sortAt, Zeros}
 use Rattle.substitution.specs.Substitution.{empty, bind, find}
 use Rattle.substitution.specs.Matching.{listedIn}
-use Rattle.matching.specs.Tables.{times, Lists, listed, Told, Added, imageOf, mapOf, Tabled, VarIn, Mapped, Cleared}
+use Rattle.matching.specs.Tables.{times, Lists, Roomy, listed, Told, Added, imageOf, mapOf, Tabled, VarIn, Mapped, Cleared}
 
 ---------------------------------------------------------------- how often a name stands in a list
 pub times-first : (v n : ℕ) (ns : List ℕ) → (n ≡ v) → times v (n ∷ ns) ≡ suc (times v ns)
@@ -47,6 +47,11 @@ pub times-append : (v : ℕ) (ms ns : List ℕ) → times v (ms ++ ns) ≡ times
 unfolding times
 times-append v [] ns = omega arith
 times-append v (m ∷ ms) ns = omega (arith, times-append v ms ns)
+
+pub times-few : (v : ℕ) (ns : List ℕ) → times v ns ≤ length ns
+unfolding times
+times-few v [] = omega arith
+times-few v (n ∷ ns) = byTest (eqb n v) (λ q. rw q (omega (arith, times-few v ns))) (λ q. rw q (omega (arith, times-few v ns)))
 
 member-none : (v : ℕ) (ns : List ℕ) → member v ns ≡ false → times v ns ≡ 0
 member-none v ns e =
@@ -84,6 +89,10 @@ lists-none prm l z = record { table = l; each = λ v. z v (omega arith) }
 pub lists-added : (prm ns us prm′ : List ℕ) → Lists prm ns → Added prm us prm′ → Lists prm′ (ns ++ us)
 lists-added prm ns us prm′ l a =
     record { table = a .long ∙ l .table; each = λ v. a .each v ∙ ap (λ (i : ℕ). i + times v us) (l .each v) ∙ sym (times-append v ns us) }
+
+-- A short list leaves room: for a pattern of size w, w more of each name.
+pub lists-roomy : (prm ns : List ℕ) (w : ℕ) → Lists prm ns → length ns + w ≤ 65535 → Roomy prm w
+lists-roomy prm ns w l h v = omega (arith, l .each v, times-few v ns)
 
 -- What was listed and taken off again is as it was.
 pub added-back : (prm us mid prm′ : List ℕ) → Added prm us mid → Added prm′ us mid → prm′ ≡ prm
@@ -324,3 +333,31 @@ cleared-mapped b p n imgs bnd c =
 pub cleared-map : (st : List Sort) (imgs bnd : List ℕ) → mapOf st imgs bnd 0 ≡ empty
 unfolding mapOf
 cleared-map st imgs bnd = refl
+
+---------------------------------------------------------------- a store that has grown
+-- The tables keep their meaning where the store only has sorts behind those it had.
+map-grown : (st st′ : List Sort) (imgs bnd : List ℕ) (m : ℕ) → Starts st st′ → ((i : ℕ) → i < m → 0 < getD imgs (getD bnd i 0) 0)
+    → ((v : ℕ) → getD imgs v 0 ≤ length st) → mapOf st′ imgs bnd m ≡ mapOf st imgs bnd m
+unfolding mapOf
+map-grown st st′ imgs bnd zero s known below = refl
+map-grown st st′ imgs bnd (suc m) s known below =
+    rw (
+      starts-at st st′ s (getD imgs (getD bnd m 0) 0 - 1) (omega (arith, known m (omega arith), below (getD bnd m 0))),
+      map-grown st st′ imgs bnd m s (λ i l. known i (omega arith)) below,
+    )
+    refl
+
+module _ (b p : List ℕ) (n : ℕ) (c q : List ℕ) (n′ : ℕ) (s : Starts (storeOf b p n) (storeOf c q n′)) (imgs bnd : List ℕ) (m : ℕ) (h : Mapped b p n imgs bnd m) where
+  pub mapped-starts : Mapped c q n′ imgs bnd m
+  mapped-starts =
+      record {
+        tabled = h .tabled;
+        below = λ v.
+            omega (arith, h .below v, starts-count (storeOf b p n) (storeOf c q n′) s, storeOf-length b p n, storeOf-length c q n′);
+        vars = λ i l. memb-starts (storeOf b p n) (storeOf c q n′) (var (getD bnd i 0)) s (h .vars i l);
+      }
+
+  pub map-starts : mapOf (storeOf c q n′) imgs bnd m ≡ mapOf (storeOf b p n) imgs bnd m
+  map-starts =
+      map-grown (storeOf b p n) (storeOf c q n′) imgs bnd m s (h .tabled .known)
+      (λ v. omega (arith, h .below v, storeOf-length b p n))

@@ -12,3 +12,18 @@ pub enum Matched {
     Fits(usize),
     Misfits(usize),
 }
+
+// What match_with does with two sorts, by their entries.
+pub enum Turn {
+    // They fit and bind nothing, or do not fit.
+    Holds,
+    Fails,
+    // The pattern is a parameter of this name, and meets the target.
+    Meets(usize),
+    // The pattern is a Par: its body, and where its names stand and how many they are.
+    Under(usize, usize, usize),
+    // The target is a Par of parameters: its body.
+    Past(usize),
+    // The parts are matched: where the two lists stand and how long they are.
+    Parts(usize, usize, usize),
+}

@@ -5,9 +5,32 @@ use super::compatible::same_head;
 use super::tables::meet;
 use record::u16_at;
 use store::entries::entry;
-ghost use Rattle.matching.specs.Contract.{MatchAsks, MatchIs, MatchAllAsks, MatchAllIs};
+ghost use Rattle.matching.specs.Contract.{VarAsks, VarIs, MatchAsks, MatchIs, MatchAllAsks, MatchAllIs};
 
-// The pattern against the target, from `m` bound names. A Par in the pattern fits nothing.
+// A variable of this name, the sort `p` of the pattern, against the target `t`: one that is listed is bound or compared; any
+// other fits only itself.
+pub fn matches_var(
+    params: &[u16],
+    images: &mut [u16],
+    bound: &mut [u16],
+    m: usize,
+    name: usize,
+    p: usize,
+    t: usize,
+) -> Matched
+    requires { ⌜ VarAsks (now params) (now images) (now bound) m name t ⌝ }
+    ensures { λ r. ⌜ VarIs (now (params .entry)) (now (images .entry)) (now (bound .entry)) m name p t (now (images .exit)) (now (bound .exit)) r ⌝ }
+{
+    if params[name] != 0 {
+        return meet(images, bound, m, name, t);
+    }
+    if p == t {
+        return Matched::Fits(m);
+    }
+    Matched::Misfits(m)
+}
+
+// The pattern `p` against the target `t`, from `m` bound names. A Par in the pattern fits nothing.
 pub fn matches(
     records: &[u8],
     places: &[u32],
@@ -16,31 +39,25 @@ pub fn matches(
     images: &mut [u16],
     bound: &mut [u16],
     m: usize,
-    pattern: usize,
-    target: usize,
+    p: usize,
+    t: usize,
 ) -> Matched
-    requires { ⌜ MatchAsks (now records) (now places) count (now params) (now images) (now bound) m pattern target ⌝ }
-    ensures { λ r. ⌜ MatchIs (now (records .entry)) (now (places .entry)) count (now (params .entry)) (now (images .entry)) (now (bound .entry)) m pattern target (now (images .exit)) (now (bound .exit)) r ⌝ }
+    requires { ⌜ MatchAsks (now records) (now places) count (now params) (now images) (now bound) m p t ⌝ }
+    ensures { λ r. ⌜ MatchIs (now (records .entry)) (now (places .entry)) count (now (params .entry)) (now (images .entry)) (now (bound .entry)) m p t (now (images .exit)) (now (bound .exit)) r ⌝ }
 {
-    let p = entry(records, places, pattern);
-    let name = p.name;
-    if p.kind == 2 {
-        if params[name] != 0 {
-            return meet(images, bound, m, name, target);
-        }
-        if pattern == target {
-            return Matched::Fits(m);
-        }
+    let a = entry(records, places, p);
+    let name = a.name;
+    if a.kind == 2 {
+        return matches_var(params, images, bound, m, name, p, t);
+    }
+    if a.kind == 12 {
         return Matched::Misfits(m);
     }
-    if p.kind == 12 {
-        return Matched::Misfits(m);
-    }
-    let t = entry(records, places, target);
-    let at = p.list;
-    let left = p.count;
-    let to = t.list;
-    if same_head(p, t) {
+    let c = entry(records, places, t);
+    let at = a.list;
+    let left = a.count;
+    let to = c.list;
+    if same_head(a, c) {
         return matches_all(
             records,
             places,

@@ -1,5 +1,5 @@
 // What is asked of sorts before matching: known (no Par, no ParamBitVec), proper (no Par, Type, ParamBitVec or BitVec 0),
-// unlisted (no listed name).
+// unlisted (no listed name), and matching's premise.
 use super::tables::none_listed;
 use record::u16_at;
 use store::entries::entry;
@@ -7,7 +7,7 @@ ghost use mathlib.Core.Path.{_≡_};
 ghost use Rattle.record.specs.Decode.{sortAt};
 ghost use Rattle.substitution.specs.Matching.{known, knownAll};
 ghost use Rattle.substitution.specs.Premises.{proper, properAll, usual};
-ghost use Rattle.matching.specs.Contract.{sortsAt, OneAsks, ListAsks, UnlistedAsks, UnlistedAllAsks, UnlistedIs, UnlistedAllIs};
+ghost use Rattle.matching.specs.Contract.{sortsAt, OneAsks, ListAsks, UnlistedAsks, UnlistedAllAsks, UnlistedIs, UnlistedAllIs, TestAsks, PremiseIs};
 
 // Whether the sort `k` has neither a Par nor a ParamBitVec in it.
 pub fn is_known(records: &[u8], places: &[u32], count: usize, k: usize) -> bool
@@ -140,6 +140,27 @@ pub fn all_unlisted(
     let k = u16_at(list, at);
     if is_unlisted(records, places, count, params, k) {
         return all_unlisted(records, places, count, params, list, at + 2, left - 1);
+    }
+    false
+}
+
+// Matching's premise for the pattern `p` and the target `t`: both are known, and no listed name stands in the target.
+pub fn in_premise(
+    records: &[u8],
+    places: &[u32],
+    count: usize,
+    params: &[u16],
+    p: usize,
+    t: usize,
+) -> bool
+    requires { ⌜ TestAsks (now records) (now places) count (now params) p t ⌝ }
+    ensures { λ r. ⌜ PremiseIs (now (records .entry)) (now (places .entry)) count (now (params .entry)) p t r ⌝ }
+{
+    if is_known(records, places, count, p) {
+        if is_known(records, places, count, t) {
+            return is_unlisted(records, places, count, params, t);
+        }
+        return false;
     }
     false
 }

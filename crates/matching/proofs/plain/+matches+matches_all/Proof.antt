@@ -6,9 +6,9 @@ use Rattle.record.specs.Number.{u16At}
 use Rattle.record.specs.Sort.{size, sizes}
 use Rattle.record.specs.Decode.{sortAt}
 use Rattle.matching.specs.Contract.{sortsAt}
-use Rattle.matching.specs.Entered.{entry-asks, entry-name, entry-size, sizes-more, size-pos}
+use Rattle.matching.specs.Entered.{entry-asks, entry-var, entry-size, sizes-more, size-pos}
 use Rattle.matching.proofs.WalkLaws.{some-left}
-use Rattle.matching.proofs.PlainLaws.{meet-asks, plain-listed, plain-self, plain-other, plain-par, parts-match, plain-node, plain-head, plain-none, plain-first, plain-rest, plain-more, plain-fails}
+use Rattle.matching.proofs.PlainLaws.{meet-asks, plain-par, parts-match, plain-node, plain-head, plain-none, plain-first, plain-rest, plain-more, plain-fails}
 use Prim.Native.Nat.{ℕ, _+_, _*_, _<_}
 use borrow.Fn.Kinds.{In}
 use borrow.Fn.PlainCycle.{Measures, is, falls, and}
@@ -19,7 +19,7 @@ use Rattle.matching.proofs.plain.matches_all.Reads as matches-all
 use Rattle.matching.proofs.plain.matches_all.Kinds as matches-all-kinds
 use Rattle.matching.proofs.plain.+matches+matches_all.Lts-matches_all as matches-all-lts
 use Rattle.matching.proofs.compatible.same_head.Reads as same-head-reads
-use Rattle.matching.proofs.tables.meet.Reads as meet-reads
+use Rattle.matching.proofs.plain.matches_var.Reads as matches-var-reads
 use Rattle.record.proofs.u16_at.Reads as u16-at-reads
 use Rattle.store.proofs.entries.entry.Reads as entry-reads
 use Rattle.matching.proofs.plain.+matches+matches_all.{statement}
@@ -46,7 +46,7 @@ matches-all-below t =
     and 7 matches-all-kinds.ps (falls 7 matches-all-kinds.ps _<_ μ-matches-all t) matches-all.Pre
 
 abbrev matches-env : ℕ → matches-lts.Claims
-matches-env t = (entry-reads.Asked, entry-reads.Learnt, meet-reads.Asked, meet-reads.Learnt, same-head-reads.Asked, same-head-reads.Learnt, matches-all-below t, matches-all.Post)
+matches-env t = (entry-reads.Asked, entry-reads.Learnt, matches-var-reads.Asked, matches-var-reads.Learnt, same-head-reads.Asked, same-head-reads.Learnt, matches-all-below t, matches-all.Post)
 
 abbrev matches-all-env : ℕ → matches-all-lts.Claims
 matches-all-env t = (u16-at-reads.Asked, u16-at-reads.Learnt, matches-below t, matches.Post, matches-all-below t, matches-all.Post)
@@ -63,14 +63,14 @@ matches-entry-requires t c κs =
     let imgs = a .images .now in
     let bnd = a .bound .now in
     let m = a .m in
-    let k = a .pattern in
-    let j = a .target in
+    let k = a .p in
+    let j = a .t in
     let u = asks .pair .usable in
     entry-asks b p n k (u .stored) (asks .pair .left)
 
-matches-mul-if2 : (t : ℕ) → matches-lts.Need-mul-if2 (matches-env t) (matches-at t) matches.Post
-matches-mul-if2 t c =
-    let s = c .before .before .before .before .before .before .before .before in
+matches-matches-var-requires : (t : ℕ) → matches-lts.Need-matches-var-requires (matches-env t) (matches-at t) matches.Post
+matches-matches-var-requires t c κs =
+    let s = c .before .before .before .before .before .before .before .before .before .before in
     let a = s .args in
     let b = a .records .now in
     let p = a .places .now in
@@ -80,50 +80,12 @@ matches-mul-if2 t c =
     let imgs = a .images .now in
     let bnd = a .bound .now in
     let m = a .m in
-    let k = a .pattern in
-    let j = a .target in
+    let k = a .p in
+    let j = a .t in
     let u = asks .pair .usable in
-    let r = c .before .before .entry .result in
-    let e = c .before .before .entry .ensures in
-    omega (arith, entry-name b p n k u (asks .pair .left) r e)
-
-matches-shared-slice-read-if2 : (t : ℕ) → matches-lts.Need-shared-slice-read-if2 (matches-env t) (matches-at t) matches.Post
-matches-shared-slice-read-if2 t c =
-    let s = c .before .before .before .before .before .before .before .before .before in
-    let a = s .args in
-    let b = a .records .now in
-    let p = a .places .now in
-    let n = a .count in
-    let asks = s .pre .1 in
-    let prm = a .params .now in
-    let imgs = a .images .now in
-    let bnd = a .bound .now in
-    let m = a .m in
-    let k = a .pattern in
-    let j = a .target in
-    let u = asks .pair .usable in
-    let r = c .before .before .before .entry .result in
-    let e = c .before .before .before .entry .ensures in
-    omega (arith, entry-name b p n k u (asks .pair .left) r e, asks .table)
-
-matches-meet-requires : (t : ℕ) → matches-lts.Need-meet-requires (matches-env t) (matches-at t) matches.Post
-matches-meet-requires t c κs =
-    let s = c .before .before .before .before .before .before .before .before .before .before .before .before in
-    let a = s .args in
-    let b = a .records .now in
-    let p = a .places .now in
-    let n = a .count in
-    let asks = s .pre .1 in
-    let prm = a .params .now in
-    let imgs = a .images .now in
-    let bnd = a .bound .now in
-    let m = a .m in
-    let k = a .pattern in
-    let j = a .target in
-    let u = asks .pair .usable in
-    let r = c .before .before .before .before .before .before .entry .result in
-    let e = c .before .before .before .before .before .before .entry .ensures in
-    meet-asks b p n prm imgs bnd m k j asks r e (c .before .before .before .before .if1 .taken)
+    let r = c .before .before .before .before .entry .result in
+    let e = c .before .before .before .before .entry .ensures in
+    record { table = asks .table; asks = meet-asks b p n prm imgs bnd m k j asks r e (c .before .before .if1 .taken) }
 
 matches-same-length : (t : ℕ) → matches-lts.Need-same-length (matches-env t) (matches-at t) matches.Post
 matches-same-length t c =
@@ -135,7 +97,7 @@ matches-same-length-2 t c =
 
 matches-returns : (t : ℕ) → matches-lts.Need-returns (matches-env t) (matches-at t) matches.Post
 matches-returns t c =
-    let s = c .before .before .before .before .before .before .before .before .before .before .before .before .before .before .before .before .before in
+    let s = c .before .before .before .before .before .before .before .before .before .before .before .before .before .before .before in
     let a = s .args in
     let b = a .records .now in
     let p = a .places .now in
@@ -145,54 +107,15 @@ matches-returns t c =
     let imgs = a .images .now in
     let bnd = a .bound .now in
     let m = a .m in
-    let k = a .pattern in
-    let j = a .target in
+    let k = a .p in
+    let j = a .t in
     let u = asks .pair .usable in
-    let r = c .before .before .before .before .before .before .before .before .before .before .before .entry .result in
-    let e = c .before .before .before .before .before .before .before .before .before .before .before .entry .ensures in
-    let z = c .before .before .before .before .meet in
-    plain-listed b p n prm imgs bnd m k j asks r e (c .before .before .before .before .before .before .before .before .before .if1 .taken) (c .before .before .before .before .before .before .before .if2 .taken) (z .last .0) (z .last .1 .0) (z .result) (z .ensures)
+    let r = c .before .before .before .before .before .before .before .before .before .entry .result in
+    let e = c .before .before .before .before .before .before .before .before .before .entry .ensures in
+    c .before .before .before .before .matches-var .ensures b p n asks (entry-var b p n k u (asks .pair .left) r e (c .before .before .before .before .before .before .before .if1 .taken))
 
 matches-returns-2 : (t : ℕ) → matches-lts.Need-returns-2 (matches-env t) (matches-at t) matches.Post
 matches-returns-2 t c =
-    let s = c .before .before .before .before .before .before .before .before .before .before .before in
-    let a = s .args in
-    let b = a .records .now in
-    let p = a .places .now in
-    let n = a .count in
-    let asks = s .pre .1 in
-    let prm = a .params .now in
-    let imgs = a .images .now in
-    let bnd = a .bound .now in
-    let m = a .m in
-    let k = a .pattern in
-    let j = a .target in
-    let u = asks .pair .usable in
-    let r = c .before .before .before .before .before .entry .result in
-    let e = c .before .before .before .before .before .entry .ensures in
-    plain-self b p n prm imgs bnd m k j asks r e (c .before .before .before .if1 .taken) (c .before .if2 .left) (c .if3 .taken)
-
-matches-returns-3 : (t : ℕ) → matches-lts.Need-returns-3 (matches-env t) (matches-at t) matches.Post
-matches-returns-3 t c =
-    let s = c .before .before .before .before .before .before .before .before .before .before .before in
-    let a = s .args in
-    let b = a .records .now in
-    let p = a .places .now in
-    let n = a .count in
-    let asks = s .pre .1 in
-    let prm = a .params .now in
-    let imgs = a .images .now in
-    let bnd = a .bound .now in
-    let m = a .m in
-    let k = a .pattern in
-    let j = a .target in
-    let u = asks .pair .usable in
-    let r = c .before .before .before .before .before .entry .result in
-    let e = c .before .before .before .before .before .entry .ensures in
-    plain-other b p n prm imgs bnd m k j asks r e (c .before .before .before .if1 .taken) (c .before .if2 .left) (c .if3 .left)
-
-matches-returns-4 : (t : ℕ) → matches-lts.Need-returns-4 (matches-env t) (matches-at t) matches.Post
-matches-returns-4 t c =
     let s = c .before .before .before .before .before .before .before .before .before .before in
     let a = s .args in
     let b = a .records .now in
@@ -203,12 +126,12 @@ matches-returns-4 t c =
     let imgs = a .images .now in
     let bnd = a .bound .now in
     let m = a .m in
-    let k = a .pattern in
-    let j = a .target in
+    let k = a .p in
+    let j = a .t in
     let u = asks .pair .usable in
     let r = c .before .before .before .before .entry .result in
     let e = c .before .before .before .before .entry .ensures in
-    plain-par b p n prm imgs bnd m k j asks r e (c .if4 .taken)
+    plain-par b p n prm imgs bnd m k j asks r e (c .if2 .taken)
 
 matches-entry-requires-2 : (t : ℕ) → matches-lts.Need-entry-requires-2 (matches-env t) (matches-at t) matches.Post
 matches-entry-requires-2 t c κs =
@@ -222,8 +145,8 @@ matches-entry-requires-2 t c κs =
     let imgs = a .images .now in
     let bnd = a .bound .now in
     let m = a .m in
-    let k = a .pattern in
-    let j = a .target in
+    let k = a .p in
+    let j = a .t in
     let u = asks .pair .usable in
     entry-asks b p n j (u .stored) (asks .pair .right)
 
@@ -243,14 +166,14 @@ matches-matches-all-requires t c κs =
     let imgs = a .images .now in
     let bnd = a .bound .now in
     let m = a .m in
-    let k = a .pattern in
-    let j = a .target in
+    let k = a .p in
+    let j = a .t in
     let u = asks .pair .usable in
     let r = c .before .before .before .before .before .before .before .before .before .entry .result in
     let e = c .before .before .before .before .before .before .before .before .before .entry .ensures in
     let q = c .before .before .before .before .entry2 .result in
     let f = c .before .before .before .before .entry2 .ensures in
-    (omega (arith, s .pre .0, entry-size b p n k u (asks .pair .left) r e), parts-match b p n prm imgs bnd m k j asks r e q f (c .before .before .before .before .before .before .before .if1 .left) (c .before .before .before .before .before .if4 .left) (sym (c .before .before .before .same-head .ensures) ∙ c .before .before .if5 .taken))
+    (omega (arith, s .pre .0, entry-size b p n k u (asks .pair .left) r e), parts-match b p n prm imgs bnd m k j asks r e q f (c .before .before .before .before .before .before .before .if1 .left) (c .before .before .before .before .before .if2 .left) (sym (c .before .before .before .same-head .ensures) ∙ c .before .before .if3 .taken))
 
 matches-same-length-3 : (t : ℕ) → matches-lts.Need-same-length-3 (matches-env t) (matches-at t) matches.Post
 matches-same-length-3 t c =
@@ -260,8 +183,8 @@ matches-same-length-4 : (t : ℕ) → matches-lts.Need-same-length-4 (matches-en
 matches-same-length-4 t c =
     search needs
 
-matches-returns-5 : (t : ℕ) → matches-lts.Need-returns-5 (matches-env t) (matches-at t) matches.Post
-matches-returns-5 t c =
+matches-returns-3 : (t : ℕ) → matches-lts.Need-returns-3 (matches-env t) (matches-at t) matches.Post
+matches-returns-3 t c =
     let s = c .before .before .before .before .before .before .before .before .before .before .before .before .before .before .before .before .before .before .before .before in
     let a = s .args in
     let b = a .records .now in
@@ -272,18 +195,18 @@ matches-returns-5 t c =
     let imgs = a .images .now in
     let bnd = a .bound .now in
     let m = a .m in
-    let k = a .pattern in
-    let j = a .target in
+    let k = a .p in
+    let j = a .t in
     let u = asks .pair .usable in
     let r = c .before .before .before .before .before .before .before .before .before .before .before .before .before .before .entry .result in
     let e = c .before .before .before .before .before .before .before .before .before .before .before .before .before .before .entry .ensures in
     let q = c .before .before .before .before .before .before .before .before .before .entry2 .result in
     let f = c .before .before .before .before .before .before .before .before .before .entry2 .ensures in
     let z = c .before .before .before .before .matches-all in
-    plain-node b p n prm imgs bnd m k j asks r e q f (c .before .before .before .before .before .before .before .before .before .before .before .before .if1 .left) (c .before .before .before .before .before .before .before .before .before .before .if4 .left) (sym (c .before .before .before .before .before .before .before .before .same-head .ensures) ∙ c .before .before .before .before .before .before .before .if5 .taken) (z .last .1 .1 .1 .1 .0) (z .last .1 .1 .1 .1 .1 .0) (z .result) (z .ensures)
+    plain-node b p n prm imgs bnd m k j asks r e q f (c .before .before .before .before .before .before .before .before .before .before .before .before .if1 .left) (c .before .before .before .before .before .before .before .before .before .before .if2 .left) (sym (c .before .before .before .before .before .before .before .before .same-head .ensures) ∙ c .before .before .before .before .before .before .before .if3 .taken) (z .last .1 .1 .1 .1 .0) (z .last .1 .1 .1 .1 .1 .0) (z .result) (z .ensures)
 
-matches-returns-6 : (t : ℕ) → matches-lts.Need-returns-6 (matches-env t) (matches-at t) matches.Post
-matches-returns-6 t c =
+matches-returns-4 : (t : ℕ) → matches-lts.Need-returns-4 (matches-env t) (matches-at t) matches.Post
+matches-returns-4 t c =
     let s = c .before .before .before .before .before .before .before .before .before .before .before .before .before in
     let a = s .args in
     let b = a .records .now in
@@ -294,14 +217,14 @@ matches-returns-6 t c =
     let imgs = a .images .now in
     let bnd = a .bound .now in
     let m = a .m in
-    let k = a .pattern in
-    let j = a .target in
+    let k = a .p in
+    let j = a .t in
     let u = asks .pair .usable in
     let r = c .before .before .before .before .before .before .before .entry .result in
     let e = c .before .before .before .before .before .before .before .entry .ensures in
     let q = c .before .before .entry2 .result in
     let f = c .before .before .entry2 .ensures in
-    plain-head b p n prm imgs bnd m k j asks r e q f (c .before .before .before .before .before .if1 .left) (c .before .before .before .if4 .left) (sym (c .before .same-head .ensures) ∙ c .if5 .left)
+    plain-head b p n prm imgs bnd m k j asks r e q f (c .before .before .before .before .before .if1 .left) (c .before .before .before .if2 .left) (sym (c .before .same-head .ensures) ∙ c .if3 .left)
 
 matches-all-returns : (t : ℕ) → matches-all-lts.Need-returns (matches-all-env t) (matches-all-at t) matches-all.Post
 matches-all-returns t c =
@@ -443,7 +366,8 @@ matches-all-sub-matches-all t c =
     let t = a .targets .now in
     let y = a .to in
     let i = a .left in
-    some-left i (c .before .before .before .before .before .before .before .before .before .before .before .before .before .before .if1 .left)
+    let some = some-left i (c .before .before .before .before .before .before .before .before .before .before .before .before .before .before .if1 .left) in
+    omega (arith, some)
 
 matches-all-matches-all-requires : (t : ℕ) → matches-all-lts.Need-matches-all-requires (matches-all-env t) (matches-all-at t) matches-all.Post
 matches-all-matches-all-requires t c κs =
@@ -532,22 +456,18 @@ matches-all-returns-3 t c =
 pub +matches+matches-all-spec : {M : Type 1} → statement M
 +matches+matches-all-spec = close μ-matches μ-matches-all (λ t. matches-lts.spec (matches-env t) (matches-at t) matches.Post
     (matches-entry-requires t)
-    (matches-mul-if2 t)
-    (matches-shared-slice-read-if2 t)
-    (matches-meet-requires t)
+    (matches-matches-var-requires t)
     (matches-same-length t)
     (matches-same-length-2 t)
     (matches-returns t)
     (matches-returns-2 t)
-    (matches-returns-3 t)
-    (matches-returns-4 t)
     (matches-entry-requires-2 t)
     (matches-same-head-requires t)
     (matches-matches-all-requires t)
     (matches-same-length-3 t)
     (matches-same-length-4 t)
-    (matches-returns-5 t)
-    (matches-returns-6 t))
+    (matches-returns-3 t)
+    (matches-returns-4 t))
     λ t. matches-all-lts.spec (matches-all-env t) (matches-all-at t) matches-all.Post
     (matches-all-returns t)
     (matches-all-u16-at-requires t)
