@@ -5,9 +5,9 @@ use mathlib.Core.Bool.{Bool, true, false, _&&_}
 use mathlib.Core.List.{List}
 use native.Mathlib.Omega.{arith}
 use native.Mathlib.Nat.{not-suc-le-zero}
-use lib.ListN.{length, getD, replicate, length-replicate, getD-replicate, List·getD-eq-default}
+use lib.ListN.{length, replicate, length-replicate}
 use lib.Dec.{leb}
-use borrow.Author.Tests.{le-leb, lt-leb, leb-true, leb-false}
+use borrow.Author.Tests.{le-leb, lt-leb}
 use Rattle.record.specs.Decode.{storeOf, Zeros}
 use Rattle.reader.specs.declared.Refusal.{Refusal}
 use Rattle.reader.specs.declared.Refusal.the-variants.{Length, Header, Lent}
@@ -15,6 +15,7 @@ use Rattle.store.specs.Good.{good-empty}
 use Rattle.sheet.specs.Sheet.{Lengths, SortsRead, refused, readSorts, sortCount, termCount, questionCount, readSheet}
 use Rattle.sheet.specs.Trees.{trees-length}
 use Rattle.sheet.specs.Contract.{sortsIn, Lends, SortsLoaded, readRest, RestPassed, readRecords, HeaderFound, ReadRecordsAsks, RecordsRead, ReadRecordsIs, lent, ReadSheetAsks, ReadSheetIs}
+use Rattle.sheet.specs.Stands.{zeros-all}
 use Rattle.sheet.specs.declared.SheetRead.{SheetRead}
 use Rattle.sheet.specs.declared.SheetRead.the-variants.{Accepted, Refused}
 
@@ -113,13 +114,6 @@ module _ (s b p : List ℕ) (m : ℕ) (b′ p′ hs′ ns′ zs′ tbl′ rec′
       }
 
 -- ZEROED BUFFERS hold the empty store
-zeros-all : (n : ℕ) → Zeros (replicate n 0) 0
-zeros-all n i l = go (leb n i) refl
-  where
-    go : (t : Bool) → leb n i ≡ t → _≡_ {A = ℕ} (getD (replicate n 0) i 0) 0
-    go true e = List·getD-eq-default (replicate n 0) 0 {n = i} (omega (arith, length-replicate {A = ℕ} n 0, leb-true n i e))
-    go false e = getD-replicate n i 0 0 (leb-false n i e)
-
 pub zeroed : (b c : List ℕ) → c ≡ replicate (length b) 0 → Zeros c 0
 zeroed b c e = subst (λ (o : List ℕ). Zeros o 0) (sym e) (zeros-all (length b))
 
