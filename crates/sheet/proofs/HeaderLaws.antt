@@ -5,9 +5,9 @@ use mathlib.Core.Bool.{Bool, true, false, _&&_}
 use mathlib.Core.List.{List}
 use native.Mathlib.Omega.{arith}
 use native.Mathlib.Nat.{not-suc-le-zero}
-use lib.ListN.{length, getD, replicate, length-replicate, getD-replicate, List·getD-eq-default}
+use lib.ListN.{length, replicate, length-replicate}
 use lib.Dec.{leb}
-use borrow.Author.Tests.{le-leb, lt-leb, leb-true, leb-false}
+use borrow.Author.Tests.{le-leb, lt-leb}
 use Rattle.record.specs.Decode.{storeOf, Zeros}
 use Rattle.reader.specs.declared.Refusal.{Refusal}
 use Rattle.reader.specs.declared.Refusal.the-variants.{Length, Header, Lent}
@@ -15,25 +15,26 @@ use Rattle.store.specs.Good.{good-empty}
 use Rattle.sheet.specs.Sheet.{Lengths, SortsRead, refused, readSorts, sortCount, termCount, questionCount, readSheet}
 use Rattle.sheet.specs.Trees.{trees-length}
 use Rattle.sheet.specs.Contract.{sortsIn, Lends, SortsLoaded, readRest, RestPassed, readRecords, HeaderFound, ReadRecordsAsks, RecordsRead, ReadRecordsIs, lent, ReadSheetAsks, ReadSheetIs}
+use Rattle.sheet.specs.Stands.{zeros-all}
 use Rattle.sheet.specs.declared.SheetRead.{SheetRead}
 use Rattle.sheet.specs.declared.SheetRead.the-variants.{Accepted, Refused}
 
-and-left : (a b : Bool) → a ≡ false → (a && b) ≡ false
-and-left a b e = ap (λ (t : Bool). t && b) e
+false-first : (a b : Bool) → a ≡ false → (a && b) ≡ false
+false-first a b e = ap (λ (t : Bool). t && b) e
 
-and-right : (a b : Bool) → b ≡ false → (a && b) ≡ false
-and-right true b e = e
-and-right false b e = refl
+false-second : (a b : Bool) → b ≡ false → (a && b) ≡ false
+false-second true b e = e
+false-second false b e = refl
 
 -- THE HEADER, test by test
 module _ (s : List ℕ) (l : Lengths) where
   pub length-under : length s < 6 → readSheet s l ≡ refused Length
   unfolding readSheet
-  length-under h = rw (and-left (leb 6 (length s)) (leb (length s) 65536) (lt-leb 6 (length s) h))
+  length-under h = rw (false-first (leb 6 (length s)) (leb (length s) 65536) (lt-leb 6 (length s) h))
 
   pub length-over : 65536 < length s → readSheet s l ≡ refused Length
   unfolding readSheet
-  length-over h = rw (and-right (leb 6 (length s)) (leb (length s) 65536) (lt-leb (length s) 65536 h))
+  length-over h = rw (false-second (leb 6 (length s)) (leb (length s) 65536) (lt-leb (length s) 65536 h))
 
   module _ (least : 6 ≤ length s) (most : length s ≤ 65536) where
     length-is : (leb 6 (length s) && leb (length s) 65536) ≡ true
@@ -48,19 +49,19 @@ module _ (s : List ℕ) (l : Lengths) where
 
     pub sorts-over : 2048 < sortCount s → readSheet s l ≡ refused Header
     sorts-over h =
-        count-over (and-left (leb (sortCount s) 2048) (leb (termCount s) 4096 && leb (questionCount s) 1024) (lt-leb (sortCount s) 2048 h))
+        count-over (false-first (leb (sortCount s) 2048) (leb (termCount s) 4096 && leb (questionCount s) 1024) (lt-leb (sortCount s) 2048 h))
 
     pub terms-over : 4096 < termCount s → readSheet s l ≡ refused Header
     terms-over h =
         count-over
-        (and-right (leb (sortCount s) 2048) (leb (termCount s) 4096 && leb (questionCount s) 1024)
-        (and-left (leb (termCount s) 4096) (leb (questionCount s) 1024) (lt-leb (termCount s) 4096 h)))
+        (false-second (leb (sortCount s) 2048) (leb (termCount s) 4096 && leb (questionCount s) 1024)
+        (false-first (leb (termCount s) 4096) (leb (questionCount s) 1024) (lt-leb (termCount s) 4096 h)))
 
     pub questions-over : 1024 < questionCount s → readSheet s l ≡ refused Header
     questions-over h =
         count-over
-        (and-right (leb (sortCount s) 2048) (leb (termCount s) 4096 && leb (questionCount s) 1024)
-        (and-right (leb (termCount s) 4096) (leb (questionCount s) 1024) (lt-leb (questionCount s) 1024 h)))
+        (false-second (leb (sortCount s) 2048) (leb (termCount s) 4096 && leb (questionCount s) 1024)
+        (false-second (leb (termCount s) 4096) (leb (questionCount s) 1024) (lt-leb (questionCount s) 1024 h)))
 
     module _ (ms : sortCount s ≤ 2048) (mt : termCount s ≤ 4096) (mq : questionCount s ≤ 1024) where
       limits-are : limits ≡ true
@@ -69,12 +70,12 @@ module _ (s : List ℕ) (l : Lengths) where
       pub rows-few : l .rows < 2 * termCount s → readSheet s l ≡ refused Lent
       unfolding readSheet
       rows-few h =
-          rw (length-is, limits-are, and-left (leb (2 * termCount s) (l .rows)) (leb (questionCount s) (l .answers)) (lt-leb (2 * termCount s) (l .rows) h))
+          rw (length-is, limits-are, false-first (leb (2 * termCount s) (l .rows)) (leb (questionCount s) (l .answers)) (lt-leb (2 * termCount s) (l .rows) h))
 
       pub answers-few : l .answers < questionCount s → readSheet s l ≡ refused Lent
       unfolding readSheet
       answers-few h =
-          rw (length-is, limits-are, and-right (leb (2 * termCount s) (l .rows)) (leb (questionCount s) (l .answers)) (lt-leb (questionCount s) (l .answers) h))
+          rw (length-is, limits-are, false-second (leb (2 * termCount s) (l .rows)) (leb (questionCount s) (l .answers)) (lt-leb (questionCount s) (l .answers) h))
 
       pub records-left : 2 * termCount s ≤ l .rows → questionCount s ≤ l .answers
           → readSheet s l ≡ readRecords s l (sortCount s) (termCount s) (questionCount s)
@@ -113,13 +114,6 @@ module _ (s b p : List ℕ) (m : ℕ) (b′ p′ hs′ ns′ zs′ tbl′ rec′
       }
 
 -- ZEROED BUFFERS hold the empty store
-zeros-all : (n : ℕ) → Zeros (replicate n 0) 0
-zeros-all n i l = go (leb n i) refl
-  where
-    go : (t : Bool) → leb n i ≡ t → _≡_ {A = ℕ} (getD (replicate n 0) i 0) 0
-    go true e = List·getD-eq-default (replicate n 0) 0 {n = i} (omega (arith, length-replicate {A = ℕ} n 0, leb-true n i e))
-    go false e = getD-replicate n i 0 0 (leb-false n i e)
-
 pub zeroed : (b c : List ℕ) → c ≡ replicate (length b) 0 → Zeros c 0
 zeroed b c e = subst (λ (o : List ℕ). Zeros o 0) (sym e) (zeros-all (length b))
 
