@@ -1,0 +1,5 @@
+pub mod Lists
+pub mod Draft
+pub mod Images
+pub mod Made
+pub mod Contract
