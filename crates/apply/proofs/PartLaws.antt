@@ -27,7 +27,8 @@ use Rattle.apply.specs.declared.Parts.{Parts}
 use Rattle.apply.specs.Lists.{numbersOf, unbound, Has, ReadAsks}
 use Rattle.apply.specs.Images.{imageNumber, imagesOf, Table, table-starts, images-same}
 use Rattle.apply.specs.Made.{Made, made-starts, made-there, made-known, made-known-sort, room-starts, kept-self, kept-trans, grown-count, grown-used}
-use Rattle.apply.specs.Contract.{answerAt, answersAt, SortAsks, Halted, PartsAsk, PartsMade, PartsAre, RebuildAsks}
+use Rattle.apply.specs.Halted.{Halted, made-over, halted-over}
+use Rattle.apply.specs.Contract.{answerAt, answersAt, SortAsks, PartsAsk, PartsMade, PartsAre, RebuildAsks}
 use Rattle.apply.proofs.ListLaws.{has-length, has-own, set-small}
 use Rattle.apply.proofs.SortForms.{rebuilt, image-is, image-known, answer-rebuilt, parts-one, intern-rebuilt, starts-rebuilt, sizes-within, size-refs}
 
@@ -73,16 +74,6 @@ module _ (b p c q : List ℕ) (n m : ℕ) (l : List ℕ) (starts : Starts (store
   table-same : Table l m
   table-same = table-starts l n m (omega (arith, starts-count (storeOf b p n) (storeOf c q m) starts, storeOf-length b p n, storeOf-length c q m)) t
 
--- A store as good in buffers that are as they were.
-halted-same : (b p : List ℕ) (n u : ℕ) (st : List Sort) (c q hs ns zs d r is ms ys : List ℕ) (m v : ℕ) → Untouched c q hs ns zs d r is ms ys
-    → Halted b p n u st c q hs ns zs m v → Halted b p n u st d r is ms ys m v
-halted-same b p n u st c q hs ns zs d r is ms ys m v e h =
-    subst (λ (x : List ℕ). Halted b p n u st x r is ms ys m v) (sym (e .0))
-    (subst (λ (x : List ℕ). Halted b p n u st c x is ms ys m v) (sym (e .1))
-    (subst (λ (x : List ℕ). Halted b p n u st c q x ms ys m v) (sym (e .2))
-    (subst (λ (x : List ℕ). Halted b p n u st c q hs x ys m v) (sym (e .3))
-    (subst (λ (x : List ℕ). Halted b p n u st c q hs ns x m v) (sym (e .4)) h))))
-
 -- ALONG THE PARTS: the first j have their answers' numbers, the others their own, and what is left makes the whole.
 pub record PartsInv (b p : List ℕ) (n u : ℕ) (parts : Numbers) (l c q hs ns zs list : List ℕ) (m v j : ℕ) : Type 0 where
   pub low : j ≤ parts .count
@@ -114,14 +105,8 @@ parts-start b p hs ns zs n u parts l a =
 
 module _ (b p hs ns zs : List ℕ) (n u : ℕ) (parts : Numbers) (l : List ℕ) (a : PartsAsk b p hs ns zs n u parts l)
     (c q is ms ys list : List ℕ) (m v j : ℕ) (i : PartsInv b p n u parts l c q is ms ys list m v j) where
-  abbrev vs : List ℕ
-  vs = numbersOf parts
-
   many : length (numbersOf parts) ≡ parts .count
   many = has-length parts (numbersOf parts) (a .has)
-
-  pub parts-long : length list ≡ 64
-  parts-long = i .long
 
   module _ (h : j < parts .count) where
     old : getD (numbersOf parts) j 0 ≡ getD (parts .list) j 0
@@ -374,35 +359,22 @@ module _ (b p hs ns zs : List ℕ) (n u k : ℕ) (l : List ℕ) (a : SortAsks b 
               small = omega (arith, ap size ans-same, a .small);
             }
 
-        interned : intern (answerAt c q (r .count) l k) (storeOf c q (r .count)) ≡ intern (answerAt b p n l k) (storeOf b p n)
+        interned : intern (answerAt b p n l k) (storeOf c q (r .count)) ≡ intern (answerAt b p n l k) (storeOf b p n)
         interned =
-            ap₂ intern (ans-same ∙ answer-is) added
+            ap₂ intern answer-is added
             ∙ intern-rebuilt (e .kind) (e .name) (e .number) names ps (storeOf b p n) (store-ordered b p n (a .ready .good .stored)) other one
             ∙ sym (ap (λ (s : Sort). intern s (storeOf b p n)) answer-is)
 
         pub sort-made : (d t is′ ms′ ys′ : List ℕ) (i m v : ℕ) → Made c q (r .count) (r .used) (answerAt c q (r .count) l k) d t is′ ms′ ys′ i m v
             → Made b p n u (answerAt b p n l k) d t is′ ms′ ys′ i m v
         sort-made d t is′ ms′ ys′ i m v y =
-            record {
-              good = y .good;
-              added = y .added ∙ interned;
-              number = y .number ∙ ap (λ (s : Sort). indexOf s (storeOf d t m)) ans-same;
-              kept =
-                  kept-trans b p n u c q (r .count) (r .used) d t
-                  (grown-count b p hs ns zs n u (a .ready .good) c q js os xs (r .count) (r .used) (w .good) starts)
-                  (grown-used b p hs ns zs n u (a .ready .good) c q js os xs (r .count) (r .used) (w .good) starts) (w .kept) (y .kept);
-            }
+            made-over b p hs ns zs n u (a .ready .good) c q js os xs (r .count) (r .used) (w .good) starts (w .kept) (answerAt b p n l k) interned
+            d t is′ ms′ ys′ i m v (subst (λ (s : Sort). Made c q (r .count) (r .used) s d t is′ ms′ ys′ i m v) ans-same y)
 
         pub sort-full : (d t is′ ms′ ys′ : List ℕ)
             → (room (length c) (length q) (intern (answerAt c q (r .count) l k) (storeOf c q (r .count))) ≡ false) × Untouched c q js os xs d t is′ ms′ ys′
             → Halted b p n u (intern (answerAt b p n l k) (storeOf b p n)) d t is′ ms′ ys′ (r .count) (r .used)
         sort-full d t is′ ms′ ys′ y =
-            halted-same b p n u (intern (answerAt b p n l k) (storeOf b p n)) c q js os xs d t is′ ms′ ys′ (r .count) (r .used) (y .1)
-            (record {
-              good = w .good;
-              starts = starts;
-              full =
-                  sym (ap₂ (λ (x z : ℕ). room x z (intern (answerAt b p n l k) (storeOf b p n))) (w .kept .long) (w .kept .wide))
-                  ∙ ap (room (length c) (length q)) (sym interned) ∙ y .0;
-              kept = w .kept;
-            })
+            halted-over b p hs ns zs n u (a .ready .good) c q js os xs (r .count) (r .used) (w .good) starts (w .kept) (answerAt b p n l k) interned
+            d t is′ ms′ ys′
+            (sym (ap (λ (s : Sort). room (length c) (length q) (intern s (storeOf c q (r .count)))) ans-same) ∙ y .0, y .1)

@@ -13,11 +13,11 @@ use Rattle.record.specs.Names.{member, distinct}
 use Rattle.record.specs.Number.{numbersAt}
 use Rattle.record.specs.Sort.{Sort, Sorts, var, par, node, end, _then_, count, size, sizes, partsOf}
 use Rattle.record.specs.Record.{Fields, leaf, sortsOf, sortOf}
-use Rattle.record.specs.Store.{memb, addOnce, intern, internAll, indicesOf}
+use Rattle.record.specs.Store.{memb, intern, internAll, indicesOf}
 use Rattle.record.specs.Decode.{fields, Shape, storeOf, sortAt, Stored}
 use Rattle.record.specs.Cases.{and-left, and-right, clash, not-true}
 use Rattle.record.specs.Forms.{Which, isVar, isPar, isNode, which, sort-var, sort-par, sort-other, par-one, one-element}
-use Rattle.record.specs.SortLists.{membAll, Ordered, Starts, index-found, memb-intern, memb-intern-all, starts-intern, ordered-intern, ordered-intern-all, intern-known, intern-all-known}
+use Rattle.record.specs.SortLists.{membAll, Ordered, Starts, index-found, memb-intern, starts-intern, ordered-intern, intern-known}
 use Rattle.record.specs.StoreLaws.{sort-node}
 use Rattle.record.specs.Sizes.{count-sorts}
 use Rattle.record.specs.declared.SortRecord.{SortRecord}
@@ -26,6 +26,7 @@ use Rattle.substitution.specs.Substitution.{Map, find, bound, left, under, appl
 use Rattle.substitution.specs.SubstitutionLaws.{apply-var, apply-var-free, left-member}
 use Rattle.apply.specs.Lists.{unbound}
 use Rattle.apply.specs.Images.{imageAt, imageNumber, imagesOf, Table, find-images, unbound-left}
+use Rattle.apply.specs.Made.{intern-first}
 use Rattle.apply.specs.Contract.{goes, answerAt}
 
 unfoldable pub headOf : Sorts → Sort
@@ -120,20 +121,14 @@ rebuilt-sort st k a w rs ns d one g = go (which k)
     go (isNode q o) = sort-other st (fields k a w rs ns) q o ∙ sym (rebuilt-node k a w ns (sortsOf st rs) o)
 
 -- INTERNING IT AFTER ITS PARTS is interning it.
-all-twice : (ps : Sorts) (st : List Sort) → Ordered st → internAll ps (internAll ps st) ≡ internAll ps st
-all-twice ps st o = intern-all-known ps (internAll ps st) (ordered-intern-all ps st o) (memb-intern-all ps st)
-
 pub intern-rebuilt : (k a w : ℕ) (ns : List ℕ) (ps : Sorts) (st : List Sort) → Ordered st → (k ≡ 2 → ⊥) → (k ≡ 12 → count ps ≡ 1)
     → intern (rebuilt k a w ns ps) (internAll ps st) ≡ intern (rebuilt k a w ns ps) st
 unfolding intern
 intern-rebuilt k a w ns ps st o d one = go (which k)
   where
-    twice : (h : Sort) → intern h (intern h st) ≡ intern h st
-    twice h = intern-known h (intern h st) (ordered-intern h st o) (memb-intern h st)
-
     both : (ms : List ℕ) (h : Sort) → intern (under ms h) (intern h st) ≡ intern (under ms h) st
-    both [] h = twice h
-    both (m ∷ ms) h = ap (λ (x : List Sort). addOnce x (par (m ∷ ms) h)) (twice h)
+    both [] h = intern-known h (intern h st) (ordered-intern h st o) (memb-intern h st)
+    both (m ∷ ms) h = intern-first (par (m ∷ ms) h) st o
 
     go : Which k → intern (rebuilt k a w ns ps) (internAll ps st) ≡ intern (rebuilt k a w ns ps) st
     go (isVar e) = absurd (d e)
@@ -145,7 +140,7 @@ intern-rebuilt k a w ns ps st o d one = go (which k)
     go (isNode q r) =
         let z = rebuilt-node k a w ns ps r in
         ap (λ (x : Sort). intern x (internAll ps st)) z
-        ∙ ap (λ (x : List Sort). addOnce x (node k a w ps)) (all-twice ps st o)
+        ∙ intern-first (node k a w ps) st o
         ∙ sym (ap (λ (x : Sort). intern x st) z)
 
 pub starts-rebuilt : (k a w : ℕ) (ns : List ℕ) (ps : Sorts) (st : List Sort) → Ordered st → (k ≡ 2 → ⊥) → (k ≡ 12 → count ps ≡ 1)

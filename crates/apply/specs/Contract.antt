@@ -11,7 +11,7 @@ use Rattle.record.specs.Sort.{Sort, Sorts, size, sizes, kindOf, partsOf}
 use Rattle.record.specs.Record.{sortsOf}
 use Rattle.record.specs.Store.{intern, internAll, indicesOf, room}
 use Rattle.record.specs.Decode.{storeOf, sortAt, Stored}
-use Rattle.record.specs.SortLists.{Starts, membAll}
+use Rattle.record.specs.SortLists.{membAll}
 use Rattle.store.specs.Good.{Good, Sized, Kept}
 use Rattle.store.specs.Contract.{Untouched}
 use Rattle.substitution.specs.Substitution.{apply, applyAll}
@@ -24,6 +24,7 @@ use Rattle.apply.specs.declared.Applied.the-variants.{Is, TooLarge, NoRo
 use Rattle.apply.specs.Lists.{numbersOf, Has}
 use Rattle.apply.specs.Images.{imagesOf, Table}
 use Rattle.apply.specs.Made.{Made}
+use Rattle.apply.specs.Halted.{Halted}
 
 -- A size, or 4,097 for each that is larger than 4,096.
 unfoldable pub capped : ℕ → ℕ
@@ -80,13 +81,6 @@ pub record SortAsks (b p hs ns zs : List ℕ) (n u k : ℕ) (l : List ℕ) : Typ
   pub ready : Ready b p hs ns zs n u l
   pub known : k < n
   pub small : size (answerAt b p n l k) ≤ 4096
-
--- THE STORE c q WHERE ROOM RAN OUT on the way to the store st: it is good and grown from b p, and st has no room.
-pub record Halted (b p : List ℕ) (n u : ℕ) (st : List Sort) (c q hs′ ns′ zs′ : List ℕ) (m v : ℕ) : Type 0 where
-  pub good : Good c q hs′ ns′ zs′ m v
-  pub starts : Starts (storeOf b p n) (storeOf c q m)
-  pub full : room (length b) (length p) st ≡ false
-  pub kept : Kept b p n u c q
 
 abbrev pub ReplacedIs : List ℕ → List ℕ → ℕ → ℕ → Sort → List ℕ → List ℕ → List ℕ → List ℕ → List ℕ → Replaced → Type 0
 ReplacedIs b p n u s c q hs′ ns′ zs′ (Found i m v) = Made b p n u s c q hs′ ns′ zs′ i m v

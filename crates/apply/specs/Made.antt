@@ -9,12 +9,12 @@ use lib.ListN.{length, getD, take}
 use lib.Seq.{take-at}
 use lib.Dec.{leb}
 use borrow.Author.Tests.{le-leb, leb-true}
-use Rattle.record.specs.Sort.{Sort, size}
+use Rattle.record.specs.Sort.{Sort, var, par, node, size, partsOf}
 use Rattle.record.specs.Record.{Fields, leaf, sortOf}
-use Rattle.record.specs.Store.{memb, intern, indexOf, bytesOf, room}
+use Rattle.record.specs.Store.{memb, addOnce, intern, internAll, indexOf, bytesOf, room}
 use Rattle.record.specs.Decode.{Shape, Below, storeOf, sortAt}
 use Rattle.record.specs.Cases.{and-left, and-right, not-true-false, clash}
-use Rattle.record.specs.SortLists.{index-found, Starts, starts-count, starts-bytes, starts-intern, memb-intern, intern-known, memb-at, index-at}
+use Rattle.record.specs.SortLists.{index-found, Starts, starts-count, starts-bytes, starts-intern, memb-intern, intern-known, memb-at, index-at, Ordered, ordered-intern, ordered-intern-all, memb-intern-all, intern-all-known}
 use Rattle.record.specs.StoreLaws.{storeOf-length}
 use Rattle.record.specs.Entries.{store-ordered}
 use Rattle.record.specs.Whole.{store-once}
@@ -110,6 +110,16 @@ module _ (b p hs ns zs : List ℕ) (n u : ℕ) (g : Good b p hs ns zs n u) (c q 
 
   pub grown-take : storeOf b p n ≡ take n (storeOf c q m)
   grown-take = sym (ap (take n) (st .1) ∙ take-at (storeOf b p n) (st .0) n (storeOf-length b p n))
+
+-- INTERNING A SORT AFTER ITS PARTS is interning it.
+pub intern-first : (s : Sort) (st : List Sort) → Ordered st → intern s (internAll (partsOf s) st) ≡ intern s st
+unfolding intern
+intern-first (var v) st o = refl
+intern-first (par ns b) st o =
+    ap (λ (x : List Sort). addOnce x (par ns b)) (intern-known b (intern b st) (ordered-intern b st o) (memb-intern b st))
+intern-first (node k a w ss) st o =
+    ap (λ (x : List Sort). addOnce x (node k a w ss))
+    (intern-all-known ss (internAll ss st) (ordered-intern-all ss st o) (memb-intern-all ss st))
 
 -- A SORT THAT THE STORE HAS is made by its number.
 pub made-known-sort : (b p hs ns zs : List ℕ) (n u : ℕ) → Good b p hs ns zs n u → (k : ℕ) → k < n → Made b p n u (sortAt b p n k) b p hs ns zs k n u

@@ -204,19 +204,8 @@ pub fn apply_sort(
     if !done.ok {
         return Replaced::Stuck(n, u);
     }
-    let numbers = done.numbers;
-    let made = rebuild(
-        records,
-        places,
-        heads,
-        next,
-        sizes,
-        n,
-        u,
-        k,
-        numbers,
-        images,
-    );
+    let list = done.numbers;
+    let made = rebuild(records, places, heads, next, sizes, n, u, k, list, images);
     match made {
         Interned::Is(i, m, v) => Replaced::Is(i, m, v),
         Interned::NoRoom => Replaced::Stuck(n, u),
@@ -297,7 +286,7 @@ pub fn apply(
     match made {
         Replaced::Is(i, n, u) => Applied::Is(i, n, u),
         Replaced::Stuck(n, u) => {
-            let _back = undo(records, places, heads, next, sizes, n, u, count);
+            undo(records, places, heads, next, sizes, n, u, count);
             Applied::NoRoom
         }
     }

@@ -3,7 +3,7 @@
 use native.Mathlib.Omega.{arith}
 use borrow.Author.Needs.{needs}
 use Prim.Native.Nat.{_+_, _*_, _-_}
-use mathlib.Core.Path.{refl, sym, subst, _∙_}
+use mathlib.Core.Path.{sym, subst, _∙_}
 use lib.ListN.{getD}
 use Rattle.record.specs.Sort.{size, sizes}
 use Rattle.record.specs.Record.{sortsOf}
@@ -68,13 +68,9 @@ apply-parts-loop-holds : (t : ℕ) → apply-parts-lts.Need-loop-holds (apply-pa
 apply-parts-loop-holds t c =
     let s = c .before .before .before .before .before .before .before in
     let a = s .args in
-    let b = a .records .now in
-    let p = a .places .now in
-    let hs = a .heads .now in
-    let ns = a .next .now in
-    let zs = a .sizes .now in
-    let n = a .count in
-    let u = a .used in
+    let b = a .records .now in let p = a .places .now in
+    let hs = a .heads .now in let ns = a .next .now in let zs = a .sizes .now in
+    let n = a .count in let u = a .used in
     let l = a .images .now in
     parts-start b p hs ns zs n u (a .parts) l (s .pre .1)
 
@@ -98,13 +94,9 @@ apply-parts-apply-sort-requires : (t : ℕ) → apply-parts-lts.Need-apply-sort-
 apply-parts-apply-sort-requires t c κs =
     let s = c .before .before .before .before .before .before .before .before .before .before .before .before .before .before in
     let a = s .args in
-    let b = a .records .now in
-    let p = a .places .now in
-    let hs = a .heads .now in
-    let ns = a .next .now in
-    let zs = a .sizes .now in
-    let n = a .count in
-    let u = a .used in
+    let b = a .records .now in let p = a .places .now in
+    let hs = a .heads .now in let ns = a .next .now in let zs = a .sizes .now in
+    let n = a .count in let u = a .used in
     let l = a .images .now in
     let i = c .before .before .before .before .before .before .loop in
     let q = parts-asks b p hs ns zs n u (a .parts) l (s .pre .1) (i .records) (i .places) (i .heads) (i .next) (i .sizes) (i .list) (i .n) (i .u) (i .j) (i .inv) (c .before .before .before .before .before .loop-test .taken) in
@@ -117,19 +109,15 @@ apply-parts-cast-list : (t : ℕ) → apply-parts-lts.Need-cast-list (apply-part
 apply-parts-cast-list t c =
     let s = c .before .before .before .before .before .before .before .before .before .before .before .before .before .before .before .before .before .before .before .before .before .before .before .before .before .before .before .before in
     let a = s .args in
-    let b = a .records .now in
-    let p = a .places .now in
-    let hs = a .heads .now in
-    let ns = a .next .now in
-    let zs = a .sizes .now in
-    let n = a .count in
-    let u = a .used in
+    let b = a .records .now in let p = a .places .now in
+    let hs = a .heads .now in let ns = a .next .now in let zs = a .sizes .now in
+    let n = a .count in let u = a .used in
     let l = a .images .now in
     let i = c .before .before .before .before .before .before .before .before .before .before .before .before .before .before .before .before .before .before .before .before .loop in
     let d = c .before .before .before .before .before .before .before .before .before .before .before .before .before .apply-sort .last in
     let v = c .before .made .given .0 in
     let w = subst (ReplacedIs (i .records) (i .places) (i .n) (i .u) (answerAt (i .records) (i .places) (i .n) l (getD (i .list) (i .j) 0)) (d .0) (d .1 .0) (d .1 .1 .0) (d .1 .1 .1 .0) (d .1 .1 .1 .1 .0)) (c .before .made .given .1) (c .before .before .before .before .before .before .before .before .before .before .before .before .before .apply-sort .ensures) in
-    omega (arith, parts-number b p hs ns zs n u (a .parts) l (s .pre .1) (i .records) (i .places) (i .heads) (i .next) (i .sizes) (i .list) (i .n) (i .u) (i .j) (i .inv) (c .before .before .before .before .before .before .before .before .before .before .before .before .before .before .before .before .before .before .before .loop-test .taken) (d .0) (d .1 .0) (d .1 .1 .0) (d .1 .1 .1 .0) (d .1 .1 .1 .1 .0) (v .0) (v .1 .0) (v .1 .1 .0) w)
+    omega (arith, parts-number b p hs ns zs n u (a .parts) l (s .pre .1) (i .records) (i .places) (i .heads) (i .next) (i .sizes) (i .list) (i .n) (i .u) (i .j) (i .inv) (c .before .before .before .before .before .before .before .before .before .before .before .before .before .before .before .before .before .before .before .loop-test .taken) (d .0) (d .1 .0) (d .1 .1 .0) (d .1 .1 .1 .0) (d .1 .1 .1 .1 .0) (v .0) (v .1 .0) (v .1 .1 .0) w, i .inv .small (i .j))
 
 apply-parts-mul-list : (t : ℕ) → apply-parts-lts.Need-mul-list (apply-parts-env t) (apply-parts-at t) apply-parts.Post apply-parts-Inv-loop apply-parts-μ-loop
 apply-parts-mul-list t c =
@@ -146,37 +134,21 @@ apply-parts-same-length : (t : ℕ) → apply-parts-lts.Need-same-length (apply-
 apply-parts-same-length t c =
     let s = c .before .before .before .before .before .before .before .before .before .before .before .before .before .before .before .before .before .before .before .before .before .before .before .before .before .before .before .before in
     let a = s .args in
-    let b = a .records .now in
-    let p = a .places .now in
-    let hs = a .heads .now in
-    let ns = a .next .now in
-    let zs = a .sizes .now in
-    let n = a .count in
-    let u = a .used in
     let l = a .images .now in
     let i = c .before .before .before .before .before .before .before .before .before .before .before .before .before .before .before .before .before .before .before .before .loop in
     let d = c .before .before .before .before .before .before .before .before .before .before .before .before .before .apply-sort .last in
-    let v = c .before .made2 .given .0 in
     let w = subst (ReplacedIs (i .records) (i .places) (i .n) (i .u) (answerAt (i .records) (i .places) (i .n) l (getD (i .list) (i .j) 0)) (d .0) (d .1 .0) (d .1 .1 .0) (d .1 .1 .1 .0) (d .1 .1 .1 .1 .0)) (c .before .made2 .given .1) (c .before .before .before .before .before .before .before .before .before .before .before .before .before .apply-sort .ensures) in
-    (parts-halted b p hs ns zs n u (a .parts) l (s .pre .1) (i .records) (i .places) (i .heads) (i .next) (i .sizes) (i .list) (i .n) (i .u) (i .j) (i .inv) (c .before .before .before .before .before .before .before .before .before .before .before .before .before .before .before .before .before .before .before .loop-test .taken) (d .0) (d .1 .0) (d .1 .1 .0) (d .1 .1 .1 .0) (d .1 .1 .1 .1 .0) (v .0) (v .1 .0) w) .stuck refl .kept .long
+    w .kept .long ∙ i .inv .kept .long
 
 apply-parts-same-length-2 : (t : ℕ) → apply-parts-lts.Need-same-length-2 (apply-parts-env t) (apply-parts-at t) apply-parts.Post apply-parts-Inv-loop apply-parts-μ-loop
 apply-parts-same-length-2 t c =
     let s = c .before .before .before .before .before .before .before .before .before .before .before .before .before .before .before .before .before .before .before .before .before .before .before .before .before .before .before .before in
     let a = s .args in
-    let b = a .records .now in
-    let p = a .places .now in
-    let hs = a .heads .now in
-    let ns = a .next .now in
-    let zs = a .sizes .now in
-    let n = a .count in
-    let u = a .used in
     let l = a .images .now in
     let i = c .before .before .before .before .before .before .before .before .before .before .before .before .before .before .before .before .before .before .before .before .loop in
     let d = c .before .before .before .before .before .before .before .before .before .before .before .before .before .apply-sort .last in
-    let v = c .before .made2 .given .0 in
     let w = subst (ReplacedIs (i .records) (i .places) (i .n) (i .u) (answerAt (i .records) (i .places) (i .n) l (getD (i .list) (i .j) 0)) (d .0) (d .1 .0) (d .1 .1 .0) (d .1 .1 .1 .0) (d .1 .1 .1 .1 .0)) (c .before .made2 .given .1) (c .before .before .before .before .before .before .before .before .before .before .before .before .before .apply-sort .ensures) in
-    (parts-halted b p hs ns zs n u (a .parts) l (s .pre .1) (i .records) (i .places) (i .heads) (i .next) (i .sizes) (i .list) (i .n) (i .u) (i .j) (i .inv) (c .before .before .before .before .before .before .before .before .before .before .before .before .before .before .before .before .before .before .before .loop-test .taken) (d .0) (d .1 .0) (d .1 .1 .0) (d .1 .1 .1 .0) (d .1 .1 .1 .1 .0) (v .0) (v .1 .0) w) .stuck refl .kept .wide
+    w .kept .wide ∙ i .inv .kept .wide
 
 apply-parts-same-length-3 : (t : ℕ) → apply-parts-lts.Need-same-length-3 (apply-parts-env t) (apply-parts-at t) apply-parts.Post apply-parts-Inv-loop apply-parts-μ-loop
 apply-parts-same-length-3 t c =
@@ -214,13 +186,9 @@ apply-parts-returns : (t : ℕ) → apply-parts-lts.Need-returns (apply-parts-en
 apply-parts-returns t c =
     let s = c .before .before .before .before .before .before .before .before .before .before .before .before .before .before .before .before .before .before .before .before .before .before .before .before .before .before .before .before in
     let a = s .args in
-    let b = a .records .now in
-    let p = a .places .now in
-    let hs = a .heads .now in
-    let ns = a .next .now in
-    let zs = a .sizes .now in
-    let n = a .count in
-    let u = a .used in
+    let b = a .records .now in let p = a .places .now in
+    let hs = a .heads .now in let ns = a .next .now in let zs = a .sizes .now in
+    let n = a .count in let u = a .used in
     let l = a .images .now in
     let i = c .before .before .before .before .before .before .before .before .before .before .before .before .before .before .before .before .before .before .before .before .loop in
     let d = c .before .before .before .before .before .before .before .before .before .before .before .before .before .apply-sort .last in
@@ -242,13 +210,9 @@ apply-parts-loop-again : (t : ℕ) → apply-parts-lts.Need-loop-again (apply-pa
 apply-parts-loop-again t c =
     let s = c .before .before .before .before .before .before .before .before .before .before .before .before .before .before .before .before .before .before .before .before .before .before .before .before .before .before .before .before in
     let a = s .args in
-    let b = a .records .now in
-    let p = a .places .now in
-    let hs = a .heads .now in
-    let ns = a .next .now in
-    let zs = a .sizes .now in
-    let n = a .count in
-    let u = a .used in
+    let b = a .records .now in let p = a .places .now in
+    let hs = a .heads .now in let ns = a .next .now in let zs = a .sizes .now in
+    let n = a .count in let u = a .used in
     let l = a .images .now in
     let i = c .before .before .before .before .before .before .before .before .before .before .before .before .before .before .before .before .before .before .before .before .loop in
     let d = c .before .before .before .before .before .before .before .before .before .before .before .before .before .apply-sort .last in
@@ -288,13 +252,9 @@ apply-parts-returns-2 : (t : ℕ) → apply-parts-lts.Need-returns-2 (apply-part
 apply-parts-returns-2 t c =
     let s = c .before .before .before .before .before .before .before .before .before in
     let a = s .args in
-    let b = a .records .now in
-    let p = a .places .now in
-    let hs = a .heads .now in
-    let ns = a .next .now in
-    let zs = a .sizes .now in
-    let n = a .count in
-    let u = a .used in
+    let b = a .records .now in let p = a .places .now in
+    let hs = a .heads .now in let ns = a .next .now in let zs = a .sizes .now in
+    let n = a .count in let u = a .used in
     let l = a .images .now in
     let i = c .before .loop in
     parts-done b p hs ns zs n u (a .parts) l (s .pre .1) (i .records) (i .places) (i .heads) (i .next) (i .sizes) (i .list) (i .n) (i .u) (i .j) (i .inv) (c .loop-test .left)
@@ -310,9 +270,8 @@ apply-sort-image-of-requires : (t : ℕ) → apply-sort-lts.Need-image-of-requir
 apply-sort-image-of-requires t c κs =
     let s = c .before .before .before .before .before .before .before .before .before .before .before in
     let a = s .args in
-    let b = a .records .now in
-    let p = a .places .now in
-    let n = a .count in
+    let b = a .records .now in let p = a .places .now in
+    let n = a .count in let u = a .used in
     let l = a .images .now in
     let k = a .k in
     let e = c .before .before .entry .result in
@@ -329,13 +288,9 @@ apply-sort-returns : (t : ℕ) → apply-sort-lts.Need-returns (apply-sort-env t
 apply-sort-returns t c =
     let s = c .before .before .before .before .before .before .before .before .before .before .before .before in
     let a = s .args in
-    let b = a .records .now in
-    let p = a .places .now in
-    let hs = a .heads .now in
-    let ns = a .next .now in
-    let zs = a .sizes .now in
-    let n = a .count in
-    let u = a .used in
+    let b = a .records .now in let p = a .places .now in
+    let hs = a .heads .now in let ns = a .next .now in let zs = a .sizes .now in
+    let n = a .count in let u = a .used in
     let l = a .images .now in
     let k = a .k in
     let e = c .before .before .before .entry .result in
@@ -346,13 +301,9 @@ apply-sort-read-numbers-requires : (t : ℕ) → apply-sort-lts.Need-read-number
 apply-sort-read-numbers-requires t c κs =
     let s = c .before .before .before .before .before .before .before .before .before .before .before .before in
     let a = s .args in
-    let b = a .records .now in
-    let p = a .places .now in
-    let hs = a .heads .now in
-    let ns = a .next .now in
-    let zs = a .sizes .now in
-    let n = a .count in
-    let u = a .used in
+    let b = a .records .now in let p = a .places .now in
+    let hs = a .heads .now in let ns = a .next .now in let zs = a .sizes .now in
+    let n = a .count in let u = a .used in
     let l = a .images .now in
     let k = a .k in
     let e = c .before .before .before .entry .result in
@@ -363,13 +314,9 @@ apply-sort-apply-parts-requires : (t : ℕ) → apply-sort-lts.Need-apply-parts-
 apply-sort-apply-parts-requires t c κs =
     let s = c .before .before .before .before .before .before .before .before .before .before .before .before .before .before .before .before .before .before in
     let a = s .args in
-    let b = a .records .now in
-    let p = a .places .now in
-    let hs = a .heads .now in
-    let ns = a .next .now in
-    let zs = a .sizes .now in
-    let n = a .count in
-    let u = a .used in
+    let b = a .records .now in let p = a .places .now in
+    let hs = a .heads .now in let ns = a .next .now in let zs = a .sizes .now in
+    let n = a .count in let u = a .used in
     let l = a .images .now in
     let k = a .k in
     let e = c .before .before .before .before .before .before .before .before .before .entry .result in
@@ -395,13 +342,9 @@ apply-sort-returns-2 : (t : ℕ) → apply-sort-lts.Need-returns-2 (apply-sort-e
 apply-sort-returns-2 t c =
     let s = c .before .before .before .before .before .before .before .before .before .before .before .before .before .before .before .before .before .before .before .before .before .before .before .before .before .before .before .before .before .before .before in
     let a = s .args in
-    let b = a .records .now in
-    let p = a .places .now in
-    let hs = a .heads .now in
-    let ns = a .next .now in
-    let zs = a .sizes .now in
-    let n = a .count in
-    let u = a .used in
+    let b = a .records .now in let p = a .places .now in
+    let hs = a .heads .now in let ns = a .next .now in let zs = a .sizes .now in
+    let n = a .count in let u = a .used in
     let l = a .images .now in
     let k = a .k in
     let e = c .before .before .before .before .before .before .before .before .before .before .before .before .before .before .before .before .before .before .before .before .before .before .entry .result in
@@ -414,13 +357,9 @@ apply-sort-rebuild-requires : (t : ℕ) → apply-sort-lts.Need-rebuild-requires
 apply-sort-rebuild-requires t c κs =
     let s = c .before .before .before .before .before .before .before .before .before .before .before .before .before .before .before .before .before .before .before .before .before .before .before .before .before .before .before .before .before .before .before .before .before .before .before .before .before in
     let a = s .args in
-    let b = a .records .now in
-    let p = a .places .now in
-    let hs = a .heads .now in
-    let ns = a .next .now in
-    let zs = a .sizes .now in
-    let n = a .count in
-    let u = a .used in
+    let b = a .records .now in let p = a .places .now in
+    let hs = a .heads .now in let ns = a .next .now in let zs = a .sizes .now in
+    let n = a .count in let u = a .used in
     let l = a .images .now in
     let k = a .k in
     let e = c .before .before .before .before .before .before .before .before .before .before .before .before .before .before .before .before .before .before .before .before .before .before .before .before .before .before .before .before .entry .result in
@@ -454,13 +393,9 @@ apply-sort-returns-3 : (t : ℕ) → apply-sort-lts.Need-returns-3 (apply-sort-e
 apply-sort-returns-3 t c =
     let s = c .before .before .before .before .before .before .before .before .before .before .before .before .before .before .before .before .before .before .before .before .before .before .before .before .before .before .before .before .before .before .before .before .before .before .before .before .before .before .before .before .before .before .before .before .before .before .before .before .before .before .before in
     let a = s .args in
-    let b = a .records .now in
-    let p = a .places .now in
-    let hs = a .heads .now in
-    let ns = a .next .now in
-    let zs = a .sizes .now in
-    let n = a .count in
-    let u = a .used in
+    let b = a .records .now in let p = a .places .now in
+    let hs = a .heads .now in let ns = a .next .now in let zs = a .sizes .now in
+    let n = a .count in let u = a .used in
     let l = a .images .now in
     let k = a .k in
     let e = c .before .before .before .before .before .before .before .before .before .before .before .before .before .before .before .before .before .before .before .before .before .before .before .before .before .before .before .before .before .before .before .before .before .before .before .before .before .before .before .before .before .before .entry .result in
@@ -490,13 +425,9 @@ apply-sort-returns-4 : (t : ℕ) → apply-sort-lts.Need-returns-4 (apply-sort-e
 apply-sort-returns-4 t c =
     let s = c .before .before .before .before .before .before .before .before .before .before .before .before .before .before .before .before .before .before .before .before .before .before .before .before .before .before .before .before .before .before .before .before .before .before .before .before .before .before .before .before .before .before .before .before .before .before .before .before .before .before in
     let a = s .args in
-    let b = a .records .now in
-    let p = a .places .now in
-    let hs = a .heads .now in
-    let ns = a .next .now in
-    let zs = a .sizes .now in
-    let n = a .count in
-    let u = a .used in
+    let b = a .records .now in let p = a .places .now in
+    let hs = a .heads .now in let ns = a .next .now in let zs = a .sizes .now in
+    let n = a .count in let u = a .used in
     let l = a .images .now in
     let k = a .k in
     let e = c .before .before .before .before .before .before .before .before .before .before .before .before .before .before .before .before .before .before .before .before .before .before .before .before .before .before .before .before .before .before .before .before .before .before .before .before .before .before .before .before .before .entry .result in

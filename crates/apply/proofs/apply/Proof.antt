@@ -4,7 +4,8 @@ use mathlib.Core.Path.{refl, subst}
 use Rattle.record.specs.Store.{intern}
 use Rattle.record.specs.Decode.{storeOf}
 use Rattle.apply.specs.Contract.{answerAt, ReplacedIs}
-use Rattle.apply.proofs.ApplyLaws.{apply-size, apply-over, apply-small, apply-asks, undo-asks, undo-back}
+use Rattle.apply.proofs.ApplyLaws.{apply-size, apply-over, apply-small, apply-asks}
+use Rattle.apply.specs.Halted.{undo-asks, undo-back}
 use Rattle.apply.proofs.apply.Statement.{statement}
 use Rattle.apply.proofs.apply.Tie as tie
 
@@ -84,7 +85,7 @@ undo-requires c κs =
     let d = c .before .before .before .before .before .before .before .before .before .before .before .before .before .before .before .before .before .before .apply-sort .last in
     let v = c .before .before .before .before .before .before .made2 .given .0 in
     let w = subst (ReplacedIs b p n u (answerAt b p n l k) (d .0) (d .1 .0) (d .1 .1 .0) (d .1 .1 .1 .0) (d .1 .1 .1 .1 .0)) (c .before .before .before .before .before .before .made2 .given .1) (c .before .before .before .before .before .before .before .before .before .before .before .before .before .before .before .before .before .before .apply-sort .ensures) in
-    undo-asks b p hs ns zs n u k l (s .pre) (intern (answerAt b p n l k) (storeOf b p n)) (d .0) (d .1 .0) (d .1 .1 .0) (d .1 .1 .1 .0) (d .1 .1 .1 .1 .0) (v .0) (v .1 .0) w
+    undo-asks b p hs ns zs n u (s .pre .ready .good) (intern (answerAt b p n l k) (storeOf b p n)) (d .0) (d .1 .0) (d .1 .1 .0) (d .1 .1 .1 .0) (d .1 .1 .1 .1 .0) (v .0) (v .1 .0) w
 
 same-length-4 : tie.Need-same-length-4
 same-length-4 c = search needs
@@ -150,7 +151,7 @@ returns-3 c =
     let v = c .before .before .before .before .before .before .before .before .before .before .before .before .before .before .before .before .before .made2 .given .0 in
     let w = subst (ReplacedIs b p n u (answerAt b p n l k) (d .0) (d .1 .0) (d .1 .1 .0) (d .1 .1 .1 .0) (d .1 .1 .1 .1 .0)) (c .before .before .before .before .before .before .before .before .before .before .before .before .before .before .before .before .before .made2 .given .1) (c .before .before .before .before .before .before .before .before .before .before .before .before .before .before .before .before .before .before .before .before .before .before .before .before .before .before .before .before .before .apply-sort .ensures) in
     let e = c .before .before .before .before .before .before .before .before .before .before .undo .last in
-    (apply-small b p hs ns zs n u k l (s .pre) (c .before .before .before .before .before .before .before .before .before .before .before .before .before .before .before .before .before .before .before .before .before .before .before .before .before .before .before .before .before .before .before .before .before .before .before .before .applied-size .result) (c .before .before .before .before .before .before .before .before .before .before .before .before .before .before .before .before .before .before .before .before .before .before .before .before .before .before .before .before .before .before .before .before .before .before .before .before .applied-size .ensures) (c .before .before .before .before .before .before .before .before .before .before .before .before .before .before .before .before .before .before .before .before .before .before .before .before .before .before .before .before .before .before .before .before .before .before .before .if1 .left), w .full, undo-back b p hs ns zs n u k l (s .pre) (intern (answerAt b p n l k) (storeOf b p n)) (d .0) (d .1 .0) (d .1 .1 .0) (d .1 .1 .1 .0) (d .1 .1 .1 .1 .0) (v .0) (v .1 .0) w (e .0) (e .1 .0) (e .1 .1 .0) (e .1 .1 .1 .0) (e .1 .1 .1 .1 .0) (c .before .before .before .before .before .before .before .before .before .before .undo .result) (c .before .before .before .before .before .before .before .before .before .before .undo .ensures))
+    (apply-small b p hs ns zs n u k l (s .pre) (c .before .before .before .before .before .before .before .before .before .before .before .before .before .before .before .before .before .before .before .before .before .before .before .before .before .before .before .before .before .before .before .before .before .before .before .before .applied-size .result) (c .before .before .before .before .before .before .before .before .before .before .before .before .before .before .before .before .before .before .before .before .before .before .before .before .before .before .before .before .before .before .before .before .before .before .before .before .applied-size .ensures) (c .before .before .before .before .before .before .before .before .before .before .before .before .before .before .before .before .before .before .before .before .before .before .before .before .before .before .before .before .before .before .before .before .before .before .before .if1 .left), w .full, undo-back b p hs ns zs n u (s .pre .ready .good) (intern (answerAt b p n l k) (storeOf b p n)) (d .0) (d .1 .0) (d .1 .1 .0) (d .1 .1 .1 .0) (d .1 .1 .1 .1 .0) (v .0) (v .1 .0) w (e .0) (e .1 .0) (e .1 .1 .0) (e .1 .1 .1 .0) (e .1 .1 .1 .1 .0) (c .before .before .before .before .before .before .before .before .before .before .undo .result) (c .before .before .before .before .before .before .before .before .before .before .undo .ensures))
 
 pub apply-spec : {M : Type 1} → statement M
 apply-spec = tie.close (tie.spec applied-size-requires same-length same-length-2 same-length-3 returns apply-sort-requires enum-known-made enum-known-made-2 undo-requires same-length-4 same-length-5 same-length-6 same-length-7 same-length-8 returns-2 same-length-9 same-length-10 same-length-11 same-length-12 same-length-13 returns-3)
