@@ -1,0 +1,8 @@
+mod ListLaws
+mod DraftLaws
+mod MakeLaws
+mod SortForms
+mod SizeLaws
+mod RebuildLaws
+mod PartLaws
+mod ApplyLaws

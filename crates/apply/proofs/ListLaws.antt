@@ -1,0 +1,193 @@
+-- Laws of the numbers held in an array: one more, those read from bytes, and the names without an image.
+use Prim.Native.Nat.{ℕ, zero, suc, _+_, _*_, _-_, _≤_, _<_}
+use mathlib.Core.Path.{_≡_, refl, sym, ap, subst, _∙_}
+use mathlib.Core.Bool.{Bool, true, false, cond}
+use mathlib.Core.List.{List, [], _∷_, _++_}
+use native.Mathlib.Omega.{arith}
+use native.Mathlib.Nat.{not-suc-le-zero}
+use native.Mathlib.Numerals.{add-one}
+use lib.ListN.{length, getD, set, take, replicate, length-set, length-append, length-replicate}
+use lib.Seq.{length-take-le, take-suc-set, append-snoc}
+use lib.Dec.{eqb}
+use borrow.Author.Tests.{eq-eqb, ne-eqb}
+use Rattle.record.specs.Number.{u16At, numbersAt}
+use Rattle.apply.specs.declared.lists.Numbers.{Numbers}
+use Rattle.apply.specs.Lists.{numbersOf, unbound, Has, AddAsks, KeepAsks, ReadAsks, NamesAsk}
+
+pub has-length : (o : Numbers) (vs : List ℕ) → Has o vs → length vs ≡ o .count
+has-length o vs h = sym (ap length (h .is)) ∙ length-take-le (o .count) (o .list) (omega (arith, h .long, h .few))
+
+pub has-own : (o : Numbers) (vs : List ℕ) → Has o vs → Has o (numbersOf o)
+has-own o vs h = record { long = h .long; few = h .few; small = h .small; is = refl }
+
+zeros-are : (n i : ℕ) → _≡_ {A = ℕ} (getD (replicate n 0) i 0) 0
+zeros-are zero i = refl
+zeros-are (suc n) zero = refl
+zeros-are (suc n) (suc i) = zeros-are n i
+
+pub none-has : Has (record { list = replicate 64 0; count = 0 }) []
+none-has = record { long = length-replicate {A = ℕ} 64 0; few = omega arith; small = λ i. omega (arith, zeros-are 64 i); is = refl }
+
+-- A small number written into small ones.
+pub set-small : (l : List ℕ) (j v : ℕ) → v < 65536 → ((i : ℕ) → getD l i 0 < 65536) → (i : ℕ) → getD (set l j v) i 0 < 65536
+set-small [] j v h all i = all i
+set-small (a ∷ l) zero v h all zero = h
+set-small (a ∷ l) zero v h all (suc i) = all (suc i)
+set-small (a ∷ l) (suc j) v h all zero = all 0
+set-small (a ∷ l) (suc j) v h all (suc i) = set-small l j v h (λ k. all (suc k)) i
+
+pub add-has : (o : Numbers) (v : ℕ) → AddAsks o v → Has (record { list = set (o .list) (o .count) v; count = o .count + 1 }) (numbersOf o ++ (v ∷ []))
+add-has o v a =
+    record {
+      long = length-set (o .list) (o .count) v ∙ a .has .long;
+      few = omega (arith, a .room);
+      small = set-small (o .list) (o .count) v (a .small) (a .has .small);
+      is =
+          ap (λ (i : ℕ). take i (set (o .list) (o .count) v)) (add-one (o .count))
+          ∙ take-suc-set (o .list) (o .count) v (omega (arith, a .room, a .has .long));
+    }
+
+pub append-nil : (s : List ℕ) → s ≡ s ++ []
+append-nil [] = refl
+append-nil (a ∷ s) = ap (λ (l : List ℕ). a ∷ l) (append-nil s)
+
+pub append-assoc : (a b c : List ℕ) → a ++ b ++ c ≡ a ++ (b ++ c)
+append-assoc [] b c = refl
+append-assoc (s ∷ a) b c = ap (λ (l : List ℕ). s ∷ l) (append-assoc a b c)
+
+numbers-first : (b : List ℕ) (x m : ℕ) → 0 < m → numbersAt b x m ≡ u16At b x ∷ numbersAt b (x + 2) (m - 1)
+unfolding numbersAt
+numbers-first b x zero h = absurd (not-suc-le-zero h)
+numbers-first b x (suc m) h = let e : m ≡ suc m - 1 = omega arith in ap (λ (i : ℕ). u16At b x ∷ numbersAt b (x + 2) i) e
+
+numbers-none : (b : List ℕ) (x m : ℕ) → m ≤ 0 → numbersAt b x m ≡ []
+unfolding numbersAt
+numbers-none b x zero h = refl
+numbers-none b x (suc m) h = absurd (omega arith)
+
+-- The numbers so far and those left make the whole.
+pub record ReadInv (b : List ℕ) (x n : ℕ) (out : Numbers) (y m : ℕ) : Type 0 where
+  pub has : Has out (numbersOf out)
+  pub within : y + 2 * m ≤ length b
+  pub few : out .count + m ≤ 64
+  pub whole : numbersOf out ++ numbersAt b y m ≡ numbersAt b x n
+
+pub read-start : (b : List ℕ) (x n : ℕ) → ReadAsks b x n → (o : Numbers) → Has o [] → ReadInv b x n o x n
+read-start b x n a o h =
+    record {
+      has = has-own o [] h;
+      within = a .within;
+      few = omega (arith, a .few, has-length o [] h);
+      whole = ap (λ (vs : List ℕ). vs ++ numbersAt b x n) (h .is);
+    }
+
+module _ (b : List ℕ) (x n : ℕ) (out : Numbers) (y m : ℕ) (i : ReadInv b x n out y m) (l : 0 < m) where
+  pub read-asks : (v : ℕ) → v < 65536 → AddAsks out v
+  read-asks v s = record { has = i .has; room = omega (arith, i .few); small = s }
+
+  pub read-more : (v : ℕ) → v ≡ u16At b y → (r : Numbers) → Has r (numbersOf out ++ (v ∷ [])) → ReadInv b x n r (y + 2) (m - 1)
+  read-more v e r h =
+      record {
+        has = has-own r (numbersOf out ++ (v ∷ [])) h;
+        within = omega (arith, i .within);
+        few = omega (arith, i .few, has-length r (numbersOf out ++ (v ∷ [])) h, length-append (numbersOf out) (v ∷ []), has-length out (numbersOf out) (i .has));
+        whole =
+            ap (λ (vs : List ℕ). vs ++ numbersAt b (y + 2) (m - 1)) (h .is)
+            ∙ append-snoc (numbersOf out) v (numbersAt b (y + 2) (m - 1))
+            ∙ ap (λ (k : ℕ). numbersOf out ++ k ∷ numbersAt b (y + 2) (m - 1)) e
+            ∙ ap (λ (vs : List ℕ). numbersOf out ++ vs) (sym (numbers-first b y m l))
+            ∙ i .whole;
+      }
+
+pub read-end : (b : List ℕ) (x n : ℕ) (out : Numbers) (y m : ℕ) → ReadInv b x n out y m → m ≤ 0 → Has out (numbersAt b x n)
+read-end b x n out y m i h =
+    record {
+      long = i .has .long;
+      few = i .has .few;
+      small = i .has .small;
+      is = append-nil (numbersOf out) ∙ ap (λ (vs : List ℕ). numbersOf out ++ vs) (sym (numbers-none b y m h)) ∙ i .whole;
+    }
+
+-- One name: it stays if it has no image.
+pub unbound-free : (l : List ℕ) (v : ℕ) → getD l v 0 ≡ 0 → unbound l (v ∷ []) ≡ v ∷ []
+unfolding unbound
+unbound-free l v e = rw (eq-eqb (getD l v 0) 0 e)
+
+pub unbound-bound : (l : List ℕ) (v : ℕ) → (getD l v 0 ≡ 0 → ⊥) → unbound l (v ∷ []) ≡ []
+unfolding unbound
+unbound-bound l v e = rw (ne-eqb (getD l v 0) 0 e)
+
+pub keep-free : (o : Numbers) (v : ℕ) (l : List ℕ) (r : Numbers) → getD l v 0 ≡ 0 → Has r (numbersOf o ++ (v ∷ [])) → Has r (numbersOf o ++ unbound l (v ∷ []))
+keep-free o v l r e h = subst (λ (vs : List ℕ). Has r (numbersOf o ++ vs)) (sym (unbound-free l v e)) h
+
+pub keep-bound : (o : Numbers) (v : ℕ) (l : List ℕ) → (getD l v 0 ≡ 0 → ⊥) → Has o (numbersOf o) → Has o (numbersOf o ++ unbound l (v ∷ []))
+keep-bound o v l e h =
+    record {
+      long = h .long;
+      few = h .few;
+      small = h .small;
+      is = append-nil (numbersOf o) ∙ ap (λ (vs : List ℕ). numbersOf o ++ vs) (sym (unbound-bound l v e));
+    }
+
+one-most : (t : Bool) (v : ℕ) → length (cond t (v ∷ []) []) ≤ 1
+one-most true v = omega arith
+one-most false v = omega arith
+
+unbound-one : (l : List ℕ) (v : ℕ) → length (unbound l (v ∷ [])) ≤ 1
+unfolding unbound
+unbound-one l v = one-most (eqb (getD l v 0) 0) v
+
+cons-by : (t : Bool) (v : ℕ) (s r : List ℕ) → s ++ cond t (v ∷ []) [] ++ r ≡ s ++ cond t (v ∷ r) r
+cons-by true v s r = append-snoc s v r
+cons-by false v s r = ap (λ (x : List ℕ). x ++ r) (sym (append-nil s))
+
+unbound-cons : (l : List ℕ) (v : ℕ) (s vs : List ℕ) → s ++ unbound l (v ∷ []) ++ unbound l vs ≡ s ++ unbound l (v ∷ vs)
+unfolding unbound
+unbound-cons l v s vs = cons-by (eqb (getD l v 0) 0) v s (unbound l vs)
+
+-- The names kept so far and those kept of what is left make the whole.
+pub record NamesInv (b : List ℕ) (x n : ℕ) (l : List ℕ) (out : Numbers) (y m : ℕ) : Type 0 where
+  pub has : Has out (numbersOf out)
+  pub within : y + 2 * m ≤ length b
+  pub few : out .count + m ≤ 64
+  pub whole : numbersOf out ++ unbound l (numbersAt b y m) ≡ unbound l (numbersAt b x n)
+
+pub names-start : (b : List ℕ) (x n : ℕ) (l : List ℕ) → NamesAsk b x n l → (o : Numbers) → Has o [] → NamesInv b x n l o x n
+names-start b x n l a o h =
+    record {
+      has = has-own o [] h;
+      within = a .read .within;
+      few = omega (arith, a .read .few, has-length o [] h);
+      whole = ap (λ (vs : List ℕ). vs ++ unbound l (numbersAt b x n)) (h .is);
+    }
+
+module _ (b : List ℕ) (x n : ℕ) (l : List ℕ) (out : Numbers) (y m : ℕ) (i : NamesInv b x n l out y m) (some : 0 < m) where
+  pub names-asks : (v : ℕ) → v < 65536 → length l ≡ 65536 → KeepAsks out v l
+  names-asks v s t = record { add = record { has = i .has; room = omega (arith, i .few); small = s }; table = t }
+
+  pub names-more : (v : ℕ) → v ≡ u16At b y → (r : Numbers) → Has r (numbersOf out ++ unbound l (v ∷ [])) → NamesInv b x n l r (y + 2) (m - 1)
+  names-more v e r h =
+      let rest = numbersAt b (y + 2) (m - 1) in
+      record {
+        has = has-own r (numbersOf out ++ unbound l (v ∷ [])) h;
+        within = omega (arith, i .within);
+        few = omega (arith, i .few, has-length r (numbersOf out ++ unbound l (v ∷ [])) h, length-append (numbersOf out) (unbound l (v ∷ [])), has-length out (numbersOf out) (i .has), unbound-one l v);
+        whole =
+            ap (λ (vs : List ℕ). vs ++ unbound l rest) (h .is)
+            ∙ unbound-cons l v (numbersOf out) rest
+            ∙ ap (λ (k : ℕ). numbersOf out ++ unbound l (k ∷ rest)) e
+            ∙ ap (λ (vs : List ℕ). numbersOf out ++ unbound l vs) (sym (numbers-first b y m some))
+            ∙ i .whole;
+      }
+
+pub names-end : (b : List ℕ) (x n : ℕ) (l : List ℕ) (out : Numbers) (y m : ℕ) → NamesInv b x n l out y m → m ≤ 0 → Has out (unbound l (numbersAt b x n))
+unfolding unbound
+names-end b x n l out y m i h =
+    record {
+      long = i .has .long;
+      few = i .has .few;
+      small = i .has .small;
+      is =
+          append-nil (numbersOf out)
+          ∙ ap (λ (vs : List ℕ). numbersOf out ++ unbound l vs) (sym (numbers-none b y m h)) ∙ i .whole;
+    }

@@ -1,0 +1,109 @@
+-- The body of a Par without names left is there; any other is made over the parts.
+use native.Mathlib.Omega.{arith}
+use borrow.Author.Needs.{needs}
+use mathlib.Core.Path.{sym, _∙_}
+use Rattle.apply.proofs.RebuildLaws.{rebuild-gone, rebuild-asks, rebuild-made}
+use Rattle.apply.proofs.rebuild.Statement.{statement}
+use Rattle.apply.proofs.rebuild.Tie as tie
+
+entry-requires : tie.Need-entry-requires
+entry-requires c κs =
+    let s = c .before .before .before .before .before .before .before .before in
+    let a = s .args in
+    record { placed = omega (arith, s .pre .known, s .pre .ready .good .stored .placed); held = s .pre .ready .good .stored .each (a .k) (s .pre .known) }
+
+names-left-requires : tie.Need-names-left-requires
+names-left-requires c κs =
+    let s = c .before .before .before .before .before .before .before .before .before .before in
+    let a = s .args in
+    let n = a .count in
+    let is = c .before .entry .ensures n (s .pre .ready .good .stored) (s .pre .known) in
+    record { read = record { within = is .place .names; few = is .named }; table = s .pre .ready .table .long }
+
+wrapper-goes-requires : tie.Need-wrapper-goes-requires
+wrapper-goes-requires c κs = search needs
+
+array-read-body : tie.Need-array-read-body
+array-read-body c = omega (arith, c .before .before .before .before .before .before .before .before .before .before .before .before .before .before .pre .has .long)
+
+cast-body : tie.Need-cast-body
+cast-body c = omega (arith, c .before .before .before .before .before .before .before .before .before .before .before .before .before .before .pre .has .small 0)
+
+same-length : tie.Need-same-length
+same-length c = search needs
+
+same-length-2 : tie.Need-same-length-2
+same-length-2 c = search needs
+
+returns : tie.Need-returns
+returns c =
+    let s = c .before .before .before .before .before .before .before .before .before .before .before .before .before .before in
+    let a = s .args in
+    let b = a .records .now in
+    let p = a .places .now in
+    let hs = a .heads .now in
+    let ns = a .next .now in
+    let zs = a .sizes .now in
+    let n = a .count in
+    let u = a .used in
+    let l = a .images .now in
+    let k = a .k in
+    let e = c .before .before .before .before .before .entry .result in
+    let is = c .before .before .before .before .before .entry .ensures n (s .pre .ready .good .stored) (s .pre .known) in
+    let o = c .before .before .before .names-left .result in
+    rebuild-gone b p hs ns zs n u k (a .parts) l (s .pre) e is o (c .before .before .before .names-left .ensures) (sym (c .before .before .wrapper-goes .ensures) ∙ c .before .if1 .taken)
+
+make-requires : tie.Need-make-requires
+make-requires c κs =
+    let s = c .before .before .before .before .before .before .before .before .before .before .before .before .before .before .before .before .before .before in
+    let a = s .args in
+    let b = a .records .now in
+    let p = a .places .now in
+    let hs = a .heads .now in
+    let ns = a .next .now in
+    let zs = a .sizes .now in
+    let n = a .count in
+    let u = a .used in
+    let l = a .images .now in
+    let k = a .k in
+    let e = c .before .before .before .before .before .before .before .before .before .entry .result in
+    let is = c .before .before .before .before .before .before .before .before .before .entry .ensures n (s .pre .ready .good .stored) (s .pre .known) in
+    let o = c .before .before .before .before .before .before .before .names-left .result in
+    rebuild-asks b p hs ns zs n u k (a .parts) l (s .pre) e is o (c .before .before .before .before .before .before .before .names-left .ensures) (sym (c .before .before .before .before .before .before .wrapper-goes .ensures) ∙ c .before .before .before .before .before .if1 .left)
+
+same-length-3 : tie.Need-same-length-3
+same-length-3 c = search needs
+
+same-length-4 : tie.Need-same-length-4
+same-length-4 c = search needs
+
+same-length-5 : tie.Need-same-length-5
+same-length-5 c = search needs
+
+same-length-6 : tie.Need-same-length-6
+same-length-6 c = search needs
+
+same-length-7 : tie.Need-same-length-7
+same-length-7 c = search needs
+
+returns-2 : tie.Need-returns-2
+returns-2 c =
+    let s = c .before .before .before .before .before .before .before .before .before .before .before .before .before .before .before .before .before .before .before .before .before .before .before .before .before .before .before .before .before in
+    let a = s .args in
+    let b = a .records .now in
+    let p = a .places .now in
+    let hs = a .heads .now in
+    let ns = a .next .now in
+    let zs = a .sizes .now in
+    let n = a .count in
+    let u = a .used in
+    let l = a .images .now in
+    let k = a .k in
+    let e = c .before .before .before .before .before .before .before .before .before .before .before .before .before .before .before .before .before .before .before .before .entry .result in
+    let is = c .before .before .before .before .before .before .before .before .before .before .before .before .before .before .before .before .before .before .before .before .entry .ensures n (s .pre .ready .good .stored) (s .pre .known) in
+    let o = c .before .before .before .before .before .before .before .before .before .before .before .before .before .before .before .before .before .before .names-left .result in
+    let d = c .before .before .before .before .before .before .before .before .before .before .make .last in
+    rebuild-made b p hs ns zs n u k (a .parts) l (s .pre) e is o (c .before .before .before .before .before .before .before .before .before .before .before .before .before .before .before .before .before .before .names-left .ensures) (sym (c .before .before .before .before .before .before .before .before .before .before .before .before .before .before .before .before .before .wrapper-goes .ensures) ∙ c .before .before .before .before .before .before .before .before .before .before .before .before .before .before .before .before .if1 .left) (d .0) (d .1 .0) (d .1 .1 .0) (d .1 .1 .1 .0) (d .1 .1 .1 .1 .0) (c .before .before .before .before .before .before .before .before .before .before .make .result) (c .before .before .before .before .before .before .before .before .before .before .make .ensures)
+
+pub rebuild-spec : {M : Type 1} → statement M
+rebuild-spec = tie.close (tie.spec entry-requires names-left-requires wrapper-goes-requires array-read-body cast-body same-length same-length-2 returns make-requires same-length-3 same-length-4 same-length-5 same-length-6 same-length-7 returns-2)
