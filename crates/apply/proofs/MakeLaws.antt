@@ -14,6 +14,7 @@ use Rattle.record.specs.StoreLaws.{storeOf-length}
 use Rattle.record.specs.Entries.{store-ordered, sort-parts}
 use Rattle.store.specs.Contract.{InternAsks, InternedIs}
 use Rattle.store.specs.Entry.{TreeAsks, TreeHas}
+use Rattle.store.specs.Walk.{tree-asks}
 use Rattle.store.specs.declared.Interned.{Interned}
 use Rattle.store.specs.declared.Interned.the-variants.{Is, NoRoom}
 use Rattle.apply.specs.declared.lists.Numbers.{Numbers}
@@ -26,12 +27,13 @@ module _ (b p hs ns zs : List ℕ) (n u : ℕ) (f : Fields) (ps ms : Numbers) (a
   sort-is : sortOf (storeOf b p n) (fieldsAt r 0) ≡ sortOf (storeOf b p n) f
   sort-is = ap (sortOf (storeOf b p n)) (ap (λ (s : List ℕ). fieldsAt s 0) e ∙ fresh-fields f (a .shape))
 
-  pub make-tree : TreeAsks zs n r
-  make-tree = record { table = a .good .sized .table; count = a .good .indexed .count; fresh = rec-fresh }
+  pub make-tree : TreeAsks zs r
+  make-tree = tree-asks zs r n (a .good .sized .table) (a .good .indexed .count) rec-fresh
 
-  pub make-intern : (w : ℕ) → TreeHas zs n r w → InternAsks b p hs ns zs n u r w
+  pub make-intern : (w : ℕ) → TreeHas zs r w → InternAsks b p hs ns zs n u r w
   make-intern w h =
-      record { good = a .good; fresh = rec-fresh; weight = h b p (a .good .sized); small = omega (arith, h b p (a .good .sized), ap size sort-is, a .small) }
+      let e = h b p n (a .good .sized) (rec-fresh .below) in
+      record { good = a .good; fresh = rec-fresh; weight = e; small = omega (arith, e, ap size sort-is, a .small) }
 
   added-is : addOnce (storeOf b p n) (sortOf (storeOf b p n) (fieldsAt r 0)) ≡ intern (sortOf (storeOf b p n) f) (storeOf b p n)
   added-is =

@@ -134,7 +134,7 @@ pub fn make(
     let draft = draft_of(kind, name, number, parts, names);
     let len = draft.len;
     let bytes = draft.bytes;
-    let weight = tree_size(sizes, count, &bytes[..len]);
+    let weight = tree_size(sizes, &bytes[..len]);
     intern(
         records,
         places,
