@@ -158,7 +158,6 @@ pub record Clearing (m : ℕ) (imgs bnd : List ℕ) (i : ℕ) : Type 0 where
   pub names : length imgs ≡ 65536
   pub order : length bnd ≡ 4096
   pub few : m ≤ 4096
-  pub low : i ≤ m
   pub only : (v : ℕ) → 0 < getD imgs v 0 → (j : ℕ) × (i ≤ j) × (j < m) × (getD bnd j 0 ≡ v)
   pub done : (j : ℕ) → j < i → getD bnd j 0 ≡ 0
   pub rest : Zeros bnd m
@@ -169,7 +168,6 @@ clear-start imgs bnd m t =
       names = t .names;
       order = t .order;
       few = t .few;
-      low = omega arith;
       only = λ v h. let o = t .only v h in (o .0, omega arith, o .1, o .2);
       done = λ j l. absurd (not-suc-le-zero l);
       rest = t .rest;
@@ -182,7 +180,6 @@ clear-step m imgs bnd i c l small =
       names = length-set imgs (getD bnd i 0) 0 ∙ c .names;
       order = length-set bnd i 0 ∙ c .order;
       few = c .few;
-      low = omega arith;
       only = λ v h. byName v h (ℕ-discrete v (getD bnd i 0));
       done = λ j h. byPlace j h (ℕ-discrete j i);
       rest = λ j h. getD-set-other bnd i j 0 0 (λ e. omega arith) ∙ c .rest j h;

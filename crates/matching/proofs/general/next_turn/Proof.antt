@@ -1,4 +1,5 @@
 -- Equality by number, then the arms of match_with by the kind of the pattern.
+use mathlib.Core.Path.{_≡_}
 use native.Mathlib.Omega.{arith}
 use Rattle.matching.specs.Entered.{entry-asks, entry-name, entry-one, entry-refs}
 use Rattle.matching.proofs.TurnLaws.{turn-equal, turn-unlisted, turn-meets, turn-under}
@@ -17,7 +18,8 @@ returns c =
     let j = a .t in
     let asks = s .pre in
     let u = asks .pair .usable in
-    turn-equal b p n prm k j (asks .pair) (c .if1 .taken)
+    let same : k ≡ j = omega (arith, c .if1 .taken) in
+    turn-equal b p n prm k j (asks .pair) same
 
 entry-requires : tie.Need-entry-requires
 entry-requires c κs =
