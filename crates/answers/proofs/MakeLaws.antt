@@ -14,7 +14,7 @@ use Rattle.record.specs.SortLists.{Starts, starts-self, starts-intern, memb-at,
 use Rattle.record.specs.Entries.{store-ordered}
 use Rattle.store.specs.Good.{Good}
 use Rattle.store.specs.Entry.{TreeAsks, TreeHas}
-use Rattle.store.specs.Contract.{InternAsks, Holds, Untouched, UndoAsks, UndoIs}
+use Rattle.store.specs.Contract.{InternAsks, Holds, Untouched, UndoIs}
 use Rattle.store.specs.Walk.{tree-asks}
 use Rattle.store.specs.Grown.{holds-intern}
 use Rattle.rows.specs.declared.Cause.{Cause}
@@ -101,13 +101,10 @@ module _ (c q hc nc zc : List ℕ) (m v k n : ℕ) (asks : OverAsks c q hc nc zc
   left-back : (w : Cause) → x .verdict ≡ Refused w → Back c q hc nc zc m v d e hd nd zd x
   left-back w h = answer-back c q m (sort (set (sortAt c q m k))) d e hd nd zd x a hc nc zc v (asks .good) w h
 
-  pub undo-asks : (w : Cause) → x .verdict ≡ Refused w → UndoAsks d e hd nd zd m v n
-  undo-asks w h =
+  pub left-good : (w : Cause) → x .verdict ≡ Refused w → Good d e hd nd zd m v
+  left-good w h =
       let o = left-back w h in
-      record {
-        good = subst (λ (j : ℕ). Good d e hd nd zd m j) (o .used) (subst (λ (j : ℕ). Good d e hd nd zd j (x .used)) (o .count) (a .good));
-        order = asks .order;
-      }
+      subst (λ (j : ℕ). Good d e hd nd zd m j) (o .used) (subst (λ (j : ℕ). Good d e hd nd zd j (x .used)) (o .count) (a .good))
 
   module _ (b p hs ns zs : List ℕ) (u : ℕ) (from : MadeFrom b p hs ns zs n u c q m k) where
     from-starts : Starts (storeOf b p n) (storeOf c q m)
