@@ -1,6 +1,14 @@
 pub mod Text
 pub mod DecimalLaws
+pub mod Pieces
+pub mod PieceLaws
 pub mod Lines
+pub mod Wrote
+pub mod NameLaws
+pub mod Trees
+pub mod TreeLaws
+pub mod LineAsks
+pub mod LineLaws
 pub mod Printed
 pub mod Sheets
 pub mod Examples

@@ -1,0 +1,44 @@
+-- Yes and no have three and two bytes; another answer is a row.
+-- The laws of an answer say which.
+use native.Mathlib.Omega.{arith}
+use borrow.Author.Needs.{needs}
+use mathlib.Core.Path.{_≡_, refl, sym, ap, _∙_}
+use Prim.Native.Nat.{ℕ, _+_, _*_, _-_, _/_, _≤_, _<_}
+use lib.ListN.{length, getD, set}
+use Rattle.printout.specs.LineLaws.{answer-no, answer-yes, answer-row}
+use Rattle.printout.proofs.lines.answer_size.Statement.{statement}
+use Rattle.printout.proofs.lines.answer_size.Tie as tie
+
+row-size-requires : tie.Need-row-size-requires
+row-size-requires c κs =
+    let s = c .before .before .before in
+    let a = s .args in
+    s .pre (c .if1 .taken)
+
+returns : tie.Need-returns
+returns c =
+    let s = c .before .before .before .before in
+    let a = s .args in
+    let b = a .records .now in
+    let p = a .places .now in
+    let e = answer-row b p (a .kind) (a .code) (c .before .if1 .taken) in
+    (omega (arith, c .row-size .ensures .0, ap length e), c .row-size .ensures .1)
+
+returns-2 : tie.Need-returns-2
+returns-2 c =
+    let s = c .before .before .before .before in
+    let a = s .args in
+    let b = a .records .now in
+    let p = a .places .now in
+    (sym (ap length (answer-no b p (a .kind) (a .code) (c .before .if1 .left) (c .if2 .taken))), omega arith)
+
+returns-3 : tie.Need-returns-3
+returns-3 c =
+    let s = c .before .before .before .before in
+    let a = s .args in
+    let b = a .records .now in
+    let p = a .places .now in
+    (sym (ap length (answer-yes b p (a .kind) (a .code) (c .before .if1 .left) (c .if2 .left))), omega arith)
+
+pub answer-size-spec : {M : Type 1} → statement M
+answer-size-spec = tie.close (tie.spec row-size-requires returns returns-2 returns-3)

@@ -1,0 +1,56 @@
+-- A row is the text of its sort, or the number of its refusal behind a mark.
+-- Each is written by the function for it.
+use native.Mathlib.Omega.{arith}
+use borrow.Author.Needs.{needs}
+use mathlib.Core.Path.{_≡_, refl, sym, ap, _∙_}
+use Prim.Native.Nat.{ℕ, _+_, _*_, _-_, _/_, _≤_, _<_}
+use lib.ListN.{length, getD, set}
+use Rattle.printout.specs.LineLaws.{row-sort, row-refused}
+use Rattle.printout.specs.Wrote.{wrote-as, wrote-more, wrote-long, wrote-one, room-first, room-next, room-step}
+use Rattle.printout.proofs.lines.put_row.Statement.{statement}
+use Rattle.printout.proofs.lines.put_row.Tie as tie
+
+put-sort-requires : tie.Need-put-sort-requires
+put-sort-requires c κs =
+    let s = c .before .before .before .before .before in
+    let a = s .args in
+    let b = a .records .now in
+    let p = a .places .now in
+    let o = a .out .now in
+    (s .pre .0 (c .before .if1 .taken), omega (arith, s .pre .1, ap length (row-sort b p (a .code) (c .before .if1 .taken))))
+
+same-length : tie.Need-same-length
+same-length c = search needs
+
+returns : tie.Need-returns
+returns c =
+    let s = c .before .before .before .before .before .before .before .before in
+    let a = s .args in
+    let b = a .records .now in
+    let p = a .places .now in
+    let o = a .out .now in
+    wrote-as (sym (row-sort b p (a .code) (c .before .before .before .before .if1 .taken))) (c .before .before .put-sort .ensures)
+
+put-refusal-requires : tie.Need-put-refusal-requires
+put-refusal-requires c κs =
+    let s = c .before .before .before .before .before in
+    let a = s .args in
+    let b = a .records .now in
+    let p = a .places .now in
+    let o = a .out .now in
+    omega (arith, s .pre .1, ap length (row-refused b p (a .code) (c .before .if1 .left)))
+
+same-length-2 : tie.Need-same-length-2
+same-length-2 c = search needs
+
+returns-2 : tie.Need-returns-2
+returns-2 c =
+    let s = c .before .before .before .before .before .before .before .before in
+    let a = s .args in
+    let b = a .records .now in
+    let p = a .places .now in
+    let o = a .out .now in
+    wrote-as (sym (row-refused b p (a .code) (c .before .before .before .before .if1 .left))) (c .before .before .put-refusal .ensures)
+
+pub put-row-spec : {M : Type 1} → statement M
+put-row-spec = tie.close (tie.spec put-sort-requires same-length returns put-refusal-requires same-length-2 returns-2)

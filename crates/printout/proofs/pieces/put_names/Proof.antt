@@ -1,0 +1,102 @@
+-- The names are written, each behind a blank.
+-- The loop keeps: what is left to write gives the whole.
+use native.Mathlib.Omega.{arith}
+use borrow.Author.Needs.{needs}
+use mathlib.Core.Path.{_≡_, refl, sym, ap, _∙_}
+use Prim.Native.Nat.{ℕ, _+_, _*_, _-_, _/_, _≤_, _<_}
+use lib.ListN.{length, getD, set}
+use mathlib.Core.List.{List, [], _∷_, _++_}
+use Rattle.record.specs.Number.{u16At, numbersAt}
+use Rattle.printout.specs.NameLaws.{PutInv, put-left, put-room, names-end}
+use Rattle.printout.specs.Text.{ascii, nameText, moreNames}
+use Rattle.printout.specs.Wrote.{wrote-as, wrote-more, wrote-long, Left, left-start, left-step, left-done}
+use Rattle.printout.proofs.pieces.put_names.Statement.{statement}
+use Rattle.printout.proofs.pieces.put_names.Tie as tie
+
+abbrev Inv-loop : tie.InvT-loop
+Inv-loop records at count out₀ to end₀ next₀ left₀ blank out end next left = PutInv records at count out₀ to out end next left
+
+abbrev μ-loop : tie.MeasureT-loop
+μ-loop records at count out₀ to end₀ next₀ left₀ blank out end next left = left
+
+loop-holds : tie.Need-loop-holds Inv-loop μ-loop
+loop-holds c =
+    let s = c .before .before in
+    let a = s .args in
+    let b = a .records .now in
+    let o = a .out .now in
+    record { within = s .pre .0; rest = left-start o (a .to) (moreNames (numbersAt b (a .at) (a .count))) (s .pre .1) }
+
+u16-at-requires : tie.Need-u16-at-requires Inv-loop μ-loop
+u16-at-requires c κs =
+    let s = c .before .before .before .before in
+    let a = s .args in
+    let b = a .records .now in
+    let l = c .before .loop in
+    omega (arith, l .inv .within, c .loop-test .taken)
+
+slice-aggregate-put : tie.Need-slice-aggregate-put Inv-loop μ-loop
+slice-aggregate-put c = search needs
+
+put-requires : tie.Need-put-requires Inv-loop μ-loop
+put-requires c κs =
+    let s = c .before .before .before .before .before .before .before in
+    let a = s .args in
+    let b = a .records .now in
+    let l = c .before .before .before .before .loop in
+    omega (arith, put-room b (a .at) (a .count) (a .out .now) (a .to) (l .out) (l .end) (l .next) (l .left) (l .inv) (c .before .before .before .loop-test .taken))
+
+put-name-requires : tie.Need-put-name-requires Inv-loop μ-loop
+put-name-requires c κs =
+    let s = c .before .before .before .before .before .before .before .before .before .before .before in
+    let a = s .args in
+    let b = a .records .now in
+    let l = c .before .before .before .before .before .before .before .before .loop in
+    let e = ap (λ (k : ℕ). length (nameText k)) (c .before .before .before .before .before .before .u16-at .ensures .0) in
+    omega (arith, e, put-room b (a .at) (a .count) (a .out .now) (a .to) (l .out) (l .end) (l .next) (l .left) (l .inv) (c .before .before .before .before .before .before .before .loop-test .taken), c .before .before .before .put .ensures .next, wrote-long (c .before .before .before .put .ensures))
+
+add-next : tie.Need-add-next Inv-loop μ-loop
+add-next c =
+    let s = c .before .before .before .before .before .before .before .before .before .before .before .before .before .before in
+    let a = s .args in
+    let b = a .records .now in
+    let l = c .before .before .before .before .before .before .before .before .before .before .before .loop in
+    omega (arith, l .inv .within, c .before .before .before .before .before .before .before .before .before .before .loop-test .taken)
+
+sub-left : tie.Need-sub-left Inv-loop μ-loop
+sub-left c = omega (arith, c .before .before .before .before .before .before .before .before .before .before .loop-test .taken)
+
+loop-less : tie.Need-loop-less Inv-loop μ-loop
+loop-less c = omega (arith, c .before .before .before .before .before .before .before .before .before .before .loop-test .taken)
+
+loop-again : tie.Need-loop-again Inv-loop μ-loop
+loop-again c =
+    let s = c .before .before .before .before .before .before .before .before .before .before .before .before .before .before in
+    let a = s .args in
+    let b = a .records .now in
+    let l = c .before .before .before .before .before .before .before .before .before .before .before .loop in
+    let w = wrote-as (ap (λ (k : ℕ). ascii " " ++ nameText k) (c .before .before .before .before .before .before .before .before .before .u16-at .ensures .0)) (wrote-more (c .before .before .before .before .before .before .put .ensures) (c .before .before .put-name .ensures)) in
+    record {
+      within = omega (arith, l .inv .within, c .before .before .before .before .before .before .before .before .before .before .loop-test .taken);
+      rest = left-step (moreNames (numbersAt b (l .next + 2) (l .left - 1))) (put-left b (a .at) (a .count) (a .out .now) (a .to) (l .out) (l .end) (l .next) (l .left) (l .inv) (c .before .before .before .before .before .before .before .before .before .before .loop-test .taken)) w;
+    }
+
+same-length : tie.Need-same-length Inv-loop μ-loop
+same-length c =
+    let s = c .before .before .before .before in
+    let a = s .args in
+    let b = a .records .now in
+    let l = c .before .loop in
+    l .inv .rest .long
+
+returns : tie.Need-returns Inv-loop μ-loop
+returns c =
+    let s = c .before .before .before .before in
+    let a = s .args in
+    let b = a .records .now in
+    let l = c .before .loop in
+    let e = names-end b (l .next) (l .left) (omega (arith, c .loop-test .left)) in
+    left-done (rw e at (l .inv .rest))
+
+pub put-names-spec : {M : Type 1} → statement M
+put-names-spec = tie.close (tie.spec Inv-loop μ-loop loop-holds u16-at-requires slice-aggregate-put put-requires put-name-requires add-next sub-left loop-less loop-again same-length returns)

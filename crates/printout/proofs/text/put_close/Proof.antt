@@ -1,0 +1,56 @@
+-- The bracket of the table is written, where there is one.
+-- 0 in the table stands for none.
+use native.Mathlib.Omega.{arith}
+use borrow.Author.Needs.{needs}
+use mathlib.Core.Path.{_≡_, refl, sym, ap, _∙_}
+use lib.ListN.{length, getD, set}
+use Rattle.printout.specs.Pieces.{closes}
+use Rattle.printout.specs.PieceLaws.{close-none, close-one}
+use Rattle.printout.specs.Wrote.{wrote-as, wrote-none, wrote-one}
+use Rattle.printout.proofs.text.put_close.Statement.{statement}
+use Rattle.printout.proofs.text.put_close.Tie as tie
+
+array-read-bracket : tie.Need-array-read-bracket
+array-read-bracket c =
+    let s = c in
+    let a = s .args in
+    s .pre .0
+
+returns : tie.Need-returns
+unfolding closes
+returns c =
+    let s = c .before in
+    let a = s .args in
+    let o = a .out .now in
+    wrote-as (sym (close-none (a .form) (c .if1 .taken))) (wrote-none o (a .to) (omega (arith, s .pre .1)))
+
+slice-write-out : tie.Need-slice-write-out
+unfolding closes
+slice-write-out c =
+    let s = c .before in
+    let a = s .args in
+    let o = a .out .now in
+    omega (arith, s .pre .1, ap length (close-one (a .form) (c .if1 .left)))
+
+add-result : tie.Need-add-result
+unfolding closes
+add-result c =
+    let s = c .before in
+    let a = s .args in
+    let o = a .out .now in
+    omega (arith, s .pre .1, ap length (close-one (a .form) (c .if1 .left)))
+
+same-length : tie.Need-same-length
+same-length c = search needs
+
+returns-2 : tie.Need-returns-2
+unfolding closes
+returns-2 c =
+    let s = c .before in
+    let a = s .args in
+    let o = a .out .now in
+    let e = close-one (a .form) (c .if1 .left) in
+    wrote-as (sym e) (wrote-one o (a .to) (getD closes (a .form) 0) (omega (arith, s .pre .1, ap length e)))
+
+pub put-close-spec : {M : Type 1} → statement M
+put-close-spec = tie.close (tie.spec array-read-bracket returns slice-write-out add-result same-length returns-2)

@@ -1,0 +1,129 @@
+-- Rows, answers and lines: what each is by its code, over any store that has the sort, and how long it is.
+use Prim.Native.Nat.{ℕ, suc, _+_, _*_, _/_, _≤_, _<_}
+use mathlib.Core.Path.{_≡_, refl, sym, ap, ap₂, _∙_}
+use mathlib.Core.Bool.{Bool, true, false, cond}
+use mathlib.Core.List.{List, [], _∷_, _++_, append-assoc}
+use native.Mathlib.Omega.{arith}
+use lib.ListN.{length, getD, length-append}
+use lib.Dec.{eqb, ltb}
+use borrow.Author.Tests.{lt-ltb, le-ltb, eq-eqb, ne-eqb, ltb-true, ltb-false, eqb-true, eqb-false}
+use Rattle.record.specs.Sort.{Sort}
+use Rattle.record.specs.Record.{leaf}
+use Rattle.record.specs.Decode.{storeOf, sortAt}
+use Rattle.printout.specs.Text.{ascii, decimal, text}
+use Rattle.printout.specs.Lines.{refusalText, refusalLine, rowText, answerText, termLine, questionLine}
+use Rattle.printout.specs.Trees.{treeAt, rowAt, answerAt}
+use Rattle.printout.specs.TreeLaws.{tree-at}
+use Rattle.printout.specs.LineAsks.{Known, labelText, termAt, questionAt}
+
+pub refusal-length : (n : ℕ) → length (refusalText n) ≡ 1 + length (decimal n)
+unfolding refusalText
+refusal-length n = omega arith
+
+pub row-sort : (b p : List ℕ) (code : ℕ) → code < 65536 → rowAt b p code ≡ text (treeAt b p code)
+unfolding rowText treeAt sortAt
+row-sort b p code h = rw (lt-ltb code 65536 h)
+
+pub row-refused : (b p : List ℕ) (code : ℕ) → 65536 ≤ code → rowAt b p code ≡ refusalText (code / 65536)
+unfolding rowText
+row-refused b p code h = rw (le-ltb code 65536 h)
+
+sort-by : (b p : List ℕ) (n code : ℕ) → code < 65536 → code < n → rowText (storeOf b p n) code ≡ text (treeAt b p code)
+unfolding rowText sortAt
+sort-by b p n code h l = rw (lt-ltb code 65536 h) (ap text (sym (tree-at b p code n l)))
+
+refused-by : (st : List Sort) (code : ℕ) → 65536 ≤ code → rowText st code ≡ refusalText (code / 65536)
+unfolding rowText
+refused-by st code h = rw (le-ltb code 65536 h)
+
+-- A ROW over any store that has its sort.
+pub row-at : (b p : List ℕ) (n code : ℕ) → Known n code → rowAt b p code ≡ rowText (storeOf b p n) code
+row-at b p n code k = go (ltb code 65536) refl
+  where
+    go : (t : Bool) → ltb code 65536 ≡ t → rowAt b p code ≡ rowText (storeOf b p n) code
+    go true e =
+        let h = ltb-true code 65536 e in
+        row-sort b p code h ∙ sym (sort-by b p n code h (k h))
+    go false e =
+        let h = ltb-false code 65536 e in
+        row-refused b p code h ∙ sym (refused-by (storeOf b p n) code h)
+
+pub answer-no : (b p : List ℕ) (kind code : ℕ) → kind ≡ 0 → code ≡ 0 → answerAt b p kind code ≡ ascii "no"
+unfolding answerText
+answer-no b p kind code e q = rw (eq-eqb kind 0 e, eq-eqb code 0 q)
+
+pub answer-yes : (b p : List ℕ) (kind code : ℕ) → kind ≡ 0 → (code ≡ 0 → ⊥) → answerAt b p kind code ≡ ascii "yes"
+unfolding answerText
+answer-yes b p kind code e q = rw (eq-eqb kind 0 e, ne-eqb code 0 q)
+
+row-by : (st : List Sort) (kind code : ℕ) → (kind ≡ 0 → ⊥) → answerText st kind code ≡ rowText st code
+unfolding answerText
+row-by st kind code h = rw (ne-eqb kind 0 h)
+
+pub answer-row : (b p : List ℕ) (kind code : ℕ) → (kind ≡ 0 → ⊥) → answerAt b p kind code ≡ rowAt b p code
+answer-row b p kind code h = row-by (storeOf b p (suc code)) kind code h
+
+plain-by : (st ts : List Sort) (kind code : ℕ) → kind ≡ 0 → answerText st kind code ≡ answerText ts kind code
+unfolding answerText
+plain-by st ts kind code e = rw (eq-eqb kind 0 e)
+
+-- AN ANSWER over any store that has its sort.
+pub answer-at : (b p : List ℕ) (n kind code : ℕ) → ((kind ≡ 0 → ⊥) → Known n code) → answerAt b p kind code ≡ answerText (storeOf b p n) kind code
+answer-at b p n kind code k = go (eqb kind 0) refl
+  where
+    go : (t : Bool) → eqb kind 0 ≡ t → answerAt b p kind code ≡ answerText (storeOf b p n) kind code
+    go true e = plain-by (storeOf b p (suc code)) (storeOf b p n) kind code (eqb-true kind 0 e)
+    go false e =
+        let h = eqb-false kind 0 e in
+        answer-row b p kind code h ∙ row-at b p n code (k h) ∙ sym (row-by (storeOf b p n) kind code h)
+
+pub label-length : (mark v : ℕ) → length (labelText mark v) ≡ 2 + length (decimal v)
+unfolding labelText
+label-length mark v = omega (arith, length-append (mark ∷ decimal v) (ascii " "))
+
+-- THE LINE OF A TERM.
+pub term-at : (b p : List ℕ) (n t i c : ℕ) → Known n i → Known n c → termAt b p t i c ≡ termLine (storeOf b p n) t i c
+unfolding termAt labelText termLine
+term-at b p n t i c ki kc =
+    let rest = rowAt b p i ++ (ascii " " ++ (rowAt b p c ++ ascii "\n")) in
+    append-assoc (84 ∷ decimal t) (ascii " ") rest
+    ∙ ap₂ (λ (x y : List ℕ). ascii "T" ++ (decimal t ++ (ascii " " ++ (x ++ (ascii " " ++ (y ++ ascii "\n"))))))
+    (row-at b p n i ki) (row-at b p n c kc)
+
+pub term-length : (b p : List ℕ) (t i c : ℕ) → length (termAt b p t i c) ≡ 4 + length (decimal t) + length (rowAt b p i) + length (rowAt b p c)
+unfolding termAt
+term-length b p t i c =
+    let last = rowAt b p c ++ ascii "\n" in
+    omega (
+      arith,
+      label-length 84 t,
+      length-append (labelText 84 t) (rowAt b p i ++ (ascii " " ++ last)),
+      length-append (rowAt b p i) (ascii " " ++ last),
+      length-append (rowAt b p c) (ascii "\n"),
+    )
+
+-- THE LINE OF A QUESTION.
+pub question-at : (b p : List ℕ) (n q kind code : ℕ) → ((kind ≡ 0 → ⊥) → Known n code) → questionAt b p q kind code ≡ questionLine (storeOf b p n) q kind code
+unfolding questionAt labelText questionLine
+question-at b p n q kind code k =
+    append-assoc (81 ∷ decimal q) (ascii " ") (answerAt b p kind code ++ ascii "\n")
+    ∙ ap (λ (x : List ℕ). ascii "Q" ++ (decimal q ++ (ascii " " ++ (x ++ ascii "\n")))) (answer-at b p n kind code k)
+
+pub question-length : (b p : List ℕ) (q kind code : ℕ) → length (questionAt b p q kind code) ≡ 3 + length (decimal q) + length (answerAt b p kind code)
+unfolding questionAt
+question-length b p q kind code =
+    omega (
+      arith,
+      label-length 81 q,
+      length-append (labelText 81 q) (answerAt b p kind code ++ ascii "\n"),
+      length-append (answerAt b p kind code) (ascii "\n"),
+    )
+
+-- THE LINE OF A REFUSED SHEET.
+pub refusal-line : (n : ℕ) → refusalText n ++ ascii "\n" ≡ refusalLine n
+unfolding refusalLine
+refusal-line n = refl
+
+pub refusal-line-length : (n : ℕ) → length (refusalLine n) ≡ 2 + length (decimal n)
+unfolding refusalLine
+refusal-line-length n = omega (arith, length-append (refusalText n) (ascii "\n"), refusal-length n)

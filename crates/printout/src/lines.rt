@@ -1,0 +1,187 @@
+// The rows and answers as text, and the lines `Tk inferred checked`, `Qk answer` and `!n`.
+use super::Shown;
+use super::pieces::digits;
+use super::pieces::put;
+use super::pieces::put_decimal;
+use super::text::put_sort;
+use super::text::text_size;
+ghost use mathlib.Core.Path.{_≡_};
+ghost use Prim.Native.Nat.{_+_, _≤_, _<_};
+ghost use lib.ListN.{length};
+ghost use Rattle.printout.specs.Lines.{refusalText, refusalLine};
+ghost use Rattle.printout.specs.Wrote.{Wrote, ShownIs};
+ghost use Rattle.printout.specs.Trees.{rowAt, answerAt};
+ghost use Rattle.printout.specs.LineAsks.{RowAsks, AnswerAsks, RowHas, AnswerHas, TermHas, QuestionHas, TermAsks, QuestionAsks, labelText};
+
+// Writes `!` and the number of a refusal at `to`.
+pub fn put_refusal(out: &mut [u8], to: usize, number: usize) -> usize
+    requires { ⌜ to + length (refusalText number) ≤ length (now out) ⌝ }
+    ensures { λ r. ⌜ Wrote (now (out .entry)) to (refusalText number) (now (out .exit)) r ⌝ }
+{
+    let next = put(out, to, b"!");
+    put_decimal(out, next, number)
+}
+
+// The length of the text of a row.
+pub fn row_size(records: &[u8], places: &[u32], code: u32) -> usize
+    requires { ⌜ RowAsks (now records) (now places) code ⌝ }
+    ensures { λ r. ⌜ (r ≡ length (rowAt (now (records .entry)) (now (places .entry)) code)) × (r ≤ 1867776) ⌝ }
+{
+    let v = code as usize;
+    if v < 65536 {
+        return text_size(records, places, v);
+    }
+    1 + digits(v / 65536)
+}
+
+// Writes the text of a row at `to`: its sort, or `!` and the number of its refusal.
+pub fn put_row(records: &[u8], places: &[u32], code: u32, out: &mut [u8], to: usize) -> usize
+    requires { ⌜ RowAsks (now records) (now places) code × (to + length (rowAt (now records) (now places) code) ≤ length (now out)) ⌝ }
+    ensures { λ r. ⌜ Wrote (now (out .entry)) to (rowAt (now (records .entry)) (now (places .entry)) code) (now (out .exit)) r ⌝ }
+{
+    let v = code as usize;
+    if v < 65536 {
+        return put_sort(records, places, v, out, to);
+    }
+    put_refusal(out, to, v / 65536)
+}
+
+// Writes the text of a row at `to`; or Full, where it does not fit.
+pub fn show_row(records: &[u8], places: &[u32], code: u32, out: &mut [u8], to: usize) -> Shown
+    requires { ⌜ RowAsks (now records) (now places) code × (to ≤ length (now out)) ⌝ }
+    ensures { λ r. ⌜ RowHas (now (records .entry)) (now (places .entry)) code (now (out .entry)) to (now (out .exit)) r ⌝ }
+{
+    let size = row_size(records, places, code);
+    if out.len() - to < size {
+        return Shown::Full;
+    }
+    let end = put_row(records, places, code, out, to);
+    Shown::To(end)
+}
+
+// The length of the text of an answer to a question of this kind.
+pub fn answer_size(records: &[u8], places: &[u32], kind: usize, code: u32) -> usize
+    requires { ⌜ AnswerAsks (now records) (now places) kind code ⌝ }
+    ensures { λ r. ⌜ (r ≡ length (answerAt (now (records .entry)) (now (places .entry)) kind code)) × (r ≤ 1867776) ⌝ }
+{
+    if kind != 0 {
+        return row_size(records, places, code);
+    }
+    if code == 0 {
+        return 2;
+    }
+    3
+}
+
+// Writes the text of an answer to a question of this kind at `to`: no or yes for 0, else as a row.
+pub fn put_answer(
+    records: &[u8],
+    places: &[u32],
+    kind: usize,
+    code: u32,
+    out: &mut [u8],
+    to: usize,
+) -> usize
+    requires { ⌜ AnswerAsks (now records) (now places) kind code × (to + length (answerAt (now records) (now places) kind code) ≤ length (now out)) ⌝ }
+    ensures { λ r. ⌜ Wrote (now (out .entry)) to (answerAt (now (records .entry)) (now (places .entry)) kind code) (now (out .exit)) r ⌝ }
+{
+    if kind != 0 {
+        return put_row(records, places, code, out, to);
+    }
+    if code == 0 {
+        return put(out, to, b"no");
+    }
+    put(out, to, b"yes")
+}
+
+// Writes the text of an answer at `to`; or Full, where it does not fit.
+pub fn show_answer(
+    records: &[u8],
+    places: &[u32],
+    kind: usize,
+    code: u32,
+    out: &mut [u8],
+    to: usize,
+) -> Shown
+    requires { ⌜ AnswerAsks (now records) (now places) kind code × (to ≤ length (now out)) ⌝ }
+    ensures { λ r. ⌜ AnswerHas (now (records .entry)) (now (places .entry)) kind code (now (out .entry)) to (now (out .exit)) r ⌝ }
+{
+    let size = answer_size(records, places, kind, code);
+    if out.len() - to < size {
+        return Shown::Full;
+    }
+    let end = put_answer(records, places, kind, code, out, to);
+    Shown::To(end)
+}
+
+// Writes a mark, a number and a blank at `to`, as `T0 `.
+pub fn put_label(mark: u8, v: usize, out: &mut [u8], to: usize) -> usize
+    requires { ⌜ to + length (labelText mark v) ≤ length (now out) ⌝ }
+    ensures { λ r. ⌜ Wrote (now (out .entry)) to (labelText mark v) (now (out .exit)) r ⌝ }
+{
+    out[to] = mark;
+    let next = put_decimal(out, to + 1, v);
+    put(out, next, b" ")
+}
+
+// Writes the line of the term `t` with its two rows at `to`; or Full, where it does not fit.
+pub fn term_line(
+    records: &[u8],
+    places: &[u32],
+    t: usize,
+    inferred: u32,
+    checked: u32,
+    out: &mut [u8],
+    to: usize,
+) -> Shown
+    requires { ⌜ TermAsks (now records) (now places) t inferred checked (now out) to ⌝ }
+    ensures { λ r. ⌜ TermHas (now (records .entry)) (now (places .entry)) t inferred checked (now (out .entry)) to (now (out .exit)) r ⌝ }
+{
+    let one = row_size(records, places, inferred);
+    let two = row_size(records, places, checked);
+    if out.len() - to < 4 + digits(t) + one + two {
+        return Shown::Full;
+    }
+    let first = put_label(84, t, out, to);
+    let second = put_row(records, places, inferred, out, first);
+    let third = put(out, second, b" ");
+    let fourth = put_row(records, places, checked, out, third);
+    let end = put(out, fourth, b"\n");
+    Shown::To(end)
+}
+
+// Writes the line of the question `q` of this kind with its answer at `to`; or Full, where it does not fit.
+pub fn question_line(
+    records: &[u8],
+    places: &[u32],
+    q: usize,
+    kind: usize,
+    code: u32,
+    out: &mut [u8],
+    to: usize,
+) -> Shown
+    requires { ⌜ QuestionAsks (now records) (now places) q kind code (now out) to ⌝ }
+    ensures { λ r. ⌜ QuestionHas (now (records .entry)) (now (places .entry)) q kind code (now (out .entry)) to (now (out .exit)) r ⌝ }
+{
+    let size = answer_size(records, places, kind, code);
+    if out.len() - to < 3 + digits(q) + size {
+        return Shown::Full;
+    }
+    let first = put_label(81, q, out, to);
+    let second = put_answer(records, places, kind, code, out, first);
+    let end = put(out, second, b"\n");
+    Shown::To(end)
+}
+
+// Writes the line of a refused sheet at `to`; or Full, where it does not fit.
+pub fn refusal_line(number: usize, out: &mut [u8], to: usize) -> Shown
+    requires { ⌜ (number < 100000) × (to ≤ length (now out)) ⌝ }
+    ensures { λ r. ⌜ ShownIs (now (out .entry)) to (refusalLine number) (now (out .exit)) r ⌝ }
+{
+    if out.len() - to < 2 + digits(number) {
+        return Shown::Full;
+    }
+    let next = put_refusal(out, to, number);
+    let end = put(out, next, b"\n");
+    Shown::To(end)
+}

@@ -1,0 +1,203 @@
+// The text of a sort: a word, then a name, a number or names, then its parts, each behind a blank, then a bracket.
+use super::Shown;
+use super::pieces::digits;
+use super::pieces::name_size;
+use super::pieces::names_size;
+use super::pieces::put;
+use super::pieces::put_decimal;
+use super::pieces::put_name;
+use super::pieces::put_names;
+use record::SortRecord;
+use record::u16_at;
+use store::entries::entry;
+ghost use mathlib.Core.Path.{_≡_};
+ghost use Prim.Native.Nat.{_+_, _*_, _≤_, _<_};
+ghost use lib.ListN.{length, getD};
+ghost use Rattle.record.specs.Number.{numbersAt};
+ghost use Rattle.record.specs.Sort.{size, sizes};
+ghost use mathlib.Core.List.{_++_};
+ghost use Rattle.printout.specs.Text.{ascii, namesText, text, texts};
+ghost use Rattle.printout.specs.Pieces.{formOf, wordText, closeText, frames};
+ghost use Rattle.printout.specs.Wrote.{Wrote, ShownIs};
+ghost use Rattle.printout.specs.Trees.{treeAt, treesAt, innerOf, InnerAsks, InnerIs, TextAsks, TextsAsk, TextIs, TextsAre};
+
+// How many bytes the word and the bracket of each form have together.
+const FRAMES: [usize; 17] = [4, 2, 1, 4, 3, 4, 6, 6, 7, 11, 12, 2, 7, 4, 5, 7, 0];
+
+// The bracket that closes each form, 0 for none.
+const CLOSES: [u8; 17] = [41, 41, 0, 0, 0, 0, 0, 0, 41, 41, 0, 93, 41, 0, 41, 41, 0];
+
+// What stands between the word and the parts of each form: 0 nothing, 1 its name, 2 its number, 3 its names and a bracket.
+const INNERS: [u8; 17] = [0, 1, 1, 0, 0, 0, 0, 0, 0, 2, 0, 1, 3, 0, 0, 0, 1];
+
+// The form of a sort's text: its kind, or 16 for an Atom without parts, which has no brackets.
+pub fn form_of(kind: usize, parts: usize) -> usize
+    ensures { λ r. ⌜ r ≡ formOf kind parts ⌝ }
+{
+    if kind == 1 {
+        if parts == 0 {
+            return 16;
+        }
+    }
+    kind
+}
+
+// The length of the word and the bracket of a form.
+pub fn frame_size(form: usize) -> usize
+    requires { ⌜ form < 17 ⌝ }
+    ensures { λ r. ⌜ r ≡ getD frames form 0 ⌝ }
+{
+    FRAMES[form]
+}
+
+// The length of what stands between the word and the parts.
+pub fn inner_size(records: &[u8], form: usize, a: SortRecord) -> usize
+    requires { ⌜ InnerAsks (now records) form a ⌝ }
+    ensures { λ r. ⌜ InnerIs (now (records .entry)) form a r ⌝ }
+{
+    let inner = INNERS[form];
+    match inner {
+        1 => name_size(a.name),
+        2 => digits(a.number),
+        3 => names_size(records, a.names, a.named),
+        _ => 0,
+    }
+}
+
+// The length of the text of the sort `k`.
+pub fn text_size(records: &[u8], places: &[u32], k: usize) -> usize
+    requires { ⌜ TextAsks (now records) (now places) k ⌝ }
+    ensures { λ r. ⌜ TextIs (text (treeAt (now (records .entry)) (now (places .entry)) k)) (size (treeAt (now (records .entry)) (now (places .entry)) k)) r ⌝ }
+{
+    let a = entry(records, places, k);
+    let form = form_of(a.kind, a.count);
+    let frame = frame_size(form);
+    let inner = inner_size(records, form, a);
+    let parts = texts_size(records, places, a.list, a.count);
+    frame + inner + parts
+}
+
+// The length of the text of the `left` sorts whose numbers stand from `at` on, each behind a blank.
+pub fn texts_size(records: &[u8], places: &[u32], at: usize, left: usize) -> usize
+    requires { ⌜ TextsAsk (now records) (now places) at left ⌝ }
+    ensures { λ r. ⌜ TextsAre (texts (treesAt (now (records .entry)) (now (places .entry)) (numbersAt (now (records .entry)) at left))) (sizes (treesAt (now (records .entry)) (now (places .entry)) (numbersAt (now (records .entry)) at left))) r ⌝ }
+{
+    if left == 0 {
+        return 0;
+    }
+    let k = u16_at(records, at);
+    let first = text_size(records, places, k);
+    let rest = texts_size(records, places, at + 2, left - 1);
+    1 + first + rest
+}
+
+// Writes the word of a form at `to`.
+pub fn put_word(form: usize, out: &mut [u8], to: usize) -> usize
+    requires { ⌜ (form < 17) × (to + length (wordText form) ≤ length (now out)) ⌝ }
+    ensures { λ r. ⌜ Wrote (now (out .entry)) to (wordText form) (now (out .exit)) r ⌝ }
+{
+    match form {
+        0 => put(out, to, b"(->"),
+        1 => put(out, to, b"("),
+        2 => put(out, to, b"'"),
+        3 => put(out, to, b"Bool"),
+        4 => put(out, to, b"Int"),
+        5 => put(out, to, b"Real"),
+        6 => put(out, to, b"String"),
+        7 => put(out, to, b"RegLan"),
+        8 => put(out, to, b"(Array"),
+        9 => put(out, to, b"(_ BitVec "),
+        10 => put(out, to, b"(_ BitVec ?)"),
+        11 => put(out, to, b"["),
+        12 => put(out, to, b"(par ("),
+        13 => put(out, to, b"Type"),
+        14 => put(out, to, b"(Set"),
+        15 => put(out, to, b"(Tuple"),
+        _ => to,
+    }
+}
+
+// Writes names at `to`, at least one, with one blank between two, and a bracket.
+pub fn put_own(records: &[u8], names: usize, named: usize, out: &mut [u8], to: usize) -> usize
+    requires { ⌜ (1 ≤ named) × (names + 2 * named ≤ length (now records)) × (to + length (namesText (numbersAt (now records) names named) ++ ascii ")") ≤ length (now out)) ⌝ }
+    ensures { λ r. ⌜ Wrote (now (out .entry)) to (namesText (numbersAt (now (records .entry)) names named) ++ ascii ")") (now (out .exit)) r ⌝ }
+{
+    let name = u16_at(records, names);
+    let first = put_name(out, to, name);
+    let last = put_names(records, names + 2, named - 1, out, first);
+    put(out, last, b")")
+}
+
+// Writes what stands between the word and the parts at `to`.
+pub fn put_inner(records: &[u8], form: usize, a: SortRecord, out: &mut [u8], to: usize) -> usize
+    requires { ⌜ InnerAsks (now records) form a × (to + length (innerOf (now records) form a) ≤ length (now out)) ⌝ }
+    ensures { λ r. ⌜ Wrote (now (out .entry)) to (innerOf (now (records .entry)) form a) (now (out .exit)) r ⌝ }
+{
+    let inner = INNERS[form];
+    match inner {
+        1 => put_name(out, to, a.name),
+        2 => put_decimal(out, to, a.number),
+        3 => put_own(records, a.names, a.named, out, to),
+        _ => to,
+    }
+}
+
+// Writes the bracket of a form at `to`.
+pub fn put_close(form: usize, out: &mut [u8], to: usize) -> usize
+    requires { ⌜ (form < 17) × (to + length (closeText form) ≤ length (now out)) ⌝ }
+    ensures { λ r. ⌜ Wrote (now (out .entry)) to (closeText form) (now (out .exit)) r ⌝ }
+{
+    let bracket = CLOSES[form];
+    if bracket == 0 {
+        return to;
+    }
+    out[to] = bracket;
+    to + 1
+}
+
+// Writes the text of the sort `k` at `to`.
+pub fn put_sort(records: &[u8], places: &[u32], k: usize, out: &mut [u8], to: usize) -> usize
+    requires { ⌜ TextAsks (now records) (now places) k × (to + length (text (treeAt (now records) (now places) k)) ≤ length (now out)) ⌝ }
+    ensures { λ r. ⌜ Wrote (now (out .entry)) to (text (treeAt (now (records .entry)) (now (places .entry)) k)) (now (out .exit)) r ⌝ }
+{
+    let a = entry(records, places, k);
+    let form = form_of(a.kind, a.count);
+    let first = put_word(form, out, to);
+    let second = put_inner(records, form, a, out, first);
+    let third = put_list(records, places, a.list, a.count, out, second);
+    put_close(form, out, third)
+}
+
+// Writes the text of the `left` sorts whose numbers stand from `at` on at `to`, each behind a blank.
+pub fn put_list(
+    records: &[u8],
+    places: &[u32],
+    at: usize,
+    left: usize,
+    out: &mut [u8],
+    to: usize,
+) -> usize
+    requires { ⌜ TextsAsk (now records) (now places) at left × (to + length (texts (treesAt (now records) (now places) (numbersAt (now records) at left))) ≤ length (now out)) ⌝ }
+    ensures { λ r. ⌜ Wrote (now (out .entry)) to (texts (treesAt (now (records .entry)) (now (places .entry)) (numbersAt (now (records .entry)) at left))) (now (out .exit)) r ⌝ }
+{
+    if left == 0 {
+        return to;
+    }
+    let k = u16_at(records, at);
+    let first = put(out, to, b" ");
+    let next = put_sort(records, places, k, out, first);
+    put_list(records, places, at + 2, left - 1, out, next)
+}
+
+// Writes the text of the sort `k` at `to`; or Full, where it does not fit.
+pub fn show_sort(records: &[u8], places: &[u32], k: usize, out: &mut [u8], to: usize) -> Shown
+    requires { ⌜ TextAsks (now records) (now places) k × (to ≤ length (now out)) ⌝ }
+    ensures { λ r. ⌜ ShownIs (now (out .entry)) to (text (treeAt (now (records .entry)) (now (places .entry)) k)) (now (out .exit)) r ⌝ }
+{
+    let size = text_size(records, places, k);
+    if out.len() - to < size {
+        return Shown::Full;
+    }
+    let end = put_sort(records, places, k, out, to);
+    Shown::To(end)
+}
