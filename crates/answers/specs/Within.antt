@@ -9,6 +9,7 @@ use native.Mathlib.Nat.{not-suc-le-zero}
 use lib.ListN.{length, getD}
 use lib.Dec.{leb}
 use borrow.Author.Tests.{le-leb, lt-leb}
+use Rattle.record.specs.Cases.{false-first, false-second}
 use Rattle.record.specs.Sort.{Sort, Sorts, node, set, count, size}
 use Rattle.record.specs.Record.{Fields, leaf, sortsOf, sortOf}
 use Rattle.record.specs.Decode.{fieldsAt, Shape, Below, Fresh, storeOf, sortAt, Stored}
@@ -17,13 +18,6 @@ use Rattle.record.specs.StoreLaws.{sort-node}
 use Rattle.record.specs.Sizes.{count-sorts, most-few}
 use Rattle.store.specs.Good.{Good}
 use Rattle.rows.specs.Outcome.{shallow, shallowAll, within}
-
-and-off-left : (a b : Bool) → a ≡ false → (a && b) ≡ false
-and-off-left a b e = simp e
-
-and-off-right : (a b : Bool) → b ≡ false → (a && b) ≡ false
-and-off-right true b e = e
-and-off-right false b e = refl
 
 -- The sorts with these numbers, where each sort below m is shallow.
 module _ (st : List Sort) (m : ℕ) (each : (i : ℕ) → i < m → shallow (getD st i leaf) ≡ true) where
@@ -85,7 +79,7 @@ within-at b p hs ns zs n u g k l = ap₂ _&&_ (shallow-at b p n (g .stored) k l)
 -- TOO LARGE a tree, too wide a vector, too long a list.
 pub over-size : (s : Sort) → 4096 < size s → within s ≡ false
 unfolding within
-over-size s h = and-off-right (shallow s) (leb (size s) 4096) (lt-leb (size s) 4096 h)
+over-size s h = false-second (shallow s) (leb (size s) 4096) (lt-leb (size s) 4096 h)
 
 pub over-set : (s : Sort) → 4095 < size s → within (set s) ≡ false
 unfolding size
@@ -94,20 +88,20 @@ over-set s h = over-size (set s) (omega arith)
 pub over-width : (k a w : ℕ) (ss : Sorts) → 65535 < w → within (node k a w ss) ≡ false
 unfolding within shallow
 over-width k a w ss h =
-    and-off-left (leb w 65535 && (leb (count ss) 64 && shallowAll ss)) (leb (size (node k a w ss)) 4096)
-    (and-off-left (leb w 65535) (leb (count ss) 64 && shallowAll ss) (lt-leb w 65535 h))
+    false-first (leb w 65535 && (leb (count ss) 64 && shallowAll ss)) (leb (size (node k a w ss)) 4096)
+    (false-first (leb w 65535) (leb (count ss) 64 && shallowAll ss) (lt-leb w 65535 h))
 
 shallow-long : (k a w : ℕ) (ss : Sorts) → 64 < count ss → shallow (node k a w ss) ≡ false
 unfolding shallow
 shallow-long k a w ss h =
-    and-off-right (leb w 65535) (leb (count ss) 64 && shallowAll ss) (and-off-left (leb (count ss) 64) (shallowAll ss) (lt-leb (count ss) 64 h))
+    false-second (leb w 65535) (leb (count ss) 64 && shallowAll ss) (false-first (leb (count ss) 64) (shallowAll ss) (lt-leb (count ss) 64 h))
 
 pub over-list : (k a w : ℕ) (ss : Sorts) → 64 < count ss → within (node k a w ss) ≡ false
 unfolding within
-over-list k a w ss h = and-off-left (shallow (node k a w ss)) (leb (size (node k a w ss)) 4096) (shallow-long k a w ss h)
+over-list k a w ss h = false-first (shallow (node k a w ss)) (leb (size (node k a w ss)) 4096) (shallow-long k a w ss h)
 
 pub over-inner : (k a w : ℕ) (ss : Sorts) → 64 < count ss → within (set (node k a w ss)) ≡ false
 unfolding within shallow
 over-inner k a w ss h =
     let s = node k a w ss in
-    and-off-left (shallow (set s)) (leb (size (set s)) 4096) (and-off-left (shallow s) true (shallow-long k a w ss h))
+    false-first (shallow (set s)) (leb (size (set s)) 4096) (false-first (shallow s) true (shallow-long k a w ss h))

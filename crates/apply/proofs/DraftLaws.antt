@@ -2,7 +2,7 @@
 use Prim.Native.Nat.{ℕ, _+_, _*_, _/_, _%_, _≤_, _<_}
 use mathlib.Core.Path.{_≡_, refl, sym, ap, ap₂, subst, _∙_}
 use mathlib.Core.Bool.{Bool}
-use mathlib.Core.List.{List, [], _∷_, _++_}
+use mathlib.Core.List.{List, [], _∷_, _++_, append-assoc}
 use native.Mathlib.Omega.{arith}
 use native.Mathlib.Numerals.{add-one}
 use lib.ListN.{length, getD, set, take, length-set}
@@ -17,7 +17,7 @@ use Rattle.apply.specs.declared.lists.Numbers.{Numbers}
 use Rattle.apply.specs.declared.build.Draft.{Draft}
 use Rattle.apply.specs.Lists.{numbersOf}
 use Rattle.apply.specs.Draft.{drafted, Room, Put, ByteAsks, ListAsks, fieldsIn, Drafted}
-use Rattle.apply.proofs.ListLaws.{append-nil, append-assoc, has-length}
+use Rattle.apply.proofs.ListLaws.{append-nil, has-length}
 
 pub byte-put : (d : Draft) (v : ℕ) → ByteAsks d v → Put d 1 (v ∷ []) (record { bytes = set (d .bytes) (d .len) v; len = d .len + 1 })
 byte-put d v a =

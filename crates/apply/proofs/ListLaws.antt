@@ -51,10 +51,6 @@ pub append-nil : (s : List ℕ) → s ≡ s ++ []
 append-nil [] = refl
 append-nil (a ∷ s) = ap (λ (l : List ℕ). a ∷ l) (append-nil s)
 
-pub append-assoc : (a b c : List ℕ) → a ++ b ++ c ≡ a ++ (b ++ c)
-append-assoc [] b c = refl
-append-assoc (s ∷ a) b c = ap (λ (l : List ℕ). s ∷ l) (append-assoc a b c)
-
 numbers-first : (b : List ℕ) (x m : ℕ) → 0 < m → numbersAt b x m ≡ u16At b x ∷ numbersAt b (x + 2) (m - 1)
 unfolding numbersAt
 numbers-first b x zero h = absurd (not-suc-le-zero h)

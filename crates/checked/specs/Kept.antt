@@ -6,7 +6,7 @@ use mathlib.Core.Bool.{Bool, true, false, cond, _&&_, false≢true, true≢false
 use Rattle.record.specs.Sort.{Sort, Sorts, var, par, node, end, _then_, count}
 use Rattle.record.specs.Cases.{conj, and-true}
 use Rattle.substitution.specs.Substitution.{Map, apply, applyAll}
-use Rattle.substitution.specs.SubstitutionLaws.{applyAll-proper}
+use Rattle.substitution.specs.SubstitutionLaws.{applyAll-proper, proper-clear}
 use Rattle.substitution.specs.Premises.{clear, clearAll, proper, properAll, properMap}
 use Rattle.rows.specs.declared.Cause.{Cause}
 use Rattle.rows.specs.Verdict.{Verdict, sort, refused, need}
@@ -45,19 +45,6 @@ unfolding proper
 proper-carried (var v) e = refl
 proper-carried (par ns b) e = absurd (false≢true e)
 proper-carried (node k a w ss) e = e
-
-mutual
-  unfolding proper clear
-
-  pub proper-clear : (σ : Map) (s : Sort) → proper s ≡ true → clear σ s ≡ true
-  proper-clear σ (var v) e = refl
-  proper-clear σ (par ns b) e = absurd (false≢true e)
-  proper-clear σ (node k a w ss) e = properAll-clear σ ss (search conj)
-
-  pub properAll-clear : (σ : Map) (ss : Sorts) → properAll ss ≡ true → clearAll σ ss ≡ true
-  properAll-clear σ end e = refl
-  properAll-clear σ (s then ss) e =
-      and-true (clear σ s) (clearAll σ ss) (proper-clear σ s (search conj)) (properAll-clear σ ss (search conj))
 
 -- A step whose result is proper.
 pub kept : (σ : Map) (r s : Sort) (v : Verdict) → proper r ≡ true → v ≡ sort (apply σ r) → sort r ≡ sort s → Kept σ s v

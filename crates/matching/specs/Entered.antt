@@ -21,7 +21,8 @@ use Rattle.record.specs.SortLists.{memb-at}
 use Rattle.record.specs.StoreLaws.{storeOf-length, sort-node, parts-end, parts-more, sorts-one}
 use Rattle.record.specs.declared.SortRecord.{SortRecord}
 use Rattle.store.specs.Good.{Good}
-use Rattle.store.specs.Entry.{EntryAsks, EntryIs, EntryHas}
+use Rattle.store.specs.Entry.{EntryIs, EntryHas}
+use Rattle.store.specs.Walk.{walk-var, walk-one, walk-par, walk-node, walk-size}
 use Rattle.matching.specs.Tables.{VarIn}
 use Rattle.matching.specs.Contract.{Usable, Refs, sortsAt, sameHead}
 use Rattle.matching.specs.TableLaws.{numbers-more}
@@ -35,12 +36,6 @@ unfolding size
 size-pos (var v) = omega arith
 size-pos (par ns b) = omega arith
 size-pos (node k a w ss) = omega arith
-
-size-parts : (s : Sort) → size s ≡ 1 + sizes (partsOf s)
-unfolding size
-size-parts (var v) = refl
-size-parts (par ns b) = omega arith
-size-parts (node k a w ss) = refl
 
 ---------------------------------------------------------------- equality by number
 module _ (b p : List ℕ) (n : ℕ) (u : Usable b p n) (k j : ℕ) (lk : k < n) (lj : j < n) where
@@ -80,9 +75,6 @@ unfolding size
 sizes-more b p n s x m h = ap sizes (sorts-more b p n s x m h)
 
 ---------------------------------------------------------------- an entry
-pub entry-asks : (b p : List ℕ) (n k : ℕ) → Stored b p n → k < n → EntryAsks b p k
-entry-asks b p n k s l = record { placed = omega (arith, s .placed); held = s .each k l }
-
 -- The name of a Var of the store.
 pub var-own : (b p : List ℕ) (n k v : ℕ) → k < n → sortAt b p n k ≡ var v → VarIn b p n v
 unfolding sortAt
@@ -104,34 +96,16 @@ module _ (b p : List ℕ) (n k : ℕ) (u : Usable b p n) (l : k < n) (r : SortRe
   held = is .place .same
 
   pub entry-var : r .kind ≡ 2 → sortAt b p n k ≡ var (r .name)
-  unfolding here there
-  entry-var h =
-      sort-node b p n k (u .stored) l
-      ∙ ap (sortOf (storeOf b p n)) held
-      ∙ sort-var (storeOf b p n) there h
+  entry-var h = walk-var b p n k (u .stored) l r is h
 
   pub entry-one : r .kind ≡ 12 → r .count ≡ 1
-  unfolding here there
-  entry-one h =
-      sym (length-at b (r .list) (r .count))
-      ∙ ap (λ (f : Fields). length (f .list)) (sym held)
-      ∙ par-one here (u .stored .each k l .shape) (ap (λ (f : Fields). f .kind) held ∙ h)
+  entry-one h = walk-one b p n k (u .stored) l r is h
 
   pub entry-par : r .kind ≡ 12 → sortAt b p n k ≡ par (numbersAt b (r .names) (r .named)) (sortAt b p n (u16At b (r .list)))
-  unfolding here there sortAt
-  entry-par h =
-      sort-node b p n k (u .stored) l
-      ∙ ap (sortOf (storeOf b p n)) held
-      ∙ sort-par (storeOf b p n) there h
-      ∙ ap (λ (rs : List ℕ). par (numbersAt b (r .names) (r .named)) (getD (storeOf b p n) (getD rs 0 0) leaf))
-      (numbers-more b (r .list) (r .count) (omega (arith, entry-one h)))
+  entry-par h = walk-par b p n k (u .stored) l r is h
 
   pub entry-node : (r .kind ≡ 2 → ⊥) → (r .kind ≡ 12 → ⊥) → sortAt b p n k ≡ node (r .kind) (r .name) (r .number) (sortsAt b p n b (r .list) (r .count))
-  unfolding here there
-  entry-node h q =
-      sort-node b p n k (u .stored) l
-      ∙ ap (sortOf (storeOf b p n)) held
-      ∙ sort-other (storeOf b p n) there h q
+  entry-node h q = walk-node b p n k (u .stored) l r is h q
 
   -- Its name is one, its names are distinct and in the bytes, its parts are below it.
   pub entry-name : r .name < 65536
@@ -153,7 +127,7 @@ module _ (b p : List ℕ) (n k : ℕ) (u : Usable b p n) (l : k < n) (r : SortRe
 
   -- THE SIZE FALLS from an entry to its parts.
   pub entry-size : size (sortAt b p n k) ≡ 1 + sizes (sortsAt b p n b (r .list) (r .count))
-  entry-size = size-parts (sortAt b p n k) ∙ ap (λ (ss : Sorts). 1 + sizes ss) (sym (is .parts))
+  entry-size = walk-size b p n k (u .stored) l r is
 
   -- The body of a Par.
   pub entry-body : r .kind ≡ 12 → (u16At b (r .list) < n) × (size (sortAt b p n k) ≡ 1 + size (sortAt b p n (u16At b (r .list))))

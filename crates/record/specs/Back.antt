@@ -3,7 +3,7 @@
 use Prim.Native.Nat.{ℕ, zero, suc, _+_, _-_, _≤_, _<_}
 use mathlib.Core.Path.{_≡_, refl, sym, ap, ap₂, _∙_}
 use mathlib.Core.Bool.{true}
-use mathlib.Core.List.{List, [], _∷_, _++_}
+use mathlib.Core.List.{List, [], _∷_, _++_, append-assoc}
 use native.Mathlib.Omega.{arith}
 use native.Mathlib.Nat.{not-suc-le-zero, zero-add}
 use lib.ListN.{length, getD, take, drop, replicate, length-append, take-append-drop, List·getD-append}
@@ -65,10 +65,6 @@ module _ (st : List Sort) (s : Sort) (formed : Formed s) (parts : partsIn s st �
   fresh-sort = ap (sortOf st) (fresh-fields (fieldsOf st s) (formed-shape st s formed)) ∙ sort-back st s formed parts
 
 -- Where the records and the offsets stand.
-append-assoc : (a b c : List ℕ) → a ++ b ++ c ≡ a ++ (b ++ c)
-append-assoc [] b c = refl
-append-assoc (x ∷ a) b c = ap (λ (l : List ℕ). x ∷ l) (append-assoc a b c)
-
 length-offsets : (st ss : List Sort) (x : ℕ) → length (offsetsOf st x ss) ≡ length ss
 unfolding offsetsOf
 length-offsets st [] x = refl

@@ -33,6 +33,15 @@ pub three-right : (a b c : Bool) → (a && (b && c)) ≡ true → (a ≡ true) �
 three-right a b c e = let f = and-right a (b && c) e in (and-left a (b && c) e, and-left b c f, and-right b c f)
 
 -- Both sides of a disjunction that fails.
+-- A conjunction with a false side is false.
+pub false-first : (a b : Bool) → a ≡ false → (a && b) ≡ false
+false-first true b e = absurd (true≢false e)
+false-first false b e = refl
+
+pub false-second : (a b : Bool) → b ≡ false → (a && b) ≡ false
+false-second true b e = e
+false-second false b e = refl
+
 pub or-left : (a b : Bool) → (a || b) ≡ false → a ≡ false
 or-left true b e = e
 or-left false b e = refl

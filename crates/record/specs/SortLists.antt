@@ -3,7 +3,7 @@
 use Prim.Native.Nat.{ℕ, zero, suc, _+_, _≤_, _<_}
 use mathlib.Core.Path.{_≡_, refl, sym, ap, ap₂, subst, _∙_}
 use mathlib.Core.Bool.{Bool, true, false, cond, _&&_, _||_, true≢false, false≢true}
-use mathlib.Core.List.{List, [], _∷_, _++_}
+use mathlib.Core.List.{List, [], _∷_, _++_, append-assoc}
 use mathlib.Core.Logic.{⊎-elim}
 use native.Mathlib.Omega.{arith}
 use native.Mathlib.Nat.{not-suc-le-zero, eq-or-lt-of-le, le-of-suc-le-suc}
@@ -137,10 +137,6 @@ Starts st st′ = (ts : List Sort) × (st′ ≡ st ++ ts)
 append-nil : (st : List Sort) → st ≡ st ++ []
 append-nil [] = refl
 append-nil (s ∷ st) = ap (λ (l : List Sort). s ∷ l) (append-nil st)
-
-append-assoc : (a b c : List Sort) → a ++ b ++ c ≡ a ++ (b ++ c)
-append-assoc [] b c = refl
-append-assoc (s ∷ a) b c = ap (λ (l : List Sort). s ∷ l) (append-assoc a b c)
 
 pub starts-self : (st : List Sort) → Starts st st
 starts-self st = ([], append-nil st)

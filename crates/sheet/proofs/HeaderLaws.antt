@@ -8,6 +8,7 @@ use native.Mathlib.Nat.{not-suc-le-zero}
 use lib.ListN.{length, replicate, length-replicate}
 use lib.Dec.{leb}
 use borrow.Author.Tests.{le-leb, lt-leb}
+use Rattle.record.specs.Cases.{false-first, false-second}
 use Rattle.record.specs.Decode.{storeOf, Zeros}
 use Rattle.reader.specs.declared.Refusal.{Refusal}
 use Rattle.reader.specs.declared.Refusal.the-variants.{Length, Header, Lent}
@@ -18,13 +19,6 @@ use Rattle.sheet.specs.Contract.{sortsIn, Lends, SortsLoaded, readRest, 
 use Rattle.sheet.specs.Stands.{zeros-all}
 use Rattle.sheet.specs.declared.SheetRead.{SheetRead}
 use Rattle.sheet.specs.declared.SheetRead.the-variants.{Accepted, Refused}
-
-false-first : (a b : Bool) → a ≡ false → (a && b) ≡ false
-false-first a b e = ap (λ (t : Bool). t && b) e
-
-false-second : (a b : Bool) → b ≡ false → (a && b) ≡ false
-false-second true b e = e
-false-second false b e = refl
 
 -- THE HEADER, test by test
 module _ (s : List ℕ) (l : Lengths) where

@@ -6,7 +6,8 @@ use Rattle.record.specs.Number.{u16At}
 use Rattle.record.specs.Sort.{size, sizes}
 use Rattle.record.specs.Decode.{sortAt}
 use Rattle.matching.specs.Contract.{sortsAt}
-use Rattle.matching.specs.Entered.{entry-asks, entry-one, entry-refs, entry-body, sizes-more, size-pos}
+use Rattle.matching.specs.Entered.{entry-one, entry-refs, entry-body, sizes-more, size-pos}
+use Rattle.store.specs.Walk.{entry-asks}
 use Rattle.matching.proofs.WalkLaws.{some-left, left-body, right-body, both-parts, both-fall, pair-first, pair-rest}
 use Rattle.matching.proofs.CompatibleLaws.{fit-none, fit-more, fit-fails, fit-var, fit-par, fit-to-var, fit-to-par, fit-param, fit-node, fit-other}
 use Prim.Native.Nat.{ℕ, _+_, _*_, _<_}

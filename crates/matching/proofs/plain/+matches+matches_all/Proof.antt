@@ -6,7 +6,8 @@ use Rattle.record.specs.Number.{u16At}
 use Rattle.record.specs.Sort.{size, sizes}
 use Rattle.record.specs.Decode.{sortAt}
 use Rattle.matching.specs.Contract.{sortsAt}
-use Rattle.matching.specs.Entered.{entry-asks, entry-var, entry-size, sizes-more, size-pos}
+use Rattle.matching.specs.Entered.{entry-var, entry-size, sizes-more, size-pos}
+use Rattle.store.specs.Walk.{entry-asks}
 use Rattle.matching.proofs.WalkLaws.{some-left}
 use Rattle.matching.proofs.PlainLaws.{meet-asks, plain-par, parts-match, plain-node, plain-head, plain-none, plain-first, plain-rest, plain-more, plain-fails}
 use Prim.Native.Nat.{ℕ, _+_, _*_, _<_}

@@ -4,7 +4,8 @@ use Rattle.record.specs.Number.{u16At}
 use Rattle.record.specs.Sort.{size, sizes}
 use Rattle.record.specs.Decode.{sortAt}
 use Rattle.matching.specs.Contract.{sortsAt}
-use Rattle.matching.specs.Entered.{entry-asks, entry-size, sizes-more, size-pos}
+use Rattle.matching.specs.Entered.{entry-size, sizes-more, size-pos}
+use Rattle.store.specs.Walk.{entry-asks}
 use Rattle.matching.proofs.WalkLaws.{some-left, parts-ask, first-asks, rest-asks}
 use Rattle.matching.proofs.PremiseLaws.{known-none, known-more, known-fails, known-var, known-par, known-param, known-node}
 use Prim.Native.Nat.{ℕ, _+_, _*_, _<_}
