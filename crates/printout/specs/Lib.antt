@@ -9,6 +9,7 @@ pub mod Trees
 pub mod TreeLaws
 pub mod LineAsks
 pub mod LineLaws
+pub mod TextLaws
 pub mod Printed
 pub mod Sheets
 pub mod Examples

@@ -1,14 +1,13 @@
 -- Rows, answers and lines: what each is by its code, over any store that has the sort, and how long it is.
-use Prim.Native.Nat.{ℕ, suc, _+_, _*_, _/_, _≤_, _<_}
+use Prim.Native.Nat.{ℕ, suc, _+_, _/_, _≤_, _<_}
 use mathlib.Core.Path.{_≡_, refl, sym, ap, ap₂, _∙_}
-use mathlib.Core.Bool.{Bool, true, false, cond}
-use mathlib.Core.List.{List, [], _∷_, _++_, append-assoc}
+use mathlib.Core.Bool.{Bool, true, false}
+use mathlib.Core.List.{List, _∷_, _++_, append-assoc}
 use native.Mathlib.Omega.{arith}
-use lib.ListN.{length, getD, length-append}
+use lib.ListN.{length, length-append}
 use lib.Dec.{eqb, ltb}
 use borrow.Author.Tests.{lt-ltb, le-ltb, eq-eqb, ne-eqb, ltb-true, ltb-false, eqb-true, eqb-false}
 use Rattle.record.specs.Sort.{Sort}
-use Rattle.record.specs.Record.{leaf}
 use Rattle.record.specs.Decode.{storeOf, sortAt}
 use Rattle.printout.specs.Text.{ascii, decimal, text}
 use Rattle.printout.specs.Lines.{refusalText, refusalLine, rowText, answerText, termLine, questionLine}
@@ -28,11 +27,11 @@ pub row-refused : (b p : List ℕ) (code : ℕ) → 65536 ≤ code → rowAt b p
 unfolding rowText
 row-refused b p code h = rw (le-ltb code 65536 h)
 
-sort-by : (b p : List ℕ) (n code : ℕ) → code < 65536 → code < n → rowText (storeOf b p n) code ≡ text (treeAt b p code)
+pub sort-by : (b p : List ℕ) (n code : ℕ) → code < 65536 → rowText (storeOf b p n) code ≡ text (sortAt b p n code)
 unfolding rowText sortAt
-sort-by b p n code h l = rw (lt-ltb code 65536 h) (ap text (sym (tree-at b p code n l)))
+sort-by b p n code h = rw (lt-ltb code 65536 h)
 
-refused-by : (st : List Sort) (code : ℕ) → 65536 ≤ code → rowText st code ≡ refusalText (code / 65536)
+pub refused-by : (st : List Sort) (code : ℕ) → 65536 ≤ code → rowText st code ≡ refusalText (code / 65536)
 unfolding rowText
 refused-by st code h = rw (le-ltb code 65536 h)
 
@@ -43,7 +42,7 @@ row-at b p n code k = go (ltb code 65536) refl
     go : (t : Bool) → ltb code 65536 ≡ t → rowAt b p code ≡ rowText (storeOf b p n) code
     go true e =
         let h = ltb-true code 65536 e in
-        row-sort b p code h ∙ sym (sort-by b p n code h (k h))
+        row-sort b p code h ∙ ap text (tree-at b p code n (k h)) ∙ sym (sort-by b p n code h)
     go false e =
         let h = ltb-false code 65536 e in
         row-refused b p code h ∙ sym (refused-by (storeOf b p n) code h)

@@ -1,12 +1,12 @@
 -- Names: the laws of the loops that count and write them, and how long they are at most.
 use Prim.Native.Nat.{ℕ, zero, suc, _+_, _*_, _-_, _≤_, _<_}
-use mathlib.Core.Path.{_≡_, refl, sym, ap, _∙_}
+use mathlib.Core.Path.{_≡_, refl, ap, _∙_}
 use mathlib.Core.List.{List, [], _∷_, _++_, append-assoc}
 use native.Mathlib.Omega.{arith}
-use lib.ListN.{length, getD, length-append}
+use lib.ListN.{length, length-append}
 use Rattle.record.specs.Number.{u16At, numbersAt}
 use Rattle.printout.specs.Text.{ascii, decimal, nameText, moreNames, namesText}
-use Rattle.printout.specs.Wrote.{Wrote, Left, wrote-long, left-step}
+use Rattle.printout.specs.Wrote.{Left}
 
 pub name-none : (a : ℕ) → a ≡ 0 → nameText a ≡ ascii "?"
 unfolding nameText

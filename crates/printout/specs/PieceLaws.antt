@@ -1,5 +1,5 @@
 -- The pieces of a text are the text, for every well-formed sort; and how long the pieces are.
-use Prim.Native.Nat.{ℕ, zero, suc, _+_, _*_, _≤_, _<_}
+use Prim.Native.Nat.{ℕ, zero, suc, _+_, _≤_, _<_}
 use mathlib.Core.Path.{_≡_, refl, sym, ap, subst, _∙_}
 use mathlib.Core.Bool.{Bool, true, false, cond, not, _||_}
 use mathlib.Core.List.{List, [], _∷_, _++_, append-assoc, append-nil}
@@ -13,8 +13,8 @@ use Rattle.record.specs.Record.{mosts, mostOf}
 use Rattle.record.specs.Store.{fieldsOf}
 use Rattle.record.specs.Sizes.{Formed, length-indices}
 use Rattle.record.specs.Table.{at}
-use Rattle.printout.specs.Text.{ascii, decimal, nameText, moreNames, namesText, atomText, kindNames, nodeText, text, texts}
-use Rattle.printout.specs.Pieces.{formOf, words, wordText, closes, bracket, closeText, frames, inners, innerBy, innerText, piecesText}
+use Rattle.printout.specs.Text.{ascii, decimal, nameText, namesText, nodeText, text, texts}
+use Rattle.printout.specs.Pieces.{formOf, wordText, closes, bracket, closeText, frames, inners, innerBy, innerText, piecesText}
 
 var-pieces : (v w : ℕ) (ns : List ℕ) → text (var v) ≡ piecesText 2 v w ns []
 unfolding text piecesText

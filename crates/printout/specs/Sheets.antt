@@ -1,8 +1,6 @@
 -- Whole sheets from their bytes to their printed bytes, by computation from the definitions.
-use Prim.Native.Nat.{ℕ}
 use mathlib.Core.Path.{_≡_, refl}
-use mathlib.Core.List.{List, [], _∷_}
-use Rattle.sheet.specs.Sheet.{Lengths}
+use mathlib.Core.List.{[], _∷_}
 use Rattle.verdicts.specs.Judged.{judged}
 use Rattle.printout.specs.Text.{ascii}
 use Rattle.printout.specs.Printed.{printed, programLengths}

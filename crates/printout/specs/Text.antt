@@ -5,7 +5,7 @@ use Prim.Native.String.{String, [] as empty, _∷_ as _before_}
 use mathlib.Core.Bool.{cond}
 use mathlib.Core.List.{List, [], _∷_, _++_}
 use lib.ListN.{getD}
-use lib.Dec.{eqb, ltb}
+use lib.Dec.{eqb}
 use Rattle.record.specs.Sort.{Sort, Sorts, var, par, node, end, _then_}
 
 -- The bytes of a quoted text of ASCII characters, in which this file writes 01's.

@@ -3,11 +3,10 @@ use Prim.Native.Nat.{ℕ, zero, suc, _+_, _*_, _-_, _≤_, _<_}
 use mathlib.Core.Path.{_≡_, refl, sym, ap, ap₂, subst, _∙_}
 use mathlib.Core.List.{List, [], _∷_, _++_}
 use native.Mathlib.Omega.{arith}
-use native.Mathlib.Nat.{not-suc-le-zero}
 use lib.ListN.{length, getD, length-append}
 use Rattle.record.specs.Number.{u16At, numbersAt}
-use Rattle.record.specs.Sort.{Sort, Sorts, end, _then_, count, size, sizes, kindOf, nameIn, numberIn, partsOf, namesOf}
-use Rattle.record.specs.Record.{Fields, leaf, sortsOf, sortOf}
+use Rattle.record.specs.Sort.{Sorts, end, _then_, count, size, sizes, nameIn, numberIn, partsOf, namesOf}
+use Rattle.record.specs.Record.{sortsOf}
 use Rattle.record.specs.Decode.{fieldsAt, fields, Shape, storeOf, sortAt, Stored}
 use Rattle.record.specs.Codec.{length-numbersAt}
 use Rattle.record.specs.StoreLaws.{sort-made, sort-node}
@@ -15,11 +14,11 @@ use Rattle.record.specs.Sizes.{Formed, sort-formed, count-sorts}
 use Rattle.record.specs.Entries.{stored-first}
 use Rattle.record.specs.declared.SortRecord.{SortRecord}
 use Rattle.store.specs.Entry.{EntryIs}
-use Rattle.store.specs.Walk.{number-at, walk-size, size-pos}
+use Rattle.store.specs.Walk.{number-at, walk-size}
 use Rattle.printout.specs.Text.{ascii, text, texts}
-use Rattle.printout.specs.Pieces.{formOf, frames, inners, innerText, piecesText}
+use Rattle.printout.specs.Pieces.{formOf, frames, piecesText}
 use Rattle.printout.specs.PieceLaws.{pieces-text, pieces-length, form-below, form-par, names-form, own-short}
-use Rattle.printout.specs.Trees.{treeAt, treesAt, TextAsks, TextsAsk, innerOf, InnerAsks, InnerIs, TextIs, TextsAre}
+use Rattle.printout.specs.Trees.{treeAt, treesAt, TextAsks, TextsAsk, InnerAsks, InnerIs, TextIs, TextsAre}
 
 -- THE SORT k, whatever the count of the store's sorts is.
 pub tree-at : (b p : List ℕ) (k n : ℕ) → k < n → treeAt b p k ≡ sortAt b p n k
@@ -57,6 +56,14 @@ pub trees-size : (b p : List ℕ) (x m : ℕ) → 0 < m
     → sizes (treesAt b p (numbersAt b x m)) ≡ size (treeAt b p (u16At b x)) + sizes (treesAt b p (numbersAt b (x + 2) (m - 1)))
 unfolding size
 trees-size b p x m h = ap sizes (trees-more b p x m h)
+
+-- A sort of a well-formed store within document 01's limit meets what printing it asks.
+pub text-asks : (b p : List ℕ) (n k : ℕ) → Stored b p n → k < n → size (sortAt b p n k) ≤ 4096 → TextAsks b p k
+text-asks b p n k stored l small =
+    record {
+      stored = stored-first b p (suc k) n (omega arith) stored;
+      small = omega (arith, ap size (tree-at b p k n l));
+    }
 
 -- What a walk asks goes down to the first of a list, and to the rest.
 module _ (b p : List ℕ) (x m : ℕ) (h : 0 < m) (a : TextsAsk b p x m) where

@@ -18,8 +18,8 @@ ghost use Rattle.record.specs.Sort.{size, sizes};
 ghost use mathlib.Core.List.{_++_};
 ghost use Rattle.printout.specs.Text.{ascii, namesText, text, texts};
 ghost use Rattle.printout.specs.Pieces.{formOf, wordText, closeText, frames};
-ghost use Rattle.printout.specs.Wrote.{Wrote, ShownIs};
-ghost use Rattle.printout.specs.Trees.{treeAt, treesAt, innerOf, InnerAsks, InnerIs, TextAsks, TextsAsk, TextIs, TextsAre};
+ghost use Rattle.printout.specs.Wrote.{Wrote};
+ghost use Rattle.printout.specs.Trees.{treeAt, treesAt, innerOf, InnerAsks, InnerIs, TextAsks, TextsAsk, TextIs, TextsAre, SortHas};
 
 // How many bytes the word and the bracket of each form have together.
 const FRAMES: [usize; 17] = [4, 2, 1, 4, 3, 4, 6, 6, 7, 11, 12, 2, 7, 4, 5, 7, 0];
@@ -192,7 +192,7 @@ pub fn put_list(
 // Writes the text of the sort `k` at `to`; or Full, where it does not fit.
 pub fn show_sort(records: &[u8], places: &[u32], k: usize, out: &mut [u8], to: usize) -> Shown
     requires { ⌜ TextAsks (now records) (now places) k × (to ≤ length (now out)) ⌝ }
-    ensures { λ r. ⌜ ShownIs (now (out .entry)) to (text (treeAt (now (records .entry)) (now (places .entry)) k)) (now (out .exit)) r ⌝ }
+    ensures { λ r. ⌜ SortHas (now (records .entry)) (now (places .entry)) k (now (out .entry)) to (now (out .exit)) r ⌝ }
 {
     let size = text_size(records, places, k);
     if out.len() - to < size {

@@ -1,10 +1,8 @@
 -- Yes and no have three and two bytes; another answer is a row.
 -- The laws of an answer say which.
 use native.Mathlib.Omega.{arith}
-use borrow.Author.Needs.{needs}
-use mathlib.Core.Path.{_≡_, refl, sym, ap, _∙_}
-use Prim.Native.Nat.{ℕ, _+_, _*_, _-_, _/_, _≤_, _<_}
-use lib.ListN.{length, getD, set}
+use mathlib.Core.Path.{sym, ap}
+use lib.ListN.{length}
 use Rattle.printout.specs.LineLaws.{answer-no, answer-yes, answer-row}
 use Rattle.printout.proofs.lines.answer_size.Statement.{statement}
 use Rattle.printout.proofs.lines.answer_size.Tie as tie
@@ -12,7 +10,6 @@ use Rattle.printout.proofs.lines.answer_size.Tie as tie
 row-size-requires : tie.Need-row-size-requires
 row-size-requires c κs =
     let s = c .before .before .before in
-    let a = s .args in
     s .pre (c .if1 .taken)
 
 returns : tie.Need-returns

@@ -2,11 +2,10 @@
 -- The laws of an answer say which.
 use native.Mathlib.Omega.{arith}
 use borrow.Author.Needs.{needs}
-use mathlib.Core.Path.{_≡_, refl, sym, ap, _∙_}
-use Prim.Native.Nat.{ℕ, _+_, _*_, _-_, _/_, _≤_, _<_}
-use lib.ListN.{length, getD, set}
+use mathlib.Core.Path.{sym, ap}
+use lib.ListN.{length}
 use Rattle.printout.specs.LineLaws.{answer-no, answer-yes, answer-row}
-use Rattle.printout.specs.Wrote.{wrote-as, wrote-more, wrote-long, wrote-one, room-first, room-next, room-step}
+use Rattle.printout.specs.Wrote.{wrote-as}
 use Rattle.printout.proofs.lines.put_answer.Statement.{statement}
 use Rattle.printout.proofs.lines.put_answer.Tie as tie
 
@@ -16,7 +15,6 @@ put-row-requires c κs =
     let a = s .args in
     let b = a .records .now in
     let p = a .places .now in
-    let o = a .out .now in
     (s .pre .0 (c .before .if1 .taken), omega (arith, s .pre .1, ap length (answer-row b p (a .kind) (a .code) (c .before .if1 .taken))))
 
 same-length : tie.Need-same-length
@@ -28,7 +26,6 @@ returns c =
     let a = s .args in
     let b = a .records .now in
     let p = a .places .now in
-    let o = a .out .now in
     wrote-as (sym (answer-row b p (a .kind) (a .code) (c .before .before .before .before .if1 .taken))) (c .before .before .put-row .ensures)
 
 slice-aggregate-put : tie.Need-slice-aggregate-put
@@ -40,7 +37,6 @@ put-requires c κs =
     let a = s .args in
     let b = a .records .now in
     let p = a .places .now in
-    let o = a .out .now in
     omega (arith, s .pre .1, ap length (answer-no b p (a .kind) (a .code) (c .before .before .before .if1 .left) (c .before .before .if2 .taken)))
 
 same-length-2 : tie.Need-same-length-2
@@ -52,7 +48,6 @@ returns-2 c =
     let a = s .args in
     let b = a .records .now in
     let p = a .places .now in
-    let o = a .out .now in
     wrote-as (sym (answer-no b p (a .kind) (a .code) (c .before .before .before .before .before .before .if1 .left) (c .before .before .before .before .before .if2 .taken))) (c .before .before .put .ensures)
 
 slice-aggregate-put-2 : tie.Need-slice-aggregate-put-2
@@ -64,7 +59,6 @@ put-requires-2 c κs =
     let a = s .args in
     let b = a .records .now in
     let p = a .places .now in
-    let o = a .out .now in
     omega (arith, s .pre .1, ap length (answer-yes b p (a .kind) (a .code) (c .before .before .before .if1 .left) (c .before .before .if2 .left)))
 
 same-length-3 : tie.Need-same-length-3
@@ -76,7 +70,6 @@ returns-3 c =
     let a = s .args in
     let b = a .records .now in
     let p = a .places .now in
-    let o = a .out .now in
     wrote-as (sym (answer-yes b p (a .kind) (a .code) (c .before .before .before .before .before .before .if1 .left) (c .before .before .before .before .before .if2 .left))) (c .before .before .put2 .ensures)
 
 pub put-answer-spec : {M : Type 1} → statement M

@@ -2,13 +2,11 @@
 -- What was written first leaves room for the rest.
 use native.Mathlib.Omega.{arith}
 use borrow.Author.Needs.{needs}
-use mathlib.Core.Path.{_≡_, refl, sym, ap, _∙_}
-use Prim.Native.Nat.{ℕ, _+_, _*_, _-_, _/_, _≤_, _<_}
-use lib.ListN.{length, getD, set}
+use mathlib.Core.Path.{_∙_}
 use lib.ListN.{length-set}
 use Rattle.printout.specs.LineLaws.{label-length}
 use Rattle.printout.specs.LineAsks.{labelText}
-use Rattle.printout.specs.Wrote.{wrote-as, wrote-more, wrote-long, wrote-one, room-first, room-next, room-step}
+use Rattle.printout.specs.Wrote.{wrote-more, wrote-long, wrote-one}
 use Rattle.printout.proofs.lines.put_label.Statement.{statement}
 use Rattle.printout.proofs.lines.put_label.Tie as tie
 
@@ -16,14 +14,12 @@ slice-write-out : tie.Need-slice-write-out
 slice-write-out c =
     let s = c .before in
     let a = s .args in
-    let o = a .out .now in
     omega (arith, s .pre, label-length (a .mark) (a .v))
 
 add-put-decimal : tie.Need-add-put-decimal
 add-put-decimal c =
     let s = c .before .before in
     let a = s .args in
-    let o = a .out .now in
     omega (arith, s .pre, label-length (a .mark) (a .v))
 
 put-decimal-requires : tie.Need-put-decimal-requires

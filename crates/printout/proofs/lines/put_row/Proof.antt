@@ -2,11 +2,10 @@
 -- Each is written by the function for it.
 use native.Mathlib.Omega.{arith}
 use borrow.Author.Needs.{needs}
-use mathlib.Core.Path.{_≡_, refl, sym, ap, _∙_}
-use Prim.Native.Nat.{ℕ, _+_, _*_, _-_, _/_, _≤_, _<_}
-use lib.ListN.{length, getD, set}
+use mathlib.Core.Path.{sym, ap}
+use lib.ListN.{length}
 use Rattle.printout.specs.LineLaws.{row-sort, row-refused}
-use Rattle.printout.specs.Wrote.{wrote-as, wrote-more, wrote-long, wrote-one, room-first, room-next, room-step}
+use Rattle.printout.specs.Wrote.{wrote-as}
 use Rattle.printout.proofs.lines.put_row.Statement.{statement}
 use Rattle.printout.proofs.lines.put_row.Tie as tie
 
@@ -16,7 +15,6 @@ put-sort-requires c κs =
     let a = s .args in
     let b = a .records .now in
     let p = a .places .now in
-    let o = a .out .now in
     (s .pre .0 (c .before .if1 .taken), omega (arith, s .pre .1, ap length (row-sort b p (a .code) (c .before .if1 .taken))))
 
 same-length : tie.Need-same-length
@@ -28,7 +26,6 @@ returns c =
     let a = s .args in
     let b = a .records .now in
     let p = a .places .now in
-    let o = a .out .now in
     wrote-as (sym (row-sort b p (a .code) (c .before .before .before .before .if1 .taken))) (c .before .before .put-sort .ensures)
 
 put-refusal-requires : tie.Need-put-refusal-requires
@@ -37,7 +34,6 @@ put-refusal-requires c κs =
     let a = s .args in
     let b = a .records .now in
     let p = a .places .now in
-    let o = a .out .now in
     omega (arith, s .pre .1, ap length (row-refused b p (a .code) (c .before .if1 .left)))
 
 same-length-2 : tie.Need-same-length-2
@@ -49,7 +45,6 @@ returns-2 c =
     let a = s .args in
     let b = a .records .now in
     let p = a .places .now in
-    let o = a .out .now in
     wrote-as (sym (row-refused b p (a .code) (c .before .before .before .before .if1 .left))) (c .before .before .put-refusal .ensures)
 
 pub put-row-spec : {M : Type 1} → statement M

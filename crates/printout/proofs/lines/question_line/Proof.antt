@@ -2,34 +2,31 @@
 -- What is written leaves room for the pieces behind it.
 use native.Mathlib.Omega.{arith}
 use borrow.Author.Needs.{needs}
-use mathlib.Core.Path.{_≡_, refl, sym, ap, _∙_}
-use Prim.Native.Nat.{ℕ, _+_, _*_, _-_, _/_, _≤_, _<_}
-use lib.ListN.{length, getD, set}
-use mathlib.Core.List.{List, [], _∷_, _++_}
+use mathlib.Core.Path.{refl, ap}
+use Prim.Native.Nat.{_+_, _≤_}
+use lib.ListN.{length}
+use mathlib.Core.List.{_++_}
 use Rattle.printout.specs.LineLaws.{question-at, question-length}
 use Rattle.printout.specs.Text.{ascii}
 use Rattle.printout.specs.Trees.{answerAt}
 use Rattle.printout.specs.LineAsks.{labelText, questionAt}
-use Rattle.printout.specs.Wrote.{wrote-as, wrote-more, wrote-long, wrote-one, room-first, room-next, room-step}
+use Rattle.printout.specs.Wrote.{wrote-as, wrote-more, room-first, room-next, room-step}
 use Rattle.printout.proofs.lines.question_line.Statement.{statement}
 use Rattle.printout.proofs.lines.question_line.Tie as tie
 
 answer-size-requires : tie.Need-answer-size-requires
 answer-size-requires c κs =
     let s = c .before .before .before in
-    let a = s .args in
     s .pre .answer
 
 sub-if1 : tie.Need-sub-if1
 sub-if1 c =
     let s = c .before .before .before .before in
-    let a = s .args in
     s .pre .within
 
 digits-requires : tie.Need-digits-requires
 digits-requires c κs =
     let s = c .before .before .before .before in
-    let a = s .args in
     s .pre .number
 
 add-if1 : tie.Need-add-if1
@@ -44,7 +41,6 @@ returns c =
     let a = s .args in
     let b = a .records .now in
     let p = a .places .now in
-    let o = a .out .now in
     λ n k. (refl, omega (arith, c .if1 .taken, c .before .digits .ensures .0, c .before .before .answer-size .ensures .0, question-length b p (a .q) (a .kind) (a .code), ap length (question-at b p n (a .q) (a .kind) (a .code) k)))
 
 put-label-requires : tie.Need-put-label-requires
@@ -99,7 +95,6 @@ returns-2 c =
     let a = s .args in
     let b = a .records .now in
     let p = a .places .now in
-    let o = a .out .now in
     λ n k.
     wrote-as (question-at b p n (a .q) (a .kind) (a .code) k) (wrote-more (c .before .before .before .before .before .before .before .before .before .before .before .put-label .ensures) (wrote-more (c .before .before .before .before .before .before .before .put-answer .ensures) (c .before .before .put .ensures)))
 

@@ -2,27 +2,25 @@
 -- So a refusal leaves the buffer as it was.
 use native.Mathlib.Omega.{arith}
 use borrow.Author.Needs.{needs}
-use mathlib.Core.Path.{_≡_, refl, sym, ap, _∙_}
-use Prim.Native.Nat.{ℕ, _+_, _*_, _-_, _/_, _≤_, _<_}
-use lib.ListN.{length, getD, set}
-use mathlib.Core.List.{List, [], _∷_, _++_}
+use mathlib.Core.Path.{refl}
+use Prim.Native.Nat.{_+_, _≤_}
+use lib.ListN.{length}
+use mathlib.Core.List.{_++_}
 use Rattle.printout.specs.LineLaws.{refusal-line, refusal-line-length}
 use Rattle.printout.specs.Text.{ascii}
 use Rattle.printout.specs.Lines.{refusalText, refusalLine}
-use Rattle.printout.specs.Wrote.{wrote-as, wrote-more, wrote-long, wrote-one, room-first, room-next, room-step}
+use Rattle.printout.specs.Wrote.{wrote-as, wrote-more, room-first, room-next}
 use Rattle.printout.proofs.lines.refusal_line.Statement.{statement}
 use Rattle.printout.proofs.lines.refusal_line.Tie as tie
 
 sub-if1 : tie.Need-sub-if1
 sub-if1 c =
     let s = c .before in
-    let a = s .args in
     s .pre .1
 
 digits-requires : tie.Need-digits-requires
 digits-requires c κs =
     let s = c .before in
-    let a = s .args in
     s .pre .0
 
 add-if1 : tie.Need-add-if1
@@ -32,7 +30,6 @@ returns : tie.Need-returns
 returns c =
     let s = c .before .before .before in
     let a = s .args in
-    let o = a .out .now in
     (refl, omega (arith, c .if1 .taken, c .before .digits .ensures .0, refusal-line-length (a .number)))
 
 put-refusal-requires : tie.Need-put-refusal-requires

@@ -2,9 +2,9 @@
 -- A sort of at most 4,096 nodes has at most 456 bytes for each.
 use native.Mathlib.Omega.{arith}
 use borrow.Author.Needs.{needs}
-use mathlib.Core.Path.{_≡_, refl, sym, ap, _∙_}
-use Prim.Native.Nat.{ℕ, _+_, _*_, _-_, _/_, _≤_, _<_}
-use lib.ListN.{length, getD, set}
+use mathlib.Core.Path.{ap}
+use Prim.Native.Nat.{_/_}
+use lib.ListN.{length}
 use Rattle.printout.specs.LineLaws.{row-sort, row-refused, refusal-length}
 use Rattle.printout.proofs.lines.row_size.Statement.{statement}
 use Rattle.printout.proofs.lines.row_size.Tie as tie
@@ -12,7 +12,6 @@ use Rattle.printout.proofs.lines.row_size.Tie as tie
 text-size-requires : tie.Need-text-size-requires
 text-size-requires c κs =
     let s = c .before .before .before in
-    let a = s .args in
     s .pre (c .if1 .taken)
 
 returns : tie.Need-returns

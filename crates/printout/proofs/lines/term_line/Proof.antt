@@ -2,40 +2,36 @@
 -- What is written leaves room for the pieces behind it.
 use native.Mathlib.Omega.{arith}
 use borrow.Author.Needs.{needs}
-use mathlib.Core.Path.{_≡_, refl, sym, ap, _∙_}
-use Prim.Native.Nat.{ℕ, _+_, _*_, _-_, _/_, _≤_, _<_}
-use lib.ListN.{length, getD, set}
-use mathlib.Core.List.{List, [], _∷_, _++_}
+use mathlib.Core.Path.{refl, ap}
+use Prim.Native.Nat.{_+_, _≤_}
+use lib.ListN.{length}
+use mathlib.Core.List.{_++_}
 use Rattle.printout.specs.LineLaws.{term-at, term-length}
 use Rattle.printout.specs.Text.{ascii}
 use Rattle.printout.specs.Trees.{rowAt}
 use Rattle.printout.specs.LineAsks.{labelText, termAt}
-use Rattle.printout.specs.Wrote.{wrote-as, wrote-more, wrote-long, wrote-one, room-first, room-next, room-step}
+use Rattle.printout.specs.Wrote.{wrote-as, wrote-more, room-first, room-next, room-step}
 use Rattle.printout.proofs.lines.term_line.Statement.{statement}
 use Rattle.printout.proofs.lines.term_line.Tie as tie
 
 row-size-requires : tie.Need-row-size-requires
 row-size-requires c κs =
     let s = c .before .before .before in
-    let a = s .args in
     s .pre .inferred
 
 row-size-requires-2 : tie.Need-row-size-requires-2
 row-size-requires-2 c κs =
     let s = c .before .before .before .before in
-    let a = s .args in
     s .pre .checked
 
 sub-if1 : tie.Need-sub-if1
 sub-if1 c =
     let s = c .before .before .before .before .before in
-    let a = s .args in
     s .pre .within
 
 digits-requires : tie.Need-digits-requires
 digits-requires c κs =
     let s = c .before .before .before .before .before in
-    let a = s .args in
     s .pre .number
 
 add-if1 : tie.Need-add-if1
@@ -53,7 +49,6 @@ returns c =
     let a = s .args in
     let b = a .records .now in
     let p = a .places .now in
-    let o = a .out .now in
     λ n ki kc. (refl, omega (arith, c .if1 .taken, c .before .digits .ensures .0, c .before .before .before .row-size .ensures .0, c .before .before .row-size2 .ensures .0, term-length b p (a .t) (a .inferred) (a .checked), ap length (term-at b p n (a .t) (a .inferred) (a .checked) ki kc)))
 
 put-label-requires : tie.Need-put-label-requires
@@ -153,7 +148,6 @@ returns-2 c =
     let a = s .args in
     let b = a .records .now in
     let p = a .places .now in
-    let o = a .out .now in
     λ n ki kc.
     wrote-as (term-at b p n (a .t) (a .inferred) (a .checked) ki kc)
     (wrote-more (c .before .before .before .before .before .before .before .before .before .before .before .before .before .before .before .before .before .before .before .before .put-label .ensures) (wrote-more (c .before .before .before .before .before .before .before .before .before .before .before .before .before .before .before .before .put-row .ensures) (wrote-more (c .before .before .before .before .before .before .before .before .before .before .before .put .ensures) (wrote-more (c .before .before .before .before .before .before .before .put-row2 .ensures) (c .before .before .put2 .ensures)))))

@@ -1,11 +1,11 @@
 -- A number under ten is one digit; another is written behind the number without its last digit.
 -- The measure is the number, which a division by ten makes less.
-use Prim.Native.Nat.{ℕ, suc, _+_, _*_, _-_, _/_, _%_, _≤_, _<_}
-use mathlib.Core.Path.{_≡_, refl, sym, ap, _∙_}
-use mathlib.Core.List.{List, [], _∷_, _++_}
+use Prim.Native.Nat.{ℕ, _+_, _/_, _%_, _<_}
+use mathlib.Core.Path.{sym, ap}
+use mathlib.Core.List.{[], _∷_}
 use native.Mathlib.Omega.{arith}
 use borrow.Author.Needs.{needs}
-use lib.ListN.{getD, set, length, length-set, length-append}
+use lib.ListN.{length, length-set, length-append}
 use Rattle.printout.specs.Text.{decimal}
 use Rattle.printout.specs.DecimalLaws.{decimal-one, decimal-more}
 use Rattle.printout.specs.Wrote.{wrote-as, wrote-one, wrote-more, wrote-long}
@@ -43,7 +43,6 @@ put-decimal-slice-write-out : (t : ℕ) → put-decimal-lts.Need-slice-write-out
 put-decimal-slice-write-out t c =
     let s = c .before .before in
     let a = s .args in
-    let o = a .out .now in
     let e = decimal-one (a .v) (c .if1 .taken) in
     omega (arith, s .pre .1, ap length e)
 
@@ -51,7 +50,6 @@ put-decimal-add-result : (t : ℕ) → put-decimal-lts.Need-add-result (put-deci
 put-decimal-add-result t c =
     let s = c .before .before in
     let a = s .args in
-    let o = a .out .now in
     let e = decimal-one (a .v) (c .if1 .taken) in
     omega (arith, s .pre .1, ap length e)
 
@@ -71,7 +69,6 @@ put-decimal-put-decimal-requires : (t : ℕ) → put-decimal-lts.Need-put-decima
 put-decimal-put-decimal-requires t c κs =
     let s = c .before .before .before in
     let a = s .args in
-    let o = a .out .now in
     let e = decimal-more (a .v) (c .before .if1 .left) in
     let l = length-append (decimal (a .v / 10)) ((48 + a .v % 10) ∷ []) in
     (omega (arith, s .pre .0, c .before .if1 .left), omega (arith, s .pre .1, ap length e, l))
@@ -80,7 +77,6 @@ put-decimal-slice-write-out-2 : (t : ℕ) → put-decimal-lts.Need-slice-write-o
 put-decimal-slice-write-out-2 t c =
     let s = c .before .before .before .before .before .before in
     let a = s .args in
-    let o = a .out .now in
     let e = decimal-more (a .v) (c .before .before .before .before .if1 .left) in
     let l = length-append (decimal (a .v / 10)) ((48 + a .v % 10) ∷ []) in
     omega (arith, s .pre .1, ap length e, l, c .before .before .put-decimal .ensures .next, wrote-long (c .before .before .put-decimal .ensures))
@@ -89,7 +85,6 @@ put-decimal-add-result-2 : (t : ℕ) → put-decimal-lts.Need-add-result-2 (put-
 put-decimal-add-result-2 t c =
     let s = c .before .before .before .before .before .before in
     let a = s .args in
-    let o = a .out .now in
     let e = decimal-more (a .v) (c .before .before .before .before .if1 .left) in
     let l = length-append (decimal (a .v / 10)) ((48 + a .v % 10) ∷ []) in
     omega (arith, s .pre .1, ap length e, l, c .before .before .put-decimal .ensures .next)
@@ -102,7 +97,6 @@ put-decimal-returns-2 : (t : ℕ) → put-decimal-lts.Need-returns-2 (put-decima
 put-decimal-returns-2 t c =
     let s = c .before .before .before .before .before .before in
     let a = s .args in
-    let o = a .out .now in
     let e = decimal-more (a .v) (c .before .before .before .before .if1 .left) in
     let l = length-append (decimal (a .v / 10)) ((48 + a .v % 10) ∷ []) in
     wrote-as (sym e)

@@ -1,8 +1,6 @@
 -- The digits of a number by the table.
 -- The loop keeps: the number has more than i digits, and i is within the table.
 use native.Mathlib.Omega.{arith}
-use borrow.Author.Needs.{needs}
-use mathlib.Core.Path.{_≡_, refl, sym, ap, _∙_}
 use Rattle.printout.specs.DecimalLaws.{tens, Digits, digits-start, digits-step, digits-end}
 use Prim.Native.Nat.{_-_}
 use Rattle.printout.proofs.pieces.digits.Statement.{statement}

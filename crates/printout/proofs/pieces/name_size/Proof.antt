@@ -1,9 +1,8 @@
 -- One byte for name 0, else `n` and the digits.
 -- A name under 65,536 has at most five of them.
 use native.Mathlib.Omega.{arith}
-use borrow.Author.Needs.{needs}
-use mathlib.Core.Path.{_≡_, refl, sym, ap, _∙_}
-use lib.ListN.{length, getD, set}
+use mathlib.Core.Path.{sym, ap}
+use lib.ListN.{length}
 use Rattle.printout.specs.NameLaws.{name-none, name-some}
 use Rattle.printout.proofs.pieces.name_size.Statement.{statement}
 use Rattle.printout.proofs.pieces.name_size.Tie as tie
@@ -17,7 +16,6 @@ returns c =
 digits-requires : tie.Need-digits-requires
 digits-requires c κs =
     let s = c .before in
-    let a = s .args in
     omega (arith, s .pre)
 
 add-result : tie.Need-add-result

@@ -1,11 +1,8 @@
 -- The length of the names.
 -- The loop keeps: what is counted and what is left make the whole.
 use native.Mathlib.Omega.{arith}
-use borrow.Author.Needs.{needs}
-use mathlib.Core.Path.{_≡_, refl, sym, ap, _∙_}
-use Prim.Native.Nat.{ℕ, _+_, _*_, _-_, _/_, _≤_, _<_}
-use lib.ListN.{length, getD, set}
-use Rattle.record.specs.Number.{u16At, numbersAt}
+use mathlib.Core.Path.{ap}
+use lib.ListN.{length}
 use Rattle.printout.specs.NameLaws.{NamesInv, names-step, names-end}
 use Rattle.printout.proofs.pieces.names_size.Statement.{statement}
 use Rattle.printout.proofs.pieces.names_size.Tie as tie
@@ -19,15 +16,10 @@ abbrev μ-loop : tie.MeasureT-loop
 loop-holds : tie.Need-loop-holds Inv-loop μ-loop
 loop-holds c =
     let s = c .before in
-    let a = s .args in
-    let b = a .records .now in
     record { within = s .pre .0; all = omega arith; most = omega (arith, s .pre .1) }
 
 u16-at-requires : tie.Need-u16-at-requires Inv-loop μ-loop
 u16-at-requires c κs =
-    let s = c .before .before .before in
-    let a = s .args in
-    let b = a .records .now in
     let l = c .before .loop in
     omega (arith, l .inv .within, c .loop-test .taken)
 
@@ -39,17 +31,11 @@ add-sum c = omega (arith, c .name-size .ensures .1)
 
 add-sum-2 : tie.Need-add-sum-2 Inv-loop μ-loop
 add-sum-2 c =
-    let s = c .before .before .before .before .before in
-    let a = s .args in
-    let b = a .records .now in
     let l = c .before .before .before .loop in
     omega (arith, l .inv .most, c .name-size .ensures .1, c .before .before .loop-test .taken)
 
 add-next : tie.Need-add-next Inv-loop μ-loop
 add-next c =
-    let s = c .before .before .before .before .before in
-    let a = s .args in
-    let b = a .records .now in
     let l = c .before .before .before .loop in
     omega (arith, l .inv .within, c .before .before .loop-test .taken)
 

@@ -1,8 +1,7 @@
 -- The bytes are written, and the place behind them is the sum.
 -- Copying has the list; the rest is what the function asks.
-use native.Mathlib.Omega.{arith}
 use borrow.Author.Needs.{needs}
-use mathlib.Core.Path.{_≡_, refl, sym, ap, _∙_}
+use mathlib.Core.Path.{refl}
 use Rattle.printout.proofs.pieces.put.Statement.{statement}
 use Rattle.printout.proofs.pieces.put.Tie as tie
 
@@ -18,7 +17,6 @@ same-length c = search needs
 returns : tie.Need-returns
 returns c =
     let s = c .before .before .before .before .before .before in
-    let a = s .args in
     record { is = c .before .before .copy-at .ensures; next = refl; fits = s .pre }
 
 pub put-spec : {M : Type 1} → statement M

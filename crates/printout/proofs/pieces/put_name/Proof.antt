@@ -2,10 +2,10 @@
 -- What was written first leaves room for the second.
 use native.Mathlib.Omega.{arith}
 use borrow.Author.Needs.{needs}
-use mathlib.Core.Path.{_≡_, refl, sym, ap, _∙_}
+use mathlib.Core.Path.{sym, ap}
 use Rattle.printout.specs.NameLaws.{name-none, name-some}
 use Rattle.printout.specs.Wrote.{wrote-as, wrote-more, wrote-long}
-use lib.ListN.{length, getD, set}
+use lib.ListN.{length}
 use Rattle.printout.proofs.pieces.put_name.Statement.{statement}
 use Rattle.printout.proofs.pieces.put_name.Tie as tie
 
@@ -16,7 +16,6 @@ put-requires : tie.Need-put-requires
 put-requires c κs =
     let s = c .before .before .before .before in
     let a = s .args in
-    let o = a .out .now in
     omega (arith, s .pre, ap length (name-none (a .name) (c .before .before .if1 .taken)))
 
 same-length : tie.Need-same-length
@@ -26,7 +25,6 @@ returns : tie.Need-returns
 returns c =
     let s = c .before .before .before .before .before .before .before in
     let a = s .args in
-    let o = a .out .now in
     wrote-as (sym (name-none (a .name) (c .before .before .before .before .before .if1 .taken))) (c .before .before .put .ensures)
 
 slice-aggregate-put-2 : tie.Need-slice-aggregate-put-2
@@ -36,14 +34,12 @@ put-requires-2 : tie.Need-put-requires-2
 put-requires-2 c κs =
     let s = c .before .before .before .before in
     let a = s .args in
-    let o = a .out .now in
     omega (arith, s .pre, ap length (name-some (a .name) (c .before .before .if1 .left)))
 
 put-decimal-requires : tie.Need-put-decimal-requires
 put-decimal-requires c κs =
     let s = c .before .before .before .before .before .before .before .before in
     let a = s .args in
-    let o = a .out .now in
     omega (arith, s .pre, ap length (name-some (a .name) (c .before .before .before .before .before .before .if1 .left)), c .before .before .before .put2 .ensures .next, wrote-long (c .before .before .before .put2 .ensures))
 
 same-length-2 : tie.Need-same-length-2
@@ -53,7 +49,6 @@ returns-2 : tie.Need-returns-2
 returns-2 c =
     let s = c .before .before .before .before .before .before .before .before .before .before .before in
     let a = s .args in
-    let o = a .out .now in
     wrote-as (sym (name-some (a .name) (c .before .before .before .before .before .before .before .before .before .if1 .left))) (wrote-more (c .before .before .before .before .before .before .put2 .ensures) (c .before .before .put-decimal .ensures))
 
 pub put-name-spec : {M : Type 1} → statement M

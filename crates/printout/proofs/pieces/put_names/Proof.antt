@@ -2,14 +2,14 @@
 -- The loop keeps: what is left to write gives the whole.
 use native.Mathlib.Omega.{arith}
 use borrow.Author.Needs.{needs}
-use mathlib.Core.Path.{_≡_, refl, sym, ap, _∙_}
-use Prim.Native.Nat.{ℕ, _+_, _*_, _-_, _/_, _≤_, _<_}
-use lib.ListN.{length, getD, set}
-use mathlib.Core.List.{List, [], _∷_, _++_}
-use Rattle.record.specs.Number.{u16At, numbersAt}
+use mathlib.Core.Path.{ap}
+use Prim.Native.Nat.{ℕ, _+_, _-_}
+use lib.ListN.{length}
+use mathlib.Core.List.{_++_}
+use Rattle.record.specs.Number.{numbersAt}
 use Rattle.printout.specs.NameLaws.{PutInv, put-left, put-room, names-end}
 use Rattle.printout.specs.Text.{ascii, nameText, moreNames}
-use Rattle.printout.specs.Wrote.{wrote-as, wrote-more, wrote-long, Left, left-start, left-step, left-done}
+use Rattle.printout.specs.Wrote.{wrote-as, wrote-more, wrote-long, left-start, left-step, left-done}
 use Rattle.printout.proofs.pieces.put_names.Statement.{statement}
 use Rattle.printout.proofs.pieces.put_names.Tie as tie
 
@@ -29,9 +29,6 @@ loop-holds c =
 
 u16-at-requires : tie.Need-u16-at-requires Inv-loop μ-loop
 u16-at-requires c κs =
-    let s = c .before .before .before .before in
-    let a = s .args in
-    let b = a .records .now in
     let l = c .before .loop in
     omega (arith, l .inv .within, c .loop-test .taken)
 
@@ -57,9 +54,6 @@ put-name-requires c κs =
 
 add-next : tie.Need-add-next Inv-loop μ-loop
 add-next c =
-    let s = c .before .before .before .before .before .before .before .before .before .before .before .before .before .before in
-    let a = s .args in
-    let b = a .records .now in
     let l = c .before .before .before .before .before .before .before .before .before .before .before .loop in
     omega (arith, l .inv .within, c .before .before .before .before .before .before .before .before .before .before .loop-test .taken)
 
@@ -83,9 +77,6 @@ loop-again c =
 
 same-length : tie.Need-same-length Inv-loop μ-loop
 same-length c =
-    let s = c .before .before .before .before in
-    let a = s .args in
-    let b = a .records .now in
     let l = c .before .loop in
     l .inv .rest .long
 

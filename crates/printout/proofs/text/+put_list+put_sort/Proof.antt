@@ -1,11 +1,11 @@
 -- A text is its pieces one after the other, and a list its sorts, a blank before each.
 -- The measures are the tree sizes left, doubled, and one more for a list.
-use Prim.Native.Nat.{ℕ, suc, _+_, _*_, _-_, _/_, _%_, _≤_, _<_}
-use mathlib.Core.Path.{_≡_, refl, sym, ap, _∙_}
-use mathlib.Core.List.{List, [], _∷_, _++_}
+use Prim.Native.Nat.{ℕ, suc, _+_, _*_, _-_, _≤_, _<_}
+use mathlib.Core.Path.{sym, ap}
+use mathlib.Core.List.{_++_}
 use native.Mathlib.Omega.{arith}
 use borrow.Author.Needs.{needs}
-use lib.ListN.{getD, set, length, length-set, length-append}
+use lib.ListN.{length}
 use Rattle.record.specs.Number.{u16At, numbersAt}
 use Rattle.record.specs.Sort.{size, sizes}
 use Rattle.store.specs.Walk.{entry-asks, size-pos}
@@ -14,7 +14,7 @@ use Rattle.printout.specs.Pieces.{wordText, closeText, piecesText}
 use Rattle.printout.specs.PieceLaws.{after}
 use Rattle.printout.specs.Trees.{treeAt, treesAt, innerOf}
 use Rattle.printout.specs.TreeLaws.{texts-none, texts-more, trees-size, first-asks, rest-ask, entry-text, entry-form, entry-size, inner-asks, list-asks}
-use Rattle.printout.specs.Wrote.{Wrote, wrote-as, wrote-none, wrote-more, room-first, room-next, room-step}
+use Rattle.printout.specs.Wrote.{wrote-as, wrote-none, wrote-more, room-first, room-next, room-step}
 use borrow.Fn.Kinds.{In}
 use borrow.Fn.PlainCycle.{Measures, is, falls, and}
 use Rattle.printout.proofs.text.put_list.Reads as put-list
@@ -65,7 +65,6 @@ put-list-returns t c =
     let a = s .args in
     let b = a .records .now in
     let p = a .places .now in
-    let asks = s .pre .1 .0 in
     let o = a .out .now in
     let room = s .pre .1 .1 in
     wrote-as (sym (texts-none b p (a .at) (a .left) (c .if1 .taken))) (wrote-none o (a .to) (omega (arith, room)))
@@ -73,13 +72,7 @@ put-list-returns t c =
 put-list-u16-at-requires : (t : ℕ) → put-list-lts.Need-u16-at-requires (put-list-env t) (put-list-at t) put-list.Post
 put-list-u16-at-requires t c κs =
     let s = c .before .before .before .before in
-    let a = s .args in
-    let b = a .records .now in
-    let p = a .places .now in
     let asks = s .pre .1 .0 in
-    let o = a .out .now in
-    let room = s .pre .1 .1 in
-    let h = after (a .left) 0 (c .if1 .left) (omega arith) in
     omega (arith, asks .within)
 
 put-list-slice-aggregate-put : (t : ℕ) → put-list-lts.Need-slice-aggregate-put (put-list-env t) (put-list-at t) put-list.Post
@@ -92,7 +85,6 @@ put-list-put-requires t c κs =
     let a = s .args in
     let b = a .records .now in
     let p = a .places .now in
-    let asks = s .pre .1 .0 in
     let o = a .out .now in
     let room = s .pre .1 .1 in
     let h = after (a .left) 0 (c .before .before .before .if1 .left) (omega arith) in
@@ -121,24 +113,13 @@ put-list-put-sort-requires t c κs =
 put-list-add-put-list : (t : ℕ) → put-list-lts.Need-add-put-list (put-list-env t) (put-list-at t) put-list.Post
 put-list-add-put-list t c =
     let s = c .before .before .before .before .before .before .before .before .before .before .before .before .before .before in
-    let a = s .args in
-    let b = a .records .now in
-    let p = a .places .now in
     let asks = s .pre .1 .0 in
-    let o = a .out .now in
-    let room = s .pre .1 .1 in
-    let h = after (a .left) 0 (c .before .before .before .before .before .before .before .before .before .before .if1 .left) (omega arith) in
     omega (arith, asks .within)
 
 put-list-sub-put-list : (t : ℕ) → put-list-lts.Need-sub-put-list (put-list-env t) (put-list-at t) put-list.Post
 put-list-sub-put-list t c =
     let s = c .before .before .before .before .before .before .before .before .before .before .before .before .before .before in
     let a = s .args in
-    let b = a .records .now in
-    let p = a .places .now in
-    let asks = s .pre .1 .0 in
-    let o = a .out .now in
-    let room = s .pre .1 .1 in
     let h = after (a .left) 0 (c .before .before .before .before .before .before .before .before .before .before .if1 .left) (omega arith) in
     h
 
@@ -171,14 +152,8 @@ put-list-returns-2 t c =
     let a = s .args in
     let b = a .records .now in
     let p = a .places .now in
-    let asks = s .pre .1 .0 in
-    let o = a .out .now in
-    let room = s .pre .1 .1 in
     let h = after (a .left) 0 (c .before .before .before .before .before .before .before .before .before .before .before .before .before .before .if1 .left) (omega arith) in
     let q = texts-more b p (a .at) (a .left) h in
-    let x = text (treeAt b p (u16At b (a .at))) in
-    let ts = texts (treesAt b p (numbersAt b (a .at + 2) (a .left - 1))) in
-    let fits : a .to + length (ascii " " ++ (x ++ ts)) ≤ length o = rw q at room in
     let w = wrote-as (ap (λ (k : ℕ). text (treeAt b p k)) (c .before .before .before .before .before .before .before .before .before .before .before .before .before .u16-at .ensures .0)) (c .before .before .before .before .before .before .put-sort .ensures) in
     wrote-as (sym q) (wrote-more (c .before .before .before .before .before .before .before .before .before .before .put .ensures) (wrote-more w (c .before .before .put-list .ensures)))
 
@@ -189,8 +164,6 @@ put-sort-entry-requires t c κs =
     let b = a .records .now in
     let p = a .places .now in
     let asks = s .pre .1 .0 in
-    let o = a .out .now in
-    let room = s .pre .1 .1 in
     entry-asks b p (suc (a .k)) (a .k) (asks .stored) (omega arith)
 
 put-sort-form-of-requires : (t : ℕ) → put-sort-lts.Need-form-of-requires (put-sort-env t) (put-sort-at t) put-sort.Post
@@ -291,8 +264,6 @@ put-sort-returns t c =
     let b = a .records .now in
     let p = a .places .now in
     let asks = s .pre .1 .0 in
-    let o = a .out .now in
-    let room = s .pre .1 .1 in
     let r = c .before .before .before .before .before .before .before .before .before .before .before .before .before .before .before .before .before .entry .result in
     let e = c .before .before .before .before .before .before .before .before .before .before .before .before .before .before .before .before .before .entry .ensures (suc (a .k)) (asks .stored) (omega arith) in
     wrote-as (sym (entry-text b p (a .k) asks r e (c .before .before .before .before .before .before .before .before .before .before .before .before .before .before .before .before .form-of .result) (c .before .before .before .before .before .before .before .before .before .before .before .before .before .before .before .before .form-of .ensures))) (wrote-more (c .before .before .before .before .before .before .before .before .before .before .before .before .before .before .put-word .ensures) (wrote-more (c .before .before .before .before .before .before .before .before .before .before .put-inner .ensures) (wrote-more (c .before .before .before .before .before .before .put-list .ensures) (c .before .before .put-close .ensures))))

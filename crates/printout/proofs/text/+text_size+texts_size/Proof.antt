@@ -1,15 +1,13 @@
 -- A text is as long as its pieces, and a list as its sorts with a blank each.
 -- The measures are the tree sizes left, doubled, and one more for a list.
-use Prim.Native.Nat.{ℕ, suc, _+_, _*_, _-_, _/_, _%_, _≤_, _<_}
-use mathlib.Core.Path.{_≡_, refl, sym, ap, _∙_}
-use mathlib.Core.List.{List, [], _∷_, _++_}
+use Prim.Native.Nat.{ℕ, suc, _+_, _*_, _<_}
+use mathlib.Core.Path.{sym, ap}
 use native.Mathlib.Omega.{arith}
 use borrow.Author.Needs.{needs}
-use lib.ListN.{getD, set, length, length-set, length-append}
+use lib.ListN.{length}
 use Rattle.record.specs.Number.{u16At, numbersAt}
 use Rattle.record.specs.Sort.{size, sizes}
 use Rattle.store.specs.Walk.{entry-asks, size-pos}
-use Rattle.printout.specs.Text.{text, texts}
 use Rattle.printout.specs.PieceLaws.{after}
 use Rattle.printout.specs.Trees.{treeAt, treesAt}
 use Rattle.printout.specs.TreeLaws.{texts-none, trees-size, first-asks, rest-ask, entry-form, entry-size, inner-asks, list-asks, entry-length, list-length}
@@ -144,17 +142,12 @@ texts-size-returns t c =
     let a = s .args in
     let b = a .records .now in
     let p = a .places .now in
-    let asks = s .pre .1 in
     record { is = sym (ap length (texts-none b p (a .at) (a .left) (c .if1 .taken))); most = omega arith }
 
 texts-size-u16-at-requires : (t : ℕ) → texts-size-lts.Need-u16-at-requires (texts-size-env t) (texts-size-at t) texts-size.Post
 texts-size-u16-at-requires t c κs =
     let s = c .before .before .before in
-    let a = s .args in
-    let b = a .records .now in
-    let p = a .places .now in
     let asks = s .pre .1 in
-    let h = after (a .left) 0 (c .if1 .left) (omega arith) in
     omega (arith, asks .within)
 
 texts-size-text-size-requires : (t : ℕ) → texts-size-lts.Need-text-size-requires (texts-size-env t) (texts-size-at t) texts-size.Post
@@ -170,20 +163,13 @@ texts-size-text-size-requires t c κs =
 texts-size-add-texts-size : (t : ℕ) → texts-size-lts.Need-add-texts-size (texts-size-env t) (texts-size-at t) texts-size.Post
 texts-size-add-texts-size t c =
     let s = c .before .before .before .before .before in
-    let a = s .args in
-    let b = a .records .now in
-    let p = a .places .now in
     let asks = s .pre .1 in
-    let h = after (a .left) 0 (c .before .before .if1 .left) (omega arith) in
     omega (arith, asks .within)
 
 texts-size-sub-texts-size : (t : ℕ) → texts-size-lts.Need-sub-texts-size (texts-size-env t) (texts-size-at t) texts-size.Post
 texts-size-sub-texts-size t c =
     let s = c .before .before .before .before .before in
     let a = s .args in
-    let b = a .records .now in
-    let p = a .places .now in
-    let asks = s .pre .1 in
     let h = after (a .left) 0 (c .before .before .if1 .left) (omega arith) in
     h
 
@@ -225,7 +211,6 @@ texts-size-returns-2 t c =
     let a = s .args in
     let b = a .records .now in
     let p = a .places .now in
-    let asks = s .pre .1 in
     let h = after (a .left) 0 (c .before .before .before .if1 .left) (omega arith) in
     let w = list-length b p (a .at) (a .left) (c .before .text-size .result) (c .texts-size .result) h (rw (c .before .before .u16-at .ensures .0) at (c .before .text-size .ensures)) (c .texts-size .ensures) in
     w

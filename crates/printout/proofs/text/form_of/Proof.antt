@@ -1,8 +1,5 @@
 -- An Atom without parts has a form of its own, every other sort the form of its kind.
 -- Each case is a law of the definition.
-use native.Mathlib.Omega.{arith}
-use borrow.Author.Needs.{needs}
-use mathlib.Core.Path.{_≡_, refl, sym, ap, _∙_}
 use Rattle.printout.specs.PieceLaws.{form-bare, form-atom, form-kind}
 use Rattle.printout.proofs.text.form_of.Statement.{statement}
 use Rattle.printout.proofs.text.form_of.Tie as tie

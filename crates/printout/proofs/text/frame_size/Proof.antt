@@ -1,8 +1,7 @@
 -- The constant array is the table of the definition.
 -- So an entry of one is the entry of the other.
-use native.Mathlib.Omega.{arith}
 use borrow.Author.Needs.{needs}
-use mathlib.Core.Path.{_≡_, refl, sym, ap, _∙_}
+use mathlib.Core.Path.{refl}
 use Rattle.printout.specs.Pieces.{frames}
 use Rattle.printout.proofs.text.frame_size.Statement.{statement}
 use Rattle.printout.proofs.text.frame_size.Tie as tie

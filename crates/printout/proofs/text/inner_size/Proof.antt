@@ -1,11 +1,9 @@
 -- The table says which field stands between the word and the parts.
 -- Each case is the law of its value.
 use native.Mathlib.Omega.{arith}
-use borrow.Author.Needs.{needs}
-use mathlib.Core.Path.{_≡_, refl, sym, ap, _∙_}
-use Prim.Native.Nat.{ℕ, _+_, _*_, _-_, _/_, _≤_, _<_}
-use lib.ListN.{length, getD, set}
-use Rattle.record.specs.Number.{u16At, numbersAt}
+use mathlib.Core.Path.{ap}
+use lib.ListN.{length}
+use Rattle.record.specs.Number.{numbersAt}
 use Rattle.printout.specs.Pieces.{inners}
 use Rattle.printout.specs.PieceLaws.{inner-name, inner-number, inner-names, inner-none}
 use Rattle.printout.specs.NameLaws.{names-bracket}
@@ -15,29 +13,21 @@ use Rattle.printout.proofs.text.inner_size.Tie as tie
 array-read-inner : tie.Need-array-read-inner
 array-read-inner c =
     let s = c .before in
-    let a = s .args in
-    let b = a .records .now in
     s .pre .form
 
 name-size-requires : tie.Need-name-size-requires
 name-size-requires c κs =
     let s = c .before .before in
-    let a = s .args in
-    let b = a .records .now in
     s .pre .name
 
 digits-requires : tie.Need-digits-requires
 digits-requires c κs =
     let s = c .before .before in
-    let a = s .args in
-    let b = a .records .now in
     omega (arith, s .pre .number)
 
 names-size-requires : tie.Need-names-size-requires
 names-size-requires c κs =
     let s = c .before .before in
-    let a = s .args in
-    let b = a .records .now in
     (s .pre .within, s .pre .few)
 
 returns : tie.Need-returns

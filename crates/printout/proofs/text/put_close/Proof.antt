@@ -2,8 +2,8 @@
 -- 0 in the table stands for none.
 use native.Mathlib.Omega.{arith}
 use borrow.Author.Needs.{needs}
-use mathlib.Core.Path.{_≡_, refl, sym, ap, _∙_}
-use lib.ListN.{length, getD, set}
+use mathlib.Core.Path.{sym, ap}
+use lib.ListN.{length, getD}
 use Rattle.printout.specs.Pieces.{closes}
 use Rattle.printout.specs.PieceLaws.{close-none, close-one}
 use Rattle.printout.specs.Wrote.{wrote-as, wrote-none, wrote-one}
@@ -13,7 +13,6 @@ use Rattle.printout.proofs.text.put_close.Tie as tie
 array-read-bracket : tie.Need-array-read-bracket
 array-read-bracket c =
     let s = c in
-    let a = s .args in
     s .pre .0
 
 returns : tie.Need-returns
@@ -29,7 +28,6 @@ unfolding closes
 slice-write-out c =
     let s = c .before in
     let a = s .args in
-    let o = a .out .now in
     omega (arith, s .pre .1, ap length (close-one (a .form) (c .if1 .left)))
 
 add-result : tie.Need-add-result
@@ -37,7 +35,6 @@ unfolding closes
 add-result c =
     let s = c .before in
     let a = s .args in
-    let o = a .out .now in
     omega (arith, s .pre .1, ap length (close-one (a .form) (c .if1 .left)))
 
 same-length : tie.Need-same-length

@@ -2,11 +2,9 @@
 -- Each case is the law of its value.
 use native.Mathlib.Omega.{arith}
 use borrow.Author.Needs.{needs}
-use mathlib.Core.Path.{_≡_, refl, sym, ap, _∙_}
-use Prim.Native.Nat.{ℕ, _+_, _*_, _-_, _/_, _≤_, _<_}
-use lib.ListN.{length, getD, set}
-use mathlib.Core.List.{List, [], _∷_, _++_}
-use Rattle.record.specs.Number.{u16At, numbersAt}
+use mathlib.Core.Path.{sym, ap}
+use lib.ListN.{length}
+use Rattle.record.specs.Number.{numbersAt}
 use Rattle.printout.specs.Pieces.{inners}
 use Rattle.printout.specs.PieceLaws.{inner-name, inner-number, inner-names, inner-none}
 use Rattle.printout.specs.Wrote.{wrote-as, wrote-none}
@@ -16,8 +14,6 @@ use Rattle.printout.proofs.text.put_inner.Tie as tie
 array-read-inner : tie.Need-array-read-inner
 array-read-inner c =
     let s = c .before .before in
-    let a = s .args in
-    let b = a .records .now in
     s .pre .0 .form
 
 put-name-requires : tie.Need-put-name-requires
@@ -26,7 +22,6 @@ put-name-requires c κs =
     let s = c .before .before .before .before in
     let a = s .args in
     let b = a .records .now in
-    let o = a .out .now in
     omega (arith, s .pre .1, ap length (inner-name (a .form) (a .a .name) (a .a .number) (numbersAt b (a .a .names) (a .a .named)) (c .before .match .keys1)))
 
 put-decimal-requires : tie.Need-put-decimal-requires
@@ -35,7 +30,6 @@ put-decimal-requires c κs =
     let s = c .before .before .before .before in
     let a = s .args in
     let b = a .records .now in
-    let o = a .out .now in
     omega (arith, s .pre .1, ap length (inner-number (a .form) (a .a .name) (a .a .number) (numbersAt b (a .a .names) (a .a .named)) (c .before .match .keys2)))
 
 put-own-requires : tie.Need-put-own-requires
@@ -44,7 +38,6 @@ put-own-requires c κs =
     let s = c .before .before .before .before in
     let a = s .args in
     let b = a .records .now in
-    let o = a .out .now in
     (s .pre .0 .some (c .before .match .keys3), s .pre .0 .within, omega (arith, s .pre .1, ap length (inner-names (a .form) (a .a .name) (a .a .number) (numbersAt b (a .a .names) (a .a .named)) (c .before .match .keys3))))
 
 same-length : tie.Need-same-length
@@ -56,7 +49,6 @@ returns c =
     let s = c .before .before .before .before .before .before .before in
     let a = s .args in
     let b = a .records .now in
-    let o = a .out .now in
     wrote-as (sym (inner-name (a .form) (a .a .name) (a .a .number) (numbersAt b (a .a .names) (a .a .named)) (c .before .before .before .before .match .keys1))) (c .before .before .put-name .ensures)
 
 same-length-2 : tie.Need-same-length-2
@@ -68,7 +60,6 @@ returns-2 c =
     let s = c .before .before .before .before .before .before .before in
     let a = s .args in
     let b = a .records .now in
-    let o = a .out .now in
     wrote-as (sym (inner-number (a .form) (a .a .name) (a .a .number) (numbersAt b (a .a .names) (a .a .named)) (c .before .before .before .before .match .keys2))) (c .before .before .put-decimal .ensures)
 
 same-length-3 : tie.Need-same-length-3
@@ -80,7 +71,6 @@ returns-3 c =
     let s = c .before .before .before .before .before .before .before in
     let a = s .args in
     let b = a .records .now in
-    let o = a .out .now in
     wrote-as (sym (inner-names (a .form) (a .a .name) (a .a .number) (numbersAt b (a .a .names) (a .a .named)) (c .before .before .before .before .match .keys3))) (c .before .before .put-own .ensures)
 
 returns-4 : tie.Need-returns-4

@@ -2,9 +2,9 @@
 -- The form that is left has none.
 use native.Mathlib.Omega.{arith}
 use borrow.Author.Needs.{needs}
-use mathlib.Core.Path.{_≡_, refl, sym, ap, _∙_}
-use Prim.Native.Nat.{ℕ, _+_, _*_, _-_, _/_, _≤_, _<_}
-use lib.ListN.{length, getD, set}
+use mathlib.Core.Path.{_≡_, sym, ap}
+use Prim.Native.Nat.{ℕ}
+use lib.ListN.{length}
 use Rattle.printout.specs.Pieces.{words, wordText}
 use Rattle.printout.specs.PieceLaws.{after}
 use Rattle.printout.specs.Wrote.{wrote-as, wrote-none}
@@ -18,8 +18,6 @@ put-requires : tie.Need-put-requires
 unfolding wordText words
 put-requires c κs =
     let s = c .before .before .before .before in
-    let a = s .args in
-    let o = a .out .now in
     omega (arith, s .pre .1, ap (λ (f : ℕ). length (wordText f)) (c .before .before .match .keys1))
 
 slice-aggregate-put-2 : tie.Need-slice-aggregate-put-2
@@ -29,8 +27,6 @@ put-requires-2 : tie.Need-put-requires-2
 unfolding wordText words
 put-requires-2 c κs =
     let s = c .before .before .before .before in
-    let a = s .args in
-    let o = a .out .now in
     omega (arith, s .pre .1, ap (λ (f : ℕ). length (wordText f)) (c .before .before .match .keys2))
 
 slice-aggregate-put-3 : tie.Need-slice-aggregate-put-3
@@ -40,8 +36,6 @@ put-requires-3 : tie.Need-put-requires-3
 unfolding wordText words
 put-requires-3 c κs =
     let s = c .before .before .before .before in
-    let a = s .args in
-    let o = a .out .now in
     omega (arith, s .pre .1, ap (λ (f : ℕ). length (wordText f)) (c .before .before .match .keys3))
 
 slice-aggregate-put-4 : tie.Need-slice-aggregate-put-4
@@ -51,8 +45,6 @@ put-requires-4 : tie.Need-put-requires-4
 unfolding wordText words
 put-requires-4 c κs =
     let s = c .before .before .before .before in
-    let a = s .args in
-    let o = a .out .now in
     omega (arith, s .pre .1, ap (λ (f : ℕ). length (wordText f)) (c .before .before .match .keys4))
 
 slice-aggregate-put-5 : tie.Need-slice-aggregate-put-5
@@ -62,8 +54,6 @@ put-requires-5 : tie.Need-put-requires-5
 unfolding wordText words
 put-requires-5 c κs =
     let s = c .before .before .before .before in
-    let a = s .args in
-    let o = a .out .now in
     omega (arith, s .pre .1, ap (λ (f : ℕ). length (wordText f)) (c .before .before .match .keys5))
 
 slice-aggregate-put-6 : tie.Need-slice-aggregate-put-6
@@ -73,8 +63,6 @@ put-requires-6 : tie.Need-put-requires-6
 unfolding wordText words
 put-requires-6 c κs =
     let s = c .before .before .before .before in
-    let a = s .args in
-    let o = a .out .now in
     omega (arith, s .pre .1, ap (λ (f : ℕ). length (wordText f)) (c .before .before .match .keys6))
 
 slice-aggregate-put-7 : tie.Need-slice-aggregate-put-7
@@ -84,8 +72,6 @@ put-requires-7 : tie.Need-put-requires-7
 unfolding wordText words
 put-requires-7 c κs =
     let s = c .before .before .before .before in
-    let a = s .args in
-    let o = a .out .now in
     omega (arith, s .pre .1, ap (λ (f : ℕ). length (wordText f)) (c .before .before .match .keys7))
 
 slice-aggregate-put-8 : tie.Need-slice-aggregate-put-8
@@ -95,8 +81,6 @@ put-requires-8 : tie.Need-put-requires-8
 unfolding wordText words
 put-requires-8 c κs =
     let s = c .before .before .before .before in
-    let a = s .args in
-    let o = a .out .now in
     omega (arith, s .pre .1, ap (λ (f : ℕ). length (wordText f)) (c .before .before .match .keys8))
 
 slice-aggregate-put-9 : tie.Need-slice-aggregate-put-9
@@ -106,8 +90,6 @@ put-requires-9 : tie.Need-put-requires-9
 unfolding wordText words
 put-requires-9 c κs =
     let s = c .before .before .before .before in
-    let a = s .args in
-    let o = a .out .now in
     omega (arith, s .pre .1, ap (λ (f : ℕ). length (wordText f)) (c .before .before .match .keys9))
 
 slice-aggregate-put-10 : tie.Need-slice-aggregate-put-10
@@ -117,8 +99,6 @@ put-requires-10 : tie.Need-put-requires-10
 unfolding wordText words
 put-requires-10 c κs =
     let s = c .before .before .before .before in
-    let a = s .args in
-    let o = a .out .now in
     omega (arith, s .pre .1, ap (λ (f : ℕ). length (wordText f)) (c .before .before .match .keys10))
 
 slice-aggregate-put-11 : tie.Need-slice-aggregate-put-11
@@ -128,8 +108,6 @@ put-requires-11 : tie.Need-put-requires-11
 unfolding wordText words
 put-requires-11 c κs =
     let s = c .before .before .before .before in
-    let a = s .args in
-    let o = a .out .now in
     omega (arith, s .pre .1, ap (λ (f : ℕ). length (wordText f)) (c .before .before .match .keys11))
 
 slice-aggregate-put-12 : tie.Need-slice-aggregate-put-12
@@ -139,8 +117,6 @@ put-requires-12 : tie.Need-put-requires-12
 unfolding wordText words
 put-requires-12 c κs =
     let s = c .before .before .before .before in
-    let a = s .args in
-    let o = a .out .now in
     omega (arith, s .pre .1, ap (λ (f : ℕ). length (wordText f)) (c .before .before .match .keys12))
 
 slice-aggregate-put-13 : tie.Need-slice-aggregate-put-13
@@ -150,8 +126,6 @@ put-requires-13 : tie.Need-put-requires-13
 unfolding wordText words
 put-requires-13 c κs =
     let s = c .before .before .before .before in
-    let a = s .args in
-    let o = a .out .now in
     omega (arith, s .pre .1, ap (λ (f : ℕ). length (wordText f)) (c .before .before .match .keys13))
 
 slice-aggregate-put-14 : tie.Need-slice-aggregate-put-14
@@ -161,8 +135,6 @@ put-requires-14 : tie.Need-put-requires-14
 unfolding wordText words
 put-requires-14 c κs =
     let s = c .before .before .before .before in
-    let a = s .args in
-    let o = a .out .now in
     omega (arith, s .pre .1, ap (λ (f : ℕ). length (wordText f)) (c .before .before .match .keys14))
 
 slice-aggregate-put-15 : tie.Need-slice-aggregate-put-15
@@ -172,8 +144,6 @@ put-requires-15 : tie.Need-put-requires-15
 unfolding wordText words
 put-requires-15 c κs =
     let s = c .before .before .before .before in
-    let a = s .args in
-    let o = a .out .now in
     omega (arith, s .pre .1, ap (λ (f : ℕ). length (wordText f)) (c .before .before .match .keys15))
 
 slice-aggregate-put-16 : tie.Need-slice-aggregate-put-16
@@ -183,8 +153,6 @@ put-requires-16 : tie.Need-put-requires-16
 unfolding wordText words
 put-requires-16 c κs =
     let s = c .before .before .before .before in
-    let a = s .args in
-    let o = a .out .now in
     omega (arith, s .pre .1, ap (λ (f : ℕ). length (wordText f)) (c .before .before .match .keys16))
 
 same-length : tie.Need-same-length
@@ -193,9 +161,6 @@ same-length c = search needs
 returns : tie.Need-returns
 unfolding wordText words
 returns c =
-    let s = c .before .before .before .before .before .before .before in
-    let a = s .args in
-    let o = a .out .now in
     wrote-as (sym (ap wordText (c .before .before .before .before .before .match .keys1))) (c .before .before .put .ensures)
 
 same-length-2 : tie.Need-same-length-2
@@ -204,9 +169,6 @@ same-length-2 c = search needs
 returns-2 : tie.Need-returns-2
 unfolding wordText words
 returns-2 c =
-    let s = c .before .before .before .before .before .before .before in
-    let a = s .args in
-    let o = a .out .now in
     wrote-as (sym (ap wordText (c .before .before .before .before .before .match .keys2))) (c .before .before .put2 .ensures)
 
 same-length-3 : tie.Need-same-length-3
@@ -215,9 +177,6 @@ same-length-3 c = search needs
 returns-3 : tie.Need-returns-3
 unfolding wordText words
 returns-3 c =
-    let s = c .before .before .before .before .before .before .before in
-    let a = s .args in
-    let o = a .out .now in
     wrote-as (sym (ap wordText (c .before .before .before .before .before .match .keys3))) (c .before .before .put3 .ensures)
 
 same-length-4 : tie.Need-same-length-4
@@ -226,9 +185,6 @@ same-length-4 c = search needs
 returns-4 : tie.Need-returns-4
 unfolding wordText words
 returns-4 c =
-    let s = c .before .before .before .before .before .before .before in
-    let a = s .args in
-    let o = a .out .now in
     wrote-as (sym (ap wordText (c .before .before .before .before .before .match .keys4))) (c .before .before .put4 .ensures)
 
 same-length-5 : tie.Need-same-length-5
@@ -237,9 +193,6 @@ same-length-5 c = search needs
 returns-5 : tie.Need-returns-5
 unfolding wordText words
 returns-5 c =
-    let s = c .before .before .before .before .before .before .before in
-    let a = s .args in
-    let o = a .out .now in
     wrote-as (sym (ap wordText (c .before .before .before .before .before .match .keys5))) (c .before .before .put5 .ensures)
 
 same-length-6 : tie.Need-same-length-6
@@ -248,9 +201,6 @@ same-length-6 c = search needs
 returns-6 : tie.Need-returns-6
 unfolding wordText words
 returns-6 c =
-    let s = c .before .before .before .before .before .before .before in
-    let a = s .args in
-    let o = a .out .now in
     wrote-as (sym (ap wordText (c .before .before .before .before .before .match .keys6))) (c .before .before .put6 .ensures)
 
 same-length-7 : tie.Need-same-length-7
@@ -259,9 +209,6 @@ same-length-7 c = search needs
 returns-7 : tie.Need-returns-7
 unfolding wordText words
 returns-7 c =
-    let s = c .before .before .before .before .before .before .before in
-    let a = s .args in
-    let o = a .out .now in
     wrote-as (sym (ap wordText (c .before .before .before .before .before .match .keys7))) (c .before .before .put7 .ensures)
 
 same-length-8 : tie.Need-same-length-8
@@ -270,9 +217,6 @@ same-length-8 c = search needs
 returns-8 : tie.Need-returns-8
 unfolding wordText words
 returns-8 c =
-    let s = c .before .before .before .before .before .before .before in
-    let a = s .args in
-    let o = a .out .now in
     wrote-as (sym (ap wordText (c .before .before .before .before .before .match .keys8))) (c .before .before .put8 .ensures)
 
 same-length-9 : tie.Need-same-length-9
@@ -281,9 +225,6 @@ same-length-9 c = search needs
 returns-9 : tie.Need-returns-9
 unfolding wordText words
 returns-9 c =
-    let s = c .before .before .before .before .before .before .before in
-    let a = s .args in
-    let o = a .out .now in
     wrote-as (sym (ap wordText (c .before .before .before .before .before .match .keys9))) (c .before .before .put9 .ensures)
 
 same-length-10 : tie.Need-same-length-10
@@ -292,9 +233,6 @@ same-length-10 c = search needs
 returns-10 : tie.Need-returns-10
 unfolding wordText words
 returns-10 c =
-    let s = c .before .before .before .before .before .before .before in
-    let a = s .args in
-    let o = a .out .now in
     wrote-as (sym (ap wordText (c .before .before .before .before .before .match .keys10))) (c .before .before .put10 .ensures)
 
 same-length-11 : tie.Need-same-length-11
@@ -303,9 +241,6 @@ same-length-11 c = search needs
 returns-11 : tie.Need-returns-11
 unfolding wordText words
 returns-11 c =
-    let s = c .before .before .before .before .before .before .before in
-    let a = s .args in
-    let o = a .out .now in
     wrote-as (sym (ap wordText (c .before .before .before .before .before .match .keys11))) (c .before .before .put11 .ensures)
 
 same-length-12 : tie.Need-same-length-12
@@ -314,9 +249,6 @@ same-length-12 c = search needs
 returns-12 : tie.Need-returns-12
 unfolding wordText words
 returns-12 c =
-    let s = c .before .before .before .before .before .before .before in
-    let a = s .args in
-    let o = a .out .now in
     wrote-as (sym (ap wordText (c .before .before .before .before .before .match .keys12))) (c .before .before .put12 .ensures)
 
 same-length-13 : tie.Need-same-length-13
@@ -325,9 +257,6 @@ same-length-13 c = search needs
 returns-13 : tie.Need-returns-13
 unfolding wordText words
 returns-13 c =
-    let s = c .before .before .before .before .before .before .before in
-    let a = s .args in
-    let o = a .out .now in
     wrote-as (sym (ap wordText (c .before .before .before .before .before .match .keys13))) (c .before .before .put13 .ensures)
 
 same-length-14 : tie.Need-same-length-14
@@ -336,9 +265,6 @@ same-length-14 c = search needs
 returns-14 : tie.Need-returns-14
 unfolding wordText words
 returns-14 c =
-    let s = c .before .before .before .before .before .before .before in
-    let a = s .args in
-    let o = a .out .now in
     wrote-as (sym (ap wordText (c .before .before .before .before .before .match .keys14))) (c .before .before .put14 .ensures)
 
 same-length-15 : tie.Need-same-length-15
@@ -347,9 +273,6 @@ same-length-15 c = search needs
 returns-15 : tie.Need-returns-15
 unfolding wordText words
 returns-15 c =
-    let s = c .before .before .before .before .before .before .before in
-    let a = s .args in
-    let o = a .out .now in
     wrote-as (sym (ap wordText (c .before .before .before .before .before .match .keys15))) (c .before .before .put15 .ensures)
 
 same-length-16 : tie.Need-same-length-16
@@ -358,9 +281,6 @@ same-length-16 c = search needs
 returns-16 : tie.Need-returns-16
 unfolding wordText words
 returns-16 c =
-    let s = c .before .before .before .before .before .before .before in
-    let a = s .args in
-    let o = a .out .now in
     wrote-as (sym (ap wordText (c .before .before .before .before .before .match .keys16))) (c .before .before .put16 .ensures)
 
 returns-17 : tie.Need-returns-17
@@ -370,7 +290,7 @@ returns-17 c =
     let a = s .args in
     let o = a .out .now in
     let low = after (a .form) 15 (c .match .rest .1) (after (a .form) 14 (c .match .rest .0 .1) (after (a .form) 13 (c .match .rest .0 .0 .1) (after (a .form) 12 (c .match .rest .0 .0 .0 .1) (after (a .form) 11 (c .match .rest .0 .0 .0 .0 .1) (after (a .form) 10 (c .match .rest .0 .0 .0 .0 .0 .1) (after (a .form) 9 (c .match .rest .0 .0 .0 .0 .0 .0 .1) (after (a .form) 8 (c .match .rest .0 .0 .0 .0 .0 .0 .0 .1) (after (a .form) 7 (c .match .rest .0 .0 .0 .0 .0 .0 .0 .0 .1) (after (a .form) 6 (c .match .rest .0 .0 .0 .0 .0 .0 .0 .0 .0 .1) (after (a .form) 5 (c .match .rest .0 .0 .0 .0 .0 .0 .0 .0 .0 .0 .1) (after (a .form) 4 (c .match .rest .0 .0 .0 .0 .0 .0 .0 .0 .0 .0 .0 .1) (after (a .form) 3 (c .match .rest .0 .0 .0 .0 .0 .0 .0 .0 .0 .0 .0 .0 .1) (after (a .form) 2 (c .match .rest .0 .0 .0 .0 .0 .0 .0 .0 .0 .0 .0 .0 .0 .1) (after (a .form) 1 (c .match .rest .0 .0 .0 .0 .0 .0 .0 .0 .0 .0 .0 .0 .0 .0 .1) (after (a .form) 0 (c .match .rest .0 .0 .0 .0 .0 .0 .0 .0 .0 .0 .0 .0 .0 .0 .0 .1) (omega arith)))))))))))))))) in
-    let e : a .form ≡ 16 = omega (arith, s .pre .0) in
+    let e : a .form ≡ 16 = omega (arith, s .pre .0, low) in
     wrote-as (sym (ap wordText e)) (wrote-none o (a .to) (omega (arith, s .pre .1)))
 
 pub put-word-spec : {M : Type 1} → statement M
