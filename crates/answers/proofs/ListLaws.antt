@@ -3,7 +3,7 @@ use Prim.Native.Nat.{ℕ, zero, suc, _+_, _*_, _≤_, _<_}
 use mathlib.Core.Path.{_≡_, refl, sym, ap, ap₂, subst, _∙_}
 use mathlib.Core.Bool.{false, cond}
 use mathlib.Core.Option.{none, some}
-use mathlib.Core.List.{List, [], _∷_}
+use mathlib.Core.List.{List, _∷_}
 use native.Mathlib.Omega.{arith}
 use native.Mathlib.Numerals.{add-one}
 use lib.ListN.{length, getD, take, drop, length-take, length-drop}
@@ -11,7 +11,7 @@ use lib.Seq.{getD-take, getD-drop}
 use lib.Dec.{eqb}
 use borrow.Author.Tests.{eq-eqb, ne-eqb}
 use Rattle.record.specs.Number.{u16At, u32At, numbersAt}
-use Rattle.record.specs.Sort.{Sort, Sorts, node, end, _then_, function, count, tuple, set}
+use Rattle.record.specs.Sort.{Sort, node, function, count, tuple, set}
 use Rattle.record.specs.Record.{maps, mapOf, leasts, leastOf, mosts, mostOf, leaf, sortsOf, sortOf}
 use Rattle.record.specs.Decode.{fieldsAt, storeOf, sortAt, written}
 use Rattle.record.specs.Codec.{Bytes, length-numbersAt}
@@ -25,7 +25,7 @@ use Rattle.rows.specs.Lists.{remaining, joined}
 use Rattle.answers.specs.Within.{over-list, over-inner}
 use Rattle.answers.specs.Records.{listed, list-fresh, list-sort}
 use Rattle.answers.specs.Asks.{MakeAsks, ListAsks, ListedAsks, RemainingAsks}
-use Rattle.answers.specs.Arguments.{rowAt, constantIn, putAt, put-long, Filled, filled-more, bindingAt, boundNumbers, BindingsAsks, BindingsAre, bindings-are, LambdaAsks, sorts-joined}
+use Rattle.answers.specs.Arguments.{rowAt, integerAt, putAt, put-long, Filled, filled-more, bindingAt, boundNumbers, BindingsAsks, BindingsAre, bindings-are, LambdaAsks, sorts-joined}
 
 -- A list of more than 64.
 module _ (st : List Sort) (a : List ℕ) (x m : ℕ) (h : 64 < m) where
@@ -187,10 +187,10 @@ pub rows-more : (sheet : List ℕ) (x : ℕ) (rows : List ℕ) (column i : ℕ) 
     → (j : ℕ) → j < i + 1 → rowAt sheet x rows column j < 65536
 rows-more sheet x rows column i here h j l = below-suc (λ (j : ℕ). rowAt sheet x rows column j < 65536) i h here j (omega arith)
 
-pub constant-other : (s : List ℕ) (x : ℕ) → (getD s (x + 1) 0 ≡ 0 → ⊥) → constantIn s x ≡ none
+pub constant-other : (s : List ℕ) (x : ℕ) → (getD s (x + 1) 0 ≡ 0 → ⊥) → integerAt s x ≡ none
 constant-other s x h = simp (ne-eqb (getD s (x + 1) 0) 0 h)
 
-pub constant-integer : (s : List ℕ) (x : ℕ) → getD s (x + 1) 0 ≡ 0 → (low high : ℕ) → low ≡ u16At s (x + 2) → high ≡ u16At s (x + 4) → constantIn s x ≡ some (low + high * 65536)
+pub constant-integer : (s : List ℕ) (x : ℕ) → getD s (x + 1) 0 ≡ 0 → (low high : ℕ) → low ≡ u16At s (x + 2) → high ≡ u16At s (x + 4) → integerAt s x ≡ some (low + high * 65536)
 unfolding u32At
 constant-integer s x h low high el eh =
     let e : x + 2 + 2 ≡ x + 4 = omega arith in

@@ -1,5 +1,5 @@
 -- A record's sort made an answer, by what `tree_size` and `intern` gave; and the Set of it, made behind it or undone.
-use Prim.Native.Nat.{ℕ, _+_, _*_, _≤_, _<_}
+use Prim.Native.Nat.{ℕ, _≤_, _<_}
 use mathlib.Core.Path.{_≡_, sym, ap, subst, _∙_}
 use mathlib.Core.Bool.{false}
 use mathlib.Core.List.{List}
@@ -14,7 +14,7 @@ use Rattle.record.specs.SortLists.{Starts, starts-self, starts-intern, memb-at,
 use Rattle.record.specs.Entries.{store-ordered}
 use Rattle.store.specs.Good.{Good}
 use Rattle.store.specs.Entry.{TreeAsks, TreeHas}
-use Rattle.store.specs.Contract.{InternAsks, Holds, Untouched, UndoAsks, UndoIs}
+use Rattle.store.specs.Contract.{InternAsks, Holds, Untouched, UndoIs}
 use Rattle.store.specs.Walk.{tree-asks}
 use Rattle.store.specs.Grown.{holds-intern}
 use Rattle.rows.specs.declared.Cause.{Cause}
@@ -22,7 +22,7 @@ use Rattle.rows.specs.declared.Cause.the-variants.{Limit, Full}
 use Rattle.rows.specs.declared.RowVerdict.the-variants.{Sort as Number, Refused}
 use Rattle.rows.specs.Verdict.{sort}
 use Rattle.answers.specs.declared.Answer.{Answer}
-use Rattle.answers.specs.Answer.{AnswerIs, accepted, refusal}
+use Rattle.answers.specs.Answer.{AnswerIs, accepting, refusing}
 use Rattle.answers.specs.Within.{within-fresh, within-set, over-size, over-set}
 use Rattle.answers.specs.AnswerLaws.{judged-as, untouched-as, answer-limit, record-made, record-full, intern-set, starts-set, Back, answer-back, grown-accepted, grown-refused, undone}
 use Rattle.answers.specs.Asks.{MakeAsks, OverAsks, MadeFrom}
@@ -39,20 +39,20 @@ module _ (b p hs ns zs : List ℕ) (n u : ℕ) (r : List ℕ) (asks : MakeAsks b
     pub weight-asks : w ≤ 4096 → InternAsks b p hs ns zs n u r w
     weight-asks h = record { good = asks .good; fresh = asks .fresh; weight = weight; small = h }
 
-    pub make-over : 4096 < w → AnswerIs b p n (sort (sortOf (storeOf b p n) (fieldsAt r 0))) b p hs ns zs (refusal Limit n u)
+    pub make-over : 4096 < w → AnswerIs b p n (sort (sortOf (storeOf b p n) (fieldsAt r 0))) b p hs ns zs (refusing Limit n u)
     make-over h =
         let t = sortOf (storeOf b p n) (fieldsAt r 0) in
         answer-limit b p hs ns zs n u (asks .good) t (over-size t (omega (arith, weight)))
 
     pub make-made : (b′ p′ hs′ ns′ zs′ : List ℕ) (k n′ u′ : ℕ) → w ≤ 4096 → Holds b p n u r b′ p′ hs′ ns′ zs′ k n′ u′
-        → AnswerIs b p n (sort (sortOf (storeOf b p n) (fieldsAt r 0))) b′ p′ hs′ ns′ zs′ (accepted k n′ u′)
+        → AnswerIs b p n (sort (sortOf (storeOf b p n) (fieldsAt r 0))) b′ p′ hs′ ns′ zs′ (accepting k n′ u′)
     make-made b′ p′ hs′ ns′ zs′ k n′ u′ h holds =
         record-made b p hs ns zs n u (asks .good) r (asks .fresh) b′ p′ hs′ ns′ zs′ k n′ u′
         (within-fresh b p n (asks .good .stored) r (asks .fresh) (omega (arith, weight))) holds
 
     pub make-full : (b′ p′ hs′ ns′ zs′ : List ℕ) → w ≤ 4096
         → (room (length b) (length p) (addOnce (storeOf b p n) (sortOf (storeOf b p n) (fieldsAt r 0))) ≡ false) × Untouched b p hs ns zs b′ p′ hs′ ns′ zs′
-        → AnswerIs b p n (sort (sortOf (storeOf b p n) (fieldsAt r 0))) b′ p′ hs′ ns′ zs′ (refusal Full n u)
+        → AnswerIs b p n (sort (sortOf (storeOf b p n) (fieldsAt r 0))) b′ p′ hs′ ns′ zs′ (refusing Full n u)
     make-full b′ p′ hs′ ns′ zs′ h q =
         let t = sortOf (storeOf b p n) (fieldsAt r 0) in
         untouched-as (q .1)
@@ -60,14 +60,14 @@ module _ (b p hs ns zs : List ℕ) (n u : ℕ) (r : List ℕ) (asks : MakeAsks b
         (within-fresh b p n (asks .good .stored) r (asks .fresh) (omega (arith, weight))) (q .0))
 
     -- The Set of the record's sort.
-    pub set-large : 4095 < w → AnswerIs b p n (sort (set (sortOf (storeOf b p n) (fieldsAt r 0)))) b p hs ns zs (refusal Limit n u)
+    pub set-large : 4095 < w → AnswerIs b p n (sort (set (sortOf (storeOf b p n) (fieldsAt r 0)))) b p hs ns zs (refusing Limit n u)
     set-large h =
         let t = sortOf (storeOf b p n) (fieldsAt r 0) in
         answer-limit b p hs ns zs n u (asks .good) (set t) (over-set t (omega (arith, weight)))
 
     pub set-full : (b′ p′ hs′ ns′ zs′ : List ℕ) → w ≤ 4095
         → (room (length b) (length p) (addOnce (storeOf b p n) (sortOf (storeOf b p n) (fieldsAt r 0))) ≡ false) × Untouched b p hs ns zs b′ p′ hs′ ns′ zs′
-        → AnswerIs b p n (sort (set (sortOf (storeOf b p n) (fieldsAt r 0)))) b′ p′ hs′ ns′ zs′ (refusal Full n u)
+        → AnswerIs b p n (sort (set (sortOf (storeOf b p n) (fieldsAt r 0)))) b′ p′ hs′ ns′ zs′ (refusing Full n u)
     set-full b′ p′ hs′ ns′ zs′ h q =
         let t = sortOf (storeOf b p n) (fieldsAt r 0) in
         untouched-as (q .1)
@@ -101,13 +101,10 @@ module _ (c q hc nc zc : List ℕ) (m v k n : ℕ) (asks : OverAsks c q hc nc zc
   left-back : (w : Cause) → x .verdict ≡ Refused w → Back c q hc nc zc m v d e hd nd zd x
   left-back w h = answer-back c q m (sort (set (sortAt c q m k))) d e hd nd zd x a hc nc zc v (asks .good) w h
 
-  pub undo-asks : (w : Cause) → x .verdict ≡ Refused w → UndoAsks d e hd nd zd m v n
-  undo-asks w h =
+  pub left-good : (w : Cause) → x .verdict ≡ Refused w → Good d e hd nd zd m v
+  left-good w h =
       let o = left-back w h in
-      record {
-        good = subst (λ (j : ℕ). Good d e hd nd zd m j) (o .used) (subst (λ (j : ℕ). Good d e hd nd zd j (x .used)) (o .count) (a .good));
-        order = asks .order;
-      }
+      subst (λ (j : ℕ). Good d e hd nd zd m j) (o .used) (subst (λ (j : ℕ). Good d e hd nd zd j (x .used)) (o .count) (a .good))
 
   module _ (b p hs ns zs : List ℕ) (u : ℕ) (from : MadeFrom b p hs ns zs n u c q m k) where
     from-starts : Starts (storeOf b p n) (storeOf c q m)
@@ -128,7 +125,7 @@ module _ (c q hc nc zc : List ℕ) (m v k n : ℕ) (asks : OverAsks c q hc nc zc
         grown-accepted b p n c q m (set (sortAt c q m k)) from-same from-starts (from .long) (from .wide) d e hd nd zd x a i h
 
     pub over-undone : (w : Cause) → x .verdict ≡ Refused w → (b′ p′ hs′ ns′ zs′ : List ℕ) (u′ : ℕ) → UndoIs d e m b′ p′ hs′ ns′ zs′ n u′
-        → AnswerIs b p n (sort (set (sortAt c q m k))) b′ p′ hs′ ns′ zs′ (refusal w n u)
+        → AnswerIs b p n (sort (set (sortAt c q m k))) b′ p′ hs′ ns′ zs′ (refusing w n u)
     over-undone w h b′ p′ hs′ ns′ zs′ u′ undo =
         let o = left-back w h in
         untouched-as

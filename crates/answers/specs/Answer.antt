@@ -4,7 +4,7 @@ use mathlib.Core.Path.{_≡_}
 use mathlib.Core.List.{List}
 use lib.ListN.{length}
 use Rattle.record.specs.Sort.{Sort}
-use Rattle.record.specs.Decode.{Fresh, storeOf}
+use Rattle.record.specs.Decode.{storeOf}
 use Rattle.record.specs.SortLists.{Starts}
 use Rattle.sheet.specs.Sheet.{Lengths}
 use Rattle.store.specs.Good.{Good}
@@ -31,8 +31,8 @@ pub record AnswerIs (b p : List ℕ) (n : ℕ) (v : Verdict) (b′ p′ hs′ ns
   pub left : Left (storeOf b p n) (storeOf b′ p′ (r .count)) (r .verdict)
 
 -- The answers by their values.
-abbrev pub accepted : ℕ → ℕ → ℕ → Answer
-accepted k n u = record { verdict = Number k; count = n; used = u }
+abbrev pub accepting : ℕ → ℕ → ℕ → Answer
+accepting k n u = record { verdict = Number k; count = n; used = u }
 
-abbrev pub refusal : Cause → ℕ → ℕ → Answer
-refusal c n u = record { verdict = Refused c; count = n; used = u }
+abbrev pub refusing : Cause → ℕ → ℕ → Answer
+refusing c n u = record { verdict = Refused c; count = n; used = u }

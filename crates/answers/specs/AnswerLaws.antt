@@ -1,6 +1,6 @@
 -- THE WAYS TO AN ANSWER: refused, a sort that the store has, over a limit, made, and without room; the same over a store
 -- that was grown on the way; and what an answer tells.
-use Prim.Native.Nat.{ℕ, _+_, _*_, _≤_, _<_}
+use Prim.Native.Nat.{ℕ, _*_, _≤_, _<_}
 use mathlib.Core.Path.{_≡_, refl, sym, ap, ap₂, subst, _∙_}
 use mathlib.Core.Bool.{Bool, true, false, _&&_}
 use mathlib.Core.List.{List}
@@ -9,13 +9,13 @@ use lib.ListN.{length, getD, take}
 use lib.Seq.{take-at}
 use lib.Dec.{leb}
 use borrow.Author.Tests.{leb-true}
-use Rattle.record.specs.Sort.{Sort, end, _then_, set}
+use Rattle.record.specs.Sort.{Sort, set}
 use Rattle.record.specs.Record.{leaf, sortOf}
 use Rattle.record.specs.Store.{addOnce, intern, indexOf, bytesOf, room}
 use Rattle.record.specs.Decode.{fieldsAt, Fresh, storeOf, sortAt}
 use Rattle.record.specs.Cases.{and-right}
 use Rattle.record.specs.StoreLaws.{storeOf-length, sorts-one}
-use Rattle.record.specs.SortLists.{Once, Starts, starts-self, starts-trans, starts-intern, starts-add, starts-count, memb-at, memb-intern, index-at, index-found, intern-known, intern-parts, room-starts}
+use Rattle.record.specs.SortLists.{Once, Starts, starts-self, starts-trans, starts-intern, starts-add, starts-at, starts-count, memb-at, memb-intern, index-at, index-found, intern-known, intern-parts, room-starts}
 use Rattle.record.specs.Entries.{store-ordered, sort-parts}
 use Rattle.sheet.specs.Sheet.{Lengths}
 use Rattle.store.specs.Good.{Good, good-room, good-one}
@@ -26,11 +26,10 @@ use Rattle.rows.specs.declared.Cause.the-variants.{Limit, Full}
 use Rattle.rows.specs.declared.RowVerdict.{RowVerdict}
 use Rattle.rows.specs.declared.RowVerdict.the-variants.{Sort as Number, Refused}
 use Rattle.rows.specs.Verdict.{Verdict, sort, refused, numberOf, codeOf}
-use Rattle.rows.specs.Outcome.{Outcome, outcomeBy, within, outcome}
-use Rattle.rows.specs.Outcome.{refusal as refusedAs}
+use Rattle.rows.specs.Outcome.{Outcome, refusal, outcomeBy, within, outcome}
 use Rattle.answers.specs.declared.Answer.{Answer}
-use Rattle.answers.specs.Answer.{Left, AnswerIs, accepted, refusal}
-use Rattle.answers.specs.Within.{within-fresh, within-set, within-at}
+use Rattle.answers.specs.Answer.{Left, AnswerIs, accepting, refusing}
+use Rattle.answers.specs.Within.{within-at}
 
 -- An equal verdict, an equal answer, equal buffers.
 pub judged-as : {b p : List ℕ} {n : ℕ} {v w : Verdict} {b′ p′ hs′ ns′ zs′ : List ℕ} {r : Answer} → v ≡ w → AnswerIs b p n w b′ p′ hs′ ns′ zs′ r → AnswerIs b p n v b′ p′ hs′ ns′ zs′ r
@@ -63,24 +62,24 @@ good-once b p hs ns zs n u g i j hi hj e =
 
 -- THE FIVE WAYS, over a good store.
 module _ (b p hs ns zs : List ℕ) (n u : ℕ) (g : Good b p hs ns zs n u) where
-  same-answer : (v : Verdict) (c : Cause) → ((l : Lengths) → l .records ≡ length b → l .places ≡ length p → outcome l (storeOf b p n) v ≡ refusedAs (storeOf b p n) c)
-      → AnswerIs b p n v b p hs ns zs (refusal c n u)
+  same-answer : (v : Verdict) (c : Cause) → ((l : Lengths) → l .records ≡ length b → l .places ≡ length p → outcome l (storeOf b p n) v ≡ refusal (storeOf b p n) c)
+      → AnswerIs b p n v b p hs ns zs (refusing c n u)
   same-answer v c e = record { good = g; long = refl; wide = refl; is = e; starts = starts-self (storeOf b p n); left = refl }
 
-  pub answer-refused : (c : Cause) → AnswerIs b p n (refused c) b p hs ns zs (refusal c n u)
+  pub answer-refused : (c : Cause) → AnswerIs b p n (refused c) b p hs ns zs (refusing c n u)
   unfolding outcome
   answer-refused c = same-answer (refused c) c (λ l e f. refl)
 
-  pub answer-limit : (s : Sort) → within s ≡ false → AnswerIs b p n (sort s) b p hs ns zs (refusal Limit n u)
+  pub answer-limit : (s : Sort) → within s ≡ false → AnswerIs b p n (sort s) b p hs ns zs (refusing Limit n u)
   unfolding outcome
   answer-limit s w = same-answer (sort s) Limit (λ l e f. simp w)
 
-  pub answer-full : (s : Sort) → within s ≡ true → room (length b) (length p) (intern s (storeOf b p n)) ≡ false → AnswerIs b p n (sort s) b p hs ns zs (refusal Full n u)
+  pub answer-full : (s : Sort) → within s ≡ true → room (length b) (length p) (intern s (storeOf b p n)) ≡ false → AnswerIs b p n (sort s) b p hs ns zs (refusing Full n u)
   unfolding outcome
   answer-full s w q = same-answer (sort s) Full (λ l e f. simp (w, room-of l b p (intern s (storeOf b p n)) e f ∙ q))
 
   pub answer-made : (s : Sort) (b′ p′ hs′ ns′ zs′ : List ℕ) (k n′ u′ : ℕ) → within s ≡ true → Good b′ p′ hs′ ns′ zs′ n′ u′ → length b′ ≡ length b → length p′ ≡ length p
-      → storeOf b′ p′ n′ ≡ intern s (storeOf b p n) → k ≡ indexOf s (storeOf b′ p′ n′) → AnswerIs b p n (sort s) b′ p′ hs′ ns′ zs′ (accepted k n′ u′)
+      → storeOf b′ p′ n′ ≡ intern s (storeOf b p n) → k ≡ indexOf s (storeOf b′ p′ n′) → AnswerIs b p n (sort s) b′ p′ hs′ ns′ zs′ (accepting k n′ u′)
   unfolding outcome
   answer-made s b′ p′ hs′ ns′ zs′ k n′ u′ w g′ long wide made number =
       let st = storeOf b p n in
@@ -96,7 +95,7 @@ module _ (b p hs ns zs : List ℕ) (n u : ℕ) (g : Good b p hs ns zs n u) where
         left = omega (arith, here, index-found (intern s st) s (memb-intern s st) .0, ap length made);
       }
 
-  pub answer-known : (k : ℕ) → k < n → AnswerIs b p n (sort (sortAt b p n k)) b p hs ns zs (accepted k n u)
+  pub answer-known : (k : ℕ) → k < n → AnswerIs b p n (sort (sortAt b p n k)) b p hs ns zs (accepting k n u)
   unfolding sortAt
   answer-known k l =
       let st = storeOf b p n in
@@ -115,14 +114,14 @@ module _ (b p hs ns zs : List ℕ) (n u : ℕ) (g : Good b p hs ns zs n u) where
         (sort-parts st f (fresh .shape) (λ j l. omega (arith, fresh .below j l, storeOf-length b p n)))
 
     pub record-made : (b′ p′ hs′ ns′ zs′ : List ℕ) (k n′ u′ : ℕ) → within (sortOf (storeOf b p n) (fieldsAt r 0)) ≡ true → Holds b p n u r b′ p′ hs′ ns′ zs′ k n′ u′
-        → AnswerIs b p n (sort (sortOf (storeOf b p n) (fieldsAt r 0))) b′ p′ hs′ ns′ zs′ (accepted k n′ u′)
+        → AnswerIs b p n (sort (sortOf (storeOf b p n) (fieldsAt r 0))) b′ p′ hs′ ns′ zs′ (accepting k n′ u′)
     record-made b′ p′ hs′ ns′ zs′ k n′ u′ w h =
         answer-made (sortOf (storeOf b p n) (fieldsAt r 0)) b′ p′ hs′ ns′ zs′ k n′ u′ w (h .good) (h .kept .long) (h .kept .wide)
         (holds-intern b p n u r b′ p′ hs′ ns′ zs′ k n′ u′ h (g .stored) fresh) (h .number)
 
     -- No room for a record's sort is no room for a sort that is made of it.
     pub record-full : (s : Sort) → Starts (intern (sortOf (storeOf b p n) (fieldsAt r 0)) (storeOf b p n)) (intern s (storeOf b p n)) → within s ≡ true
-        → room (length b) (length p) (addOnce (storeOf b p n) (sortOf (storeOf b p n) (fieldsAt r 0))) ≡ false → AnswerIs b p n (sort s) b p hs ns zs (refusal Full n u)
+        → room (length b) (length p) (addOnce (storeOf b p n) (sortOf (storeOf b p n) (fieldsAt r 0))) ≡ false → AnswerIs b p n (sort s) b p hs ns zs (refusing Full n u)
     record-full s h w q =
         let t = sortOf (storeOf b p n) (fieldsAt r 0) in
         answer-full s w (room-starts (length b) (length p) (intern t (storeOf b p n)) (intern s (storeOf b p n)) h (ap (room (length b) (length p)) record-intern ∙ q))
@@ -154,7 +153,7 @@ cause-code c = omega (arith, low c)
 
 -- An outcome by the two tests.
 abbrev byLimits : Bool → Bool → List Sort → List Sort → ℕ → Outcome
-byLimits w t st st′ k = outcomeBy w (outcomeBy t (record { store = st′; code = k }) (refusedAs st Full)) (refusedAs st Limit)
+byLimits w t st st′ k = outcomeBy w (outcomeBy t (record { store = st′; code = k }) (refusal st Full)) (refusal st Limit)
 
 -- A code of a number says that both tests passed; another, that the same refusal holds over every store.
 record Passed (w t : Bool) (st o : List Sort) (k i : ℕ) : Type 0 where
@@ -169,7 +168,7 @@ by-accepted true false st st′ o k i e h = absurd (omega (arith, ap (λ (x : Ou
 by-accepted false t st st′ o k i e h = absurd (omega (arith, ap (λ (x : Outcome). x .code) e))
 
 by-refused : (w t : Bool) (st st′ o : List Sort) (k : ℕ) (c : Cause) → byLimits w t st st′ k ≡ record { store = o; code = numberOf c * 65536 } → (t ≡ true → k < 65536)
-    → (x : List Sort) → byLimits w t x st′ k ≡ refusedAs x c
+    → (x : List Sort) → byLimits w t x st′ k ≡ refusal x c
 by-refused true true st st′ o k c e h x = absurd (omega (arith, ap (λ (x : Outcome). x .code) e, h refl, cause-code c))
 by-refused true false st st′ o k c e h x = ap (λ (i : ℕ). record { store = x; code = i }) (ap (λ (x : Outcome). x .code) e)
 by-refused false t st st′ o k c e h x = ap (λ (i : ℕ). record { store = x; code = i }) (ap (λ (x : Outcome). x .code) e)
@@ -201,6 +200,14 @@ module _ (b p : List ℕ) (n : ℕ) (v : Verdict) (b′ p′ hs′ ns′ zs′ :
       good-one b′ p′ hs′ ns′ zs′ b p hs ns zs n (r .used) u (subst (λ (m : ℕ). Good b′ p′ hs′ ns′ zs′ m (r .used)) q (a .good)) g
       (subst (λ (m : ℕ). storeOf b′ p′ m ≡ st) q kept) (a .long) (a .wide) in
       record { same = (one .0, one .1, one .2, one .3, one .4); count = q; used = one .5 }
+
+  -- No sort is lost, and none changes its number.
+  pub answer-more : n ≤ r .count
+  answer-more = omega (arith, starts-count (storeOf b p n) (storeOf b′ p′ (r .count)) (a .starts), storeOf-length b p n, storeOf-length b′ p′ (r .count))
+
+  pub answer-keeps : (k : ℕ) → k < n → sortAt b′ p′ (r .count) k ≡ sortAt b p n k
+  unfolding sortAt
+  answer-keeps k l = starts-at (storeOf b p n) (storeOf b′ p′ (r .count)) (a .starts) k (omega (arith, storeOf-length b p n))
 
   -- AN ACCEPTED ANSWER is a number of the store, below 4,096.
   pub answer-number : (k : ℕ) → r .verdict ≡ Number k → (k < r .count) × (k < 4096)
@@ -274,7 +281,7 @@ module _ (b p : List ℕ) (n : ℕ) (c q : List ℕ) (m : ℕ) (s : Sort) (same 
       }
 
   -- Refused there, it is refused from the first store on.
-  pub grown-refused : (x : Cause) → r .verdict ≡ Refused x → (hs ns zs : List ℕ) (u : ℕ) → Good b p hs ns zs n u → AnswerIs b p n (sort s) b p hs ns zs (refusal x n u)
+  pub grown-refused : (x : Cause) → r .verdict ≡ Refused x → (hs ns zs : List ℕ) (u : ℕ) → Good b p hs ns zs n u → AnswerIs b p n (sort s) b p hs ns zs (refusing x n u)
   unfolding outcome
   grown-refused x e hs ns zs u g =
       same-answer b p hs ns zs n u g (sort s) x (λ l y z.

@@ -2,7 +2,7 @@
 -- bindings, and integer constants; with the laws that tie them to the definitions on trees.
 use Prim.Native.Nat.{ℕ, zero, suc, _+_, _*_, _/_, _%_, _≤_, _<_}
 use mathlib.Core.Path.{_≡_, refl, sym, ap, ap₂, subst, _∙_}
-use mathlib.Core.Bool.{Bool, true, false, cond}
+use mathlib.Core.Bool.{Bool, true, false, cond, true≢false, false≢true}
 use mathlib.Core.List.{List, [], _∷_}
 use mathlib.Core.Option.{Option, none, some}
 use native.Mathlib.Omega.{arith}
@@ -10,7 +10,7 @@ use native.Mathlib.Numerals.{add-one}
 use native.Mathlib.Nat.{not-suc-le-zero}
 use lib.ListN.{length, getD, set, length-set}
 use lib.Seq.{getD-set-same, getD-set-other}
-use lib.Dec.{eqb, ltb}
+use lib.Dec.{eqb}
 use borrow.Author.Tests.{lt-ltb, le-ltb}
 use Rattle.record.specs.Number.{u16At, u32At, numbersAt}
 use Rattle.record.specs.Sort.{Sort, Sorts, end, _then_}
@@ -18,7 +18,7 @@ use Rattle.record.specs.Record.{leaf, sortsOf}
 use Rattle.record.specs.Codec.{u16-read, length-numbersAt}
 use Rattle.record.specs.SortLists.{below-suc}
 use Rattle.reader.specs.Reader.{pairNamesAt, pairSortsAt}
-use Rattle.sheet.specs.Sheet.{Binding, bindingsOf}
+use Rattle.sheet.specs.Sheet.{bindingsOf}
 use Rattle.store.specs.Good.{Good}
 use Rattle.store.specs.Walk.{number-at}
 use Rattle.rows.specs.Lists.{joined, bindingSorts}
@@ -118,6 +118,10 @@ pub record JudgedIs (sheet : List ℕ) (at n : ℕ) (rows : List ℕ) (column : 
   pub sorts : r ≡ true → (st : List Sort) → argumentsOf st sheet at n rows column ≡ some (sortsOf st (codesOf rows column (numbersAt sheet at n)))
   pub lacking : r ≡ false → (st : List Sort) → argumentsOf st sheet at n rows column ≡ none
 
+consed-none : (o : Option Sort) → consed o none ≡ none
+consed-none none = refl
+consed-none (some s) = refl
+
 module _ (st : List Sort) (rows : List ℕ) (column : ℕ) where
   row-clear : (i : ℕ) → getD rows (2 * i + column) 0 < 65536 → rowSort st rows column i ≡ some (getD st (getD rows (2 * i + column) 0) leaf)
   unfolding rowSort
@@ -132,10 +136,6 @@ module _ (st : List Sort) (rows : List ℕ) (column : ℕ) where
   unfolding sortsAt sortsOf looked
   sorts-clear [] h = refl
   sorts-clear (i ∷ is) h = ap₂ consed (row-clear i (h 0 (omega arith))) (sorts-clear is (λ j l. h (suc j) (omega arith)))
-
-  consed-none : (o : Option Sort) → consed o none ≡ none
-  consed-none none = refl
-  consed-none (some s) = refl
 
   sorts-hit : (is : List ℕ) (j : ℕ) → j < length is → 65536 ≤ getD rows (2 * getD is j 0 + column) 0 → sortsAt (λ i. rowSort st rows column i) is ≡ none
   unfolding sortsAt
@@ -158,16 +158,10 @@ module _ (sheet : List ℕ) (at n : ℕ) (rows : List ℕ) (column : ℕ) where
 
   -- All rows seen are no refusals; one that is.
   pub judged-clear : ((j : ℕ) → j < n → rowAt sheet at rows column j < 65536) → JudgedIs sheet at n rows column true
-  judged-clear h = record { below = λ e. h; sorts = λ e. all-clear h; lacking = λ e. absurd (true-false e) }
-    where
-      true-false : true ≡ false → ⊥
-      true-false e = let z : _≡_ {A = ℕ} 0 1 = cc in omega arith
+  judged-clear h = record { below = λ e. h; sorts = λ e. all-clear h; lacking = λ e. absurd (true≢false e) }
 
   pub judged-hit : (j : ℕ) → j < n → 65536 ≤ rowAt sheet at rows column j → JudgedIs sheet at n rows column false
-  judged-hit j l h = record { below = λ e. absurd (false-true e); sorts = λ e. absurd (false-true e); lacking = λ e. one-hit j l h }
-    where
-      false-true : false ≡ true → ⊥
-      false-true e = let z : _≡_ {A = ℕ} 0 1 = cc in omega arith
+  judged-hit j l h = record { below = λ e. absurd (false≢true e); sorts = λ e. absurd (false≢true e); lacking = λ e. one-hit j l h }
 
   pub gathered-clear : (a : List ℕ) → ((j : ℕ) → j < n → rowAt sheet at rows column j < 65536) → Filled a (rowAt sheet at rows column) n → GatherIs sheet at n rows column a true
   gathered-clear a h f =
@@ -177,18 +171,18 @@ module _ (sheet : List ℕ) (at n : ℕ) (rows : List ℕ) (column : ℕ) where
         sorts = λ e st.
             all-clear h st
             ∙ ap (λ (is : List ℕ). some (sortsOf st is)) (sym (numbers-looked (λ i. getD rows (2 * i + column) 0) a 3 sheet at n f));
-        lacking = λ e. absurd (true-false e);
+        lacking = λ e. absurd (true≢false e);
       }
-    where
-      true-false : true ≡ false → ⊥
-      true-false e = let z : _≡_ {A = ℕ} 0 1 = cc in omega arith
 
   pub gathered-hit : (a : List ℕ) (j : ℕ) → j < n → 65536 ≤ rowAt sheet at rows column j → GatherIs sheet at n rows column a false
   gathered-hit a j l h =
-      record { below = λ e. absurd (false-true e); each = λ e. absurd (false-true e); sorts = λ e. absurd (false-true e); lacking = λ e. one-hit j l h }
-    where
-      false-true : false ≡ true → ⊥
-      false-true e = let z : _≡_ {A = ℕ} 0 1 = cc in omega arith
+      record { below = λ e. absurd (false≢true e); each = λ e. absurd (false≢true e); sorts = λ e. absurd (false≢true e); lacking = λ e. one-hit j l h }
+
+-- The numbers in the array are of a store of m sorts, where those of the rows before the term t are.
+pub gathered-known : (sheet : List ℕ) (at n : ℕ) (rows : List ℕ) (column : ℕ) (a : List ℕ) (r : Bool) → GatherIs sheet at n rows column a r → r ≡ true → column ≤ 1
+    → (t m : ℕ) → ((i : ℕ) → i < 2 * t → getD rows i 0 < 65536 → getD rows i 0 < m) → ((j : ℕ) → j < n → u16At sheet (at + 2 * j) < t) → (j : ℕ) → j < n → u16At a (3 + 2 * j) < m
+gathered-known sheet at n rows column a r g e side t m known before j l =
+    omega (arith, g .each e j l, known (2 * u16At sheet (at + 2 * j) + column) (omega (arith, before j l)) (g .below e j l))
 
 ---------------------------------------------------------------- bindings
 pub record BindingsAsks (sheet : List ℕ) (at n : ℕ) (table a : List ℕ) : Type 0 where
@@ -261,10 +255,10 @@ pub record ConstantAsks (sheet : List ℕ) (at : ℕ) : Type 0 where
   pub number : getD sheet (at + 1) 0 ≡ 0 → at + 6 ≤ length sheet
 
 -- The number that was found.
-abbrev pub constantOf : Constant → Option ℕ
-constantOf (Integer v) = some v
-constantOf Other = none
+abbrev pub integerOf : Constant → Option ℕ
+integerOf (Integer v) = some v
+integerOf Other = none
 
 -- The number of the term whose record starts at a place: an integer constant has the kind 0, and its number behind it.
-abbrev pub constantIn : List ℕ → ℕ → Option ℕ
-constantIn sheet at = cond (eqb (getD sheet (at + 1) 0) 0) (some (u32At sheet (at + 2))) none
+abbrev pub integerAt : List ℕ → ℕ → Option ℕ
+integerAt sheet at = cond (eqb (getD sheet (at + 1) 0) 0) (some (u32At sheet (at + 2))) none

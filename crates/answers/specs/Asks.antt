@@ -2,9 +2,8 @@
 use Prim.Native.Nat.{ℕ, _+_, _*_, _≤_, _<_}
 use mathlib.Core.Path.{_≡_}
 use mathlib.Core.List.{List}
-use lib.ListN.{length, getD, set}
+use lib.ListN.{length}
 use Rattle.record.specs.Number.{u16At}
-use Rattle.record.specs.Sort.{Sort, Sorts}
 use Rattle.record.specs.Sort.{set as setOf}
 use Rattle.record.specs.Record.{mapOf, leastOf, mostOf}
 use Rattle.record.specs.Store.{intern}

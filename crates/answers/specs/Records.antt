@@ -1,17 +1,17 @@
 -- The records of the sorts that answers are made of: the bytes as the code puts them together are whole records over the
 -- store, and stand for the sort that is meant.
 use Prim.Native.Nat.{ℕ, zero, suc, _+_, _*_, _/_, _%_, _≤_, _<_}
-use mathlib.Core.Path.{_≡_, refl, sym, ap, ap₂, subst, _∙_}
-use mathlib.Core.Bool.{Bool, true, false, true≢false, false≢true, _||_}
+use mathlib.Core.Path.{_≡_, refl, sym, ap, subst, _∙_}
+use mathlib.Core.Bool.{Bool, true, false, true≢false, _||_}
 use mathlib.Core.List.{List, [], _∷_, _++_}
 use native.Mathlib.Omega.{arith}
 use native.Mathlib.Decide.{decLt}
 use native.Mathlib.Nat.{not-suc-le-zero}
-use lib.ListN.{length, getD, set, take, drop, List·getD-eq-default}
+use lib.ListN.{length, getD, set, take, List·getD-eq-default}
 use lib.Dec.{T, ltb, eqb, eqb→eq}
 use borrow.Author.Tests.{le-ltb}
 use Rattle.record.specs.Number.{u16At, numbersAt, numbersBytes}
-use Rattle.record.specs.Sort.{Sort, var, node, end, _then_, bitvec}
+use Rattle.record.specs.Sort.{Sort, var, node, end, bitvec}
 use Rattle.record.specs.Sort.{set as setOf}
 use Rattle.record.specs.Record.{Fields, bit, maps, mapOf, leasts, leastOf, mosts, mostOf, recordBytes, leaf, sortsOf, sortOf}
 use Rattle.record.specs.Names.{distinct}
@@ -181,11 +181,11 @@ list-bytes k l e = simp (e, append-nil)
 abbrev pub listed : List ℕ → ℕ → ℕ → List ℕ
 listed a k m = take (3 + 2 * m) (set (set (set a 0 17) 1 k) 2 m)
 
-three : (a : List ℕ) (k m : ℕ) → Bytes a → 3 + 2 * m ≤ length a → listed a k m ≡ 17 ∷ k ∷ m ∷ numbersBytes (numbersAt a 3 m)
-three [] k m h l = absurd (omega arith)
-three (x ∷ []) k m h l = absurd (omega arith)
-three (x ∷ y ∷ []) k m h l = absurd (omega arith)
-three (x ∷ y ∷ z ∷ t) k m h l =
+listed-bytes : (a : List ℕ) (k m : ℕ) → Bytes a → 3 + 2 * m ≤ length a → listed a k m ≡ 17 ∷ k ∷ m ∷ numbersBytes (numbersAt a 3 m)
+listed-bytes [] k m h l = absurd (omega arith)
+listed-bytes (x ∷ []) k m h l = absurd (omega arith)
+listed-bytes (x ∷ y ∷ []) k m h l = absurd (omega arith)
+listed-bytes (x ∷ y ∷ z ∷ t) k m h l =
     let a = x ∷ y ∷ z ∷ t in
     let n = length (numbersBytes (numbersAt a 3 m)) in
     let e : 3 + 2 * m ≡ suc (suc (suc (2 * m))) = omega arith in
@@ -205,7 +205,7 @@ module _ (a : List ℕ) (k m : ℕ) (map : mapOf k ≡ 17) (least : leastOf k �
   list-whole : recordBytes (fields k 0 0 (numbersAt a 3 m) []) ≡ listed a k m
   list-whole =
       list-bytes k (numbersAt a 3 m) map
-      ∙ ap (λ (i : ℕ). 17 ∷ k ∷ i ∷ numbersBytes (numbersAt a 3 m)) (length-numbersAt a 3 m) ∙ sym (three a k m bytes long)
+      ∙ ap (λ (i : ℕ). 17 ∷ k ∷ i ∷ numbersBytes (numbersAt a 3 m)) (length-numbersAt a 3 m) ∙ sym (listed-bytes a k m bytes long)
 
   pub list-fresh : (n : ℕ) → ((j : ℕ) → j < m → u16At a (3 + 2 * j) < n) → Fresh (listed a k m) n
   list-fresh n h =

@@ -1,6 +1,6 @@
 -- The limits of an answer: every sort of a store keeps them, so does a record's sort unless its tree is too large, and which
 -- sorts do not.
-use Prim.Native.Nat.{ℕ, zero, suc, _+_, _≤_, _<_}
+use Prim.Native.Nat.{ℕ, zero, suc, _≤_, _<_}
 use mathlib.Core.Path.{_≡_, refl, ap, ap₂, _∙_}
 use mathlib.Core.Bool.{Bool, true, false, _&&_}
 use mathlib.Core.List.{List, [], _∷_}
@@ -9,7 +9,7 @@ use native.Mathlib.Nat.{not-suc-le-zero}
 use lib.ListN.{length, getD}
 use lib.Dec.{leb}
 use borrow.Author.Tests.{le-leb, lt-leb}
-use Rattle.record.specs.Sort.{Sort, Sorts, node, end, _then_, set, count, size}
+use Rattle.record.specs.Sort.{Sort, Sorts, node, set, count, size}
 use Rattle.record.specs.Record.{Fields, leaf, sortsOf, sortOf}
 use Rattle.record.specs.Decode.{fieldsAt, Shape, Below, Fresh, storeOf, sortAt, Stored}
 use Rattle.record.specs.Forms.{Which, isVar, isPar, isNode, which, sort-var, sort-par, sort-other, par-one}

@@ -2,7 +2,7 @@
 // lent array from byte 3 on; and integer constants.
 use record::u16_at;
 ghost use mathlib.Core.Path.{_≡_};
-ghost use Rattle.answers.specs.Arguments.{GatherAsks, GatherIs, JudgedAsks, JudgedIs, PutAsks, putAt, BindingsAsks, BindingsAre, ConstantAsks, constantOf, constantIn};
+ghost use Rattle.answers.specs.Arguments.{GatherAsks, GatherIs, JudgedAsks, JudgedIs, PutAsks, putAt, BindingsAsks, BindingsAre, ConstantAsks, integerOf, integerAt};
 
 // The number of an integer constant, or none where a term is none.
 pub enum Constant {
@@ -65,7 +65,7 @@ pub fn all_judged(sheet: &[u8], at: usize, n: usize, rows: &[u32], column: usize
 // The number of the term whose record starts at `at`, where it is an integer constant (kind 0).
 pub fn constant_at(sheet: &[u8], at: usize) -> Constant
     requires { ⌜ ConstantAsks (now sheet) at ⌝ }
-    ensures { λ r. ⌜ constantOf r ≡ constantIn (now (sheet .entry)) at ⌝ }
+    ensures { λ r. ⌜ integerOf r ≡ integerAt (now (sheet .entry)) at ⌝ }
 {
     if sheet[at + 1] != 0 {
         return Constant::Other;

@@ -15,7 +15,7 @@ ghost use Rattle.record.specs.Record.{sortOf};
 ghost use Rattle.record.specs.Decode.{fieldsAt, storeOf};
 ghost use Rattle.store.specs.Good.{Good};
 ghost use Rattle.rows.specs.Verdict.{sort, numberOf, codeOf};
-ghost use Rattle.answers.specs.Answer.{AnswerIs, accepted, refusal};
+ghost use Rattle.answers.specs.Answer.{AnswerIs, accepting, refusing};
 ghost use Rattle.answers.specs.Asks.{MakeAsks, LeafAsks, VariableAsks};
 
 // A row or an answer, and the store's count and bytes in use after it.
@@ -56,7 +56,7 @@ pub fn code(v: RowVerdict) -> u32
 
 // The answer that is the sort k, which the store has.
 pub fn found(k: usize, count: usize, used: usize) -> Answer
-    ensures { λ r. ⌜ r ≡ accepted k count used ⌝ }
+    ensures { λ r. ⌜ r ≡ accepting k count used ⌝ }
 {
     Answer {
         verdict: RowVerdict::Sort(k),
@@ -67,7 +67,7 @@ pub fn found(k: usize, count: usize, used: usize) -> Answer
 
 // The refusal for this cause, over a store that is as it was.
 pub fn refuse(c: Cause, count: usize, used: usize) -> Answer
-    ensures { λ r. ⌜ r ≡ refusal c count used ⌝ }
+    ensures { λ r. ⌜ r ≡ refusing c count used ⌝ }
 {
     Answer {
         verdict: RowVerdict::Refused(c),

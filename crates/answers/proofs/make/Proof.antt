@@ -1,5 +1,6 @@
 -- The answer to the sort of the record: found or added, 22 by its tree size, 23 by room.
 -- `tree_size` decides the limit, `intern` the rest.
+use native.Mathlib.Omega.{arith}
 use borrow.Author.Needs.{needs}
 use mathlib.Core.Path.{subst}
 use Rattle.store.specs.Contract.{InternedIs}
@@ -40,7 +41,7 @@ returns c =
     let u = a .used in
     let r = a .rec .now in
     let w = c .before .before .tree-size .result in
-    answered-as (c .refuse .ensures) (make-over b p hs ns zs n u r (s .pre) w (c .before .before .tree-size .ensures) (c .before .if1 .taken))
+    answered-as (c .refuse .ensures) (make-over b p hs ns zs n u r (s .pre) w (c .before .before .tree-size .ensures) (omega (arith, c .before .if1 .taken)))
 
 intern-requires : tie.Need-intern-requires
 intern-requires c κs =
@@ -55,7 +56,7 @@ intern-requires c κs =
     let u = a .used in
     let r = a .rec .now in
     let w = c .before .before .before .before .before .before .tree-size .result in
-    weight-asks b p hs ns zs n u r (s .pre) w (c .before .before .before .before .before .before .tree-size .ensures) (c .before .before .before .before .before .if1 .left)
+    weight-asks b p hs ns zs n u r (s .pre) w (c .before .before .before .before .before .before .tree-size .ensures) (omega (arith, c .before .before .before .before .before .if1 .left))
 
 enum-known-made : tie.Need-enum-known-made
 enum-known-made c = search needs
@@ -99,7 +100,7 @@ returns-2 c =
     let w = c .before .before .before .before .before .before .before .before .before .before .before .before .before .before .before .before .before .before .before .before .before .tree-size .result in
     let d = c .before .before .before .before .before .before .before .before .before .before .before .before .before .before .intern .last in
     answered-as (c .found .ensures)
-    (make-made b p hs ns zs n u r (s .pre) w (c .before .before .before .before .before .before .before .before .before .before .before .before .before .before .before .before .before .before .before .before .before .tree-size .ensures) (d .0) (d .1 .0) (d .1 .1 .0) (d .1 .1 .1 .0) (d .1 .1 .1 .1 .0) (c .before .before .made .given .0 .0) (c .before .before .made .given .0 .1 .0) (c .before .before .made .given .0 .1 .1 .0) (c .before .before .before .before .before .before .before .before .before .before .before .before .before .before .before .before .before .before .before .before .if1 .left)
+    (make-made b p hs ns zs n u r (s .pre) w (c .before .before .before .before .before .before .before .before .before .before .before .before .before .before .before .before .before .before .before .before .before .tree-size .ensures) (d .0) (d .1 .0) (d .1 .1 .0) (d .1 .1 .1 .0) (d .1 .1 .1 .1 .0) (c .before .before .made .given .0 .0) (c .before .before .made .given .0 .1 .0) (c .before .before .made .given .0 .1 .1 .0) (omega (arith, c .before .before .before .before .before .before .before .before .before .before .before .before .before .before .before .before .before .before .before .before .if1 .left))
     (subst (InternedIs b p hs ns zs n u r (d .0) (d .1 .0) (d .1 .1 .0) (d .1 .1 .1 .0) (d .1 .1 .1 .1 .0)) (c .before .before .made .given .1) (c .before .before .before .before .before .before .before .before .before .before .before .before .before .before .intern .ensures)))
 
 same-length-7 : tie.Need-same-length-7
@@ -132,7 +133,7 @@ returns-3 c =
     let w = c .before .before .before .before .before .before .before .before .before .before .before .before .before .before .before .before .before .before .before .before .tree-size .result in
     let d = c .before .before .before .before .before .before .before .before .before .before .before .before .before .intern .last in
     answered-as (c .refuse2 .ensures)
-    (make-full b p hs ns zs n u r (s .pre) w (c .before .before .before .before .before .before .before .before .before .before .before .before .before .before .before .before .before .before .before .before .tree-size .ensures) (d .0) (d .1 .0) (d .1 .1 .0) (d .1 .1 .1 .0) (d .1 .1 .1 .1 .0) (c .before .before .before .before .before .before .before .before .before .before .before .before .before .before .before .before .before .before .before .if1 .left)
+    (make-full b p hs ns zs n u r (s .pre) w (c .before .before .before .before .before .before .before .before .before .before .before .before .before .before .before .before .before .before .before .before .tree-size .ensures) (d .0) (d .1 .0) (d .1 .1 .0) (d .1 .1 .1 .0) (d .1 .1 .1 .1 .0) (omega (arith, c .before .before .before .before .before .before .before .before .before .before .before .before .before .before .before .before .before .before .before .if1 .left))
     (subst (InternedIs b p hs ns zs n u r (d .0) (d .1 .0) (d .1 .1 .0) (d .1 .1 .1 .0) (d .1 .1 .1 .1 .0)) (c .before .enum-told .given .1) (c .before .before .before .before .before .before .before .before .before .before .before .before .before .intern .ensures)))
 
 pub make-spec : {M : Type 1} → statement M

@@ -41,7 +41,7 @@ returns c =
     let u = a .used in
     let r = a .rec .now in
     let w = c .before .before .tree-size .result in
-    answered-as (c .refuse .ensures) (set-large b p hs ns zs n u r (s .pre) w (c .before .before .tree-size .ensures) (c .before .if1 .taken))
+    answered-as (c .refuse .ensures) (set-large b p hs ns zs n u r (s .pre) w (c .before .before .tree-size .ensures) (omega (arith, c .before .if1 .taken)))
 
 intern-requires : tie.Need-intern-requires
 intern-requires c κs =
@@ -144,7 +144,7 @@ returns-3 c =
     let r = a .rec .now in
     let w = c .before .before .before .before .before .before .before .before .before .before .before .before .before .before .before .before .before .before .before .before .tree-size .result in
     let d = c .before .before .before .before .before .before .before .before .before .before .before .before .before .intern .last in
-    answered-as (c .refuse2 .ensures) (set-full b p hs ns zs n u r (s .pre) w (c .before .before .before .before .before .before .before .before .before .before .before .before .before .before .before .before .before .before .before .before .tree-size .ensures) (d .0) (d .1 .0) (d .1 .1 .0) (d .1 .1 .1 .0) (d .1 .1 .1 .1 .0) (c .before .before .before .before .before .before .before .before .before .before .before .before .before .before .before .before .before .before .before .if1 .left)
+    answered-as (c .refuse2 .ensures) (set-full b p hs ns zs n u r (s .pre) w (c .before .before .before .before .before .before .before .before .before .before .before .before .before .before .before .before .before .before .before .before .tree-size .ensures) (d .0) (d .1 .0) (d .1 .1 .0) (d .1 .1 .1 .0) (d .1 .1 .1 .1 .0) (omega (arith, c .before .before .before .before .before .before .before .before .before .before .before .before .before .before .before .before .before .before .before .if1 .left))
     (subst (InternedIs b p hs ns zs n u r (d .0) (d .1 .0) (d .1 .1 .0) (d .1 .1 .1 .0) (d .1 .1 .1 .1 .0)) (c .before .enum-told .given .1) (c .before .before .before .before .before .before .before .before .before .before .before .before .before .intern .ensures)))
 
 pub set-of-tuple-spec : {M : Type 1} → statement M

@@ -1,8 +1,9 @@
 -- The answer to the Set, over the store before its part was made.
 -- Accepted, it stands; refused, both are undone, and the buffers are those of the store before.
+use native.Mathlib.Omega.{arith}
 use borrow.Author.Needs.{needs}
 use Rattle.answers.specs.AnswerLaws.{answered-as}
-use Rattle.answers.proofs.MakeLaws.{undo-asks, over-accepted, over-undone}
+use Rattle.answers.proofs.MakeLaws.{left-good, over-accepted, over-undone}
 use Rattle.answers.proofs.lists.set_over.Statement.{statement}
 use Rattle.answers.proofs.lists.set_over.Tie as tie
 
@@ -25,7 +26,7 @@ undo-requires c κs =
     let ns = a .next .now in
     let zs = a .sizes .now in
     let d = c .before .before .before .before .before .before .before .before .before .before .before .before .before .before .before .before .before .before .set-of .last in
-    undo-asks b p hs ns zs (a .n) (a .u) (a .k) (a .count) (s .pre) (d .0) (d .1 .0) (d .1 .1 .0) (d .1 .1 .1 .0) (d .1 .1 .1 .1 .0) (c .before .before .before .before .before .before .before .before .before .before .before .before .before .before .before .before .before .before .set-of .result) (c .before .before .before .before .before .before .before .before .before .before .before .before .before .before .before .before .before .before .set-of .ensures) (c .before .before .before .before .before .before .verdict .given .0 .0) (c .before .before .before .before .before .before .verdict .given .1)
+    record { good = left-good b p hs ns zs (a .n) (a .u) (a .k) (a .count) (s .pre) (d .0) (d .1 .0) (d .1 .1 .0) (d .1 .1 .1 .0) (d .1 .1 .1 .1 .0) (c .before .before .before .before .before .before .before .before .before .before .before .before .before .before .before .before .before .before .set-of .result) (c .before .before .before .before .before .before .before .before .before .before .before .before .before .before .before .before .before .before .set-of .ensures) (c .before .before .before .before .before .before .verdict .given .0 .0) (c .before .before .before .before .before .before .verdict .given .1); order = omega (arith, s .pre .order) }
 
 refuse-requires : tie.Need-refuse-requires
 refuse-requires c κs = search needs
