@@ -1,1 +1,3 @@
 pub mod FamilyLaws
+pub mod WalkLaws
+pub mod SingleLaws
