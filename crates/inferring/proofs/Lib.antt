@@ -1,0 +1,4 @@
+pub mod FamilyLaws
+pub mod WalkLaws
+pub mod SingleLaws
+pub mod RelationLaws

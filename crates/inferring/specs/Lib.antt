@@ -1,0 +1,4 @@
+pub mod Asks
+pub mod Vectors
+pub mod Single
+pub mod Relations
