@@ -1,0 +1,292 @@
+-- THE WAYS TO AN ANSWER: refused, a sort that the store has, over a limit, made, and without room; the same over a store
+-- that was grown on the way; and what an answer tells.
+use Prim.Native.Nat.{ℕ, _+_, _*_, _≤_, _<_}
+use mathlib.Core.Path.{_≡_, refl, sym, ap, ap₂, subst, _∙_}
+use mathlib.Core.Bool.{Bool, true, false, _&&_}
+use mathlib.Core.List.{List}
+use native.Mathlib.Omega.{arith}
+use lib.ListN.{length, getD, take}
+use lib.Seq.{take-at}
+use lib.Dec.{leb}
+use borrow.Author.Tests.{leb-true}
+use Rattle.record.specs.Sort.{Sort, end, _then_, set}
+use Rattle.record.specs.Record.{leaf, sortOf}
+use Rattle.record.specs.Store.{addOnce, intern, indexOf, bytesOf, room}
+use Rattle.record.specs.Decode.{fieldsAt, Fresh, storeOf, sortAt}
+use Rattle.record.specs.Cases.{and-right}
+use Rattle.record.specs.StoreLaws.{storeOf-length, sorts-one}
+use Rattle.record.specs.SortLists.{Once, Starts, starts-self, starts-trans, starts-intern, starts-add, starts-count, memb-at, memb-intern, index-at, index-found, intern-known, intern-parts, room-starts}
+use Rattle.record.specs.Entries.{store-ordered, sort-parts}
+use Rattle.sheet.specs.Sheet.{Lengths}
+use Rattle.store.specs.Good.{Good, good-room, good-one}
+use Rattle.store.specs.Contract.{Holds, UndoIs, Untouched}
+use Rattle.store.specs.Grown.{holds-intern}
+use Rattle.rows.specs.declared.Cause.{Cause}
+use Rattle.rows.specs.declared.Cause.the-variants.{Limit, Full}
+use Rattle.rows.specs.declared.RowVerdict.{RowVerdict}
+use Rattle.rows.specs.declared.RowVerdict.the-variants.{Sort as Number, Refused}
+use Rattle.rows.specs.Verdict.{Verdict, sort, refused, numberOf, codeOf}
+use Rattle.rows.specs.Outcome.{Outcome, outcomeBy, within, outcome}
+use Rattle.rows.specs.Outcome.{refusal as refusedAs}
+use Rattle.answers.specs.declared.Answer.{Answer}
+use Rattle.answers.specs.Answer.{Left, AnswerIs, accepted, refusal}
+use Rattle.answers.specs.Within.{within-fresh, within-set, within-at}
+
+-- An equal verdict, an equal answer, equal buffers.
+pub judged-as : {b p : List ℕ} {n : ℕ} {v w : Verdict} {b′ p′ hs′ ns′ zs′ : List ℕ} {r : Answer} → v ≡ w → AnswerIs b p n w b′ p′ hs′ ns′ zs′ r → AnswerIs b p n v b′ p′ hs′ ns′ zs′ r
+judged-as {b} {p} {n} {v} {w} {b′} {p′} {hs′} {ns′} {zs′} {r} e h = subst (λ (x : Verdict). AnswerIs b p n x b′ p′ hs′ ns′ zs′ r) (sym e) h
+
+pub answered-as : {b p : List ℕ} {n : ℕ} {v : Verdict} {b′ p′ hs′ ns′ zs′ : List ℕ} {r q : Answer} → r ≡ q → AnswerIs b p n v b′ p′ hs′ ns′ zs′ q → AnswerIs b p n v b′ p′ hs′ ns′ zs′ r
+answered-as {b} {p} {n} {v} {b′} {p′} {hs′} {ns′} {zs′} {r} {q} e h = subst (λ (x : Answer). AnswerIs b p n v b′ p′ hs′ ns′ zs′ x) (sym e) h
+
+pub untouched-as : {b p : List ℕ} {n : ℕ} {v : Verdict} {r : Answer} {c q hs ns zs b′ p′ hs′ ns′ zs′ : List ℕ} → Untouched c q hs ns zs b′ p′ hs′ ns′ zs′
+    → AnswerIs b p n v c q hs ns zs r → AnswerIs b p n v b′ p′ hs′ ns′ zs′ r
+untouched-as {b} {p} {n} {v} {r} {c} {q} {hs} {ns} {zs} {b′} {p′} {hs′} {ns′} {zs′} e h =
+    subst (λ (x : List ℕ). AnswerIs b p n v x p′ hs′ ns′ zs′ r) (sym (e .0))
+    (subst (λ (x : List ℕ). AnswerIs b p n v c x hs′ ns′ zs′ r) (sym (e .1))
+    (subst (λ (x : List ℕ). AnswerIs b p n v c q x ns′ zs′ r) (sym (e .2))
+    (subst (λ (x : List ℕ). AnswerIs b p n v c q hs x zs′ r) (sym (e .3))
+    (subst (λ (x : List ℕ). AnswerIs b p n v c q hs ns x r) (sym (e .4)) h))))
+
+-- Lengths of the two lent buffers that a store is in.
+abbrev lent : List ℕ → List ℕ → Lengths
+lent b p = record { records = length b; places = length p; rows = 0; answers = 0 }
+
+room-of : (l : Lengths) (b p : List ℕ) (st : List Sort) → l .records ≡ length b → l .places ≡ length p → room (l .records) (l .places) st ≡ room (length b) (length p) st
+room-of l b p st e f = ap₂ (λ (x y : ℕ). room x y st) e f
+
+-- The sorts of a good store are distinct.
+pub good-once : (b p hs ns zs : List ℕ) (n u : ℕ) → Good b p hs ns zs n u → Once (storeOf b p n)
+unfolding Once sortAt
+good-once b p hs ns zs n u g i j hi hj e =
+    sorts-one b p n (g .stored) (g .distinct) i j (omega (arith, storeOf-length b p n)) (omega (arith, storeOf-length b p n)) e
+
+-- THE FIVE WAYS, over a good store.
+module _ (b p hs ns zs : List ℕ) (n u : ℕ) (g : Good b p hs ns zs n u) where
+  same-answer : (v : Verdict) (c : Cause) → ((l : Lengths) → l .records ≡ length b → l .places ≡ length p → outcome l (storeOf b p n) v ≡ refusedAs (storeOf b p n) c)
+      → AnswerIs b p n v b p hs ns zs (refusal c n u)
+  same-answer v c e = record { good = g; long = refl; wide = refl; is = e; starts = starts-self (storeOf b p n); left = refl }
+
+  pub answer-refused : (c : Cause) → AnswerIs b p n (refused c) b p hs ns zs (refusal c n u)
+  unfolding outcome
+  answer-refused c = same-answer (refused c) c (λ l e f. refl)
+
+  pub answer-limit : (s : Sort) → within s ≡ false → AnswerIs b p n (sort s) b p hs ns zs (refusal Limit n u)
+  unfolding outcome
+  answer-limit s w = same-answer (sort s) Limit (λ l e f. simp w)
+
+  pub answer-full : (s : Sort) → within s ≡ true → room (length b) (length p) (intern s (storeOf b p n)) ≡ false → AnswerIs b p n (sort s) b p hs ns zs (refusal Full n u)
+  unfolding outcome
+  answer-full s w q = same-answer (sort s) Full (λ l e f. simp (w, room-of l b p (intern s (storeOf b p n)) e f ∙ q))
+
+  pub answer-made : (s : Sort) (b′ p′ hs′ ns′ zs′ : List ℕ) (k n′ u′ : ℕ) → within s ≡ true → Good b′ p′ hs′ ns′ zs′ n′ u′ → length b′ ≡ length b → length p′ ≡ length p
+      → storeOf b′ p′ n′ ≡ intern s (storeOf b p n) → k ≡ indexOf s (storeOf b′ p′ n′) → AnswerIs b p n (sort s) b′ p′ hs′ ns′ zs′ (accepted k n′ u′)
+  unfolding outcome
+  answer-made s b′ p′ hs′ ns′ zs′ k n′ u′ w g′ long wide made number =
+      let st = storeOf b p n in
+      let fits : room (length b) (length p) (intern s st) ≡ true =
+      sym (ap₂ (λ (x y : ℕ). room x y (intern s st)) long wide) ∙ ap (room (length b′) (length p′)) (sym made) ∙ good-room b′ p′ hs′ ns′ zs′ n′ u′ g′ in
+      let here : k ≡ indexOf s (intern s st) = number ∙ ap (indexOf s) made in
+      record {
+        good = g′;
+        long = long;
+        wide = wide;
+        is = λ l e f. simp (w, room-of l b p (intern s st) e f ∙ fits, made, here);
+        starts = subst (Starts st) (sym made) (starts-intern s st);
+        left = omega (arith, here, index-found (intern s st) s (memb-intern s st) .0, ap length made);
+      }
+
+  pub answer-known : (k : ℕ) → k < n → AnswerIs b p n (sort (sortAt b p n k)) b p hs ns zs (accepted k n u)
+  unfolding sortAt
+  answer-known k l =
+      let st = storeOf b p n in
+      let o : k < length st = omega (arith, storeOf-length b p n) in
+      answer-made (sortAt b p n k) b p hs ns zs k n u (within-at b p hs ns zs n u g k l) g refl refl
+      (sym (intern-known (sortAt b p n k) st (store-ordered b p n (g .stored)) (memb-at st leaf k o)))
+      (sym (index-at st (good-once b p hs ns zs n u g) k o))
+
+  -- A RECORD'S SORT, interned or without room.
+  module _ (r : List ℕ) (fresh : Fresh r n) where
+    pub record-intern : intern (sortOf (storeOf b p n) (fieldsAt r 0)) (storeOf b p n) ≡ addOnce (storeOf b p n) (sortOf (storeOf b p n) (fieldsAt r 0))
+    record-intern =
+        let st = storeOf b p n in
+        let f = fieldsAt r 0 in
+        intern-parts (sortOf st f) st (store-ordered b p n (g .stored))
+        (sort-parts st f (fresh .shape) (λ j l. omega (arith, fresh .below j l, storeOf-length b p n)))
+
+    pub record-made : (b′ p′ hs′ ns′ zs′ : List ℕ) (k n′ u′ : ℕ) → within (sortOf (storeOf b p n) (fieldsAt r 0)) ≡ true → Holds b p n u r b′ p′ hs′ ns′ zs′ k n′ u′
+        → AnswerIs b p n (sort (sortOf (storeOf b p n) (fieldsAt r 0))) b′ p′ hs′ ns′ zs′ (accepted k n′ u′)
+    record-made b′ p′ hs′ ns′ zs′ k n′ u′ w h =
+        answer-made (sortOf (storeOf b p n) (fieldsAt r 0)) b′ p′ hs′ ns′ zs′ k n′ u′ w (h .good) (h .kept .long) (h .kept .wide)
+        (holds-intern b p n u r b′ p′ hs′ ns′ zs′ k n′ u′ h (g .stored) fresh) (h .number)
+
+    -- No room for a record's sort is no room for a sort that is made of it.
+    pub record-full : (s : Sort) → Starts (intern (sortOf (storeOf b p n) (fieldsAt r 0)) (storeOf b p n)) (intern s (storeOf b p n)) → within s ≡ true
+        → room (length b) (length p) (addOnce (storeOf b p n) (sortOf (storeOf b p n) (fieldsAt r 0))) ≡ false → AnswerIs b p n (sort s) b p hs ns zs (refusal Full n u)
+    record-full s h w q =
+        let t = sortOf (storeOf b p n) (fieldsAt r 0) in
+        answer-full s w (room-starts (length b) (length p) (intern t (storeOf b p n)) (intern s (storeOf b p n)) h (ap (room (length b) (length p)) record-intern ∙ q))
+
+-- The Set of a sort is made behind it.
+pub intern-set : (t : Sort) (st : List Sort) → intern (set t) st ≡ addOnce (intern t st) (set t)
+unfolding intern
+intern-set t st = refl
+
+pub starts-set : (t : Sort) (st : List Sort) → Starts (intern t st) (intern (set t) st)
+starts-set t st = subst (Starts (intern t st)) (sym (intern-set t st)) (starts-add (intern t st) (set t))
+
+---------------------------------------------------------------- what an answer tells
+-- Whatever refused it, its code is no number of a store.
+pub cause-code : (c : Cause) → 65536 ≤ numberOf c * 65536
+cause-code c = omega (arith, low c)
+  where
+    low : (c : Cause) → 1 ≤ numberOf c
+    low Cause.Below = omega arith
+    low Cause.Panics = omega arith
+    low Cause.Limit = omega arith
+    low Cause.Full = omega arith
+    low Cause.NoRank = omega arith
+    low Cause.Count = omega arith
+    low Cause.Misfit = omega arith
+    low Cause.Unassigned = omega arith
+    low Cause.Barred = omega arith
+    low Cause.NoAssignment = omega arith
+
+-- An outcome by the two tests.
+abbrev byLimits : Bool → Bool → List Sort → List Sort → ℕ → Outcome
+byLimits w t st st′ k = outcomeBy w (outcomeBy t (record { store = st′; code = k }) (refusedAs st Full)) (refusedAs st Limit)
+
+-- A code of a number says that both tests passed; another, that the same refusal holds over every store.
+record Passed (w t : Bool) (st o : List Sort) (k i : ℕ) : Type 0 where
+  limit : w ≡ true
+  fits : t ≡ true
+  sorts : st ≡ o
+  number : k ≡ i
+
+by-accepted : (w t : Bool) (st st′ o : List Sort) (k i : ℕ) → byLimits w t st st′ k ≡ record { store = o; code = i } → i < 65536 → Passed w t st′ o k i
+by-accepted true true st st′ o k i e h = record { limit = refl; fits = refl; sorts = ap (λ (x : Outcome). x .store) e; number = ap (λ (x : Outcome). x .code) e }
+by-accepted true false st st′ o k i e h = absurd (omega (arith, ap (λ (x : Outcome). x .code) e))
+by-accepted false t st st′ o k i e h = absurd (omega (arith, ap (λ (x : Outcome). x .code) e))
+
+by-refused : (w t : Bool) (st st′ o : List Sort) (k : ℕ) (c : Cause) → byLimits w t st st′ k ≡ record { store = o; code = numberOf c * 65536 } → (t ≡ true → k < 65536)
+    → (x : List Sort) → byLimits w t x st′ k ≡ refusedAs x c
+by-refused true true st st′ o k c e h x = absurd (omega (arith, ap (λ (x : Outcome). x .code) e, h refl, cause-code c))
+by-refused true false st st′ o k c e h x = ap (λ (i : ℕ). record { store = x; code = i }) (ap (λ (x : Outcome). x .code) e)
+by-refused false t st st′ o k c e h x = ap (λ (i : ℕ). record { store = x; code = i }) (ap (λ (x : Outcome). x .code) e)
+
+-- A number of a store with room is small.
+index-small : (records places : ℕ) (s : Sort) (st : List Sort) → room records places (intern s st) ≡ true → indexOf s (intern s st) < 65536
+unfolding room
+index-small records places s st e =
+    let x = intern s st in
+    omega (
+      arith,
+      index-found x s (memb-intern s st) .0,
+      leb-true (length x) 4096 (and-right (leb (length x) places) (leb (length x) 4096) (and-right (leb (bytesOf x) records) (leb (length x) places && leb (length x) 4096) e)),
+    )
+
+-- A REFUSED ANSWER LEFT ALL FIVE BUFFERS as they were, whole.
+pub record Back (b p hs ns zs : List ℕ) (n u : ℕ) (b′ p′ hs′ ns′ zs′ : List ℕ) (r : Answer) : Type 0 where
+  pub same : Untouched b p hs ns zs b′ p′ hs′ ns′ zs′
+  pub count : r .count ≡ n
+  pub used : r .used ≡ u
+
+module _ (b p : List ℕ) (n : ℕ) (v : Verdict) (b′ p′ hs′ ns′ zs′ : List ℕ) (r : Answer) (a : AnswerIs b p n v b′ p′ hs′ ns′ zs′ r) where
+  pub answer-back : (hs ns zs : List ℕ) (u : ℕ) → Good b p hs ns zs n u → (c : Cause) → r .verdict ≡ Refused c → Back b p hs ns zs n u b′ p′ hs′ ns′ zs′ r
+  answer-back hs ns zs u g c e =
+      let st = storeOf b p n in
+      let kept : storeOf b′ p′ (r .count) ≡ st = subst (Left st (storeOf b′ p′ (r .count))) e (a .left) in
+      let q : r .count ≡ n = sym (storeOf-length b′ p′ (r .count)) ∙ ap length kept ∙ storeOf-length b p n in
+      let one =
+      good-one b′ p′ hs′ ns′ zs′ b p hs ns zs n (r .used) u (subst (λ (m : ℕ). Good b′ p′ hs′ ns′ zs′ m (r .used)) q (a .good)) g
+      (subst (λ (m : ℕ). storeOf b′ p′ m ≡ st) q kept) (a .long) (a .wide) in
+      record { same = (one .0, one .1, one .2, one .3, one .4); count = q; used = one .5 }
+
+  -- AN ACCEPTED ANSWER is a number of the store, below 4,096.
+  pub answer-number : (k : ℕ) → r .verdict ≡ Number k → (k < r .count) × (k < 4096)
+  answer-number k e =
+      let l : k < length (storeOf b′ p′ (r .count)) = subst (Left (storeOf b p n) (storeOf b′ p′ (r .count))) e (a .left) in
+      (omega (arith, storeOf-length b′ p′ (r .count)), omega (arith, storeOf-length b′ p′ (r .count), a .good .indexed .count))
+
+  -- The code of an answer fits a row.
+  pub answer-code : codeOf (r .verdict) < 4294967296
+  answer-code = go (r .verdict) refl
+    where
+      small : (c : Cause) → numberOf c * 65536 < 4294967296
+      small Cause.Below = omega arith
+      small Cause.Panics = omega arith
+      small Cause.Limit = omega arith
+      small Cause.Full = omega arith
+      small Cause.NoRank = omega arith
+      small Cause.Count = omega arith
+      small Cause.Misfit = omega arith
+      small Cause.Unassigned = omega arith
+      small Cause.Barred = omega arith
+      small Cause.NoAssignment = omega arith
+
+      go : (w : RowVerdict) → r .verdict ≡ w → codeOf w < 4294967296
+      go (Number k) e = omega (arith, answer-number k e .1)
+      go (Refused c) e = small c
+
+-- THE SORT OF AN ACCEPTED ANSWER, and the store that has it.
+module _ (b p : List ℕ) (n : ℕ) (s : Sort) (b′ p′ hs′ ns′ zs′ : List ℕ) (r : Answer) (a : AnswerIs b p n (sort s) b′ p′ hs′ ns′ zs′ r) where
+  passed : (k : ℕ) → r .verdict ≡ Number k
+      → Passed (within s) (room (length b) (length p) (intern s (storeOf b p n))) (intern s (storeOf b p n)) (storeOf b′ p′ (r .count)) (indexOf s (intern s (storeOf b p n))) k
+  unfolding outcome
+  passed k e =
+      let st = storeOf b p n in
+      by-accepted (within s) (room (length b) (length p) (intern s st)) st (intern s st) (storeOf b′ p′ (r .count)) (indexOf s (intern s st)) k
+      (a .is (lent b p) refl refl ∙ ap (λ (v : RowVerdict). record { store = storeOf b′ p′ (r .count); code = codeOf v }) e)
+      (omega (arith, answer-number b p n (sort s) b′ p′ hs′ ns′ zs′ r a k e .1))
+
+  pub answer-store : (k : ℕ) → r .verdict ≡ Number k → storeOf b′ p′ (r .count) ≡ intern s (storeOf b p n)
+  answer-store k e = sym (passed k e .sorts)
+
+  pub answer-sort : (k : ℕ) → r .verdict ≡ Number k → sortAt b′ p′ (r .count) k ≡ s
+  unfolding sortAt
+  answer-sort k e =
+      let st = storeOf b p n in
+      ap₂ (λ (x : List Sort) (i : ℕ). getD x i leaf) (answer-store k e) (sym (passed k e .number)) ∙ index-found (intern s st) s (memb-intern s st) .1
+
+---------------------------------------------------------------- over a store that was grown on the way to the answer
+module _ (b p : List ℕ) (n : ℕ) (c q : List ℕ) (m : ℕ) (s : Sort) (same : intern s (storeOf b p n) ≡ intern s (storeOf c q m)) (starts : Starts (storeOf b p n) (storeOf c q m))
+    (long : length c ≡ length b) (wide : length q ≡ length p) (b′ p′ hs′ ns′ zs′ : List ℕ) (r : Answer) (a : AnswerIs c q m (sort s) b′ p′ hs′ ns′ zs′ r) where
+  -- Accepted there, it is accepted from the first store on.
+  pub grown-accepted : (k : ℕ) → r .verdict ≡ Number k → AnswerIs b p n (sort s) b′ p′ hs′ ns′ zs′ r
+  unfolding outcome
+  grown-accepted k e =
+      let t = passed c q m s b′ p′ hs′ ns′ zs′ r a k e in
+      let fits : room (length b) (length p) (intern s (storeOf b p n)) ≡ true =
+      ap (room (length b) (length p)) same ∙ sym (ap₂ (λ (x y : ℕ). room x y (intern s (storeOf c q m))) long wide) ∙ t .fits in
+      record {
+        good = a .good;
+        long = a .long ∙ long;
+        wide = a .wide ∙ wide;
+        is = λ l x y.
+            ap (λ (t : Bool). byLimits t (room (l .records) (l .places) (intern s (storeOf b p n))) (storeOf b p n) (intern s (storeOf b p n)) (indexOf s (intern s (storeOf b p n)))) (t .limit)
+            ∙ ap (λ (t : Bool). byLimits true t (storeOf b p n) (intern s (storeOf b p n)) (indexOf s (intern s (storeOf b p n)))) (room-of l b p (intern s (storeOf b p n)) x y ∙ fits)
+            ∙ ap₂ (λ (x : List Sort) (i : ℕ). record { store = x; code = i }) (same ∙ t .sorts)
+            (ap (indexOf s) same ∙ t .number ∙ sym (ap codeOf e));
+        starts = starts-trans (storeOf b p n) (storeOf c q m) (storeOf b′ p′ (r .count)) starts (a .starts);
+        left =
+            subst (Left (storeOf b p n) (storeOf b′ p′ (r .count))) (sym e)
+            (subst (Left (storeOf c q m) (storeOf b′ p′ (r .count))) e (a .left));
+      }
+
+  -- Refused there, it is refused from the first store on.
+  pub grown-refused : (x : Cause) → r .verdict ≡ Refused x → (hs ns zs : List ℕ) (u : ℕ) → Good b p hs ns zs n u → AnswerIs b p n (sort s) b p hs ns zs (refusal x n u)
+  unfolding outcome
+  grown-refused x e hs ns zs u g =
+      same-answer b p hs ns zs n u g (sort s) x (λ l y z.
+      ap (λ (st : List Sort). byLimits (within s) (room (l .records) (l .places) st) (storeOf b p n) st (indexOf s st)) same
+      ∙ by-refused (within s) (room (l .records) (l .places) (intern s (storeOf c q m))) (storeOf c q m) (intern s (storeOf c q m)) (storeOf b′ p′ (r .count)) (indexOf s (intern s (storeOf c q m))) x
+      (a .is l (y ∙ sym long) (z ∙ sym wide) ∙ ap (λ (v : RowVerdict). record { store = storeOf b′ p′ (r .count); code = codeOf v }) e)
+      (index-small (l .records) (l .places) s (storeOf c q m)) (storeOf b p n))
+
+-- UNDOING gives back the store that the present one was grown from, whole.
+pub undone : (b p hs ns zs : List ℕ) (n u : ℕ) → Good b p hs ns zs n u → (c q : List ℕ) (m : ℕ) → Starts (storeOf b p n) (storeOf c q m) → length c ≡ length b → length q ≡ length p
+    → (b′ p′ hs′ ns′ zs′ : List ℕ) (u′ : ℕ) → UndoIs c q m b′ p′ hs′ ns′ zs′ n u′ → Untouched b p hs ns zs b′ p′ hs′ ns′ zs′
+undone b p hs ns zs n u g c q m starts long wide b′ p′ hs′ ns′ zs′ u′ h =
+    let e =
+    h .same b p hs ns zs u g (sym (ap (take n) (starts .1) ∙ take-at (storeOf b p n) (starts .0) n (storeOf-length b p n))) (sym long) (sym wide) in
+    (e .0, e .1, e .2, e .3, e .4)
