@@ -1,0 +1,2 @@
+pub mod Rule
+pub mod RuleLaws
