@@ -86,7 +86,7 @@ kind-fields st f = go (which (f .kind))
     go (isNode h g) = ap kindOf (sort-other st f h g)
 
 module _ (b p : List ℕ) (n i : ℕ) (s : Stored b p n) (l : i < n) where
-  kind-read : kindOf (sortAt b p n i) ≡ fieldsAt b (getD p i 0) .kind
+  pub kind-read : kindOf (sortAt b p n i) ≡ fieldsAt b (getD p i 0) .kind
   kind-read = ap kindOf (sort-node b p n i s l) ∙ kind-fields (storeOf b p n) (fieldsAt b (getD p i 0))
 
   pub kind-plain : (k : ℕ) → mapOf k ≡ 1 → kindOf (sortAt b p n i) ≡ k → sortAt b p n i ≡ plainSort k
