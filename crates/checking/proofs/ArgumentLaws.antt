@@ -1,29 +1,29 @@
 -- Scans over the arguments, and the sorts that they are: by kind, by number, and whether one is a Par.
 use Prim.Native.Nat.{ℕ, zero, suc, _+_, _*_, _≤_, _<_}
 use mathlib.Core.Path.{_≡_, refl, sym, ap, ap₂, subst, _∙_}
-use mathlib.Core.Bool.{Bool, true, false, _&&_, _||_, false≢true, true≢false}
-use mathlib.Core.List.{List, [], _∷_}
+use mathlib.Core.Bool.{Bool, true, false, _&&_}
+use mathlib.Core.List.{List}
 use native.Mathlib.Omega.{arith}
 use native.Mathlib.Numerals.{add-one}
 use native.Mathlib.Nat.{not-suc-le-zero}
 use native.Mathlib.Decide.{decLt}
-use lib.ListN.{length, getD}
-use lib.Dec.{eqb, leb}
-use borrow.Author.Tests.{eq-eqb, eqb-true, ne-eqb, le-leb, lt-leb}
+use lib.ListN.{getD}
+use lib.Dec.{eqb}
+use borrow.Author.Tests.{eq-eqb, eqb-true, le-leb, lt-leb}
 use Rattle.record.specs.Number.{u16At, numbersAt}
 use Rattle.record.specs.Sort.{Sort, Sorts, var, par, node, end, _then_, kindOf, same}
 use Rattle.record.specs.SortLaws.{same-sound, same-complete, same-other}
 use Rattle.record.specs.Record.{Fields, bit, maps, mapOf, leaf, sortsOf, sortOf}
-use Rattle.record.specs.Decode.{fieldsAt, Shape, storeOf, sortAt, Stored, Distinct}
+use Rattle.record.specs.Decode.{fieldsAt, Shape, storeOf, sortAt, Stored}
 use Rattle.record.specs.Forms.{Which, isVar, isPar, isNode, which, sort-var, sort-par, sort-other}
 use Rattle.record.specs.StoreLaws.{sort-node, sorts-one}
 use Rattle.record.specs.SortLists.{below-suc}
-use Rattle.record.specs.Cases.{both-ways, and-left, not-true-false}
+use Rattle.record.specs.Cases.{both-ways}
 use Rattle.store.specs.Entry.{EntryAsks, KindHas}
 use Rattle.store.specs.Walk.{entry-asks}
 use Rattle.checked.specs.Checked.{value, values, onlyOf}
 use Rattle.checking.specs.Rule.{plainSort, allSame}
-use Rattle.checking.specs.Contract.{argAt, Over, ArgsAsk, argsOf, KindsHave, SameHas, ValuesHave}
+use Rattle.checking.specs.Contract.{argAt, ArgsAsk, argsOf, KindsHave, SameHas, ValuesHave}
 use Rattle.checking.specs.Contract.{KindHas as KindAtHas}
 
 -- A test that holds of every sort of a list.

@@ -1,35 +1,32 @@
 -- The fits of the rules, by what the scans and the entries of the store told.
-use Prim.Native.Nat.{ℕ, zero, suc, _+_, _*_, _≤_, _<_}
+use Prim.Native.Nat.{ℕ, zero, suc, _+_, _<_}
 use mathlib.Core.Path.{_≡_, refl, sym, ap, ap₂, subst, _∙_}
-use mathlib.Core.Logic.{_⊎_, inl, inr, ⊎-elim}
-use mathlib.Core.Bool.{Bool, true, false, not, cond, _&&_, _||_, false≢true, true≢false}
-use mathlib.Core.List.{List, [], _∷_}
+use mathlib.Core.Bool.{Bool, true, false, not, cond, _&&_, _||_, true≢false}
+use mathlib.Core.List.{List}
 use native.Mathlib.Omega.{arith}
 use lib.ListN.{length, getD}
 use lib.Dec.{eqb, leb}
-use borrow.Author.Tests.{eq-eqb, eqb-true, ne-eqb, leb-true, le-leb}
+use borrow.Author.Tests.{eq-eqb, eqb-true, ne-eqb, leb-true}
 use Rattle.record.specs.Number.{u16At, numbersAt}
-use Rattle.record.specs.Sort.{Sort, Sorts, node, end, _then_, bool, int, real, array, bitvec, kindOf, numberIn, same, sameAll}
-use Rattle.record.specs.SortLaws.{same-sound, same-complete, same-other, same-refl}
+use Rattle.record.specs.Sort.{Sort, node, end, _then_, bool, int, real, array, bitvec, kindOf, numberIn, same, sameAll}
+use Rattle.record.specs.SortLaws.{same-sound, same-complete, same-other}
 use Rattle.record.specs.Record.{Fields, bit, maps, mapOf, leasts, leastOf, mosts, mostOf, leaf, sortsOf, sortOf}
 use Rattle.record.specs.Forms.{sort-other}
-use Rattle.record.specs.Decode.{fields, fieldsAt, Shape, storeOf, sortAt, Stored, Distinct}
+use Rattle.record.specs.Decode.{fieldsAt, Shape, storeOf, sortAt, Stored, Distinct}
 use Rattle.record.specs.Codec.{length-numbersAt}
 use Rattle.record.specs.StoreLaws.{sorts-one, sort-node}
-use Rattle.record.specs.Cases.{and-left, and-right, or-cases, both-ways, byTest, or-first}
+use Rattle.record.specs.Cases.{and-left, and-right, or-cases, both-ways}
 use Rattle.record.specs.declared.SortRecord.{SortRecord}
-use Rattle.store.specs.Entry.{EntryAsks, EntryIs, EntryHas, KindHas}
-use Rattle.store.specs.Walk.{entry-asks, walk-node}
+use Rattle.store.specs.Entry.{EntryIs, EntryHas, KindHas}
+use Rattle.store.specs.Walk.{walk-node}
 use Rattle.rows.specs.declared.Cause.the-variants.{Misfit}
 use Rattle.rows.specs.Verdict.{Verdict, sort, refused, need}
 use Rattle.checked.specs.Rank.{vector}
 use Rattle.checked.specs.Checked.{onlyOf}
-use Rattle.checking.specs.declared.rule.Rule.{Rule}
-use Rattle.checking.specs.declared.rule.Rule.the-variants.{Unranked, All, Fixed, Numbers, Equal, Choose, Select, Store, Vectors, Concat}
-use Rattle.checking.specs.declared.op.Fit.{Fit}
+use Rattle.checking.specs.declared.rule.Rule.the-variants.{All, Fixed, Numbers, Equal, Choose, Vectors, Concat}
 use Rattle.checking.specs.declared.op.Fit.the-variants.{Known, Plain, Width, Nothing}
-use Rattle.checking.specs.Rule.{plainSort, fixedOf, numbersResult, vectorsResult, allSame, countsFor, choosing, selecting, storing, selected, stored, concatenated, fitted, plainKind, oneOrTwo, wellRule}
-use Rattle.checking.specs.Contract.{argAt, Over, ArgsAsk, argsOf, KindsHave, SameHas, fitVerdict, FitOk, FitIs, FitAsks, FitHas, ArrayAsks, ArrayIs, ArrayHas}
+use Rattle.checking.specs.Rule.{plainSort, fixedOf, numbersResult, vectorsResult, allSame, choosing, concatenated, fitted, plainKind, oneOrTwo, wellRule}
+use Rattle.checking.specs.Contract.{argAt, Over, ArgsAsk, argsOf, KindsHave, SameHas, FitIs, FitAsks, FitHas}
 use Rattle.checking.specs.Contract.{KindHas as KindAtHas}
 use Rattle.checking.proofs.ArgumentLaws.{kind-read}
 
@@ -55,7 +52,7 @@ and-none true = refl
 and-none false = refl
 
 -- Two numbers of a store are the same sort where they are equal.
-numbers-same : (b p : List ℕ) (n i j : ℕ) → Stored b p n → Distinct b p n → i < n → j < n → same (sortAt b p n i) (sortAt b p n j) ≡ eqb i j
+pub numbers-same : (b p : List ℕ) (n i j : ℕ) → Stored b p n → Distinct b p n → i < n → j < n → same (sortAt b p n i) (sortAt b p n j) ≡ eqb i j
 numbers-same b p n i j s d hi hj =
     both-ways (same (sortAt b p n i) (sortAt b p n j)) (eqb i j)
     (λ e. eq-eqb i j (sorts-one b p n s d i j hi hj (same-sound (sortAt b p n i) (sortAt b p n j) e)))
@@ -63,11 +60,11 @@ numbers-same b p n i j s d hi hj =
 
 ---------------------------------------------------------------- three arguments or fewer
 module _ (b p : List ℕ) (n : ℕ) (a : List ℕ) where
-  two-args : (m : ℕ) → m ≡ 2 → argsOf b p n a m ≡ sortAt b p n (u16At a 3) then sortAt b p n (u16At a 5) then end
+  pub two-args : (m : ℕ) → m ≡ 2 → argsOf b p n a m ≡ sortAt b p n (u16At a 3) then sortAt b p n (u16At a 5) then end
   unfolding sortAt sortsOf numbersAt
   two-args m e = ap (argsOf b p n a) e
 
-  three-args : (m : ℕ) → m ≡ 3 → argsOf b p n a m ≡ sortAt b p n (u16At a 3) then sortAt b p n (u16At a 5) then sortAt b p n (u16At a 7) then end
+  pub three-args : (m : ℕ) → m ≡ 3 → argsOf b p n a m ≡ sortAt b p n (u16At a 3) then sortAt b p n (u16At a 5) then sortAt b p n (u16At a 7) then end
   unfolding sortAt sortsOf numbersAt
   three-args m e = ap (argsOf b p n a) e
 
@@ -264,7 +261,7 @@ module _ (b p : List ℕ) (n k : ℕ) (s : Stored b p n) (l : k < n) (r : SortRe
       let y : mostOf (fieldsAt b (getD p k 0) .kind) ≡ 2 = ap mostOf (read-kind ∙ h) in
       omega (arith, s .each k l .shape .least, s .each k l .shape .most, q, x, y)
 
-  array-sort : r .kind ≡ 8 → sortAt b p n k ≡ array (sortAt b p n (u16At b (r .list))) (sortAt b p n (u16At b (r .list + 2)))
+  pub array-sort : r .kind ≡ 8 → sortAt b p n k ≡ array (sortAt b p n (u16At b (r .list))) (sortAt b p n (u16At b (r .list + 2)))
   unfolding bit mapOf maps sortsOf numbersAt sortAt
   array-sort h =
       let st = storeOf b p n in

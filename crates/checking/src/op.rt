@@ -13,11 +13,10 @@ use rows::Cause;
 use store::entries::entry;
 use store::entries::kind_at;
 ghost use Prim.Native.Nat.{_<_};
-ghost use Rattle.rows.specs.Verdict.{Verdict};
 ghost use Rattle.checked.specs.Ranks.{smtLib};
 ghost use Rattle.checked.specs.Checked.{operated};
 ghost use Rattle.answers.specs.Answer.{AnswerIs};
-ghost use Rattle.checking.specs.declared.rule.Rule.the-variants.{All, Fixed, Numbers, Equal, Choose, Select, Store, Vectors, Concat};
+ghost use Rattle.checking.specs.declared.rule.Rule.the-variants.{All, Fixed, Numbers, Equal, Choose, Vectors, Concat};
 ghost use Rattle.checking.specs.Contract.{ArgsAsk, argsOf, KindsHave, KindHas, SameHas, ValuesHave, FitAsks, FitHas, ArrayAsks, ArrayHas, fitVerdict, DeliverAsks, OperatedAsks};
 ghost use Rattle.record.specs.Decode.{storeOf};
 
@@ -179,6 +178,31 @@ pub fn fit_choose(records: &[u8], places: &[u32], args: &[u8], n: usize) -> Fit
     Fit::Known(a)
 }
 
+// (Array X Y) X gives Y; with n = 3, (Array X Y) X Y gives (Array X Y).
+pub fn fit_array(records: &[u8], places: &[u32], args: &[u8], n: usize) -> Fit
+    requires { ⌜ ArrayAsks (now records) (now places) (now args) n ⌝ }
+    ensures { λ r. ⌜ ArrayHas (now (records .entry)) (now (places .entry)) (now (args .entry)) n r ⌝ }
+{
+    let k = u16_at(args, 3);
+    let a = entry(records, places, k);
+    if a.kind != 8 {
+        return Fit::Nothing;
+    }
+    let list = a.list;
+    let index = u16_at(records, list);
+    let element = u16_at(records, list + 2);
+    if u16_at(args, 5) != index {
+        return Fit::Nothing;
+    }
+    if n == 2 {
+        return Fit::Known(element);
+    }
+    if u16_at(args, 7) != element {
+        return Fit::Nothing;
+    }
+    Fit::Known(k)
+}
+
 // Vectors of one width; the result is theirs (0), one bit (9), or of this kind.
 pub fn fit_vectors(records: &[u8], places: &[u32], args: &[u8], n: usize, result: usize) -> Fit
     requires { ⌜ FitAsks (now records) (now places) (now args) n (Vectors 1 1 result) ⌝ }
@@ -216,4 +240,76 @@ pub fn fit_concat(records: &[u8], places: &[u32], args: &[u8], n: usize) -> Fit
         return Fit::Nothing;
     }
     Fit::Width(a.number + b.number)
+}
+
+// The result of a rule at n arguments, whose count it has.
+pub fn fit_rule(records: &[u8], places: &[u32], rule: Rule, args: &[u8], n: usize) -> Fit
+    requires { ⌜ FitAsks (now records) (now places) (now args) n rule ⌝ }
+    ensures { λ r. ⌜ FitHas (now (records .entry)) (now (places .entry)) (now (args .entry)) n rule r ⌝ }
+{
+    match rule {
+        Rule::Unranked => Fit::Nothing,
+        Rule::All(kind, result) => fit_all(records, places, args, n, kind, result),
+        Rule::Fixed(_, a, b, c, result) => fit_fixed(records, places, args, n, a, b, c, result),
+        Rule::Numbers(_, result) => fit_numbers(records, places, args, n, result),
+        Rule::Equal => fit_equal(records, places, args, n),
+        Rule::Choose => fit_choose(records, places, args, n),
+        Rule::Select => fit_array(records, places, args, n),
+        Rule::Store => fit_array(records, places, args, n),
+        Rule::Vectors(_, _, result) => fit_vectors(records, places, args, n, result),
+        Rule::Concat => fit_concat(records, places, args, n),
+    }
+}
+
+// The answer of a fit: its sort, made where it is not in the store; Misfit without one.
+pub fn delivered(
+    records: &mut [u8],
+    places: &mut [u32],
+    heads: &mut [u16],
+    next: &mut [u16],
+    sizes: &mut [u16],
+    count: usize,
+    used: usize,
+    made: Fit,
+) -> Answer
+    requires { ⌜ DeliverAsks (now records) (now places) (now heads) (now next) (now sizes) count used made ⌝ }
+    ensures { λ r. ⌜ AnswerIs (now (records .entry)) (now (places .entry)) count (fitVerdict (storeOf (now (records .entry)) (now (places .entry)) count) made) (now (records .exit)) (now (places .exit)) (now (heads .exit)) (now (next .exit)) (now (sizes .exit)) r ⌝ }
+{
+    match made {
+        Fit::Known(k) => found(k, count, used),
+        Fit::Plain(kind) => leaf(records, places, heads, next, sizes, count, used, kind as u8),
+        Fit::Width(w) => bit_vector(records, places, heads, next, sizes, count, used, w),
+        Fit::Nothing => refuse(Cause::Misfit, count, used),
+    }
+}
+
+// The checked sort of the operator: NoRank without a rule, Count where the rule has another count of arguments, Misfit where
+// an argument is a Par or the rule does not fit.
+pub fn operated(
+    records: &mut [u8],
+    places: &mut [u32],
+    heads: &mut [u16],
+    next: &mut [u16],
+    sizes: &mut [u16],
+    count: usize,
+    used: usize,
+    op: usize,
+    args: &[u8],
+    n: usize,
+) -> Answer
+    requires { ⌜ OperatedAsks (now records) (now places) (now heads) (now next) (now sizes) count used op (now args) n ⌝ }
+    ensures { λ r. ⌜ AnswerIs (now (records .entry)) (now (places .entry)) count (operated smtLib op (argsOf (now (records .entry)) (now (places .entry)) count (now (args .entry)) n)) (now (records .exit)) (now (places .exit)) (now (heads .exit)) (now (next .exit)) (now (sizes .exit)) r ⌝ }
+{
+    let rule = rule_of(op);
+    if !is_ranked(rule) {
+        return refuse(Cause::NoRank, count, used);
+    }
+    if !counts(rule, n) {
+        return refuse(Cause::Count, count, used);
+    }
+    if !all_values(records, places, args, n) {
+        return refuse(Cause::Misfit, count, used);
+    }
+    let made = fit_rule(records, places, rule, args, n);
+    delivered(records, places, heads, next, sizes, count, used, made)
 }
