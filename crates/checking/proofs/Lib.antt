@@ -2,3 +2,4 @@ pub mod RangeLaws
 pub mod ArgumentLaws
 pub mod FitLaws
 pub mod OperatedLaws
+pub mod SingleLaws
