@@ -1,0 +1,5 @@
+pub mod RangeLaws
+pub mod ArgumentLaws
+pub mod FitLaws
+pub mod OperatedLaws
+pub mod SingleLaws

@@ -1,0 +1,77 @@
+-- The answer to a Let.
+-- The inner term is the last of the list.
+use native.Mathlib.Omega.{arith}
+use borrow.Author.Needs.{needs}
+use Rattle.rows.specs.declared.Cause.the-variants.{Count, Misfit}
+use Rattle.answers.specs.AnswerLaws.{judged-as, answered-as, answer-known, answer-refused}
+use Rattle.record.specs.Cases.{not-true}
+use Rattle.checking.proofs.FitLaws.{not-left}
+use Rattle.checking.proofs.SingleLaws.{over-args, letting-few, letting-par, letting-inner, inner-known}
+use Rattle.checking.proofs.single.letting.Statement.{statement}
+use Rattle.checking.proofs.single.letting.Tie as tie
+
+refuse-requires : tie.Need-refuse-requires
+refuse-requires c κs = search needs
+
+returns : tie.Need-returns
+returns c = 
+    let s = c .before .before .before .before .before in
+    let q = s .args in
+    let b = q .records .now in
+    let p = q .places .now in
+    let n = q .count in
+    let a = q .args .now in
+    λ hs ns zs g. judged-as (letting-few b p n a (q .n) (s .pre) (c .before .if1 .taken)) (answered-as (c .refuse .ensures) (answer-refused b p hs ns zs n (q .used) g Count))
+
+all-values-requires : tie.Need-all-values-requires
+all-values-requires c κs = 
+    let s = c .before .before .before .before in
+    let q = s .args in
+    let b = q .records .now in
+    let p = q .places .now in
+    let n = q .count in
+    let a = q .args .now in
+    over-args b p n a (q .n) (s .pre)
+
+refuse-requires-2 : tie.Need-refuse-requires-2
+refuse-requires-2 c κs = search needs
+
+returns-2 : tie.Need-returns-2
+returns-2 c = 
+    let s = c .before .before .before .before .before .before .before in
+    let q = s .args in
+    let b = q .records .now in
+    let p = q .places .now in
+    let n = q .count in
+    let a = q .args .now in
+    λ hs ns zs g. judged-as (letting-par b p n a (q .n) (s .pre) (c .before .before .before .if1 .left) (c .before .before .all-values .result) (c .before .before .all-values .ensures) (not-true (c .before .before .all-values .result) (c .before .if2 .taken))) (answered-as (c .refuse2 .ensures) (answer-refused b p hs ns zs n (q .used) g Misfit))
+
+sub-u16-at : tie.Need-sub-u16-at
+sub-u16-at c = omega (arith, c .before .before .if1 .left)
+
+mul-u16-at : tie.Need-mul-u16-at
+mul-u16-at c = omega (arith, c .before .before .before .before .before .before .pre .within, c .before .before .before .before .before .before .good .1 .1 .0, c .before .before .if1 .left)
+
+add-u16-at : tie.Need-add-u16-at
+add-u16-at c = omega (arith, c .before .before .before .before .before .before .pre .within, c .before .before .before .before .before .before .good .1 .1 .0, c .before .before .if1 .left)
+
+u16-at-requires : tie.Need-u16-at-requires
+u16-at-requires c κs = omega (arith, c .before .before .before .before .before .before .pre .within, c .before .before .if1 .left)
+
+found-requires : tie.Need-found-requires
+found-requires c κs = search needs
+
+returns-3 : tie.Need-returns-3
+returns-3 c = 
+    let s = c .before .before .before .before .before .before .before .before in
+    let q = s .args in
+    let b = q .records .now in
+    let p = q .places .now in
+    let n = q .count in
+    let a = q .args .now in
+    λ hs ns zs g.
+        judged-as (letting-inner b p n a (q .n) (s .pre) (c .before .before .before .before .if1 .left) (c .before .before .before .all-values .result) (c .before .before .before .all-values .ensures) (not-left (c .before .before .before .all-values .result) (c .before .before .if2 .left)) (c .before .u16-at .result) (c .before .u16-at .ensures .0))
+        (answered-as (c .found .ensures) (answer-known b p hs ns zs n (q .used) g (c .before .u16-at .result) (inner-known b p n a (q .n) (s .pre) (c .before .before .before .before .if1 .left) (c .before .before .before .all-values .result) (c .before .before .before .all-values .ensures) (c .before .u16-at .result) (c .before .u16-at .ensures .0))))
+
+pub letting-spec : {M : Type 1} → statement M
+letting-spec = tie.close (tie.spec refuse-requires returns all-values-requires refuse-requires-2 returns-2 sub-u16-at mul-u16-at add-u16-at u16-at-requires found-requires returns-3)

@@ -1,0 +1,43 @@
+-- The answer to a Var.
+-- Its sort, where it may carry it.
+use borrow.Author.Needs.{needs}
+use Rattle.rows.specs.declared.Cause.the-variants.{Barred}
+use Rattle.answers.specs.AnswerLaws.{judged-as, answered-as, answer-known, answer-refused}
+use Rattle.record.specs.Decode.{sortAt}
+use Rattle.rows.specs.Verdict.{sort}
+use Rattle.checked.specs.Checked.{carried}
+use Rattle.checking.proofs.SingleLaws.{need-taken, need-left}
+use Rattle.checking.proofs.single.variable.Statement.{statement}
+use Rattle.checking.proofs.single.variable.Tie as tie
+
+is-carried-requires : tie.Need-is-carried-requires
+is-carried-requires c κs = c .before .before .pre
+
+found-requires : tie.Need-found-requires
+found-requires c κs = search needs
+
+returns : tie.Need-returns
+returns c = 
+    let s = c .before .before .before .before .before in
+    let q = s .args in
+    let b = q .records .now in
+    let p = q .places .now in
+    let n = q .count in
+    λ hs ns zs g. judged-as (need-taken (c .before .before .is-carried .result) (sort (sortAt b p n (q .k))) (carried (sortAt b p n (q .k))) (c .before .before .is-carried .ensures) (c .before .if1 .taken))
+        (answered-as (c .found .ensures) (answer-known b p hs ns zs n (q .used) g (q .k) (s .pre .known)))
+
+refuse-requires : tie.Need-refuse-requires
+refuse-requires c κs = search needs
+
+returns-2 : tie.Need-returns-2
+returns-2 c = 
+    let s = c .before .before .before .before .before in
+    let q = s .args in
+    let b = q .records .now in
+    let p = q .places .now in
+    let n = q .count in
+    λ hs ns zs g. judged-as (need-left (c .before .before .is-carried .result) (sort (sortAt b p n (q .k))) (carried (sortAt b p n (q .k))) (c .before .before .is-carried .ensures) (c .before .if1 .left))
+        (answered-as (c .refuse .ensures) (answer-refused b p hs ns zs n (q .used) g Barred))
+
+pub variable-spec : {M : Type 1} → statement M
+variable-spec = tie.close (tie.spec is-carried-requires found-requires returns refuse-requires returns-2)

@@ -1,0 +1,138 @@
+// The checked sort of a constant, a Var, a Let and an (as const).
+use super::op::all_values;
+use answers::Answer;
+use answers::bit_vector;
+use answers::found;
+use answers::leaf;
+use answers::refuse;
+use matching::premises::is_proper;
+use record::u16_at;
+use rows::Cause;
+use store::entries::entry;
+use store::entries::kind_at;
+ghost use mathlib.Core.Path.{_≡_};
+ghost use Rattle.record.specs.Decode.{sortAt};
+ghost use Rattle.matching.specs.Contract.{OneAsks};
+ghost use Rattle.checked.specs.Checked.{carried, letting, qualified};
+ghost use Rattle.answers.specs.Answer.{AnswerIs};
+ghost use Rattle.checking.specs.Contract.{argsOf};
+ghost use Rattle.checking.specs.Single.{ReadIs, ConstantAsks, constantVerdict, OverAsks, QualifiedAsks, variableVerdict};
+
+// A constant: 0 integer, 1 real, 2 string, 3 RegLan constant, else bit-vector constant, which is Barred with the width 0.
+pub fn constant(
+    records: &mut [u8],
+    places: &mut [u32],
+    heads: &mut [u16],
+    next: &mut [u16],
+    sizes: &mut [u16],
+    count: usize,
+    used: usize,
+    kind: usize,
+    number: usize,
+) -> Answer
+    requires { ⌜ ConstantAsks (now records) (now places) (now heads) (now next) (now sizes) count used ⌝ }
+    ensures { λ r. ⌜ AnswerIs (now (records .entry)) (now (places .entry)) count (constantVerdict kind number) (now (records .exit)) (now (places .exit)) (now (heads .exit)) (now (next .exit)) (now (sizes .exit)) r ⌝ }
+{
+    if kind < 4 {
+        return leaf(
+            records,
+            places,
+            heads,
+            next,
+            sizes,
+            count,
+            used,
+            (kind + 4) as u8,
+        );
+    }
+    if number == 0 {
+        return refuse(Cause::Barred, count, used);
+    }
+    bit_vector(records, places, heads, next, sizes, count, used, number)
+}
+
+// Whether the sort k may be a Var's: no Type, ParamBitVec or BitVec 0 inside, and a Par only outermost, over a Function.
+pub fn is_carried(records: &[u8], places: &[u32], count: usize, k: usize) -> bool
+    requires { ⌜ OneAsks (now records) (now places) count k ⌝ }
+    ensures { λ r. ⌜ r ≡ carried (sortAt (now (records .entry)) (now (places .entry)) count k) ⌝ }
+{
+    let a = entry(records, places, k);
+    if a.kind != 12 {
+        return is_proper(records, places, count, k);
+    }
+    let list = a.list;
+    let body = u16_at(records, list);
+    if kind_at(records, places, body) != 0 {
+        return false;
+    }
+    is_proper(records, places, count, body)
+}
+
+// A Var of the sort k: that sort, or Barred.
+pub fn variable(records: &[u8], places: &[u32], count: usize, used: usize, k: usize) -> Answer
+    requires { ⌜ OneAsks (now records) (now places) count k ⌝ }
+    ensures { λ r. ⌜ ReadIs (now (records .entry)) (now (places .entry)) count used (variableVerdict (sortAt (now (records .entry)) (now (places .entry)) count k)) r ⌝ }
+{
+    if is_carried(records, places, count, k) {
+        return found(k, count, used);
+    }
+    refuse(Cause::Barred, count, used)
+}
+
+// A Let of n - 1 values and its inner term: the inner one's sort; Count without a value; Misfit where one of the n is a Par.
+pub fn letting(
+    records: &[u8],
+    places: &[u32],
+    count: usize,
+    used: usize,
+    args: &[u8],
+    n: usize,
+) -> Answer
+    requires { ⌜ OverAsks (now records) (now places) count (now args) n ⌝ }
+    ensures { λ r. ⌜ ReadIs (now (records .entry)) (now (places .entry)) count used (letting (argsOf (now (records .entry)) (now (places .entry)) count (now (args .entry)) n)) r ⌝ }
+{
+    if n < 2 {
+        return refuse(Cause::Count, count, used);
+    }
+    if !all_values(records, places, args, n) {
+        return refuse(Cause::Misfit, count, used);
+    }
+    let k = u16_at(args, 3 + 2 * (n - 1));
+    found(k, count, used)
+}
+
+// (as const) with the sort k at n arguments: k, where it is an Array and the one argument is of its element sort; NoRank for
+// the other operators, Barred where k is not proper, Count, Misfit.
+pub fn qualified(
+    records: &[u8],
+    places: &[u32],
+    count: usize,
+    used: usize,
+    number: usize,
+    k: usize,
+    args: &[u8],
+    n: usize,
+) -> Answer
+    requires { ⌜ QualifiedAsks (now records) (now places) count k (now args) n ⌝ }
+    ensures { λ r. ⌜ ReadIs (now (records .entry)) (now (places .entry)) count used (qualified number (sortAt (now (records .entry)) (now (places .entry)) count k) (argsOf (now (records .entry)) (now (places .entry)) count (now (args .entry)) n)) r ⌝ }
+{
+    if number != 0 {
+        return refuse(Cause::NoRank, count, used);
+    }
+    if !is_proper(records, places, count, k) {
+        return refuse(Cause::Barred, count, used);
+    }
+    if n != 1 {
+        return refuse(Cause::Count, count, used);
+    }
+    let a = entry(records, places, k);
+    if a.kind != 8 {
+        return refuse(Cause::Misfit, count, used);
+    }
+    let list = a.list;
+    let element = u16_at(records, list + 2);
+    if u16_at(args, 3) != element {
+        return refuse(Cause::Misfit, count, used);
+    }
+    found(k, count, used)
+}
