@@ -1,0 +1,3 @@
+pub mod ApplyLaws
+pub mod MatchLaws
+pub mod WordLaws

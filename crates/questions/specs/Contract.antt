@@ -1,0 +1,119 @@
+-- What the answers to questions ask and promise: the answer, the store after it and its code are those of the definition,
+-- over the store numbers of the sheet's sorts; and every table of names is as it was, whole.
+use Prim.Native.Nat.{ℕ, _+_, _*_, _≤_, _<_}
+use mathlib.Core.Path.{_≡_}
+use mathlib.Core.List.{List}
+use lib.ListN.{length, getD}
+use Rattle.record.specs.Number.{u16At, numbersAt}
+use Rattle.record.specs.Sort.{Sort}
+use Rattle.record.specs.Record.{sortsOf}
+use Rattle.record.specs.Decode.{storeOf, sortAt, Zeros}
+use Rattle.record.specs.SortLists.{Starts}
+use Rattle.reader.specs.declared.QuestionRecord.{QuestionRecord}
+use Rattle.sheet.specs.Sheet.{Lengths, QuestionFields}
+use Rattle.sheet.specs.Trees.{mapped}
+use Rattle.store.specs.Good.{Good}
+use Rattle.matching.specs.Tables.{Lists, Cleared}
+use Rattle.rows.specs.Verdict.{codeOf}
+use Rattle.answers.specs.declared.Answer.{Answer}
+use Rattle.answers.specs.Answer.{AnswerIs}
+use Rattle.verdicts.specs.Questions.{firstOf, restOf, matchAnswer, applyAnswer, answerOf}
+use Rattle.questions.specs.declared.Word.{Word}
+
+-- THE QUESTION over the store st: the sheet's sorts by their store numbers, tbl.
+unfoldable pub questionOver : List Sort → List ℕ → List ℕ → QuestionRecord → QuestionFields
+questionOver st tbl s r =
+    record {
+      kind = r .kind;
+      sorts = sortsOf st (mapped tbl (numbersAt s (r .list) (r .count)));
+      names = numbersAt s (r .names) (r .named);
+    }
+
+-- Its lists lie in the sheet, its sorts have numbers of the store.
+pub record Asked (n : ℕ) (s tbl : List ℕ) (r : QuestionRecord) : Type 0 where
+  pub within : r .list + 2 * r .count ≤ length s
+  pub inside : (j : ℕ) → j < r .count → u16At s (r .list + 2 * j) < length tbl
+  pub known : (j : ℕ) → j < r .count → getD tbl (u16At s (r .list + 2 * j)) 0 < n
+  pub names : r .names + 2 * r .named ≤ length s
+  pub few : r .named ≤ 64
+  pub short : length s ≤ 65536
+
+---------------------------------------------------------------- question 2
+pub record ApplyAsks (b p hs ns zs : List ℕ) (n u : ℕ) (imgs s tbl : List ℕ) (r : QuestionRecord) : Type 0 where
+  pub good : Good b p hs ns zs n u
+  pub table : length imgs ≡ 65536
+  pub zeros : Zeros imgs 0
+  pub asked : Asked n s tbl r
+  pub count : r .count ≡ r .named + 1
+
+pub record ApplyIs (b p : List ℕ) (n : ℕ) (imgs s tbl : List ℕ) (q : QuestionRecord) (b′ p′ hs′ ns′ zs′ imgs′ : List ℕ) (r : Answer) : Type 0 where
+  pub answer : AnswerIs b p n
+      (applyAnswer (numbersAt s (q .names) (q .named)) (firstOf (sortsOf (storeOf b p n) (mapped tbl (numbersAt s (q .list) (q .count)))))
+      (restOf (sortsOf (storeOf b p n) (mapped tbl (numbersAt s (q .list) (q .count))))))
+      b′ p′ hs′ ns′ zs′ r
+  pub images : imgs′ ≡ imgs
+
+---------------------------------------------------------------- question 1
+pub record ListedAsks (b p hs ns zs : List ℕ) (n u : ℕ) (prm imgs bnd : List ℕ) (k j i : ℕ) : Type 0 where
+  pub good : Good b p hs ns zs n u
+  pub table : length prm ≡ 65536
+  pub cleared : Cleared imgs bnd
+  pub pattern : k < n
+  pub target : j < n
+  pub result : i < n
+
+pub record ListedIs (b p : List ℕ) (n : ℕ) (prm imgs bnd : List ℕ) (k j i : ℕ) (b′ p′ hs′ ns′ zs′ imgs′ bnd′ : List ℕ) (r : Answer) : Type 0 where
+  pub answer : (vs : List ℕ) → Lists prm vs → AnswerIs b p n (matchAnswer vs (sortAt b p n k) (sortAt b p n j) (sortAt b p n i)) b′ p′ hs′ ns′ zs′ r
+  pub images : imgs′ ≡ imgs
+  pub bound : bnd′ ≡ bnd
+
+pub record MatchAsks (b p hs ns zs : List ℕ) (n u : ℕ) (prm imgs bnd s tbl : List ℕ) (r : QuestionRecord) : Type 0 where
+  pub good : Good b p hs ns zs n u
+  pub table : length prm ≡ 65536
+  pub zeros : Zeros prm 0
+  pub cleared : Cleared imgs bnd
+  pub asked : Asked n s tbl r
+  pub count : r .count ≡ 3
+
+pub record MatchIs (b p : List ℕ) (n : ℕ) (prm imgs bnd s tbl : List ℕ) (q : QuestionRecord) (b′ p′ hs′ ns′ zs′ prm′ imgs′ bnd′ : List ℕ) (r : Answer) : Type 0 where
+  pub answer : AnswerIs b p n
+      (matchAnswer (numbersAt s (q .names) (q .named)) (firstOf (sortsOf (storeOf b p n) (mapped tbl (numbersAt s (q .list) (q .count)))))
+      (firstOf (restOf (sortsOf (storeOf b p n) (mapped tbl (numbersAt s (q .list) (q .count))))))
+      (firstOf (restOf (restOf (sortsOf (storeOf b p n) (mapped tbl (numbersAt s (q .list) (q .count))))))))
+      b′ p′ hs′ ns′ zs′ r
+  pub params : prm′ ≡ prm
+  pub images : imgs′ ≡ imgs
+  pub bound : bnd′ ≡ bnd
+
+---------------------------------------------------------------- the word
+pub record CodeAsks (a : Answer) : Type 0 where
+  pub small : codeOf (a .verdict) < 4294967296
+
+pub record WordIs (a : Answer) (r : Word) : Type 0 where
+  pub code : r .code ≡ codeOf (a .verdict)
+  pub count : r .count ≡ a .count
+  pub used : r .used ≡ a .used
+
+---------------------------------------------------------------- a question of any kind
+pub record QuestionAsks (b p hs ns zs : List ℕ) (n u : ℕ) (prm imgs bnd s tbl : List ℕ) (r : QuestionRecord) : Type 0 where
+  pub good : Good b p hs ns zs n u
+  pub table : length prm ≡ 65536
+  pub zeros : Zeros prm 0
+  pub cleared : Cleared imgs bnd
+  pub asked : Asked n s tbl r
+  pub kind : r .kind < 3
+  pub two : r .kind ≡ 0 → r .count ≡ 2
+  pub three : r .kind ≡ 1 → r .count ≡ 3
+  pub pairs : r .kind ≡ 2 → r .count ≡ r .named + 1
+
+-- THE ANSWER TO A QUESTION: the store after it and its code are the definition's, whatever other lengths were lent.
+pub record QuestionIs (b p : List ℕ) (n : ℕ) (prm imgs bnd s tbl : List ℕ) (q : QuestionRecord) (b′ p′ hs′ ns′ zs′ prm′ imgs′ bnd′ : List ℕ) (r : Word) : Type 0 where
+  pub good : Good b′ p′ hs′ ns′ zs′ (r .count) (r .used)
+  pub long : length b′ ≡ length b
+  pub wide : length p′ ≡ length p
+  pub is : (l : Lengths) → l .records ≡ length b → l .places ≡ length p → answerOf l (questionOver (storeOf b p n) tbl s q) (storeOf b p n)
+      ≡ record { store = storeOf b′ p′ (r .count); code = r .code }
+  pub starts : Starts (storeOf b p n) (storeOf b′ p′ (r .count))
+  pub params : prm′ ≡ prm
+  pub images : imgs′ ≡ imgs
+  pub bound : bnd′ ≡ bnd

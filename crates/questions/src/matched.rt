@@ -1,0 +1,117 @@
+// Question 1: the result after Substitution by the assignment that turns the pattern into the target.
+use super::images::sort_at;
+use answers::Answer;
+use answers::refuse;
+use instance::instance;
+use matching::Matched;
+use matching::plain::matches;
+use matching::premises::in_premise;
+use matching::tables::clear;
+use matching::tables::list_names;
+use matching::tables::unlist_names;
+use reader::QuestionRecord;
+use rows::Cause;
+ghost use Rattle.questions.specs.Contract.{ListedAsks, ListedIs, MatchAsks, MatchIs};
+
+// With its names listed: Barred outside matching's premise; NoAssignment where the pattern does not fit; else the result
+// with the assignment applied, found or added, Limit or Full. The tables of the map are zeros before and after.
+pub fn match_listed(
+    records: &mut [u8],
+    places: &mut [u32],
+    heads: &mut [u16],
+    next: &mut [u16],
+    sizes: &mut [u16],
+    count: usize,
+    used: usize,
+    params: &[u16],
+    images: &mut [u16],
+    bound: &mut [u16],
+    pattern: usize,
+    target: usize,
+    result: usize,
+) -> Answer
+    requires { ⌜ ListedAsks (now records) (now places) (now heads) (now next) (now sizes) count used (now params) (now images) (now bound) pattern target result ⌝ }
+    ensures { λ r. ⌜ ListedIs (now (records .entry)) (now (places .entry)) count (now (params .entry)) (now (images .entry)) (now (bound .entry)) pattern target result (now (records .exit)) (now (places .exit)) (now (heads .exit)) (now (next .exit)) (now (sizes .exit)) (now (images .exit)) (now (bound .exit)) r ⌝ }
+{
+    if !in_premise(records, places, count, params, pattern, target) {
+        return refuse(Cause::Barred, count, used);
+    }
+    let found = matches(
+        records,
+        places,
+        count,
+        params,
+        images,
+        bound,
+        0,
+        pattern,
+        target,
+    );
+    match found {
+        Matched::Fits(m) => {
+            let made = instance(
+                records,
+                places,
+                heads,
+                next,
+                sizes,
+                count,
+                used,
+                images,
+                result,
+            );
+            clear(images, bound, m);
+            made
+        }
+        Matched::Misfits(m) => {
+            clear(images, bound, m);
+            refuse(Cause::NoAssignment, count, used)
+        }
+    }
+}
+
+// The answer to a question with this record, in every case as `match_listed`. The tables of names are zeros before and
+// after.
+pub fn answer_match(
+    records: &mut [u8],
+    places: &mut [u32],
+    heads: &mut [u16],
+    next: &mut [u16],
+    sizes: &mut [u16],
+    count: usize,
+    used: usize,
+    params: &mut [u16],
+    images: &mut [u16],
+    bound: &mut [u16],
+    sheet: &[u8],
+    table: &[u16],
+    question: QuestionRecord,
+) -> Answer
+    requires { ⌜ MatchAsks (now records) (now places) (now heads) (now next) (now sizes) count used (now params) (now images) (now bound) (now sheet) (now table) question ⌝ }
+    ensures { λ r. ⌜ MatchIs (now (records .entry)) (now (places .entry)) count (now (params .entry)) (now (images .entry)) (now (bound .entry)) (now (sheet .entry)) (now (table .entry)) question (now (records .exit)) (now (places .exit)) (now (heads .exit)) (now (next .exit)) (now (sizes .exit)) (now (params .exit)) (now (images .exit)) (now (bound .exit)) r ⌝ }
+{
+    let list = question.list;
+    let names = question.names;
+    let named = question.named;
+    let p = sort_at(sheet, list, table);
+    let t = sort_at(sheet, list + 2, table);
+    let k = sort_at(sheet, list + 4, table);
+    list_names(params, sheet, names, named);
+    let found = match_listed(
+        records,
+        places,
+        heads,
+        next,
+        sizes,
+        count,
+        used,
+        params,
+        images,
+        bound,
+        p,
+        t,
+        k,
+    );
+    unlist_names(params, sheet, names, named);
+    found
+}
