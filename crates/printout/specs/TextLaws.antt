@@ -190,7 +190,7 @@ module _ (b p : List ℕ) (n : ℕ) (stored : Stored b p n) (bytes : Bytes b) wh
             decimal-short (code / 65536) (omega arith),
           )
 
-  -- and so a buffer of 3,735,559 bytes holds any line.
+  -- and so a buffer of 3,735,559 bytes holds the line of any term.
   pub term-fits : (t i c : ℕ) → t < 65536 → length (rowText (storeOf b p n) i) < 1867776 → length (rowText (storeOf b p n) c) < 1867776
       → length (termLine (storeOf b p n) t i c) ≤ 3735559
   unfolding termLine

@@ -118,7 +118,7 @@ pub fn put_word(form: usize, out: &mut [u8], to: usize) -> usize
 }
 
 // Writes names at `to`, at least one, with one blank between two, and a bracket.
-pub fn put_own(records: &[u8], names: usize, named: usize, out: &mut [u8], to: usize) -> usize
+pub fn put_par_names(records: &[u8], names: usize, named: usize, out: &mut [u8], to: usize) -> usize
     requires { ⌜ (1 ≤ named) × (names + 2 * named ≤ length (now records)) × (to + length (namesText (numbersAt (now records) names named) ++ ascii ")") ≤ length (now out)) ⌝ }
     ensures { λ r. ⌜ Wrote (now (out .entry)) to (namesText (numbersAt (now (records .entry)) names named) ++ ascii ")") (now (out .exit)) r ⌝ }
 {
@@ -137,7 +137,7 @@ pub fn put_inner(records: &[u8], form: usize, a: SortRecord, out: &mut [u8], to:
     match inner {
         1 => put_name(out, to, a.name),
         2 => put_decimal(out, to, a.number),
-        3 => put_own(records, a.names, a.named, out, to),
+        3 => put_par_names(records, a.names, a.named, out, to),
         _ => to,
     }
 }
