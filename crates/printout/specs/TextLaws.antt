@@ -2,13 +2,13 @@
 -- 64 names is the worst node, so a buffer of 1,867,776 bytes holds any sort.
 use Prim.Native.Nat.{ℕ, zero, suc, _+_, _*_, _/_, _%_, _≤_, _<_}
 use mathlib.Core.Path.{_≡_, refl, sym, ap, subst, _∙_}
-use mathlib.Core.Bool.{Bool, true, false}
+use mathlib.Core.Bool.{Bool, true, false, cond}
 use mathlib.Core.List.{List, [], _∷_, _++_}
 use native.Mathlib.Omega.{arith}
 use native.Mathlib.Decide.{decLt}
 use lib.ListN.{length, getD, length-append}
-use lib.Dec.{ltb}
-use borrow.Author.Tests.{ltb-true, ltb-false}
+use lib.Dec.{eqb, ltb}
+use borrow.Author.Tests.{eqb-false, ltb-true, ltb-false}
 use Rattle.record.specs.Number.{u16At, numbersAt}
 use Rattle.record.specs.Sort.{Sort, Sorts, var, par, node, count, size, sizes}
 use Rattle.record.specs.Record.{Fields, bit, leaf, sortsOf}
@@ -21,7 +21,7 @@ use Rattle.record.specs.StoreLaws.{sort-node}
 use Rattle.printout.specs.Text.{ascii, decimal, nameText, moreNames, namesText, text, texts}
 use Rattle.printout.specs.DecimalLaws.{ten, decimal-one, decimal-more}
 use Rattle.printout.specs.Pieces.{formOf, inners, innerBy, innerText}
-use Rattle.printout.specs.Lines.{rowText, termLine}
+use Rattle.printout.specs.Lines.{rowText, answerText, termLine, questionLine}
 use Rattle.printout.specs.LineAsks.{Known}
 use Rattle.printout.specs.LineLaws.{sort-by, refused-by, refusal-length}
 use Rattle.printout.specs.PieceLaws.{pieces-text, pieces-length, frame-short, form-below, form-par, names-form}
@@ -190,7 +190,7 @@ module _ (b p : List ℕ) (n : ℕ) (stored : Stored b p n) (bytes : Bytes b) wh
             decimal-short (code / 65536) (omega arith),
           )
 
-  -- and so a buffer of 3,735,559 bytes holds any line.
+  -- and so a buffer of 3,735,559 bytes holds the line of any term.
   pub term-fits : (t i c : ℕ) → t < 65536 → length (rowText (storeOf b p n) i) < 1867776 → length (rowText (storeOf b p n) c) < 1867776
       → length (termLine (storeOf b p n) t i c) ≤ 3735559
   unfolding termLine
@@ -204,3 +204,19 @@ module _ (b p : List ℕ) (n : ℕ) (stored : Stored b p n) (bytes : Bytes b) wh
         length-append x (ascii " " ++ (y ++ ascii "\n")),
         length-append y (ascii "\n"),
       )
+
+-- An answer and the line of a question are shorter.
+answer-by : (s t : Bool) (x : List ℕ) → (s ≡ false → length x < 1867776) → length (cond s (cond t (ascii "no") (ascii "yes")) x) < 1867776
+answer-by true true x h = omega arith
+answer-by true false x h = omega arith
+answer-by false t x h = h refl
+
+pub answer-fits : (st : List Sort) (kind code : ℕ) → ((kind ≡ 0 → ⊥) → length (rowText st code) < 1867776) → length (answerText st kind code) < 1867776
+unfolding answerText
+answer-fits st kind code h = answer-by (eqb kind 0) (eqb code 0) (rowText st code) (λ e. h (eqb-false kind 0 e))
+
+pub question-fits : (st : List Sort) (q kind code : ℕ) → q < 65536 → length (answerText st kind code) < 1867776 → length (questionLine st q kind code) ≤ 1867783
+unfolding questionLine
+question-fits st q kind code h f =
+    let x = answerText st kind code in
+    omega (arith, decimal-short q h, length-append (decimal q) (ascii " " ++ (x ++ ascii "\n")), length-append x (ascii "\n"))

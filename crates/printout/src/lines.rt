@@ -14,7 +14,7 @@ ghost use Rattle.printout.specs.Trees.{rowAt, answerAt};
 ghost use Rattle.printout.specs.LineAsks.{RowAsks, AnswerAsks, RowHas, AnswerHas, TermHas, QuestionHas, TermAsks, QuestionAsks, labelText};
 
 // Writes `!` and the number of a refusal at `to`.
-pub fn put_refusal(out: &mut [u8], to: usize, number: usize) -> usize
+fn put_refusal(out: &mut [u8], to: usize, number: usize) -> usize
     requires { ⌜ to + length (refusalText number) ≤ length (now out) ⌝ }
     ensures { λ r. ⌜ Wrote (now (out .entry)) to (refusalText number) (now (out .exit)) r ⌝ }
 {
@@ -23,7 +23,7 @@ pub fn put_refusal(out: &mut [u8], to: usize, number: usize) -> usize
 }
 
 // The length of the text of a row.
-pub fn row_size(records: &[u8], places: &[u32], code: u32) -> usize
+fn row_size(records: &[u8], places: &[u32], code: u32) -> usize
     requires { ⌜ RowAsks (now records) (now places) code ⌝ }
     ensures { λ r. ⌜ (r ≡ length (rowAt (now (records .entry)) (now (places .entry)) code)) × (r ≤ 1867776) ⌝ }
 {
@@ -35,7 +35,7 @@ pub fn row_size(records: &[u8], places: &[u32], code: u32) -> usize
 }
 
 // Writes the text of a row at `to`: its sort, or `!` and the number of its refusal.
-pub fn put_row(records: &[u8], places: &[u32], code: u32, out: &mut [u8], to: usize) -> usize
+fn put_row(records: &[u8], places: &[u32], code: u32, out: &mut [u8], to: usize) -> usize
     requires { ⌜ RowAsks (now records) (now places) code × (to + length (rowAt (now records) (now places) code) ≤ length (now out)) ⌝ }
     ensures { λ r. ⌜ Wrote (now (out .entry)) to (rowAt (now (records .entry)) (now (places .entry)) code) (now (out .exit)) r ⌝ }
 {
@@ -60,7 +60,7 @@ pub fn show_row(records: &[u8], places: &[u32], code: u32, out: &mut [u8], to: u
 }
 
 // The length of the text of an answer to a question of this kind.
-pub fn answer_size(records: &[u8], places: &[u32], kind: usize, code: u32) -> usize
+fn answer_size(records: &[u8], places: &[u32], kind: usize, code: u32) -> usize
     requires { ⌜ AnswerAsks (now records) (now places) kind code ⌝ }
     ensures { λ r. ⌜ (r ≡ length (answerAt (now (records .entry)) (now (places .entry)) kind code)) × (r ≤ 1867776) ⌝ }
 {
@@ -74,7 +74,7 @@ pub fn answer_size(records: &[u8], places: &[u32], kind: usize, code: u32) -> us
 }
 
 // Writes the text of an answer to a question of this kind at `to`: no or yes for 0, else as a row.
-pub fn put_answer(
+fn put_answer(
     records: &[u8],
     places: &[u32],
     kind: usize,
@@ -115,7 +115,7 @@ pub fn show_answer(
 }
 
 // Writes a mark, a number and a blank at `to`, as `T0 `.
-pub fn put_label(mark: u8, v: usize, out: &mut [u8], to: usize) -> usize
+fn put_label(mark: u8, v: usize, out: &mut [u8], to: usize) -> usize
     requires { ⌜ to + length (labelText mark v) ≤ length (now out) ⌝ }
     ensures { λ r. ⌜ Wrote (now (out .entry)) to (labelText mark v) (now (out .exit)) r ⌝ }
 {

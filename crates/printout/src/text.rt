@@ -31,7 +31,7 @@ const CLOSES: [u8; 17] = [41, 41, 0, 0, 0, 0, 0, 0, 41, 41, 0, 93, 41, 0, 41, 41
 const INNERS: [u8; 17] = [0, 1, 1, 0, 0, 0, 0, 0, 0, 2, 0, 1, 3, 0, 0, 0, 1];
 
 // The form of a sort's text: its kind, or 16 for an Atom without parts, which has no brackets.
-pub fn form_of(kind: usize, parts: usize) -> usize
+fn form_of(kind: usize, parts: usize) -> usize
     ensures { λ r. ⌜ r ≡ formOf kind parts ⌝ }
 {
     if kind == 1 {
@@ -43,7 +43,7 @@ pub fn form_of(kind: usize, parts: usize) -> usize
 }
 
 // The length of the word and the bracket of a form.
-pub fn frame_size(form: usize) -> usize
+fn frame_size(form: usize) -> usize
     requires { ⌜ form < 17 ⌝ }
     ensures { λ r. ⌜ r ≡ getD frames form 0 ⌝ }
 {
@@ -51,7 +51,7 @@ pub fn frame_size(form: usize) -> usize
 }
 
 // The length of what stands between the word and the parts.
-pub fn inner_size(records: &[u8], form: usize, a: SortRecord) -> usize
+fn inner_size(records: &[u8], form: usize, a: SortRecord) -> usize
     requires { ⌜ InnerAsks (now records) form a ⌝ }
     ensures { λ r. ⌜ InnerIs (now (records .entry)) form a r ⌝ }
 {
@@ -78,7 +78,7 @@ pub fn text_size(records: &[u8], places: &[u32], k: usize) -> usize
 }
 
 // The length of the text of the `left` sorts whose numbers stand from `at` on, each behind a blank.
-pub fn texts_size(records: &[u8], places: &[u32], at: usize, left: usize) -> usize
+fn texts_size(records: &[u8], places: &[u32], at: usize, left: usize) -> usize
     requires { ⌜ TextsAsk (now records) (now places) at left ⌝ }
     ensures { λ r. ⌜ TextsAre (texts (treesAt (now (records .entry)) (now (places .entry)) (numbersAt (now (records .entry)) at left))) (sizes (treesAt (now (records .entry)) (now (places .entry)) (numbersAt (now (records .entry)) at left))) r ⌝ }
 {
@@ -92,7 +92,7 @@ pub fn texts_size(records: &[u8], places: &[u32], at: usize, left: usize) -> usi
 }
 
 // Writes the word of a form at `to`.
-pub fn put_word(form: usize, out: &mut [u8], to: usize) -> usize
+fn put_word(form: usize, out: &mut [u8], to: usize) -> usize
     requires { ⌜ (form < 17) × (to + length (wordText form) ≤ length (now out)) ⌝ }
     ensures { λ r. ⌜ Wrote (now (out .entry)) to (wordText form) (now (out .exit)) r ⌝ }
 {
@@ -118,7 +118,7 @@ pub fn put_word(form: usize, out: &mut [u8], to: usize) -> usize
 }
 
 // Writes names at `to`, at least one, with one blank between two, and a bracket.
-pub fn put_own(records: &[u8], names: usize, named: usize, out: &mut [u8], to: usize) -> usize
+fn put_par_names(records: &[u8], names: usize, named: usize, out: &mut [u8], to: usize) -> usize
     requires { ⌜ (1 ≤ named) × (names + 2 * named ≤ length (now records)) × (to + length (namesText (numbersAt (now records) names named) ++ ascii ")") ≤ length (now out)) ⌝ }
     ensures { λ r. ⌜ Wrote (now (out .entry)) to (namesText (numbersAt (now (records .entry)) names named) ++ ascii ")") (now (out .exit)) r ⌝ }
 {
@@ -129,7 +129,7 @@ pub fn put_own(records: &[u8], names: usize, named: usize, out: &mut [u8], to: u
 }
 
 // Writes what stands between the word and the parts at `to`.
-pub fn put_inner(records: &[u8], form: usize, a: SortRecord, out: &mut [u8], to: usize) -> usize
+fn put_inner(records: &[u8], form: usize, a: SortRecord, out: &mut [u8], to: usize) -> usize
     requires { ⌜ InnerAsks (now records) form a × (to + length (innerOf (now records) form a) ≤ length (now out)) ⌝ }
     ensures { λ r. ⌜ Wrote (now (out .entry)) to (innerOf (now (records .entry)) form a) (now (out .exit)) r ⌝ }
 {
@@ -137,13 +137,13 @@ pub fn put_inner(records: &[u8], form: usize, a: SortRecord, out: &mut [u8], to:
     match inner {
         1 => put_name(out, to, a.name),
         2 => put_decimal(out, to, a.number),
-        3 => put_own(records, a.names, a.named, out, to),
+        3 => put_par_names(records, a.names, a.named, out, to),
         _ => to,
     }
 }
 
 // Writes the bracket of a form at `to`.
-pub fn put_close(form: usize, out: &mut [u8], to: usize) -> usize
+fn put_close(form: usize, out: &mut [u8], to: usize) -> usize
     requires { ⌜ (form < 17) × (to + length (closeText form) ≤ length (now out)) ⌝ }
     ensures { λ r. ⌜ Wrote (now (out .entry)) to (closeText form) (now (out .exit)) r ⌝ }
 {
@@ -169,7 +169,7 @@ pub fn put_sort(records: &[u8], places: &[u32], k: usize, out: &mut [u8], to: us
 }
 
 // Writes the text of the `left` sorts whose numbers stand from `at` on at `to`, each behind a blank.
-pub fn put_list(
+fn put_list(
     records: &[u8],
     places: &[u32],
     at: usize,

@@ -32,7 +32,7 @@ unfolding tens
 loop-again c =
     let s = c .before .before in
     let a = s .args in
-    digits-step (a .v) (c .before .loop .i) (s .pre) (c .loop-test .taken) (c .before .loop .inv)
+    digits-step (a .v) (c .before .loop .i) (s .pre) (omega (arith, c .loop-test .taken)) (c .before .loop .inv)
 
 add-result : tie.Need-add-result Inv-loop μ-loop
 add-result c = omega (arith, c .before .loop .inv .few)

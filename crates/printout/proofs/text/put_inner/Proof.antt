@@ -32,9 +32,9 @@ put-decimal-requires c κs =
     let b = a .records .now in
     omega (arith, s .pre .1, ap length (inner-number (a .form) (a .a .name) (a .a .number) (numbersAt b (a .a .names) (a .a .named)) (c .before .match .keys2)))
 
-put-own-requires : tie.Need-put-own-requires
+put-par-names-requires : tie.Need-put-par-names-requires
 unfolding inners
-put-own-requires c κs =
+put-par-names-requires c κs =
     let s = c .before .before .before .before in
     let a = s .args in
     let b = a .records .now in
@@ -71,7 +71,7 @@ returns-3 c =
     let s = c .before .before .before .before .before .before .before in
     let a = s .args in
     let b = a .records .now in
-    wrote-as (sym (inner-names (a .form) (a .a .name) (a .a .number) (numbersAt b (a .a .names) (a .a .named)) (c .before .before .before .before .match .keys3))) (c .before .before .put-own .ensures)
+    wrote-as (sym (inner-names (a .form) (a .a .name) (a .a .number) (numbersAt b (a .a .names) (a .a .named)) (c .before .before .before .before .match .keys3))) (c .before .before .put-par-names .ensures)
 
 returns-4 : tie.Need-returns-4
 unfolding inners
@@ -83,4 +83,4 @@ returns-4 c =
     wrote-as (sym (inner-none (a .form) (a .a .name) (a .a .number) (numbersAt b (a .a .names) (a .a .named)) (c .match .rest .0 .0 .1) (c .match .rest .0 .1) (c .match .rest .1))) (wrote-none o (a .to) (omega (arith, s .pre .1)))
 
 pub put-inner-spec : {M : Type 1} → statement M
-put-inner-spec = tie.close (tie.spec array-read-inner put-name-requires put-decimal-requires put-own-requires same-length returns same-length-2 returns-2 same-length-3 returns-3 returns-4)
+put-inner-spec = tie.close (tie.spec array-read-inner put-name-requires put-decimal-requires put-par-names-requires same-length returns same-length-2 returns-2 same-length-3 returns-3 returns-4)

@@ -10,8 +10,8 @@ use Rattle.record.specs.Number.{u16At, numbersAt}
 use Rattle.printout.specs.Text.{ascii, nameText, moreNames}
 use Rattle.printout.specs.NameLaws.{names-own}
 use Rattle.printout.specs.Wrote.{Wrote, wrote-as, wrote-more, room-first, room-next, room-step}
-use Rattle.printout.proofs.text.put_own.Statement.{statement}
-use Rattle.printout.proofs.text.put_own.Tie as tie
+use Rattle.printout.proofs.text.put_par_names.Statement.{statement}
+use Rattle.printout.proofs.text.put_par_names.Tie as tie
 
 u16-at-requires : tie.Need-u16-at-requires
 u16-at-requires c κs =
@@ -87,5 +87,5 @@ returns c =
     let w : Wrote o (a .to) n _ _ = wrote-as (ap nameText e) (c .before .before .before .before .before .before .before .before .before .before .before .put-name .ensures) in
     wrote-as (sym q) (wrote-more w (wrote-more (c .before .before .before .before .before .before .before .put-names .ensures) (c .before .before .put .ensures)))
 
-pub put-own-spec : {M : Type 1} → statement M
-put-own-spec = tie.close (tie.spec u16-at-requires put-name-requires add-put-names sub-put-names put-names-requires slice-aggregate-put put-requires same-length returns)
+pub put-par-names-spec : {M : Type 1} → statement M
+put-par-names-spec = tie.close (tie.spec u16-at-requires put-name-requires add-put-names sub-put-names put-names-requires slice-aggregate-put put-requires same-length returns)
