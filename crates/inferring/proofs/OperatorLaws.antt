@@ -9,7 +9,7 @@ use borrow.Author.Tests.{eq-eqb}
 use types.Run.{OneOf}
 use Rattle.inferred.specs.declared.Family.{Family}
 use Rattle.inferred.specs.declared.Family.the-variants.{Truth, Integer, Decimal, Text, Regular, Vector, OneBit, Bits, Constant, Concat, First, Second, Last, Sum, Element, RareList, Singleton, Tuple, UnitTuple, Transpose, Join, Product}
-use Rattle.inferring.specs.Operators.{makes}
+use Rattle.inferring.specs.Operators.{makes, looks}
 use denote.Enum.Declared.{tagOf}
 use Rattle.inferred.proofs.Family.{the-type}
 
@@ -56,3 +56,32 @@ product-only UnitTuple m h = absurd (false≢true (one-keyed others 18 h))
 product-only Transpose m h = absurd (false≢true (one-keyed others 19 h))
 product-only Join m h = absurd (false≢true (one-keyed others 20 h))
 product-only Product m h = refl
+
+-- The numbers of the families that are not Vector, Concat, First, Second, Last, Sum, Element or RareList.
+abbrev pub unseen : List ℕ
+unseen = 0 ∷ 1 ∷ 2 ∷ 3 ∷ 4 ∷ 6 ∷ 7 ∷ 8 ∷ 16 ∷ 17 ∷ 18 ∷ 19 ∷ 20 ∷ 21 ∷ []
+
+pub made-left : (f : Family) → looks f ≡ true → OneOf unseen (tagOf the-type f) → makes f ≡ true
+unfolding keyed
+made-left Truth m h = absurd (false≢true m)
+made-left Integer m h = absurd (false≢true m)
+made-left Decimal m h = absurd (false≢true m)
+made-left Text m h = absurd (false≢true m)
+made-left Regular m h = absurd (false≢true m)
+made-left Vector m h = absurd (false≢true (one-keyed unseen 5 h))
+made-left OneBit m h = absurd (false≢true m)
+made-left Bits m h = absurd (false≢true m)
+made-left Constant m h = absurd (false≢true m)
+made-left Concat m h = absurd (false≢true (one-keyed unseen 9 h))
+made-left First m h = absurd (false≢true (one-keyed unseen 10 h))
+made-left Second m h = absurd (false≢true (one-keyed unseen 11 h))
+made-left Last m h = absurd (false≢true (one-keyed unseen 12 h))
+made-left Sum m h = absurd (false≢true (one-keyed unseen 13 h))
+made-left Element m h = absurd (false≢true (one-keyed unseen 14 h))
+made-left RareList m h = absurd (false≢true (one-keyed unseen 15 h))
+made-left Singleton m h = refl
+made-left Tuple m h = refl
+made-left UnitTuple m h = refl
+made-left Transpose m h = refl
+made-left Join m h = refl
+made-left Product m h = refl
