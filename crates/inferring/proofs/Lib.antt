@@ -2,3 +2,4 @@ pub mod FamilyLaws
 pub mod WalkLaws
 pub mod SingleLaws
 pub mod RelationLaws
+pub mod OperatorLaws

@@ -2,3 +2,4 @@ pub mod Asks
 pub mod Vectors
 pub mod Single
 pub mod Relations
+pub mod Operators

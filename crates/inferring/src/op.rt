@@ -1,0 +1,107 @@
+// The inferred sort of an operator at n arguments, whose sorts are in `args` from byte 3 on.
+use super::relations::join;
+use super::relations::product;
+use super::relations::transpose;
+use super::single::argument;
+use super::single::element;
+use super::single::last_of;
+use super::single::rare_list;
+use super::single::singleton;
+use super::single::sum;
+use super::vectors::concat;
+use super::vectors::first_vector;
+use answers::Answer;
+use answers::lists::listed;
+use inferred::Family;
+ghost use Rattle.inferred.specs.Inferred.{operatedBy};
+ghost use Rattle.answers.specs.Answer.{AnswerIs};
+ghost use Rattle.inferring.specs.Asks.{sortsIn};
+ghost use Rattle.inferring.specs.Operators.{noConstants, MadeAsks, LookedAsks};
+
+// What the families that make sets, tuples and relations answer.
+pub fn gathered(
+    records: &mut [u8],
+    places: &mut [u32],
+    heads: &mut [u16],
+    next: &mut [u16],
+    sizes: &mut [u16],
+    count: usize,
+    used: usize,
+    family: Family,
+    args: &mut [u8],
+    n: usize,
+) -> Answer
+    requires { ⌜ MadeAsks (now records) (now places) (now heads) (now next) (now sizes) count used family (now args) n ⌝ }
+    ensures { λ r. ⌜ AnswerIs (now (records .entry)) (now (places .entry)) count (operatedBy family (sortsIn (now (records .entry)) (now (places .entry)) count (now (args .entry)) 3 n) noConstants) (now (records .exit)) (now (places .exit)) (now (heads .exit)) (now (next .exit)) (now (sizes .exit)) r ⌝ }
+{
+    match family {
+        Family::Singleton => singleton(records, places, heads, next, sizes, count, used, args, n),
+        Family::Tuple => listed(
+            records,
+            places,
+            heads,
+            next,
+            sizes,
+            count,
+            used,
+            15,
+            args,
+            n,
+        ),
+        Family::UnitTuple => listed(
+            records,
+            places,
+            heads,
+            next,
+            sizes,
+            count,
+            used,
+            15,
+            args,
+            0,
+        ),
+        Family::Transpose => transpose(records, places, heads, next, sizes, count, used, args, n),
+        Family::Join => join(records, places, heads, next, sizes, count, used, args, n),
+        _ => product(records, places, heads, next, sizes, count, used, args, n),
+    }
+}
+
+// What the families that look at vectors and at single arguments answer, and those of `gathered`.
+pub fn looked(
+    records: &mut [u8],
+    places: &mut [u32],
+    heads: &mut [u16],
+    next: &mut [u16],
+    sizes: &mut [u16],
+    count: usize,
+    used: usize,
+    family: Family,
+    args: &mut [u8],
+    n: usize,
+) -> Answer
+    requires { ⌜ LookedAsks (now records) (now places) (now heads) (now next) (now sizes) count used family (now args) n ⌝ }
+    ensures { λ r. ⌜ AnswerIs (now (records .entry)) (now (places .entry)) count (operatedBy family (sortsIn (now (records .entry)) (now (places .entry)) count (now (args .entry)) 3 n) noConstants) (now (records .exit)) (now (places .exit)) (now (heads .exit)) (now (next .exit)) (now (sizes .exit)) r ⌝ }
+{
+    match family {
+        Family::Vector => first_vector(records, places, heads, next, sizes, count, used, args, n),
+        Family::Concat => concat(records, places, heads, next, sizes, count, used, args, n),
+        Family::First => argument(count, used, args, n, 0),
+        Family::Second => argument(count, used, args, n, 1),
+        Family::Last => last_of(count, used, args, n, 0),
+        Family::Sum => sum(records, places, heads, next, sizes, count, used, args, n),
+        Family::Element => element(records, places, count, used, args, n),
+        Family::RareList => rare_list(records, places, heads, next, sizes, count, used, args, n),
+        _ => gathered(
+            records,
+            places,
+            heads,
+            next,
+            sizes,
+            count,
+            used,
+            family,
+            args,
+            n,
+        ),
+    }
+}
