@@ -118,9 +118,11 @@ module _ (b p a : List ℕ) (m : ℕ) where
         let g = and-right (leb m 3) (plainKind x && (plainKind y && (plainKind z && plainKind r))) (f .well) in
         let h = and-right (plainKind x) (plainKind y && (plainKind z && plainKind r)) g in
         let i = and-right (plainKind y) (plainKind z && plainKind r) h in (
-        plain-map x (and-left (plainKind x) (plainKind y && (plainKind z && plainKind r)) g),
-        plain-map y (and-left (plainKind y) (plainKind z && plainKind r) h), plain-map z (and-left (plainKind z) (plainKind r) i),
-        plain-map r (and-right (plainKind z) (plainKind r) i))
+          plain-map x (and-left (plainKind x) (plainKind y && (plainKind z && plainKind r)) g),
+          plain-map y (and-left (plainKind y) (plainKind z && plainKind r) h),
+          plain-map z (and-left (plainKind z) (plainKind r) i),
+          plain-map r (and-right (plainKind z) (plainKind r) i),
+        )
 
     fixed-fails : (n : ℕ) → sameAll (fixedOf m x y z) (argsOf b p n a m) ≡ false → FitIs n (storeOf b p n) (fitted (Fixed m x y z r) (argsOf b p n a m)) Nothing
     unfolding fitted
@@ -405,5 +407,8 @@ module _ (b p a : List ℕ) (m : ℕ) (f : FitAsks b p a m Concat) where
       concat-fits k =
           let n = k .many in
           let o = k .over in
-          omega (arith, vector-small b p n i (o .stored) (concat-first n o) x (hx n (o .stored) (concat-first n o)),
-          vector-small b p n j (o .stored) (concat-second n o) y (hy n (o .stored) (concat-second n o)))
+          omega (
+            arith,
+            vector-small b p n i (o .stored) (concat-first n o) x (hx n (o .stored) (concat-first n o)),
+            vector-small b p n j (o .stored) (concat-second n o) y (hy n (o .stored) (concat-second n o)),
+          )

@@ -101,8 +101,11 @@ module _ (b p : List ℕ) (n k : ℕ) (f : OneAsks b p n k) where
 
       names-some : 1 ≤ length (numbersAt b (r .names) (r .named))
       names-some =
-          omega (arith, own-stored .each k (f .known) .shape .some (ap (λ (x : Fields). x .kind) (own-read .place .same) ∙ e),
-          ap (λ (x : Fields). length (x .names)) (own-read .place .same))
+          omega (
+            arith,
+            own-stored .each k (f .known) .shape .some (ap (λ (x : Fields). x .kind) (own-read .place .same) ∙ e),
+            ap (λ (x : Fields). length (x .names)) (own-read .place .same),
+          )
 
       module _ (i : ℕ) (ei : i ≡ u16At b (r .list)) where
         pub body-asks : OneAsks b p n i

@@ -15,7 +15,7 @@ abbrev μ-loop : tie.MeasureT-loop
 μ-loop records places args n i₀ i = n - i
 
 loop-holds : tie.Need-loop-holds Inv-loop μ-loop
-loop-holds c = 
+loop-holds c =
     let s = c .before .before .before in
     let q = s .args in
     let b = q .records .now in
@@ -36,7 +36,7 @@ u16-at-requires-2 : tie.Need-u16-at-requires-2 Inv-loop μ-loop
 u16-at-requires-2 c κs = omega (arith, c .before .before .before .before .before .before .pre .within, c .before .loop-test .taken)
 
 returns : tie.Need-returns Inv-loop μ-loop
-returns c = 
+returns c =
     let s = c .before .before .before .before .before .before .before .before in
     let q = s .args in
     let b = q .records .now in
@@ -51,7 +51,7 @@ loop-less : tie.Need-loop-less Inv-loop μ-loop
 loop-less c = omega (arith, c .before .before .before .loop-test .taken)
 
 loop-again : tie.Need-loop-again Inv-loop μ-loop
-loop-again c = 
+loop-again c =
     let s = c .before .before .before .before .before .before .before .before in
     let q = s .args in
     let b = q .records .now in
@@ -60,7 +60,7 @@ loop-again c =
     (omega (arith, c .before .before .before .before .loop .inv .0), same-more b p a (c .before .before .before .before .loop .i) (c .before .before .u16-at .result) (c .before .u16-at2 .result) (c .before .before .u16-at .ensures .0) (c .before .u16-at2 .ensures .0) (c .if1 .left) (c .before .before .before .before .loop .inv .1))
 
 returns-2 : tie.Need-returns-2 Inv-loop μ-loop
-returns-2 c = 
+returns-2 c =
     let s = c .before .before .before .before .before in
     let q = s .args in
     let b = q .records .now in

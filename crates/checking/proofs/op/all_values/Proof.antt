@@ -14,7 +14,7 @@ abbrev μ-loop : tie.MeasureT-loop
 μ-loop records places args n i₀ i = n - i
 
 loop-holds : tie.Need-loop-holds Inv-loop μ-loop
-loop-holds c = 
+loop-holds c =
     let s = c .before .before .before in
     let q = s .args in
     let b = q .records .now in
@@ -32,7 +32,7 @@ u16-at-requires : tie.Need-u16-at-requires Inv-loop μ-loop
 u16-at-requires c κs = omega (arith, c .before .before .before .before .before .pre .within, c .loop-test .taken)
 
 kind-at-requires : tie.Need-kind-at-requires Inv-loop μ-loop
-kind-at-requires c κs = 
+kind-at-requires c κs =
     let s = c .before .before .before .before .before .before in
     let q = s .args in
     let b = q .records .now in
@@ -41,7 +41,7 @@ kind-at-requires c κs =
     arg-asks b p a (q .n) (c .before .before .loop .i) (c .u16-at .result) (s .pre) (c .before .loop-test .taken) (c .u16-at .ensures .0)
 
 returns : tie.Need-returns Inv-loop μ-loop
-returns c = 
+returns c =
     let s = c .before .before .before .before .before .before .before .before in
     let q = s .args in
     let b = q .records .now in
@@ -56,7 +56,7 @@ loop-less : tie.Need-loop-less Inv-loop μ-loop
 loop-less c = omega (arith, c .before .before .before .loop-test .taken)
 
 loop-again : tie.Need-loop-again Inv-loop μ-loop
-loop-again c = 
+loop-again c =
     let s = c .before .before .before .before .before .before .before .before in
     let q = s .args in
     let b = q .records .now in
@@ -65,7 +65,7 @@ loop-again c =
     (omega (arith, c .before .before .before .loop-test .taken), seen-more b p a (λ j. j ≡ 12 → ⊥) (c .before .before .before .before .loop .i) (c .before .before .u16-at .result) (c .before .kind-at .result) (c .before .before .u16-at .ensures .0) (c .before .kind-at .ensures) (c .if1 .left) (c .before .before .before .before .loop .inv .1))
 
 returns-2 : tie.Need-returns-2 Inv-loop μ-loop
-returns-2 c = 
+returns-2 c =
     let s = c .before .before .before .before .before in
     let q = s .args in
     let b = q .records .now in

@@ -21,14 +21,14 @@ enum-known-made-2 : tie.Need-enum-known-made-2
 enum-known-made-2 c = search needs
 
 cast-leaf : tie.Need-cast-leaf
-cast-leaf c = 
+cast-leaf c =
     let s = c .before .before .before .before .before .before .before .before .before .before .before .before .before in
     let q = s .args in
     let n = q .count in
     omega (arith, plain-small (c .before .before .before .before .before .before .made2 .given .0 .0) (subst (FitOk n) (c .before .before .before .before .before .before .made2 .given .1) (s .pre .ok)))
 
 leaf-requires : tie.Need-leaf-requires
-leaf-requires c κs = 
+leaf-requires c κs =
     let s = c .before .before .before .before .before .before .before .before .before .before .before .before .before in
     let q = s .args in
     let n = q .count in
@@ -48,7 +48,7 @@ refuse-requires c κs = search needs
 
 returns : tie.Need-returns
 unfolding sortAt
-returns c = 
+returns c =
     let s = c .before .before .before .before .before .before .before .before .before in
     let q = s .args in
     let b = q .records .now in
@@ -76,7 +76,7 @@ same-length-5 : tie.Need-same-length-5
 same-length-5 c = search needs
 
 returns-2 : tie.Need-returns-2
-returns-2 c = 
+returns-2 c =
     let s = c .before .before .before .before .before .before .before .before .before .before .before .before .before .before .before .before .before .before .before .before .before .before .before .before in
     let q = s .args in
     let b = q .records .now in
@@ -100,7 +100,7 @@ same-length-10 : tie.Need-same-length-10
 same-length-10 c = search needs
 
 returns-3 : tie.Need-returns-3
-returns-3 c = 
+returns-3 c =
     let s = c .before .before .before .before .before .before .before .before .before .before .before .before .before .before .before .before .before .before .before .before .before .before .before .before in
     let q = s .args in
     let b = q .records .now in
@@ -109,7 +109,7 @@ returns-3 c =
     judged-as (ap (fitVerdict (storeOf b p n)) (c .before .before .before .before .before .before .before .before .before .before .before .before .before .before .before .before .before .made3 .given .1)) (c .before .before .before .before .before .before .before .before .before .before .bit-vector .ensures)
 
 returns-4 : tie.Need-returns-4
-returns-4 c = 
+returns-4 c =
     let s = c .before .before .before .before .before .before .before .before in
     let q = s .args in
     let b = q .records .now in

@@ -8,7 +8,7 @@ all-kind-requires : tie.Need-all-kind-requires
 all-kind-requires c κs = c .before .before .before .pre .args
 
 returns : tie.Need-returns
-returns c = 
+returns c =
     let s = c .before .before .before .before .before in
     let q = s .args in
     let b = q .records .now in
@@ -17,7 +17,7 @@ returns c =
     all-yes b p a (q .n) (q .kind) (q .result) (s .pre) (c .before .all-kind .result) (c .before .all-kind .ensures) (c .if1 .taken)
 
 returns-2 : tie.Need-returns-2
-returns-2 c = 
+returns-2 c =
     let s = c .before .before .before .before .before in
     let q = s .args in
     let b = q .records .now in

@@ -11,7 +11,7 @@ is-kind-requires : tie.Need-is-kind-requires
 is-kind-requires c κs = c .before .before .before .pre .args
 
 returns : tie.Need-returns
-returns c = 
+returns c =
     let s = c .before .before .before .before .before in
     let q = s .args in
     let b = q .records .now in
@@ -26,7 +26,7 @@ u16-at-requires-2 : tie.Need-u16-at-requires-2
 u16-at-requires-2 c κs = omega (arith, c .before .before .before .before .before .before .pre .args .within, eqb-true (c .before .before .before .before .before .before .args .n) 3 (c .before .before .before .before .before .before .pre .counted))
 
 returns-2 : tie.Need-returns-2
-returns-2 c = 
+returns-2 c =
     let s = c .before .before .before .before .before .before .before .before in
     let q = s .args in
     let b = q .records .now in
@@ -35,7 +35,7 @@ returns-2 c =
     choose-no-2 b p a (q .n) (eqb-true (q .n) 3 (s .pre .counted)) (c .before .before .before .before .is-kind .result) (c .before .before .before .before .is-kind .ensures) (c .before .before .u16-at .result) (c .before .u16-at2 .result) (c .before .before .u16-at .ensures .0) (c .before .u16-at2 .ensures .0) (not-left (c .before .before .before .before .is-kind .result) (c .before .before .before .if1 .left)) (c .if2 .taken)
 
 returns-3 : tie.Need-returns-3
-returns-3 c = 
+returns-3 c =
     let s = c .before .before .before .before .before .before .before .before in
     let q = s .args in
     let b = q .records .now in

@@ -14,7 +14,7 @@ u16-at-requires-2 : tie.Need-u16-at-requires-2
 u16-at-requires-2 c κs = omega (arith, c .before .before .before .before .pre .args .within, eqb-true (c .before .before .before .before .args .n) 2 (c .before .before .before .before .pre .counted))
 
 entry-requires : tie.Need-entry-requires
-entry-requires c κs = 
+entry-requires c κs =
     let s = c .before .before .before .before .before in
     let q = s .args in
     let b = q .records .now in
@@ -23,7 +23,7 @@ entry-requires c κs =
     arg-asks b p a (q .n) 0 (c .before .u16-at .result) (s .pre .args) (omega (arith, concat-two b p a (q .n) (s .pre))) (c .before .u16-at .ensures .0)
 
 entry-requires-2 : tie.Need-entry-requires-2
-entry-requires-2 c κs = 
+entry-requires-2 c κs =
     let s = c .before .before .before .before .before .before in
     let q = s .args in
     let b = q .records .now in
@@ -32,7 +32,7 @@ entry-requires-2 c κs =
     arg-asks b p a (q .n) 1 (c .before .u16-at2 .result) (s .pre .args) (omega (arith, concat-two b p a (q .n) (s .pre))) (c .before .u16-at2 .ensures .0)
 
 returns : tie.Need-returns
-returns c = 
+returns c =
     let s = c .before .before .before .before .before .before .before .before .before in
     let q = s .args in
     let b = q .records .now in
@@ -41,7 +41,7 @@ returns c =
     concat-no b p a (q .n) (s .pre) (c .before .before .before .before .before .u16-at .result) (c .before .before .before .before .u16-at2 .result) (c .before .before .before .before .before .u16-at .ensures .0) (c .before .before .before .before .u16-at2 .ensures .0) (c .before .before .before .entry .result) (c .before .before .entry2 .result) (c .before .before .before .entry .ensures) (c .before .before .entry2 .ensures) (c .if1 .taken)
 
 returns-2 : tie.Need-returns-2
-returns-2 c = 
+returns-2 c =
     let s = c .before .before .before .before .before .before .before .before .before .before .before in
     let q = s .args in
     let b = q .records .now in
@@ -50,7 +50,7 @@ returns-2 c =
     concat-no-2 b p a (q .n) (s .pre) (c .before .before .before .before .before .before .before .u16-at .result) (c .before .before .before .before .before .before .u16-at2 .result) (c .before .before .before .before .before .before .before .u16-at .ensures .0) (c .before .before .before .before .before .before .u16-at2 .ensures .0) (c .before .before .before .before .before .entry .result) (c .before .before .before .before .entry2 .result) (c .before .before .before .before .before .entry .ensures) (c .before .before .before .before .entry2 .ensures) (c .if2 .taken)
 
 add-t10 : tie.Need-add-t10
-add-t10 c = 
+add-t10 c =
     let s = c .before .before .before .before .before .before .before .before .before .before .before .before .before in
     let q = s .args in
     let b = q .records .now in
@@ -59,7 +59,7 @@ add-t10 c =
     omega (arith, concat-fits b p a (q .n) (s .pre) (c .before .before .before .before .before .before .before .before .before .u16-at .result) (c .before .before .before .before .before .before .before .before .u16-at2 .result) (c .before .before .before .before .before .before .before .before .before .u16-at .ensures .0) (c .before .before .before .before .before .before .before .before .u16-at2 .ensures .0) (c .before .before .before .before .before .before .before .entry .result) (c .before .before .before .before .before .before .entry2 .result) (c .before .before .before .before .before .before .before .entry .ensures) (c .before .before .before .before .before .before .entry2 .ensures) (s .pre .args))
 
 returns-3 : tie.Need-returns-3
-returns-3 c = 
+returns-3 c =
     let s = c .before .before .before .before .before .before .before .before .before .before .before .before .before in
     let q = s .args in
     let b = q .records .now in

@@ -8,7 +8,7 @@ all-same-requires : tie.Need-all-same-requires
 all-same-requires c κs = c .before .before .before .pre .args
 
 returns : tie.Need-returns
-returns c = 
+returns c =
     let s = c .before .before .before .before .before in
     let q = s .args in
     let b = q .records .now in
@@ -17,7 +17,7 @@ returns c =
     equal-yes b p a (q .n) (c .before .all-same .result) (c .before .all-same .ensures) (c .if1 .taken)
 
 returns-2 : tie.Need-returns-2
-returns-2 c = 
+returns-2 c =
     let s = c .before .before .before .before .before in
     let q = s .args in
     let b = q .records .now in

@@ -9,7 +9,7 @@ is-kind-requires : tie.Need-is-kind-requires
 is-kind-requires c κs = c .before .before .before .pre .args
 
 returns : tie.Need-returns
-returns c = 
+returns c =
     let s = c .before .before .before .before .before in
     let q = s .args in
     let b = q .records .now in
@@ -21,7 +21,7 @@ is-kind-requires-2 : tie.Need-is-kind-requires-2
 is-kind-requires-2 c κs = c .before .before .before .before .before .pre .args
 
 returns-2 : tie.Need-returns-2
-returns-2 c = 
+returns-2 c =
     let s = c .before .before .before .before .before .before .before in
     let q = s .args in
     let b = q .records .now in
@@ -33,7 +33,7 @@ is-kind-requires-3 : tie.Need-is-kind-requires-3
 is-kind-requires-3 c κs = c .before .before .before .before .before .before .before .pre .args
 
 returns-3 : tie.Need-returns-3
-returns-3 c = 
+returns-3 c =
     let s = c .before .before .before .before .before .before .before .before .before in
     let q = s .args in
     let b = q .records .now in
@@ -42,7 +42,7 @@ returns-3 c =
     fixed-no-3 b p a (q .n) (q .a) (q .b) (q .c) (q .result) (s .pre) (c .before .before .before .before .before .is-kind .result) (c .before .before .before .before .before .is-kind .ensures) (c .before .before .before .is-kind2 .result) (c .before .before .before .is-kind2 .ensures) (c .before .is-kind3 .result) (c .before .is-kind3 .ensures) (not-true (c .before .is-kind3 .result) (c .if3 .taken))
 
 returns-4 : tie.Need-returns-4
-returns-4 c = 
+returns-4 c =
     let s = c .before .before .before .before .before .before .before .before .before in
     let q = s .args in
     let b = q .records .now in

@@ -14,7 +14,7 @@ all-kind-requires c κs = c .before .before .before .pre .args
 
 returns : tie.Need-returns
 unfolding mapOf maps
-returns c = 
+returns c =
     let s = c .before .before .before .before .before .before in
     let q = s .args in
     let b = q .records .now in
@@ -23,7 +23,7 @@ returns c =
     numbers-int b p a (q .n) (q .result) (s .pre) (c .before .before .all-kind .result) (c .before .before .all-kind .ensures) (c .before .if1 .taken) 4 (ap (λ (i : ℕ). numbersResult i int) (c .if2 .taken)) refl
 
 returns-2 : tie.Need-returns-2
-returns-2 c = 
+returns-2 c =
     let s = c .before .before .before .before .before .before in
     let q = s .args in
     let b = q .records .now in
@@ -36,7 +36,7 @@ all-kind-requires-2 c κs = c .before .before .before .before .before .pre .args
 
 returns-3 : tie.Need-returns-3
 unfolding mapOf maps
-returns-3 c = 
+returns-3 c =
     let s = c .before .before .before .before .before .before .before .before in
     let q = s .args in
     let b = q .records .now in
@@ -45,7 +45,7 @@ returns-3 c =
     numbers-real b p a (q .n) (q .result) (s .pre) (c .before .before .before .before .all-kind .result) (c .before .before .before .before .all-kind .ensures) (c .before .before .all-kind2 .result) (c .before .before .all-kind2 .ensures) (c .before .before .before .if1 .left) (c .before .if3 .taken) 5 (ap (λ (i : ℕ). numbersResult i real) (c .if4 .taken)) refl
 
 returns-4 : tie.Need-returns-4
-returns-4 c = 
+returns-4 c =
     let s = c .before .before .before .before .before .before .before .before in
     let q = s .args in
     let b = q .records .now in
@@ -54,7 +54,7 @@ returns-4 c =
     numbers-real b p a (q .n) (q .result) (s .pre) (c .before .before .before .before .all-kind .result) (c .before .before .before .before .all-kind .ensures) (c .before .before .all-kind2 .result) (c .before .before .all-kind2 .ensures) (c .before .before .before .if1 .left) (c .before .if3 .taken) (q .result) (result-kind (q .result) real (c .if4 .left)) (numbers-kind b p a (q .n) (q .result) (s .pre) (c .if4 .left))
 
 returns-5 : tie.Need-returns-5
-returns-5 c = 
+returns-5 c =
     let s = c .before .before .before .before .before .before .before in
     let q = s .args in
     let b = q .records .now in

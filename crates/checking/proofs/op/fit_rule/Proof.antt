@@ -19,7 +19,7 @@ enum-known-rule : tie.Need-enum-known-rule
 enum-known-rule c = search needs
 
 fit-all-requires : tie.Need-fit-all-requires
-fit-all-requires c κs = 
+fit-all-requires c κs =
     let s = c .before .before .before .before .before .before in
     let q = s .args in
     let b = q .records .now in
@@ -31,7 +31,7 @@ enum-known-rule-2 : tie.Need-enum-known-rule-2
 enum-known-rule-2 c = search needs
 
 fit-fixed-requires : tie.Need-fit-fixed-requires
-fit-fixed-requires c κs = 
+fit-fixed-requires c κs =
     let s = c .before .before .before .before .before .before in
     let q = s .args in
     let b = q .records .now in
@@ -43,7 +43,7 @@ enum-known-rule-3 : tie.Need-enum-known-rule-3
 enum-known-rule-3 c = search needs
 
 fit-numbers-requires : tie.Need-fit-numbers-requires
-fit-numbers-requires c κs = 
+fit-numbers-requires c κs =
     let s = c .before .before .before .before .before .before in
     let q = s .args in
     let b = q .records .now in
@@ -55,7 +55,7 @@ enum-told-2 : tie.Need-enum-told-2
 enum-told-2 c = search needs
 
 fit-equal-requires : tie.Need-fit-equal-requires
-fit-equal-requires c κs = 
+fit-equal-requires c κs =
     let s = c .before .before .before .before .before in
     let q = s .args in
     let b = q .records .now in
@@ -67,7 +67,7 @@ enum-told-3 : tie.Need-enum-told-3
 enum-told-3 c = search needs
 
 fit-choose-requires : tie.Need-fit-choose-requires
-fit-choose-requires c κs = 
+fit-choose-requires c κs =
     let s = c .before .before .before .before .before in
     let q = s .args in
     let b = q .records .now in
@@ -79,7 +79,7 @@ enum-told-4 : tie.Need-enum-told-4
 enum-told-4 c = search needs
 
 fit-array-requires : tie.Need-fit-array-requires
-fit-array-requires c κs = 
+fit-array-requires c κs =
     let s = c .before .before .before .before .before in
     let q = s .args in
     let b = q .records .now in
@@ -92,7 +92,7 @@ enum-told-5 : tie.Need-enum-told-5
 enum-told-5 c = search needs
 
 fit-array-requires-2 : tie.Need-fit-array-requires-2
-fit-array-requires-2 c κs = 
+fit-array-requires-2 c κs =
     let s = c .before .before .before .before .before in
     let q = s .args in
     let b = q .records .now in
@@ -105,7 +105,7 @@ enum-known-rule-4 : tie.Need-enum-known-rule-4
 enum-known-rule-4 c = search needs
 
 fit-vectors-requires : tie.Need-fit-vectors-requires
-fit-vectors-requires c κs = 
+fit-vectors-requires c κs =
     let s = c .before .before .before .before .before .before in
     let q = s .args in
     let b = q .records .now in
@@ -117,7 +117,7 @@ enum-told-6 : tie.Need-enum-told-6
 enum-told-6 c = search needs
 
 fit-concat-requires : tie.Need-fit-concat-requires
-fit-concat-requires c κs = 
+fit-concat-requires c κs =
     let s = c .before .before .before .before .before in
     let q = s .args in
     let b = q .records .now in
@@ -126,7 +126,7 @@ fit-concat-requires c κs =
     subst (λ (r : Rule). FitAsks b p a (q .n) r) (c .enum-told6 .given .1) (s .pre)
 
 returns : tie.Need-returns
-returns c = 
+returns c =
     let s = c .before .before .before .before .before in
     let q = s .args in
     let b = q .records .now in
@@ -135,7 +135,7 @@ returns c =
     unranked-has b p a (q .n) (q .rule) (ap isRanked (c .enum-told .given .1)) (s .pre .counted) Nothing
 
 returns-2 : tie.Need-returns-2
-returns-2 c = 
+returns-2 c =
     let s = c .before .before .before .before .before .before .before in
     let q = s .args in
     let b = q .records .now in
@@ -144,7 +144,7 @@ returns-2 c =
     subst (λ (r : Rule). FitHas b p a (q .n) r (c .fit-all .result)) (sym (c .before .before .rule .given .1)) (c .fit-all .ensures)
 
 returns-3 : tie.Need-returns-3
-returns-3 c = 
+returns-3 c =
     let s = c .before .before .before .before .before .before .before in
     let q = s .args in
     let b = q .records .now in
@@ -153,7 +153,7 @@ returns-3 c =
     subst (λ (r : Rule). FitHas b p a (q .n) r (c .fit-fixed .result)) (sym (c .before .before .rule2 .given .1)) (fixed-has b p a (q .n) (c .before .before .rule2 .given .0 .0) (c .before .before .rule2 .given .0 .1 .0) (c .before .before .rule2 .given .0 .1 .1 .0) (c .before .before .rule2 .given .0 .1 .1 .1 .0) (c .before .before .rule2 .given .0 .1 .1 .1 .1 .0) (subst (λ (r : Rule). FitAsks b p a (q .n) r) (c .before .before .rule2 .given .1) (s .pre)) (c .fit-fixed .result) (c .fit-fixed .ensures))
 
 returns-4 : tie.Need-returns-4
-returns-4 c = 
+returns-4 c =
     let s = c .before .before .before .before .before .before .before in
     let q = s .args in
     let b = q .records .now in
@@ -162,7 +162,7 @@ returns-4 c =
     subst (λ (r : Rule). FitHas b p a (q .n) r (c .fit-numbers .result)) (sym (c .before .before .rule3 .given .1)) (numbers-has b p a (q .n) (c .before .before .rule3 .given .0 .0) (c .before .before .rule3 .given .0 .1 .0) (c .fit-numbers .result) (c .fit-numbers .ensures))
 
 returns-5 : tie.Need-returns-5
-returns-5 c = 
+returns-5 c =
     let s = c .before .before .before .before .before .before in
     let q = s .args in
     let b = q .records .now in
@@ -171,7 +171,7 @@ returns-5 c =
     subst (λ (r : Rule). FitHas b p a (q .n) r (c .fit-equal .result)) (sym (c .before .enum-told2 .given .1)) (c .fit-equal .ensures)
 
 returns-6 : tie.Need-returns-6
-returns-6 c = 
+returns-6 c =
     let s = c .before .before .before .before .before .before in
     let q = s .args in
     let b = q .records .now in
@@ -180,7 +180,7 @@ returns-6 c =
     subst (λ (r : Rule). FitHas b p a (q .n) r (c .fit-choose .result)) (sym (c .before .enum-told3 .given .1)) (c .fit-choose .ensures)
 
 returns-7 : tie.Need-returns-7
-returns-7 c = 
+returns-7 c =
     let s = c .before .before .before .before .before .before in
     let q = s .args in
     let b = q .records .now in
@@ -189,7 +189,7 @@ returns-7 c =
     subst (λ (r : Rule). FitHas b p a (q .n) r (c .fit-array .result)) (sym (c .before .enum-told4 .given .1)) (λ n o. c .fit-array .ensures n o .two (eqb-true (q .n) 2 ((subst (λ (r : Rule). FitAsks b p a (q .n) r) (c .before .enum-told4 .given .1) (s .pre)) .counted)))
 
 returns-8 : tie.Need-returns-8
-returns-8 c = 
+returns-8 c =
     let s = c .before .before .before .before .before .before in
     let q = s .args in
     let b = q .records .now in
@@ -198,7 +198,7 @@ returns-8 c =
     subst (λ (r : Rule). FitHas b p a (q .n) r (c .fit-array2 .result)) (sym (c .before .enum-told5 .given .1)) (λ n o. c .fit-array2 .ensures n o .three (eqb-true (q .n) 3 ((subst (λ (r : Rule). FitAsks b p a (q .n) r) (c .before .enum-told5 .given .1) (s .pre)) .counted)))
 
 returns-9 : tie.Need-returns-9
-returns-9 c = 
+returns-9 c =
     let s = c .before .before .before .before .before .before .before in
     let q = s .args in
     let b = q .records .now in
@@ -207,7 +207,7 @@ returns-9 c =
     subst (λ (r : Rule). FitHas b p a (q .n) r (c .fit-vectors .result)) (sym (c .before .before .rule4 .given .1)) (vectors-has b p a (q .n) (c .before .before .rule4 .given .0 .0) (c .before .before .rule4 .given .0 .1 .0) (c .before .before .rule4 .given .0 .1 .1 .0) (c .fit-vectors .result) (c .fit-vectors .ensures))
 
 returns-10 : tie.Need-returns-10
-returns-10 c = 
+returns-10 c =
     let s = c .before .before .before .before .before .before in
     let q = s .args in
     let b = q .records .now in

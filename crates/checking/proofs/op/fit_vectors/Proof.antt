@@ -8,7 +8,7 @@ use Rattle.checking.proofs.op.fit_vectors.Statement.{statement}
 use Rattle.checking.proofs.op.fit_vectors.Tie as tie
 
 u16-at-requires : tie.Need-u16-at-requires
-u16-at-requires c κs = 
+u16-at-requires c κs =
     let s = c .before .before .before in
     let q = s .args in
     let b = q .records .now in
@@ -17,7 +17,7 @@ u16-at-requires c κs =
     omega (arith, s .pre .args .within, vectors-some b p a (q .n) (q .result) (s .pre))
 
 kind-at-requires : tie.Need-kind-at-requires
-kind-at-requires c κs = 
+kind-at-requires c κs =
     let s = c .before .before .before .before in
     let q = s .args in
     let b = q .records .now in
@@ -26,7 +26,7 @@ kind-at-requires c κs =
     arg-asks b p a (q .n) 0 (c .u16-at .result) (s .pre .args) (vectors-some b p a (q .n) (q .result) (s .pre)) (c .u16-at .ensures .0)
 
 returns : tie.Need-returns
-returns c = 
+returns c =
     let s = c .before .before .before .before .before .before in
     let q = s .args in
     let b = q .records .now in
@@ -38,7 +38,7 @@ all-same-requires : tie.Need-all-same-requires
 all-same-requires c κs = c .before .before .before .before .before .before .pre .args
 
 returns-2 : tie.Need-returns-2
-returns-2 c = 
+returns-2 c =
     let s = c .before .before .before .before .before .before .before .before in
     let q = s .args in
     let b = q .records .now in
@@ -47,7 +47,7 @@ returns-2 c =
     vectors-differ b p a (q .n) (q .result) (s .pre) (c .before .before .before .before .u16-at .result) (c .before .before .before .kind-at .result) (c .before .before .before .before .u16-at .ensures .0) (c .before .before .before .kind-at .ensures) (c .before .all-same .result) (c .before .all-same .ensures) (not-true (c .before .all-same .result) (c .if2 .taken))
 
 returns-3 : tie.Need-returns-3
-returns-3 c = 
+returns-3 c =
     let s = c .before .before .before .before .before .before .before .before .before in
     let q = s .args in
     let b = q .records .now in
@@ -56,7 +56,7 @@ returns-3 c =
     vectors-same b p a (q .n) (q .result) (s .pre) (c .before .before .before .before .before .u16-at .result) (c .before .before .before .before .kind-at .result) (c .before .before .before .before .before .u16-at .ensures .0) (c .before .before .before .before .kind-at .ensures) (c .before .before .all-same .result) (c .before .before .all-same .ensures) (c .before .before .before .if1 .left) (not-left (c .before .before .all-same .result) (c .before .if2 .left)) (c .if3 .taken)
 
 returns-4 : tie.Need-returns-4
-returns-4 c = 
+returns-4 c =
     let s = c .before .before .before .before .before .before .before .before .before .before in
     let q = s .args in
     let b = q .records .now in
@@ -65,7 +65,7 @@ returns-4 c =
     vectors-bit b p a (q .n) (q .result) (s .pre) (c .before .before .before .before .before .before .u16-at .result) (c .before .before .before .before .before .kind-at .result) (c .before .before .before .before .before .before .u16-at .ensures .0) (c .before .before .before .before .before .kind-at .ensures) (c .before .before .before .all-same .result) (c .before .before .before .all-same .ensures) (c .before .before .before .before .if1 .left) (not-left (c .before .before .before .all-same .result) (c .before .before .if2 .left)) (c .if4 .taken)
 
 returns-5 : tie.Need-returns-5
-returns-5 c = 
+returns-5 c =
     let s = c .before .before .before .before .before .before .before .before .before .before in
     let q = s .args in
     let b = q .records .now in

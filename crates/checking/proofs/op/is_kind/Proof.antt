@@ -6,7 +6,7 @@ use Rattle.checking.proofs.op.is_kind.Statement.{statement}
 use Rattle.checking.proofs.op.is_kind.Tie as tie
 
 returns : tie.Need-returns
-returns c = 
+returns c =
     let s = c .before .before .before .before in
     let q = s .args in
     let b = q .records .now in
@@ -24,7 +24,7 @@ u16-at-requires : tie.Need-u16-at-requires
 u16-at-requires c κs = omega (arith, c .before .before .before .before .pre .within, c .if1 .left)
 
 kind-at-requires : tie.Need-kind-at-requires
-kind-at-requires c κs = 
+kind-at-requires c κs =
     let s = c .before .before .before .before .before in
     let q = s .args in
     let b = q .records .now in
@@ -33,7 +33,7 @@ kind-at-requires c κs =
     arg-asks b p a (q .n) (q .i) (c .u16-at .result) (s .pre) (c .before .if1 .left) (c .u16-at .ensures .0)
 
 returns-2 : tie.Need-returns-2
-returns-2 c = 
+returns-2 c =
     let s = c .before .before .before .before .before .before in
     let q = s .args in
     let b = q .records .now in

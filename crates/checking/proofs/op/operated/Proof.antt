@@ -19,7 +19,7 @@ refuse-requires : tie.Need-refuse-requires
 refuse-requires c κs = search needs
 
 returns : tie.Need-returns
-returns c = 
+returns c =
     let s = c .before .before .before .before .before .before .before .before .before .before in
     let q = s .args in
     let b = q .records .now in
@@ -39,7 +39,7 @@ refuse-requires-2 : tie.Need-refuse-requires-2
 refuse-requires-2 c κs = search needs
 
 returns-2 : tie.Need-returns-2
-returns-2 c = 
+returns-2 c =
     let s = c .before .before .before .before .before .before .before .before .before .before .before .before in
     let q = s .args in
     let b = q .records .now in
@@ -53,7 +53,7 @@ returns-2 c =
     judged-as (no-count b p hs ns zs n u (q .op) a (q .n) (s .pre) (c .before .before .before .before .before .rule-of .result) (c .before .before .before .before .before .rule-of .ensures) (c .before .before .before .before .is-ranked .result) (c .before .before .before .before .is-ranked .ensures) (not-left (c .before .before .before .before .is-ranked .result) (c .before .before .before .if1 .left)) (c .before .before .counts .result) (c .before .before .counts .ensures) (not-true (c .before .before .counts .result) (c .before .if2 .taken))) (answered-as (c .refuse2 .ensures) (answer-refused b p hs ns zs n u (s .pre .good) Count))
 
 all-values-requires : tie.Need-all-values-requires
-all-values-requires c κs = 
+all-values-requires c κs =
     let s = c .before .before .before .before .before .before .before .before .before .before .before .before .before in
     let q = s .args in
     let b = q .records .now in
@@ -76,7 +76,7 @@ same-length-2 : tie.Need-same-length-2
 same-length-2 c = search needs
 
 returns-3 : tie.Need-returns-3
-returns-3 c = 
+returns-3 c =
     let s = c .before .before .before .before .before .before .before .before .before .before .before .before .before .before .before .before in
     let q = s .args in
     let b = q .records .now in
@@ -90,7 +90,7 @@ returns-3 c =
     judged-as (no-value b p hs ns zs n u (q .op) a (q .n) (s .pre) (c .before .before .before .before .before .before .before .before .before .rule-of .result) (c .before .before .before .before .before .before .before .before .before .rule-of .ensures) (c .before .before .before .before .before .before .before .before .is-ranked .result) (c .before .before .before .before .before .before .before .before .is-ranked .ensures) (not-left (c .before .before .before .before .before .before .before .before .is-ranked .result) (c .before .before .before .before .before .before .before .if1 .left)) (c .before .before .before .before .before .before .counts .result) (c .before .before .before .before .before .before .counts .ensures) (not-left (c .before .before .before .before .before .before .counts .result) (c .before .before .before .before .before .if2 .left)) (c .before .before .all-values .result) (c .before .before .all-values .ensures) (not-true (c .before .before .all-values .result) (c .before .if3 .taken))) (answered-as (c .refuse3 .ensures) (answer-refused b p hs ns zs n u (s .pre .good) Misfit))
 
 fit-rule-requires : tie.Need-fit-rule-requires
-fit-rule-requires c κs = 
+fit-rule-requires c κs =
     let s = c .before .before .before .before .before .before .before .before .before .before .before .before .before .before .before .before .before in
     let q = s .args in
     let b = q .records .now in
@@ -104,7 +104,7 @@ fit-rule-requires c κs =
     rule-asks b p hs ns zs n u (q .op) a (q .n) (s .pre) (c .before .before .before .before .before .before .before .before .before .before .rule-of .result) (c .before .before .before .before .before .before .before .before .before .before .rule-of .ensures) (c .before .before .before .before .before .before .before .before .before .is-ranked .result) (c .before .before .before .before .before .before .before .before .before .is-ranked .ensures) (not-left (c .before .before .before .before .before .before .before .before .before .is-ranked .result) (c .before .before .before .before .before .before .before .before .if1 .left)) (c .before .before .before .before .before .before .before .counts .result) (c .before .before .before .before .before .before .before .counts .ensures) (not-left (c .before .before .before .before .before .before .before .counts .result) (c .before .before .before .before .before .before .if2 .left)) (c .before .before .before .all-values .result) (c .before .before .before .all-values .ensures)
 
 delivered-requires : tie.Need-delivered-requires
-delivered-requires c κs = 
+delivered-requires c κs =
     let s = c .before .before .before .before .before .before .before .before .before .before .before .before .before .before .before .before .before .before .before .before .before .before .before in
     let q = s .args in
     let b = q .records .now in
@@ -133,7 +133,7 @@ same-length-7 : tie.Need-same-length-7
 same-length-7 c = search needs
 
 returns-4 : tie.Need-returns-4
-returns-4 c = 
+returns-4 c =
     let s = c .before .before .before .before .before .before .before .before .before .before .before .before .before .before .before .before .before .before .before .before .before .before .before .before .before .before .before .before .before .before .before .before .before .before in
     let q = s .args in
     let b = q .records .now in

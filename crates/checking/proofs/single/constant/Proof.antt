@@ -15,7 +15,7 @@ cast-leaf : tie.Need-cast-leaf
 cast-leaf c = omega (arith, c .before .before .before .before .before .if1 .taken)
 
 leaf-requires : tie.Need-leaf-requires
-leaf-requires c κs = 
+leaf-requires c κs =
     let s = c .before .before .before .before .before .before .before .before .before .before .before in
     let q = s .args in
     record { good = s .pre; map = constant-map (q .kind) (c .before .before .before .before .before .if1 .taken) }
@@ -36,7 +36,7 @@ same-length-5 : tie.Need-same-length-5
 same-length-5 c = search needs
 
 returns : tie.Need-returns
-returns c = 
+returns c =
     let s = c .before .before .before .before .before .before .before .before .before .before .before .before .before .before .before .before .before .before .before .before .before .before in
     let q = s .args in
     judged-as (constant-leaf (q .kind) (q .number) (c .before .before .before .before .before .before .before .before .before .before .before .before .before .before .before .before .if1 .taken)) (c .before .before .before .before .before .before .before .before .before .before .leaf .ensures)
@@ -45,7 +45,7 @@ refuse-requires : tie.Need-refuse-requires
 refuse-requires c κs = search needs
 
 returns-2 : tie.Need-returns-2
-returns-2 c = 
+returns-2 c =
     let s = c .before .before .before .before .before .before .before .before in
     let q = s .args in
     let b = q .records .now in
@@ -76,7 +76,7 @@ same-length-10 : tie.Need-same-length-10
 same-length-10 c = search needs
 
 returns-3 : tie.Need-returns-3
-returns-3 c = 
+returns-3 c =
     let s = c .before .before .before .before .before .before .before .before .before .before .before .before .before .before .before .before .before .before .before .before .before .before .before in
     let q = s .args in
     judged-as (constant-vector (q .kind) (q .number) (c .before .before .before .before .before .before .before .before .before .before .before .before .before .before .before .before .before .if1 .left) (c .before .before .before .before .before .before .before .before .before .before .before .before .before .before .before .before .if2 .left)) (c .before .before .before .before .before .before .before .before .before .before .bit-vector .ensures)

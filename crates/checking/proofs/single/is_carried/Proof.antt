@@ -5,7 +5,7 @@ use Rattle.checking.proofs.single.is_carried.Statement.{statement}
 use Rattle.checking.proofs.single.is_carried.Tie as tie
 
 entry-requires : tie.Need-entry-requires
-entry-requires c κs = 
+entry-requires c κs =
     let s = c .before .before in
     let q = s .args in
     let b = q .records .now in
@@ -17,7 +17,7 @@ is-proper-requires : tie.Need-is-proper-requires
 is-proper-requires c κs = c .before .before .before .before .before .pre
 
 returns : tie.Need-returns
-returns c = 
+returns c =
     let s = c .before .before .before .before .before .before in
     let q = s .args in
     let b = q .records .now in
@@ -26,7 +26,7 @@ returns c =
     carried-plain b p n (q .k) (s .pre) (c .before .before .before .entry .result) (c .before .before .before .entry .ensures) (c .before .if1 .taken) (c .is-proper .result) (c .is-proper .ensures)
 
 u16-at-requires : tie.Need-u16-at-requires
-u16-at-requires c κs = 
+u16-at-requires c κs =
     let s = c .before .before .before .before .before in
     let q = s .args in
     let b = q .records .now in
@@ -35,7 +35,7 @@ u16-at-requires c κs =
     body-place b p n (q .k) (s .pre) (c .before .before .entry .result) (c .before .before .entry .ensures) (c .if1 .left)
 
 kind-at-requires : tie.Need-kind-at-requires
-kind-at-requires c κs = 
+kind-at-requires c κs =
     let s = c .before .before .before .before .before .before in
     let q = s .args in
     let b = q .records .now in
@@ -44,7 +44,7 @@ kind-at-requires c κs =
     body-entry b p n (q .k) (s .pre) (c .before .before .before .entry .result) (c .before .before .before .entry .ensures) (c .before .if1 .left) (c .u16-at .result) (c .u16-at .ensures .0)
 
 returns-2 : tie.Need-returns-2
-returns-2 c = 
+returns-2 c =
     let s = c .before .before .before .before .before .before .before .before in
     let q = s .args in
     let b = q .records .now in
@@ -53,7 +53,7 @@ returns-2 c =
     carried-no b p n (q .k) (s .pre) (c .before .before .before .before .before .entry .result) (c .before .before .before .before .before .entry .ensures) (c .before .before .before .if1 .left) (c .before .before .u16-at .result) (c .before .before .u16-at .ensures .0) (c .before .kind-at .result) (c .before .kind-at .ensures) (c .if2 .taken)
 
 is-proper-requires-2 : tie.Need-is-proper-requires-2
-is-proper-requires-2 c κs = 
+is-proper-requires-2 c κs =
     let s = c .before .before .before .before .before .before .before .before in
     let q = s .args in
     let b = q .records .now in
@@ -62,7 +62,7 @@ is-proper-requires-2 c κs =
     body-asks b p n (q .k) (s .pre) (c .before .before .before .before .before .entry .result) (c .before .before .before .before .before .entry .ensures) (c .before .before .before .if1 .left) (c .before .before .u16-at .result) (c .before .before .u16-at .ensures .0)
 
 returns-3 : tie.Need-returns-3
-returns-3 c = 
+returns-3 c =
     let s = c .before .before .before .before .before .before .before .before .before in
     let q = s .args in
     let b = q .records .now in

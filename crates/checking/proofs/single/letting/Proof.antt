@@ -14,7 +14,7 @@ refuse-requires : tie.Need-refuse-requires
 refuse-requires c κs = search needs
 
 returns : tie.Need-returns
-returns c = 
+returns c =
     let s = c .before .before .before .before .before in
     let q = s .args in
     let b = q .records .now in
@@ -24,7 +24,7 @@ returns c =
     λ hs ns zs g. judged-as (letting-few b p n a (q .n) (s .pre) (c .before .if1 .taken)) (answered-as (c .refuse .ensures) (answer-refused b p hs ns zs n (q .used) g Count))
 
 all-values-requires : tie.Need-all-values-requires
-all-values-requires c κs = 
+all-values-requires c κs =
     let s = c .before .before .before .before in
     let q = s .args in
     let b = q .records .now in
@@ -37,7 +37,7 @@ refuse-requires-2 : tie.Need-refuse-requires-2
 refuse-requires-2 c κs = search needs
 
 returns-2 : tie.Need-returns-2
-returns-2 c = 
+returns-2 c =
     let s = c .before .before .before .before .before .before .before in
     let q = s .args in
     let b = q .records .now in
@@ -62,7 +62,7 @@ found-requires : tie.Need-found-requires
 found-requires c κs = search needs
 
 returns-3 : tie.Need-returns-3
-returns-3 c = 
+returns-3 c =
     let s = c .before .before .before .before .before .before .before .before in
     let q = s .args in
     let b = q .records .now in
@@ -70,8 +70,8 @@ returns-3 c =
     let n = q .count in
     let a = q .args .now in
     λ hs ns zs g.
-        judged-as (letting-inner b p n a (q .n) (s .pre) (c .before .before .before .before .if1 .left) (c .before .before .before .all-values .result) (c .before .before .before .all-values .ensures) (not-left (c .before .before .before .all-values .result) (c .before .before .if2 .left)) (c .before .u16-at .result) (c .before .u16-at .ensures .0))
-        (answered-as (c .found .ensures) (answer-known b p hs ns zs n (q .used) g (c .before .u16-at .result) (inner-known b p n a (q .n) (s .pre) (c .before .before .before .before .if1 .left) (c .before .before .before .all-values .result) (c .before .before .before .all-values .ensures) (c .before .u16-at .result) (c .before .u16-at .ensures .0))))
+    judged-as (letting-inner b p n a (q .n) (s .pre) (c .before .before .before .before .if1 .left) (c .before .before .before .all-values .result) (c .before .before .before .all-values .ensures) (not-left (c .before .before .before .all-values .result) (c .before .before .if2 .left)) (c .before .u16-at .result) (c .before .u16-at .ensures .0))
+    (answered-as (c .found .ensures) (answer-known b p hs ns zs n (q .used) g (c .before .u16-at .result) (inner-known b p n a (q .n) (s .pre) (c .before .before .before .before .if1 .left) (c .before .before .before .all-values .result) (c .before .before .before .all-values .ensures) (c .before .u16-at .result) (c .before .u16-at .ensures .0))))
 
 pub letting-spec : {M : Type 1} → statement M
 letting-spec = tie.close (tie.spec refuse-requires returns all-values-requires refuse-requires-2 returns-2 sub-u16-at mul-u16-at add-u16-at u16-at-requires found-requires returns-3)

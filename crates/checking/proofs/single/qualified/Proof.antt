@@ -14,7 +14,7 @@ refuse-requires : tie.Need-refuse-requires
 refuse-requires c κs = search needs
 
 returns : tie.Need-returns
-returns c = 
+returns c =
     let s = c .before .before .before .before .before in
     let q = s .args in
     let b = q .records .now in
@@ -30,7 +30,7 @@ refuse-requires-2 : tie.Need-refuse-requires-2
 refuse-requires-2 c κs = search needs
 
 returns-2 : tie.Need-returns-2
-returns-2 c = 
+returns-2 c =
     let s = c .before .before .before .before .before .before .before in
     let q = s .args in
     let b = q .records .now in
@@ -43,7 +43,7 @@ refuse-requires-3 : tie.Need-refuse-requires-3
 refuse-requires-3 c κs = search needs
 
 returns-3 : tie.Need-returns-3
-returns-3 c = 
+returns-3 c =
     let s = c .before .before .before .before .before .before .before .before in
     let q = s .args in
     let b = q .records .now in
@@ -53,7 +53,7 @@ returns-3 c =
     λ hs ns zs g. judged-as (qualified-count b p n (q .k) a (q .n) (s .pre) (q .number) (c .before .before .before .before .if1 .left) (c .before .before .before .is-proper .result) (c .before .before .before .is-proper .ensures) (not-left (c .before .before .before .is-proper .result) (c .before .before .if2 .left)) (c .before .if3 .taken)) (answered-as (c .refuse3 .ensures) (answer-refused b p hs ns zs n (q .used) g Count))
 
 entry-requires : tie.Need-entry-requires
-entry-requires c κs = 
+entry-requires c κs =
     let s = c .before .before .before .before .before .before .before in
     let q = s .args in
     let b = q .records .now in
@@ -65,7 +65,7 @@ refuse-requires-4 : tie.Need-refuse-requires-4
 refuse-requires-4 c κs = search needs
 
 returns-4 : tie.Need-returns-4
-returns-4 c = 
+returns-4 c =
     let s = c .before .before .before .before .before .before .before .before .before .before .before in
     let q = s .args in
     let b = q .records .now in
@@ -75,7 +75,7 @@ returns-4 c =
     λ hs ns zs g. judged-as (qualified-kind b p n (q .k) a (q .n) (s .pre) (q .number) (c .before .before .before .before .before .before .before .if1 .left) (c .before .before .before .before .before .before .is-proper .result) (c .before .before .before .before .before .before .is-proper .ensures) (not-left (c .before .before .before .before .before .before .is-proper .result) (c .before .before .before .before .before .if2 .left)) (c .before .before .before .before .if3 .left) (c .before .before .before .entry .result) (c .before .before .before .entry .ensures) (c .before .if4 .taken)) (answered-as (c .refuse4 .ensures) (answer-refused b p hs ns zs n (q .used) g Misfit))
 
 add-u16-at : tie.Need-add-u16-at
-add-u16-at c = 
+add-u16-at c =
     let s = c .before .before .before .before .before .before .before .before .before .before in
     let q = s .args in
     let b = q .records .now in
@@ -85,7 +85,7 @@ add-u16-at c =
     omega (arith, element-place b p n (q .k) a (q .n) (s .pre) (q .number) (c .before .before .before .before .before .before .if1 .left) (c .before .before .before .before .before .is-proper .result) (c .before .before .before .before .before .is-proper .ensures) (not-left (c .before .before .before .before .before .is-proper .result) (c .before .before .before .before .if2 .left)) (c .before .before .before .if3 .left) (c .before .before .entry .result) (c .before .before .entry .ensures) (c .if4 .left), s .good .0)
 
 u16-at-requires : tie.Need-u16-at-requires
-u16-at-requires c κs = 
+u16-at-requires c κs =
     let s = c .before .before .before .before .before .before .before .before .before .before in
     let q = s .args in
     let b = q .records .now in
@@ -101,7 +101,7 @@ refuse-requires-5 : tie.Need-refuse-requires-5
 refuse-requires-5 c κs = search needs
 
 returns-5 : tie.Need-returns-5
-returns-5 c = 
+returns-5 c =
     let s = c .before .before .before .before .before .before .before .before .before .before .before .before .before .before in
     let q = s .args in
     let b = q .records .now in
@@ -114,7 +114,7 @@ found-requires : tie.Need-found-requires
 found-requires c κs = search needs
 
 returns-6 : tie.Need-returns-6
-returns-6 c = 
+returns-6 c =
     let s = c .before .before .before .before .before .before .before .before .before .before .before .before .before .before in
     let q = s .args in
     let b = q .records .now in

@@ -17,27 +17,27 @@ found-requires : tie.Need-found-requires
 found-requires c κs = search needs
 
 returns : tie.Need-returns
-returns c = 
+returns c =
     let s = c .before .before .before .before .before in
     let q = s .args in
     let b = q .records .now in
     let p = q .places .now in
     let n = q .count in
     λ hs ns zs g. judged-as (need-taken (c .before .before .is-carried .result) (sort (sortAt b p n (q .k))) (carried (sortAt b p n (q .k))) (c .before .before .is-carried .ensures) (c .before .if1 .taken))
-        (answered-as (c .found .ensures) (answer-known b p hs ns zs n (q .used) g (q .k) (s .pre .known)))
+    (answered-as (c .found .ensures) (answer-known b p hs ns zs n (q .used) g (q .k) (s .pre .known)))
 
 refuse-requires : tie.Need-refuse-requires
 refuse-requires c κs = search needs
 
 returns-2 : tie.Need-returns-2
-returns-2 c = 
+returns-2 c =
     let s = c .before .before .before .before .before in
     let q = s .args in
     let b = q .records .now in
     let p = q .places .now in
     let n = q .count in
     λ hs ns zs g. judged-as (need-left (c .before .before .is-carried .result) (sort (sortAt b p n (q .k))) (carried (sortAt b p n (q .k))) (c .before .before .is-carried .ensures) (c .before .if1 .left))
-        (answered-as (c .refuse .ensures) (answer-refused b p hs ns zs n (q .used) g Barred))
+    (answered-as (c .refuse .ensures) (answer-refused b p hs ns zs n (q .used) g Barred))
 
 pub variable-spec : {M : Type 1} → statement M
 variable-spec = tie.close (tie.spec is-carried-requires found-requires returns refuse-requires returns-2)
