@@ -1,15 +1,14 @@
 -- All questions of a sheet: what a question record at a place and the loop over all of them ask and promise, and that one
 -- answer more is the definition's.
-use Prim.Native.Nat.{ℕ, zero, suc, _+_, _*_, _≤_, _<_}
+use Prim.Native.Nat.{ℕ, suc, _+_, _*_, _≤_, _<_}
 use mathlib.Core.Path.{_≡_, refl, sym, ap, ap₂, subst, _∙_}
-use mathlib.Core.List.{List, [], _∷_, _++_}
+use mathlib.Core.List.{List, _++_}
 use native.Mathlib.Omega.{arith}
 use lib.ListN.{length, getD, set, take, drop, length-set, take-append-drop}
 use lib.Seq.{take-suc-set, drop-set-lt, drop-drop}
 use Rattle.record.specs.Number.{u16At, numbersAt}
 use Rattle.record.specs.Codec.{length-numbersAt}
 use Rattle.record.specs.Sort.{Sort, Sorts}
-use Rattle.record.specs.Record.{leaf, sortsOf}
 use Rattle.record.specs.Decode.{storeOf, Zeros}
 use Rattle.record.specs.StoreLaws.{storeOf-length}
 use Rattle.record.specs.SortLists.{Starts, starts-self, starts-trans, starts-at, starts-count}
@@ -18,18 +17,19 @@ use Rattle.reader.specs.Was.{number-at}
 use Rattle.reader.specs.QuestionWas.{QuestionWas}
 use Rattle.reader.specs.declared.Cursor.{Cursor}
 use Rattle.reader.specs.declared.QuestionRecord.{QuestionRecord}
-use Rattle.reader.specs.declared.ReadQuestion.the-variants.{Question as QuestionAt, NoQuestion}
+use Rattle.reader.specs.declared.ReadQuestion.the-variants.{Question as QuestionAt}
+use Rattle.sheet.specs.declared.SheetCounts.{SheetCounts}
 use Rattle.sheet.specs.Sheet.{Lengths, QuestionFields, questionFields}
-use Rattle.sheet.specs.Trees.{mapped, treesOf, trees-length, trees-same, mapped-sorts}
-use Rattle.sheet.specs.Contract.{eachAt, questionAt, questionsAt, QuestionStands}
-use Rattle.sheet.specs.Stands.{question-never, question-again, question-is}
+use Rattle.sheet.specs.Trees.{treesOf, trees-length, trees-same, mapped-sorts}
+use Rattle.sheet.specs.Contract.{eachAt, questionAt, questionsAt, QuestionStands, SheetStands}
+use Rattle.sheet.specs.Stands.{question-again, question-is}
 use Rattle.store.specs.Good.{Good}
 use Rattle.matching.specs.Tables.{Cleared}
 use Rattle.rows.specs.Outcome.{Outcome}
 use Rattle.verdicts.specs.Questions.{answerOf, Answered, answerAdded, answersOf}
 use Rattle.questions.specs.declared.Word.{Word}
 use Rattle.questions.specs.declared.all.Counts.{Counts}
-use Rattle.questions.specs.Contract.{questionOver, Asked, QuestionAsks, QuestionIs}
+use Rattle.questions.specs.Contract.{questionOver, QuestionAsks, QuestionIs}
 
 -- The tables of names, all zeros.
 pub record Blank (prm imgs bnd : List ℕ) : Type 0 where
@@ -84,6 +84,33 @@ pub record AllIs (b p : List ℕ) (n : ℕ) (prm imgs bnd s tbl : List ℕ) (m :
   pub params : prm′ ≡ prm
   pub images : imgs′ ≡ imgs
   pub bound : bnd′ ≡ bnd
+
+---------------------------------------------------------------- from the reader of the sheet
+-- A store that has grown has the sheet's sorts as they were.
+pub trees-starts : (st st′ : List Sort) (tbl : List ℕ) (m : ℕ) → Starts st st′ → ((j : ℕ) → j < m → getD tbl j 0 < length st) → treesOf st′ tbl m ≡ treesOf st tbl m
+trees-starts st st′ tbl m g h = trees-same st′ st tbl tbl m (λ j o. starts-at st st′ g (getD tbl j 0) (h j o))
+
+-- WHAT THE READER PROMISES is what all questions ask, over any good store that has grown from the sheet's.
+pub stands-asks : (s b p hs ns zs tbl xs ys : List ℕ) (c : SheetCounts) → SheetStands s b p hs ns zs tbl xs ys c → (b′ p′ hs′ ns′ zs′ : List ℕ) (n u : ℕ)
+    → Good b′ p′ hs′ ns′ zs′ n u → Starts (storeOf b p (c .count)) (storeOf b′ p′ n) → (prm imgs bnd an : List ℕ) → Blank prm imgs bnd
+    → c .sorts ≤ length tbl → c .questions ≤ length ys → c .questions ≤ length an → c .questions ≤ 1024 → length s ≤ 65536
+    → AllAsks b′ p′ hs′ ns′ zs′ n u prm imgs bnd s tbl (c .sorts) ys (c .questions) an
+stands-asks s b p hs ns zs tbl xs ys c h b′ p′ hs′ ns′ zs′ n u g st prm imgs bnd an blank inside asked room few short =
+    record {
+      good = g;
+      blank = blank;
+      numbered =
+          record {
+            inside = inside;
+            known = λ j o.
+                omega (arith, h .known j o, starts-count (storeOf b p (c .count)) (storeOf b′ p′ n) st, storeOf-length b p (c .count), storeOf-length b′ p′ n);
+            short = short;
+          };
+      stands = h .questions;
+      asked = asked;
+      room = room;
+      few = few;
+    }
 
 ---------------------------------------------------------------- a record at its place
 module _ (b p hs ns zs : List ℕ) (n u : ℕ) (prm imgs bnd s tbl : List ℕ) (m x : ℕ) (h : AtAsks b p hs ns zs n u prm imgs bnd s tbl m x)
@@ -191,8 +218,9 @@ module _ (b p hs ns zs : List ℕ) (n u : ℕ) (prm imgs bnd s tbl : List ℕ) (
 
     trees-kept : treesOf (storeOf b p n) tbl m ≡ treesOf (storeOf b′ p′ n′) tbl m
     trees-kept =
-        trees-same (storeOf b p n) (storeOf b′ p′ n′) tbl tbl m
-        (λ j o. sym (starts-at (storeOf b p n) (storeOf b′ p′ n′) (a .starts) (getD tbl j 0) (omega (arith, h .numbered .known j o, storeOf-length b p n))))
+        sym
+        (trees-starts (storeOf b p n) (storeOf b′ p′ n′) tbl m (a .starts)
+        (λ j o. omega (arith, h .numbered .known j o, storeOf-length b p n)))
 
     module _ (x : ℕ) (o : i < c) (e : x ≡ getD ys i 0) (d q is ms ys′ prm″ imgs″ bnd″ : List ℕ) (w : Word)
         (t : AtIs b′ p′ n′ prm′ imgs′ bnd′ s tbl m x d q is ms ys′ prm″ imgs″ bnd″ w) where

@@ -1,7 +1,6 @@
 -- The loop keeps: the store and the first answers are the definition's, and behind them stands what stood there.
 -- One answer more is `oneAnswer`.
 use native.Mathlib.Omega.{arith}
-use borrow.Author.Needs.{needs}
 use Prim.Native.Nat.{_-_, _≤_}
 use mathlib.Core.Path.{refl, sym, ap, _∙_}
 use lib.ListN.{length, getD}

@@ -1,6 +1,5 @@
 -- The record that stands there is read, and its question over the store is the sheet's.
 -- None read is ruled out by what is asked.
-use native.Mathlib.Omega.{arith}
 use borrow.Author.Needs.{needs}
 use mathlib.Core.Path.{sym, _∙_}
 use Rattle.sheet.specs.Stands.{question-never}
