@@ -18,14 +18,14 @@ use Rattle.store.specs.Good.{Good}
 use Rattle.substitution.specs.Substitution.{Map, find, orElse, bound, left, under, apply, applyAll}
 use Rattle.apply.specs.declared.Applied.{Applied}
 use Rattle.apply.specs.declared.Applied.the-variants.{Is, TooLarge, NoRoom}
-use Rattle.apply.specs.Images.{imageAt, imagesOf, Table, Images, find-images, images-apply}
+use Rattle.apply.specs.Images.{imageAt, Images, images-apply}
 use Rattle.apply.specs.Contract.{answerAt, ApplyAsks, AppliedIs}
 use Rattle.rows.specs.declared.Cause.the-variants.{Limit, Full}
 use Rattle.rows.specs.Verdict.{sort}
 use Rattle.rows.specs.Outcome.{shallow, shallowAll, within}
 use Rattle.answers.specs.declared.Answer.{Answer}
 use Rattle.answers.specs.Answer.{AnswerIs, accepting, refusing}
-use Rattle.answers.specs.AnswerLaws.{judged-as, untouched-as, answer-limit, answer-full, answer-made}
+use Rattle.answers.specs.AnswerLaws.{untouched-as, answer-limit, answer-full, answer-made}
 use Rattle.answers.specs.Within.{within-at, over-size}
 
 -- THE ANSWER r TO THE SORT k of the store with its names replaced, for every map that the table l stands for.

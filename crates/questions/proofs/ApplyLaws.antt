@@ -1,7 +1,7 @@
 -- Question 2: what filling, replacing and emptying ask, and that together they give the definition's answer.
-use Prim.Native.Nat.{ℕ, zero, suc, _+_, _*_, _-_, _≤_, _<_}
-use mathlib.Core.Path.{_≡_, refl, sym, ap, ap₂, subst, _∙_}
-use mathlib.Core.List.{List, [], _∷_}
+use Prim.Native.Nat.{ℕ, _+_, _*_, _-_, _<_}
+use mathlib.Core.Path.{_≡_, sym, ap, ap₂, subst, _∙_}
+use mathlib.Core.List.{List}
 use native.Mathlib.Omega.{arith}
 use lib.ListN.{length, getD}
 use Rattle.record.specs.Number.{u16At, numbersAt}
@@ -16,14 +16,14 @@ use Rattle.sheet.specs.Trees.{mapped}
 use Rattle.substitution.specs.Substitution.{apply}
 use Rattle.apply.specs.Images.{Images}
 use Rattle.apply.specs.Contract.{ApplyAsks as ReplaceAsks}
-use Rattle.rows.specs.Verdict.{Verdict, sort}
+use Rattle.rows.specs.Verdict.{sort}
 use Rattle.answers.specs.declared.Answer.{Answer}
 use Rattle.answers.specs.AnswerLaws.{judged-as}
 use Rattle.instance.specs.Instance.{InstanceIs}
 use Rattle.verdicts.specs.Questions.{firstOf, restOf, imagesOf, applyAnswer}
-use Rattle.questions.specs.Fill.{FillAsks, FilledIs, EmptyAsks, emptied, filled, filled-length, filled-images, emptied-back}
+use Rattle.questions.specs.Fill.{FillAsks, FilledIs, EmptyAsks, emptied, filled-images, emptied-back}
 use Rattle.questions.specs.Contract.{ApplyAsks, ApplyIs}
-use Rattle.questions.specs.Asked.{sortsBy, sorts-first, sorts-rest, sort-known, mapped-known}
+use Rattle.questions.specs.Asked.{sortsBy, sorts-first, sorts-rest, mapped-known}
 
 module _ (b p hs ns zs : List ℕ) (n u : ℕ) (imgs s tbl : List ℕ) (q : QuestionRecord) (h : ApplyAsks b p hs ns zs n u imgs s tbl q) where
   later : (j : ℕ) → j < q .named → getD tbl (u16At s (q .list + 2 + 2 * j)) 0 < n

@@ -1,34 +1,34 @@
 -- Question 1: what its steps ask, and that each way through them gives the definition's answer with the tables as they were.
-use Prim.Native.Nat.{ℕ, zero, suc, _+_, _*_, _≤_, _<_}
+use Prim.Native.Nat.{ℕ, zero, suc, _+_, _<_}
 use mathlib.Core.Path.{_≡_, refl, sym, ap, ap₂, subst, _∙_}
 use mathlib.Core.Bool.{Bool, true, false, not}
-use mathlib.Core.List.{List, [], _∷_, _++_}
+use mathlib.Core.List.{List, []}
 use mathlib.Core.Option.{Option, none, some}
 use native.Mathlib.Omega.{arith}
 use native.Mathlib.Nat.{not-suc-le-zero}
-use lib.ListN.{length, getD}
+use lib.ListN.{getD}
 use Rattle.record.specs.Number.{u16At, numbersAt}
 use Rattle.record.specs.Codec.{length-numbersAt}
-use Rattle.record.specs.Sort.{Sort, Sorts}
+use Rattle.record.specs.Sort.{Sort}
 use Rattle.record.specs.Record.{leaf}
 use Rattle.record.specs.Decode.{storeOf, sortAt}
 use Rattle.record.specs.StoreLaws.{storeOf-length}
 use Rattle.reader.specs.declared.QuestionRecord.{QuestionRecord}
 use Rattle.store.specs.Good.{Good, zeros-same}
-use Rattle.substitution.specs.Substitution.{Map, empty, apply}
+use Rattle.substitution.specs.Substitution.{Map, empty}
 use Rattle.substitution.specs.Matching.{matches, listedIn, premise}
 use Rattle.matching.specs.declared.Matched.{Matched}
 use Rattle.matching.specs.declared.Matched.the-variants.{Fits, Misfits}
-use Rattle.matching.specs.Tables.{times, Lists, Told, listed, Added, imageOf, mapOf, Tabled, Mapped, Cleared}
+use Rattle.matching.specs.Tables.{Lists, Told, listed, Added, imageOf, mapOf, Tabled, Mapped, Cleared}
 use Rattle.matching.specs.TableLaws.{times-few, listed-is, lists-none, lists-added, added-back, find-is, cleared-mapped, cleared-map}
 use Rattle.matching.specs.Contract.{Usable, PairAsks, TestAsks, PremiseIs, AddAsks, TakeAsks, Answered}
 use Rattle.matching.specs.Contract.{MatchAsks as PlainAsks, MatchIs as PlainIs}
 use Rattle.apply.specs.Images.{imageAt, Images}
 use Rattle.apply.specs.Contract.{ApplyAsks as ReplaceAsks}
 use Rattle.rows.specs.declared.Cause.the-variants.{Barred, NoAssignment}
-use Rattle.rows.specs.Verdict.{Verdict, sort, refused, need}
+use Rattle.rows.specs.Verdict.{refused, need}
 use Rattle.answers.specs.declared.Answer.{Answer}
-use Rattle.answers.specs.Answer.{AnswerIs, refusing}
+use Rattle.answers.specs.Answer.{refusing}
 use Rattle.answers.specs.AnswerLaws.{judged-as, answered-as, answer-refused}
 use Rattle.instance.specs.Instance.{InstanceIs}
 use Rattle.verdicts.specs.Questions.{firstOf, restOf, assigned, matchAnswer}

@@ -1,14 +1,14 @@
 -- A question of any kind: what each kind asks, and that its answer is the definition's.
-use Prim.Native.Nat.{ℕ, _+_, _*_, _≤_, _<_}
+use Prim.Native.Nat.{ℕ, _+_, _<_}
 use mathlib.Core.Path.{_≡_, refl, sym, ap, ap₂, subst, _∙_}
-use mathlib.Core.Bool.{Bool, true, false, cond}
+use mathlib.Core.Bool.{Bool, cond}
 use mathlib.Core.List.{List}
 use native.Mathlib.Omega.{arith}
-use lib.ListN.{length, getD}
+use lib.ListN.{getD}
 use lib.Dec.{eqb}
 use borrow.Author.Tests.{eq-eqb, ne-eqb}
 use Rattle.record.specs.Number.{u16At, numbersAt}
-use Rattle.record.specs.Sort.{Sort, Sorts}
+use Rattle.record.specs.Sort.{Sort}
 use Rattle.record.specs.Record.{leaf}
 use Rattle.record.specs.Decode.{storeOf, sortAt}
 use Rattle.record.specs.SortLists.{Starts, starts-self}
@@ -17,14 +17,11 @@ use Rattle.sheet.specs.Sheet.{Lengths}
 use Rattle.store.specs.Good.{Good}
 use Rattle.substitution.specs.Compatible.{compatible}
 use Rattle.matching.specs.Contract.{PairAsks}
-use Rattle.rows.specs.Verdict.{codeOf}
 use Rattle.rows.specs.Outcome.{Outcome, outcome}
 use Rattle.answers.specs.declared.Answer.{Answer}
-use Rattle.answers.specs.Answer.{AnswerIs}
-use Rattle.answers.specs.AnswerLaws.{answer-code}
 use Rattle.verdicts.specs.Questions.{firstOf, restOf, yesNo, matchAnswer, applyAnswer, answerOf}
 use Rattle.questions.specs.declared.Word.{Word}
-use Rattle.questions.specs.Contract.{questionOver, ApplyAsks, ApplyIs, MatchAsks, MatchIs, CodeAsks, WordIs, QuestionAsks, QuestionIs}
+use Rattle.questions.specs.Contract.{questionOver, ApplyAsks, ApplyIs, MatchAsks, MatchIs, WordIs, QuestionAsks, QuestionIs}
 use Rattle.questions.specs.Asked.{sortsBy, sorts-first, sorts-second}
 use Rattle.questions.proofs.MatchLaws.{good-usable}
 

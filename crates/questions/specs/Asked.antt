@@ -1,7 +1,7 @@
 -- What a question's record tells over the store numbers of the sheet's sorts: each is a number of the store, and which sort
 -- of the definition's question it is.
-use Prim.Native.Nat.{ℕ, zero, suc, _+_, _*_, _-_, _≤_, _<_}
-use mathlib.Core.Path.{_≡_, refl, sym, ap, ap₂, subst, _∙_}
+use Prim.Native.Nat.{ℕ, zero, suc, _+_, _*_, _-_, _<_}
+use mathlib.Core.Path.{_≡_, sym, ap, subst, _∙_}
 use mathlib.Core.List.{List, [], _∷_}
 use native.Mathlib.Omega.{arith}
 use native.Mathlib.Nat.{not-suc-le-zero}
@@ -9,7 +9,6 @@ use lib.ListN.{length, getD}
 use Rattle.record.specs.Number.{u16At, numbersAt}
 use Rattle.record.specs.Sort.{Sort, Sorts}
 use Rattle.record.specs.Record.{leaf, sortsOf}
-use Rattle.record.specs.Decode.{storeOf, sortAt}
 use Rattle.reader.specs.declared.QuestionRecord.{QuestionRecord}
 use Rattle.sheet.specs.Trees.{mapped}
 use Rattle.matching.specs.TableLaws.{numbers-more}

@@ -2,9 +2,8 @@
 -- filled table stands for the definition's map, and that emptying it gives the zeros back.
 use Prim.Native.Nat.{ℕ, zero, suc, _+_, _*_, _-_, _≤_, _<_}
 use mathlib.Core.Path.{_≡_, refl, sym, ap, ap₂, subst, _∙_}
-use mathlib.Core.Bool.{Bool, true, false, cond, _||_}
+use mathlib.Core.Bool.{Bool, true, false, _||_}
 use mathlib.Core.List.{List, [], _∷_}
-use mathlib.Core.Option.{none, some}
 use native.Mathlib.Omega.{arith}
 use native.Mathlib.Decide.{decLt}
 use lib.ListN.{length, getD, set, length-set, List·getD-eq-default}
@@ -15,7 +14,7 @@ use Rattle.record.specs.Number.{u16At, numbersAt}
 use Rattle.record.specs.Names.{member}
 use Rattle.record.specs.Cases.{byTest}
 use Rattle.record.specs.Sort.{Sort}
-use Rattle.record.specs.Record.{leaf, sortsOf}
+use Rattle.record.specs.Record.{sortsOf}
 use Rattle.record.specs.Decode.{Zeros}
 use Rattle.sheet.specs.Trees.{mapped}
 use Rattle.substitution.specs.Substitution.{find}

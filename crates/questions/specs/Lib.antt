@@ -1,3 +1,4 @@
 pub mod Fill
 pub mod Contract
 pub mod Asked
+pub mod All

@@ -4,10 +4,8 @@ use instance::instance;
 use reader::QuestionRecord;
 use record::u16_at;
 ghost use mathlib.Core.Path.{_≡_};
-ghost use Prim.Native.Nat.{_<_};
 ghost use lib.ListN.{getD};
 ghost use Rattle.record.specs.Number.{u16At, numbersAt};
-ghost use Rattle.sheet.specs.Trees.{mapped};
 ghost use Rattle.questions.specs.Fill.{SortAsks, FillAsks, FilledIs, EmptyAsks, emptied};
 ghost use Rattle.questions.specs.Contract.{ApplyAsks, ApplyIs};
 

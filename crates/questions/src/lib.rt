@@ -1,4 +1,5 @@
 // The questions of a sheet: 0 compatible, 1 match, 2 apply, with the causes in the order 28, 29, 22, 23.
+pub mod all;
 pub mod images;
 pub mod matched;
 
@@ -48,7 +49,8 @@ pub fn word_of(answer: Answer) -> Word
     }
 }
 
-// The answer to the question with this record, by its kind. The tables of names are zeros before and after.
+// The answer to the question with this record, by its kind: 1 or 0 for 0; for 1 and 2 the code of `answer_match` and
+// `answer_apply`. The tables of names are zeros before and after.
 pub fn answer_question(
     records: &mut [u8],
     places: &mut [u32],

@@ -1,6 +1,5 @@
 -- What substitution gives is the answer, for every map that the table stands for.
 -- Each arm hands over what its case of `AppliedIs` says.
-use native.Mathlib.Omega.{arith}
 use borrow.Author.Needs.{needs}
 use mathlib.Core.Path.{subst}
 use Rattle.apply.specs.declared.Applied.the-variants.{Is, TooLarge, NoRoom}

@@ -1,7 +1,5 @@
 -- The test says which of the two.
 -- Its answer is `compatible` of the two sorts.
-use native.Mathlib.Omega.{arith}
-use borrow.Author.Needs.{needs}
 use mathlib.Core.Path.{sym, ap, _∙_}
 use Rattle.verdicts.specs.Questions.{yesNo}
 use Rattle.questions.proofs.answer_compatible.Statement.{statement}

@@ -1,7 +1,5 @@
 -- The code of its verdict.
 -- The store is that of the answer.
-use native.Mathlib.Omega.{arith}
-use borrow.Author.Needs.{needs}
 use mathlib.Core.Path.{refl}
 use Rattle.questions.proofs.word_of.Statement.{statement}
 use Rattle.questions.proofs.word_of.Tie as tie

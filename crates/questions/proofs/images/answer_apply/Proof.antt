@@ -2,7 +2,6 @@
 -- Emptied, the table is zeros again.
 use native.Mathlib.Omega.{arith}
 use borrow.Author.Needs.{needs}
-use Prim.Native.Nat.{_<_}
 use Rattle.questions.specs.Asked.{sort-asks, sort-known}
 use Rattle.questions.proofs.ApplyLaws.{fill-asks, replace-asks, empty-asks, apply-is}
 use Rattle.questions.proofs.images.answer_apply.Statement.{statement}

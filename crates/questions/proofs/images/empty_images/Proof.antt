@@ -1,7 +1,6 @@
 -- The loop keeps: the last names are unbound.
 -- One more goes before them.
 use native.Mathlib.Omega.{arith}
-use borrow.Author.Needs.{needs}
 use Prim.Native.Nat.{_-_, _<_}
 use Rattle.questions.specs.Fill.{Emptying, emptying-start, emptying-step, emptying-end}
 use Rattle.questions.proofs.images.empty_images.Statement.{statement}

@@ -1,8 +1,7 @@
 -- The loop keeps: what is bound so far are the last names, each with its sort.
 -- A name and its sort go before those that were bound.
 use native.Mathlib.Omega.{arith}
-use borrow.Author.Needs.{needs}
-use Prim.Native.Nat.{_+_, _*_, _-_, _<_}
+use Prim.Native.Nat.{_-_, _<_}
 use Rattle.questions.specs.Fill.{Filling, filling-start, filling-step, filling-end}
 use Rattle.questions.proofs.images.fill_images.Statement.{statement}
 use Rattle.questions.proofs.images.fill_images.Tie as tie

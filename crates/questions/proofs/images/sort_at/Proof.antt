@@ -1,7 +1,6 @@
 -- The entry of the table under the number that stands there.
 -- Both indices are inside by what is asked.
 use native.Mathlib.Omega.{arith}
-use borrow.Author.Needs.{needs}
 use Prim.Native.Nat.{ℕ}
 use mathlib.Core.Path.{ap}
 use lib.ListN.{getD}

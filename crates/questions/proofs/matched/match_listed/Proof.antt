@@ -1,6 +1,5 @@
 -- Each way through is one case of the definition, for every list of names that the table lists.
 -- Both tables of the map are zeros again.
-use native.Mathlib.Omega.{arith}
 use borrow.Author.Needs.{needs}
 use Rattle.questions.proofs.MatchLaws.{premise-asks, plain-asks, fits-mapped, misfits-tabled, result-asks, listed-barred, listed-fits, listed-misfits}
 use Rattle.questions.proofs.matched.match_listed.Statement.{statement}

@@ -1,0 +1,110 @@
+// All questions of a sheet, in order: each record is read again at its place.
+use super::Word;
+use super::answer_question;
+use reader::Cursor;
+use reader::ReadQuestion;
+ghost use Rattle.questions.specs.All.{AtAsks, AtIs, AllAsks, AllIs};
+
+// The store's count and bytes in use.
+pub struct Counts {
+    pub count: usize,
+    pub used: usize,
+}
+
+// The answer to the question whose record stands at `at`. Where none is read, which what is asked rules out, 0.
+pub fn answer_at(
+    records: &mut [u8],
+    places: &mut [u32],
+    heads: &mut [u16],
+    next: &mut [u16],
+    sizes: &mut [u16],
+    count: usize,
+    used: usize,
+    params: &mut [u16],
+    images: &mut [u16],
+    bound: &mut [u16],
+    sheet: &[u8],
+    table: &[u16],
+    sorts: usize,
+    at: usize,
+) -> Word
+    requires { ⌜ AtAsks (now records) (now places) (now heads) (now next) (now sizes) count used (now params) (now images) (now bound) (now sheet) (now table) sorts at ⌝ }
+    ensures { λ r. ⌜ AtIs (now (records .entry)) (now (places .entry)) count (now (params .entry)) (now (images .entry)) (now (bound .entry)) (now (sheet .entry)) (now (table .entry)) sorts at (now (records .exit)) (now (places .exit)) (now (heads .exit)) (now (next .exit)) (now (sizes .exit)) (now (params .exit)) (now (images .exit)) (now (bound .exit)) r ⌝ }
+{
+    let cursor = Cursor { at };
+    let read = cursor.question(sheet, sorts);
+    match read {
+        ReadQuestion::Question(question, _) => answer_question(
+            records,
+            places,
+            heads,
+            next,
+            sizes,
+            count,
+            used,
+            params,
+            images,
+            bound,
+            sheet,
+            table,
+            question,
+        ),
+        ReadQuestion::NoQuestion(_) => Word {
+            code: 0,
+            count,
+            used,
+        },
+    }
+}
+
+// Writes the answers to the first `many` questions, whose places are `asked`, into `answers`; the store's count and bytes in
+// use after them.
+pub fn answer_all(
+    records: &mut [u8],
+    places: &mut [u32],
+    heads: &mut [u16],
+    next: &mut [u16],
+    sizes: &mut [u16],
+    count: usize,
+    used: usize,
+    params: &mut [u16],
+    images: &mut [u16],
+    bound: &mut [u16],
+    sheet: &[u8],
+    table: &[u16],
+    sorts: usize,
+    asked: &[u16],
+    many: usize,
+    answers: &mut [u32],
+) -> Counts
+    requires { ⌜ AllAsks (now records) (now places) (now heads) (now next) (now sizes) count used (now params) (now images) (now bound) (now sheet) (now table) sorts (now asked) many (now answers) ⌝ }
+    ensures { λ r. ⌜ AllIs (now (records .entry)) (now (places .entry)) count (now (params .entry)) (now (images .entry)) (now (bound .entry)) (now (sheet .entry)) (now (table .entry)) sorts (now (asked .entry)) many (now (answers .entry)) (now (records .exit)) (now (places .exit)) (now (heads .exit)) (now (next .exit)) (now (sizes .exit)) (now (params .exit)) (now (images .exit)) (now (bound .exit)) (now (answers .exit)) r ⌝ }
+{
+    let mut n = count;
+    let mut u = used;
+    let mut q = 0;
+    while q < many {
+        let at = asked[q] as usize;
+        let word = answer_at(
+            records,
+            places,
+            heads,
+            next,
+            sizes,
+            n,
+            u,
+            params,
+            images,
+            bound,
+            sheet,
+            table,
+            sorts,
+            at,
+        );
+        answers[q] = word.code;
+        n = word.count;
+        u = word.used;
+        q += 1;
+    }
+    Counts { count: n, used: u }
+}
