@@ -262,3 +262,18 @@ integerOf Other = none
 -- The number of the term whose record starts at a place: an integer constant has the kind 0, and its number behind it.
 abbrev pub integerAt : List ℕ → ℕ → Option ℕ
 integerAt sheet at = cond (eqb (getD sheet (at + 1) 0) 0) (some (u32At sheet (at + 2))) none
+
+---------------------------------------------------------------- the terms that a sheet names
+-- The integer constants among the terms that the sheet names from x on, by the places where terms start.
+unfoldable pub constantsFrom : List ℕ → List ℕ → List ℕ → List (Option ℕ)
+constantsFrom sheet starts [] = []
+constantsFrom sheet starts (i ∷ is) = integerAt sheet (getD starts i 0) ∷ constantsFrom sheet starts is
+
+abbrev pub constantsIn : List ℕ → List ℕ → ℕ → ℕ → List (Option ℕ)
+constantsIn sheet starts x m = constantsFrom sheet starts (numbersAt sheet x m)
+
+-- The sheet names m terms from x on, and the records of all lie in it.
+pub record ConstantsAsk (sheet starts : List ℕ) (x m : ℕ) : Type 0 where
+  pub within : x + 2 * m ≤ length sheet
+  pub term : (j : ℕ) → j < m → u16At sheet (x + 2 * j) < length starts
+  pub start : (j : ℕ) → j < m → ConstantAsks sheet (getD starts (u16At sheet (x + 2 * j)) 0)

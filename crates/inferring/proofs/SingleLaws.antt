@@ -30,7 +30,8 @@ use Rattle.answers.specs.declared.Answer.{Answer}
 use Rattle.answers.specs.declared.arguments.Constant.{Constant}
 use Rattle.answers.specs.declared.arguments.Constant.the-variants.{Integer, Other}
 use Rattle.answers.specs.Arguments.{integerOf, integerAt, ConstantAsks}
-use Rattle.inferring.specs.Asks.{Referring, sortsIn, ReadAsks, ArgsAsks, args-refer, refer-first, sorts-first, constantsFrom, constantsIn, ConstantsAsk}
+use Rattle.answers.specs.Arguments.{constantsFrom, constantsIn, ConstantsAsk}
+use Rattle.inferring.specs.Asks.{Referring, sortsIn, ReadAsks, ArgsAsks, args-refer, refer-first, sorts-first}
 use Rattle.inferring.specs.Single.{nthOf, lastFrom, RealHas}
 use Rattle.inferring.proofs.WalkLaws.{Walking, walk-end, walk-here, walk-on, walk-kind, walk-known}
 

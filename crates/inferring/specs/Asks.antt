@@ -1,9 +1,7 @@
--- What the functions over arguments ask: numbers of the store's sorts in a lent array, from byte 3 on, and the places of the
--- terms that a sheet names.
+-- What the functions over arguments ask: numbers of the store's sorts in a lent array, from byte 3 on.
 use Prim.Native.Nat.{ℕ, zero, suc, _+_, _*_, _-_, _≤_, _<_}
 use mathlib.Core.Path.{_≡_, refl, sym, ap, subst, _∙_}
-use mathlib.Core.List.{List, [], _∷_}
-use mathlib.Core.Option.{Option}
+use mathlib.Core.List.{List}
 use native.Mathlib.Omega.{arith}
 use lib.ListN.{length, getD}
 use Rattle.record.specs.Number.{u16At, numbersAt}
@@ -12,7 +10,6 @@ use Rattle.record.specs.Record.{sortsOf}
 use Rattle.record.specs.Decode.{storeOf, sortAt, Stored}
 use Rattle.record.specs.StoreLaws.{parts-more}
 use Rattle.store.specs.Good.{Good}
-use Rattle.answers.specs.Arguments.{ConstantAsks, integerAt}
 
 -- m numbers of the store of n sorts in b p stand in a from x on.
 pub record Referring (b p : List ℕ) (n : ℕ) (a : List ℕ) (x m : ℕ) : Type 0 where
@@ -54,18 +51,3 @@ module _ (b p : List ℕ) (n : ℕ) (a : List ℕ) (x m : ℕ) (h : Referring b 
   pub sorts-first : sortsIn b p n a x m ≡ sortAt b p n (u16At a x) then sortsIn b p n a (x + 2) (m - 1)
   unfolding sortAt
   sorts-first = parts-more (storeOf b p n) a x m some
-
----------------------------------------------------------------- the terms that a sheet names
--- The integer constants among the terms that the sheet names from x on, by the places where terms start.
-unfoldable pub constantsFrom : List ℕ → List ℕ → List ℕ → List (Option ℕ)
-constantsFrom sheet starts [] = []
-constantsFrom sheet starts (i ∷ is) = integerAt sheet (getD starts i 0) ∷ constantsFrom sheet starts is
-
-abbrev pub constantsIn : List ℕ → List ℕ → ℕ → ℕ → List (Option ℕ)
-constantsIn sheet starts x m = constantsFrom sheet starts (numbersAt sheet x m)
-
--- The sheet names m terms from x on, and the records of all lie in it.
-pub record ConstantsAsk (sheet starts : List ℕ) (x m : ℕ) : Type 0 where
-  pub within : x + 2 * m ≤ length sheet
-  pub term : (j : ℕ) → j < m → u16At sheet (x + 2 * j) < length starts
-  pub start : (j : ℕ) → j < m → ConstantAsks sheet (getD starts (u16At sheet (x + 2 * j)) 0)

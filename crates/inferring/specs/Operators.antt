@@ -6,7 +6,8 @@ use mathlib.Core.List.{List, []}
 use mathlib.Core.Option.{Option}
 use Rattle.inferred.specs.declared.Family.{Family}
 use Rattle.inferred.specs.declared.Family.the-variants.{Truth, Integer, Decimal, Text, Regular, Vector, OneBit, Bits, Constant, Concat, First, Second, Last, Sum, Element, RareList, Singleton, Tuple, UnitTuple, Transpose, Join, Product}
-use Rattle.inferring.specs.Asks.{ArgsAsks, ConstantsAsk}
+use Rattle.answers.specs.Arguments.{ConstantsAsk}
+use Rattle.inferring.specs.Asks.{ArgsAsks}
 
 -- All but one family, Constant, look at no constants.
 abbrev pub noConstants : List (Option ℕ)

@@ -11,7 +11,8 @@ use Rattle.inferred.specs.Inferred.{finalOf, firstOf, secondOf, matched, someRe
 use Rattle.store.specs.Good.{Good}
 use Rattle.answers.specs.declared.Answer.{Answer}
 use Rattle.answers.specs.Answer.{AnswerIs}
-use Rattle.inferring.specs.Asks.{Referring, sortsIn, ArgsAsks, ConstantsAsk}
+use Rattle.answers.specs.Arguments.{ConstantsAsk}
+use Rattle.inferring.specs.Asks.{Referring, sortsIn, ArgsAsks}
 
 -- At most 64 numbers lie in a from byte 3 on.
 pub record FewAsks (a : List ℕ) (m : ℕ) : Type 0 where

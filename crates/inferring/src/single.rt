@@ -15,7 +15,8 @@ use store::entries::kind_at;
 ghost use mathlib.Core.Path.{_≡_};
 ghost use Rattle.inferred.specs.Inferred.{constantWidth, someReal, sumOf, rareOf, singletonOf};
 ghost use Rattle.answers.specs.Answer.{AnswerIs};
-ghost use Rattle.inferring.specs.Asks.{ReadAsks, ArgsAsks, sortsIn, ConstantsAsk, constantsIn};
+ghost use Rattle.answers.specs.Arguments.{ConstantsAsk, constantsIn};
+ghost use Rattle.inferring.specs.Asks.{ReadAsks, ArgsAsks, sortsIn};
 ghost use Rattle.inferring.specs.Single.{FewAsks, ArgumentHas, LastHas, RealHas, ElementAsks, ElementHas, WrittenAsks};
 
 // The argument number i of n; Panics where there is none.

@@ -78,3 +78,9 @@ pub record Cleared (imgs bnd : List ℕ) : Type 0 where
   pub order : length bnd ≡ 4096
   pub images : Zeros imgs 0
   pub bound : Zeros bnd 0
+
+-- The tables of parameters and of the map, all zeros.
+pub record Blank (prm imgs bnd : List ℕ) : Type 0 where
+  pub table : length prm ≡ 65536
+  pub zeros : Zeros prm 0
+  pub cleared : Cleared imgs bnd

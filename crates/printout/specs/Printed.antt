@@ -3,7 +3,7 @@ use Prim.Native.Nat.{ℕ}
 use mathlib.Core.List.{List, [], _∷_, _++_}
 use Rattle.reader.specs.Reader.{refusalNumber}
 use Rattle.sheet.specs.Sheet.{Lengths, QuestionFields}
-use Rattle.verdicts.specs.Judged.{Judgement, refused, accepted}
+use Rattle.judged.specs.Judged.{Judgement, refused, accepted}
 use Rattle.printout.specs.Lines.{refusalLine, linesOf}
 
 -- The kinds of a sheet's questions (the latest first), in order.

@@ -1,7 +1,7 @@
 -- Whole sheets from their bytes to their printed bytes, by computation from the definitions.
 use mathlib.Core.Path.{_≡_, refl}
 use mathlib.Core.List.{[], _∷_}
-use Rattle.verdicts.specs.Judged.{judged}
+use Rattle.judged.specs.Judged.{judged}
 use Rattle.printout.specs.Text.{ascii}
 use Rattle.printout.specs.Printed.{printed, programLengths}
 

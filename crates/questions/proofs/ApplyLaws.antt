@@ -20,7 +20,7 @@ use Rattle.rows.specs.Verdict.{sort}
 use Rattle.answers.specs.declared.Answer.{Answer}
 use Rattle.answers.specs.AnswerLaws.{judged-as}
 use Rattle.instance.specs.Instance.{InstanceIs}
-use Rattle.verdicts.specs.Questions.{firstOf, restOf, imagesOf, applyAnswer}
+use Rattle.judged.specs.Questions.{firstOf, restOf, imagesOf, applyAnswer}
 use Rattle.questions.specs.Fill.{FillAsks, FilledIs, EmptyAsks, emptied, filled-images, emptied-back}
 use Rattle.questions.specs.Contract.{ApplyAsks, ApplyIs}
 use Rattle.questions.specs.Asked.{sortsBy, sorts-first, sorts-rest, mapped-known}

@@ -31,7 +31,7 @@ use Rattle.answers.specs.declared.Answer.{Answer}
 use Rattle.answers.specs.Answer.{refusing}
 use Rattle.answers.specs.AnswerLaws.{judged-as, answered-as, answer-refused}
 use Rattle.instance.specs.Instance.{InstanceIs}
-use Rattle.verdicts.specs.Questions.{firstOf, restOf, assigned, matchAnswer}
+use Rattle.judged.specs.Questions.{firstOf, restOf, assigned, matchAnswer}
 use Rattle.questions.specs.Contract.{ListedAsks, ListedIs, MatchAsks, MatchIs}
 use Rattle.questions.specs.Asked.{sortsBy, sorts-first, sorts-second, sorts-third}
 

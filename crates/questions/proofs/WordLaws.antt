@@ -19,7 +19,7 @@ use Rattle.substitution.specs.Compatible.{compatible}
 use Rattle.matching.specs.Contract.{PairAsks}
 use Rattle.rows.specs.Outcome.{Outcome, outcome}
 use Rattle.answers.specs.declared.Answer.{Answer}
-use Rattle.verdicts.specs.Questions.{firstOf, restOf, yesNo, matchAnswer, applyAnswer, answerOf}
+use Rattle.judged.specs.Questions.{firstOf, restOf, yesNo, matchAnswer, applyAnswer, answerOf}
 use Rattle.questions.specs.declared.Word.{Word}
 use Rattle.questions.specs.Contract.{questionOver, ApplyAsks, ApplyIs, MatchAsks, MatchIs, WordIs, QuestionAsks, QuestionIs}
 use Rattle.questions.specs.Asked.{sortsBy, sorts-first, sorts-second}

@@ -9,7 +9,7 @@ use lib.Seq.{take-suc-set, drop-set-lt, drop-drop}
 use Rattle.record.specs.Number.{u16At, numbersAt}
 use Rattle.record.specs.Codec.{length-numbersAt}
 use Rattle.record.specs.Sort.{Sort, Sorts}
-use Rattle.record.specs.Decode.{storeOf, Zeros}
+use Rattle.record.specs.Decode.{storeOf}
 use Rattle.record.specs.StoreLaws.{storeOf-length}
 use Rattle.record.specs.SortLists.{Starts, starts-self, starts-trans, starts-at, starts-count}
 use Rattle.reader.specs.Reader.{readQuestion}
@@ -22,26 +22,14 @@ use Rattle.sheet.specs.declared.SheetCounts.{SheetCounts}
 use Rattle.sheet.specs.Sheet.{Lengths, QuestionFields, questionFields}
 use Rattle.sheet.specs.Trees.{treesOf, trees-length, trees-same, mapped-sorts}
 use Rattle.sheet.specs.Contract.{eachAt, questionAt, questionsAt, QuestionStands, SheetStands}
-use Rattle.sheet.specs.Stands.{question-again, question-is}
+use Rattle.sheet.specs.Stands.{Numbered, question-again, question-is}
 use Rattle.store.specs.Good.{Good}
-use Rattle.matching.specs.Tables.{Cleared}
+use Rattle.matching.specs.Tables.{Blank}
 use Rattle.rows.specs.Outcome.{Outcome}
-use Rattle.verdicts.specs.Questions.{answerOf, Answered, answerAdded, answersOf}
+use Rattle.judged.specs.Questions.{answerOf, Answered, answerAdded, answersOf}
 use Rattle.questions.specs.declared.Word.{Word}
 use Rattle.questions.specs.declared.all.Counts.{Counts}
 use Rattle.questions.specs.Contract.{questionOver, QuestionAsks, QuestionIs}
-
--- The tables of names, all zeros.
-pub record Blank (prm imgs bnd : List ℕ) : Type 0 where
-  pub table : length prm ≡ 65536
-  pub zeros : Zeros prm 0
-  pub cleared : Cleared imgs bnd
-
--- The m sorts of the sheet have numbers of the store.
-pub record Numbered (n : ℕ) (s tbl : List ℕ) (m : ℕ) : Type 0 where
-  pub inside : m ≤ length tbl
-  pub known : (j : ℕ) → j < m → getD tbl j 0 < n
-  pub short : length s ≤ 65536
 
 pub record AtAsks (b p hs ns zs : List ℕ) (n u : ℕ) (prm imgs bnd s tbl : List ℕ) (m x : ℕ) : Type 0 where
   pub good : Good b p hs ns zs n u

@@ -12,7 +12,7 @@ use Rattle.record.specs.Record.{leaf, sortsOf}
 use Rattle.reader.specs.declared.QuestionRecord.{QuestionRecord}
 use Rattle.sheet.specs.Trees.{mapped}
 use Rattle.matching.specs.TableLaws.{numbers-more}
-use Rattle.verdicts.specs.Questions.{firstOf, restOf}
+use Rattle.judged.specs.Questions.{firstOf, restOf}
 use Rattle.questions.specs.Fill.{SortAsks}
 use Rattle.questions.specs.Contract.{Asked}
 

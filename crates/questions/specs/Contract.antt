@@ -17,7 +17,7 @@ use Rattle.matching.specs.Tables.{Lists, Cleared}
 use Rattle.rows.specs.Verdict.{codeOf}
 use Rattle.answers.specs.declared.Answer.{Answer}
 use Rattle.answers.specs.Answer.{AnswerIs}
-use Rattle.verdicts.specs.Questions.{firstOf, restOf, matchAnswer, applyAnswer, answerOf}
+use Rattle.judged.specs.Questions.{firstOf, restOf, matchAnswer, applyAnswer, answerOf}
 use Rattle.questions.specs.declared.Word.{Word}
 
 -- THE QUESTION over the store st: the sheet's sorts by their store numbers, tbl.

@@ -20,7 +20,7 @@ use Rattle.sheet.specs.Trees.{mapped}
 use Rattle.substitution.specs.Substitution.{find}
 use Rattle.matching.specs.TableLaws.{numbers-more, numbers-none}
 use Rattle.apply.specs.Images.{imageAt, Images}
-use Rattle.verdicts.specs.Questions.{imagesOf}
+use Rattle.judged.specs.Questions.{imagesOf}
 
 -- The table l with each name bound to the sort with its number, and with these names unbound; the last name first.
 unfoldable pub filled : List ℕ → List ℕ → List ℕ → List ℕ

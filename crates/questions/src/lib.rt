@@ -14,7 +14,7 @@ ghost use mathlib.Core.Path.{_≡_};
 ghost use Rattle.record.specs.Decode.{sortAt};
 ghost use Rattle.substitution.specs.Compatible.{compatible};
 ghost use Rattle.matching.specs.Contract.{PairAsks};
-ghost use Rattle.verdicts.specs.Questions.{yesNo};
+ghost use Rattle.judged.specs.Questions.{yesNo};
 ghost use Rattle.questions.specs.Contract.{CodeAsks, WordIs, QuestionAsks, QuestionIs};
 
 // The word of an answer as it is written, and the store's count and bytes in use after it.

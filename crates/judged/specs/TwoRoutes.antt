@@ -22,8 +22,8 @@ use Rattle.checked.specs.Routes.{replace, clearTerm}
 use Rattle.checked.specs.RankSound.{Sound, smtLib-sound}
 use Rattle.checked.specs.RouteLaws.{routes}
 use Rattle.checked.specs.RouteTheorems.{Allowed, routes-allowed}
-use Rattle.verdicts.specs.Judged.{accepted, judgedBy, judged}
-use Rattle.verdicts.specs.JudgedLaws.{judged-checked, judged-store}
+use Rattle.judged.specs.Judged.{accepted, judgedBy, judged}
+use Rattle.judged.specs.JudgedLaws.{judged-checked, judged-store}
 
 -- The checked row of a term, and the sort that it gives: its code is no refusal, and is the number of s.
 abbrev pub checkedRow : List ℕ → ℕ → ℕ

@@ -23,7 +23,7 @@ use Rattle.rows.specs.Verdict.{Verdict, sort, need, numberOf}
 use Rattle.rows.specs.Outcome.{Outcome, outcome}
 use Rattle.rows.specs.Meaning.{Means, limited}
 use Rattle.rows.specs.OutcomeLaws.{plain, Accepted, Passes, Overflows, any-accepted, outcome-refused, plain-limit, plain-full, Grown, grown-self, grown-trans, outcome-grown, outcome-means, means-stays}
-use Rattle.verdicts.specs.Questions.{firstOf, restOf, yesNo, assigned, matchAnswer, applyAnswer, answerOf, answersOf}
+use Rattle.judged.specs.Questions.{firstOf, restOf, yesNo, assigned, matchAnswer, applyAnswer, answerOf, answersOf}
 
 -- The verdict of a question 1 or 2.
 unfoldable pub answerVerdict : QuestionFields → Verdict

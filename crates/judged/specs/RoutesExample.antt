@@ -10,8 +10,8 @@ use Rattle.substitution.specs.Premises.{properMap}
 use Rattle.rows.specs.Term.{termAt}
 use Rattle.rows.specs.Meaning.{free}
 use Rattle.checked.specs.Routes.{replace, clearTerm}
-use Rattle.verdicts.specs.Judged.{accepted, judged}
-use Rattle.verdicts.specs.TwoRoutes.{Gives, two-routes}
+use Rattle.judged.specs.Judged.{accepted, judged}
+use Rattle.judged.specs.TwoRoutes.{Gives, two-routes}
 
 lent : Lengths
 lent = record { records = 64; places = 8; rows = 6; answers = 0 }

@@ -21,11 +21,11 @@ use Rattle.rows.specs.OutcomeLaws.{Grown, means-stays, grown-trans}
 use Rattle.inferred.specs.Inferred.{infer}
 use Rattle.checked.specs.Rank.{Rank}
 use Rattle.checked.specs.Checked.{check}
-use Rattle.verdicts.specs.Rows.{rowsOf}
-use Rattle.verdicts.specs.Questions.{answersOf}
-use Rattle.verdicts.specs.Judged.{accepted, judgedSheet, judgedBy}
-use Rattle.verdicts.specs.RowLaws.{judging, judging-infer, judging-check, rows-count, rows-grown, row-is}
-use Rattle.verdicts.specs.QuestionLaws.{Answers, questionAt, answers-grown, answers-count, answers-say}
+use Rattle.judged.specs.Rows.{rowsOf}
+use Rattle.judged.specs.Questions.{answersOf}
+use Rattle.judged.specs.Judged.{accepted, judgedSheet, judgedBy}
+use Rattle.judged.specs.RowLaws.{judging, judging-infer, judging-check, rows-count, rows-grown, row-is}
+use Rattle.judged.specs.QuestionLaws.{Answers, questionAt, answers-grown, answers-count, answers-say}
 
 -- What an accepted judgement tells: the sheet that was read, its rows, and the store after rows and questions.
 pub record Told (R : ℕ → List Rank) (s : List ℕ) (l : Lengths) (h : Sheet) (st : List Sort) (rows answers : List ℕ) : Type 0 where

@@ -10,8 +10,8 @@ use Rattle.sheet.specs.Sheet.{Lengths, Sheet, Reading, readSheet}
 use Rattle.sheet.specs.Sheet.Reading.{refused as unread, got}
 use Rattle.checked.specs.Rank.{Rank}
 use Rattle.checked.specs.Ranks.{smtLib}
-use Rattle.verdicts.specs.Rows.{Tabled, rowsOf}
-use Rattle.verdicts.specs.Questions.{Answered, answersOf}
+use Rattle.judged.specs.Rows.{Tabled, rowsOf}
+use Rattle.judged.specs.Questions.{Answered, answersOf}
 
 -- A refused sheet, or an accepted one with the store, the coded rows and the coded answers that it gets.
 pub data Judgement : Type 0 where

@@ -26,7 +26,7 @@ use Rattle.inferred.specs.Family.{familyOf}
 use Rattle.inferred.specs.Inferred.{firstVector, concatUnknown, concatFrom, firstOf, secondOf, finalOf, constantWidth, someReal, sumOf, elementOf, rareOf, columns, joinOf, productOf, overColumns, overBoth, transposeOf, relation, backwards, selected, singletonOf, operatedBy, substituted, plainApp, parametricApp, headApp, applied, chosen, lambda, bound, matched, extracted, resizedOf, resized, widthOf, indexed, inferred, hasWidth}
 use Rattle.checked.specs.Rank.{Rank, vector, firstFit, someCounts}
 use Rattle.checked.specs.Checked.{carried, value, values, parameters, listOf, settled, delivered, called, application, concatenation, nonempty, ranked, operated, onlyOf, boundBody, binder, innerOf, letting, indexed₁, indexed₂, indexedBy, indexedOn, indexing, constantArray, qualified, checked}
-use Rattle.verdicts.specs.Rows.{rowOf}
+use Rattle.judged.specs.Rows.{rowOf}
 
 -- A verdict by a test is as its two sides are.
 cond-plain : (b : Bool) (v w : Verdict) → plain v ≡ true → plain w ≡ true → plain (cond b v w) ≡ true

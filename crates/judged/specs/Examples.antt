@@ -11,8 +11,8 @@ use Rattle.rows.specs.Term.{Term, Terms, term, stop, _also_}
 use Rattle.inferred.specs.Inferred.{infer}
 use Rattle.checked.specs.Ranks.{smtLib}
 use Rattle.checked.specs.Checked.{check}
-use Rattle.verdicts.specs.Questions.{matchAnswer, applyAnswer}
-use Rattle.verdicts.specs.Judged.{judged, outcomeNumber}
+use Rattle.judged.specs.Questions.{matchAnswer, applyAnswer}
+use Rattle.judged.specs.Judged.{judged, outcomeNumber}
 
 ---------------------------------------------------------------- terms by their kinds
 abbrev integer : ℕ → Term

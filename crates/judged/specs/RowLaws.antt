@@ -25,7 +25,7 @@ use Rattle.rows.specs.TermLaws.{verdict-is}
 use Rattle.inferred.specs.Inferred.{inferred, infer}
 use Rattle.checked.specs.Rank.{Rank}
 use Rattle.checked.specs.Checked.{checked, check}
-use Rattle.verdicts.specs.Rows.{Tabled, rowOf, rowsOf}
+use Rattle.judged.specs.Rows.{Tabled, rowOf, rowsOf}
 
 -- The verdict that a column holds: 0 the inferred one, 1 the checked one.
 abbrev pub judging : (ℕ → List Rank) → ℕ → Site → Verdict

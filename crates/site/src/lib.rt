@@ -1,0 +1,1 @@
+// The parts of a term record, as both rows take them.

@@ -1,1 +1,0 @@
-// Rows, answers, and the judgement of a whole sheet.
