@@ -1,8 +1,8 @@
 -- The three ways through the parts of a record: an argument's row is refused, there are no index terms, or their rows decide.
 use Prim.Native.Nat.{ℕ, _+_, _*_, _≤_, _<_}
-use mathlib.Core.Path.{_≡_, refl, sym, ap, ap₂, _∙_}
+use mathlib.Core.Path.{_≡_, refl, ap, ap₂, _∙_}
 use mathlib.Core.Bool.{Bool, true, false, not, cond, true≢false, false≢true}
-use mathlib.Core.List.{List, []}
+use mathlib.Core.List.{List}
 use mathlib.Core.Option.{Option, none, some}
 use lib.Dec.{eqb}
 use borrow.Author.Tests.{ne-eqb}
@@ -14,11 +14,8 @@ use Rattle.rows.specs.declared.Cause.the-variants.{Below}
 use Rattle.rows.specs.Verdict.{Verdict, refused}
 use Rattle.rows.specs.Term.{Site, overParts, sortsAt}
 use Rattle.answers.specs.Arguments.{GatherIs, JudgedIs, argumentsOf, codesOf, gathered-known}
+use Rattle.site.specs.SiteLaws.{not-off}
 use Rattle.site.specs.Site.{ownOver, bindingsOver, constantsOver, indicesOver, siteOver, indexSorts, termVerdict, Standing, PartsAre}
-
-not-off : (t : Bool) → not t ≡ false → t ≡ true
-not-off true e = refl
-not-off false e = absurd (true≢false e)
 
 over-none : (J : Site → Verdict) (st : List Sort) (s tbl xs : List ℕ) (r : TermRecord) (o : Option Sorts)
     → overParts J (r .kind) (r .number) (ownOver st tbl r) (bindingsOver st tbl s r) (constantsOver s xs r) (indicesOver s xs r) o none ≡ refused Below
