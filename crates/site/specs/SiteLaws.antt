@@ -1,30 +1,38 @@
 -- What a term record that stands tells the functions on it: what gathering its parts asks, how the answer on its parts becomes
 -- its row, and what the arms of a dispatcher over the kinds need. A caller's Standing is `.standing` of its TermAsks.
 use Prim.Native.Nat.{ℕ, zero, suc, _+_, _*_, _-_, _≤_, _<_}
-use mathlib.Core.Path.{_≡_, refl, ap, ap₂, subst}
-use mathlib.Core.Bool.{Bool, true, false, not, true≢false, false≢true}
+use mathlib.Core.Path.{_≡_, refl, sym, ap, ap₂, subst, _∙_}
+use mathlib.Core.Bool.{Bool, true, false, not, cond, true≢false, false≢true}
 use mathlib.Core.List.{List, [], _∷_}
+use mathlib.Core.Option.{Option}
 use native.Mathlib.Omega.{arith}
 use lib.ListN.{length, getD}
-use Rattle.record.specs.Number.{u16At}
-use Rattle.record.specs.Sort.{Sort, _then_}
+use lib.Dec.{eqb}
+use borrow.Author.Tests.{eqb-true}
+use Rattle.record.specs.Number.{u16At, numbersAt}
+use Rattle.record.specs.Sort.{Sort, Sorts, _then_, bool}
 use Rattle.record.specs.Record.{bit, leaf, sortsOf}
 use Rattle.record.specs.Decode.{storeOf, sortAt}
+use Rattle.record.specs.Codec.{length-numbersAt}
 use Rattle.reader.specs.Tables.{termMaps, termMapOf, termNumbers, termNumberOf, termLeasts, termLeastOf, termMosts, termMostOf}
 use Rattle.reader.specs.Reader.{pairNamesAt, pairSortsAt}
 use Rattle.reader.specs.declared.TermRecord.{TermRecord}
-use Rattle.sheet.specs.Sheet.{bindingsOf}
+use Rattle.sheet.specs.Sheet.{Binding, TermFields, bindingsOf, termFields}
+use Rattle.sheet.specs.Contract.{termsAt}
+use Rattle.sheet.specs.Trees.{treesOf, trees-length, trees-at}
 use Rattle.store.specs.Good.{Good}
+use Rattle.store.specs.Walk.{number-at}
 use Rattle.rows.specs.declared.Cause.the-variants.{Below}
 use Rattle.rows.specs.Verdict.{Verdict}
 use Rattle.rows.specs.Lists.{bindingSorts}
-use Rattle.rows.specs.Term.{Site}
+use Rattle.rows.specs.Term.{Site, overParts, constantsAt, sortsAt, verdictAt}
+use Rattle.rows.specs.Outcome.{rowSort}
 use Rattle.answers.specs.declared.Answer.{Answer}
 use Rattle.answers.specs.Answer.{refusing}
 use Rattle.answers.specs.AnswerLaws.{judged-as, answered-as, answer-refused}
-use Rattle.answers.specs.Arguments.{looked, boundNumbers, bindingAt, ConstantsAsk}
-use Rattle.site.specs.Site.{ownOver, bindingsOver, Standing, TermAsks, TermIs, SiteAsks, SiteIs, PartsAsk, PartsAre}
-use Rattle.site.specs.Constants.{constant-asks}
+use Rattle.answers.specs.Arguments.{argumentsOf, looked, boundNumbers, bindingAt, constantsIn, ConstantsAsk}
+use Rattle.site.specs.Site.{ownOver, bindingsOver, termVerdict, Standing, TermAsks, TermIs, SiteAsks, SiteIs, PartsAsk, PartsAre}
+use Rattle.site.specs.Constants.{constant-asks, constants-by}
 
 -- A test that stood negated.
 pub not-on : (t : Bool) → not t ≡ true → t ≡ false
@@ -241,3 +249,79 @@ module _ {n : ℕ} {s tbl xs rows : List ℕ} {r : TermRecord} (h : Standing n s
 
   pub binder-one : r .kind ≡ 8 → r .count ≡ 1
   binder-one e = omega (arith, binder-least e, binder-most e)
+
+---------------------------------------------------------------- the verdict on the sheet's record
+-- Bindings over store numbers are those over the sheet's sorts.
+bindings-by : (st : List Sort) (tbl s : List ℕ) (m x n : ℕ) → ((j : ℕ) → j < n → u16At s (x + 4 * j + 2) < m)
+    → bindingsOf st (pairNamesAt s x n) (boundNumbers tbl s x n) ≡ bindingsOf (treesOf st tbl m) (pairNamesAt s x n) (pairSortsAt s x n)
+unfolding bindingsOf pairNamesAt pairSortsAt looked
+bindings-by st tbl s m x zero h = refl
+bindings-by st tbl s m x (suc n) h =
+    let e : x + 4 * 0 + 2 ≡ x + 2 = omega arith in
+    let l : u16At s (x + 2) < m = subst (λ (y : ℕ). u16At s y < m) e (h 0 (omega arith)) in
+    ap₂ (λ (t : Sort) (bs : List Binding). record { name = u16At s x; sort = t } ∷ bs) (sym (trees-at st tbl m (u16At s (x + 2)) l))
+    (bindings-by st tbl s m (x + 4) n
+    (λ j k.
+    let f : x + 4 * suc j + 2 ≡ x + 4 + 4 * j + 2 = omega arith in
+    subst (λ (y : ℕ). u16At s y < m) f (h (suc j) (omega arith))))
+
+-- A sort of the sheet in either form, where the test says that there is one.
+tree-by : (st : List Sort) (tbl : List ℕ) (m k : ℕ) (t : Bool) (e f : Sort) → (t ≡ true → k < m) → e ≡ f
+    → cond t (getD st (getD tbl k 0) leaf) e ≡ cond t (getD (treesOf st tbl m) k leaf) f
+tree-by st tbl m k true e f h d = sym (trees-at st tbl m k (h refl))
+tree-by st tbl m k false e f h d = d
+
+-- Lists that are there only where a test holds.
+indices-by : (s xs : List ℕ) (x n : ℕ) (rs : List TermFields) (t : Bool) → (t ≡ true → constantsIn s xs x n ≡ constantsAt rs (numbersAt s x n))
+    → cond t (constantsIn s xs x n) [] ≡ constantsAt rs (cond t (numbersAt s x n) [])
+unfolding constantsAt
+indices-by s xs x n rs true h = h refl
+indices-by s xs x n rs false h = refl
+
+numbers-by : (s : List ℕ) (x n : ℕ) (t : Bool) → numbersAt s x (cond t n 0) ≡ cond t (numbersAt s x n) []
+unfolding numbersAt
+numbers-by s x n true = refl
+numbers-by s x n false = refl
+
+over-same : (J : Site → Verdict) (k n : ℕ) (ts : Option Sorts) {o o′ : Sort} {bs bs′ : List Binding} {cs cs′ is is′ : List (Option ℕ)} {js js′ : Option Sorts}
+    → o ≡ o′ → bs ≡ bs′ → cs ≡ cs′ → is ≡ is′ → js ≡ js′ → overParts J k n o bs cs is ts js ≡ overParts J k n o′ bs′ cs′ is′ ts js′
+over-same J k n ts {o} {o′} {bs} {bs′} {cs} {cs′} {is} {is′} {js} {js′} eo eb ec ei ej =
+    ap₂ (λ (v : Sort) (w : List Binding). overParts J k n v w cs is ts js) eo eb
+    ∙ ap₂ (λ (v w : List (Option ℕ)). overParts J k n o′ bs′ v w ts js) ec ei
+    ∙ ap (λ (v : Option Sorts). overParts J k n o′ bs′ cs′ is′ ts v) ej
+
+module _ {n : ℕ} {s tbl xs rows : List ℕ} {r : TermRecord} (h : Standing n s tbl xs rows r) (st : List Sort) where
+  abbrev trees : List Sort
+  trees = treesOf st tbl (h .sorts)
+
+  abbrev records : List TermFields
+  records = termsAt s trees xs (h .term)
+
+  -- The terms that it names from x on are before it, so their constants by their places are those of their records.
+  constants-at : (x m : ℕ) → ((j : ℕ) → j < m → u16At s (x + 2 * j) < h .term) → constantsIn s xs x m ≡ constantsAt records (numbersAt s x m)
+  constants-at x m l =
+      constants-by s (h .sorts) xs (h .term) (h .before) trees (trees-length st tbl (h .sorts)) (numbersAt s x m)
+      (λ j k. let o : j < m = omega (arith, length-numbersAt s x m) in omega (arith, number-at s x m j o, l j o))
+
+  own-there : (k : ℕ) → bit 8 (termMapOf k) ≡ true → eqb (r .kind) k ≡ true → r .sort < h .sorts
+  own-there k b e = h .was .sort (ap (λ (j : ℕ). bit 8 (termMapOf j)) (eqb-true (r .kind) k e) ∙ b)
+
+  own-by : ownOver st tbl r ≡ cond (eqb (r .kind) 5) (getD trees (r .sort) leaf) (cond (eqb (r .kind) 12) (getD trees (r .sort) leaf) bool)
+  unfolding bit termMapOf termMaps
+  own-by =
+      tree-by st tbl (h .sorts) (r .sort) (eqb (r .kind) 5) (cond (eqb (r .kind) 12) (getD st (getD tbl (r .sort) 0) leaf) bool)
+      (cond (eqb (r .kind) 12) (getD trees (r .sort) leaf) bool) (own-there 5 refl)
+      (tree-by st tbl (h .sorts) (r .sort) (eqb (r .kind) 12) bool bool (own-there 12 refl) refl)
+
+  -- THE VERDICT ON THE RECORD over the store is the definition's on the sheet's record, behind the records before it.
+  pub verdict-at : (J : Site → Verdict) (column : ℕ)
+      → termVerdict J st s tbl xs rows column r
+      ≡ verdictAt J (λ i. rowSort st rows column i) (termsAt s (treesOf st tbl (h .sorts)) xs (h .term)) (termFields s (treesOf st tbl (h .sorts)) r)
+  unfolding termVerdict verdictAt termFields
+  verdict-at J column =
+      over-same J (r .kind) (r .number) (argumentsOf st s (r .list) (r .count) rows column) own-by
+      (bindings-by st tbl s (h .sorts) (r .pairs) (r .paired) (h .was .bindings))
+      (constants-at (r .list) (r .count) (h .was .references))
+      (indices-by s xs (r .second) (r .seconds) records (eqb (r .kind) 11)
+      (λ e. let k = eqb-true (r .kind) 11 e in constants-at (r .second) (r .seconds) (h .was .indices (λ d. absurd (omega arith)))))
+      (ap (sortsAt (λ i. rowSort st rows column i)) (numbers-by s (r .second) (r .seconds) (eqb (r .kind) 11)))
