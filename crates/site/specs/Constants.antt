@@ -76,6 +76,7 @@ module _ (s : List ℕ) (sorts t x : ℕ) (r : TermRecord) (c : Cursor) (integer
       let ew : w ≡ r .number = ap (λ (j : TermRecord). j .number) er in
       number-first m k a w c2 c3 c4 head mk ek ew (name-was s m (c2 .at) p3) (number-was s m (termNumberOf k) (c3 .at) p4 .0)))))))
 
+  -- Every record of kind 0 that was read is such a one.
   pub integer-was : readTerm s sorts t x ≡ Term r c → IntegerWas s x r
   unfolding readTerm
   integer-was h =

@@ -34,11 +34,12 @@ use Rattle.answers.specs.Arguments.{argumentsOf, looked, boundNumbers, bindingA
 use Rattle.site.specs.Site.{ownOver, bindingsOver, termVerdict, Standing, TermAsks, TermIs, SiteAsks, SiteIs, PartsAsk, PartsAre}
 use Rattle.site.specs.Constants.{constant-asks, constants-by}
 
--- A test that stood negated.
+-- A test whose negation held failed.
 pub not-on : (t : Bool) → not t ≡ true → t ≡ false
 not-on true e = absurd (false≢true e)
 not-on false e = refl
 
+-- A test whose negation failed held.
 pub not-off : (t : Bool) → not t ≡ false → t ≡ true
 not-off true e = refl
 not-off false e = absurd (true≢false e)
@@ -74,15 +75,16 @@ below-row {J} {b = b} {p = p} {hs = hs} {ns = ns} {zs = zs} {n = n} {u = u} {tbl
     }
 
 ---------------------------------------------------------------- bindings, whatever the record
--- The sorts of the bindings are those of their store numbers.
-pub binding-sorts : (st : List Sort) (tbl s : List ℕ) (x n : ℕ)
+-- The sorts of n pairs from x on are those of their store numbers.
+pair-sorts : (st : List Sort) (tbl s : List ℕ) (x n : ℕ)
     → bindingSorts (bindingsOf st (pairNamesAt s x n) (boundNumbers tbl s x n)) ≡ sortsOf st (boundNumbers tbl s x n)
 unfolding bindingSorts bindingsOf pairNamesAt pairSortsAt sortsOf looked
-binding-sorts st tbl s x zero = refl
-binding-sorts st tbl s x (suc n) = ap (λ ss. getD st (getD tbl (u16At s (x + 2)) 0) leaf then ss) (binding-sorts st tbl s (x + 4) n)
+pair-sorts st tbl s x zero = refl
+pair-sorts st tbl s x (suc n) = ap (λ ss. getD st (getD tbl (u16At s (x + 2)) 0) leaf then ss) (pair-sorts st tbl s (x + 4) n)
 
+-- The sorts of the bindings are those of their store numbers.
 pub bindings-sorts : (st : List Sort) (tbl s : List ℕ) (r : TermRecord) → bindingSorts (bindingsOver st tbl s r) ≡ sortsOf st (boundNumbers tbl s (r .pairs) (r .paired))
-bindings-sorts st tbl s r = binding-sorts st tbl s (r .pairs) (r .paired)
+bindings-sorts st tbl s r = pair-sorts st tbl s (r .pairs) (r .paired)
 
 -- Without pairs there is no binding.
 pub bindings-none : (st : List Sort) (tbl s : List ℕ) (r : TermRecord) → r .paired ≡ 0 → bindingsOver st tbl s r ≡ []
@@ -135,10 +137,11 @@ module _ {n : ℕ} {s tbl xs rows : List ℕ} {r : TermRecord} (h : Standing n s
             record { within = h .was .second; side = side; row = λ j l. omega (arith, h .was .indices (λ d. absurd (omega arith)) j l, h .lent) };
       }
 
-  -- The own sort of a Var (5) and of an AsOp (12).
+  -- A sort number of a record that has one.
   sort-listed : bit 8 (termMapOf (r .kind)) ≡ true → (r .sort < length tbl) × (getD tbl (r .sort) 0 < n)
   sort-listed e = let l = h .was .sort e in (omega (arith, h .numbered .inside), h .numbered .known (r .sort) l)
 
+  -- The own sort of a Var (5).
   pub var-own : (b p : List ℕ) → r .kind ≡ 5 → OwnIs b p n tbl r
   unfolding bit termMapOf termMaps sortAt
   var-own b p e =
@@ -148,6 +151,7 @@ module _ {n : ℕ} {s tbl xs rows : List ℕ} {r : TermRecord} (h : Standing n s
       own-at : r .kind ≡ 5 → ownOver (storeOf b p n) tbl r ≡ getD (storeOf b p n) (getD tbl (r .sort) 0) leaf
       own-at d = rw d refl
 
+  -- The own sort of an AsOp (12).
   pub as-own : (b p : List ℕ) → r .kind ≡ 12 → OwnIs b p n tbl r
   unfolding bit termMapOf termMaps sortAt
   as-own b p e =
@@ -167,7 +171,7 @@ module _ {n : ℕ} {s tbl xs rows : List ℕ} {r : TermRecord} (h : Standing n s
         below = λ j l. h .numbered .known (u16At s (r .pairs + 4 * j + 2)) (h .was .bindings j l);
       }
 
-  -- The terms of its list, and the index terms of a ParamOp, can be asked for their constants.
+  -- The terms of its list can be asked for their constants.
   pub list-constants : ConstantsAsk s xs (r .list) (r .count)
   list-constants =
       record {
@@ -176,6 +180,7 @@ module _ {n : ℕ} {s tbl xs rows : List ℕ} {r : TermRecord} (h : Standing n s
         start = λ j l. let i = u16At s (r .list + 2 * j) in constant-asks s (h .sorts) i (getD xs i 0) (h .before i (h .was .references j l));
       }
 
+  -- The index terms of a ParamOp (11) can be asked for their constants.
   pub index-constants : r .kind ≡ 11 → ConstantsAsk s xs (r .second) (r .seconds)
   index-constants e =
       let other : (j : ℕ) → j < r .seconds → u16At s (r .second + 2 * j) < h .term = h .was .indices (λ d. absurd (omega arith)) in
@@ -185,13 +190,15 @@ module _ {n : ℕ} {s tbl xs rows : List ℕ} {r : TermRecord} (h : Standing n s
         start = λ j l. let i = u16At s (r .second + 2 * j) in constant-asks s (h .sorts) i (getD xs i 0) (h .before i (other j l));
       }
 
-  -- The lengths of the two lists, in every kind; a kind below 13.
+  -- At most 64 terms in its list.
   pub count-few : r .count ≤ 64
   count-few = h .was .few
 
+  -- At most 64 in its second list.
   pub seconds-few : r .seconds ≤ 64
   seconds-few = h .was .seconds
 
+  -- A known kind.
   pub kind-known : r .kind < 13
   kind-known = h .was .known
 
@@ -205,36 +212,42 @@ module _ {n : ℕ} {s tbl xs rows : List ℕ} {r : TermRecord} (h : Standing n s
   count-most : (k : ℕ) → r .kind ≡ k → r .count ≤ termMostOf k
   count-most k e = subst (λ (j : ℕ). r .count ≤ termMostOf j) e (h .was .most)
 
-  -- The width of a bit-vector constant (4); the numbers of an Op (7), a Binder (8), a ParamOp (11) and an AsOp (12).
+  -- The width of a bit-vector constant (4).
   pub width-number : r .kind ≡ 4 → r .number ≤ 65535
   unfolding termNumberOf termNumbers
   width-number e = number-most 4 e
 
+  -- The operator of an Op (7).
   pub op-number : r .kind ≡ 7 → r .number ≤ 134
   unfolding termNumberOf termNumbers
   op-number e = number-most 7 e
 
+  -- Which binder a Binder (8) is.
   pub binder-number : r .kind ≡ 8 → r .number ≤ 3
   unfolding termNumberOf termNumbers
   binder-number e = number-most 8 e
 
+  -- The operator of a ParamOp (11).
   pub index-number : r .kind ≡ 11 → r .number ≤ 11
   unfolding termNumberOf termNumbers
   index-number e = number-most 11 e
 
+  -- The operator of an AsOp (12).
   pub as-number : r .kind ≡ 12 → r .number ≤ 2
   unfolding termNumberOf termNumbers
   as-number e = number-most 12 e
 
-  -- An App (6) has its head, a Let (9) its inner term, a Match (10) its subject; a Binder (8) has just its body.
+  -- An App (6) has its head.
   pub app-some : r .kind ≡ 6 → 1 ≤ r .count
   unfolding termLeastOf termLeasts
   app-some e = count-least 6 e
 
+  -- A Let (9) has its inner term.
   pub let-some : r .kind ≡ 9 → 1 ≤ r .count
   unfolding termLeastOf termLeasts
   let-some e = count-least 9 e
 
+  -- A Match (10) has its subject.
   pub match-some : r .kind ≡ 10 → 1 ≤ r .count
   unfolding termLeastOf termLeasts
   match-some e = count-least 10 e
@@ -247,6 +260,7 @@ module _ {n : ℕ} {s tbl xs rows : List ℕ} {r : TermRecord} (h : Standing n s
   unfolding termMostOf termMosts
   binder-most e = count-most 8 e
 
+  -- A Binder (8) has just its body.
   pub binder-one : r .kind ≡ 8 → r .count ≡ 1
   binder-one e = omega (arith, binder-least e, binder-most e)
 
