@@ -10,6 +10,8 @@ pub mod TreeLaws
 pub mod LineAsks
 pub mod LineLaws
 pub mod TextLaws
+pub mod Whole
+pub mod WholeLaws
 pub mod Printed
 pub mod Sheets
 pub mod Examples

@@ -3,6 +3,7 @@
 pub mod lines;
 pub mod pieces;
 pub mod text;
+pub mod whole;
 
 // The place behind what was written; or it did not fit, and the buffer is as it was.
 pub enum Shown {
