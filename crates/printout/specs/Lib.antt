@@ -13,5 +13,7 @@ pub mod TextLaws
 pub mod Whole
 pub mod WholeLaws
 pub mod Printed
+pub mod Kinds
+pub mod KindLaws
 pub mod Sheets
 pub mod Examples

@@ -1,6 +1,6 @@
 -- The printout line by line: each line is a term's or a question's, and a piece goes on by one line at a time.
 use Prim.Native.Nat.{ℕ, zero, suc, _+_, _*_, _-_, _≤_, _<_}
-use mathlib.Core.Path.{_≡_, refl, sym, ap, subst, _∙_}
+use mathlib.Core.Path.{_≡_, refl, sym, ap, ap₂, subst, _∙_}
 use mathlib.Core.Bool.{Bool, true, false}
 use mathlib.Core.List.{List, [], _∷_, _++_, append-assoc}
 use native.Mathlib.Omega.{arith}
@@ -12,7 +12,7 @@ use Rattle.record.specs.Sort.{Sort}
 use Rattle.printout.specs.declared.Shown.{Shown}
 use Rattle.printout.specs.declared.Shown.the-variants.{To, Full}
 use Rattle.printout.specs.declared.whole.Piece.{Piece}
-use Rattle.printout.specs.Lines.{termLine, questionLine}
+use Rattle.printout.specs.Lines.{termLine, questionLine, termLines, questionLines, linesOf}
 use Rattle.printout.specs.Wrote.{Wrote, ShownIs, wrote-none, wrote-as, wrote-more, wrote-long}
 use Rattle.printout.specs.TreeLaws.{text-asks}
 use Rattle.printout.specs.LineAsks.{RowAsks, AnswerAsks, Known, TermAsks, QuestionAsks, TermHas, QuestionHas}
@@ -134,3 +134,84 @@ module _ (b p rows kinds answers : List ℕ) (t q from : ℕ) (a : PieceAsks b p
           text = subst (λ (x : List ℕ). Wrote o 0 (linesFrom (λ i. lineAt (storeOf b p n) rows kinds answers t i) from (k - from)) x to) (sym (w n j .0)) (s .text n j);
           full = λ h. omega (arith, w n j .1, s .long);
         }
+
+---------------------------------------------------------------- the whole
+-- The first of some lines, and those behind them.
+lines-split : (f : ℕ → List ℕ) (k m i : ℕ) → linesFrom f k (m + i) ≡ linesFrom f k m ++ linesFrom f (k + m) i
+unfolding linesFrom
+lines-split f k zero i =
+    let e : k ≡ k + 0 = omega arith in
+    let d : 0 + i ≡ i = omega arith in
+    ap (linesFrom f k) d ∙ ap (λ (j : ℕ). linesFrom f j i) e
+lines-split f k (suc m) i =
+    let e : suc k + m ≡ k + suc m = omega arith in
+    let d : suc m + i ≡ suc (m + i) = omega arith in
+    ap (linesFrom f k) d
+    ∙ ap (λ (l : List ℕ). f k ++ l) (lines-split f (suc k) m i ∙ ap (λ (j : ℕ). linesFrom f (suc k) m ++ linesFrom f j i) e)
+    ∙ sym (append-assoc (f k) (linesFrom f (suc k) m) (linesFrom f (k + suc m) i))
+
+lines-same : (f g : ℕ → List ℕ) (k m : ℕ) → ((j : ℕ) → k ≤ j → j < k + m → f j ≡ g j) → linesFrom f k m ≡ linesFrom g k m
+unfolding linesFrom
+lines-same f g k zero h = refl
+lines-same f g k (suc m) h = ap₂ _++_ (h k (omega arith) (omega arith)) (lines-same f g (suc k) m (λ j x y. h j (omega arith) (omega arith)))
+
+-- The lines of terms and of questions, by number.
+terms-by : (st : List Sort) (all : List ℕ) (k m : ℕ) (rows : List ℕ) → length rows ≡ 2 * m → ((i : ℕ) → i < 2 * m → getD rows i 0 ≡ getD all (2 * k + i) 0)
+    → termLines st k rows ≡ linesFrom (λ j. termLine st j (getD all (2 * j) 0) (getD all (2 * j + 1) 0)) k m
+unfolding termLines linesFrom
+terms-by st all k zero [] e h = refl
+terms-by st all k zero (x ∷ rows) e h = absurd (omega arith)
+terms-by st all k (suc m) [] e h = absurd (omega arith)
+terms-by st all k (suc m) (x ∷ []) e h = absurd (omega arith)
+terms-by st all k (suc m) (x ∷ (y ∷ rows)) e h =
+    let a : 2 * k + 0 ≡ 2 * k = omega arith in
+    ap₂ _++_
+    (ap₂ (λ (i j : ℕ). termLine st k i j) (h 0 (omega arith) ∙ ap (λ (i : ℕ). getD all i 0) a) (h 1 (omega arith)))
+    (terms-by st all (suc k) m rows (omega arith)
+    (λ i l. let b : 2 * k + suc (suc i) ≡ 2 * suc k + i = omega arith in h (suc (suc i)) (omega arith) ∙ ap (λ (j : ℕ). getD all j 0) b))
+
+questions-by : (st : List Sort) (ks as′ : List ℕ) (q m : ℕ) (kinds answers : List ℕ) → length kinds ≡ m → length answers ≡ m
+    → ((i : ℕ) → i < m → getD kinds i 0 ≡ getD ks (q + i) 0) → ((i : ℕ) → i < m → getD answers i 0 ≡ getD as′ (q + i) 0)
+    → questionLines st q kinds answers ≡ linesFrom (λ j. questionLine st j (getD ks j 0) (getD as′ j 0)) q m
+unfolding questionLines linesFrom
+questions-by st ks as′ q zero [] [] e f h g = refl
+questions-by st ks as′ q zero [] (y ∷ answers) e f h g = refl
+questions-by st ks as′ q zero (x ∷ kinds) answers e f h g = absurd (omega arith)
+questions-by st ks as′ q (suc m) [] answers e f h g = absurd (omega arith)
+questions-by st ks as′ q (suc m) (x ∷ kinds) [] e f h g = absurd (omega arith)
+questions-by st ks as′ q (suc m) (x ∷ kinds) (y ∷ answers) e f h g =
+    let a : q + 0 ≡ q = omega arith in
+    ap₂ _++_
+    (ap₂ (λ (i j : ℕ). questionLine st q i j) (h 0 (omega arith) ∙ ap (λ (i : ℕ). getD ks i 0) a) (g 0 (omega arith) ∙ ap (λ (i : ℕ). getD as′ i 0) a))
+    (questions-by st ks as′ (suc q) m kinds answers (omega arith) (omega arith)
+    (λ i l. let b : q + suc i ≡ suc q + i = omega arith in h (suc i) (omega arith) ∙ ap (λ (j : ℕ). getD ks j 0) b)
+    (λ i l. let b : q + suc i ≡ suc q + i = omega arith in g (suc i) (omega arith) ∙ ap (λ (j : ℕ). getD as′ j 0) b))
+
+lines-shift : (f g : ℕ → List ℕ) (k m d : ℕ) → ((j : ℕ) → k ≤ j → j < k + m → f (d + j) ≡ g j) → linesFrom f (d + k) m ≡ linesFrom g k m
+unfolding linesFrom
+lines-shift f g k zero d h = refl
+lines-shift f g k (suc m) d h =
+    let e : suc (d + k) ≡ d + suc k = omega arith in
+    ap₂ _++_ (h k (omega arith) (omega arith)) (ap (λ (j : ℕ). linesFrom f j m) e ∙ lines-shift f g (suc k) m d (λ j x y. h j (omega arith) (omega arith)))
+
+-- ALL LINES IN ORDER ARE THE PRINTOUT of the rows, kinds and answers that stand first in the buffers.
+pub lines-whole : (st : List Sort) (rows kinds answers w d g : List ℕ) (t q : ℕ) → length rows ≡ 2 * t → length kinds ≡ q → length answers ≡ q
+    → ((i : ℕ) → i < 2 * t → getD rows i 0 ≡ getD w i 0) → ((i : ℕ) → i < q → getD kinds i 0 ≡ getD d i 0) → ((i : ℕ) → i < q → getD answers i 0 ≡ getD g i 0)
+    → linesOf st rows kinds answers ≡ linesFrom (λ k. lineAt st w d g t k) 0 (t + q)
+unfolding linesOf
+lines-whole st rows kinds answers w d g t q er ek ea hr hk ha =
+    let f : ℕ → List ℕ = λ k. lineAt st w d g t k in
+    let u : t + 0 ≡ 0 + t = omega arith in
+    ap₂ _++_
+    (terms-by st w 0 t rows er (λ i l. let b : i ≡ 2 * 0 + i = omega arith in hr i l ∙ ap (λ (j : ℕ). getD w j 0) b)
+    ∙ lines-same (λ j. termLine st j (getD w (2 * j) 0) (getD w (2 * j + 1) 0)) f 0 t (λ j x y. sym (line-term st w d g t j (omega arith))))
+    (questions-by st d g 0 q kinds answers ek ea (λ i l. let b : i ≡ 0 + i = omega arith in hk i l ∙ ap (λ (j : ℕ). getD d j 0) b)
+    (λ i l. let b : i ≡ 0 + i = omega arith in ha i l ∙ ap (λ (j : ℕ). getD g j 0) b)
+    ∙ sym
+    (lines-shift f (λ j. questionLine st j (getD d j 0) (getD g j 0)) 0 q t
+    (λ j x y.
+    let v : t + j - t ≡ j = omega arith in
+    line-question st w d g t (t + j) (omega arith)
+    ∙ ap (λ (i : ℕ). questionLine st i (getD d i 0) (getD g i 0)) v))
+    ∙ ap (λ (i : ℕ). linesFrom f i q) u)
+    ∙ sym (lines-split f 0 t q)
