@@ -10,6 +10,10 @@ pub mod TreeLaws
 pub mod LineAsks
 pub mod LineLaws
 pub mod TextLaws
+pub mod Whole
+pub mod WholeLaws
 pub mod Printed
+pub mod Kinds
+pub mod KindLaws
 pub mod Sheets
 pub mod Examples

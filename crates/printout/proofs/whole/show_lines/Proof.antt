@@ -1,0 +1,176 @@
+-- The loop keeps: the lines up to k are written. It ends where none is left or the next one does not fit.
+-- One line more is the piece with that line behind it.
+use native.Mathlib.Omega.{arith}
+use borrow.Author.Needs.{needs}
+use Prim.Native.Nat.{_+_, _-_, _≤_}
+use mathlib.Core.Path.{_≡_, refl, subst, _∙_}
+use lib.ListN.{length, getD}
+use Rattle.printout.specs.declared.Shown.{Shown}
+use Rattle.printout.specs.declared.Shown.the-variants.{To, Full}
+use Rattle.printout.specs.Whole.{LineHas}
+use Rattle.printout.specs.WholeLaws.{Showing, showing-start, showing-asks, showing-step, showing-end, showing-full}
+use Rattle.printout.proofs.whole.show_lines.Statement.{statement}
+use Rattle.printout.proofs.whole.show_lines.Tie as tie
+
+abbrev Inv-loop : tie.InvT-loop
+Inv-loop records places rows kinds answers terms questions from out₀ total k₀ to₀ out k to = (total ≡ terms + questions) × Showing records places rows kinds answers terms questions from out₀ out k to
+
+abbrev μ-loop : tie.MeasureT-loop
+μ-loop records places rows kinds answers terms questions from out₀ total k₀ to₀ out k to = total - k
+
+add-total : tie.Need-add-total Inv-loop μ-loop
+add-total c =
+    let s = c .before .before .before .before .before .before in
+    let a = s .args in
+    let b = a .records .now in
+    let p = a .places .now in
+    let w = a .rows .now in
+    let d = a .kinds .now in
+    let g = a .answers .now in
+    let t = a .terms in
+    let q = a .questions in
+    let o = a .out .now in
+    omega (arith, s .pre .judged .few, s .pre .judged .fewer)
+
+loop-holds : tie.Need-loop-holds Inv-loop μ-loop
+loop-holds c =
+    let s = c .before .before .before .before .before .before in
+    let a = s .args in
+    let b = a .records .now in
+    let p = a .places .now in
+    let w = a .rows .now in
+    let d = a .kinds .now in
+    let g = a .answers .now in
+    let t = a .terms in
+    let q = a .questions in
+    let o = a .out .now in
+    (refl, showing-start b p w d g t q (a .from) (s .pre) o)
+
+line-requires : tie.Need-line-requires Inv-loop μ-loop
+line-requires c κs =
+    let s = c .before .before .before .before .before .before .before .before .before in
+    let a = s .args in
+    let b = a .records .now in
+    let p = a .places .now in
+    let w = a .rows .now in
+    let d = a .kinds .now in
+    let g = a .answers .now in
+    let t = a .terms in
+    let q = a .questions in
+    let o = a .out .now in
+    let l = c .before .before .loop in
+    showing-asks b p w d g t q (a .from) (s .pre) o (l .out) (l .k) (l .to) (l .inv .1) (omega (arith, c .before .loop-test .taken, l .inv .0))
+
+enum-known-shown : tie.Need-enum-known-shown Inv-loop μ-loop
+enum-known-shown c = search needs
+
+add-k : tie.Need-add-k Inv-loop μ-loop
+add-k c =
+    let s = c .before .before .before .before .before .before .before .before .before .before .before .before .before .before .before in
+    let a = s .args in
+    let b = a .records .now in
+    let p = a .places .now in
+    let w = a .rows .now in
+    let d = a .kinds .now in
+    let g = a .answers .now in
+    let t = a .terms in
+    let q = a .questions in
+    let o = a .out .now in
+    omega (arith, c .before .before .before .before .before .before .before .loop-test .taken, s .pre .judged .few, s .pre .judged .fewer)
+
+loop-less : tie.Need-loop-less Inv-loop μ-loop
+loop-less c =
+    let s = c .before .before .before .before .before .before .before .before .before .before .before .before .before .before .before in
+    let a = s .args in
+    let b = a .records .now in
+    let p = a .places .now in
+    let w = a .rows .now in
+    let d = a .kinds .now in
+    let g = a .answers .now in
+    let t = a .terms in
+    let q = a .questions in
+    let o = a .out .now in
+    omega (arith, c .before .before .before .before .before .before .before .loop-test .taken)
+
+loop-again : tie.Need-loop-again Inv-loop μ-loop
+loop-again c =
+    let s = c .before .before .before .before .before .before .before .before .before .before .before .before .before .before .before in
+    let a = s .args in
+    let b = a .records .now in
+    let p = a .places .now in
+    let w = a .rows .now in
+    let d = a .kinds .now in
+    let g = a .answers .now in
+    let t = a .terms in
+    let q = a .questions in
+    let o = a .out .now in
+    let l = c .before .before .before .before .before .before .before .before .loop in
+    let h = subst (λ (x : Shown). LineHas b p w d g t q (l .k) (l .out) (l .to) (c .before .before .before .before .before .line .last .1 .1 .1 .1 .1 .1 .1 .1 .0) x) (c .before .shown .given .1) (c .before .before .before .before .before .line .ensures) in
+    (l .inv .0, showing-step b p w d g t q (a .from) (s .pre) o (l .out) (l .k) (l .to) (l .inv .1) (c .before .before .before .before .before .line .last .1 .1 .1 .1 .1 .1 .1 .1 .0) (c .before .shown .given .0 .0) (omega (arith, c .before .before .before .before .before .before .before .loop-test .taken, l .inv .0)) h)
+
+enum-told : tie.Need-enum-told Inv-loop μ-loop
+enum-told c = search needs
+
+same-length : tie.Need-same-length Inv-loop μ-loop
+same-length c =
+    let s = c .before .before .before .before .before .before .before .before .before .before .before .before .before .before in
+    let a = s .args in
+    let b = a .records .now in
+    let p = a .places .now in
+    let w = a .rows .now in
+    let d = a .kinds .now in
+    let g = a .answers .now in
+    let t = a .terms in
+    let q = a .questions in
+    let o = a .out .now in
+    let l = c .before .before .before .before .before .before .before .loop in
+    c .before .before .before .before .line .kept .1 .1 .1 .1 .1 .1 .1 .1 .0 ∙ l .inv .1 .long
+
+returns : tie.Need-returns Inv-loop μ-loop
+returns c =
+    let s = c .before .before .before .before .before .before .before .before .before .before .before .before .before .before in
+    let a = s .args in
+    let b = a .records .now in
+    let p = a .places .now in
+    let w = a .rows .now in
+    let d = a .kinds .now in
+    let g = a .answers .now in
+    let t = a .terms in
+    let q = a .questions in
+    let o = a .out .now in
+    let l = c .before .before .before .before .before .before .before .loop in
+    let h = subst (λ (x : Shown). LineHas b p w d g t q (l .k) (l .out) (l .to) (c .before .before .before .before .line .last .1 .1 .1 .1 .1 .1 .1 .1 .0) x) (c .enum-told .given .1) (c .before .before .before .before .line .ensures) in
+    showing-full b p w d g t q (a .from) (s .pre) o (l .out) (l .k) (l .to) (l .inv .1) (c .before .before .before .before .line .last .1 .1 .1 .1 .1 .1 .1 .1 .0) h
+
+same-length-2 : tie.Need-same-length-2 Inv-loop μ-loop
+same-length-2 c =
+    let s = c .before .before .before .before .before .before .before .before in
+    let a = s .args in
+    let b = a .records .now in
+    let p = a .places .now in
+    let w = a .rows .now in
+    let d = a .kinds .now in
+    let g = a .answers .now in
+    let t = a .terms in
+    let q = a .questions in
+    let o = a .out .now in
+    let l = c .before .loop in
+    l .inv .1 .long
+
+returns-2 : tie.Need-returns-2 Inv-loop μ-loop
+returns-2 c =
+    let s = c .before .before .before .before .before .before .before .before in
+    let a = s .args in
+    let b = a .records .now in
+    let p = a .places .now in
+    let w = a .rows .now in
+    let d = a .kinds .now in
+    let g = a .answers .now in
+    let t = a .terms in
+    let q = a .questions in
+    let o = a .out .now in
+    let l = c .before .loop in
+    showing-end b p w d g t q (a .from) (s .pre) o (l .out) (l .k) (l .to) (l .inv .1) (omega (arith, c .loop-test .left, l .inv .0, l .inv .1 .last))
+
+pub show-lines-spec : {M : Type 1} → statement M
+show-lines-spec = tie.close (tie.spec Inv-loop μ-loop add-total loop-holds line-requires enum-known-shown add-k loop-less loop-again enum-told same-length returns same-length-2 returns-2)
