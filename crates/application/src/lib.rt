@@ -1,0 +1,1 @@
+// The sort of an App, inferred and checked, over the store numbers of its head and its arguments.
