@@ -1,6 +1,5 @@
 -- Zeros are as long as what stood there, so the judgement is over the lengths at entry.
 -- Its buffers and its outcome are those of `judge_cleared`.
-use native.Mathlib.Omega.{arith}
 use borrow.Author.Needs.{needs}
 use mathlib.Core.Path.{refl}
 use Rattle.verdicts.proofs.JudgeLaws.{cleared-asks, judge-over}
@@ -17,9 +16,6 @@ judge-cleared-requires : tie.Need-judge-cleared-requires
 judge-cleared-requires c κs =
     let w = c .before .before .before .before .before .before .before .before .before .before .before .before .before .before .before .before .before in
     let a = w .args in
-    let s = a .sheet .now in
-    let b = a .records .now in
-    let p = a .places .now in
     let rw₀ = a .rows .now in
     let an₀ = a .answers .now in
     cleared-asks rw₀ an₀ (c .before .before .before .before .before .before .before .before .before .before .zero-words .last .0) (c .before .before .before .before .before .before .zero-words2 .last .0) (c .before .before .before .before .before .before .before .before .before .before .zero-words .kept .0) (c .before .before .before .before .before .before .zero-words2 .kept .0) (c .before .before .before .before .before .before .before .before .before .before .zero-words .ensures) (c .before .before .before .before .before .before .zero-words2 .ensures)

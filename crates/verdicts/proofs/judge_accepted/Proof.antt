@@ -1,6 +1,5 @@
 -- The rows are written first, over blank tables of names, then the answers over the store that they leave.
 -- Both are those of the judgement, with the zeros that stood behind them.
-use native.Mathlib.Omega.{arith}
 use borrow.Author.Needs.{needs}
 use mathlib.Core.Path.{_∙_}
 use lib.ListN.{replicate}

@@ -1,6 +1,5 @@
 -- A sheet that was read is judged over the store that the reader left; a refused one leaves zeros.
 -- The lengths are those at entry, since no call changes one.
-use native.Mathlib.Omega.{arith}
 use borrow.Author.Needs.{needs}
 use mathlib.Core.Path.{refl, subst, _∙_}
 use lib.ListN.{length}

@@ -1,6 +1,5 @@
 -- The number of the outcome is that of the judgement.
 -- The buffers are those that `judge` leaves.
-use native.Mathlib.Omega.{arith}
 use borrow.Author.Needs.{needs}
 use mathlib.Core.Path.{sym, ap, _∙_}
 use Rattle.verdicts.specs.Judge.{lengthsOf, numberOf}
