@@ -1,14 +1,14 @@
 -- The judgement of a sheet that was read: its rows and answers are those that were written, with the zeros that stood behind
 -- them, and its store is the one that is left. A refused sheet leaves zeros.
-use Prim.Native.Nat.{ℕ, _+_, _*_, _-_}
+use Prim.Native.Nat.{ℕ, _+_, _*_, _-_, _≤_, _<_}
 use mathlib.Core.Path.{_≡_, refl, sym, ap, ap₂, subst, _∙_}
 use mathlib.Core.List.{List, _++_}
 use native.Mathlib.Omega.{arith}
 use lib.ListN.{length, drop, replicate, length-drop, length-replicate}
 use lib.Seq.{ext-getD, getD-drop}
-use Rattle.record.specs.Sort.{Sort}
+use Rattle.record.specs.Sort.{Sort, size}
 use Rattle.record.specs.Store.{padded, storeBytes, storePlaces}
-use Rattle.record.specs.Decode.{storeOf, Zeros}
+use Rattle.record.specs.Decode.{storeOf, sortAt, Stored, Zeros}
 use Rattle.record.specs.StoreLaws.{storeOf-length}
 use Rattle.reader.specs.declared.Refusal.{Refusal}
 use Rattle.sheet.specs.Sheet.{Lengths, Sheet, Reading, TermFields, QuestionFields, readSheet}
@@ -17,7 +17,7 @@ use Rattle.sheet.specs.Trees.{treesOf}
 use Rattle.sheet.specs.Contract.{termAt, termsAt, questionAt, questionsAt, sheetIn, SheetStands, SheetAccepted, ReadSheetAsks}
 use Rattle.sheet.specs.Stands.{each-length, zeros-all}
 use Rattle.sheet.specs.declared.SheetCounts.{SheetCounts}
-use Rattle.store.specs.Good.{good-bytes, good-places}
+use Rattle.store.specs.Good.{Good, good-bytes, good-places}
 use Rattle.matching.specs.Tables.{Blank}
 use Rattle.checked.specs.Ranks.{smtLib}
 use Rattle.judged.specs.Rows.{Tabled, rowsOf}
@@ -31,7 +31,7 @@ use Rattle.verdicts.specs.declared.Outcome.{Outcome}
 use Rattle.verdicts.specs.declared.Outcome.the-variants.{Accepted, Refused}
 use Rattle.verdicts.specs.declared.table.Counts.{Counts}
 use Rattle.verdicts.specs.Table.{RowsAsk, RowsAre}
-use Rattle.verdicts.specs.Judge.{lengthsOf, outcomeOf, numberOf, JudgeIs, NumberIs, ClearedAsks, AcceptedAsks, judge-number}
+use Rattle.verdicts.specs.Judge.{lengthsOf, outcomeOf, numberOf, Reads, ReadsBack, JudgeIs, NumberIs, ClearedAsks, AcceptedAsks, judge-number}
 
 ---------------------------------------------------------------- zeros
 -- Zeros with their first entries taken off.
@@ -82,10 +82,20 @@ judged-by : (s : List ℕ) (l : Lengths) (r : Reading Sheet) → readSheet s l �
 unfolding judged judgedBy
 judged-by s l r e = ap (judgedSheet smtLib l) e
 
+-- A good store is read back.
+reads-good : (b p hs ns zs : List ℕ) (n u : ℕ) → Good b p hs ns zs n u → (st : List Sort) → storeOf b p n ≡ st → Reads b p st
+reads-good b p hs ns zs n u g st e =
+    let c : n ≡ length st = sym (storeOf-length b p n) ∙ ap length e in
+    record {
+      stored = subst (λ (m : ℕ). Stored b p m) c (g .stored);
+      back = subst (λ (m : ℕ). storeOf b p m ≡ st) c e;
+      small = subst (λ (m : ℕ). (k : ℕ) → k < m → size (sortAt b p m k) ≤ 4096) c (g .sized .small);
+    }
+
 -- The promise for a judgement that is known.
 judge-as : (s : List ℕ) (l : Lengths) (j : Judgement) (b p rw an : List ℕ) → judged s l ≡ j → b ≡ recordsAfter l j → p ≡ placesAfter l j → rw ≡ rowsAfter l j
-    → an ≡ answersAfter l j → JudgeIs s l b p rw an (outcomeOf j)
-judge-as s l j b p rw an e eb ep er ea =
+    → an ≡ answersAfter l j → ReadsBack j b p → JudgeIs s l b p rw an (outcomeOf j)
+judge-as s l j b p rw an e eb ep er ea back =
     let f = sym e in
     record {
       outcome = ap outcomeOf f;
@@ -95,6 +105,7 @@ judge-as s l j b p rw an e eb ep er ea =
             places = ep ∙ ap (placesAfter l) f;
             rows = er ∙ ap (rowsAfter l) f;
             answers = ea ∙ ap (answersAfter l) f;
+            reads = subst (λ (x : Judgement). ReadsBack x b p) f back;
           };
     }
 
@@ -188,6 +199,7 @@ module _ (s b p hs ns zs tbl xs ys : List ℕ) (c : SheetCounts) (rw an : List �
           (over-zeros (answered .answers) an an₂ (c .questions) (a .cleared .answers)
           (answers-count lengths (tabled .store) questions ∙ each-length (questionAt s sorts) ys (c .questions))
           left-answers)
+          (reads-good b₂ p₂ hs₂ ns₂ zs₂ (q .count) (q .used) (o .good) (answered .store) left-store)
 
 ---------------------------------------------------------------- reading first
 -- Buffers as long as those have their lengths.
@@ -221,7 +233,7 @@ unfolding recordsAfter placesAfter rowsAfter answersAfter
 refused-is s b p rw an z e b₁ p₁ b₂ p₂ h eb ep =
     let l = lengthsOf b p rw an in
     judge-as s l (refused e) b₂ p₂ rw an (judged-by s l (unread e) (h .0)) (eb ∙ ap (λ (n : ℕ). replicate n 0) (h .1))
-    (ep ∙ ap (λ (n : ℕ). replicate n 0) (h .2)) (z .rows) (z .answers)
+    (ep ∙ ap (λ (n : ℕ). replicate n 0) (h .2)) (z .rows) (z .answers) tt
 
 -- THE PROMISE is over lengths alone: those at entry, where buffers were written on the way.
 pub judge-over : (s b p rw an b₁ p₁ rw₁ an₁ b₂ p₂ rw₂ an₂ : List ℕ) (o : Outcome) → length b₁ ≡ length b → length p₁ ≡ length p

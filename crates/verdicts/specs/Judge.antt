@@ -1,8 +1,10 @@
 -- What the entry point promises: its outcome, and the four lent buffers at exit over their whole length, are those of `judged`.
-use Prim.Native.Nat.{ℕ}
+use Prim.Native.Nat.{ℕ, _≤_, _<_}
 use mathlib.Core.Path.{_≡_, refl, ap, _∙_}
 use mathlib.Core.List.{List}
 use lib.ListN.{length, replicate}
+use Rattle.record.specs.Sort.{Sort, size}
+use Rattle.record.specs.Decode.{storeOf, sortAt, Stored}
 use Rattle.reader.specs.Reader.{refusalNumber}
 use Rattle.sheet.specs.Sheet.{Lengths}
 use Rattle.sheet.specs.Contract.{SheetAccepted}
@@ -25,12 +27,23 @@ abbrev pub numberOf : Outcome → ℕ
 numberOf Accepted = 0
 numberOf (Refused e) = refusalNumber e
 
--- THE FOUR BUFFERS b p rw an are, over their whole length, those of the judgement of s.
+-- THE STORE IS READ BACK: the records at the places are well formed, they are the sorts st, and no tree passes 4,096.
+pub record Reads (b p : List ℕ) (st : List Sort) : Type 0 where
+  pub stored : Stored b p (length st)
+  pub back : storeOf b p (length st) ≡ st
+  pub small : (k : ℕ) → k < length st → size (sortAt b p (length st) k) ≤ 4096
+
+abbrev pub ReadsBack : Judgement → List ℕ → List ℕ → Type 0
+ReadsBack (refused e) b p = Unit {0}
+ReadsBack (accepted h st rows answers) b p = Reads b p st
+
+-- THE FOUR BUFFERS b p rw an are, over their whole length, those of the judgement of s; and the store can be read from them.
 pub record BuffersAre (s : List ℕ) (l : Lengths) (b p rw an : List ℕ) : Type 0 where
   pub records : b ≡ recordsAfter l (judged s l)
   pub places : p ≡ placesAfter l (judged s l)
   pub rows : rw ≡ rowsAfter l (judged s l)
   pub answers : an ≡ answersAfter l (judged s l)
+  pub reads : ReadsBack (judged s l) b p
 
 -- THE PROMISE OF `judge` for the bytes s and the lent lengths l, with the buffers at exit: Accepted exactly for an accepted
 -- sheet, Refused with the judgement's refusal for a refused one.
