@@ -94,6 +94,7 @@ module _ (n : ℕ) (s tbl xs rows : List ℕ) (r : TermRecord) (h : Standing n s
       (arguments-agree st rows before column (h .term) taken s (r .second) (cond (eqb (r .kind) 11) (r .seconds) 0)
       (second-below s (h .sorts) (h .term) (h .place) r (h .next) (h .was)))
 
+  -- It stands before those rows alone.
   standing-taken : Standing n s tbl xs before r
   standing-taken =
       record {
@@ -109,6 +110,7 @@ module _ (n : ℕ) (s tbl xs rows : List ℕ) (r : TermRecord) (h : Standing n s
         known = λ i o. rw (getD-take (2 * h .term) rows i 0 o) (h .known i o);
       }
 
+  -- So the definition's row, from the rows so far, is the outcome of that verdict.
   row-is : (l : Lengths) → rowOf J column l (termsAt s (treesOf st tbl (h .sorts)) xs (h .term)) (termFields s (treesOf st tbl (h .sorts)) r) before st
       ≡ outcome l st (termVerdict J st s tbl xs rows column r)
   unfolding rowOf standing-taken
@@ -185,6 +187,7 @@ module _ (rows : List ℕ) (k x y : ℕ) where
 ---------------------------------------------------------------- both rows of a record
 module _ (b p hs ns zs : List ℕ) (n u : ℕ) (prm imgs bnd s tbl xs rows : List ℕ) (r : TermRecord) (t : ℕ)
     (h : BothAsk b p hs ns zs n u prm imgs bnd s tbl xs rows r t) where
+  -- What the inferred row asks, and the checked one behind it.
   pub first-asks : (a : List ℕ) → 259 ≤ length a → TermAsks b p hs ns zs n u prm imgs bnd s tbl xs rows r a
   first-asks a o = record { good = h .good; blank = h .blank; standing = h .standing; room = o }
 
@@ -293,6 +296,7 @@ module _ (b p hs ns zs : List ℕ) (n u : ℕ) (prm imgs bnd s tbl : List ℕ) (
           known = h .known;
         }
 
+    -- What both rows of the record that was read ask, and that they are the sheet's term's.
     pub both-asks : BothAsk b p hs ns zs n u prm imgs bnd s tbl xs rows r t
     both-asks = record { good = h .good; blank = h .blank; standing = standing; here = refl; room = h .room; few = h .few }
 
