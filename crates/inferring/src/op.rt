@@ -1,8 +1,10 @@
 // The inferred sort of an operator at n arguments, whose sorts are in `args` from byte 3 on.
+use super::family::family_of;
 use super::relations::join;
 use super::relations::product;
 use super::relations::transpose;
 use super::single::argument;
+use super::single::constant_width;
 use super::single::element;
 use super::single::last_of;
 use super::single::rare_list;
@@ -11,12 +13,16 @@ use super::single::sum;
 use super::vectors::concat;
 use super::vectors::first_vector;
 use answers::Answer;
+use answers::bit_vector;
+use answers::leaf;
 use answers::lists::listed;
 use inferred::Family;
+ghost use Rattle.inferred.specs.Family.{familyOf};
 ghost use Rattle.inferred.specs.Inferred.{operatedBy};
 ghost use Rattle.answers.specs.Answer.{AnswerIs};
+ghost use Rattle.answers.specs.Arguments.{constantsIn};
 ghost use Rattle.inferring.specs.Asks.{sortsIn};
-ghost use Rattle.inferring.specs.Operators.{noConstants, MadeAsks, LookedAsks};
+ghost use Rattle.inferring.specs.Operators.{noConstants, MadeAsks, LookedAsks, OperatedAsks};
 
 // What the families that make sets, tuples and relations answer.
 pub fn gathered(
@@ -92,6 +98,62 @@ pub fn looked(
         Family::Element => element(records, places, count, used, args, n),
         Family::RareList => rare_list(records, places, heads, next, sizes, count, used, args, n),
         _ => gathered(
+            records,
+            places,
+            heads,
+            next,
+            sizes,
+            count,
+            used,
+            family,
+            args,
+            n,
+        ),
+    }
+}
+
+// The inferred sort of the operator at its n arguments, which the sheet names from `list` on.
+pub fn operated(
+    records: &mut [u8],
+    places: &mut [u32],
+    heads: &mut [u16],
+    next: &mut [u16],
+    sizes: &mut [u16],
+    count: usize,
+    used: usize,
+    sheet: &[u8],
+    starts: &[u16],
+    list: usize,
+    op: usize,
+    args: &mut [u8],
+    n: usize,
+) -> Answer
+    requires { ⌜ OperatedAsks (now records) (now places) (now heads) (now next) (now sizes) count used (now sheet) (now starts) list (now args) n ⌝ }
+    ensures { λ r. ⌜ AnswerIs (now (records .entry)) (now (places .entry)) count (operatedBy (familyOf op) (sortsIn (now (records .entry)) (now (places .entry)) count (now (args .entry)) 3 n) (constantsIn (now (sheet .entry)) (now (starts .entry)) list n)) (now (records .exit)) (now (places .exit)) (now (heads .exit)) (now (next .exit)) (now (sizes .exit)) r ⌝ }
+{
+    let family = family_of(op);
+    match family {
+        Family::Truth => leaf(records, places, heads, next, sizes, count, used, 3),
+        Family::Integer => leaf(records, places, heads, next, sizes, count, used, 4),
+        Family::Decimal => leaf(records, places, heads, next, sizes, count, used, 5),
+        Family::Text => leaf(records, places, heads, next, sizes, count, used, 6),
+        Family::Regular => leaf(records, places, heads, next, sizes, count, used, 7),
+        Family::OneBit => bit_vector(records, places, heads, next, sizes, count, used, 1),
+        Family::Bits => bit_vector(records, places, heads, next, sizes, count, used, n),
+        Family::Constant => constant_width(
+            records,
+            places,
+            heads,
+            next,
+            sizes,
+            count,
+            used,
+            sheet,
+            starts,
+            list,
+            n,
+        ),
+        _ => looked(
             records,
             places,
             heads,
