@@ -149,6 +149,10 @@ module _ (b p : List ℕ) (n : ℕ) (a : List ℕ) (m : ℕ) (h : Referring b p 
 pub times-small : (i w : ℕ) → i < 4294967296 → w ≤ 65535 → i * w < 18446744073709551616
 times-small i w h l = omega (arith, mul-le-mul {n₁ = i} {m₁ = w} {n₂ = 4294967296} {m₂ = 65535} (omega arith) l)
 
+-- A number of at least k that is not k is over it.
+pub after : (k op : ℕ) → k ≤ op → (op ≡ k → ⊥) → k < op
+after k op l d = ⊎-elim (λ (e : k ≡ op). absurd (d (sym e))) (λ (o : k < op). o) (eq-or-lt-of-le l)
+
 ---------------------------------------------------------------- which operator
 module _ (is : List (Option ℕ)) (ss : Sorts) where
   at-op : (op k : ℕ) → op ≡ k → indexed op is ss ≡ indexed k is ss
@@ -259,10 +263,6 @@ convert-high op (converts e) z h = e
 pub looks-keys : (op : ℕ) → OneOf (0 ∷ 7 ∷ 9 ∷ []) op → Indexing op
 looks-keys op h =
     ⊎-elim (λ (e : op ≡ 0). extracts e) (λ (l : OneOf (7 ∷ 9 ∷ []) op). ⊎-elim (λ (e : op ≡ 7). repeats e) (λ (e : op ≡ 9). converts e) l) h
-
--- A number that is none below k is at least k.
-after : (k op : ℕ) → k ≤ op → (op ≡ k → ⊥) → k < op
-after k op l d = ⊎-elim (λ (e : k ≡ op). absurd (d (sym e))) (λ (o : k < op). o) (eq-or-lt-of-le l)
 
 pub looks-range : (op : ℕ) → (OneOf (0 ∷ 7 ∷ 9 ∷ []) op → ⊥) → (op ≡ 1 → ⊥) → (op ≡ 2 → ⊥) → op < 5 → Indexing op
 looks-range op z o t h =
