@@ -4,25 +4,28 @@ use Prim.Native.Nat.{ℕ, _+_, _*_, _-_, _≤_, _<_}
 use mathlib.Core.Path.{_≡_}
 use mathlib.Core.Bool.{Bool}
 use mathlib.Core.List.{List}
-use mathlib.Core.Option.{some}
 use lib.ListN.{length}
 use Rattle.record.specs.Number.{u16At, numbersAt}
-use Rattle.record.specs.Sort.{sizes}
-use Rattle.record.specs.Decode.{storeOf, sortAt, Stored}
+use Rattle.record.specs.Sort.{Sort, sizes}
+use Rattle.record.specs.Decode.{storeOf, sortAt, Stored, Zeros}
 use Rattle.store.specs.Good.{Good}
-use Rattle.substitution.specs.Substitution.{Map, empty}
-use Rattle.substitution.specs.Matching.{matchesAll}
+use Rattle.substitution.specs.Substitution.{Map, empty, apply}
+use Rattle.substitution.specs.Matching.{matchesAll, listedIn}
 use Rattle.substitution.specs.MatchWith.{matchAllWith}
 use Rattle.matching.specs.declared.Matched.{Matched}
-use Rattle.matching.specs.Tables.{Told, Mapped, Cleared, Blank}
-use Rattle.matching.specs.Contract.{Refs, sortsAt, OneAsks, ListAsks, countOf}
+use Rattle.matching.specs.Tables.{Told, mapOf, Mapped, Cleared, Blank}
+use Rattle.matching.specs.Contract.{Usable, Refs, sortsAt, OneAsks, ListAsks, countOf}
 use Rattle.matching.specs.Contract.{answerOf as foundBy}
-use Rattle.apply.specs.Images.{Table, Images}
-use Rattle.rows.specs.Verdict.{Verdict}
+use Rattle.apply.specs.Images.{Images}
+use Rattle.rows.specs.declared.Cause.the-variants.{Misfit, Unassigned}
+use Rattle.rows.specs.Verdict.{Verdict, sort, refused}
 use Rattle.rows.specs.Lists.{remaining}
 use Rattle.checked.specs.Checked.{values, settled, settledAll, delivered}
+use Rattle.inferred.specs.Inferred.{substituted}
 use Rattle.answers.specs.declared.Answer.{Answer}
 use Rattle.answers.specs.Answer.{AnswerIs}
+use Rattle.application.specs.declared.called.Call.{Call}
+use Rattle.application.specs.declared.called.Call.the-variants.{Settled, Unsettled, Misfits}
 
 ---------------------------------------------------------------- an App
 -- A good store, blank tables of names, and m numbers of its sorts in a from byte 3 on.
@@ -71,44 +74,28 @@ pub record ValuesAsk (b p s : List ℕ) (x m : ℕ) : Type 0 where
 abbrev pub ValuesHave : List ℕ → List ℕ → List ℕ → ℕ → ℕ → Bool → Type 0
 ValuesHave b p s x m r = (n : ℕ) → Stored b p n → Refs s x m n → r ≡ values (sortsAt b p n s x m)
 
----------------------------------------------------------------- the checked App
--- m sorts that remain, in the store's own bytes from x on; the names listed, and those bound.
-pub record DeliverAsks (b p hs ns zs : List ℕ) (n u : ℕ) (prm l : List ℕ) (x m : ℕ) : Type 0 where
-  pub good : Good b p hs ns zs n u
-  pub params : length prm ≡ 65536
-  pub images : Table l n
+---------------------------------------------------------------- arguments at a head
+-- The m sorts of a head's Function in the store's own bytes from x on, k arguments, at most as many, and no name bound.
+pub record FitAsks (b p : List ℕ) (n : ℕ) (prm imgs bnd : List ℕ) (x m : ℕ) (a : List ℕ) (k : ℕ) : Type 0 where
+  pub usable : Usable b p n
+  pub table : length prm ≡ 65536
+  pub cleared : Cleared imgs bnd
   pub list : Refs b x m n
-  pub few : m ≤ 64
-
--- THE ANSWER for every test of names and every map that the tables stand for.
-abbrev pub DeliverIs : List ℕ → List ℕ → ℕ → List ℕ → List ℕ → ℕ → ℕ → List ℕ → List ℕ → List ℕ → List ℕ → List ℕ → Answer → Type 0
-DeliverIs b p n prm l x m b′ p′ hs′ ns′ zs′ r =
-    (f : ℕ → Bool) → Told prm f → (θ : Map) → Images (storeOf b p n) l θ
-    → AnswerIs b p n (delivered f (remaining (sortsAt b p n b x m)) (some θ)) b′ p′ hs′ ns′ zs′ r
-
--- The m sorts of a head's Function from x on, and k arguments, at most as many.
-pub record HeadAsks (b p hs ns zs : List ℕ) (n u x m : ℕ) (a : List ℕ) (k : ℕ) : Type 0 where
-  pub good : Good b p hs ns zs n u
-  pub list : Refs b x m n
-  pub few : m ≤ 64
   pub args : Refs a 5 k n
   pub fewer : k ≤ m
 
--- And the head's names are listed, no name is bound.
-pub record MatchedAsks (b p hs ns zs : List ℕ) (n u : ℕ) (prm imgs bnd : List ℕ) (x m : ℕ) (a : List ℕ) (k : ℕ) : Type 0 where
-  pub head : HeadAsks b p hs ns zs n u x m a k
-  pub table : length prm ≡ 65536
-  pub cleared : Cleared imgs bnd
+-- And the q names of a Par over the Function, from y on, none of a plain one; no name is listed.
+pub record FittedAsks (b p : List ℕ) (n : ℕ) (prm imgs bnd : List ℕ) (x m y q : ℕ) (a : List ℕ) (k : ℕ) : Type 0 where
+  pub fit : FitAsks b p n prm imgs bnd x m a k
+  pub zeros : Zeros prm 0
+  pub names : y + 2 * q ≤ length b
+  pub named : q ≤ 64
 
-pub record MatchedIs (b p : List ℕ) (n : ℕ) (prm imgs bnd : List ℕ) (x m : ℕ) (a : List ℕ) (k : ℕ) (b′ p′ hs′ ns′ zs′ imgs′ bnd′ : List ℕ) (r : Answer) : Type 0 where
-  pub answer : (f : ℕ → Bool) → Told prm f
-      → AnswerIs b p n
-      (delivered f (remaining (sortsAt b p n b (x + 2 * k) (m - k))) (matchesAll f (sortsAt b p n b x k) (sortsAt b p n a 5 k) empty))
-      b′ p′ hs′ ns′ zs′ r
-  pub images : imgs′ ≡ imgs
-  pub bound : bnd′ ≡ bnd
+-- What remains of the list behind the arguments.
+abbrev pub restAt : List ℕ → List ℕ → ℕ → ℕ → ℕ → ℕ → Sort
+restAt b p n x m k = remaining (sortsAt b p n b (x + 2 * k) (m - k))
 
--- The q names of a Par over a Function, from y on; none of a plain one.
+-- A head with m sorts from x on and q names from y on, at k arguments.
 pub record CalledAsks (b p hs ns zs : List ℕ) (n u : ℕ) (prm imgs bnd : List ℕ) (x m y q : ℕ) (a : List ℕ) (k : ℕ) : Type 0 where
   pub good : Good b p hs ns zs n u
   pub blank : Blank prm imgs bnd
@@ -118,17 +105,54 @@ pub record CalledAsks (b p hs ns zs : List ℕ) (n u : ℕ) (prm imgs bnd : List
   pub named : q ≤ 64
   pub args : Refs a 5 k n
 
+-- At most as many arguments as its list has sorts.
+pub record DeliverAsks (b p hs ns zs : List ℕ) (n u : ℕ) (prm imgs bnd : List ℕ) (x m y q : ℕ) (a : List ℕ) (k : ℕ) : Type 0 where
+  pub called : CalledAsks b p hs ns zs n u prm imgs bnd x m y q a k
+  pub fewer : k ≤ m
+
+---------------------------------------------------------------- the checked App
+-- How many names are bound, and the verdict on what remains.
+abbrev pub boundIn : Call → ℕ
+boundIn (Settled c) = c
+boundIn (Unsettled c) = c
+boundIn (Misfits c) = c
+
+abbrev pub callOf : List Sort → List ℕ → List ℕ → Sort → Call → Verdict
+callOf st l d s (Settled c) = sort (apply (mapOf st l d c) s)
+callOf st l d s (Unsettled c) = refused Unassigned
+callOf st l d s (Misfits c) = refused Misfit
+
+-- THE VERDICT by the test f of the head's names.
+abbrev pub deliveredAt : (ℕ → Bool) → List ℕ → List ℕ → ℕ → ℕ → ℕ → List ℕ → ℕ → Verdict
+deliveredAt f b p n x m a k = delivered f (restAt b p n x m k) (matchesAll f (sortsAt b p n b x k) (sortsAt b p n a 5 k) empty)
+
+-- For every test of names that the table stands for.
+pub record FitIs (b p : List ℕ) (n : ℕ) (prm : List ℕ) (x m : ℕ) (a : List ℕ) (k : ℕ) (l d : List ℕ) (r : Call) : Type 0 where
+  pub mapped : Mapped b p n l d (boundIn r)
+  pub verdict : (f : ℕ → Bool) → Told prm f → deliveredAt f b p n x m a k ≡ callOf (storeOf b p n) l d (restAt b p n x m k) r
+
+pub record FittedIs (b p : List ℕ) (n : ℕ) (prm : List ℕ) (x m y q : ℕ) (a : List ℕ) (k : ℕ) (prm′ l d : List ℕ) (r : Call) : Type 0 where
+  pub params : prm′ ≡ prm
+  pub mapped : Mapped b p n l d (boundIn r)
+  pub verdict : deliveredAt (listedIn (numbersAt b y q)) b p n x m a k ≡ callOf (storeOf b p n) l d (restAt b p n x m k) r
+
 ---------------------------------------------------------------- the inferred App
+-- The sorts that are matched are together no larger than a sort of the store.
+pub record PatternsAsk (b p : List ℕ) (n : ℕ) (prm imgs bnd : List ℕ) (x m y q : ℕ) (a : List ℕ) (k : ℕ) : Type 0 where
+  pub fitted : FittedAsks b p n prm imgs bnd x m y q a k
+  pub small : sizes (sortsAt b p n b x k) ≤ 4096
+
+-- The map found, or none; no name is listed.
+pub record PatternsAre (b p : List ℕ) (n : ℕ) (prm : List ℕ) (x y q : ℕ) (a : List ℕ) (k : ℕ) (prm′ l d : List ℕ) (r : Matched) : Type 0 where
+  pub params : prm′ ≡ prm
+  pub mapped : Mapped b p n l d (countOf r)
+  pub result : foundBy (storeOf b p n) l d r ≡ matchAllWith (numbersAt b y q) (sortsAt b p n b x k) (sortsAt b p n a 5 k) empty
+
 -- The sorts of a Function's list are together no larger than a sort of the store.
 pub record ParametricAsks (b p hs ns zs : List ℕ) (n u : ℕ) (prm imgs bnd : List ℕ) (x m y q : ℕ) (a : List ℕ) (k : ℕ) : Type 0 where
-  pub head : HeadAsks b p hs ns zs n u x m a k
-  pub blank : Blank prm imgs bnd
-  pub names : y + 2 * q ≤ length b
-  pub named : q ≤ 64
+  pub deliver : DeliverAsks b p hs ns zs n u prm imgs bnd x m y q a k
   pub small : sizes (sortsAt b p n b x m) ≤ 4096
 
--- The arguments matched with the first sorts of the list: the map found, or none; no name is listed.
-pub record ArgumentsAre (b p : List ℕ) (n : ℕ) (prm : List ℕ) (x y q : ℕ) (a : List ℕ) (k : ℕ) (prm′ imgs′ bnd′ : List ℕ) (r : Matched) : Type 0 where
-  pub params : prm′ ≡ prm
-  pub mapped : Mapped b p n imgs′ bnd′ (countOf r)
-  pub result : foundBy (storeOf b p n) imgs′ bnd′ r ≡ matchAllWith (numbersAt b y q) (sortsAt b p n b x k) (sortsAt b p n a 5 k) empty
+-- THE VERDICT on what remains, by the map found.
+abbrev pub substitutedAt : List ℕ → List ℕ → ℕ → ℕ → ℕ → ℕ → ℕ → List ℕ → ℕ → Verdict
+substitutedAt b p n x m y q a k = substituted (restAt b p n x m k) (matchAllWith (numbersAt b y q) (sortsAt b p n b x k) (sortsAt b p n a 5 k) empty)
