@@ -13,12 +13,13 @@ use Rattle.site.specs.Site.{siteOver}
 use Rattle.site.specs.SiteLaws.{OwnIs, Bound}
 use Rattle.inferring.specs.Asks.{ArgsAsks}
 
--- A good store, and a constant, or a record with an own sort that the store has.
+-- A constant, or a record with an own sort that the store has.
 pub data Plain (b p : List ℕ) (n : ℕ) (tbl : List ℕ) (r : TermRecord) : Type 0 where
   constant : r .kind < 5 → Plain b p n tbl r
   variable : r .kind ≡ 5 → OwnIs b p n tbl r → Plain b p n tbl r
   qualified : r .kind ≡ 12 → OwnIs b p n tbl r → Plain b p n tbl r
 
+-- A good store, and such a record.
 pub record PlainAsks (b p hs ns zs : List ℕ) (n u : ℕ) (tbl : List ℕ) (r : TermRecord) : Type 0 where
   pub good : Good b p hs ns zs n u
   pub plain : Plain b p n tbl r

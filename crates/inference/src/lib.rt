@@ -7,15 +7,19 @@ use answers::Answer;
 use answers::bit_vector;
 use answers::found;
 use answers::leaf;
+use answers::refuse;
+use application::applied;
 use binders::bound;
 use indexed::indexed;
 use inferring::op::operated;
 use inferring::single::last_of;
 use reader::TermRecord;
+use rows::Cause;
+use site::parts_judged;
 ghost use Rattle.record.specs.Decode.{storeOf};
 ghost use Rattle.inferred.specs.Inferred.{inferred};
 ghost use Rattle.answers.specs.Answer.{AnswerIs};
-ghost use Rattle.site.specs.Site.{siteOver};
+ghost use Rattle.site.specs.Site.{siteOver, TermAsks, TermIs};
 ghost use Rattle.inference.specs.Terms.{PlainAsks, PlainIs, ComposedAsks};
 
 // A term whose sort needs no argument: 0 integer, 1 real, 2 string, 3 RegLan constant, 4 bit-vector constant, Limit where its
@@ -121,6 +125,78 @@ pub fn composed(
             number,
             args,
             n,
+        ),
+    }
+}
+
+// The inferred row of a record, in the first column of the rows: Below where a term that it names has a refused row there; for
+// 6 App what remains of the head's sort; else as `composed` and `plain`. `args` is used up; the tables of names come back as
+// they were.
+pub fn infer(
+    records: &mut [u8],
+    places: &mut [u32],
+    heads: &mut [u16],
+    next: &mut [u16],
+    sizes: &mut [u16],
+    count: usize,
+    used: usize,
+    params: &mut [u16],
+    images: &mut [u16],
+    bound: &mut [u16],
+    sheet: &[u8],
+    table: &[u16],
+    starts: &[u16],
+    rows: &[u32],
+    term: TermRecord,
+    args: &mut [u8],
+) -> Answer
+    requires { ⌜ TermAsks (now records) (now places) (now heads) (now next) (now sizes) count used (now params) (now images) (now bound) (now sheet) (now table) (now starts) (now rows) term (now args) ⌝ }
+    ensures { λ r. ⌜ TermIs inferred 0 (now (records .entry)) (now (places .entry)) count (now (params .entry)) (now (images .entry)) (now (bound .entry)) (now (sheet .entry)) (now (table .entry)) (now (starts .entry)) (now (rows .entry)) term (now (records .exit)) (now (places .exit)) (now (heads .exit)) (now (next .exit)) (now (sizes .exit)) (now (params .exit)) (now (images .exit)) (now (bound .exit)) r ⌝ }
+{
+    if !parts_judged(sheet, rows, 0, term, args) {
+        return refuse(Cause::Below, count, used);
+    }
+    let kind = term.kind;
+    let n = term.count;
+    match kind {
+        6 => applied(
+            records,
+            places,
+            heads,
+            next,
+            sizes,
+            count,
+            used,
+            params,
+            images,
+            bound,
+            args,
+            n,
+        ),
+        7..=11 => composed(
+            records,
+            places,
+            heads,
+            next,
+            sizes,
+            count,
+            used,
+            sheet,
+            table,
+            starts,
+            term,
+            args,
+        ),
+        _ => plain(
+            records,
+            places,
+            heads,
+            next,
+            sizes,
+            count,
+            used,
+            table,
+            term,
         ),
     }
 }
