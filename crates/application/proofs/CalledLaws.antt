@@ -1,14 +1,14 @@
 -- The checked App: what its steps ask, and that each way through them gives the definition's verdict.
 use Prim.Native.Nat.{ℕ, _+_, _*_, _-_, _≤_, _<_}
 use mathlib.Core.Path.{_≡_, refl, sym, ap, ap₂, subst, _∙_}
-use mathlib.Core.Bool.{Bool, true, false, _&&_}
+use mathlib.Core.Bool.{Bool, true, false}
 use mathlib.Core.List.{List}
 use mathlib.Core.Option.{Option, some}
 use native.Mathlib.Omega.{arith}
 use lib.Dec.{ltb}
 use borrow.Author.Tests.{lt-ltb, le-ltb}
 use Rattle.record.specs.Number.{numbersAt}
-use Rattle.record.specs.Sort.{Sorts, end, _then_}
+use Rattle.record.specs.Sort.{Sorts}
 use Rattle.record.specs.Decode.{storeOf}
 use Rattle.substitution.specs.Substitution.{Map, empty, apply}
 use Rattle.substitution.specs.Matching.{matchesAll, listedIn}
@@ -22,7 +22,7 @@ use Rattle.rows.specs.declared.Cause.{Cause}
 use Rattle.rows.specs.declared.Cause.the-variants.{Count, Misfit, Unassigned}
 use Rattle.rows.specs.Verdict.{Verdict, sort, refused, need}
 use Rattle.rows.specs.Lists.{firsts, others, remaining}
-use Rattle.checked.specs.Checked.{values, settled, settledAll, delivered, called}
+use Rattle.checked.specs.Checked.{values, delivered, called}
 use Rattle.answers.specs.declared.Answer.{Answer}
 use Rattle.answers.specs.Answer.{refusing}
 use Rattle.answers.specs.AnswerLaws.{judged-as, answered-as, answer-refused}
@@ -32,18 +32,8 @@ use Rattle.application.specs.declared.called.Call.the-variants.{Settled,
 use Rattle.application.specs.Contract.{AppIs, SettledAllAsks, SettledAllIs, ValuesAsk, ValuesHave, FitAsks, FitIs, FittedAsks, FittedIs, restAt, deliveredAt, boundIn, callOf, CalledAsks, DeliverAsks}
 use Rattle.application.proofs.AppLaws.{app-refused, app-as}
 use Rattle.application.proofs.ListLaws.{count-at, firsts-at, others-at, refs-part, refs-behind}
+use Rattle.application.proofs.SettledLaws.{settled-remaining}
 use Rattle.application.proofs.TableLaws.{cleared-images, cleared-bound, mapped-images, add-asks, take-asks, listed-names}
-
----------------------------------------------------------------- what remains is settled as its sorts are
-and-last : (t : Bool) → t ≡ (t && true)
-and-last true = refl
-and-last false = refl
-
-pub settled-remaining : (f : ℕ → Bool) (θ : Map) (ss : Sorts) → settled f θ (remaining ss) ≡ settledAll f θ ss
-unfolding settled
-settled-remaining f θ end = refl
-settled-remaining f θ (s then end) = and-last (settled f θ s)
-settled-remaining f θ (s then (r then rs)) = refl
 
 ---------------------------------------------------------------- with the names listed
 module _ (b p : List ℕ) (n : ℕ) (prm imgs bnd : List ℕ) (x m : ℕ) (a : List ℕ) (k : ℕ) (h : FitAsks b p n prm imgs bnd x m a k) where

@@ -8,7 +8,7 @@ use lib.ListN.{getD}
 use lib.Dec.{eqb}
 use borrow.Author.Tests.{ne-eqb}
 use Rattle.record.specs.Number.{u16At}
-use Rattle.record.specs.Sort.{Sort, var, par, node, kindOf, partsOf}
+use Rattle.record.specs.Sort.{Sort, Sorts, var, par, node, end, _then_, kindOf, partsOf}
 use Rattle.record.specs.Decode.{storeOf, sortAt}
 use Rattle.record.specs.declared.SortRecord.{SortRecord}
 use Rattle.store.specs.Entry.{EntryHas}
@@ -16,6 +16,7 @@ use Rattle.substitution.specs.Substitution.{Map, isSome, bound}
 use Rattle.matching.specs.TableLaws.{listed-some, listed-none}
 use Rattle.matching.specs.Entered.{refs-first, refs-rest, sorts-end, sorts-more, entry-var, entry-refs}
 use Rattle.apply.specs.Images.{imageAt, Images}
+use Rattle.rows.specs.Lists.{remaining}
 use Rattle.checked.specs.Checked.{settled, settledAll}
 use Rattle.application.specs.Contract.{SettledAsks, SettledAllAsks, SettledIs, SettledAllIs}
 
@@ -101,3 +102,10 @@ module _ (b p : List ℕ) (n : ℕ) (prm imgs : List ℕ) (k : ℕ) (a : Settled
   settled-parts d q g f t θ i =
       let w = e n (a .one .usable .stored) (a .one .known) in
       g f t θ i ∙ ap (settledAll f θ) (w .parts) ∙ split f θ (sortAt b p n k) (λ z. d (w .kind ∙ z))
+
+---------------------------------------------------------------- what remains of a list is settled as its sorts are
+pub settled-remaining : (f : ℕ → Bool) (θ : Map) (ss : Sorts) → settled f θ (remaining ss) ≡ settledAll f θ ss
+unfolding settled
+settled-remaining f θ end = refl
+settled-remaining f θ (s then end) = and-last (settled f θ s)
+settled-remaining f θ (s then (r then rs)) = refl
