@@ -1,6 +1,6 @@
 -- The families of a group that are left when some were told apart.
 use Prim.Native.Nat.{ℕ}
-use mathlib.Core.Path.{_≡_, refl, ap, _∙_}
+use mathlib.Core.Path.{_≡_, refl}
 use mathlib.Core.Bool.{Bool, true, false, _||_, false≢true}
 use mathlib.Core.List.{List, [], _∷_}
 use mathlib.Core.Logic.{⊎-elim}
@@ -8,12 +8,7 @@ use mathlib.Core.Option.{Option}
 use lib.Dec.{eqb}
 use borrow.Author.Tests.{eq-eqb}
 use types.Run.{OneOf}
-use Rattle.record.specs.Number.{numbersAt}
-use Rattle.record.specs.Sort.{Sort, Sorts, bitvec}
-use Rattle.record.specs.Record.{sortsOf}
-use Rattle.record.specs.Codec.{length-numbersAt}
-use Rattle.record.specs.Sizes.{count-sorts}
-use Rattle.rows.specs.Verdict.{sort}
+use Rattle.record.specs.Sort.{Sorts}
 use Rattle.inferred.specs.Inferred.{operatedBy}
 use Rattle.inferred.specs.declared.Family.{Family}
 use Rattle.inferred.specs.declared.Family.the-variants.{Truth, Integer, Decimal, Text, Regular, Vector, OneBit, Bits, Constant, Concat, First, Second, Last, Sum, Element, RareList, Singleton, Tuple, UnitTuple, Transpose, Join, Product}
@@ -148,8 +143,3 @@ no-constants UnitTuple h ss cs = refl
 no-constants Transpose h ss cs = refl
 no-constants Join h ss cs = refl
 no-constants Product h ss cs = refl
-
--- The sort of as many bits as there are arguments.
-pub counted : (st : List Sort) (a : List ℕ) (x m : ℕ) (cs : List (Option ℕ)) → operatedBy Bits (sortsOf st (numbersAt a x m)) cs ≡ sort (bitvec m)
-unfolding operatedBy
-counted st a x m cs = ap (λ (w : ℕ). sort (bitvec w)) (count-sorts st (numbersAt a x m) ∙ length-numbersAt a x m)

@@ -1,5 +1,7 @@
 // The inferred sort of an operator at n arguments, whose sorts are in `args` from byte 3 on.
+use super::family::Plain;
 use super::family::family_of;
+use super::family::plain_of;
 use super::relations::join;
 use super::relations::product;
 use super::relations::transpose;
@@ -112,7 +114,8 @@ pub fn looked(
     }
 }
 
-// The inferred sort of the operator at its n arguments, which the sheet names from `list` on.
+// The inferred sort of the operator at its n arguments, which the sheet names from `list` on: the number of that sort, which
+// is made where it is not there yet, or the refusal that its family, a limit or the store's room gives.
 pub fn operated(
     records: &mut [u8],
     places: &mut [u32],
@@ -132,15 +135,11 @@ pub fn operated(
     ensures { λ r. ⌜ AnswerIs (now (records .entry)) (now (places .entry)) count (operatedBy (familyOf op) (sortsIn (now (records .entry)) (now (places .entry)) count (now (args .entry)) 3 n) (constantsIn (now (sheet .entry)) (now (starts .entry)) list n)) (now (records .exit)) (now (places .exit)) (now (heads .exit)) (now (next .exit)) (now (sizes .exit)) r ⌝ }
 {
     let family = family_of(op);
-    match family {
-        Family::Truth => leaf(records, places, heads, next, sizes, count, used, 3),
-        Family::Integer => leaf(records, places, heads, next, sizes, count, used, 4),
-        Family::Decimal => leaf(records, places, heads, next, sizes, count, used, 5),
-        Family::Text => leaf(records, places, heads, next, sizes, count, used, 6),
-        Family::Regular => leaf(records, places, heads, next, sizes, count, used, 7),
-        Family::OneBit => bit_vector(records, places, heads, next, sizes, count, used, 1),
-        Family::Bits => bit_vector(records, places, heads, next, sizes, count, used, n),
-        Family::Constant => constant_width(
+    let plain = plain_of(family, n);
+    match plain {
+        Plain::Kind(k) => leaf(records, places, heads, next, sizes, count, used, k),
+        Plain::Width(w) => bit_vector(records, places, heads, next, sizes, count, used, w),
+        Plain::Written => constant_width(
             records,
             places,
             heads,
@@ -153,7 +152,7 @@ pub fn operated(
             list,
             n,
         ),
-        _ => looked(
+        Plain::Other => looked(
             records,
             places,
             heads,
