@@ -69,7 +69,8 @@ returns c =
     let t = a .table .now in
     let k = a .starts .now in
     let r = a .term in
-    judged-as (site-op (siteOver (storeOf b p n) z t k x r) (c .before .before .before .before .before .before .before .before .before .before .before .before .before .before .before .before .before .before .before .match .keys1)) (c .before .before .before .before .before .before .before .before .before .before .before .before .operated .ensures)
+    let d = c .before .before .before .before .before .before .before .before .before .before .before .before .operated .last in
+    judged-as {b = b} {p = p} {n = n} {b′ = d .0} {p′ = d .1 .0} {hs′ = d .1 .1 .0} {ns′ = d .1 .1 .1 .0} {zs′ = d .1 .1 .1 .1 .0} (site-op (siteOver (storeOf b p n) z t k x r) (c .before .before .before .before .before .before .before .before .before .before .before .before .before .before .before .before .before .before .before .match .keys1)) (c .before .before .before .before .before .before .before .before .before .before .before .before .operated .ensures)
 
 same-length-7 : tie.Need-same-length-7
 same-length-7 c = search needs
@@ -101,7 +102,7 @@ returns-2 c =
     let t = a .table .now in
     let k = a .starts .now in
     let r = a .term in
-    judged-as (site-binder (siteOver (storeOf b p n) z t k x r) (c .before .before .before .before .before .before .before .before .before .before .before .before .before .before .before .before .before .before .before .match .keys2)) (c .before .before .before .before .before .before .before .before .before .before .before .before .bound .ensures)
+    judged-as {b = b} {p = p} {n = n} (site-binder (siteOver (storeOf b p n) z t k x r) (c .before .before .before .before .before .before .before .before .before .before .before .before .before .before .before .before .before .before .before .match .keys2)) (c .before .before .before .before .before .before .before .before .before .before .before .before .bound .ensures)
 
 same-length-13 : tie.Need-same-length-13
 same-length-13 c = search needs
@@ -175,7 +176,8 @@ returns-5 c =
     let t = a .table .now in
     let k = a .starts .now in
     let r = a .term in
-    judged-as (site-indexed (storeOf b p n) z t k x r (eleven-left (r .kind) (s .pre .low) (s .pre .high) (c .before .before .before .before .before .before .before .before .before .before .before .before .before .before .before .before .before .match .rest .0 .0 .0 .1) (c .before .before .before .before .before .before .before .before .before .before .before .before .before .before .before .before .before .match .rest .0 .0 .1) (c .before .before .before .before .before .before .before .before .before .before .before .before .before .before .before .before .before .match .rest .0 .1) (c .before .before .before .before .before .before .before .before .before .before .before .before .before .before .before .before .before .match .rest .1))) (c .before .before .before .before .before .before .before .before .before .before .indexed .ensures)
+    let d = c .before .before .before .before .before .before .before .before .before .before .indexed .last in
+    judged-as {b = b} {p = p} {n = n} {b′ = d .0} {p′ = d .1 .0} {hs′ = d .1 .1 .0} {ns′ = d .1 .1 .1 .0} {zs′ = d .1 .1 .1 .1 .0} (site-indexed (storeOf b p n) z t k x r (eleven-left (r .kind) (s .pre .low) (s .pre .high) (c .before .before .before .before .before .before .before .before .before .before .before .before .before .before .before .before .before .match .rest .0 .0 .0 .1) (c .before .before .before .before .before .before .before .before .before .before .before .before .before .before .before .before .before .match .rest .0 .0 .1) (c .before .before .before .before .before .before .before .before .before .before .before .before .before .before .before .before .before .match .rest .0 .1) (c .before .before .before .before .before .before .before .before .before .before .before .before .before .before .before .before .before .match .rest .1))) (c .before .before .before .before .before .before .before .before .before .before .indexed .ensures)
 
 pub composed-spec : {M : Type 1} → statement M
 composed-spec = tie.close (tie.spec operated-requires bound-requires last-of-requires last-of-requires-2 indexed-requires same-length same-length-2 same-length-3 same-length-4 same-length-5 same-length-6 returns same-length-7 same-length-8 same-length-9 same-length-10 same-length-11 same-length-12 returns-2 same-length-13 returns-3 same-length-14 returns-4 same-length-15 same-length-16 same-length-17 same-length-18 same-length-19 same-length-20 returns-5)

@@ -78,7 +78,8 @@ returns c =
     let z = a .sheet .now in
     let t = a .table .now in
     let r = a .term in
-    judged-as (lambda-is b p n z t r x (args-refer b p hs ns zs n u x m (s .pre .args)) (s .pre .body) (c .before .before .before .before .before .before .before .before .before .before .before .before .before .before .before .before .before .before .before .u16-at .result) (c .before .before .before .before .before .before .before .before .before .before .before .before .before .before .before .before .before .before .before .u16-at .ensures .0) (c .before .before .before .before .before .before .before .before .before .before .before .before .before .before .before .before .before .before .before .before .before .if1 .taken)) (c .before .before .before .before .before .before .before .before .before .before .before .before .lambda .ensures)
+    let d = c .before .before .before .before .before .before .before .before .before .before .before .before .lambda .last in
+    judged-as {b = b} {p = p} {n = n} {b′ = d .0} {p′ = d .1 .0} {hs′ = d .1 .1 .0} {ns′ = d .1 .1 .1 .0} {zs′ = d .1 .1 .1 .1 .0} (lambda-is b p n z t r x (args-refer b p hs ns zs n u x m (s .pre .args)) (s .pre .body) (c .before .before .before .before .before .before .before .before .before .before .before .before .before .before .before .before .before .before .before .u16-at .result) (c .before .before .before .before .before .before .before .before .before .before .before .before .before .before .before .before .before .before .before .u16-at .ensures .0) (c .before .before .before .before .before .before .before .before .before .before .before .before .before .before .before .before .before .before .before .before .before .if1 .taken)) (c .before .before .before .before .before .before .before .before .before .before .before .before .lambda .ensures)
 
 leaf-requires : tie.Need-leaf-requires
 unfolding mapOf maps

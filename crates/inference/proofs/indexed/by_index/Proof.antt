@@ -57,7 +57,7 @@ returns c =
     let m = a .n in
     let z = a .sheet .now in
     let t = a .starts .now in
-    judged-as (given-extract (a .i) (constantsIn z t (a .second + 2) (a .seconds - 1)) (sortsIn b p n x 3 m) (a .op) (c .before .before .before .before .before .before .before .before .before .before .before .before .before .before .before .before .match .keys1)) (c .before .before .before .before .before .before .before .before .before .before .extracted .ensures)
+    judged-as {b = b} {p = p} {n = n} (given-extract (a .i) (constantsIn z t (a .second + 2) (a .seconds - 1)) (sortsIn b p n x 3 m) (a .op) (c .before .before .before .before .before .before .before .before .before .before .before .before .before .before .before .before .match .keys1)) (c .before .before .before .before .before .before .before .before .before .before .extracted .ensures)
 
 same-length-6 : tie.Need-same-length-6
 same-length-6 c = search needs

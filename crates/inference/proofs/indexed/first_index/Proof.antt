@@ -88,7 +88,8 @@ returns-2 c =
     let m = a .n in
     let z = a .sheet .now in
     let t = a .starts .now in
-    judged-as (looks-first z t (a .second) (a .seconds) (pos (a .seconds) (c .before .before .before .before .before .before .before .before .before .before .before .before .before .before .before .before .before .before .before .before .if1 .left)) (c .before .before .before .before .before .before .before .before .before .before .before .before .before .before .before .before .before .before .before .index-at .result) (c .before .before .before .before .before .before .before .before .before .before .before .before .before .before .before .before .before .before .before .index-at .ensures) (a .op) (sortsIn b p n x 3 m) ∙ ap (λ (o : Constant). indexed (a .op) (integerOf o ∷ constantsIn z t (a .second + 2) (a .seconds - 1)) (sortsIn b p n x 3 m)) (c .before .before .before .before .before .before .before .before .before .before .before .before .before .before .before .before .before .first .given .1)) (c .before .before .before .before .before .before .before .before .before .before .by-index .ensures)
+    let d = c .before .before .before .before .before .before .before .before .before .before .by-index .last in
+    judged-as {b = b} {p = p} {n = n} {b′ = d .0} {p′ = d .1 .0} {hs′ = d .1 .1 .0} {ns′ = d .1 .1 .1 .0} {zs′ = d .1 .1 .1 .1 .0} (looks-first z t (a .second) (a .seconds) (pos (a .seconds) (c .before .before .before .before .before .before .before .before .before .before .before .before .before .before .before .before .before .before .before .before .if1 .left)) (c .before .before .before .before .before .before .before .before .before .before .before .before .before .before .before .before .before .before .before .index-at .result) (c .before .before .before .before .before .before .before .before .before .before .before .before .before .before .before .before .before .before .before .index-at .ensures) (a .op) (sortsIn b p n x 3 m) ∙ ap (λ (o : Constant). indexed (a .op) (integerOf o ∷ constantsIn z t (a .second + 2) (a .seconds - 1)) (sortsIn b p n x 3 m)) (c .before .before .before .before .before .before .before .before .before .before .before .before .before .before .before .before .before .first .given .1)) (c .before .before .before .before .before .before .before .before .before .before .by-index .ensures)
 
 same-length-6 : tie.Need-same-length-6
 same-length-6 c = search needs
