@@ -9,16 +9,14 @@ use native.Mathlib.Nat.{not-suc-le-zero}
 use native.Mathlib.Decide.{decLt}
 use lib.ListN.{getD}
 use lib.Dec.{eqb}
-use borrow.Author.Tests.{eq-eqb, eqb-true, le-leb, lt-leb}
+use borrow.Author.Tests.{le-leb, lt-leb}
 use Rattle.record.specs.Number.{u16At, numbersAt}
-use Rattle.record.specs.Sort.{Sort, Sorts, var, par, node, end, _then_, kindOf, same}
-use Rattle.record.specs.SortLaws.{same-sound, same-complete, same-other}
-use Rattle.record.specs.Record.{Fields, bit, maps, mapOf, leaf, sortsOf, sortOf}
-use Rattle.record.specs.Decode.{fieldsAt, Shape, storeOf, sortAt, Stored}
-use Rattle.record.specs.Forms.{Which, isVar, isPar, isNode, which, sort-var, sort-par, sort-other}
-use Rattle.record.specs.StoreLaws.{sort-node, sorts-one}
+use Rattle.record.specs.Sort.{Sort, Sorts, end, _then_, kindOf, same}
+use Rattle.record.specs.SortLaws.{same-complete, same-other}
+use Rattle.record.specs.Record.{leaf, sortsOf}
+use Rattle.record.specs.Decode.{storeOf, sortAt, Stored}
+use Rattle.record.specs.StoreLaws.{sorts-one}
 use Rattle.record.specs.SortLists.{below-suc}
-use Rattle.record.specs.Cases.{both-ways}
 use Rattle.store.specs.Entry.{EntryAsks, KindHas}
 use Rattle.store.specs.Walk.{entry-asks}
 use Rattle.checked.specs.Checked.{value, values, onlyOf}

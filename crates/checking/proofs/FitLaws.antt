@@ -9,12 +9,11 @@ use lib.Dec.{eqb, leb}
 use borrow.Author.Tests.{eq-eqb, eqb-true, ne-eqb, leb-true}
 use Rattle.record.specs.Number.{u16At, numbersAt}
 use Rattle.record.specs.Sort.{Sort, node, end, _then_, bool, int, real, array, bitvec, kindOf, numberIn, same, sameAll}
-use Rattle.record.specs.SortLaws.{same-sound, same-complete, same-other}
-use Rattle.record.specs.Record.{Fields, bit, maps, mapOf, leasts, leastOf, mosts, mostOf, leaf, sortsOf, sortOf}
-use Rattle.record.specs.Forms.{sort-other}
-use Rattle.record.specs.Decode.{fieldsAt, Shape, storeOf, sortAt, Stored, Distinct}
+use Rattle.record.specs.SortLaws.{same-sound, same-complete}
+use Rattle.record.specs.Record.{Fields, bit, maps, mapOf, leasts, leastOf, mosts, mostOf, leaf, sortsOf}
+use Rattle.record.specs.Decode.{fieldsAt, storeOf, sortAt, Stored, Distinct}
 use Rattle.record.specs.Codec.{length-numbersAt}
-use Rattle.record.specs.StoreLaws.{sorts-one, sort-node}
+use Rattle.record.specs.StoreLaws.{sorts-one}
 use Rattle.record.specs.Cases.{and-left, and-right, or-cases, both-ways}
 use Rattle.record.specs.declared.SortRecord.{SortRecord}
 use Rattle.store.specs.Entry.{EntryIs, EntryHas, KindHas}
