@@ -1,1 +1,2 @@
 pub mod IndexedLaws
+pub mod BinderLaws
