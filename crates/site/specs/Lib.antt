@@ -1,1 +1,3 @@
 pub mod Site
+pub mod Constants
+pub mod SiteLaws

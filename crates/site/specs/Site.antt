@@ -4,7 +4,7 @@ use Prim.Native.Nat.{ℕ, _+_, _*_, _≤_, _<_}
 use mathlib.Core.Path.{_≡_}
 use mathlib.Core.Bool.{Bool, true, false, cond}
 use mathlib.Core.List.{List, []}
-use mathlib.Core.Option.{Option, none, some}
+use mathlib.Core.Option.{Option}
 use lib.ListN.{length, getD}
 use lib.Dec.{eqb}
 use Rattle.record.specs.Number.{u16At, numbersAt}
@@ -25,7 +25,7 @@ use Rattle.rows.specs.Verdict.{Verdict, refused}
 use Rattle.rows.specs.Term.{Site, overParts}
 use Rattle.answers.specs.declared.Answer.{Answer}
 use Rattle.answers.specs.Answer.{AnswerIs}
-use Rattle.answers.specs.Arguments.{argumentsOf, boundNumbers, constantsIn}
+use Rattle.answers.specs.Arguments.{GatherAsks, JudgedAsks, argumentsOf, boundNumbers, constantsIn}
 
 ---------------------------------------------------------------- the record over the store
 -- The sort of a Var (5) and of an AsOp (12); no other record has one, and Bool stands there.
@@ -107,13 +107,13 @@ pub record SiteIs (J : Site → Verdict) (b p : List ℕ) (n : ℕ) (prm imgs bn
   pub bound : bnd′ ≡ bnd
 
 ---------------------------------------------------------------- the parts
-pub record PartsAsk (n : ℕ) (s tbl xs rows : List ℕ) (column : ℕ) (r : TermRecord) (a : List ℕ) : Type 0 where
-  pub standing : Standing n s tbl xs rows r
-  pub side : column ≤ 1
-  pub room : 259 ≤ length a
+-- The terms of the list have rows and a has room for their numbers; the index terms of a ParamOp (11) have rows.
+pub record PartsAsk (s rows : List ℕ) (column : ℕ) (r : TermRecord) (a : List ℕ) : Type 0 where
+  pub list : GatherAsks s (r .list) (r .count) rows column a
+  pub indices : r .kind ≡ 11 → JudgedAsks s (r .second) (r .seconds) rows column
 
--- No row that the record needs is refused, and a has the numbers of its arguments; or one is.
-pub record PartsAre (s tbl xs rows : List ℕ) (column : ℕ) (r : TermRecord) (a : List ℕ) (q : Bool) : Type 0 where
-  pub judged : q ≡ true → (J : Site → Verdict) (st : List Sort) → termVerdict J st s tbl xs rows column r ≡ J (siteOver st s tbl xs a r)
-  pub below : q ≡ true → (n : ℕ) → Standing n s tbl xs rows r → (j : ℕ) → j < r .count → u16At a (3 + 2 * j) < n
-  pub lacking : q ≡ false → (J : Site → Verdict) (st : List Sort) → termVerdict J st s tbl xs rows column r ≡ refused Below
+-- No row that the record needs is refused, and a has the numbers of its arguments, which are the store's; or one is.
+pub record PartsAre (s rows : List ℕ) (column : ℕ) (r : TermRecord) (a : List ℕ) (q : Bool) : Type 0 where
+  pub judged : q ≡ true → (J : Site → Verdict) (st : List Sort) (tbl xs : List ℕ) → termVerdict J st s tbl xs rows column r ≡ J (siteOver st s tbl xs a r)
+  pub below : q ≡ true → (n : ℕ) (tbl xs : List ℕ) → Standing n s tbl xs rows r → (j : ℕ) → j < r .count → u16At a (3 + 2 * j) < n
+  pub lacking : q ≡ false → (J : Site → Verdict) (st : List Sort) (tbl xs : List ℕ) → termVerdict J st s tbl xs rows column r ≡ refused Below
