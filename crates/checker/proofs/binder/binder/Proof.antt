@@ -66,7 +66,7 @@ returns c =
     let z = q .sheet .now in
     let tbl = q .table .now in
     let a = q .args .now in
-    judged-as (binder-is b p hs ns zs n u z tbl (q .pairs) (q .n) a (s .pre) (q .number) (c .before .before .before .before .before .before .before .before .before .before .before .before .before .before .before .before .before .before .before .before .before .before .all-proper .result) (c .before .before .before .before .before .before .before .before .before .before .before .before .before .before .before .before .before .before .before .before .before .before .all-proper .ensures) (c .before .before .before .before .before .before .before .before .before .before .before .before .before .before .before .before .before .before .before .before .before .if1 .taken) (c .before .before .before .before .before .before .before .before .before .before .before .before .before .before .before .before .before .before .before .u16-at .result) (c .before .before .before .before .before .before .before .before .before .before .before .before .before .before .before .before .before .before .before .u16-at .ensures .0)) (c .before .before .before .before .before .before .before .before .before .before .before .before .bound-body .ensures)
+    judged-as {b = b} {p = p} {n = n} (binder-is b p hs ns zs n u z tbl (q .pairs) (q .n) a (s .pre) (q .number) (c .before .before .before .before .before .before .before .before .before .before .before .before .before .before .before .before .before .before .before .before .before .before .all-proper .result) (c .before .before .before .before .before .before .before .before .before .before .before .before .before .before .before .before .before .before .before .before .before .before .all-proper .ensures) (c .before .before .before .before .before .before .before .before .before .before .before .before .before .before .before .before .before .before .before .before .before .if1 .taken) (c .before .before .before .before .before .before .before .before .before .before .before .before .before .before .before .before .before .before .before .u16-at .result) (c .before .before .before .before .before .before .before .before .before .before .before .before .before .before .before .before .before .before .before .u16-at .ensures .0)) (c .before .before .before .before .before .before .before .before .before .before .before .before .bound-body .ensures)
 
 refuse-requires : tie.Need-refuse-requires
 refuse-requires c κs = search needs

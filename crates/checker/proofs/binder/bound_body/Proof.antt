@@ -123,7 +123,7 @@ returns-4 c =
     let n = q .count in
     let z = q .sheet .now in
     let tbl = q .table .now in
-    judged-as (lambda-yes b p n z tbl (q .pairs) (q .n) (s .pre .bound) (q .body) (s .pre .known) (q .number) (c .before .before .before .before .before .before .before .before .before .before .before .before .before .before .before .before .before .before .before .before .before .before .before .if2 .left) (c .before .before .before .before .before .before .before .before .before .before .before .before .before .before .before .before .before .before .before .before .kind-at .result) (c .before .before .before .before .before .before .before .before .before .before .before .before .before .before .before .before .before .before .before .before .kind-at .ensures) (c .before .before .before .before .before .before .before .before .before .before .before .before .before .before .before .before .before .before .before .before .before .before .before .before .if1 .left) (c .before .before .before .before .before .before .before .before .before .before .before .before .before .before .before .before .before .before .before .if3 .left)) (c .before .before .before .before .before .before .before .before .before .before .before .before .lambda .ensures)
+    judged-as {b = b} {p = p} {n = n} (lambda-yes b p n z tbl (q .pairs) (q .n) (s .pre .bound) (q .body) (s .pre .known) (q .number) (c .before .before .before .before .before .before .before .before .before .before .before .before .before .before .before .before .before .before .before .before .before .before .before .if2 .left) (c .before .before .before .before .before .before .before .before .before .before .before .before .before .before .before .before .before .before .before .before .kind-at .result) (c .before .before .before .before .before .before .before .before .before .before .before .before .before .before .before .before .before .before .before .before .kind-at .ensures) (c .before .before .before .before .before .before .before .before .before .before .before .before .before .before .before .before .before .before .before .before .before .before .before .before .if1 .left) (c .before .before .before .before .before .before .before .before .before .before .before .before .before .before .before .before .before .before .before .if3 .left)) (c .before .before .before .before .before .before .before .before .before .before .before .before .lambda .ensures)
 
 pub bound-body-spec : {M : Type 1} → statement M
 bound-body-spec = tie.close (tie.spec quantified-requires same-length same-length-2 returns refuse-requires returns-2 kind-at-requires refuse-requires-2 same-length-3 same-length-4 returns-3 lambda-requires same-length-5 same-length-6 same-length-7 same-length-8 same-length-9 same-length-10 returns-4)
