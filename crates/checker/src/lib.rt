@@ -4,22 +4,25 @@ pub mod indexed;
 
 use answers::Answer;
 use answers::refuse;
+use application::application;
 use binder::binder;
 use checking::op::operated;
+use checking::single::constant;
 use checking::single::letting;
 use checking::single::qualified;
 use checking::single::variable;
 use indexed::indexing;
 use reader::TermRecord;
 use rows::Cause;
+use site::parts_judged;
 ghost use Rattle.record.specs.Decode.{storeOf};
 ghost use Rattle.checked.specs.Ranks.{smtLib};
 ghost use Rattle.checked.specs.Checked.{checked};
 ghost use Rattle.answers.specs.Answer.{AnswerIs};
 ghost use Rattle.checking.specs.Contract.{argsOf};
 ghost use Rattle.checking.specs.Single.{ReadIs};
-ghost use Rattle.site.specs.Site.{ownOver, siteOver};
-ghost use Rattle.checker.specs.Kinds.{knownVerdict, KnownAsks, ComposedAsks};
+ghost use Rattle.site.specs.Site.{ownOver, siteOver, TermAsks, TermIs, SiteIs};
+ghost use Rattle.checker.specs.Kinds.{knownVerdict, KnownAsks, ComposedAsks, GatheredAsks};
 
 // A record whose sort the store has: 5 Var, 9 Let, 12 AsOp; and NoRank for 10 Match.
 pub fn known_site(
@@ -128,4 +131,118 @@ pub fn composed_site(
         );
     }
     known_site(records, places, count, used, table, term, args)
+}
+
+// A record whose arguments' sorts are in `args`: 0 to 4 a constant, 6 App; else as `composed_site`.
+pub fn gathered_site(
+    records: &mut [u8],
+    places: &mut [u32],
+    heads: &mut [u16],
+    next: &mut [u16],
+    sizes: &mut [u16],
+    count: usize,
+    used: usize,
+    params: &mut [u16],
+    images: &mut [u16],
+    bound: &mut [u16],
+    sheet: &[u8],
+    table: &[u16],
+    starts: &[u16],
+    term: TermRecord,
+    args: &mut [u8],
+) -> Answer
+    requires { ⌜ GatheredAsks (now records) (now places) (now heads) (now next) (now sizes) count used (now params) (now images) (now bound) (now sheet) (now table) (now starts) term (now args) ⌝ }
+    ensures { λ r. ⌜ SiteIs (checked smtLib) (now (records .entry)) (now (places .entry)) count (now (params .entry)) (now (images .entry)) (now (bound .entry)) (now (sheet .entry)) (now (table .entry)) (now (starts .entry)) term (now (args .entry)) (now (records .exit)) (now (places .exit)) (now (heads .exit)) (now (next .exit)) (now (sizes .exit)) (now (params .exit)) (now (images .exit)) (now (bound .exit)) r ⌝ }
+{
+    let kind = term.kind;
+    if kind < 5 {
+        let number = term.number;
+        return constant(
+            records,
+            places,
+            heads,
+            next,
+            sizes,
+            count,
+            used,
+            kind,
+            number,
+        );
+    }
+    if kind == 6 {
+        let n = term.count;
+        return application(
+            records,
+            places,
+            heads,
+            next,
+            sizes,
+            count,
+            used,
+            params,
+            images,
+            bound,
+            args,
+            n,
+        );
+    }
+    composed_site(
+        records,
+        places,
+        heads,
+        next,
+        sizes,
+        count,
+        used,
+        sheet,
+        table,
+        starts,
+        term,
+        args,
+    )
+}
+
+// The checked row of a record, from the rows of the terms before it: Below where a term that it names has a refused one; else
+// as `gathered_site`.
+pub fn check(
+    records: &mut [u8],
+    places: &mut [u32],
+    heads: &mut [u16],
+    next: &mut [u16],
+    sizes: &mut [u16],
+    count: usize,
+    used: usize,
+    params: &mut [u16],
+    images: &mut [u16],
+    bound: &mut [u16],
+    sheet: &[u8],
+    table: &[u16],
+    starts: &[u16],
+    rows: &[u32],
+    term: TermRecord,
+    args: &mut [u8],
+) -> Answer
+    requires { ⌜ TermAsks (now records) (now places) (now heads) (now next) (now sizes) count used (now params) (now images) (now bound) (now sheet) (now table) (now starts) (now rows) term (now args) ⌝ }
+    ensures { λ r. ⌜ TermIs (checked smtLib) 1 (now (records .entry)) (now (places .entry)) count (now (params .entry)) (now (images .entry)) (now (bound .entry)) (now (sheet .entry)) (now (table .entry)) (now (starts .entry)) (now (rows .entry)) term (now (records .exit)) (now (places .exit)) (now (heads .exit)) (now (next .exit)) (now (sizes .exit)) (now (params .exit)) (now (images .exit)) (now (bound .exit)) r ⌝ }
+{
+    if parts_judged(sheet, rows, 1, term, args) {
+        return gathered_site(
+            records,
+            places,
+            heads,
+            next,
+            sizes,
+            count,
+            used,
+            params,
+            images,
+            bound,
+            sheet,
+            table,
+            starts,
+            term,
+            args,
+        );
+    }
+    refuse(Cause::Below, count, used)
 }
