@@ -147,10 +147,7 @@ impl Counts {
 
 /// What a program prints for a sheet on its standard input.
 fn run(program: &Path, sheet: &[u8]) -> io::Result<Vec<u8>> {
-    let mut child = Command::new(program)
-        .stdin(Stdio::piped())
-        .stdout(Stdio::piped())
-        .spawn()?;
+    let mut child = Command::new(program).stdin(Stdio::piped()).stdout(Stdio::piped()).spawn()?;
     let mut input = child.stdin.take().expect("standard input is piped");
     // A program may stop reading a sheet that is too long.
     let _ = input.write_all(sheet);

@@ -2,6 +2,7 @@
 //!
 //! - `compare agree SHEETS SEED [PROGRAM]` compares oracle and model on the sweep and on so many random sheets. With PROGRAM, a program
 //!   that reads a sheet on standard input, its printout is compared with the model's on each sheet too.
+//! - `compare sweep` writes the sheets of the sweep with the model's printout.
 //! - `compare program SHEETS SEED` writes random sheets with the model's printout.
 //! - `compare library SHEETS SEED` writes random sheets and lent lengths with the model's buffers at exit.
 
@@ -14,16 +15,14 @@ use std::process::ExitCode;
 fn main() -> ExitCode {
     let arguments: Vec<String> = std::env::args().skip(1).collect();
     let number = |at: usize| arguments.get(at).and_then(|text| text.parse::<u64>().ok());
-    let (Some(what), Some(sheets), Some(seed)) = (arguments.first(), number(1), number(2)) else {
-        eprintln!("compare agree|program|library SHEETS SEED [PROGRAM]");
-        return ExitCode::FAILURE;
-    };
+    let (sheets, seed) = (number(1).unwrap_or(1_000), number(2).unwrap_or(1));
     let program = arguments.get(3).map(PathBuf::from);
-    let done = oracle::on_stack(|| match what.as_str() {
+    let done = oracle::on_stack(|| match arguments.first().map_or("", String::as_str) {
         "agree" => agree(sheets, seed, program.as_deref()),
+        "sweep" => write_sweep().map(|()| true),
         "program" => write_program(sheets, seed).map(|()| true),
         "library" => write_library(sheets, seed).map(|()| true),
-        _ => Err(io::Error::other("agree, program or library is asked")),
+        _ => Err(io::Error::other("agree|program|library SHEETS SEED [PROGRAM], or sweep")),
     });
     match done {
         Ok(true) => ExitCode::SUCCESS,
@@ -46,10 +45,7 @@ fn agree(sheets: u64, seed: u64, program: Option<&Path>) -> io::Result<bool> {
     });
     result?;
     println!("The sweep:\n{}\n", counts.summary());
-    let mut counts = Counts {
-        differences: counts.differences,
-        ..Counts::default()
-    };
+    let mut counts = Counts { differences: counts.differences, ..Counts::default() };
     let mut source = Source::new(seed);
     for _ in 0..sheets {
         counts.compare(&random::sheet(&mut source), program)?;
@@ -61,17 +57,34 @@ fn agree(sheets: u64, seed: u64, program: Option<&Path>) -> io::Result<bool> {
     Ok(counts.differences.is_empty())
 }
 
+/// Writes a sheet with the model's printout.
+fn write_printout(out: &mut impl Write, sheet: &[u8]) -> io::Result<()> {
+    writeln!(out, "sheet {}", hex(sheet))?;
+    for line in model::printout(sheet).lines() {
+        writeln!(out, "  {line}")?;
+    }
+    writeln!(out)
+}
+
+/// Writes the sheets of the sweep with the model's printout.
+fn write_sweep() -> io::Result<()> {
+    let mut out = BufWriter::new(io::stdout().lock());
+    let mut result = Ok(());
+    sweep::sheets(&mut |sheet| {
+        if result.is_ok() {
+            result = write_printout(&mut out, sheet);
+        }
+    });
+    result?;
+    out.flush()
+}
+
 /// Writes random sheets with the model's printout.
 fn write_program(sheets: u64, seed: u64) -> io::Result<()> {
     let mut out = BufWriter::new(io::stdout().lock());
     let mut source = Source::new(seed);
     for _ in 0..sheets {
-        let sheet = random::sheet(&mut source);
-        writeln!(out, "sheet {}", hex(&sheet))?;
-        for line in model::printout(&sheet).lines() {
-            writeln!(out, "  {line}")?;
-        }
-        writeln!(out)?;
+        write_printout(&mut out, &random::sheet(&mut source))?;
     }
     out.flush()
 }
@@ -89,10 +102,7 @@ fn write_library(sheets: u64, seed: u64) -> io::Result<()> {
         let sheet = random::sheet(&mut source);
         let [records, places, rows, answers] = random::lent(&mut source, &sheet);
         let judged = model::judge(&sheet, records, places, rows, answers);
-        writeln!(
-            out,
-            "lent records {records} places {places} rows {rows} answers {answers}"
-        )?;
+        writeln!(out, "lent records {records} places {places} rows {rows} answers {answers}")?;
         writeln!(out, "sheet {}", hex(&sheet))?;
         writeln!(out, "  outcome {}", judged.number)?;
         writeln!(out, "  records {}", hex(&judged.records))?;

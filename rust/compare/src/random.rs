@@ -110,23 +110,15 @@ fn questions(source: &mut Source, writer: &mut Writer, most: usize) {
         };
         let list = source.some(&sorts, length, length);
         let second = (kind != 0).then_some(names.as_slice());
-        writer.question(Fields {
-            kind,
-            list: Some(&list),
-            second,
-            ..Fields::default()
-        });
+        writer.question(Fields { kind, list: Some(&list), second, ..Fields::default() });
     }
 }
 
 /// Adds a random sort over those that are there.
 fn any_sort(source: &mut Source, writer: &mut Writer, simple: bool) {
     let there: Vec<u16> = (0..writer.sorts.len() as u16).collect();
-    let functions: Vec<u16> = there
-        .iter()
-        .copied()
-        .filter(|&number| writer.sorts[usize::from(number)][1] == 0)
-        .collect();
+    let functions: Vec<u16> =
+        there.iter().copied().filter(|&number| writer.sorts[usize::from(number)][1] == 0).collect();
     let kind = match simple || there.is_empty() {
         true => source.one(&[2, 2, 3, 4, 5, 6, 7, 9, 9, 10, 13]),
         false => source.one(&[0, 0, 0, 0, 1, 8, 8, 11, 12, 12, 14, 14, 15, 15]),
@@ -229,14 +221,7 @@ fn general(source: &mut Source) -> Writer {
 fn parametric(source: &mut Source) -> Writer {
     let mut writer = Writer::default();
     let w = &mut writer;
-    let mut values = vec![
-        w.variable(1),
-        w.variable(2),
-        w.plain(4),
-        w.plain(3),
-        w.vector(8),
-        w.plain(10),
-    ];
+    let mut values = vec![w.variable(1), w.variable(2), w.plain(4), w.plain(3), w.vector(8), w.plain(10)];
     for _ in 0..source.from(1, 6) {
         let list = source.some(&values, 1, 3);
         let sort = match source.under(6) {
@@ -247,12 +232,7 @@ fn parametric(source: &mut Source) -> Writer {
             4 => w.par(list[0], &source.names(1, 2)),
             _ => {
                 let kind = source.one(&[1, 11]);
-                w.sort(Fields {
-                    kind,
-                    name: Some(5),
-                    list: Some(&list),
-                    ..Fields::default()
-                })
+                w.sort(Fields { kind, name: Some(5), list: Some(&list), ..Fields::default() })
             }
         };
         values.push(sort);
@@ -275,11 +255,7 @@ fn parametric(source: &mut Source) -> Writer {
         let function = w.parts(0, &list);
         let names = source.one(&[[1, 2], [2, 1], [1, 3], [2, 3]]);
         let names = &names[..source.from(1, 2)];
-        heads.push(if source.chance(80) {
-            w.par(function, names)
-        } else {
-            function
-        });
+        heads.push(if source.chance(80) { w.par(function, names) } else { function });
     }
     let head_terms: Vec<u16> = heads.iter().map(|&sort| w.var(sort)).collect();
     let mut arguments: Vec<u16> = values.iter().map(|&sort| w.var(sort)).collect();
@@ -293,11 +269,7 @@ fn parametric(source: &mut Source) -> Writer {
             false => source.one(&arguments),
         };
         let entries = [&[head], list.as_slice()].concat();
-        let term = w.term(Fields {
-            kind: 6,
-            list: Some(&entries),
-            ..Fields::default()
-        });
+        let term = w.term(Fields { kind: 6, list: Some(&entries), ..Fields::default() });
         if source.chance(40) {
             arguments.push(term);
         }
@@ -309,12 +281,7 @@ fn parametric(source: &mut Source) -> Writer {
 /// Random lengths of the four lent buffers (bytes of records, places, rows, answers): mostly enough for the sheet's sorts, and often not
 /// enough for all its answers.
 pub fn lent(source: &mut Source, sheet: &[u8]) -> [usize; 4] {
-    let all = Lent {
-        records: 65_536,
-        places: 4_096,
-        rows: 8_192,
-        answers: 1_024,
-    };
+    let all = Lent { records: 65_536, places: 4_096, rows: 8_192, answers: 1_024 };
     let Ok((read, store)) = reader::read(sheet, &all) else {
         // A sheet that is refused whatever is lent: enough rows and answers, so that the refusal is the sheet's own.
         let count = |at: usize| sheet.get(at).map_or(0, |low| usize::from(*low));
@@ -322,16 +289,8 @@ pub fn lent(source: &mut Source, sheet: &[u8]) -> [usize; 4] {
         return [records, places, 2 * count(2), count(4)];
     };
     let judged = model::judge(sheet, all.records, all.places, all.rows, all.answers);
-    let bytes = judged
-        .records
-        .iter()
-        .rposition(|byte| *byte != 0)
-        .map_or(0, |last| last + 1);
-    let sorts = judged
-        .places
-        .iter()
-        .rposition(|place| *place != 0)
-        .map_or(1, |last| last + 1);
+    let bytes = judged.records.iter().rposition(|byte| *byte != 0).map_or(0, |last| last + 1);
+    let sorts = judged.places.iter().rposition(|place| *place != 0).map_or(1, |last| last + 1);
     let room = |source: &mut Source, least: usize, needed: usize| match source.under(20) {
         0 => source.from(0, least),
         1..12 => source.from(least, needed.max(least)),

@@ -85,47 +85,27 @@ impl Writer {
 
     /// Adds a sort of a kind without fields; its number.
     pub fn plain(&mut self, kind: u8) -> u16 {
-        self.sort(Fields {
-            kind,
-            ..Fields::default()
-        })
+        self.sort(Fields { kind, ..Fields::default() })
     }
 
     /// Adds a sort of a kind that has a list; its number.
     pub fn parts(&mut self, kind: u8, list: &[u16]) -> u16 {
-        self.sort(Fields {
-            kind,
-            list: Some(list),
-            ..Fields::default()
-        })
+        self.sort(Fields { kind, list: Some(list), ..Fields::default() })
     }
 
     /// Adds a sort variable; its number.
     pub fn variable(&mut self, name: u16) -> u16 {
-        self.sort(Fields {
-            kind: 2,
-            name: Some(name),
-            ..Fields::default()
-        })
+        self.sort(Fields { kind: 2, name: Some(name), ..Fields::default() })
     }
 
     /// Adds a bit-vector sort; its number.
     pub fn vector(&mut self, width: u32) -> u16 {
-        self.sort(Fields {
-            kind: 9,
-            number: Some(width),
-            ..Fields::default()
-        })
+        self.sort(Fields { kind: 9, number: Some(width), ..Fields::default() })
     }
 
     /// Adds a parametric sort; its number.
     pub fn par(&mut self, part: u16, names: &[u16]) -> u16 {
-        self.sort(Fields {
-            kind: 12,
-            list: Some(&[part]),
-            second: Some(names),
-            ..Fields::default()
-        })
+        self.sort(Fields { kind: 12, list: Some(&[part]), second: Some(names), ..Fields::default() })
     }
 
     /// Adds a term; its number.
@@ -136,21 +116,12 @@ impl Writer {
 
     /// Adds a term that is a variable of this sort; its number.
     pub fn var(&mut self, sort: u16) -> u16 {
-        self.term(Fields {
-            kind: 5,
-            name: Some(9),
-            sort: Some(sort),
-            ..Fields::default()
-        })
+        self.term(Fields { kind: 5, name: Some(9), sort: Some(sort), ..Fields::default() })
     }
 
     /// Adds an integer constant; its number.
     pub fn integer(&mut self, number: u32) -> u16 {
-        self.term(Fields {
-            kind: 0,
-            number: Some(number),
-            ..Fields::default()
-        })
+        self.term(Fields { kind: 0, number: Some(number), ..Fields::default() })
     }
 
     /// Adds a question.
