@@ -1,6 +1,6 @@
 // The rows: each term in order gets its inferred row, then its checked row, both over one store.
 use answers::code;
-use checking::check;
+use checker::check;
 use inference::infer;
 use reader::Cursor;
 use reader::ReadTerm;
