@@ -22,7 +22,7 @@ use Rattle.judged.specs.QuestionLaws.{questionAt}
 use Rattle.judged.specs.JudgedLaws.{judged-read, judged-counts, judged-fits}
 use Rattle.judged.specs.KnownLaws.{judged-rows-known, judged-answers-known}
 use Rattle.verdicts.specs.declared.Outcome.the-variants.{Accepted}
-use Rattle.verdicts.specs.Judge.{outcomeOf, JudgeIs}
+use Rattle.verdicts.specs.Judge.{outcomeOf, ReadsBack, JudgeIs}
 use Rattle.printout.specs.declared.kinds.Totals.{Totals}
 use Rattle.printout.specs.declared.whole.Piece.{Piece}
 use Rattle.printout.specs.Lines.{rowText, termLine, questionLine, answerText}
@@ -45,6 +45,10 @@ refusal-small Refusal.Trailing = omega arith
 refusal-small Refusal.Lent = omega arith
 refusal-small Refusal.TreeSize = omega arith
 refusal-small Refusal.Store = omega arith
+
+-- As long as it is.
+pub room-all : (n : ℕ) (l : List ℕ) → n ≡ length l → n ≤ length l
+room-all n l e = omega (arith, e)
 
 ---------------------------------------------------------------- every piece goes on
 module _ (b p w d g : List ℕ) (t q n : ℕ) (j : Judged b p w d g t q n) (bytes : Bytes b)
@@ -78,10 +82,10 @@ module _ (b p w d g : List ℕ) (t q n : ℕ) (j : Judged b p w d g t q n) (byte
 
   -- A PIECE GOES ON by a line at least, in a buffer of 3,735,560 bytes.
   pub piece-goes : (from : ℕ) (o o′ : List ℕ) (r : Piece) → PieceIs b p w d g t q from o o′ n r → from < t + q → 3735560 ≤ length o → from < r .next
+  unfolding linesFrom
   piece-goes from o o′ r a h long = byTest (ltb from (r .next)) (λ e. ltb-true from (r .next) e) (λ e. absurd (stuck (ltb-false from (r .next) e)))
     where
       stuck : r .next ≤ from → ⊥
-      unfolding linesFrom
       stuck u =
           let same : r .next ≡ from = omega (arith, a .lines) in
           let none : r .next - from ≡ 0 = omega arith in
@@ -135,9 +139,9 @@ taken s l e = go (judged s l) refl e
 
 -- WHAT `judge` LEFT OF AN ACCEPTED SHEET CAN BE PRINTED, with the kinds of its questions.
 pub print-asks : (s b p w g : List ℕ) → JudgeIs s programLengths b p w g Accepted → (k k′ : List ℕ) (r : Totals) → 1024 ≤ length k → KindsAre s k k′ r
-    → LinesAsk b p w k′ g (r .terms) (r .questions)
+    → (o : List ℕ) → 3735560 ≤ length o → LinesAsk b p w k′ g (r .terms) (r .questions) o
 unfolding judged rowsAfter answersAfter
-print-asks s b p w g a k k′ r room kinds =
+print-asks s b p w g a k k′ r room kinds o long =
     let l = programLengths in
     let j = taken s l (a .outcome) in
     let h = j .sheet in
@@ -147,7 +151,7 @@ print-asks s b p w g a k k′ r room kinds =
     let listed = kinds .accepted h (read .0) (read .1) in
     let counts = judged-counts smtLib s l h st (j .rows) (j .answers) e in
     let fits = judged-fits smtLib s l h st (j .rows) (j .answers) e in
-    let reads = a .reads h st (j .rows) (j .answers) e in
+    let reads = subst (λ (x : Judgement). ReadsBack x b p) e (a .buffers .reads) in
     let rows : w ≡ padded 8192 (j .rows) = a .buffers .rows ∙ ap (rowsAfter l) e in
     let answers : g ≡ padded 1024 (j .answers) = a .buffers .answers ∙ ap (answersAfter l) e in
     let row : (i : ℕ) → i < 2 * r .terms → getD w i 0 ≡ getD (j .rows) i 0 =
@@ -158,6 +162,7 @@ print-asks s b p w g a k k′ r room kinds =
     λ i o. sym (getD-take (r .questions) k′ i 0 o) ∙ ap (λ (x : List ℕ). getD x i 0) (listed .kinds) ∙ kind-at (h .questions) i (omega (arith, listed .questions)) in
     record {
       many = length st;
+      room = long;
       judged =
           record {
             stored = reads .stored;
@@ -174,7 +179,7 @@ print-asks s b p w g a k k′ r room kinds =
                   arith,
                   answer i o,
                   judged-answers-known smtLib s l h st (j .rows) (j .answers) e i (omega (arith, listed .questions))
-                  (ne-eqb (questionAt (h .questions) i .kind) 0 (λ q. z (kind i o ∙ q))) (omega (arith, answer i o)),
+                      (ne-eqb (questionAt (h .questions) i .kind) 0 (λ q. z (kind i o ∙ q))) (omega (arith, answer i o)),
                 );
           };
     }

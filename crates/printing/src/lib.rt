@@ -10,7 +10,12 @@ use verdicts::Outcome;
 use verdicts::refusal_number;
 ghost use Rattle.printing.specs.Print.{LinesAsk, PrintAsks};
 
-// Writes the lines of a judged sheet; false where a write failed.
+// A buffer of zeros that holds the longest line.
+fn line_buffer() -> [u8; 3735560] {
+    [0; 3735560]
+}
+
+// Writes the lines of a judged sheet by way of a buffer that holds the longest line; false where a write failed.
 fn print_lines(
     records: &[u8],
     places: &[u32],
@@ -19,10 +24,10 @@ fn print_lines(
     answers: &[u32],
     terms: usize,
     questions: usize,
+    out: &mut [u8],
 ) -> bool
-    requires { ⌜ LinesAsk (now records) (now places) (now rows) (now kinds) (now answers) terms questions ⌝ }
+    requires { ⌜ LinesAsk (now records) (now places) (now rows) (now kinds) (now answers) terms questions (now out) ⌝ }
 {
-    let mut out = [0u8; 3735560];
     let total = terms + questions;
     let mut k = 0;
     while k < total {
@@ -35,7 +40,7 @@ fn print_lines(
             terms,
             questions,
             k,
-            &mut out,
+            out,
         );
         let end = piece.end;
         if !io::write_all(STDOUT_FILENO, &out[..end]) {
@@ -72,6 +77,7 @@ pub fn print_judged(
         Outcome::Accepted => {
             let mut kinds = [0u8; 1024];
             let totals = question_kinds(sheet, &mut kinds);
+            let mut out = line_buffer();
             print_lines(
                 records,
                 places,
@@ -80,6 +86,7 @@ pub fn print_judged(
                 answers,
                 totals.terms,
                 totals.questions,
+                &mut out,
             )
         }
         Outcome::Refused(e) => print_refusal(e),
