@@ -15,6 +15,19 @@ fn run(sheet: &[u8]) {
     print_judged(sheet, &records, &places, &rows, &answers, outcome);
 }
 
+// Reads a sheet that fills the slice and judges it, the one with the number k; false where the file ends before it.
+fn show(fd: i32, k: usize, sheet: &mut [u8]) -> bool {
+    let read = io::read_full(fd, sheet);
+    if read != sheet.len() {
+        return false;
+    }
+    io::write_all(STDOUT_FILENO, b"# ");
+    io::print_decimal(STDOUT_FILENO, k as u64);
+    io::write_all(STDOUT_FILENO, b"\n");
+    run(sheet);
+    true
+}
+
 // Judges the next sheet of the file, the one with the number k; false where there is none, or one over 65,540 bytes.
 fn next(fd: i32, k: usize) -> bool {
     let mut head = [0u8; 4];
@@ -29,15 +42,7 @@ fn next(fd: i32, k: usize) -> bool {
         return false;
     }
     let mut sheet = [0u8; 65540];
-    let read = io::read_full(fd, &mut sheet[..length]);
-    if read != length {
-        return false;
-    }
-    io::write_all(STDOUT_FILENO, b"# ");
-    io::print_decimal(STDOUT_FILENO, k as u64);
-    io::write_all(STDOUT_FILENO, b"\n");
-    run(&sheet[..length]);
-    true
+    show(fd, k, &mut sheet[..length])
 }
 
 // Judges at most 100,000 sheets.

@@ -5,55 +5,104 @@ use libc::STDOUT_FILENO;
 use record::u16_at;
 use verdicts::napsilo_judge;
 
-// Writes the bytes in hexadecimal behind their name.
-fn print_bytes(buf: &[u8]) {
-    io::write_all(STDOUT_FILENO, b"records ");
+// Writes each byte in hexadecimal.
+fn print_hexes(buf: &[u8]) {
     let mut i = 0;
     while i < buf.len() {
         io::print_hex(STDOUT_FILENO, buf[i] as u64, 2);
         i += 1;
     }
+}
+
+// Writes a line: the name of the buffer of records, and its bytes.
+fn print_bytes(buf: &[u8]) {
+    io::write_all(STDOUT_FILENO, b"records ");
+    print_hexes(buf);
     io::write_all(STDOUT_FILENO, b"\n");
 }
 
-// Writes the numbers, with blanks between, behind their name.
-fn print_words(name: &[u8], buf: &[u32]) {
-    io::write_all(STDOUT_FILENO, name);
+// Writes a number behind a blank.
+fn print_number(v: u32) {
+    io::write_all(STDOUT_FILENO, b" ");
+    io::print_decimal(STDOUT_FILENO, v as u64);
+}
+
+// Writes each number behind a blank.
+fn print_numbers(buf: &[u32]) {
     let mut i = 0;
     while i < buf.len() {
-        io::write_all(STDOUT_FILENO, b" ");
-        io::print_decimal(STDOUT_FILENO, buf[i] as u64);
+        print_number(buf[i]);
         i += 1;
     }
+}
+
+// Writes a line: the name of a buffer of numbers, and its numbers; a blank where there is none.
+fn print_words(name: &[u8], buf: &[u32]) {
+    io::write_all(STDOUT_FILENO, name);
     if buf.len() == 0 {
         io::write_all(STDOUT_FILENO, b" ");
     }
+    print_numbers(buf);
     io::write_all(STDOUT_FILENO, b"\n");
 }
 
-// Judges a sheet over buffers of these lengths, at most 4,096 bytes, 512 places, 512 rows and 64 answers, and prints what it gives.
+// Judges a sheet over these buffers and prints what it gives.
+fn judge_over(
+    sheet: &[u8],
+    records: &mut [u8],
+    places: &mut [u32],
+    rows: &mut [u32],
+    answers: &mut [u32],
+) {
+    let number = napsilo_judge(sheet, records, places, rows, answers);
+    io::write_all(STDOUT_FILENO, b"outcome ");
+    io::print_decimal(STDOUT_FILENO, number as u64);
+    io::write_all(STDOUT_FILENO, b"\n");
+    print_bytes(records);
+    print_words(b"places", places);
+    print_words(b"rows", rows);
+    print_words(b"answers", answers);
+}
+
+// Judges a sheet over buffers of these lengths, at most 4,096 bytes, 512 places, 512 rows and 64 answers.
 fn run(sheet: &[u8], r: usize, p: usize, w: usize, a: usize) {
     let mut records = [170u8; 4096];
     let mut places = [2863311530u32; 512];
     let mut rows = [2863311530u32; 512];
     let mut answers = [2863311530u32; 64];
-    if 4096 < r || 512 < p || 512 < w || 64 < a {
+    if 4096 < r {
         return;
     }
-    let number = napsilo_judge(
+    if 512 < p {
+        return;
+    }
+    if 512 < w {
+        return;
+    }
+    if 64 < a {
+        return;
+    }
+    judge_over(
         sheet,
         &mut records[..r],
         &mut places[..p],
         &mut rows[..w],
         &mut answers[..a],
     );
-    io::write_all(STDOUT_FILENO, b"outcome ");
-    io::print_decimal(STDOUT_FILENO, number as u64);
+}
+
+// Reads a sheet that fills the slice and judges it, the one with the number k, over buffers of these lengths; false where the file
+// ends before it.
+fn show(fd: i32, k: usize, sheet: &mut [u8], r: usize, p: usize, w: usize, a: usize) -> bool {
+    let read = io::read_full(fd, sheet);
+    if read != sheet.len() {
+        return false;
+    }
+    io::write_all(STDOUT_FILENO, b"# ");
+    io::print_decimal(STDOUT_FILENO, k as u64);
     io::write_all(STDOUT_FILENO, b"\n");
-    print_bytes(&records[..r]);
-    print_words(b"places", &places[..p]);
-    print_words(b"rows", &rows[..w]);
-    print_words(b"answers", &answers[..a]);
+    run(sheet, r, p, w, a);
+    true
 }
 
 // Judges the next sheet of the file, the one with the number k; false where there is none.
@@ -63,21 +112,16 @@ fn next(fd: i32, k: usize) -> bool {
     if got != 10 {
         return false;
     }
-    let length = u16_at(&head, 8);
-    let mut sheet = [0u8; 65536];
-    let read = io::read_full(fd, &mut sheet[..length]);
-    if read != length {
-        return false;
-    }
-    io::write_all(STDOUT_FILENO, b"# ");
-    io::print_decimal(STDOUT_FILENO, k as u64);
-    io::write_all(STDOUT_FILENO, b"\n");
     let r = u16_at(&head, 0);
     let p = u16_at(&head, 2);
     let w = u16_at(&head, 4);
     let a = u16_at(&head, 6);
-    run(&sheet[..length], r, p, w, a);
-    true
+    let length = u16_at(&head, 8);
+    if 65535 < length {
+        return false;
+    }
+    let mut sheet = [0u8; 65536];
+    show(fd, k, &mut sheet[..length], r, p, w, a)
 }
 
 // Judges at most 100,000 sheets.
