@@ -37,18 +37,12 @@ fn main() {
         let bytes = fs::read(&source).unwrap();
         fs::write(&target, bytes).unwrap();
     }
-    let ast =
-        ["rc", "sort", "term", "substitution"].map(|name| (name, format!("src/ast/{name}.rs")));
+    let ast = ["rc", "sort", "term", "substitution"].map(|name| (name, format!("src/ast/{name}.rs")));
     let mut modules = String::new();
     for (name, file) in ast {
         module(&mut modules, "", name, &out.join(file));
     }
-    module(
-        &mut modules,
-        "pub ",
-        "pool",
-        &out.join("src/ast/pool/mod.rs"),
-    );
+    module(&mut modules, "pub ", "pool", &out.join("src/ast/pool/mod.rs"));
     fs::write(out.join("ast_modules.rs"), modules).unwrap();
     let mut utils = String::new();
     module(&mut utils, "pub ", "utils", &out.join("src/utils.rs"));
@@ -62,11 +56,7 @@ fn main() {
         ("QUALIFIED", "QualifiedOperator"),
     ] {
         let cases = cases(&term, name);
-        writeln!(
-            lists,
-            "/// The cases of `{name}` without a part, in its order."
-        )
-        .unwrap();
+        writeln!(lists, "/// The cases of `{name}` without a part, in its order.").unwrap();
         writeln!(lists, "pub const {list}: [{name}; {}] = [", cases.len()).unwrap();
         for case in cases {
             writeln!(lists, "    {name}::{case},").unwrap();
@@ -79,14 +69,10 @@ fn main() {
 /// Where a file of carcara stands in the folder.
 fn find(from: &Path, file: &str) -> PathBuf {
     let flat = format!("src--{}.txt", file.replace('/', "--"));
-    [
-        from.join(file),
-        from.join("carcara").join(file),
-        from.join(flat),
-    ]
-    .into_iter()
-    .find(|path| path.is_file())
-    .unwrap_or_else(|| panic!("no {file} in the folder that NAPSILO_CARCARA names"))
+    [from.join(file), from.join("carcara").join(file), from.join(flat)]
+        .into_iter()
+        .find(|path| path.is_file())
+        .unwrap_or_else(|| panic!("no {file} in the folder that NAPSILO_CARCARA names"))
 }
 
 /// Writes the lines that make a file a module. Most of carcara's functions have no caller here.

@@ -8,10 +8,7 @@
 //! The limits of an answer (22) are judged here, since the Rust has none; those of the lent store (23) are not.
 
 use crate::ast::lists::{BINDERS, INDEXED, OPERATORS, QUALIFIED};
-use crate::ast::{
-    BindingList, Constant, MatchCase, MatchPattern, Operator, Pool, Rc, Sort, SortSubstitution,
-    Term,
-};
+use crate::ast::{BindingList, Constant, MatchCase, MatchPattern, Operator, Pool, Rc, Sort, SortSubstitution, Term};
 use crate::automata::Automaton;
 use crate::quiet;
 use crate::sheet::{LONGEST, Record, Sheet, WIDEST};
@@ -100,11 +97,7 @@ pub fn over_unsorted(operator: Operator) -> Row {
     let mut pool = Pool::new();
     let argument = Term::Op(Operator::Select, Vec::new());
     assert!(quiet::catch(|| pool.add(argument.clone())).is_none());
-    let argument = pool
-        .terms
-        .get(&argument)
-        .expect("the pool keeps it")
-        .clone();
+    let argument = pool.terms.get(&argument).expect("the pool keeps it").clone();
     match quiet::catch(|| pool.add(Term::Op(operator, vec![argument]))) {
         None => Row::Refused(21),
         Some(term) => Row::Sort(pool.sort(&term)),
@@ -117,10 +110,7 @@ fn sort(record: &Record, sorts: &[Rc<Sort>]) -> Sort {
     let part = |at: usize| sorts[usize::from(record.list[at])].clone();
     match record.kind {
         0 => Sort::Function(list()),
-        1 => Sort::Atom(
-            name(record.name).into_boxed_str(),
-            list().into_boxed_slice(),
-        ),
+        1 => Sort::Atom(name(record.name).into_boxed_str(), list().into_boxed_slice()),
         2 => Sort::Var(name(record.name)),
         3 => Sort::Bool,
         4 => Sort::Int,
@@ -144,9 +134,7 @@ fn sort(record: &Record, sorts: &[Rc<Sort>]) -> Sort {
 
 /// The sorts of these numbers.
 fn numbered(numbers: &[u16], sorts: &[Rc<Sort>]) -> impl Iterator<Item = Rc<Sort>> {
-    numbers
-        .iter()
-        .map(|&number| sorts[usize::from(number)].clone())
+    numbers.iter().map(|&number| sorts[usize::from(number)].clone())
 }
 
 /// A term record's term; nothing if a term that it refers to has no sort.

@@ -60,10 +60,7 @@ fn answered(sheet: &[u8]) -> Vec<String> {
 
 /// The bytes that a text in hexadecimal gives.
 fn bytes(text: &str) -> Option<Vec<u8>> {
-    let digits: Vec<u32> = text
-        .chars()
-        .map(|c| c.to_digit(16))
-        .collect::<Option<_>>()?;
+    let digits: Vec<u32> = text.chars().map(|c| c.to_digit(16)).collect::<Option<_>>()?;
     digits
         .chunks(2)
         .map(|pair| match *pair {

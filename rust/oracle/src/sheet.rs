@@ -76,9 +76,7 @@ impl Bytes<'_> {
     fn pairs(&mut self) -> Option<Vec<(u16, u16)>> {
         let count = usize::from(self.byte()?);
         (count <= LONGEST).then_some(())?;
-        (0..count)
-            .map(|_| Some((self.short()?, self.short()?)))
-            .collect()
+        (0..count).map(|_| Some((self.short()?, self.short()?))).collect()
     }
 
     /// A record whose bit map is its kind's.
@@ -113,10 +111,7 @@ impl Bytes<'_> {
 
 /// Whether no name stands twice.
 fn distinct(names: &[u16]) -> bool {
-    names
-        .iter()
-        .enumerate()
-        .all(|(at, name)| !names[..at].contains(name))
+    names.iter().enumerate().all(|(at, name)| !names[..at].contains(name))
 }
 
 /// Whether all numbers are under a bound.
@@ -150,10 +145,7 @@ fn term_stands(record: &Record, own: usize, sorts: usize) -> bool {
         _ => true,
     };
     let own_sort = !matches!(record.kind, 5 | 12) || usize::from(record.sort) < sorts;
-    let pairs = record
-        .pairs
-        .iter()
-        .all(|&(_, sort)| usize::from(sort) < sorts);
+    let pairs = record.pairs.iter().all(|&(_, sort)| usize::from(sort) < sorts);
     shape && own_sort && pairs && under(&record.list, own)
 }
 

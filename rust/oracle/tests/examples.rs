@@ -59,28 +59,15 @@ fn app(entries: &[u16]) -> Vec<u8> {
 
 /// The lines for a sheet of these records.
 fn lines(sorts: &[Vec<u8>], terms: &[Vec<u8>], questions: &[Vec<u8>]) -> Vec<String> {
-    let counts =
-        [sorts, terms, questions].map(|part| u16::try_from(part.len()).expect("few records"));
-    let sheet = [
-        shorts(&counts),
-        sorts.concat(),
-        terms.concat(),
-        questions.concat(),
-    ]
-    .concat();
+    let counts = [sorts, terms, questions].map(|part| u16::try_from(part.len()).expect("few records"));
+    let sheet = [shorts(&counts), sorts.concat(), terms.concat(), questions.concat()].concat();
     oracle::on_stack(|| oracle::lines(&sheet)).expect("a well-formed sheet")
 }
 
 #[test]
 fn numbers_count_in_the_order_of_the_enums() {
-    assert_eq!(
-        (OPERATORS.len(), BINDERS.len(), QUALIFIED.len()),
-        (135, 4, 3)
-    );
-    assert_eq!(
-        INDEXED[12..],
-        [ParamOperator::Tester, ParamOperator::TupleSelect]
-    );
+    assert_eq!((OPERATORS.len(), BINDERS.len(), QUALIFIED.len()), (135, 4, 3));
+    assert_eq!(INDEXED[12..], [ParamOperator::Tester, ParamOperator::TupleSelect]);
     for (number, operator) in [
         (0, Operator::True),
         (24, Operator::Pow2),
@@ -99,9 +86,7 @@ fn numbers_count_in_the_order_of_the_enums() {
 
 #[test]
 fn k1_to_k5() {
-    let k1 = [
-        0x01, 0, 0x02, 0, 0x01, 0, 0x01, 0x04, 0x05, 0, 0x07, 0, 0, 0,
-    ];
+    let k1 = [0x01, 0, 0x02, 0, 0x01, 0, 0x01, 0x04, 0x05, 0, 0x07, 0, 0, 0];
     let k1 = [
         k1.as_slice(),
         &[0x15, 0x07, 0x0a, 0, 0, 0, 0x02, 0, 0, 0, 0],
@@ -157,10 +142,7 @@ fn k6_to_k9() {
     ];
     let lines = lines(&sorts, &terms, &[]);
     assert_eq!(lines[3..6], ["T3 (-> Real Bool)", "T4 (->)", "T5 !21"]);
-    assert_eq!(
-        lines[6..8],
-        ["T6 (par (n1) (-> 'n1 'n1 (Set 'n1)))", "T7 !21"]
-    );
+    assert_eq!(lines[6..8], ["T6 (par (n1) (-> 'n1 'n1 (Set 'n1)))", "T7 !21"]);
     assert_eq!(lines[8..], ["T8 (par (n1 n2) (-> 'n1 'n2))", "T9 'n2"]);
 }
 
@@ -194,13 +176,7 @@ fn k10_to_k12() {
 
 #[test]
 fn a_panic_refuses_its_own_row_and_those_above() {
-    let terms = [
-        op(42, &[]),
-        op(42, &[]),
-        op(2, &[0]),
-        op(16, &[2]),
-        op(0, &[]),
-    ];
+    let terms = [op(42, &[]), op(42, &[]), op(2, &[0]), op(16, &[2]), op(0, &[])];
     assert_eq!(
         lines(&[], &terms, &[]),
         ["T0 !21", "T1 !21", "T2 !20", "T3 !20", "T4 Bool"]

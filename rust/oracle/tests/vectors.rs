@@ -19,8 +19,7 @@ fn vectors() -> Option<Vec<Vector>> {
     let mut vectors: Vec<Vector> = Vec::new();
     for line in text.lines() {
         if let Some(hex) = line.strip_prefix("sheet") {
-            let byte =
-                |at: usize| u8::from_str_radix(&hex.trim()[at..at + 2], 16).expect("hexadecimal");
+            let byte = |at: usize| u8::from_str_radix(&hex.trim()[at..at + 2], 16).expect("hexadecimal");
             let sheet = (0..hex.trim().len()).step_by(2).map(byte).collect();
             vectors.push(Vector {
                 sheet,
@@ -90,10 +89,7 @@ fn recorded_sheets() {
                     false => answers += 1,
                 }
                 if line != without_checked(recorded) {
-                    differences.push(format!(
-                        "{line} but recorded {recorded}: {}",
-                        hex(&vector.sheet)
-                    ));
+                    differences.push(format!("{line} but recorded {recorded}: {}", hex(&vector.sheet)));
                 }
             }
         }

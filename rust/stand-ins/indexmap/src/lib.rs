@@ -38,9 +38,7 @@ impl<K, V, S: Default> Default for IndexMap<K, V, S> {
 
 impl<K: fmt::Debug, V: fmt::Debug, S> fmt::Debug for IndexMap<K, V, S> {
     fn fmt(&self, f: &mut fmt::Formatter) -> fmt::Result {
-        f.debug_map()
-            .entries(self.entries.iter().map(|(k, v)| (k, v)))
-            .finish()
+        f.debug_map().entries(self.entries.iter().map(|(k, v)| (k, v))).finish()
     }
 }
 
@@ -63,10 +61,7 @@ impl<K: Hash + Eq, V, S: BuildHasher> IndexMap<K, V, S> {
         K: Borrow<Q>,
     {
         let places = self.table.get(&self.hasher.hash_one(key))?;
-        places
-            .iter()
-            .copied()
-            .find(|&at| self.entries[at].0.borrow() == key)
+        places.iter().copied().find(|&at| self.entries[at].0.borrow() == key)
     }
 
     /// The value of a key.
@@ -142,9 +137,7 @@ impl<'a, K: Hash + Eq, V: Default, S: BuildHasher> Entry<'a, K, V, S> {
     }
 }
 
-impl<K: Hash + Eq + Borrow<Q>, V, S: BuildHasher, Q: Hash + Eq + ?Sized> Index<&Q>
-    for IndexMap<K, V, S>
-{
+impl<K: Hash + Eq + Borrow<Q>, V, S: BuildHasher, Q: Hash + Eq + ?Sized> Index<&Q> for IndexMap<K, V, S> {
     type Output = V;
 
     fn index(&self, key: &Q) -> &V {
@@ -152,9 +145,7 @@ impl<K: Hash + Eq + Borrow<Q>, V, S: BuildHasher, Q: Hash + Eq + ?Sized> Index<&
     }
 }
 
-impl<K: Hash + Eq + Borrow<Q>, V, S: BuildHasher, Q: Hash + Eq + ?Sized> IndexMut<&Q>
-    for IndexMap<K, V, S>
-{
+impl<K: Hash + Eq + Borrow<Q>, V, S: BuildHasher, Q: Hash + Eq + ?Sized> IndexMut<&Q> for IndexMap<K, V, S> {
     fn index_mut(&mut self, key: &Q) -> &mut V {
         let at = self.position(key).expect("IndexMap: key not found");
         &mut self.entries[at].1
