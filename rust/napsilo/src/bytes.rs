@@ -138,14 +138,8 @@ fn sort(record: &Record, earlier: &[Arc<Sort>]) -> Option<Sort> {
         8 => Sort::Array(part(0)?, part(1)?),
         9 => Sort::BitVec(record.number),
         10 => Sort::ParamBitVec,
-        11 => Sort::Datatype {
-            name,
-            args: parts()?,
-        },
-        12 => Sort::Par(
-            record.second.iter().map(|n| Name::new(*n)).collect(),
-            part(0)?,
-        ),
+        11 => Sort::Datatype { name, args: parts()? },
+        12 => Sort::Par(record.second.iter().map(|n| Name::new(*n)).collect(), part(0)?),
         13 => Sort::Type,
         14 => Sort::Set(part(0)?),
         15 => Sort::Tuple(parts()?),

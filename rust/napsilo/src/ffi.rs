@@ -24,13 +24,7 @@ mod library {
 }
 
 /// Judges a sheet into the lent buffers: 0 for an accepted sheet, else the number of the refusal.
-pub fn judge(
-    sheet: &[u8],
-    records: &mut [u8],
-    places: &mut [u32],
-    rows: &mut [u32],
-    answers: &mut [u32],
-) -> u32 {
+pub fn judge(sheet: &[u8], records: &mut [u8], places: &mut [u32], rows: &mut [u32], answers: &mut [u32]) -> u32 {
     // SAFETY: each pointer and length is a Rust slice's, so it is not null, aligned, and valid for its length: to read for the sheet, to
     // read and write for the four buffers. The buffers are borrowed exclusively, so they overlap neither each other nor the sheet, and
     // all five borrows last until the call returns. The function has no other precondition.

@@ -154,8 +154,7 @@ pub fn judge_with(sheet: &[u8], lent: Lent) -> Result<Judged, Refusal> {
     let mut rows = vec![0; lent.rows];
     let mut answers = vec![0; lent.answers];
     judge_into(sheet, &mut records, &mut places, &mut rows, &mut answers)?;
-    Ok(decode(sheet, &records, &places, &rows, &answers)
-        .expect("the library writes a store, rows and answers"))
+    Ok(decode(sheet, &records, &places, &rows, &answers).expect("the library writes a store, rows and answers"))
 }
 
 /// Judges a sheet into lent buffers of any lengths, whatever they hold.
@@ -180,13 +179,7 @@ pub fn judge_into(
 }
 
 /// Reads what the library wrote for an accepted sheet; nothing if it is no store, no row or no answer.
-fn decode(
-    sheet: &[u8],
-    records: &[u8],
-    places: &[u32],
-    rows: &[u32],
-    answers: &[u32],
-) -> Option<Judged> {
+fn decode(sheet: &[u8], records: &[u8], places: &[u32], rows: &[u32], answers: &[u32]) -> Option<Judged> {
     let outline = bytes::outline(sheet)?;
     let store = bytes::store(records, places)?;
     let sort = |word: u32| -> Option<Row> {

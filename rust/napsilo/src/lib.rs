@@ -86,6 +86,6 @@ pub use refusal::{Cause, Refusal};
 pub use sort::Sort;
 pub use text::{print, printout};
 pub use writer::{
-    GREATEST_WIDTH, LONGEST_LIST, MOST_BYTES, MOST_QUESTIONS, MOST_SORTS, MOST_TERMS, QuestionId,
-    QuestionRecord, SheetWriter, SortId, SortRecord, TermId, TermRecord, WriteError,
+    GREATEST_WIDTH, LONGEST_LIST, MOST_BYTES, MOST_QUESTIONS, MOST_SORTS, MOST_TERMS, QuestionId, QuestionRecord,
+    SheetWriter, SortId, SortRecord, TermId, TermRecord, WriteError,
 };

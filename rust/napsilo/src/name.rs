@@ -69,10 +69,7 @@ impl Names {
     pub fn string(&self, name: Name) -> Option<&str> {
         match name.0 {
             0 => Some("?"),
-            number => self
-                .strings
-                .get(usize::from(number) - 1)
-                .map(String::as_str),
+            number => self.strings.get(usize::from(number) - 1).map(String::as_str),
         }
     }
 }

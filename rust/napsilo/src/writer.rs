@@ -199,13 +199,10 @@ impl WriteError {
     pub const fn refusal(self) -> Option<Refusal> {
         match self {
             WriteError::TooLong => Some(Refusal::Length),
-            WriteError::TooManySorts | WriteError::TooManyTerms | WriteError::TooManyQuestions => {
-                Some(Refusal::Header)
+            WriteError::TooManySorts | WriteError::TooManyTerms | WriteError::TooManyQuestions => Some(Refusal::Header),
+            WriteError::LongList(_) | WriteError::Width(_) | WriteError::NoParameter | WriteError::RepeatedName(_) => {
+                Some(Refusal::Value)
             }
-            WriteError::LongList(_)
-            | WriteError::Width(_)
-            | WriteError::NoParameter
-            | WriteError::RepeatedName(_) => Some(Refusal::Value),
             WriteError::NoSort(_) | WriteError::NoTerm(_) => Some(Refusal::Reference),
             WriteError::TooManyNames => None,
         }
@@ -332,12 +329,7 @@ impl SheetWriter {
 
     /// The length of the sheet in bytes.
     pub fn length(&self) -> usize {
-        HEADER
-            + self
-                .parts
-                .iter()
-                .map(|part| part.bytes.len())
-                .sum::<usize>()
+        HEADER + self.parts.iter().map(|part| part.bytes.len()).sum::<usize>()
     }
 
     /// The sheet.
@@ -444,15 +436,13 @@ impl SheetWriter {
     /// The first of these sorts that is not there.
     fn no_sort(&self, ids: impl IntoIterator<Item = SortId>) -> Option<WriteError> {
         let mut ids = ids.into_iter();
-        ids.find(|id| id.index() >= self.sorts())
-            .map(WriteError::NoSort)
+        ids.find(|id| id.index() >= self.sorts()).map(WriteError::NoSort)
     }
 
     /// The first of these terms that is not there.
     fn no_term(&self, ids: impl IntoIterator<Item = TermId>) -> Option<WriteError> {
         let mut ids = ids.into_iter();
-        ids.find(|id| id.index() >= self.terms())
-            .map(WriteError::NoTerm)
+        ids.find(|id| id.index() >= self.terms()).map(WriteError::NoTerm)
     }
 
     /// Adds a list of sorts to a record.
@@ -473,8 +463,7 @@ impl SheetWriter {
     fn sort_record(&self, sort: SortRecord<'_>) -> Record {
         let plain = |kind| Record::new(1, kind);
         let parts = |kind, ids| self.sort_list(Record::new(17, kind), ids);
-        let named =
-            |kind, name: Name, ids| self.sort_list(Record::new(19, kind).short(name.number()), ids);
+        let named = |kind, name: Name, ids| self.sort_list(Record::new(19, kind).short(name.number()), ids);
         match sort {
             SortRecord::Function(ids) => parts(0, ids),
             SortRecord::Atom(name, ids) => named(1, name, ids),
@@ -513,20 +502,14 @@ impl SheetWriter {
                 .short(name.number())
                 .short(sort.0)
                 .fault(self.no_sort([sort])),
-            TermRecord::App(head, args) => {
-                self.term_list(Record::new(17, 6), &[&[head], args].concat())
-            }
-            TermRecord::Op(op, args) => {
-                self.term_list(Record::new(21, 7).long(u32::from(op.number())), args)
-            }
+            TermRecord::App(head, args) => self.term_list(Record::new(17, 6), &[&[head], args].concat()),
+            TermRecord::Op(op, args) => self.term_list(Record::new(21, 7).long(u32::from(op.number())), args),
             TermRecord::Binder(binder, bindings, body) => {
                 let record = Record::new(53, 8).long(u32::from(binder.number()));
                 let record = self.term_list(record, &[body]).count(bindings.len());
                 bindings
                     .iter()
-                    .fold(record, |record, (name, sort)| {
-                        record.short(name.number()).short(sort.0)
-                    })
+                    .fold(record, |record, (name, sort)| record.short(name.number()).short(sort.0))
                     .fault(self.no_sort(bindings.iter().map(|(_, sort)| *sort)))
             }
             TermRecord::Let(values, inner) => {
@@ -534,9 +517,7 @@ impl SheetWriter {
                 self.term_list(Record::new(81, 9), &list)
                     .list(values.iter().map(|(name, _)| name.number()))
             }
-            TermRecord::Match(subject, bodies) => {
-                self.term_list(Record::new(17, 10), &[&[subject], bodies].concat())
-            }
+            TermRecord::Match(subject, bodies) => self.term_list(Record::new(17, 10), &[&[subject], bodies].concat()),
             TermRecord::ParamOp { op, op_args, args } => {
                 let record = Record::new(85, 11).long(u32::from(op.number()));
                 self.term_list(self.term_list(record, args), op_args)
