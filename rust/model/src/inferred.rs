@@ -139,9 +139,7 @@ fn first_vector(sorts: &[Tree]) -> Option<Tree> {
 
 /// The sort of vectors joined: of unknown width if one is.
 fn joined(sorts: &[Tree]) -> Option<Tree> {
-    let vectors = sorts
-        .iter()
-        .all(|sort| matches!(sort.kind, Kind::BitVec | Kind::ParamBitVec));
+    let vectors = sorts.iter().all(|sort| matches!(sort.kind, Kind::BitVec | Kind::ParamBitVec));
     if !vectors {
         return None;
     }

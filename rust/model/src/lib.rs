@@ -71,12 +71,7 @@ pub struct Judged {
 
 /// Judges a sheet with buffers of these lengths.
 pub fn judge(sheet: &[u8], records_len: usize, places_len: usize, rows_len: usize, answers_len: usize) -> Judged {
-    let lent = Lent {
-        records: records_len,
-        places: places_len,
-        rows: rows_len,
-        answers: answers_len,
-    };
+    let lent = Lent { records: records_len, places: places_len, rows: rows_len, answers: answers_len };
     let mut judged = Judged {
         number: 0,
         records: vec![0; records_len],

@@ -6,12 +6,7 @@ use crate::{Judged, judge};
 use std::fmt::Write;
 
 /// The program's buffers.
-const PROGRAM: Lent = Lent {
-    records: 65_536,
-    places: 4_096,
-    rows: 8_192,
-    answers: 1_024,
-};
+const PROGRAM: Lent = Lent { records: 65_536, places: 4_096, rows: 8_192, answers: 1_024 };
 
 /// What the program prints for a sheet.
 pub fn printout(sheet: &[u8]) -> String {
@@ -56,17 +51,11 @@ fn name(number: u32) -> String {
 fn sort(judged: &Judged, number: u32) -> String {
     let record = &judged.records[judged.places[number as usize] as usize..];
     let short = |at: usize| u32::from(record[at]) + 256 * u32::from(record[at + 1]);
-    let list = |at: usize| -> Vec<u32> {
-        (0..usize::from(record[at]))
-            .map(|entry| short(at + 1 + 2 * entry))
-            .collect()
-    };
+    let list =
+        |at: usize| -> Vec<u32> { (0..usize::from(record[at])).map(|entry| short(at + 1 + 2 * entry)).collect() };
     // An opening, the parts of a list at this place with a blank before each, and a closing.
     let around = |open: &str, at: usize, close: &str| -> String {
-        let parts: String = list(at)
-            .into_iter()
-            .map(|part| format!(" {}", sort(judged, part)))
-            .collect();
+        let parts: String = list(at).into_iter().map(|part| format!(" {}", sort(judged, part))).collect();
         format!("{open}{parts}{close}")
     };
     match KINDS[usize::from(record[1])] {

@@ -191,10 +191,7 @@ fn expect(stands: bool, refusal: Refusal) -> Result<(), Refusal> {
 
 /// Little-endian shorts.
 fn shorts(bytes: &[u8]) -> Vec<u16> {
-    bytes
-        .chunks(2)
-        .map(|pair| u16::from_le_bytes([pair[0], pair[1]]))
-        .collect()
+    bytes.chunks(2).map(|pair| u16::from_le_bytes([pair[0], pair[1]])).collect()
 }
 
 /// A reference under a bound.
@@ -263,14 +260,7 @@ fn sort(cursor: &mut Cursor, sorts: &[Tree]) -> Result<Tree, Refusal> {
 /// Reads the term record with this number.
 fn term(cursor: &mut Cursor, own: usize, sorts: &[Tree]) -> Result<Term, Refusal> {
     let (map, kind) = cursor.head(&TERM_MAPS)?;
-    let mut term = Term {
-        kind,
-        number: 0,
-        sort: None,
-        list: Vec::new(),
-        bindings: Vec::new(),
-        indices: Vec::new(),
-    };
+    let mut term = Term { kind, number: 0, sort: None, list: Vec::new(), bindings: Vec::new(), indices: Vec::new() };
     if map & field::NAME != 0 {
         cursor.short()?;
     }

@@ -82,15 +82,7 @@ impl Sort {
         let size = parts.iter().fold(1, |sum: u64, part| sum.saturating_add(part.size));
         let short =
             width <= WIDEST && parts.len() <= LONGEST && names.len() <= LONGEST && parts.iter().all(|part| part.short);
-        Rc::new(Sort {
-            size,
-            short,
-            kind,
-            name,
-            width,
-            parts,
-            names,
-        })
+        Rc::new(Sort { size, short, kind, name, width, parts, names })
     }
 
     /// A sort of a kind that has no fields.

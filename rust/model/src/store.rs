@@ -28,13 +28,7 @@ pub struct Store {
 impl Store {
     /// An empty store with this much room.
     pub fn new(bytes: usize, places: usize) -> Store {
-        Store {
-            bytes,
-            most: places.min(MOST),
-            records: Vec::new(),
-            places: Vec::new(),
-            numbers: HashMap::new(),
-        }
+        Store { bytes, most: places.min(MOST), records: Vec::new(), places: Vec::new(), numbers: HashMap::new() }
     }
 
     /// The bytes of the records.

@@ -13,12 +13,7 @@ pub fn apply(map: &Map, sort: &Tree) -> Tree {
     match sort.kind {
         Kind::Var => map.get(&sort.name).unwrap_or(sort).clone(),
         Kind::Par => {
-            let kept: Vec<u16> = sort
-                .names
-                .iter()
-                .copied()
-                .filter(|name| !map.contains_key(name))
-                .collect();
+            let kept: Vec<u16> = sort.names.iter().copied().filter(|name| !map.contains_key(name)).collect();
             let mut parts = parts();
             match kept.is_empty() {
                 true => parts.remove(0),
@@ -60,10 +55,7 @@ fn equal_but_for_width(a: &Sort, b: &Sort) -> bool {
 
 /// Whether two sorts are of one kind that has a list of parts, with the same name and as many parts.
 fn same_list(a: &Sort, b: &Sort) -> bool {
-    let listed = matches!(
-        a.kind,
-        Kind::Function | Kind::Atom | Kind::Array | Kind::Datatype | Kind::Set | Kind::Tuple
-    );
+    let listed = matches!(a.kind, Kind::Function | Kind::Atom | Kind::Array | Kind::Datatype | Kind::Set | Kind::Tuple);
     listed && (a.kind, a.name, a.parts.len()) == (b.kind, b.name, b.parts.len())
 }
 

@@ -31,9 +31,7 @@ fn after<'a>(line: &'a str, word: &str) -> &'a str {
 
 /// Numbers with blanks between them.
 fn numbers(text: &str) -> Vec<u32> {
-    text.split_whitespace()
-        .map(|number| number.parse().expect("a number"))
-        .collect()
+    text.split_whitespace().map(|number| number.parse().expect("a number")).collect()
 }
 
 #[test]
@@ -64,10 +62,8 @@ fn library() {
     let (mut count, mut differences) = (0, Vec::new());
     for block in text.split("\n\n").filter(|block| !block.trim().is_empty()) {
         let lines: Vec<&str> = block.trim_matches('\n').lines().collect();
-        let lent: Vec<usize> = after(lines[0], "lent")
-            .split_whitespace()
-            .filter_map(|word| word.parse().ok())
-            .collect();
+        let lent: Vec<usize> =
+            after(lines[0], "lent").split_whitespace().filter_map(|word| word.parse().ok()).collect();
         let hex = after(lines[1], "sheet");
         let judged = judge(&bytes(hex), lent[0], lent[1], lent[2], lent[3]);
         count += 1;

@@ -80,11 +80,7 @@ pub fn ask(sheet: &Sheet) -> Option<Said> {
         terms.push(term);
         rows.push(row);
     }
-    let answers = sheet
-        .questions
-        .iter()
-        .map(|record| answer(record, &sorts, &mut pool, &mut sizes))
-        .collect();
+    let answers = sheet.questions.iter().map(|record| answer(record, &sorts, &mut pool, &mut sizes)).collect();
     Some(Said { rows, answers })
 }
 
@@ -120,10 +116,7 @@ fn sort(record: &Record, sorts: &[Rc<Sort>]) -> Sort {
         8 => Sort::Array(part(0), part(1)),
         9 => Sort::BitVec(record.number as usize),
         10 => Sort::ParamBitVec,
-        11 => Sort::Datatype {
-            name: name(record.name).into_boxed_str(),
-            args: list(),
-        },
+        11 => Sort::Datatype { name: name(record.name).into_boxed_str(), args: list() },
         12 => Sort::Par(record.second.iter().map(|&n| name(n)).collect(), part(0)),
         13 => Sort::Type,
         14 => Sort::Set(part(0)),
@@ -156,11 +149,7 @@ fn term(record: &Record, sorts: &[Rc<Sort>], terms: &[Option<Rc<Term>>]) -> Opti
         7 => Term::Op(OPERATORS[record.number as usize], list),
         8 => {
             let bindings = record.pairs.iter().map(|&(n, s)| (name(n), own(s)));
-            Term::Binder(
-                BINDERS[record.number as usize],
-                BindingList(bindings.collect()),
-                list.remove(0),
-            )
+            Term::Binder(BINDERS[record.number as usize], BindingList(bindings.collect()), list.remove(0))
         }
         9 => {
             let inner = list.pop()?;
@@ -169,10 +158,7 @@ fn term(record: &Record, sorts: &[Rc<Sort>], terms: &[Option<Rc<Term>>]) -> Opti
         }
         10 => {
             let subject = list.remove(0);
-            let case = |body| MatchCase {
-                pattern: MatchPattern::Wildcard,
-                body,
-            };
+            let case = |body| MatchCase { pattern: MatchPattern::Wildcard, body };
             Term::Match(subject, list.into_iter().map(case).collect())
         }
         11 => Term::ParamOp {
@@ -259,9 +245,7 @@ fn size(sizes: &mut Sizes, sort: &Rc<Sort>) -> u64 {
     let sum = if wide || parts.len() > LONGEST || names > LONGEST {
         u64::MAX
     } else {
-        parts
-            .into_iter()
-            .fold(1, |sum: u64, part| sum.saturating_add(size(sizes, part)))
+        parts.into_iter().fold(1, |sum: u64, part| sum.saturating_add(size(sizes, part)))
     };
     sizes.insert(sort.clone(), sum);
     sum
@@ -269,9 +253,5 @@ fn size(sizes: &mut Sizes, sort: &Rc<Sort>) -> u64 {
 
 /// A sort as a row: refused if its width, list or tree passes its limit.
 fn limited(sizes: &mut Sizes, sort: Rc<Sort>) -> Row {
-    if size(sizes, &sort) <= LARGEST {
-        Row::Sort(sort)
-    } else {
-        Row::Refused(22)
-    }
+    if size(sizes, &sort) <= LARGEST { Row::Sort(sort) } else { Row::Refused(22) }
 }

@@ -82,10 +82,7 @@ impl Bytes<'_> {
     /// A record whose bit map is its kind's.
     fn record(&mut self, maps: &[u8]) -> Option<Record> {
         let map = self.byte()?;
-        let mut record = Record {
-            kind: self.byte()?,
-            ..Record::default()
-        };
+        let mut record = Record { kind: self.byte()?, ..Record::default() };
         (maps.get(usize::from(record.kind)) == Some(&map)).then_some(())?;
         if map & 2 != 0 {
             record.name = self.short()?;

@@ -87,29 +87,10 @@ fn numbers_count_in_the_order_of_the_enums() {
 #[test]
 fn k1_to_k5() {
     let k1 = [0x01, 0, 0x02, 0, 0x01, 0, 0x01, 0x04, 0x05, 0, 0x07, 0, 0, 0];
-    let k1 = [
-        k1.as_slice(),
-        &[0x15, 0x07, 0x0a, 0, 0, 0, 0x02, 0, 0, 0, 0],
-        &[0x11, 0, 0x02, 0, 0, 0, 0],
-    ]
-    .concat();
+    let k1 = [k1.as_slice(), &[0x15, 0x07, 0x0a, 0, 0, 0, 0x02, 0, 0, 0, 0], &[0x11, 0, 0x02, 0, 0, 0, 0]].concat();
     assert_eq!(oracle::lines(&k1).unwrap(), ["T0 Int", "T1 Int", "Q0 yes"]);
-    let terms = [
-        op(83, &[]),
-        op(90, &[]),
-        constant(4, 8),
-        constant(0, 7),
-        op(83, &[2, 3]),
-        op(115, &[]),
-    ];
-    let expected = [
-        "T0 (_ BitVec ?)",
-        "T1 (_ BitVec 0)",
-        "T2 (_ BitVec 8)",
-        "T3 Int",
-        "T4 (_ BitVec 8)",
-        "T5 '?",
-    ];
+    let terms = [op(83, &[]), op(90, &[]), constant(4, 8), constant(0, 7), op(83, &[2, 3]), op(115, &[])];
+    let expected = ["T0 (_ BitVec ?)", "T1 (_ BitVec 0)", "T2 (_ BitVec 8)", "T3 Int", "T4 (_ BitVec 8)", "T5 '?"];
     assert_eq!(lines(&[], &terms, &[]), expected);
 }
 
@@ -160,14 +141,7 @@ fn k10_to_k12() {
         parts(0, &[6, 7]),
         par(8, &[1, 2]),
     ];
-    let terms = [
-        var(3),
-        var(5),
-        op(133, &[0, 1]),
-        constant(4, 65_535),
-        constant(4, 1),
-        op(90, &[3, 4]),
-    ];
+    let terms = [var(3), var(5), op(133, &[0, 1]), constant(4, 65_535), constant(4, 1), op(90, &[3, 4])];
     let question = [vec![81, 2], list(&[9, 0]), list(&[1])].concat();
     let lines = lines(&sorts, &terms, &[question]);
     assert_eq!(lines[2], "T2 (Set (Tuple Real))");
@@ -177,10 +151,7 @@ fn k10_to_k12() {
 #[test]
 fn a_panic_refuses_its_own_row_and_those_above() {
     let terms = [op(42, &[]), op(42, &[]), op(2, &[0]), op(16, &[2]), op(0, &[])];
-    assert_eq!(
-        lines(&[], &terms, &[]),
-        ["T0 !21", "T1 !21", "T2 !20", "T3 !20", "T4 Bool"]
-    );
+    assert_eq!(lines(&[], &terms, &[]), ["T0 !21", "T1 !21", "T2 !20", "T3 !20", "T4 Bool"]);
 }
 
 #[test]

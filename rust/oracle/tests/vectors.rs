@@ -21,10 +21,7 @@ fn vectors() -> Option<Vec<Vector>> {
         if let Some(hex) = line.strip_prefix("sheet") {
             let byte = |at: usize| u8::from_str_radix(&hex.trim()[at..at + 2], 16).expect("hexadecimal");
             let sheet = (0..hex.trim().len()).step_by(2).map(byte).collect();
-            vectors.push(Vector {
-                sheet,
-                lines: Vec::new(),
-            });
+            vectors.push(Vector { sheet, lines: Vec::new() });
         } else if let Some(line) = line.strip_prefix("  ") {
             let vector = vectors.last_mut().expect("a sheet stands before its lines");
             vector.lines.push(line.to_owned());
@@ -95,9 +92,5 @@ fn recorded_sheets() {
         }
     });
     println!("{sheets} sheets, {rows} inferred rows, {answers} answers; {turned} sheets refused");
-    assert!(
-        differences.is_empty(),
-        "{} differences: {differences:#?}",
-        differences.len()
-    );
+    assert!(differences.is_empty(), "{} differences: {differences:#?}", differences.len());
 }

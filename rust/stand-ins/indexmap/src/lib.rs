@@ -28,11 +28,7 @@ impl<K, V> IndexMap<K, V> {
 
 impl<K, V, S: Default> Default for IndexMap<K, V, S> {
     fn default() -> Self {
-        IndexMap {
-            entries: Vec::new(),
-            table: HashMap::new(),
-            hasher: S::default(),
-        }
+        IndexMap { entries: Vec::new(), table: HashMap::new(), hasher: S::default() }
     }
 }
 
@@ -201,11 +197,7 @@ impl<T> IndexSet<T> {
 impl<T, S> IndexSet<T, S> {
     /// An empty set with a hasher of the caller's. The capacity is not used.
     pub fn with_capacity_and_hasher(_capacity: usize, hasher: S) -> Self {
-        IndexSet(IndexMap {
-            entries: Vec::new(),
-            table: HashMap::new(),
-            hasher,
-        })
+        IndexSet(IndexMap { entries: Vec::new(), table: HashMap::new(), hasher })
     }
 
     /// The elements in order.

@@ -72,15 +72,8 @@ impl Rational {
     fn reduced(numerator: i128, denominator: i128) -> Self {
         assert!(denominator != 0, "division by zero");
         let sign = if denominator < 0 { -1 } else { 1 };
-        let common = sign
-            * divisor(
-                numerator.checked_abs().expect(PAST),
-                denominator.checked_abs().expect(PAST),
-            );
-        Rational {
-            numerator: numerator / common,
-            denominator: denominator / common,
-        }
+        let common = sign * divisor(numerator.checked_abs().expect(PAST), denominator.checked_abs().expect(PAST));
+        Rational { numerator: numerator / common, denominator: denominator / common }
     }
 
     /// Whether the value is zero.
@@ -97,10 +90,7 @@ impl From<u32> for Rational {
 
 impl From<Integer> for Rational {
     fn from(value: Integer) -> Self {
-        Rational {
-            numerator: value.0,
-            denominator: 1,
-        }
+        Rational { numerator: value.0, denominator: 1 }
     }
 }
 
@@ -108,10 +98,7 @@ impl Neg for Rational {
     type Output = Rational;
 
     fn neg(self) -> Rational {
-        Rational {
-            numerator: self.numerator.checked_neg().expect(PAST),
-            denominator: self.denominator,
-        }
+        Rational { numerator: self.numerator.checked_neg().expect(PAST), denominator: self.denominator }
     }
 }
 
