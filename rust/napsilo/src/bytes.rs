@@ -46,10 +46,7 @@ impl Bytes<'_> {
         if map & 1 == 0 {
             return None;
         }
-        let mut record = Record {
-            kind: self.byte()?,
-            ..Record::default()
-        };
+        let mut record = Record { kind: self.byte()?, ..Record::default() };
         if map & 2 != 0 {
             record.name = self.short()?;
         }
@@ -91,10 +88,7 @@ pub fn outline(sheet: &[u8]) -> Option<Outline> {
         bytes.record()?;
     }
     let kinds = (0..questions).map(|_| QuestionKind::from_number(bytes.record()?.kind));
-    Some(Outline {
-        terms: usize::from(terms),
-        questions: kinds.collect::<Option<_>>()?,
-    })
+    Some(Outline { terms: usize::from(terms), questions: kinds.collect::<Option<_>>()? })
 }
 
 /// The sorts of the store: records back to back, their offsets in the places, zeros behind in both.

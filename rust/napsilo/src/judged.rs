@@ -18,12 +18,7 @@ pub struct Lent {
 
 impl Lent {
     /// What the program lends: enough for every sheet, so that 8 and 10 do not happen.
-    pub const PROGRAM: Lent = Lent {
-        records: 65_536,
-        places: 4_096,
-        rows: 8_192,
-        answers: 1_024,
-    };
+    pub const PROGRAM: Lent = Lent { records: 65_536, places: 4_096, rows: 8_192, answers: 1_024 };
 }
 
 impl Default for Lent {
@@ -201,10 +196,5 @@ fn decode(sheet: &[u8], records: &[u8], places: &[u32], rows: &[u32], answers: &
         (QuestionKind::Compatible, _) => None,
         (QuestionKind::Match | QuestionKind::Apply, _) => Some(Answer::Sort(sort(*word)?)),
     });
-    Some(Judged {
-        inferred: column(0)?,
-        checked: column(1)?,
-        answers: answers.collect::<Option<_>>()?,
-        store,
-    })
+    Some(Judged { inferred: column(0)?, checked: column(1)?, answers: answers.collect::<Option<_>>()?, store })
 }

@@ -54,7 +54,7 @@
 //!   a reference ([`WriteError`]).
 //! - [`judge`], [`judge_with`] and [`judge_into`] call the library: with the program's buffers, with buffers of other lengths, into
 //!   buffers of the caller's. A sheet is [`Judged`] or refused ([`Refusal`], 1 to 10); a row is a [`Sort`] or refused ([`Cause`], 20 to 29).
-//! - [`printout`] and [`print`] give the text that the program prints.
+//! - [`printout`] and [`print()`] give the text that the program prints.
 //!
 //! # The library
 //!

@@ -267,10 +267,7 @@ struct Record {
 impl Record {
     /// A record with this bit map and kind.
     fn new(map: u8, kind: u8) -> Self {
-        Record {
-            bytes: vec![map, kind],
-            fault: None,
-        }
+        Record { bytes: vec![map, kind], fault: None }
     }
 
     /// Keeps a fault if it is the first.
@@ -447,16 +444,12 @@ impl SheetWriter {
 
     /// Adds a list of sorts to a record.
     fn sort_list(&self, record: Record, ids: &[SortId]) -> Record {
-        record
-            .list(ids.iter().map(|id| id.0))
-            .fault(self.no_sort(ids.iter().copied()))
+        record.list(ids.iter().map(|id| id.0)).fault(self.no_sort(ids.iter().copied()))
     }
 
     /// Adds a list of terms to a record.
     fn term_list(&self, record: Record, ids: &[TermId]) -> Record {
-        record
-            .list(ids.iter().map(|id| id.0))
-            .fault(self.no_term(ids.iter().copied()))
+        record.list(ids.iter().map(|id| id.0)).fault(self.no_term(ids.iter().copied()))
     }
 
     /// The record of a sort.
@@ -498,10 +491,9 @@ impl SheetWriter {
             TermRecord::String => Record::new(1, 2),
             TermRecord::RegLan => Record::new(1, 3),
             TermRecord::BitVec(width) => Record::new(5, 4).long(width).fault(too_wide(width)),
-            TermRecord::Var(name, sort) => Record::new(11, 5)
-                .short(name.number())
-                .short(sort.0)
-                .fault(self.no_sort([sort])),
+            TermRecord::Var(name, sort) => {
+                Record::new(11, 5).short(name.number()).short(sort.0).fault(self.no_sort([sort]))
+            }
             TermRecord::App(head, args) => self.term_list(Record::new(17, 6), &[&[head], args].concat()),
             TermRecord::Op(op, args) => self.term_list(Record::new(21, 7).long(u32::from(op.number())), args),
             TermRecord::Binder(binder, bindings, body) => {
@@ -514,8 +506,7 @@ impl SheetWriter {
             }
             TermRecord::Let(values, inner) => {
                 let list: Vec<TermId> = values.iter().map(|(_, id)| *id).chain([inner]).collect();
-                self.term_list(Record::new(81, 9), &list)
-                    .list(values.iter().map(|(name, _)| name.number()))
+                self.term_list(Record::new(81, 9), &list).list(values.iter().map(|(name, _)| name.number()))
             }
             TermRecord::Match(subject, bodies) => self.term_list(Record::new(17, 10), &[&[subject], bodies].concat()),
             TermRecord::ParamOp { op, op_args, args } => {
@@ -523,10 +514,7 @@ impl SheetWriter {
                 self.term_list(self.term_list(record, args), op_args)
             }
             TermRecord::AsOp(op, sort, args) => {
-                let record = Record::new(29, 12)
-                    .long(u32::from(op.number()))
-                    .short(sort.0)
-                    .fault(self.no_sort([sort]));
+                let record = Record::new(29, 12).long(u32::from(op.number())).short(sort.0).fault(self.no_sort([sort]));
                 self.term_list(record, args)
             }
         }
@@ -536,12 +524,7 @@ impl SheetWriter {
     fn question_record(&self, question: QuestionRecord<'_>) -> Record {
         match question {
             QuestionRecord::Compatible(one, two) => self.sort_list(Record::new(17, 0), &[one, two]),
-            QuestionRecord::Match {
-                pattern,
-                target,
-                result,
-                names,
-            } => self
+            QuestionRecord::Match { pattern, target, result, names } => self
                 .sort_list(Record::new(81, 1), &[pattern, target, result])
                 .list(names.iter().map(|name| name.number()))
                 .fault(repeated(names.iter().copied())),

@@ -40,9 +40,7 @@ impl<T: Copy + PartialEq + Debug + Default> Guarded<T> {
 
     /// Whether what is lent is all zeros from an entry on.
     fn zeros_from(&self, at: usize) -> bool {
-        self.look()[at.min(self.length)..]
-            .iter()
-            .all(|word| *word == T::default())
+        self.look()[at.min(self.length)..].iter().all(|word| *word == T::default())
     }
 }
 
@@ -66,13 +64,7 @@ fn run(sheet: &[u8], lent: Lent, dirt: u8) -> Run {
     let own = sheet.to_vec();
     let said = judge_into(sheet, records.lend(), places.lend(), rows.lend(), answers.lend());
     assert_eq!(own, sheet);
-    Run {
-        said,
-        records,
-        places,
-        rows,
-        answers,
-    }
+    Run { said, records, places, rows, answers }
 }
 
 /// The counts of a sheet's header: sorts, terms, questions.
@@ -145,12 +137,7 @@ fn every_small_length() {
             for places in 0..=places + 1 {
                 for rows in 0..=2 * terms + 1 {
                     for answers in 0..=questions + 1 {
-                        let lent = Lent {
-                            records,
-                            places,
-                            rows,
-                            answers,
-                        };
+                        let lent = Lent { records, places, rows, answers };
                         match promised(&sheet, lent, 0xa5) {
                             Ok(()) => accepted += 1,
                             Err(_) => refused += 1,
@@ -170,12 +157,7 @@ fn just_enough() {
     for sheet in sheets() {
         let (records, places) = taken(&sheet);
         let [_, terms, questions] = counts(&sheet);
-        let lent = Lent {
-            records,
-            places,
-            rows: 2 * terms,
-            answers: questions,
-        };
+        let lent = Lent { records, places, rows: 2 * terms, answers: questions };
         assert_eq!(judge_with(&sheet, lent), judge(&sheet));
     }
 }
@@ -183,12 +165,7 @@ fn just_enough() {
 /// Every beginning of a sheet, and every sheet with one byte changed: refused or accepted, and as promised.
 #[test]
 fn damaged_sheets() {
-    let lent = Lent {
-        records: 40,
-        places: 5,
-        rows: 8,
-        answers: 3,
-    };
+    let lent = Lent { records: 40, places: 5, rows: 8, answers: 3 };
     let mut by_number = [0; 11];
     let mut count = |said: Result<(), Refusal>| {
         by_number[said.err().map_or(0, |refusal| refusal.number() as usize)] += 1;

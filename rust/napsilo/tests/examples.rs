@@ -115,10 +115,7 @@ fn k9_k11() {
     let sort = SortRecord::Par(&[n(1), n(2)], sort);
     let sort = sheet.add_sort(sort).unwrap();
     let head = sheet.add_term(TermRecord::Var(n(1), sort)).unwrap();
-    let question = QuestionRecord::Apply {
-        sort,
-        map: &[(n(1), INT)],
-    };
+    let question = QuestionRecord::Apply { sort, map: &[(n(1), INT)] };
     let question = sheet.add_question(question).unwrap();
     let judged = judge(&sheet.finish()).unwrap();
     let answer = judged.answer(question).sort().unwrap().as_ref().unwrap();
@@ -162,12 +159,7 @@ fn questions() {
     let array = sheet.add_sort(SortRecord::Array(var, BOOL)).unwrap();
     let names = &[n(1)];
     let mut ask = |pattern, target| {
-        let question = QuestionRecord::Match {
-            pattern,
-            target,
-            result: array,
-            names,
-        };
+        let question = QuestionRecord::Match { pattern, target, result: array, names };
         sheet.add_question(question).unwrap()
     };
     let fits = ask(set, ints);

@@ -125,19 +125,13 @@ impl Source {
         let (record, written) = match self.random.under(16) {
             0 => (parts(0, &several), writer.add_sort(SortRecord::Function(&several_ids))),
             1 => (named(1), writer.add_sort(SortRecord::Atom(n(name), &several_ids))),
-            2 => (
-                [vec![3, 2], short(name)].concat(),
-                writer.add_sort(SortRecord::Var(n(name))),
-            ),
+            2 => ([vec![3, 2], short(name)].concat(), writer.add_sort(SortRecord::Var(n(name)))),
             3 => (vec![1, 3], writer.add_sort(SortRecord::Bool)),
             4 => (vec![1, 4], writer.add_sort(SortRecord::Int)),
             5 => (vec![1, 5], writer.add_sort(SortRecord::Real)),
             6 => (vec![1, 6], writer.add_sort(SortRecord::String)),
             7 => (vec![1, 7], writer.add_sort(SortRecord::RegLan)),
-            8 => (
-                parts(8, &[one, two]),
-                writer.add_sort(SortRecord::Array(SortId::new(one), SortId::new(two))),
-            ),
+            8 => (parts(8, &[one, two]), writer.add_sort(SortRecord::Array(SortId::new(one), SortId::new(two)))),
             9 => {
                 let width = self.width();
                 let record = [vec![5, 9], long(width)].concat();
@@ -157,11 +151,7 @@ impl Source {
             14 => (parts(14, &[one]), writer.add_sort(SortRecord::Set(SortId::new(one)))),
             _ => (parts(15, &several), writer.add_sort(SortRecord::Tuple(&several_ids))),
         };
-        Attempt {
-            part: 0,
-            record,
-            written: written.map(|_| ()),
-        }
+        Attempt { part: 0, record, written: written.map(|_| ()) }
     }
 
     /// Adds a random term to a writer and says what record it is.
@@ -174,10 +164,7 @@ impl Source {
         let (term_id, sort_id) = (TermId::new(term), SortId::new(sort));
         let behind = [&[term], several.as_slice()].concat();
         let (record, written) = match self.random.under(13) {
-            0 => (
-                [vec![5, 0], long(u32::MAX)].concat(),
-                writer.add_term(TermRecord::Integer(u32::MAX)),
-            ),
+            0 => ([vec![5, 0], long(u32::MAX)].concat(), writer.add_term(TermRecord::Integer(u32::MAX))),
             1 => (vec![1, 1], writer.add_term(TermRecord::Real)),
             2 => (vec![1, 2], writer.add_term(TermRecord::String)),
             3 => (vec![1, 3], writer.add_term(TermRecord::RegLan)),
@@ -186,14 +173,10 @@ impl Source {
                 let record = [vec![5, 4], long(width)].concat();
                 (record, writer.add_term(TermRecord::BitVec(width)))
             }
-            5 => (
-                [vec![11, 5], short(name), short(sort)].concat(),
-                writer.add_term(TermRecord::Var(n(name), sort_id)),
-            ),
-            6 if behind.len() < 256 => (
-                [vec![17, 6], list(&behind)].concat(),
-                writer.add_term(TermRecord::App(term_id, &several_ids)),
-            ),
+            5 => ([vec![11, 5], short(name), short(sort)].concat(), writer.add_term(TermRecord::Var(n(name), sort_id))),
+            6 if behind.len() < 256 => {
+                ([vec![17, 6], list(&behind)].concat(), writer.add_term(TermRecord::App(term_id, &several_ids)))
+            }
             8 => {
                 let op = self.random.of(Binder::ALL);
                 let names = self.names(several.len());
@@ -201,14 +184,7 @@ impl Source {
                 let pairs: Vec<u16> = names.iter().zip(&sorts).flat_map(|p| [*p.0, *p.1]).collect();
                 let pairs: Vec<u8> = pairs.iter().flat_map(|k| k.to_le_bytes()).collect();
                 let count = u8::try_from(names.len()).expect("under 256");
-                let record = [
-                    vec![53, 8],
-                    long(u32::from(op.number())),
-                    list(&[term]),
-                    vec![count],
-                    pairs,
-                ]
-                .concat();
+                let record = [vec![53, 8], long(u32::from(op.number())), list(&[term]), vec![count], pairs].concat();
                 let bindings = names.iter().zip(&sorts);
                 let bindings: Vec<_> = bindings.map(|(k, s)| (n(*k), SortId::new(*s))).collect();
                 let binder = TermRecord::Binder(op, &bindings, term_id);
@@ -222,20 +198,15 @@ impl Source {
                 let values: Vec<_> = values.map(|(k, id)| (n(*k), *id)).collect();
                 (record, writer.add_term(TermRecord::Let(&values, term_id)))
             }
-            10 if behind.len() < 256 => (
-                [vec![17, 10], list(&behind)].concat(),
-                writer.add_term(TermRecord::Match(term_id, &several_ids)),
-            ),
+            10 if behind.len() < 256 => {
+                ([vec![17, 10], list(&behind)].concat(), writer.add_term(TermRecord::Match(term_id, &several_ids)))
+            }
             11 => {
                 let op = self.random.of(ParamOperator::ALL);
                 let indices = self.term_list();
                 let number = long(u32::from(op.number()));
                 let record = [vec![85, 11], number, list(&several), list(&indices)].concat();
-                let param = TermRecord::ParamOp {
-                    op,
-                    op_args: &ids(&indices),
-                    args: &several_ids,
-                };
+                let param = TermRecord::ParamOp { op, op_args: &ids(&indices), args: &several_ids };
                 (record, writer.add_term(param))
             }
             12 => {
@@ -252,11 +223,7 @@ impl Source {
                 (record, writer.add_term(TermRecord::Op(op, &several_ids)))
             }
         };
-        Attempt {
-            part: 1,
-            record,
-            written: written.map(|_| ()),
-        }
+        Attempt { part: 1, record, written: written.map(|_| ()) }
     }
 
     /// Adds a random question to a writer and says what record it is.
@@ -273,12 +240,7 @@ impl Source {
             1 => {
                 let record = [vec![81, 1], list(&[one, two, three]), list(&names)].concat();
                 let names: Vec<Name> = names.into_iter().map(n).collect();
-                let question = QuestionRecord::Match {
-                    pattern: first,
-                    target: second,
-                    result: third,
-                    names: &names,
-                };
+                let question = QuestionRecord::Match { pattern: first, target: second, result: third, names: &names };
                 (record, writer.add_question(question))
             }
             _ => {
@@ -291,11 +253,7 @@ impl Source {
                 (record, writer.add_question(question))
             }
         };
-        Attempt {
-            part: 2,
-            record,
-            written: written.map(|_| ()),
-        }
+        Attempt { part: 2, record, written: written.map(|_| ()) }
     }
 }
 
@@ -304,11 +262,7 @@ impl Source {
 fn the_writer_refuses_what_the_reader_refuses() {
     let mut counts = [0_usize; 11];
     for seed in 1..=60 {
-        let mut source = Source {
-            random: Random::new(seed),
-            sorts: 0,
-            terms: 0,
-        };
+        let mut source = Source { random: Random::new(seed), sorts: 0, terms: 0 };
         let (mut writer, mut raw) = (SheetWriter::new(), Raw::default());
         for _ in 0..60 {
             let before = writer.clone();
@@ -441,10 +395,7 @@ fn trees() {
     assert_eq!(writer.sort(&pair), Ok(id));
     // A fault deep inside takes back what was added for it.
     let before = writer.finish();
-    let fault = Sort::Tuple(vec![
-        Arc::new(Sort::Real),
-        Arc::new(Sort::Set(Arc::new(Sort::BitVec(70_000)))),
-    ]);
+    let fault = Sort::Tuple(vec![Arc::new(Sort::Real), Arc::new(Sort::Set(Arc::new(Sort::BitVec(70_000))))]);
     assert_eq!(writer.sort(&fault), Err(WriteError::Width(70_000)));
     assert_eq!(writer.finish(), before);
     let real = writer.sort(&Sort::Real).unwrap();

@@ -32,20 +32,8 @@ fn one_of_each() -> Vec<(Sort, &'static str)> {
         (Sort::BitVec(0), "(_ BitVec 0)"),
         (Sort::BitVec(65_535), "(_ BitVec 65535)"),
         (Sort::ParamBitVec, "(_ BitVec ?)"),
-        (
-            Sort::Datatype {
-                name: n(5),
-                args: vec![],
-            },
-            "[n5]",
-        ),
-        (
-            Sort::Datatype {
-                name: n(10),
-                args: both.clone(),
-            },
-            "[n10 Int 'n5]",
-        ),
+        (Sort::Datatype { name: n(5), args: vec![] }, "[n5]"),
+        (Sort::Datatype { name: n(10), args: both.clone() }, "[n10 Int 'n5]"),
         (Sort::Par(vec![n(1)], var.clone()), "(par (n1) 'n5)"),
         (Sort::Par(vec![n(0), n(2)], int.clone()), "(par (? n2) Int)"),
         (Sort::Type, "Type"),
@@ -70,7 +58,7 @@ fn random_sort(random: &mut Random, depth: usize) -> Sort {
         };
     }
     let mut part = || Arc::new(random_sort(random, depth - 1));
-    let parts = vec![part(), part(), part()];
+    let parts = [part(), part(), part()];
     let (one, two) = (part(), part());
     let some = parts[random.under(4).min(2)..].to_vec();
     match random.under(7) {
@@ -151,19 +139,11 @@ fn deep_sorts() {
     let mut sheet = SheetWriter::new();
     let deep = sheet.sort(&sort).unwrap();
     assert_eq!(sheet.sorts(), 2_048);
-    let question = QuestionRecord::Apply {
-        sort: deep,
-        map: &[(n(1), deep)],
-    };
+    let question = QuestionRecord::Apply { sort: deep, map: &[(n(1), deep)] };
     let applied = sheet.add_question(question).unwrap();
     let question = QuestionRecord::Compatible(deep, deep);
     let compatible = sheet.add_question(question).unwrap();
-    let question = QuestionRecord::Match {
-        pattern: deep,
-        target: deep,
-        result: deep,
-        names: &[n(2)],
-    };
+    let question = QuestionRecord::Match { pattern: deep, target: deep, result: deep, names: &[n(2)] };
     let matched = sheet.add_question(question).unwrap();
     let term = sheet.add_term(TermRecord::Var(n(1), deep)).unwrap();
     let judged = judge(&sheet.finish()).unwrap();
@@ -259,23 +239,12 @@ fn every_kind_of_term() {
     add(TermRecord::Let(&[(n(3), v)], holds), "Bool Bool");
     add(TermRecord::Match(v, &[three, three]), "Int !24");
     add(
-        TermRecord::ParamOp {
-            op: ParamOperator::ZeroExtend,
-            op_args: &[three],
-            args: &[v],
-        },
+        TermRecord::ParamOp { op: ParamOperator::ZeroExtend, op_args: &[three], args: &[v] },
         "(_ BitVec 11) (_ BitVec 11)",
     );
-    add(
-        TermRecord::AsOp(QualifiedOperator::Const, array, &[holds]),
-        "(Array Int Bool) (Array Int Bool)",
-    );
+    add(TermRecord::AsOp(QualifiedOperator::Const, array, &[holds]), "(Array Int Bool) (Array Int Bool)");
     add(TermRecord::AsOp(QualifiedOperator::SetEmpty, set, &[]), "(Set Int) !24");
-    let expected: String = lines
-        .iter()
-        .enumerate()
-        .map(|(k, line)| format!("T{k} {line}\n"))
-        .collect();
+    let expected: String = lines.iter().enumerate().map(|(k, line)| format!("T{k} {line}\n")).collect();
     assert_eq!(napsilo::print(&sheet.finish()), expected);
 }
 

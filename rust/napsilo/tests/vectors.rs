@@ -82,13 +82,7 @@ fn the_library() {
         let mut place_words = vec![0xa5a5_a5a5; length(3)];
         let mut row_words = vec![0xa5a5_a5a5; length(5)];
         let mut answer_words = vec![0xa5a5_a5a5; length(7)];
-        let said = judge_into(
-            &sheet,
-            &mut record_bytes,
-            &mut place_words,
-            &mut row_words,
-            &mut answer_words,
-        );
+        let said = judge_into(&sheet, &mut record_bytes, &mut place_words, &mut row_words, &mut answer_words);
         let said = said.err().map_or(0, Refusal::number);
         assert_eq!(vec![said], numbers(outcome, "outcome"), "{}", hex(&sheet));
         let recorded: String = words(records, "records").concat();

@@ -6,11 +6,8 @@ use napsilo::{Lent, Name, Refusal, judge_into};
 
 /// The bytes of a hexadecimal text; blanks are passed over.
 pub fn bytes(hex: &str) -> Vec<u8> {
-    let digits: Vec<u32> = hex
-        .chars()
-        .filter(|c| !c.is_whitespace())
-        .map(|c| c.to_digit(16).expect("a hexadecimal digit"))
-        .collect();
+    let digits: Vec<u32> =
+        hex.chars().filter(|c| !c.is_whitespace()).map(|c| c.to_digit(16).expect("a hexadecimal digit")).collect();
     assert!(digits.len().is_multiple_of(2), "two digits a byte");
     let byte = |pair: &[u32]| u8::try_from(pair[0] * 16 + pair[1]).expect("a byte");
     digits.chunks(2).map(byte).collect()
