@@ -1,0 +1,33 @@
+//! A small trial; the program `beside` makes larger ones.
+
+use beside::random::Random;
+use beside::{Trial, make};
+
+#[test]
+fn library_model_and_carcara_agree() {
+    let mut trial = Trial::default();
+    let mut random = Random::new(20_260_401);
+    let done = oracle::on_stack(|| {
+        for _ in 0..400 {
+            let sheet = make::sheet(&mut random);
+            trial.sheet(&sheet, &mut random, 2)?;
+            let damaged = make::damaged(&mut random, &sheet);
+            trial.sheet(&damaged, &mut random, 1)?;
+        }
+        Ok(())
+    });
+    println!("{}", trial.summary());
+    assert_eq!(done, Ok::<(), String>(()));
+    // Each cause is met, and enough terms fit.
+    assert!(trial.checked[0] * 3 > trial.checked.iter().sum());
+    for number in [20, 21] {
+        assert!(trial.inferred[number] > 0);
+    }
+    for number in [20, 24, 25, 26, 27, 28] {
+        assert!(trial.checked[number] > 0);
+    }
+    for number in [28, 29] {
+        assert!(trial.answers[number] > 0);
+    }
+    assert!(trial.lent_rows[23] > 0);
+}
