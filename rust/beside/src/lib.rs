@@ -10,7 +10,7 @@
 pub mod make;
 pub mod random;
 
-use napsilo::{Answer, Judged, Lent, Refusal, Row, judge_into, judge_with, printout};
+use napsilo::{Answer, Judged, Lent, Refusal, Row, judge_on_this_stack, judge_with, printout};
 use random::Random;
 use std::fmt::Write;
 
@@ -89,7 +89,7 @@ impl Trial {
         let mut records = vec![0xa7; lent.records];
         let [mut places, mut rows, mut answers] =
             [lent.places, lent.rows, lent.answers].map(|length| vec![0xa7a7_a7a7; length]);
-        let said = judge_into(sheet, &mut records, &mut places, &mut rows, &mut answers);
+        let said = judge_on_this_stack(sheet, &mut records, &mut places, &mut rows, &mut answers);
         let number = said.err().map_or(0, Refusal::number);
         if number != u32::from(modelled.number) {
             return Err(differ(sheet, &format!("{lent:?}: library {number}, model {}", modelled.number)));

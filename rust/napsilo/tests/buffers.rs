@@ -3,7 +3,7 @@
 mod common;
 
 use common::{bytes, hex};
-use napsilo::{Judged, Lent, Refusal, judge, judge_into, judge_with};
+use napsilo::{Judged, Lent, Refusal, judge, judge_on_this_stack, judge_with};
 use std::fmt::Debug;
 
 /// A lent buffer between guards.
@@ -62,7 +62,7 @@ fn run(sheet: &[u8], lent: Lent, dirt: u8) -> Run {
     let mut rows = Guarded::new(lent.rows, guard, word);
     let mut answers = Guarded::new(lent.answers, guard, word);
     let own = sheet.to_vec();
-    let said = judge_into(sheet, records.lend(), places.lend(), rows.lend(), answers.lend());
+    let said = judge_on_this_stack(sheet, records.lend(), places.lend(), rows.lend(), answers.lend());
     assert_eq!(own, sheet);
     Run { said, records, places, rows, answers }
 }

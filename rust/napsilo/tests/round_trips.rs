@@ -1,4 +1,4 @@
-//! Sorts through the sheet, the library and back; their text; deep sorts on a small stack.
+//! Sorts through the sheet, the library and back; their text; deep sorts, from a thread with a small stack.
 
 mod common;
 
@@ -128,7 +128,7 @@ fn random_trees() {
     }
 }
 
-/// The deepest sorts of a sheet and of an answer, on the stack of a test's thread.
+/// The deepest sorts of a sheet and of an answer to a question.
 #[test]
 fn deep_sorts() {
     let mut sort = Sort::Var(n(1));
@@ -160,6 +160,39 @@ fn deep_sorts() {
     let mut other = SheetWriter::new();
     assert_eq!(other.sort(&answer), Err(WriteError::TooManySorts));
     assert_eq!(other.sorts(), 0);
+}
+
+/// The deepest sorts that the library goes through: a parametric head that is itself an answer, over 4,000 levels deep.
+#[test]
+fn deep_heads() {
+    let (one, two) = (n(1), n(2));
+    let var = |name| Arc::new(Sort::Var(name));
+    let mut step = var(one);
+    for _ in 0..40 {
+        step = Arc::new(Sort::Set(step));
+    }
+    // deeper : (par (n1) (-> 'n1 (Set .. 'n1 ..)))
+    // keep : (par (n1) (-> 'n1 (par (n2) (-> 'n2 'n1))))
+    let deeper = Sort::Par(vec![one], Arc::new(Sort::Function(vec![var(one), step])));
+    let inner = Sort::Par(vec![two], Arc::new(Sort::Function(vec![var(two), var(one)])));
+    let keep = Sort::Par(vec![one], Arc::new(Sort::Function(vec![var(one), Arc::new(inner)])));
+    let mut sheet = SheetWriter::new();
+    let mut add = |sort: &Sort| {
+        let sort = sheet.sort(sort).unwrap();
+        sheet.add_term(TermRecord::Var(n(9), sort)).unwrap()
+    };
+    let (deeper, keep, mut term) = (add(&deeper), add(&keep), add(&Sort::Var(two)));
+    let seven = sheet.add_term(TermRecord::Integer(7)).unwrap();
+    for _ in 0..100 {
+        term = sheet.add_term(TermRecord::App(deeper, &[term])).unwrap();
+    }
+    let head = sheet.add_term(TermRecord::App(keep, &[term])).unwrap();
+    let last = sheet.add_term(TermRecord::App(head, &[seven])).unwrap();
+    let judged = judge(&sheet.finish()).unwrap();
+    assert_eq!(judged.checked(term).unwrap().tree_size(), 4_001);
+    assert_eq!(judged.inferred(head).unwrap().tree_size(), 4_004);
+    // The answer's 4,001 sorts do not fit beside those that are there.
+    assert_eq!(judged.inferred(last), Err(Cause::Full));
 }
 
 #[test]
