@@ -6,3 +6,4 @@ mod SizeLaws
 mod RebuildLaws
 mod PartLaws
 mod ApplyLaws
+mod FunctionLaws

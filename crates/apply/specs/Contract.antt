@@ -7,7 +7,7 @@ use mathlib.Core.List.{List}
 use lib.ListN.{length, getD}
 use lib.Dec.{eqb, leb}
 use Rattle.record.specs.Number.{u16At, numbersAt}
-use Rattle.record.specs.Sort.{Sort, Sorts, size, sizes, kindOf, partsOf}
+use Rattle.record.specs.Sort.{Sort, Sorts, function, size, sizes, kindOf, partsOf}
 use Rattle.record.specs.Record.{sortsOf}
 use Rattle.record.specs.Store.{intern, internAll, indicesOf, room}
 use Rattle.record.specs.Decode.{storeOf, sortAt, Stored}
@@ -107,6 +107,21 @@ pub record PartsAre (b p : List ℕ) (n u : ℕ) (parts : Numbers) (l c q hs′ 
 pub record ApplyAsks (b p hs ns zs : List ℕ) (n u k : ℕ) (l : List ℕ) : Type 0 where
   pub ready : Ready b p hs ns zs n u l
   pub known : k < n
+
+-- THE FUNCTION of the sorts replaced whose m numbers stand from x on.
+abbrev pub functionAt : List ℕ → List ℕ → ℕ → List ℕ → ℕ → ℕ → Sort
+functionAt b p n l x m = function (answersAt b p n l (numbersAt b x m))
+
+-- At most 64 numbers of sorts, two bytes each from x on.
+pub record FunctionAsks (b p hs ns zs : List ℕ) (n u : ℕ) (l : List ℕ) (x m : ℕ) : Type 0 where
+  pub ready : Ready b p hs ns zs n u l
+  pub within : x + 2 * m ≤ length b
+  pub below : (j : ℕ) → j < m → u16At b (x + 2 * j) < n
+  pub few : m ≤ 64
+
+pub record FunctionFits (b p hs ns zs : List ℕ) (n u : ℕ) (l : List ℕ) (x m : ℕ) : Type 0 where
+  pub asks : FunctionAsks b p hs ns zs n u l x m
+  pub small : size (functionAt b p n l x m) ≤ 4096
 
 -- An answer whose tree is at most 4,096 is made.
 pub record Answered (b p : List ℕ) (n u : ℕ) (s : Sort) (b′ p′ hs′ ns′ zs′ : List ℕ) (i n′ u′ : ℕ) : Type 0 where

@@ -9,22 +9,21 @@ use native.Mathlib.Nat.{not-suc-le-zero}
 use native.Mathlib.Decide.{decLt}
 use lib.ListN.{getD}
 use lib.Dec.{eqb}
-use borrow.Author.Tests.{eq-eqb, eqb-true, le-leb, lt-leb}
+use borrow.Author.Tests.{le-leb, lt-leb}
 use Rattle.record.specs.Number.{u16At, numbersAt}
-use Rattle.record.specs.Sort.{Sort, Sorts, var, par, node, end, _then_, kindOf, same}
-use Rattle.record.specs.SortLaws.{same-sound, same-complete, same-other}
-use Rattle.record.specs.Record.{Fields, bit, maps, mapOf, leaf, sortsOf, sortOf}
-use Rattle.record.specs.Decode.{fieldsAt, Shape, storeOf, sortAt, Stored}
-use Rattle.record.specs.Forms.{Which, isVar, isPar, isNode, which, sort-var, sort-par, sort-other}
-use Rattle.record.specs.StoreLaws.{sort-node, sorts-one}
+use Rattle.record.specs.Sort.{Sort, Sorts, end, _then_, kindOf, same}
+use Rattle.record.specs.SortLaws.{same-complete, same-other}
+use Rattle.record.specs.Record.{leaf, sortsOf}
+use Rattle.record.specs.Decode.{storeOf, sortAt, Stored}
+use Rattle.record.specs.StoreLaws.{sorts-one}
 use Rattle.record.specs.SortLists.{below-suc}
-use Rattle.record.specs.Cases.{both-ways}
 use Rattle.store.specs.Entry.{EntryAsks, KindHas}
 use Rattle.store.specs.Walk.{entry-asks}
 use Rattle.checked.specs.Checked.{value, values, onlyOf}
 use Rattle.checking.specs.Rule.{plainSort, allSame}
 use Rattle.checking.specs.Contract.{argAt, ArgsAsk, argsOf, KindsHave, SameHas, ValuesHave}
 use Rattle.checking.specs.Contract.{KindHas as KindAtHas}
+use Rattle.checking.specs.KindLaws.{kind-plain, kind-same, value-kind, stored-value}
 
 -- A test that holds of every sort of a list.
 unfoldable allBy : (Sort → Bool) → Sorts → Bool
@@ -66,51 +65,9 @@ by-one f st a x (suc m) (suc j) l h =
     ∙ and-no (f (getD st (u16At a x) leaf))
 
 ---------------------------------------------------------------- kinds
--- A record whose map is 1 is a sort without parts.
-plain-fields : (st : List Sort) (f : Fields) (k : ℕ) → Shape f → mapOf k ≡ 1 → f .kind ≡ k → sortOf st f ≡ plainSort k
-unfolding bit mapOf maps sortsOf
-plain-fields st f k s m e =
-    let t : mapOf (f .kind) ≡ 1 = ap mapOf e ∙ m in
-    sort-other st f (λ h. let z : 3 ≡ 1 = sym (ap mapOf h) ∙ t in absurd (omega arith)) (λ h. let z : 81 ≡ 1 = sym (ap mapOf h) ∙ t in absurd (omega arith))
-    ∙ ap (λ (i : ℕ). node i (f .name) (f .number) (sortsOf st (f .list))) e
-    ∙ ap (λ (i : ℕ). node k i (f .number) (sortsOf st (f .list))) (s .proper .noName (ap (bit 2) t))
-    ∙ ap (λ (i : ℕ). node k 0 i (sortsOf st (f .list))) (s .proper .noNumber (ap (bit 4) t))
-    ∙ ap (λ (l : List ℕ). node k 0 0 (sortsOf st l)) (s .proper .noList (ap (bit 16) t))
-
-kind-fields : (st : List Sort) (f : Fields) → kindOf (sortOf st f) ≡ f .kind
-kind-fields st f = go (which (f .kind))
-  where
-    go : Which (f .kind) → kindOf (sortOf st f) ≡ f .kind
-    go (isVar e) = ap kindOf (sort-var st f e) ∙ sym e
-    go (isPar e) = ap kindOf (sort-par st f e) ∙ sym e
-    go (isNode h g) = ap kindOf (sort-other st f h g)
-
-module _ (b p : List ℕ) (n i : ℕ) (s : Stored b p n) (l : i < n) where
-  pub kind-read : kindOf (sortAt b p n i) ≡ fieldsAt b (getD p i 0) .kind
-  kind-read = ap kindOf (sort-node b p n i s l) ∙ kind-fields (storeOf b p n) (fieldsAt b (getD p i 0))
-
-  pub kind-plain : (k : ℕ) → mapOf k ≡ 1 → kindOf (sortAt b p n i) ≡ k → sortAt b p n i ≡ plainSort k
-  kind-plain k m e =
-      sort-node b p n i s l ∙ plain-fields (storeOf b p n) (fieldsAt b (getD p i 0)) k (s .each i l .shape) m (sym kind-read ∙ e)
-
-  pub kind-same : (k : ℕ) → mapOf k ≡ 1 → same (plainSort k) (sortAt b p n i) ≡ eqb (kindOf (sortAt b p n i)) k
-  kind-same k m =
-      both-ways (same (plainSort k) (sortAt b p n i)) (eqb (kindOf (sortAt b p n i)) k)
-      (λ e. eq-eqb (kindOf (sortAt b p n i)) k (sym (ap kindOf (same-sound (plainSort k) (sortAt b p n i) e))))
-      (λ e. same-complete (plainSort k) (sortAt b p n i) (sym (kind-plain k m (eqb-true (kindOf (sortAt b p n i)) k e))))
-
-value-kind : (s : Sort) → (kindOf s ≡ 12 → ⊥) → value s ≡ true
-value-kind (var v) h = refl
-value-kind (par ns b) h = absurd (h refl)
-value-kind (node k a w ss) h = refl
-
 -- A kind 12 is a Par.
 no-value : (s : Sort) → kindOf s ≡ 12 → (kindOf s ≡ 12 → value s ≡ false) → value s ≡ false
 no-value s e h = h e
-
-stored-value : (b p : List ℕ) (n i : ℕ) → Stored b p n → i < n → kindOf (sortAt b p n i) ≡ 12 → value (sortAt b p n i) ≡ false
-stored-value b p n i s l e =
-    ap value (sort-node b p n i s l ∙ sort-par (storeOf b p n) (fieldsAt b (getD p i 0)) (sym (kind-read b p n i s l) ∙ e))
 
 none-same : (b p : List ℕ) (n : ℕ) (a : List ℕ) → allSame (onlyOf (argsOf b p n a 0)) (argsOf b p n a 0) ≡ true
 unfolding allSame sortsOf numbersAt

@@ -9,12 +9,11 @@ use lib.Dec.{eqb, leb}
 use borrow.Author.Tests.{eq-eqb, eqb-true, ne-eqb, leb-true}
 use Rattle.record.specs.Number.{u16At, numbersAt}
 use Rattle.record.specs.Sort.{Sort, node, end, _then_, bool, int, real, array, bitvec, kindOf, numberIn, same, sameAll}
-use Rattle.record.specs.SortLaws.{same-sound, same-complete, same-other}
-use Rattle.record.specs.Record.{Fields, bit, maps, mapOf, leasts, leastOf, mosts, mostOf, leaf, sortsOf, sortOf}
-use Rattle.record.specs.Forms.{sort-other}
-use Rattle.record.specs.Decode.{fieldsAt, Shape, storeOf, sortAt, Stored, Distinct}
+use Rattle.record.specs.SortLaws.{same-sound, same-complete}
+use Rattle.record.specs.Record.{Fields, bit, maps, mapOf, leasts, leastOf, mosts, mostOf, leaf, sortsOf}
+use Rattle.record.specs.Decode.{fieldsAt, storeOf, sortAt, Stored, Distinct}
 use Rattle.record.specs.Codec.{length-numbersAt}
-use Rattle.record.specs.StoreLaws.{sorts-one, sort-node}
+use Rattle.record.specs.StoreLaws.{sorts-one}
 use Rattle.record.specs.Cases.{and-left, and-right, or-cases, both-ways}
 use Rattle.record.specs.declared.SortRecord.{SortRecord}
 use Rattle.store.specs.Entry.{EntryIs, EntryHas, KindHas}
@@ -28,7 +27,7 @@ use Rattle.checking.specs.declared.op.Fit.the-variants.{Known, Plain, Wi
 use Rattle.checking.specs.Rule.{plainSort, fixedOf, numbersResult, vectorsResult, allSame, choosing, concatenated, fitted, plainKind, oneOrTwo, wellRule}
 use Rattle.checking.specs.Contract.{argAt, Over, ArgsAsk, argsOf, KindsHave, SameHas, FitIs, FitAsks, FitHas}
 use Rattle.checking.specs.Contract.{KindHas as KindAtHas}
-use Rattle.checking.proofs.ArgumentLaws.{kind-read}
+use Rattle.checking.specs.KindLaws.{vector-small, vector-not, kind-vector}
 
 pub not-left : (a : Bool) → not a ≡ false → a ≡ true
 not-left true e = refl
@@ -238,22 +237,10 @@ module _ (b p a : List ℕ) (m : ℕ) where
           }
 
 ---------------------------------------------------------------- vectors and arrays
--- What the records of these kinds stand for.
-vector-fields : (st : List Sort) (f : Fields) → Shape f → f .kind ≡ 9 → sortOf st f ≡ bitvec (f .number)
-unfolding bit mapOf maps sortsOf
-vector-fields st f s h =
-    let t : mapOf (f .kind) ≡ 5 = ap mapOf h in
-    sort-other st f (λ q. absurd (omega arith)) (λ q. absurd (omega arith))
-    ∙ ap (λ (i : ℕ). node i (f .name) (f .number) (sortsOf st (f .list))) h
-    ∙ ap (λ (i : ℕ). node 9 i (f .number) (sortsOf st (f .list))) (s .proper .noName (ap (bit 2) t))
-    ∙ ap (λ (l : List ℕ). node 9 0 (f .number) (sortsOf st l)) (s .proper .noList (ap (bit 16) t))
-
+-- What the record of an Array stands for.
 module _ (b p : List ℕ) (n k : ℕ) (s : Stored b p n) (l : k < n) (r : SortRecord) (e : EntryIs b p n k r) where
   read-kind : fieldsAt b (getD p k 0) .kind ≡ r .kind
   read-kind = ap (λ (f : Fields). f .kind) (e .place .same)
-
-  pub vector-small : r .number < 65536
-  vector-small = omega (arith, s .each k l .shape .number, ap (λ (f : Fields). f .number) (e .place .same))
 
   pub array-two : r .kind ≡ 8 → r .count ≡ 2
   unfolding leastOf leasts mostOf mosts
@@ -275,17 +262,6 @@ module _ (b p : List ℕ) (n k : ℕ) (s : Stored b p n) (l : k < n) (r : SortRe
       ∙ ap (λ (i : ℕ). node 8 0 i (sortsOf st (numbersAt b (r .list) (r .count))))
       (sym (ap (λ (f : Fields). f .number) (e .place .same)) ∙ s .each k l .shape .proper .noNumber (ap (bit 4) t))
       ∙ ap (λ (i : ℕ). node 8 0 0 (sortsOf st (numbersAt b (r .list) i))) (array-two h)
-
-vector-of : (s : Sort) (w : ℕ) → s ≡ bitvec w → vector s ≡ true
-vector-of s w e = same-complete s (bitvec (numberIn s)) (e ∙ ap bitvec (sym (ap numberIn e)))
-
-vector-not : (s : Sort) → (kindOf s ≡ 9 → ⊥) → vector s ≡ false
-vector-not s h = same-other s (bitvec (numberIn s)) (λ e. h (ap kindOf e))
-
-kind-vector : (b p : List ℕ) (n k : ℕ) → Stored b p n → k < n → kindOf (sortAt b p n k) ≡ 9 → vector (sortAt b p n k) ≡ true
-kind-vector b p n k s l h =
-    vector-of (sortAt b p n k) (fieldsAt b (getD p k 0) .number)
-    (sort-node b p n k s l ∙ vector-fields (storeOf b p n) (fieldsAt b (getD p k 0)) (s .each k l .shape) (sym (kind-read b p n k s l) ∙ h))
 
 -- Vectors of one width.
 module _ (b p a : List ℕ) (m r : ℕ) (f : FitAsks b p a m (Vectors 1 1 r)) where

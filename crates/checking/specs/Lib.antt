@@ -1,4 +1,5 @@
 pub mod Rule
 pub mod RuleLaws
 pub mod Contract
+pub mod KindLaws
 pub mod Single

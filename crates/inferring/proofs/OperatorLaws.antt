@@ -4,12 +4,15 @@ use mathlib.Core.Path.{_≡_, refl}
 use mathlib.Core.Bool.{Bool, true, false, _||_, false≢true}
 use mathlib.Core.List.{List, [], _∷_}
 use mathlib.Core.Logic.{⊎-elim}
+use mathlib.Core.Option.{Option}
 use lib.Dec.{eqb}
 use borrow.Author.Tests.{eq-eqb}
 use types.Run.{OneOf}
+use Rattle.record.specs.Sort.{Sorts}
+use Rattle.inferred.specs.Inferred.{operatedBy}
 use Rattle.inferred.specs.declared.Family.{Family}
 use Rattle.inferred.specs.declared.Family.the-variants.{Truth, Integer, Decimal, Text, Regular, Vector, OneBit, Bits, Constant, Concat, First, Second, Last, Sum, Element, RareList, Singleton, Tuple, UnitTuple, Transpose, Join, Product}
-use Rattle.inferring.specs.Operators.{makes, looks}
+use Rattle.inferring.specs.Operators.{noConstants, makes, looks}
 use denote.Enum.Declared.{tagOf}
 use Rattle.inferred.proofs.Family.{the-type}
 
@@ -85,3 +88,58 @@ made-left UnitTuple m h = refl
 made-left Transpose m h = refl
 made-left Join m h = refl
 made-left Product m h = refl
+
+-- The numbers of the families that look at vectors and at arguments, and of those that make sorts of them.
+abbrev pub seen : List ℕ
+seen = 5 ∷ 9 ∷ 10 ∷ 11 ∷ 12 ∷ 13 ∷ 14 ∷ 15 ∷ 16 ∷ 17 ∷ 18 ∷ 19 ∷ 20 ∷ 21 ∷ []
+
+pub looked-left : (f : Family) → OneOf seen (tagOf the-type f) → looks f ≡ true
+unfolding keyed
+looked-left Truth h = absurd (false≢true (one-keyed seen 0 h))
+looked-left Integer h = absurd (false≢true (one-keyed seen 1 h))
+looked-left Decimal h = absurd (false≢true (one-keyed seen 2 h))
+looked-left Text h = absurd (false≢true (one-keyed seen 3 h))
+looked-left Regular h = absurd (false≢true (one-keyed seen 4 h))
+looked-left Vector h = refl
+looked-left OneBit h = absurd (false≢true (one-keyed seen 6 h))
+looked-left Bits h = absurd (false≢true (one-keyed seen 7 h))
+looked-left Constant h = absurd (false≢true (one-keyed seen 8 h))
+looked-left Concat h = refl
+looked-left First h = refl
+looked-left Second h = refl
+looked-left Last h = refl
+looked-left Sum h = refl
+looked-left Element h = refl
+looked-left RareList h = refl
+looked-left Singleton h = refl
+looked-left Tuple h = refl
+looked-left UnitTuple h = refl
+looked-left Transpose h = refl
+looked-left Join h = refl
+looked-left Product h = refl
+
+-- They look at no constants.
+pub no-constants : (f : Family) → looks f ≡ true → (ss : Sorts) (cs : List (Option ℕ)) → operatedBy f ss cs ≡ operatedBy f ss noConstants
+unfolding operatedBy
+no-constants Truth h ss cs = absurd (false≢true h)
+no-constants Integer h ss cs = absurd (false≢true h)
+no-constants Decimal h ss cs = absurd (false≢true h)
+no-constants Text h ss cs = absurd (false≢true h)
+no-constants Regular h ss cs = absurd (false≢true h)
+no-constants Vector h ss cs = refl
+no-constants OneBit h ss cs = absurd (false≢true h)
+no-constants Bits h ss cs = absurd (false≢true h)
+no-constants Constant h ss cs = absurd (false≢true h)
+no-constants Concat h ss cs = refl
+no-constants First h ss cs = refl
+no-constants Second h ss cs = refl
+no-constants Last h ss cs = refl
+no-constants Sum h ss cs = refl
+no-constants Element h ss cs = refl
+no-constants RareList h ss cs = refl
+no-constants Singleton h ss cs = refl
+no-constants Tuple h ss cs = refl
+no-constants UnitTuple h ss cs = refl
+no-constants Transpose h ss cs = refl
+no-constants Join h ss cs = refl
+no-constants Product h ss cs = refl

@@ -6,7 +6,13 @@ use mathlib.Core.List.{List, []}
 use mathlib.Core.Option.{Option}
 use Rattle.inferred.specs.declared.Family.{Family}
 use Rattle.inferred.specs.declared.Family.the-variants.{Truth, Integer, Decimal, Text, Regular, Vector, OneBit, Bits, Constant, Concat, First, Second, Last, Sum, Element, RareList, Singleton, Tuple, UnitTuple, Transpose, Join, Product}
+use Rattle.inferred.specs.Inferred.{operatedBy}
+use Rattle.record.specs.Sort.{Sorts, node, end, bitvec, count}
+use Rattle.record.specs.Record.{mapOf}
+use Rattle.rows.specs.Verdict.{sort}
 use Rattle.answers.specs.Arguments.{ConstantsAsk}
+use Rattle.inferring.specs.declared.family.Plain.{Plain}
+use Rattle.inferring.specs.declared.family.Plain.the-variants.{Kind, Width, Written, Other}
 use Rattle.inferring.specs.Asks.{ArgsAsks}
 
 -- All but one family, Constant, look at no constants.
@@ -60,6 +66,13 @@ looks UnitTuple = true
 looks Transpose = true
 looks Join = true
 looks Product = true
+
+-- What a family of operators with m arguments answers, by what is said of it without their sorts.
+abbrev pub PlainIs : Family → ℕ → Plain → Type 0
+PlainIs f m (Kind k) = (mapOf k ≡ 1) × ((ss : Sorts) (cs : List (Option ℕ)) → operatedBy f ss cs ≡ sort (node k 0 0 end))
+PlainIs f m (Width w) = (ss : Sorts) (cs : List (Option ℕ)) → count ss ≡ m → operatedBy f ss cs ≡ sort (bitvec w)
+PlainIs f m Written = f ≡ Constant
+PlainIs f m Other = looks f ≡ true
 
 -- Arguments, and a family of the group.
 pub record MadeAsks (b p hs ns zs : List ℕ) (n u : ℕ) (f : Family) (a : List ℕ) (m : ℕ) : Type 0 where

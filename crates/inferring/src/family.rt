@@ -1,7 +1,16 @@
-// The families of operators.
+// The families of operators, and which of them answer without a look at the arguments' sorts.
 use inferred::Family;
 ghost use mathlib.Core.Path.{_≡_};
 ghost use Rattle.inferred.specs.Family.{familyOf};
+ghost use Rattle.inferring.specs.Operators.{PlainIs};
+
+// A sort of this kind without parts, a vector of this width, a vector whose width an argument says, or none of these.
+pub enum Plain {
+    Kind(u8),
+    Width(usize),
+    Written,
+    Other,
+}
 
 // The family of the operator with this number in enum Operator; Truth for a number that is none's.
 pub fn family_of(op: usize) -> Family
@@ -33,5 +42,23 @@ pub fn family_of(op: usize) -> Family
         133 => Family::Join,
         134 => Family::Product,
         _ => Family::Truth,
+    }
+}
+
+// The sort that an operator of this family with n arguments has, whatever their sorts are; Written for the family that
+// reads a constant, Other for those that look at the arguments' sorts.
+pub fn plain_of(family: Family, n: usize) -> Plain
+    ensures { λ r. ⌜ PlainIs family n r ⌝ }
+{
+    match family {
+        Family::Truth => Plain::Kind(3),
+        Family::Integer => Plain::Kind(4),
+        Family::Decimal => Plain::Kind(5),
+        Family::Text => Plain::Kind(6),
+        Family::Regular => Plain::Kind(7),
+        Family::OneBit => Plain::Width(1),
+        Family::Bits => Plain::Width(n),
+        Family::Constant => Plain::Written,
+        _ => Plain::Other,
     }
 }

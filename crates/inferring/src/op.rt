@@ -1,8 +1,12 @@
 // The inferred sort of an operator at n arguments, whose sorts are in `args` from byte 3 on.
+use super::family::Plain;
+use super::family::family_of;
+use super::family::plain_of;
 use super::relations::join;
 use super::relations::product;
 use super::relations::transpose;
 use super::single::argument;
+use super::single::constant_width;
 use super::single::element;
 use super::single::last_of;
 use super::single::rare_list;
@@ -11,12 +15,16 @@ use super::single::sum;
 use super::vectors::concat;
 use super::vectors::first_vector;
 use answers::Answer;
+use answers::bit_vector;
+use answers::leaf;
 use answers::lists::listed;
 use inferred::Family;
+ghost use Rattle.inferred.specs.Family.{familyOf};
 ghost use Rattle.inferred.specs.Inferred.{operatedBy};
 ghost use Rattle.answers.specs.Answer.{AnswerIs};
+ghost use Rattle.answers.specs.Arguments.{constantsIn};
 ghost use Rattle.inferring.specs.Asks.{sortsIn};
-ghost use Rattle.inferring.specs.Operators.{noConstants, MadeAsks, LookedAsks};
+ghost use Rattle.inferring.specs.Operators.{noConstants, MadeAsks, LookedAsks, OperatedAsks};
 
 // What the families that make sets, tuples and relations answer.
 pub fn gathered(
@@ -92,6 +100,59 @@ pub fn looked(
         Family::Element => element(records, places, count, used, args, n),
         Family::RareList => rare_list(records, places, heads, next, sizes, count, used, args, n),
         _ => gathered(
+            records,
+            places,
+            heads,
+            next,
+            sizes,
+            count,
+            used,
+            family,
+            args,
+            n,
+        ),
+    }
+}
+
+// The inferred sort of the operator at its n arguments, which the sheet names from `list` on: the number of that sort, which
+// is made where it is not there yet, or the refusal that its family, a limit or the store's room gives.
+pub fn operated(
+    records: &mut [u8],
+    places: &mut [u32],
+    heads: &mut [u16],
+    next: &mut [u16],
+    sizes: &mut [u16],
+    count: usize,
+    used: usize,
+    sheet: &[u8],
+    starts: &[u16],
+    list: usize,
+    op: usize,
+    args: &mut [u8],
+    n: usize,
+) -> Answer
+    requires { ⌜ OperatedAsks (now records) (now places) (now heads) (now next) (now sizes) count used (now sheet) (now starts) list (now args) n ⌝ }
+    ensures { λ r. ⌜ AnswerIs (now (records .entry)) (now (places .entry)) count (operatedBy (familyOf op) (sortsIn (now (records .entry)) (now (places .entry)) count (now (args .entry)) 3 n) (constantsIn (now (sheet .entry)) (now (starts .entry)) list n)) (now (records .exit)) (now (places .exit)) (now (heads .exit)) (now (next .exit)) (now (sizes .exit)) r ⌝ }
+{
+    let family = family_of(op);
+    let plain = plain_of(family, n);
+    match plain {
+        Plain::Kind(k) => leaf(records, places, heads, next, sizes, count, used, k),
+        Plain::Width(w) => bit_vector(records, places, heads, next, sizes, count, used, w),
+        Plain::Written => constant_width(
+            records,
+            places,
+            heads,
+            next,
+            sizes,
+            count,
+            used,
+            sheet,
+            starts,
+            list,
+            n,
+        ),
+        Plain::Other => looked(
             records,
             places,
             heads,

@@ -55,7 +55,7 @@ unfolding shallow
 shallow-under [] s h e = e
 shallow-under (n ∷ ns) s h e = ap₂ _&&_ (le-leb (length (n ∷ ns)) 64 h) e
 
-count-apply : (θ : Map) (ss : Sorts) → count (applyAll θ ss) ≡ count ss
+pub count-apply : (θ : Map) (ss : Sorts) → count (applyAll θ ss) ≡ count ss
 unfolding count apply
 count-apply θ end = refl
 count-apply θ (s then ss) = ap suc (count-apply θ ss)
@@ -100,27 +100,28 @@ module _ (b p hs ns zs : List ℕ) (n u : ℕ) (g : Good b p hs ns zs n u) (l : 
       let e : getD (storeOf b p n) j leaf ≡ s = cc in
       ap shallow (sym e) ∙ stored-shallow j (omega (arith, q, m .table .below v, storeOf-length b p n))
 
-  pub instance-within : (k : ℕ) → k < n → size (apply θ (sortAt b p n k)) ≤ 4096 → within (apply θ (sortAt b p n k)) ≡ true
+  pub each-image : (v : ℕ) (s : Sort) → find θ v ≡ some s → shallow s ≡ true
+  each-image v s e = image-shallow v (getD l v 0) refl s (sym (m .look v) ∙ e)
+
+  instance-within : (k : ℕ) → k < n → size (apply θ (sortAt b p n k)) ≤ 4096 → within (apply θ (sortAt b p n k)) ≡ true
   unfolding within
   instance-within k h o =
-      ap₂ _&&_
-      (shallow-apply θ (λ v s e. image-shallow v (getD l v 0) refl s (sym (m .look v) ∙ e)) (sortAt b p n k) (stored-shallow k h))
-      (le-leb (size (apply θ (sortAt b p n k))) 4096 o)
+      ap₂ _&&_ (shallow-apply θ each-image (sortAt b p n k) (stored-shallow k h)) (le-leb (size (apply θ (sortAt b p n k))) 4096 o)
 
-  -- WHAT SUBSTITUTION GIVES is the answer.
-  pub instance-is : (k : ℕ) → k < n → (b′ p′ hs′ ns′ zs′ : List ℕ) (r : Applied) → AppliedIs b p hs ns zs n u (apply θ (sortAt b p n k)) b′ p′ hs′ ns′ zs′ r
-      → AnswerIs b p n (sort (apply θ (sortAt b p n k))) b′ p′ hs′ ns′ zs′ (answerOf n u r)
-  instance-is k h b′ p′ hs′ ns′ zs′ (Is i n′ u′) a =
-      answer-made b p hs ns zs n u g (apply θ (sortAt b p n k)) b′ p′ hs′ ns′ zs′ i n′ u′ (instance-within k h (a .small)) (a .made .good)
-      (a .made .kept .long) (a .made .kept .wide) (a .made .added) (a .made .number)
-  instance-is k h b′ p′ hs′ ns′ zs′ TooLarge a =
-      untouched-as (a .1) (answer-limit b p hs ns zs n u g (apply θ (sortAt b p n k)) (over-size (apply θ (sortAt b p n k)) (a .0)))
-  instance-is k h b′ p′ hs′ ns′ zs′ NoRoom a =
-      untouched-as (a .2) (answer-full b p hs ns zs n u g (apply θ (sortAt b p n k)) (instance-within k h (a .0)) (a .1))
+-- WHAT SUBSTITUTION GIVES is the answer, where the tree size alone decides.
+module _ (b p hs ns zs : List ℕ) (n u : ℕ) (g : Good b p hs ns zs n u) where
+  pub applied-answer : (s : Sort) → (size s ≤ 4096 → within s ≡ true) → (b′ p′ hs′ ns′ zs′ : List ℕ) (r : Applied) → AppliedIs b p hs ns zs n u s b′ p′ hs′ ns′ zs′ r
+      → AnswerIs b p n (sort s) b′ p′ hs′ ns′ zs′ (answerOf n u r)
+  applied-answer s fits b′ p′ hs′ ns′ zs′ (Is i n′ u′) a =
+      answer-made b p hs ns zs n u g s b′ p′ hs′ ns′ zs′ i n′ u′ (fits (a .small)) (a .made .good) (a .made .kept .long) (a .made .kept .wide)
+      (a .made .added) (a .made .number)
+  applied-answer s fits b′ p′ hs′ ns′ zs′ TooLarge a = untouched-as (a .1) (answer-limit b p hs ns zs n u g s (over-size s (a .0)))
+  applied-answer s fits b′ p′ hs′ ns′ zs′ NoRoom a = untouched-as (a .2) (answer-full b p hs ns zs n u g s (fits (a .0)) (a .1))
 
--- The same, for every map of the table.
+-- THE SORT k REPLACED, for every map of the table.
 pub instance-of : (b p hs ns zs : List ℕ) (n u k : ℕ) (l : List ℕ) → ApplyAsks b p hs ns zs n u k l → (b′ p′ hs′ ns′ zs′ : List ℕ) (r : Applied)
     → AppliedIs b p hs ns zs n u (answerAt b p n l k) b′ p′ hs′ ns′ zs′ r → InstanceIs b p n l k b′ p′ hs′ ns′ zs′ (answerOf n u r)
 instance-of b p hs ns zs n u k l h b′ p′ hs′ ns′ zs′ r a θ m =
-    instance-is b p hs ns zs n u (h .ready .good) l θ m k (h .known) b′ p′ hs′ ns′ zs′ r
+    applied-answer b p hs ns zs n u (h .ready .good) (apply θ (sortAt b p n k))
+    (instance-within b p hs ns zs n u (h .ready .good) l θ m k (h .known)) b′ p′ hs′ ns′ zs′ r
     (subst (λ (s : Sort). AppliedIs b p hs ns zs n u s b′ p′ hs′ ns′ zs′ r) (images-apply (storeOf b p n) l θ m (sortAt b p n k)) a)

@@ -1,12 +1,28 @@
-// A sort of the store with its names replaced, as a row or an answer.
+// A sort of the store, or what remains of the list of a Function, with its names replaced, as a row or an answer.
 use answers::Answer;
 use answers::found;
 use answers::refuse;
 use apply::Applied;
 use apply::apply;
+use apply::function::apply_function;
+use record::u16_at;
 use rows::Cause;
+ghost use mathlib.Core.Path.{_≡_};
 ghost use Rattle.apply.specs.Contract.{ApplyAsks};
-ghost use Rattle.instance.specs.Instance.{InstanceIs};
+ghost use Rattle.instance.specs.Instance.{answerOf, InstanceIs};
+ghost use Rattle.instance.specs.Rest.{RestAsks, RestIs};
+
+// The answer of what substitution gives: the sort found or added; Limit where its tree is over 4,096; Full where the store
+// cannot hold its sorts.
+pub fn answer_of(made: Applied, count: usize, used: usize) -> Answer
+    ensures { λ r. ⌜ r ≡ answerOf count used made ⌝ }
+{
+    match made {
+        Applied::Is(i, n, u) => found(i, n, u),
+        Applied::TooLarge => refuse(Cause::Limit, count, used),
+        Applied::NoRoom => refuse(Cause::Full, count, used),
+    }
+}
 
 // The sort k with its names replaced by the table of images: found or added; Limit where its tree is over 4,096; Full where
 // the store cannot hold its sorts.
@@ -25,9 +41,41 @@ pub fn instance(
     ensures { λ r. ⌜ InstanceIs (now (records .entry)) (now (places .entry)) count (now (images .entry)) k (now (records .exit)) (now (places .exit)) (now (heads .exit)) (now (next .exit)) (now (sizes .exit)) r ⌝ }
 {
     let made = apply(records, places, heads, next, sizes, count, used, k, images);
-    match made {
-        Applied::Is(i, n, u) => found(i, n, u),
-        Applied::TooLarge => refuse(Cause::Limit, count, used),
-        Applied::NoRoom => refuse(Cause::Full, count, used),
+    answer_of(made, count, used)
+}
+
+// The `left` sorts whose numbers stand from `at` on with their names replaced, one by itself, else the Function of them:
+// found or added; Limit where the tree is over 4,096; Full where the store cannot hold its sorts.
+pub fn rest(
+    records: &mut [u8],
+    places: &mut [u32],
+    heads: &mut [u16],
+    next: &mut [u16],
+    sizes: &mut [u16],
+    count: usize,
+    used: usize,
+    images: &[u16],
+    at: usize,
+    left: usize,
+) -> Answer
+    requires { ⌜ RestAsks (now records) (now places) (now heads) (now next) (now sizes) count used (now images) at left ⌝ }
+    ensures { λ r. ⌜ RestIs (now (records .entry)) (now (places .entry)) count (now (images .entry)) at left (now (records .exit)) (now (places .exit)) (now (heads .exit)) (now (next .exit)) (now (sizes .exit)) r ⌝ }
+{
+    if left == 1 {
+        let k = u16_at(records, at);
+        return instance(records, places, heads, next, sizes, count, used, images, k);
     }
+    let made = apply_function(
+        records,
+        places,
+        heads,
+        next,
+        sizes,
+        count,
+        used,
+        at,
+        left,
+        images,
+    );
+    answer_of(made, count, used)
 }

@@ -60,6 +60,17 @@ pub told : (R : ℕ → List Rank) (s : List ℕ) (l : Lengths) (h : Sheet) (st 
 unfolding judgedBy
 told R s l h st rows answers e = told-by R s l h st rows answers (readSheet s l) refl e
 
+read-by : (R : ℕ → List Rank) (s : List ℕ) (l : Lengths) (h : Sheet) (st : List Sort) (rows answers : List ℕ) (r : Reading Sheet) → readSheet s l ≡ r
+    → judgedSheet R l r ≡ accepted h st rows answers → (x : ℕ) × (readSheet s l ≡ got h x)
+read-by R s l h st rows answers (unread x) q e = let z : true ≡ false = cc in absurd (true≢false z)
+read-by R s l h st rows answers (got g x) q e = (x, q ∙ ap (λ (k : Sheet). got k x) (sheet-one e))
+
+-- THE SHEET of an accepted judgement is the one that was read.
+pub judged-read : (R : ℕ → List Rank) (s : List ℕ) (l : Lengths) (h : Sheet) (st : List Sort) (rows answers : List ℕ)
+    → judgedBy R s l ≡ accepted h st rows answers → (x : ℕ) × (readSheet s l ≡ got h x)
+unfolding judgedBy
+judged-read R s l h st rows answers e = read-by R s l h st rows answers (readSheet s l) refl e
+
 -- An accepted sheet: the bytes s with the lent lengths l.
 module _ (R : ℕ → List Rank) (s : List ℕ) (l : Lengths) (h : Sheet) (st : List Sort) (rows answers : List ℕ)
     (e : judgedBy R s l ≡ accepted h st rows answers) where

@@ -5,6 +5,7 @@ pub mod Questions
 pub mod QuestionLaws
 pub mod Judged
 pub mod JudgedLaws
+pub mod KnownLaws
 pub mod TwoRoutes
 pub mod RoutesExample
 pub mod Examples

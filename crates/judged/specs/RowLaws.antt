@@ -101,12 +101,12 @@ module _ (R : ℕ → List Rank) (l : Lengths) (st : List Sort) where
   rows-count [] = refl
   rows-count (r ∷ rs) = simp length-append (omega (arith, rows-count rs))
 
-  rows-new : (rs : List TermFields) (r : TermFields) (i : ℕ)
+  pub rows-new : (rs : List TermFields) (r : TermFields) (i : ℕ)
       → getD (tabled (r ∷ rs) .rows) (2 * length rs + i) 0 ≡ getD (first rs r .code ∷ second rs r .code ∷ []) i 0
   rows-new rs r i =
       rw (rows-more rs r, ← rows-count rs) (getD-append-add (tabled rs .rows) (first rs r .code ∷ second rs r .code ∷ []) i 0)
 
-  turn-grown : (rs : List TermFields) (r : TermFields) → Grown l (tabled rs .store) (tabled (r ∷ rs) .store)
+  pub turn-grown : (rs : List TermFields) (r : TermFields) → Grown l (tabled rs .store) (tabled (r ∷ rs) .store)
   turn-grown rs r =
       rw (rows-more rs r)
       (grown-trans l (tabled rs .store) (first rs r .store) (second rs r .store)
@@ -120,7 +120,7 @@ module _ (R : ℕ → List Rank) (l : Lengths) (st : List Sort) where
   rows-grown (r ∷ rs) = grown-trans l st (tabled rs .store) (tabled (r ∷ rs) .store) (rows-grown rs) (turn-grown rs r)
 
   -- The rows of earlier terms stay.
-  rows-old : (rs : List TermFields) (r : TermFields) (i : ℕ) → i < 2 * length rs → getD (tabled (r ∷ rs) .rows) i 0 ≡ getD (tabled rs .rows) i 0
+  pub rows-old : (rs : List TermFields) (r : TermFields) (i : ℕ) → i < 2 * length rs → getD (tabled (r ∷ rs) .rows) i 0 ≡ getD (tabled rs .rows) i 0
   unfolding rowsOf
   rows-old rs r i h = List·getD-append (tabled rs .rows) _ 0 i (omega (arith, rows-count rs))
 

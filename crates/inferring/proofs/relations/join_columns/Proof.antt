@@ -146,7 +146,7 @@ returns-3 c =
     let n = a .count in
     let u = a .used in
     let x = a .args .now in
-    judged-as (join-less b p hs ns zs n u x (a .at) (a .m) (a .to) (a .q) (s .pre) (pos (a .q) (c .before .before .before .before .before .before .before .before .before .before .before .before .before .before .before .before .before .before .before .before .if1 .left)) (pos (a .m) (c .before .before .before .before .before .before .before .before .before .before .before .before .before .before .before .before .before .before .before .if2 .left))) (c .before .before .before .before .before .before .before .before .before .before .before .before .side-by-side2 .ensures)
+    judged-as {b = b} {p = p} (join-less b p hs ns zs n u x (a .at) (a .m) (a .to) (a .q) (s .pre) (pos (a .q) (c .before .before .before .before .before .before .before .before .before .before .before .before .before .before .before .before .before .before .before .before .if1 .left)) (pos (a .m) (c .before .before .before .before .before .before .before .before .before .before .before .before .before .before .before .before .before .before .before .if2 .left))) (c .before .before .before .before .before .before .before .before .before .before .before .before .side-by-side2 .ensures)
 
 pub join-columns-spec : {M : Type 1} → statement M
 join-columns-spec = tie.close (tie.spec refuse-requires returns add-side-by-side sub-side-by-side side-by-side-requires same-length same-length-2 same-length-3 same-length-4 same-length-5 same-length-6 returns-2 sub-side-by-side-2 add-side-by-side-2 sub-side-by-side-3 side-by-side-requires-2 same-length-7 same-length-8 same-length-9 same-length-10 same-length-11 same-length-12 returns-3)

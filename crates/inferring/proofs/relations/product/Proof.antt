@@ -82,7 +82,7 @@ returns c =
     let x = a .args .now in
     let m = a .n in
     let is : Having b p n (sortsIn b p n x 3 m) (c .before .before .before .before .before .before .before .before .before .before .before .before .before .before .before .before .before .before .before .before .both .given .0 .0) (c .before .before .before .before .before .before .before .before .before .before .before .before .before .before .before .before .before .before .before .before .both .given .0 .1 .0) (c .before .before .before .before .before .before .before .before .before .before .before .before .before .before .before .before .before .before .before .before .both .given .0 .1 .1 .0) (c .before .before .before .before .before .before .before .before .before .before .before .before .before .before .before .before .before .before .before .before .both .given .0 .1 .1 .1 .0) = subst (BothIs b p n (sortsIn b p n x 3 m)) (c .before .before .before .before .before .before .before .before .before .before .before .before .before .before .before .before .before .before .before .before .both .given .1) (c .before .before .before .before .before .before .before .before .before .before .before .before .before .before .before .before .before .before .before .before .before .before .both-columns .ensures n (args-refer b p hs ns zs n u x m (s .pre))) in
-    judged-as (is .is productOf) (c .before .before .before .before .before .before .before .before .before .before .before .before .side-by-side .ensures)
+    judged-as {b = b} {p = p} (is .is productOf) (c .before .before .before .before .before .before .before .before .before .before .before .before .side-by-side .ensures)
 
 same-length-7 : tie.Need-same-length-7
 same-length-7 c = search needs

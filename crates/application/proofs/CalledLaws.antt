@@ -1,0 +1,249 @@
+-- The checked App: what its steps ask, and that each way through them gives the definition's verdict.
+use Prim.Native.Nat.{ℕ, _+_, _*_, _-_, _≤_, _<_}
+use mathlib.Core.Path.{_≡_, refl, sym, ap, ap₂, subst, _∙_}
+use mathlib.Core.Bool.{Bool, true, false}
+use mathlib.Core.List.{List}
+use mathlib.Core.Option.{Option, some}
+use native.Mathlib.Omega.{arith}
+use lib.Dec.{ltb}
+use borrow.Author.Tests.{lt-ltb, le-ltb}
+use Rattle.record.specs.Number.{numbersAt}
+use Rattle.record.specs.Sort.{Sorts}
+use Rattle.record.specs.Decode.{storeOf}
+use Rattle.substitution.specs.Substitution.{Map, empty, apply}
+use Rattle.substitution.specs.Matching.{matchesAll, listedIn}
+use Rattle.matching.specs.declared.Matched.{Matched}
+use Rattle.matching.specs.declared.Matched.the-variants.{Fits, Misfits}
+use Rattle.matching.specs.Tables.{Told, listed, Added, mapOf, Mapped, Cleared}
+use Rattle.matching.specs.TableLaws.{listed-is, added-back, cleared-mapped, cleared-map}
+use Rattle.matching.specs.Contract.{sortsAt, AddAsks, TakeAsks, MatchAllAsks, MatchAllIs, Answered}
+use Rattle.matching.specs.Entered.{good-usable}
+use Rattle.rows.specs.declared.Cause.{Cause}
+use Rattle.rows.specs.declared.Cause.the-variants.{Count, Misfit, Unassigned}
+use Rattle.rows.specs.Verdict.{Verdict, sort, refused, need}
+use Rattle.rows.specs.Lists.{firsts, others, remaining}
+use Rattle.checked.specs.Checked.{values, delivered, called}
+use Rattle.answers.specs.declared.Answer.{Answer}
+use Rattle.answers.specs.Answer.{refusing}
+use Rattle.answers.specs.AnswerLaws.{judged-as, answered-as, answer-refused}
+use Rattle.instance.specs.Rest.{RestAsks, RestIs}
+use Rattle.application.specs.declared.called.Call.{Call}
+use Rattle.application.specs.declared.called.Call.the-variants.{Settled, Unsettled, Misfits as Fails}
+use Rattle.application.specs.Contract.{AppIs, SettledAllAsks, SettledAllIs, ValuesAsk, ValuesHave, FitAsks, FitIs, FittedAsks, FittedIs, restAt, deliveredAt, boundIn, callOf, CalledAsks, DeliverAsks}
+use Rattle.application.proofs.AppLaws.{app-refused, app-as}
+use Rattle.application.proofs.ListLaws.{count-at, firsts-at, others-at, refs-part, refs-behind}
+use Rattle.application.proofs.SettledLaws.{settled-remaining}
+use Rattle.application.proofs.TableLaws.{cleared-images, cleared-bound, mapped-images, add-asks, take-asks, listed-names}
+
+---------------------------------------------------------------- with the names listed
+module _ (b p : List ℕ) (n : ℕ) (prm imgs bnd : List ℕ) (x m : ℕ) (a : List ℕ) (k : ℕ) (h : FitAsks b p n prm imgs bnd x m a k) where
+  pub matches-ask : MatchAllAsks b p n prm imgs bnd 0 b x a 5 k
+  matches-ask =
+      record {
+        pairs = record { usable = h .usable; left = refs-part b x m n k (h .list) (h .fewer); right = h .args };
+        table = h .table;
+        mapped = cleared-mapped b p n imgs bnd (h .cleared);
+      }
+
+  -- After matching, whatever it found.
+  module _ (l d : List ℕ) (r : Matched) (w : MatchAllIs b p n prm imgs bnd 0 b x a 5 k l d r) where
+    abbrev matchesBy : (ℕ → Bool) → Option Map
+    matchesBy f = matchesAll f (sortsAt b p n b x k) (sortsAt b p n a 5 k) empty
+
+    found-by : (f : ℕ → Bool) → Told prm f → Answered b p n l d r (matchesBy f)
+    found-by f t =
+        subst (λ (o : Map). Answered b p n l d r (matchesAll f (sortsAt b p n b x k) (sortsAt b p n a 5 k) o)) (cleared-map (storeOf b p n) imgs bnd)
+        (w f t)
+
+    found-as : (q : Matched) → r ≡ q → (f : ℕ → Bool) → Told prm f → Answered b p n l d q (matchesBy f)
+    found-as q e f t = subst (λ (z : Matched). Answered b p n l d z (matchesBy f)) e (found-by f t)
+
+    told : Told prm (listed prm)
+    told v = refl
+
+    pub settled-asks : (c : ℕ) → r ≡ Fits c → SettledAllAsks b p n prm l (x + 2 * k) (m - k)
+    settled-asks c e =
+        record {
+          list = record { usable = h .usable; refs = refs-behind b x m n k (h .list) (h .fewer) };
+          table = h .table;
+          images = found-as (Fits c) e (listed prm) told .mapped .tabled .names;
+        }
+
+    module _ (c : ℕ) (e : r ≡ Fits c) (t : Bool) (g : SettledAllIs b p n prm l (x + 2 * k) (m - k) t) where
+      abbrev θ : Map
+      θ = mapOf (storeOf b p n) l d c
+
+      by-test : (f : ℕ → Bool) → Told prm f → deliveredAt f b p n x m a k ≡ need t Unassigned (sort (apply θ (restAt b p n x m k)))
+      by-test f q =
+          let found = found-as (Fits c) e f q in
+          ap (delivered f (restAt b p n x m k)) (sym (found .result))
+          ∙ ap (λ (z : Bool). need z Unassigned (sort (apply θ (restAt b p n x m k))))
+          (settled-remaining f θ (sortsAt b p n b (x + 2 * k) (m - k)) ∙ sym (g f q θ (mapped-images b p n l d c (found .mapped))))
+
+      pub fit-settled : t ≡ true → FitIs b p n prm x m a k l d (Settled c)
+      fit-settled o =
+          record {
+            mapped = found-as (Fits c) e (listed prm) told .mapped;
+            verdict = λ f q. by-test f q ∙ ap (λ (z : Bool). need z Unassigned (sort (apply θ (restAt b p n x m k)))) o;
+          }
+
+      pub fit-unsettled : t ≡ false → FitIs b p n prm x m a k l d (Unsettled c)
+      fit-unsettled o =
+          record {
+            mapped = found-as (Fits c) e (listed prm) told .mapped;
+            verdict = λ f q. by-test f q ∙ ap (λ (z : Bool). need z Unassigned (sort (apply θ (restAt b p n x m k)))) o;
+          }
+
+    pub fit-fails : (c : ℕ) → r ≡ Misfits c → FitIs b p n prm x m a k l d (Fails c)
+    fit-fails c e =
+        record {
+          mapped = found-as (Misfits c) e (listed prm) told .mapped;
+          verdict = λ f q. ap (delivered f (restAt b p n x m k)) (sym (found-as (Misfits c) e f q .result));
+        }
+
+---------------------------------------------------------------- listing the names and taking them off
+module _ (b p : List ℕ) (n : ℕ) (prm imgs bnd : List ℕ) (x m y q : ℕ) (a : List ℕ) (k : ℕ) (h : FittedAsks b p n prm imgs bnd x m y q a k) where
+  pub fitted-add : AddAsks prm b y q
+  fitted-add = add-asks prm (h .fit .table) (h .zeros) b y q (h .names) (h .named)
+
+  module _ (o : List ℕ) (t : Added prm (numbersAt b y q) o) where
+    pub fit-asks : FitAsks b p n o imgs bnd x m a k
+    fit-asks =
+        record {
+          usable = h .fit .usable;
+          table = t .long ∙ h .fit .table;
+          cleared = h .fit .cleared;
+          list = h .fit .list;
+          args = h .fit .args;
+          fewer = h .fit .fewer;
+        }
+
+    pub fitted-take : TakeAsks o b y q
+    fitted-take = take-asks prm (h .fit .table) (h .zeros) b y q (h .names) (h .named) o t
+
+    pub fitted-is : (l d : List ℕ) (r : Call) → FitIs b p n o x m a k l d r → (prm′ : List ℕ) → Added prm′ (numbersAt b y q) o → FittedIs b p n prm x m y q a k prm′ l d r
+    fitted-is l d r w prm′ z =
+        let vs = numbersAt b y q in
+        record {
+          params = added-back prm vs o prm′ t z;
+          mapped = w .mapped;
+          verdict = w .verdict (listedIn vs) (listed-is o vs (listed-names prm (h .fit .table) (h .zeros) b y q (h .names) (h .named) o t));
+        }
+
+---------------------------------------------------------------- what remains, delivered
+module _ (b p hs ns zs : List ℕ) (n u : ℕ) (prm imgs bnd : List ℕ) (x m y q : ℕ) (a : List ℕ) (k : ℕ) where
+  module _ (h : DeliverAsks b p hs ns zs n u prm imgs bnd x m y q a k) where
+    pub fitted-asks : FittedAsks b p n prm imgs bnd x m y q a k
+    fitted-asks =
+        let c = h .called in
+        record {
+          fit =
+              record {
+                usable = good-usable b p hs ns zs n u (c .good);
+                table = c .blank .table;
+                cleared = c .blank .cleared;
+                list = c .list;
+                args = c .args;
+                fewer = h .fewer;
+              };
+          zeros = c .blank .zeros;
+          names = c .names;
+          named = c .named;
+        }
+
+    -- Over tables that bind some names.
+    pub rest-asks : (l d : List ℕ) (c : ℕ) → Mapped b p n l d c → RestAsks b p hs ns zs n u l (x + 2 * k) (m - k)
+    rest-asks l d c w =
+        let r = refs-behind b x m n k (h .called .list) (h .fewer) in
+        record {
+          ready = record { good = h .called .good; table = record { long = w .tabled .names; below = w .below } };
+          within = r .within;
+          below = r .below;
+          few = omega (arith, h .called .few);
+        }
+
+    module _ (prm′ l d : List ℕ) (c : Call) (w : FittedIs b p n prm x m y q a k prm′ l d c) where
+      pub call-mapped : (j : ℕ) → boundIn c ≡ j → Mapped b p n l d j
+      call-mapped j e = subst (λ (i : ℕ). Mapped b p n l d i) e (w .mapped)
+
+      abbrev verdict : Verdict
+      verdict = deliveredAt (listedIn (numbersAt b y q)) b p n x m a k
+
+      module _ (l′ d′ : List ℕ) (z : Cleared l′ d′) where
+        pub delivered-made : (j : ℕ) → c ≡ Settled j → (b′ p′ hs′ ns′ zs′ : List ℕ) (r : Answer) → RestIs b p n l (x + 2 * k) (m - k) b′ p′ hs′ ns′ zs′ r
+            → AppIs verdict b p n prm imgs bnd b′ p′ hs′ ns′ zs′ prm′ l′ d′ r
+        delivered-made j e b′ p′ hs′ ns′ zs′ r g =
+            record {
+              answer =
+                  judged-as (w .verdict ∙ ap (callOf (storeOf b p n) l d (restAt b p n x m k)) e)
+                  (g (mapOf (storeOf b p n) l d j) (mapped-images b p n l d j (call-mapped j (ap boundIn e))));
+              params = w .params;
+              images = cleared-images imgs bnd l′ d′ (h .called .blank .cleared) z;
+              bound = cleared-bound imgs bnd l′ d′ (h .called .blank .cleared) z;
+            }
+
+        delivered-refused : (o : Cause) → callOf (storeOf b p n) l d (restAt b p n x m k) c ≡ refused o → (r : Answer) → r ≡ refusing o n u
+            → AppIs verdict b p n prm imgs bnd b p hs ns zs prm′ l′ d′ r
+        delivered-refused o e r g =
+            record {
+              answer = judged-as (w .verdict ∙ e) (answered-as g (answer-refused b p hs ns zs n u (h .called .good) o));
+              params = w .params;
+              images = cleared-images imgs bnd l′ d′ (h .called .blank .cleared) z;
+              bound = cleared-bound imgs bnd l′ d′ (h .called .blank .cleared) z;
+            }
+
+        pub delivered-unsettled : (j : ℕ) → c ≡ Unsettled j → (r : Answer) → r ≡ refusing Unassigned n u → AppIs verdict b p n prm imgs bnd b p hs ns zs prm′ l′ d′ r
+        delivered-unsettled j e = delivered-refused Unassigned (ap (callOf (storeOf b p n) l d (restAt b p n x m k)) e)
+
+        pub delivered-fails : (j : ℕ) → c ≡ Fails j → (r : Answer) → r ≡ refusing Misfit n u → AppIs verdict b p n prm imgs bnd b p hs ns zs prm′ l′ d′ r
+        delivered-fails j e = delivered-refused Misfit (ap (callOf (storeOf b p n) l d (restAt b p n x m k)) e)
+
+  ---------------------------------------------------------------- a head at its arguments
+  module _ (h : CalledAsks b p hs ns zs n u prm imgs bnd x m y q a k) where
+    pub values-ask : ValuesAsk b p a 5 k
+    values-ask = record { many = n; stored = h .good .stored; refs = h .args }
+
+    abbrev ss : Sorts
+    ss = sortsAt b p n b x m
+
+    abbrev ts : Sorts
+    ts = sortsAt b p n a 5 k
+
+    abbrev f : ℕ → Bool
+    f = listedIn (numbersAt b y q)
+
+    abbrev behind : Verdict
+    behind = delivered f (remaining (others ss ts)) (matchesAll f (firsts ss ts) ts empty)
+
+    called-by : called f (some ss) ts ≡ need (ltb k m) Count (need (values ts) Misfit behind)
+    unfolding called
+    called-by =
+        ap₂ (λ (i j : ℕ). need (ltb i j) Count (need (values ts) Misfit behind)) (count-at (storeOf b p n) a 5 k) (count-at (storeOf b p n) b x m)
+
+    pub called-count : m ≤ k → (r : Answer) → r ≡ refusing Count n u → AppIs (called f (some ss) ts) b p n prm imgs bnd b p hs ns zs prm imgs bnd r
+    called-count l =
+        app-refused b p hs ns zs n u prm imgs bnd (h .good) (called f (some ss) ts) Count
+        (called-by ∙ ap (λ (z : Bool). need z Count (need (values ts) Misfit behind)) (le-ltb k m l))
+
+    module _ (l : k < m) (t : Bool) (v : ValuesHave b p a 5 k t) where
+      by-values : called f (some ss) ts ≡ need t Misfit behind
+      by-values =
+          called-by ∙ ap₂ (λ (z o : Bool). need z Count (need o Misfit behind)) (lt-ltb k m l) (sym (v n (h .good .stored) (h .args)))
+
+      pub called-misfit : t ≡ false → (r : Answer) → r ≡ refusing Misfit n u → AppIs (called f (some ss) ts) b p n prm imgs bnd b p hs ns zs prm imgs bnd r
+      called-misfit e =
+          app-refused b p hs ns zs n u prm imgs bnd (h .good) (called f (some ss) ts) Misfit (by-values ∙ ap (λ (z : Bool). need z Misfit behind) e)
+
+      pub deliver-asks : DeliverAsks b p hs ns zs n u prm imgs bnd x m y q a k
+      deliver-asks = record { called = h; fewer = omega arith }
+
+      pub called-delivered : t ≡ true → (b′ p′ hs′ ns′ zs′ prm′ l′ d′ : List ℕ) (r : Answer)
+          → AppIs (deliveredAt f b p n x m a k) b p n prm imgs bnd b′ p′ hs′ ns′ zs′ prm′ l′ d′ r
+          → AppIs (called f (some ss) ts) b p n prm imgs bnd b′ p′ hs′ ns′ zs′ prm′ l′ d′ r
+      called-delivered e b′ p′ hs′ ns′ zs′ prm′ l′ d′ r g =
+          app-as
+          (by-values ∙ ap (λ (z : Bool). need z Misfit behind) e
+          ∙ ap₂ (λ (i o : Sorts). delivered f (remaining i) (matchesAll f o ts empty))
+          (others-at (storeOf b p n) b x m a 5 k (omega arith))
+          (firsts-at (storeOf b p n) b x m a 5 k (omega arith)))
+          g

@@ -1,0 +1,251 @@
+-- An App by its head: the verdicts by what the head is, the size of its list, and what is asked of the functions for each.
+use Prim.Native.Nat.{ℕ, zero, suc, _+_, _*_, _-_, _≤_, _<_}
+use mathlib.Core.Path.{_≡_, refl, sym, ap, ap₂, subst, _∙_}
+use mathlib.Core.Bool.{Bool, true, false, cond}
+use mathlib.Core.List.{List, [], _∷_}
+use mathlib.Core.Option.{none, some}
+use native.Mathlib.Omega.{arith}
+use lib.Dec.{eqb, leb}
+use borrow.Author.Tests.{le-leb, lt-leb}
+use Rattle.record.specs.Names.{member}
+use Rattle.record.specs.Number.{u16At, numbersAt}
+use Rattle.record.specs.Sort.{Sort, Sorts, var, par, node, _then_, count, size, sizes}
+use Rattle.record.specs.Decode.{storeOf, sortAt}
+use Rattle.substitution.specs.Substitution.{empty}
+use Rattle.substitution.specs.Matching.{listedIn}
+use Rattle.substitution.specs.MatchWith.{matchAllWith}
+use Rattle.matching.specs.Contract.{Refs, sortsAt}
+use Rattle.matching.specs.Entered.{sorts-end, sorts-more}
+use Rattle.rows.specs.declared.Cause.the-variants.{Panics, Count, Misfit}
+use Rattle.rows.specs.Verdict.{Verdict, sort, refused, need}
+use Rattle.rows.specs.Lists.{firsts, others, remaining}
+use Rattle.inferred.specs.Inferred.{substituted, plainApp, parametricApp, headApp, applied}
+use Rattle.checked.specs.Checked.{parameters, listOf, called, application}
+use Rattle.answers.specs.declared.heads.Head.{Head}
+use Rattle.answers.specs.declared.heads.Head.the-variants.{Function, NoFunction}
+use Rattle.answers.specs.Heads.{Headed, plain, under, other, headIn, headOver, HeadAsks, FunctionIs, HeadIs, HeadHas}
+use Rattle.answers.specs.Asks.{RemainingAsks}
+use Rattle.application.specs.Contract.{AppAsks, CalledAsks, ParametricAsks, restAt, substitutedAt}
+use Rattle.application.proofs.ListLaws.{count-at, firsts-at, others-at, refs-behind, refs-args}
+
+---------------------------------------------------------------- the checked verdict by the head
+abbrev calledOf : Headed → Sorts → Verdict
+calledOf (plain ss) ts = called (λ v. false) (some ss) ts
+calledOf (under ns ss) ts = called (listedIn ns) (some ss) ts
+calledOf other ts = refused Misfit
+
+plain-called : (t : Bool) (ss ts : Sorts) → called (λ v. false) (cond t (some ss) none) ts ≡ calledOf (cond t (plain ss) other) ts
+unfolding called
+plain-called true ss ts = refl
+plain-called false ss ts = refl
+
+under-called : (t : Bool) (ns : List ℕ) (ss ts : Sorts) → called (listedIn ns) (cond t (some ss) none) ts ≡ calledOf (cond t (under ns ss) other) ts
+unfolding called
+under-called true ns ss ts = refl
+under-called false ns ss ts = refl
+
+called-head : (h : Sort) (ts : Sorts) → called (λ v. parameters h v) (listOf h) ts ≡ calledOf (headIn h) ts
+unfolding called
+called-head (var v) ts = refl
+called-head (par ns (var v)) ts = refl
+called-head (par ns (par ms b)) ts = refl
+called-head (par ns (node k a w ss)) ts = under-called (eqb k 0) ns ss ts
+called-head (node k a w ss) ts = plain-called (eqb k 0) ss ts
+
+called-over : (vs : List ℕ) (ss ts : Sorts) → calledOf (headOver vs ss) ts ≡ called (listedIn vs) (some ss) ts
+unfolding member
+called-over [] ss ts = refl
+called-over (v ∷ vs) ss ts = refl
+
+---------------------------------------------------------------- the inferred verdict by the head
+abbrev appliedOf : Headed → Sorts → Verdict
+appliedOf (plain ss) ts = plainApp ss ts
+appliedOf (under ns ss) ts = parametricApp ns ss ts
+appliedOf other ts = refused Panics
+
+plain-applied : (t : Bool) (ss ts : Sorts) → cond t (plainApp ss ts) (refused Panics) ≡ appliedOf (cond t (plain ss) other) ts
+plain-applied true ss ts = refl
+plain-applied false ss ts = refl
+
+under-applied : (t : Bool) (ns : List ℕ) (ss ts : Sorts) → cond t (parametricApp ns ss ts) (refused Panics) ≡ appliedOf (cond t (under ns ss) other) ts
+under-applied true ns ss ts = refl
+under-applied false ns ss ts = refl
+
+applied-head : (h : Sort) (ts : Sorts) → headApp h ts ≡ appliedOf (headIn h) ts
+applied-head (var v) ts = refl
+applied-head (par ns (var v)) ts = refl
+applied-head (par ns (par ms b)) ts = refl
+applied-head (par ns (node k a w ss)) ts = under-applied (eqb k 0) ns ss ts
+applied-head (node k a w ss) ts = plain-applied (eqb k 0) ss ts
+
+applied-plain : (b : List ℕ) (y q : ℕ) (ss ts : Sorts) → q ≡ 0 → appliedOf (headOver (numbersAt b y q) ss) ts ≡ plainApp ss ts
+unfolding numbersAt
+applied-plain b y zero ss ts e = refl
+applied-plain b y (suc q) ss ts e = absurd (omega arith)
+
+applied-under : (b : List ℕ) (y q : ℕ) (ss ts : Sorts) → (q ≡ 0 → ⊥) → appliedOf (headOver (numbersAt b y q) ss) ts ≡ parametricApp (numbersAt b y q) ss ts
+unfolding numbersAt
+applied-under b y zero ss ts d = absurd (d refl)
+applied-under b y (suc q) ss ts d = refl
+
+---------------------------------------------------------------- the size of the head's list
+abbrev sizesIn : Headed → ℕ
+sizesIn (plain ss) = sizes ss
+sizesIn (under ns ss) = sizes ss
+sizesIn other = 0
+
+plain-sizes : (t : Bool) (ss : Sorts) → sizesIn (cond t (plain ss) other) ≤ sizes ss
+plain-sizes true ss = omega arith
+plain-sizes false ss = omega arith
+
+under-sizes : (t : Bool) (ns : List ℕ) (ss : Sorts) → sizesIn (cond t (under ns ss) other) ≤ sizes ss
+under-sizes true ns ss = omega arith
+under-sizes false ns ss = omega arith
+
+head-sizes : (h : Sort) → sizesIn (headIn h) ≤ size h
+unfolding size
+head-sizes (var v) = omega arith
+head-sizes (par ns (var v)) = omega arith
+head-sizes (par ns (par ms b)) = omega arith
+head-sizes (par ns (node k a w ss)) = omega (arith, under-sizes (eqb k 0) ns ss)
+head-sizes (node k a w ss) = omega (arith, plain-sizes (eqb k 0) ss)
+
+over-sizes : (vs : List ℕ) (ss : Sorts) → sizesIn (headOver vs ss) ≡ sizes ss
+over-sizes [] ss = refl
+over-sizes (v ∷ vs) ss = refl
+
+---------------------------------------------------------------- an App
+module _ (b p hs ns zs : List ℕ) (n u : ℕ) (prm imgs bnd a : List ℕ) (m : ℕ) (h : AppAsks b p hs ns zs n u prm imgs bnd a m) where
+  pub app-count : m < 2 → application (sortsAt b p n a 3 m) ≡ refused Count
+  unfolding application
+  app-count l = go m l
+    where
+      go : (i : ℕ) → i < 2 → application (sortsAt b p n a 3 i) ≡ refused Count
+      go zero o = ap application (sorts-end b p n a 3 0 refl)
+      go (suc zero) o =
+          ap application (sorts-more b p n a 3 1 (omega arith) ∙ ap (sortAt b p n (u16At a 3) then_) (sorts-end b p n a 5 0 refl))
+      go (suc (suc i)) o = absurd (omega arith)
+
+  pub applied-none : m ≡ 0 → applied (sortsAt b p n a 3 m) ≡ refused Panics
+  applied-none e = ap applied (sorts-end b p n a 3 m e)
+
+  -- With a head, by its number.
+  module _ (more : 0 < m) (i : ℕ) (e : i ≡ u16At a 3) where
+    known : i < n
+    known = subst (_< n) (sym e) (h .below 0 more)
+
+    pub head-asks : HeadAsks b p i
+    head-asks = (n, record { stored = h .good .stored; known = known })
+
+    abbrev ts : Sorts
+    ts = sortsAt b p n a 5 (m - 1)
+
+    sorts-head : sortsAt b p n a 3 m ≡ sortAt b p n i then ts
+    sorts-head = sorts-more b p n a 3 m more ∙ ap (λ (j : ℕ). sortAt b p n j then ts) (sym e)
+
+    by-applied : applied (sortsAt b p n a 3 m) ≡ appliedOf (headIn (sortAt b p n i)) ts
+    by-applied = ap applied sorts-head ∙ applied-head (sortAt b p n i) ts
+
+    by-called : 2 ≤ m → application (sortsAt b p n a 3 m) ≡ calledOf (headIn (sortAt b p n i)) ts
+    unfolding application
+    by-called l =
+        let next : ts ≡ sortAt b p n (u16At a 5) then sortsAt b p n a 7 (m - 1 - 1) = sorts-more b p n a 5 (m - 1) (omega arith) in
+        ap application (sorts-head ∙ ap (sortAt b p n i then_) next)
+        ∙ ap (called (λ v. parameters (sortAt b p n i) v) (listOf (sortAt b p n i))) (sym next) ∙ called-head (sortAt b p n i) ts
+
+    module _ (r : Head) (w : HeadHas b p i r) where
+      is : HeadIs b p n i r
+      is = w n (h .good .stored) known
+
+      pub app-other : 2 ≤ m → r ≡ NoFunction → application (sortsAt b p n a 3 m) ≡ refused Misfit
+      app-other l g = by-called l ∙ ap (λ (z : Headed). calledOf z ts) (subst (HeadIs b p n i) g is)
+
+      pub applied-other : r ≡ NoFunction → applied (sortsAt b p n a 3 m) ≡ refused Panics
+      applied-other g = by-applied ∙ ap (λ (z : Headed). appliedOf z ts) (subst (HeadIs b p n i) g is)
+
+      module _ (x c y q : ℕ) (g : r ≡ Function x c y q) where
+        function : FunctionIs b p n i x c y q
+        function = subst (HeadIs b p n i) g is
+
+        abbrev ss : Sorts
+        ss = sortsAt b p n b x c
+
+        refs : Refs b x c n
+        refs = record { within = function .list; below = λ j l. omega (arith, function .below j l, known) }
+
+        pub called-asks : CalledAsks b p hs ns zs n u prm imgs bnd x c y q a (m - 1)
+        called-asks =
+            record {
+              good = h .good;
+              blank = h .blank;
+              list = refs;
+              few = function .few;
+              names = function .names;
+              named = function .named;
+              args = refs-args a n m (h .few) (h .room) (h .below);
+            }
+
+        pub app-called : 2 ≤ m → application (sortsAt b p n a 3 m) ≡ called (listedIn (numbersAt b y q)) (some ss) ts
+        app-called l =
+            by-called l ∙ ap (λ (z : Headed). calledOf z ts) (function .head) ∙ called-over (numbersAt b y q) ss ts
+
+        -- More arguments than sorts, a plain head, a head under a Par.
+        counted : (v : Verdict) → need (leb (count ts) (count ss)) Panics v ≡ need (leb (m - 1) c) Panics v
+        counted v = ap₂ (λ (i j : ℕ). need (leb i j) Panics v) (count-at (storeOf b p n) a 5 (m - 1)) (count-at (storeOf b p n) b x c)
+
+        by-head : applied (sortsAt b p n a 3 m) ≡ appliedOf (headOver (numbersAt b y q) ss) ts
+        by-head = by-applied ∙ ap (λ (z : Headed). appliedOf z ts) (function .head)
+
+        over-many : (vs : List ℕ) → c < m - 1 → appliedOf (headOver vs ss) ts ≡ refused Panics
+        unfolding plainApp parametricApp
+        over-many [] l =
+            counted (sort (remaining (others ss ts))) ∙ ap (λ (t : Bool). need t Panics (sort (remaining (others ss ts)))) (lt-leb (m - 1) c l)
+        over-many (v ∷ vs) l =
+            let s = substituted (remaining (others ss ts)) (matchAllWith (v ∷ vs) (firsts ss ts) ts empty) in
+            counted s ∙ ap (λ (t : Bool). need t Panics s) (lt-leb (m - 1) c l)
+
+        pub applied-many : c < m - 1 → applied (sortsAt b p n a 3 m) ≡ refused Panics
+        applied-many l = by-head ∙ over-many (numbersAt b y q) l
+
+        module _ (l : m - 1 ≤ c) where
+          pub remaining-asks : RemainingAsks b p hs ns zs n u a (x + 2 * (m - 1)) (c - (m - 1))
+          remaining-asks =
+              let behind = refs-behind b x c n (m - 1) refs l in
+              record {
+                good = h .good;
+                room = omega (arith, h .room);
+                within = behind .within;
+                below = behind .below;
+                few = omega (arith, function .few);
+              }
+
+          pub applied-rest : q ≡ 0 → applied (sortsAt b p n a 3 m) ≡ sort (restAt b p n x c (m - 1))
+          unfolding plainApp
+          applied-rest z =
+              by-head ∙ applied-plain b y q ss ts z ∙ counted (sort (remaining (others ss ts)))
+              ∙ ap (λ (t : Bool). need t Panics (sort (remaining (others ss ts)))) (le-leb (m - 1) c l)
+              ∙ ap (λ (o : Sorts). sort (remaining o)) (others-at (storeOf b p n) b x c a 5 (m - 1) l)
+
+          pub parametric-asks : ParametricAsks b p hs ns zs n u prm imgs bnd x c y q a (m - 1)
+          parametric-asks =
+              record {
+                deliver = record { called = called-asks; fewer = l };
+                small =
+                    omega (
+                      arith,
+                      over-sizes (numbersAt b y q) ss,
+                      ap sizesIn (function .head),
+                      head-sizes (sortAt b p n i),
+                      h .good .sized .small i known,
+                    );
+              }
+
+          pub applied-parametric : (q ≡ 0 → ⊥) → applied (sortsAt b p n a 3 m) ≡ substitutedAt b p n x c y q a (m - 1)
+          unfolding parametricApp
+          applied-parametric z =
+              let vs = numbersAt b y q in
+              let s = substituted (remaining (others ss ts)) (matchAllWith vs (firsts ss ts) ts empty) in
+              by-head ∙ applied-under b y q ss ts z ∙ counted s ∙ ap (λ (t : Bool). need t Panics s) (le-leb (m - 1) c l)
+              ∙ ap₂ (λ (o f : Sorts). substituted (remaining o) (matchAllWith vs f ts empty))
+              (others-at (storeOf b p n) b x c a 5 (m - 1) l)
+              (firsts-at (storeOf b p n) b x c a 5 (m - 1) l)

@@ -1,0 +1,8 @@
+pub mod AppLaws
+pub mod CalledLaws
+pub mod HeadLaws
+pub mod ListLaws
+pub mod ParametricLaws
+pub mod SettledLaws
+pub mod TableLaws
+pub mod ValueLaws

@@ -1,0 +1,127 @@
+-- The arguments matched with the names listed, and what remains looked through.
+-- Each way out is a case of the definition, for every test that the table stands for.
+use native.Mathlib.Omega.{arith}
+use borrow.Author.Needs.{needs}
+use Rattle.application.proofs.CalledLaws.{matches-ask, settled-asks, fit-settled, fit-unsettled, fit-fails}
+use Rattle.application.proofs.called.fit_listed.Statement.{statement}
+use Rattle.application.proofs.called.fit_listed.Tie as tie
+
+matches-all-requires : tie.Need-matches-all-requires
+matches-all-requires c κs =
+    let s = c .before .before .before .before .before .before .before .before in
+    let a = s .args in
+    let b = a .records .now in
+    let p = a .places .now in
+    let n = a .count in
+    let prm = a .params .now in
+    let g = a .images .now in
+    let o = a .bound .now in
+    let d = a .args .now in
+    let x = a .list in
+    let m = a .m in
+    let k = a .n in
+    matches-ask b p n prm g o x m d k (s .pre)
+
+enum-known-found : tie.Need-enum-known-found
+enum-known-found c = search needs
+
+mul-at : tie.Need-mul-at
+mul-at c =
+    let s = c .before .before .before .before .before .before .before .before .before .before .before .before .before .before .before .before in
+    omega (arith, s .pre .list .within, s .pre .fewer, s .good)
+
+add-at : tie.Need-add-at
+add-at c =
+    let s = c .before .before .before .before .before .before .before .before .before .before .before .before .before .before .before .before in
+    omega (arith, s .pre .list .within, s .pre .fewer, s .good)
+
+sub-all-settled : tie.Need-sub-all-settled
+sub-all-settled c = c .before .before .before .before .before .before .before .before .before .before .before .before .before .before .before .before .before .pre .fewer
+
+all-settled-requires : tie.Need-all-settled-requires
+all-settled-requires c κs =
+    let s = c .before .before .before .before .before .before .before .before .before .before .before .before .before .before .before .before .before in
+    let a = s .args in
+    let b = a .records .now in
+    let p = a .places .now in
+    let n = a .count in
+    let prm = a .params .now in
+    let g = a .images .now in
+    let o = a .bound .now in
+    let d = a .args .now in
+    let x = a .list in
+    let m = a .m in
+    let k = a .n in
+    settled-asks b p n prm g o x m d k (s .pre) (c .before .before .before .before .before .before .before .before .matches-all .last .1 .1 .1 .1 .0) (c .before .before .before .before .before .before .before .before .matches-all .last .1 .1 .1 .1 .1 .0) (c .before .before .before .before .before .before .before .before .matches-all .result) (c .before .before .before .before .before .before .before .before .matches-all .ensures) (c .before .before .found .given .0 .0) (c .before .before .found .given .1)
+
+same-length : tie.Need-same-length
+same-length c = search needs
+
+same-length-2 : tie.Need-same-length-2
+same-length-2 c = search needs
+
+returns : tie.Need-returns
+returns c =
+    let s = c .before .before .before .before .before .before .before .before .before .before .before .before .before .before .before .before .before .before .before in
+    let a = s .args in
+    let b = a .records .now in
+    let p = a .places .now in
+    let n = a .count in
+    let prm = a .params .now in
+    let g = a .images .now in
+    let o = a .bound .now in
+    let d = a .args .now in
+    let x = a .list in
+    let m = a .m in
+    let k = a .n in
+    fit-settled b p n prm g o x m d k (s .pre) (c .before .before .before .before .before .before .before .before .before .before .matches-all .last .1 .1 .1 .1 .0) (c .before .before .before .before .before .before .before .before .before .before .matches-all .last .1 .1 .1 .1 .1 .0) (c .before .before .before .before .before .before .before .before .before .before .matches-all .result) (c .before .before .before .before .before .before .before .before .before .before .matches-all .ensures) (c .before .before .before .before .found .given .0 .0) (c .before .before .before .before .found .given .1) (c .before .all-settled .result) (c .before .all-settled .ensures) (c .if1 .taken)
+
+enum-known-found-2 : tie.Need-enum-known-found-2
+enum-known-found-2 c = search needs
+
+same-length-3 : tie.Need-same-length-3
+same-length-3 c = search needs
+
+same-length-4 : tie.Need-same-length-4
+same-length-4 c = search needs
+
+returns-2 : tie.Need-returns-2
+returns-2 c =
+    let s = c .before .before .before .before .before .before .before .before .before .before .before .before .before .before .before .before .before .before .before in
+    let a = s .args in
+    let b = a .records .now in
+    let p = a .places .now in
+    let n = a .count in
+    let prm = a .params .now in
+    let g = a .images .now in
+    let o = a .bound .now in
+    let d = a .args .now in
+    let x = a .list in
+    let m = a .m in
+    let k = a .n in
+    fit-unsettled b p n prm g o x m d k (s .pre) (c .before .before .before .before .before .before .before .before .before .before .matches-all .last .1 .1 .1 .1 .0) (c .before .before .before .before .before .before .before .before .before .before .matches-all .last .1 .1 .1 .1 .1 .0) (c .before .before .before .before .before .before .before .before .before .before .matches-all .result) (c .before .before .before .before .before .before .before .before .before .before .matches-all .ensures) (c .before .before .before .before .found .given .0 .0) (c .before .before .before .before .found .given .1) (c .before .all-settled .result) (c .before .all-settled .ensures) (c .if1 .left)
+
+same-length-5 : tie.Need-same-length-5
+same-length-5 c = search needs
+
+same-length-6 : tie.Need-same-length-6
+same-length-6 c = search needs
+
+returns-3 : tie.Need-returns-3
+returns-3 c =
+    let s = c .before .before .before .before .before .before .before .before .before .before .before .before .before .before .before .before in
+    let a = s .args in
+    let b = a .records .now in
+    let p = a .places .now in
+    let n = a .count in
+    let prm = a .params .now in
+    let g = a .images .now in
+    let o = a .bound .now in
+    let d = a .args .now in
+    let x = a .list in
+    let m = a .m in
+    let k = a .n in
+    fit-fails b p n prm g o x m d k (s .pre) (c .before .before .before .before .before .before .before .matches-all .last .1 .1 .1 .1 .0) (c .before .before .before .before .before .before .before .matches-all .last .1 .1 .1 .1 .1 .0) (c .before .before .before .before .before .before .before .matches-all .result) (c .before .before .before .before .before .before .before .matches-all .ensures) (c .before .found2 .given .0 .0) (c .before .found2 .given .1)
+
+pub fit-listed-spec : {M : Type 1} → statement M
+fit-listed-spec = tie.close (tie.spec matches-all-requires enum-known-found mul-at add-at sub-all-settled all-settled-requires same-length same-length-2 returns enum-known-found-2 same-length-3 same-length-4 returns-2 same-length-5 same-length-6 returns-3)

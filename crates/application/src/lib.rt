@@ -1,0 +1,136 @@
+// The sort of an App, inferred and checked, over the store numbers of its head and its arguments: they stand in `args` from
+// byte 3 on, the head first.
+use answers::Answer;
+use answers::heads::Head;
+use answers::heads::head_of;
+use answers::lists::remaining;
+use answers::refuse;
+use called::called;
+use parametric::parametric;
+use record::u16_at;
+use rows::Cause;
+ghost use Rattle.matching.specs.Contract.{sortsAt};
+ghost use Rattle.inferred.specs.Inferred.{applied};
+ghost use Rattle.checked.specs.Checked.{application};
+ghost use Rattle.application.specs.Contract.{AppAsks, AppIs};
+
+pub mod called;
+pub mod parametric;
+pub mod settled;
+pub mod values;
+
+// The checked sort of an App of `total` terms: Count without an argument, for any head; Misfit where the head is no Function
+// or Par of one; else as `called`.
+pub fn application(
+    records: &mut [u8],
+    places: &mut [u32],
+    heads: &mut [u16],
+    next: &mut [u16],
+    sizes: &mut [u16],
+    count: usize,
+    used: usize,
+    params: &mut [u16],
+    images: &mut [u16],
+    bound: &mut [u16],
+    args: &[u8],
+    total: usize,
+) -> Answer
+    requires { ⌜ AppAsks (now records) (now places) (now heads) (now next) (now sizes) count used (now params) (now images) (now bound) (now args) total ⌝ }
+    ensures { λ r. ⌜ AppIs (application (sortsAt (now (records .entry)) (now (places .entry)) count (now (args .entry)) 3 total)) (now (records .entry)) (now (places .entry)) count (now (params .entry)) (now (images .entry)) (now (bound .entry)) (now (records .exit)) (now (places .exit)) (now (heads .exit)) (now (next .exit)) (now (sizes .exit)) (now (params .exit)) (now (images .exit)) (now (bound .exit)) r ⌝ }
+{
+    if total < 2 {
+        return refuse(Cause::Count, count, used);
+    }
+    let h = u16_at(args, 3);
+    let head = head_of(records, places, h);
+    match head {
+        Head::Function(list, m, names, named) => called(
+            records,
+            places,
+            heads,
+            next,
+            sizes,
+            count,
+            used,
+            params,
+            images,
+            bound,
+            list,
+            m,
+            names,
+            named,
+            args,
+            total - 1,
+        ),
+        Head::NoFunction => refuse(Cause::Misfit, count, used),
+    }
+}
+
+// The inferred sort of an App of `total` terms: what remains of the head's Function at the others; Panics without a head,
+// where it is no Function or Par of one, and where there are more arguments than its list has sorts. A plain head's arguments
+// are not compared. `args` is used up.
+pub fn applied(
+    records: &mut [u8],
+    places: &mut [u32],
+    heads: &mut [u16],
+    next: &mut [u16],
+    sizes: &mut [u16],
+    count: usize,
+    used: usize,
+    params: &mut [u16],
+    images: &mut [u16],
+    bound: &mut [u16],
+    args: &mut [u8],
+    total: usize,
+) -> Answer
+    requires { ⌜ AppAsks (now records) (now places) (now heads) (now next) (now sizes) count used (now params) (now images) (now bound) (now args) total ⌝ }
+    ensures { λ r. ⌜ AppIs (applied (sortsAt (now (records .entry)) (now (places .entry)) count (now (args .entry)) 3 total)) (now (records .entry)) (now (places .entry)) count (now (params .entry)) (now (images .entry)) (now (bound .entry)) (now (records .exit)) (now (places .exit)) (now (heads .exit)) (now (next .exit)) (now (sizes .exit)) (now (params .exit)) (now (images .exit)) (now (bound .exit)) r ⌝ }
+{
+    if total == 0 {
+        return refuse(Cause::Panics, count, used);
+    }
+    let n = total - 1;
+    let h = u16_at(args, 3);
+    let head = head_of(records, places, h);
+    match head {
+        Head::Function(list, m, names, named) => {
+            if m < n {
+                return refuse(Cause::Panics, count, used);
+            }
+            if named == 0 {
+                let at = list + 2 * n;
+                return remaining(
+                    records,
+                    places,
+                    heads,
+                    next,
+                    sizes,
+                    count,
+                    used,
+                    args,
+                    at,
+                    m - n,
+                );
+            }
+            parametric(
+                records,
+                places,
+                heads,
+                next,
+                sizes,
+                count,
+                used,
+                params,
+                images,
+                bound,
+                list,
+                m,
+                names,
+                named,
+                args,
+                n,
+            )
+        }
+        Head::NoFunction => refuse(Cause::Panics, count, used),
+    }
+}

@@ -1,0 +1,111 @@
+// A Function of several sorts of the store with their names replaced by a table of images.
+use super::Applied;
+use super::Replaced;
+use super::applied_sizes;
+use super::apply_parts;
+use super::build::make;
+use super::lists::no_numbers;
+use super::lists::read_numbers;
+use store::Interned;
+use store::undo;
+ghost use Rattle.apply.specs.Contract.{functionAt, FunctionAsks, FunctionFits, ReplacedIs, AppliedIs};
+
+// The number of the Function of the `left` sorts replaced whose numbers stand from `at` on, in the store with its sorts
+// added, parts first from left to right; `Stuck` where that store would be too long.
+pub fn make_function(
+    records: &mut [u8],
+    places: &mut [u32],
+    heads: &mut [u16],
+    next: &mut [u16],
+    sizes: &mut [u16],
+    count: usize,
+    used: usize,
+    at: usize,
+    left: usize,
+    images: &[u16],
+) -> Replaced
+    requires { ⌜ FunctionFits (now records) (now places) (now heads) (now next) (now sizes) count used (now images) at left ⌝ }
+    ensures { λ r. ⌜ ReplacedIs (now (records .entry)) (now (places .entry)) count used (functionAt (now (records .entry)) (now (places .entry)) count (now (images .entry)) at left) (now (records .exit)) (now (places .exit)) (now (heads .exit)) (now (next .exit)) (now (sizes .exit)) r ⌝ }
+{
+    let parts = read_numbers(records, at, left);
+    let done = apply_parts(
+        records,
+        places,
+        heads,
+        next,
+        sizes,
+        count,
+        used,
+        parts,
+        images,
+    );
+    let n = done.count;
+    let u = done.used;
+    if !done.ok {
+        return Replaced::Stuck(n, u);
+    }
+    let list = done.numbers;
+    let none = no_numbers();
+    let made = make(
+        records,
+        places,
+        heads,
+        next,
+        sizes,
+        n,
+        u,
+        0,
+        0,
+        0,
+        list,
+        none,
+    );
+    match made {
+        Interned::Is(i, m, v) => Replaced::Is(i, m, v),
+        Interned::NoRoom => Replaced::Stuck(n, u),
+    }
+}
+
+// The number of the Function of the `left` sorts replaced whose numbers stand from `at` on, in the store with its sorts
+// added; `TooLarge` if its tree is larger than 4,096, judged before anything is added, and `NoRoom` where the store would
+// be too long. Then all is as it was.
+pub fn apply_function(
+    records: &mut [u8],
+    places: &mut [u32],
+    heads: &mut [u16],
+    next: &mut [u16],
+    sizes: &mut [u16],
+    count: usize,
+    used: usize,
+    at: usize,
+    left: usize,
+    images: &[u16],
+) -> Applied
+    requires { ⌜ FunctionAsks (now records) (now places) (now heads) (now next) (now sizes) count used (now images) at left ⌝ }
+    ensures { λ r. ⌜ AppliedIs (now (records .entry)) (now (places .entry)) (now (heads .entry)) (now (next .entry)) (now (sizes .entry)) count used (functionAt (now (records .entry)) (now (places .entry)) count (now (images .entry)) at left) (now (records .exit)) (now (places .exit)) (now (heads .exit)) (now (next .exit)) (now (sizes .exit)) r ⌝ }
+{
+    let sum = applied_sizes(records, places, sizes, count, at, left, images);
+    // The Function itself counts as one.
+    if 4095 < sum {
+        return Applied::TooLarge;
+    }
+    let made = make_function(
+        records,
+        places,
+        heads,
+        next,
+        sizes,
+        count,
+        used,
+        at,
+        left,
+        images,
+    );
+    match made {
+        Replaced::Is(i, n, u) => Applied::Is(i, n, u),
+        Replaced::Stuck(n, u) => {
+            undo(records, places, heads, next, sizes, n, u, count);
+            Applied::NoRoom
+        }
+    }
+}

@@ -1,0 +1,130 @@
+-- The answer to a record whose sort the store has.
+-- The own sort of a Var and of an AsOp is the table's number of it.
+use native.Mathlib.Omega.{arith}
+use borrow.Author.Needs.{needs}
+use Rattle.record.specs.Decode.{storeOf}
+use Rattle.rows.specs.declared.Cause.the-variants.{NoRank}
+use Rattle.answers.specs.AnswerLaws.{judged-as, answered-as, answer-refused}
+use Rattle.checking.specs.Contract.{argsOf}
+use Rattle.site.specs.Site.{ownOver}
+use Rattle.checker.proofs.KindLaws.{let-is, var-asks, var-is, as-asks, as-is, known-none}
+use Rattle.checker.proofs.known_site.Statement.{statement}
+use Rattle.checker.proofs.known_site.Tie as tie
+
+letting-requires : tie.Need-letting-requires
+letting-requires c κs =
+    let s = c .before .before .before .before .before in
+    s .pre .args
+
+returns : tie.Need-returns
+returns c =
+    let s = c .before .before .before .before .before .before in
+    let q = s .args in
+    let b = q .records .now in
+    let p = q .places .now in
+    let n = q .count in
+    let tbl = q .table .now in
+    let a = q .args .now in
+    let r = q .term in
+    λ hs ns zs g. judged-as (let-is b p n tbl r a (s .pre) (c .before .if1 .taken)) (c .letting .ensures hs ns zs g)
+
+mul-k : tie.Need-mul-k
+mul-k c =
+    let s = c .before .before .before .before .before .before in
+    omega (arith, s .pre .variable (c .if2 .taken) .inside, s .good .1 .1 .0)
+
+shared-slice-read-k : tie.Need-shared-slice-read-k
+shared-slice-read-k c =
+    let s = c .before .before .before .before .before .before .before in
+    s .pre .variable (c .before .if2 .taken) .inside
+
+cast-k : tie.Need-cast-k
+cast-k c =
+    let s = c .before .before .before .before .before .before .before in
+    let q = s .args in
+    let r = q .term in
+    omega (arith, c .shared-slice-known5 .given (r .sort))
+
+variable-requires : tie.Need-variable-requires
+variable-requires c κs =
+    let s = c .before .before .before .before .before .before .before in
+    let q = s .args in
+    let b = q .records .now in
+    let p = q .places .now in
+    let n = q .count in
+    let tbl = q .table .now in
+    let a = q .args .now in
+    let r = q .term in
+    var-asks b p n tbl r a (s .pre) (c .before .if2 .taken)
+
+returns-2 : tie.Need-returns-2
+returns-2 c =
+    let s = c .before .before .before .before .before .before .before .before in
+    let q = s .args in
+    let b = q .records .now in
+    let p = q .places .now in
+    let n = q .count in
+    let tbl = q .table .now in
+    let a = q .args .now in
+    let r = q .term in
+    λ hs ns zs g. judged-as (var-is b p n tbl r a (s .pre) (c .before .before .if2 .taken)) (c .variable .ensures hs ns zs g)
+
+mul-k-2 : tie.Need-mul-k-2
+mul-k-2 c =
+    let s = c .before .before .before .before .before .before .before in
+    omega (arith, s .pre .typed (c .if3 .taken) .inside, s .good .1 .1 .0)
+
+shared-slice-read-k-2 : tie.Need-shared-slice-read-k-2
+shared-slice-read-k-2 c =
+    let s = c .before .before .before .before .before .before .before .before in
+    s .pre .typed (c .before .if3 .taken) .inside
+
+cast-k-2 : tie.Need-cast-k-2
+cast-k-2 c =
+    let s = c .before .before .before .before .before .before .before .before in
+    let q = s .args in
+    let r = q .term in
+    omega (arith, c .shared-slice-known6 .given (r .sort))
+
+qualified-requires : tie.Need-qualified-requires
+qualified-requires c κs =
+    let s = c .before .before .before .before .before .before .before .before in
+    let q = s .args in
+    let b = q .records .now in
+    let p = q .places .now in
+    let n = q .count in
+    let tbl = q .table .now in
+    let a = q .args .now in
+    let r = q .term in
+    as-asks b p n tbl r a (s .pre) (c .before .if3 .taken)
+
+returns-3 : tie.Need-returns-3
+returns-3 c =
+    let s = c .before .before .before .before .before .before .before .before .before in
+    let q = s .args in
+    let b = q .records .now in
+    let p = q .places .now in
+    let n = q .count in
+    let tbl = q .table .now in
+    let a = q .args .now in
+    let r = q .term in
+    λ hs ns zs g. judged-as (as-is b p n tbl r a (s .pre) (c .before .before .if3 .taken)) (c .qualified .ensures hs ns zs g)
+
+refuse-requires : tie.Need-refuse-requires
+refuse-requires c κs = search needs
+
+returns-4 : tie.Need-returns-4
+returns-4 c =
+    let s = c .before .before .before .before .before .before .before .before in
+    let q = s .args in
+    let b = q .records .now in
+    let p = q .places .now in
+    let n = q .count in
+    let u = q .used in
+    let tbl = q .table .now in
+    let a = q .args .now in
+    let r = q .term in
+    λ hs ns zs g. judged-as (known-none (r .kind) (r .number) (ownOver (storeOf b p n) tbl r) (argsOf b p n a (r .count)) (c .before .before .before .if1 .left) (c .before .before .if2 .left) (c .before .if3 .left)) (answered-as (c .refuse .ensures) (answer-refused b p hs ns zs n u g NoRank))
+
+pub known-site-spec : {M : Type 1} → statement M
+known-site-spec = tie.close (tie.spec letting-requires returns mul-k shared-slice-read-k cast-k variable-requires returns-2 mul-k-2 shared-slice-read-k-2 cast-k-2 qualified-requires returns-3 refuse-requires returns-4)

@@ -1,0 +1,297 @@
+// The checked sort of an indexed operator, which has `seconds` index terms, named from `second` on of the sheet, and n
+// arguments, whose sorts are in `args` from byte 3 on.
+use answers::Answer;
+use answers::arguments::Constant;
+use answers::arguments::constant_at;
+use answers::bit_vector;
+use answers::found;
+use answers::refuse;
+use record::u16_at;
+use rows::Cause;
+use store::entries::entry;
+ghost use mathlib.Core.Path.{_≡_};
+ghost use Rattle.record.specs.Decode.{sortAt};
+ghost use Rattle.checked.specs.Checked.{indexed₁, indexed₂, indexing};
+ghost use Rattle.answers.specs.Answer.{AnswerIs};
+ghost use Rattle.answers.specs.Asks.{KnownAsks};
+ghost use Rattle.answers.specs.Arguments.{constantsIn, ConstantsAsk};
+ghost use Rattle.store.specs.Good.{Good};
+ghost use Rattle.checking.specs.Contract.{argsOf};
+ghost use Rattle.checker.specs.Indexed.{IndexAsks, IndexIs, IndicesAre, keptAs, widenedVerdict, OneIndexAsks, IndexedAsks, indexedWith, IndexingAsks};
+
+// The indices of an indexed operator: one or two integer constants; or neither.
+pub enum Indices {
+    One(usize),
+    Two(usize, usize),
+    Wrong,
+}
+
+// The number of the term that the sheet names at `at`, where it is an integer constant.
+pub fn index_at(sheet: &[u8], starts: &[u16], at: usize) -> Constant
+    requires { ⌜ IndexAsks (now sheet) (now starts) at ⌝ }
+    ensures { λ r. ⌜ IndexIs (now (sheet .entry)) (now (starts .entry)) at r ⌝ }
+{
+    let t = u16_at(sheet, at);
+    let start = starts[t] as usize;
+    constant_at(sheet, start)
+}
+
+// The index terms where they are one or two integer constants.
+pub fn indices_of(sheet: &[u8], starts: &[u16], second: usize, seconds: usize) -> Indices
+    requires { ⌜ ConstantsAsk (now sheet) (now starts) second seconds ⌝ }
+    ensures { λ r. ⌜ IndicesAre (now (sheet .entry)) (now (starts .entry)) second seconds r ⌝ }
+{
+    if seconds == 0 {
+        return Indices::Wrong;
+    }
+    if 2 < seconds {
+        return Indices::Wrong;
+    }
+    let first = index_at(sheet, starts, second);
+    match first {
+        Constant::Integer(i) => {
+            if seconds == 1 {
+                return Indices::One(i);
+            }
+            let last = index_at(sheet, starts, second + 2);
+            match last {
+                Constant::Integer(j) => Indices::Two(i, j),
+                Constant::Other => Indices::Wrong,
+            }
+        }
+        Constant::Other => Indices::Wrong,
+    }
+}
+
+// The argument a itself where its kind is the one wanted, else Misfit.
+pub fn kept(count: usize, used: usize, a: usize, kind: usize, wanted: usize) -> Answer
+    ensures { λ r. ⌜ r ≡ keptAs count used a kind wanted ⌝ }
+{
+    if kind == wanted {
+        return found(a, count, used);
+    }
+    refuse(Cause::Misfit, count, used)
+}
+
+// The vector of this width where the argument's kind is the one wanted, else Misfit.
+pub fn widened(
+    records: &mut [u8],
+    places: &mut [u32],
+    heads: &mut [u16],
+    next: &mut [u16],
+    sizes: &mut [u16],
+    count: usize,
+    used: usize,
+    kind: usize,
+    wanted: usize,
+    width: usize,
+) -> Answer
+    requires { ⌜ Good (now records) (now places) (now heads) (now next) (now sizes) count used ⌝ }
+    ensures { λ r. ⌜ AnswerIs (now (records .entry)) (now (places .entry)) count (widenedVerdict kind wanted width) (now (records .exit)) (now (places .exit)) (now (heads .exit)) (now (next .exit)) (now (sizes .exit)) r ⌝ }
+{
+    if kind == wanted {
+        return bit_vector(records, places, heads, next, sizes, count, used, width);
+    }
+    refuse(Cause::Misfit, count, used)
+}
+
+// One index i at the argument a: 3 ZeroExtend, 4 SignExtend, 5 RotateLeft, 6 RotateRight, 7 Repeat and 9 IntToBv (i at least
+// 1), 10 RePower; Count for another operator; Misfit where the argument is of another kind.
+pub fn with_one(
+    records: &mut [u8],
+    places: &mut [u32],
+    heads: &mut [u16],
+    next: &mut [u16],
+    sizes: &mut [u16],
+    count: usize,
+    used: usize,
+    op: usize,
+    i: usize,
+    a: usize,
+) -> Answer
+    requires { ⌜ OneIndexAsks (now records) (now places) (now heads) (now next) (now sizes) count used i a ⌝ }
+    ensures { λ r. ⌜ AnswerIs (now (records .entry)) (now (places .entry)) count (indexed₁ op i (sortAt (now (records .entry)) (now (places .entry)) count a)) (now (records .exit)) (now (places .exit)) (now (heads .exit)) (now (next .exit)) (now (sizes .exit)) r ⌝ }
+{
+    let e = entry(records, places, a);
+    let kind = e.kind;
+    let w = e.number;
+    match op {
+        3 | 4 => widened(
+            records,
+            places,
+            heads,
+            next,
+            sizes,
+            count,
+            used,
+            kind,
+            9,
+            w + i,
+        ),
+        5 | 6 => kept(count, used, a, kind, 9),
+        7 => {
+            if i == 0 {
+                return refuse(Cause::Count, count, used);
+            }
+            widened(
+                records,
+                places,
+                heads,
+                next,
+                sizes,
+                count,
+                used,
+                kind,
+                9,
+                i * w,
+            )
+        }
+        9 => {
+            if i == 0 {
+                return refuse(Cause::Count, count, used);
+            }
+            widened(records, places, heads, next, sizes, count, used, kind, 4, i)
+        }
+        10 => kept(count, used, a, kind, 7),
+        _ => refuse(Cause::Count, count, used),
+    }
+}
+
+// Extract i, j at the argument a: Count unless j <= i and, of a vector, i under its width; Misfit where it is no vector.
+pub fn extracted(
+    records: &mut [u8],
+    places: &mut [u32],
+    heads: &mut [u16],
+    next: &mut [u16],
+    sizes: &mut [u16],
+    count: usize,
+    used: usize,
+    i: usize,
+    j: usize,
+    a: usize,
+) -> Answer
+    requires { ⌜ KnownAsks (now records) (now places) (now heads) (now next) (now sizes) count used a ⌝ }
+    ensures { λ r. ⌜ AnswerIs (now (records .entry)) (now (places .entry)) count (indexed₂ 0 i j (sortAt (now (records .entry)) (now (places .entry)) count a)) (now (records .exit)) (now (places .exit)) (now (heads .exit)) (now (next .exit)) (now (sizes .exit)) r ⌝ }
+{
+    let e = entry(records, places, a);
+    if i < j {
+        return refuse(Cause::Count, count, used);
+    }
+    if e.kind != 9 {
+        return refuse(Cause::Misfit, count, used);
+    }
+    if e.number <= i {
+        return refuse(Cause::Count, count, used);
+    }
+    bit_vector(records, places, heads, next, sizes, count, used, i - j + 1)
+}
+
+// Two indices i, j at the argument a: 0 Extract, 11 ReLoop; Count for another operator.
+pub fn with_two(
+    records: &mut [u8],
+    places: &mut [u32],
+    heads: &mut [u16],
+    next: &mut [u16],
+    sizes: &mut [u16],
+    count: usize,
+    used: usize,
+    op: usize,
+    i: usize,
+    j: usize,
+    a: usize,
+) -> Answer
+    requires { ⌜ KnownAsks (now records) (now places) (now heads) (now next) (now sizes) count used a ⌝ }
+    ensures { λ r. ⌜ AnswerIs (now (records .entry)) (now (places .entry)) count (indexed₂ op i j (sortAt (now (records .entry)) (now (places .entry)) count a)) (now (records .exit)) (now (places .exit)) (now (heads .exit)) (now (next .exit)) (now (sizes .exit)) r ⌝ }
+{
+    if op == 0 {
+        return extracted(records, places, heads, next, sizes, count, used, i, j, a);
+    }
+    if op == 11 {
+        let e = entry(records, places, a);
+        return kept(count, used, a, e.kind, 7);
+    }
+    refuse(Cause::Count, count, used)
+}
+
+// The indices at the argument a: two for 0 Extract and 11 ReLoop, one for the others; Count where they are not so.
+pub fn indexed_by(
+    records: &mut [u8],
+    places: &mut [u32],
+    heads: &mut [u16],
+    next: &mut [u16],
+    sizes: &mut [u16],
+    count: usize,
+    used: usize,
+    op: usize,
+    indices: Indices,
+    a: usize,
+) -> Answer
+    requires { ⌜ IndexedAsks (now records) (now places) (now heads) (now next) (now sizes) count used indices a ⌝ }
+    ensures { λ r. ⌜ AnswerIs (now (records .entry)) (now (places .entry)) count (indexedWith op indices (sortAt (now (records .entry)) (now (places .entry)) count a)) (now (records .exit)) (now (places .exit)) (now (heads .exit)) (now (next .exit)) (now (sizes .exit)) r ⌝ }
+{
+    match indices {
+        Indices::One(i) => with_one(records, places, heads, next, sizes, count, used, op, i, a),
+        Indices::Two(i, j) => with_two(
+            records,
+            places,
+            heads,
+            next,
+            sizes,
+            count,
+            used,
+            op,
+            i,
+            j,
+            a,
+        ),
+        Indices::Wrong => refuse(Cause::Count, count, used),
+    }
+}
+
+// The checked sort of the indexed operator: NoRank for 1 BvBitOf, 2 BvIntOf and 8 BvConst; Count unless it has one argument.
+pub fn indexing(
+    records: &mut [u8],
+    places: &mut [u32],
+    heads: &mut [u16],
+    next: &mut [u16],
+    sizes: &mut [u16],
+    count: usize,
+    used: usize,
+    sheet: &[u8],
+    starts: &[u16],
+    second: usize,
+    seconds: usize,
+    op: usize,
+    args: &[u8],
+    n: usize,
+) -> Answer
+    requires { ⌜ IndexingAsks (now records) (now places) (now heads) (now next) (now sizes) count used (now sheet) (now starts) second seconds (now args) n ⌝ }
+    ensures { λ r. ⌜ AnswerIs (now (records .entry)) (now (places .entry)) count (indexing op (constantsIn (now (sheet .entry)) (now (starts .entry)) second seconds) (argsOf (now (records .entry)) (now (places .entry)) count (now (args .entry)) n)) (now (records .exit)) (now (places .exit)) (now (heads .exit)) (now (next .exit)) (now (sizes .exit)) r ⌝ }
+{
+    if op == 1 {
+        return refuse(Cause::NoRank, count, used);
+    }
+    if op == 2 {
+        return refuse(Cause::NoRank, count, used);
+    }
+    if op == 8 {
+        return refuse(Cause::NoRank, count, used);
+    }
+    if n != 1 {
+        return refuse(Cause::Count, count, used);
+    }
+    let indices = indices_of(sheet, starts, second, seconds);
+    let a = u16_at(args, 3);
+    indexed_by(
+        records,
+        places,
+        heads,
+        next,
+        sizes,
+        count,
+        used,
+        op,
+        indices,
+        a,
+    )
+}

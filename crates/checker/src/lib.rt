@@ -1,0 +1,248 @@
+// The checked sort of one record of any kind, with its causes in the order 20, 24, 28, 25, 26, 27, 22, 23.
+pub mod binder;
+pub mod indexed;
+
+use answers::Answer;
+use answers::refuse;
+use application::application;
+use binder::binder;
+use checking::op::operated;
+use checking::single::constant;
+use checking::single::letting;
+use checking::single::qualified;
+use checking::single::variable;
+use indexed::indexing;
+use reader::TermRecord;
+use rows::Cause;
+use site::parts_judged;
+ghost use Rattle.record.specs.Decode.{storeOf};
+ghost use Rattle.checked.specs.Ranks.{smtLib};
+ghost use Rattle.checked.specs.Checked.{checked};
+ghost use Rattle.answers.specs.Answer.{AnswerIs};
+ghost use Rattle.checking.specs.Contract.{argsOf};
+ghost use Rattle.checking.specs.Single.{ReadIs};
+ghost use Rattle.site.specs.Site.{ownOver, siteOver, TermAsks, TermIs, SiteIs};
+ghost use Rattle.checker.specs.Kinds.{knownVerdict, KnownAsks, ComposedAsks, GatheredAsks};
+
+// A record whose sort the store has: 5 Var, 9 Let, 12 AsOp; and NoRank for 10 Match.
+pub fn known_site(
+    records: &[u8],
+    places: &[u32],
+    count: usize,
+    used: usize,
+    table: &[u16],
+    term: TermRecord,
+    args: &[u8],
+) -> Answer
+    requires { ⌜ KnownAsks (now records) (now places) count (now table) term (now args) ⌝ }
+    ensures { λ r. ⌜ ReadIs (now (records .entry)) (now (places .entry)) count used (knownVerdict (term .kind) (term .number) (ownOver (storeOf (now (records .entry)) (now (places .entry)) count) (now (table .entry)) term) (argsOf (now (records .entry)) (now (places .entry)) count (now (args .entry)) (term .count))) r ⌝ }
+{
+    let kind = term.kind;
+    let n = term.count;
+    let v = term.sort;
+    if kind == 9 {
+        return letting(records, places, count, used, args, n);
+    }
+    if kind == 5 {
+        let k = table[v] as usize;
+        return variable(records, places, count, used, k);
+    }
+    if kind == 12 {
+        let number = term.number;
+        let k = table[v] as usize;
+        return qualified(records, places, count, used, number, k, args, n);
+    }
+    refuse(Cause::NoRank, count, used)
+}
+
+// A record whose arguments' sorts are in `args`, neither a constant nor an App: 7 Op, 8 Binder, 11 ParamOp; else as
+// `known_site`.
+pub fn composed_site(
+    records: &mut [u8],
+    places: &mut [u32],
+    heads: &mut [u16],
+    next: &mut [u16],
+    sizes: &mut [u16],
+    count: usize,
+    used: usize,
+    sheet: &[u8],
+    table: &[u16],
+    starts: &[u16],
+    term: TermRecord,
+    args: &mut [u8],
+) -> Answer
+    requires { ⌜ ComposedAsks (now records) (now places) (now heads) (now next) (now sizes) count used (now sheet) (now table) (now starts) term (now args) ⌝ }
+    ensures { λ r. ⌜ AnswerIs (now (records .entry)) (now (places .entry)) count (checked smtLib (siteOver (storeOf (now (records .entry)) (now (places .entry)) count) (now (sheet .entry)) (now (table .entry)) (now (starts .entry)) (now (args .entry)) term)) (now (records .exit)) (now (places .exit)) (now (heads .exit)) (now (next .exit)) (now (sizes .exit)) r ⌝ }
+{
+    let kind = term.kind;
+    let number = term.number;
+    let n = term.count;
+    if kind == 7 {
+        return operated(
+            records,
+            places,
+            heads,
+            next,
+            sizes,
+            count,
+            used,
+            number,
+            args,
+            n,
+        );
+    }
+    if kind == 8 {
+        let pairs = term.pairs;
+        let paired = term.paired;
+        return binder(
+            records,
+            places,
+            heads,
+            next,
+            sizes,
+            count,
+            used,
+            sheet,
+            table,
+            pairs,
+            paired,
+            number,
+            args,
+        );
+    }
+    if kind == 11 {
+        let second = term.second;
+        let seconds = term.seconds;
+        return indexing(
+            records,
+            places,
+            heads,
+            next,
+            sizes,
+            count,
+            used,
+            sheet,
+            starts,
+            second,
+            seconds,
+            number,
+            args,
+            n,
+        );
+    }
+    known_site(records, places, count, used, table, term, args)
+}
+
+// A record whose arguments' sorts are in `args`: 0 to 4 a constant, 6 App; else as `composed_site`.
+pub fn gathered_site(
+    records: &mut [u8],
+    places: &mut [u32],
+    heads: &mut [u16],
+    next: &mut [u16],
+    sizes: &mut [u16],
+    count: usize,
+    used: usize,
+    params: &mut [u16],
+    images: &mut [u16],
+    bound: &mut [u16],
+    sheet: &[u8],
+    table: &[u16],
+    starts: &[u16],
+    term: TermRecord,
+    args: &mut [u8],
+) -> Answer
+    requires { ⌜ GatheredAsks (now records) (now places) (now heads) (now next) (now sizes) count used (now params) (now images) (now bound) (now sheet) (now table) (now starts) term (now args) ⌝ }
+    ensures { λ r. ⌜ SiteIs (checked smtLib) (now (records .entry)) (now (places .entry)) count (now (params .entry)) (now (images .entry)) (now (bound .entry)) (now (sheet .entry)) (now (table .entry)) (now (starts .entry)) term (now (args .entry)) (now (records .exit)) (now (places .exit)) (now (heads .exit)) (now (next .exit)) (now (sizes .exit)) (now (params .exit)) (now (images .exit)) (now (bound .exit)) r ⌝ }
+{
+    let kind = term.kind;
+    if kind < 5 {
+        let number = term.number;
+        return constant(
+            records,
+            places,
+            heads,
+            next,
+            sizes,
+            count,
+            used,
+            kind,
+            number,
+        );
+    }
+    if kind == 6 {
+        let n = term.count;
+        return application(
+            records,
+            places,
+            heads,
+            next,
+            sizes,
+            count,
+            used,
+            params,
+            images,
+            bound,
+            args,
+            n,
+        );
+    }
+    composed_site(
+        records,
+        places,
+        heads,
+        next,
+        sizes,
+        count,
+        used,
+        sheet,
+        table,
+        starts,
+        term,
+        args,
+    )
+}
+
+// The checked row of a record, from the rows of the terms before it: Below where a term that it names has a refused one; else
+// as `gathered_site`.
+pub fn check(
+    records: &mut [u8],
+    places: &mut [u32],
+    heads: &mut [u16],
+    next: &mut [u16],
+    sizes: &mut [u16],
+    count: usize,
+    used: usize,
+    params: &mut [u16],
+    images: &mut [u16],
+    bound: &mut [u16],
+    sheet: &[u8],
+    table: &[u16],
+    starts: &[u16],
+    rows: &[u32],
+    term: TermRecord,
+    args: &mut [u8],
+) -> Answer
+    requires { ⌜ TermAsks (now records) (now places) (now heads) (now next) (now sizes) count used (now params) (now images) (now bound) (now sheet) (now table) (now starts) (now rows) term (now args) ⌝ }
+    ensures { λ r. ⌜ TermIs (checked smtLib) 1 (now (records .entry)) (now (places .entry)) count (now (params .entry)) (now (images .entry)) (now (bound .entry)) (now (sheet .entry)) (now (table .entry)) (now (starts .entry)) (now (rows .entry)) term (now (records .exit)) (now (places .exit)) (now (heads .exit)) (now (next .exit)) (now (sizes .exit)) (now (params .exit)) (now (images .exit)) (now (bound .exit)) r ⌝ }
+{
+    if parts_judged(sheet, rows, 1, term, args) {
+        return gathered_site(
+            records,
+            places,
+            heads,
+            next,
+            sizes,
+            count,
+            used,
+            params,
+            images,
+            bound,
+            sheet,
+            table,
+            starts,
+            term,
+            args,
+        );
+    }
+    refuse(Cause::Below, count, used)
+}

@@ -1,0 +1,3 @@
+pub mod IndexedLaws
+pub mod TermLaws
+pub mod RowLaws

@@ -1,0 +1,67 @@
+-- What the indexed operators ask: arguments, and index terms that the sheet names.
+use Prim.Native.Nat.{ℕ, _+_, _*_, _≤_, _<_}
+use mathlib.Core.Path.{_≡_}
+use mathlib.Core.Bool.{Bool, true, false}
+use mathlib.Core.List.{List}
+use mathlib.Core.Option.{Option}
+use lib.ListN.{length, getD}
+use Rattle.record.specs.Number.{u16At}
+use Rattle.store.specs.Good.{Good}
+use Rattle.answers.specs.declared.arguments.Constant.{Constant}
+use Rattle.answers.specs.declared.arguments.Constant.the-variants.{Integer}
+use Rattle.answers.specs.Arguments.{integerOf, integerAt, ConstantAsks, ConstantsAsk}
+use Rattle.inferring.specs.Asks.{ArgsAsks}
+
+---------------------------------------------------------------- one index
+-- The sheet names a term at x, whose record lies in it.
+pub record IndexAsks (s xs : List ℕ) (x : ℕ) : Type 0 where
+  pub within : x + 2 ≤ length s
+  pub term : u16At s x < length xs
+  pub start : ConstantAsks s (getD xs (u16At s x) 0)
+
+-- The integer constant that it is, a number of four bytes.
+abbrev pub indexAt : List ℕ → List ℕ → ℕ → Option ℕ
+indexAt s xs x = integerAt s (getD xs (u16At s x) 0)
+
+pub record IndexIs (s xs : List ℕ) (x : ℕ) (r : Constant) : Type 0 where
+  pub is : integerOf r ≡ indexAt s xs x
+  pub small : (v : ℕ) → r ≡ Integer v → v < 4294967296
+
+---------------------------------------------------------------- the operators
+-- The width of a vector with the index: added, or so many times.
+abbrev pub resizing : Bool → ℕ → ℕ → ℕ
+resizing true i w = i + w
+resizing false i w = i * w
+
+-- The operators that look at their first index.
+pub data Indexing (op : ℕ) : Type 0 where
+  extracts : op ≡ 0 → Indexing op
+  zeroes : op ≡ 3 → Indexing op
+  signs : op ≡ 4 → Indexing op
+  repeats : op ≡ 7 → Indexing op
+  converts : op ≡ 9 → Indexing op
+
+-- A good store, index terms, and the first index.
+pub record ExtractAsks (b p hs ns zs : List ℕ) (n u : ℕ) (s xs : List ℕ) (x q i : ℕ) : Type 0 where
+  pub good : Good b p hs ns zs n u
+  pub terms : ConstantsAsk s xs x q
+  pub small : i < 4294967296
+
+-- Arguments, and the first index.
+pub record ResizeAsks (b p hs ns zs : List ℕ) (n u : ℕ) (a : List ℕ) (m i : ℕ) : Type 0 where
+  pub args : ArgsAsks b p hs ns zs n u a m
+  pub small : i < 4294967296
+
+-- Arguments and index terms.
+pub record IndexedAsks (b p hs ns zs : List ℕ) (n u : ℕ) (s xs : List ℕ) (x q : ℕ) (a : List ℕ) (m : ℕ) : Type 0 where
+  pub args : ArgsAsks b p hs ns zs n u a m
+  pub terms : ConstantsAsk s xs x q
+
+-- And an operator that looks at the first index; and that index.
+pub record FirstAsks (b p hs ns zs : List ℕ) (n u : ℕ) (s xs : List ℕ) (x q op : ℕ) (a : List ℕ) (m : ℕ) : Type 0 where
+  pub asks : IndexedAsks b p hs ns zs n u s xs x q a m
+  pub looks : Indexing op
+
+pub record GivenAsks (b p hs ns zs : List ℕ) (n u : ℕ) (s xs : List ℕ) (x q op : ℕ) (a : List ℕ) (m i : ℕ) : Type 0 where
+  pub first : FirstAsks b p hs ns zs n u s xs x q op a m
+  pub small : i < 4294967296

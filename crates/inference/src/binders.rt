@@ -1,0 +1,65 @@
+// The inferred sort of a Binder.
+use answers::Answer;
+use answers::found;
+use answers::leaf;
+use answers::lists::lambda;
+use answers::refuse;
+use reader::TermRecord;
+use record::u16_at;
+use rows::Cause;
+ghost use Rattle.record.specs.Decode.{storeOf};
+ghost use Rattle.inferred.specs.Inferred.{bound};
+ghost use Rattle.answers.specs.Answer.{AnswerIs};
+ghost use Rattle.site.specs.Site.{bindingsOver};
+ghost use Rattle.inferring.specs.Asks.{sortsIn};
+ghost use Rattle.inference.specs.Terms.{BoundAsks};
+
+// A Binder, whose body's sort is in `args` at byte 3: Bool for Forall (0) and Exists (1); for Choice (2) the sort of its first
+// binding, Panics without one; for Lambda (3) the Function of its bindings' sorts and its body's, put together in `args`.
+pub fn bound(
+    records: &mut [u8],
+    places: &mut [u32],
+    heads: &mut [u16],
+    next: &mut [u16],
+    sizes: &mut [u16],
+    count: usize,
+    used: usize,
+    sheet: &[u8],
+    table: &[u16],
+    term: TermRecord,
+    args: &mut [u8],
+) -> Answer
+    requires { ⌜ BoundAsks (now records) (now places) (now heads) (now next) (now sizes) count used (now sheet) (now table) term (now args) ⌝ }
+    ensures { λ r. ⌜ AnswerIs (now (records .entry)) (now (places .entry)) count (bound (term .number) (bindingsOver (storeOf (now (records .entry)) (now (places .entry)) count) (now (table .entry)) (now (sheet .entry)) term) (sortsIn (now (records .entry)) (now (places .entry)) count (now (args .entry)) 3 (term .count))) (now (records .exit)) (now (places .exit)) (now (heads .exit)) (now (next .exit)) (now (sizes .exit)) r ⌝ }
+{
+    let number = term.number;
+    let pairs = term.pairs;
+    let paired = term.paired;
+    if number == 3 {
+        let body = u16_at(args, 3);
+        return lambda(
+            records,
+            places,
+            heads,
+            next,
+            sizes,
+            count,
+            used,
+            sheet,
+            pairs,
+            paired,
+            table,
+            args,
+            body,
+        );
+    }
+    if number != 2 {
+        return leaf(records, places, heads, next, sizes, count, used, 3);
+    }
+    if paired == 0 {
+        return refuse(Cause::Panics, count, used);
+    }
+    let v = u16_at(sheet, pairs + 2);
+    let k = table[v] as usize;
+    found(k, count, used)
+}

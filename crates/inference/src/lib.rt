@@ -1,0 +1,202 @@
+// The inferred row of a term record, from the rows of the terms before it. Each function returns the row with the store's
+// count and bytes in use after it.
+pub mod binders;
+pub mod indexed;
+
+use answers::Answer;
+use answers::bit_vector;
+use answers::found;
+use answers::leaf;
+use answers::refuse;
+use application::applied;
+use binders::bound;
+use indexed::indexed;
+use inferring::op::operated;
+use inferring::single::last_of;
+use reader::TermRecord;
+use rows::Cause;
+use site::parts_judged;
+ghost use Rattle.record.specs.Decode.{storeOf};
+ghost use Rattle.inferred.specs.Inferred.{inferred};
+ghost use Rattle.answers.specs.Answer.{AnswerIs};
+ghost use Rattle.site.specs.Site.{siteOver, TermAsks, TermIs};
+ghost use Rattle.inference.specs.Terms.{PlainAsks, PlainIs, ComposedAsks};
+
+// A term whose sort needs no argument: 0 integer, 1 real, 2 string, 3 RegLan constant, 4 bit-vector constant, Limit where its
+// width is over 65,535; 5 Var and 12 AsOp have a sort of their own, which the table names in the store.
+pub fn plain(
+    records: &mut [u8],
+    places: &mut [u32],
+    heads: &mut [u16],
+    next: &mut [u16],
+    sizes: &mut [u16],
+    count: usize,
+    used: usize,
+    table: &[u16],
+    term: TermRecord,
+) -> Answer
+    requires { ⌜ PlainAsks (now records) (now places) (now heads) (now next) (now sizes) count used (now table) term ⌝ }
+    ensures { λ r. ⌜ PlainIs (now (records .entry)) (now (places .entry)) count (now (table .entry)) term (now (records .exit)) (now (places .exit)) (now (heads .exit)) (now (next .exit)) (now (sizes .exit)) r ⌝ }
+{
+    let kind = term.kind;
+    let number = term.number;
+    let sort = term.sort;
+    match kind {
+        0 => leaf(records, places, heads, next, sizes, count, used, 4),
+        1 => leaf(records, places, heads, next, sizes, count, used, 5),
+        2 => leaf(records, places, heads, next, sizes, count, used, 6),
+        3 => leaf(records, places, heads, next, sizes, count, used, 7),
+        4 => bit_vector(records, places, heads, next, sizes, count, used, number),
+        _ => {
+            let k = table[sort] as usize;
+            found(k, count, used)
+        }
+    }
+}
+
+// A term by its arguments, whose sorts are in `args` from byte 3 on: 7 Op; 8 Binder; 9 Let, the last one; 10 Match, the last
+// body, Panics without one; 11 ParamOp.
+pub fn composed(
+    records: &mut [u8],
+    places: &mut [u32],
+    heads: &mut [u16],
+    next: &mut [u16],
+    sizes: &mut [u16],
+    count: usize,
+    used: usize,
+    sheet: &[u8],
+    table: &[u16],
+    starts: &[u16],
+    term: TermRecord,
+    args: &mut [u8],
+) -> Answer
+    requires { ⌜ ComposedAsks (now records) (now places) (now heads) (now next) (now sizes) count used (now sheet) (now table) (now starts) term (now args) ⌝ }
+    ensures { λ r. ⌜ AnswerIs (now (records .entry)) (now (places .entry)) count (inferred (siteOver (storeOf (now (records .entry)) (now (places .entry)) count) (now (sheet .entry)) (now (table .entry)) (now (starts .entry)) (now (args .entry)) term)) (now (records .exit)) (now (places .exit)) (now (heads .exit)) (now (next .exit)) (now (sizes .exit)) r ⌝ }
+{
+    let kind = term.kind;
+    let number = term.number;
+    let list = term.list;
+    let n = term.count;
+    let second = term.second;
+    let seconds = term.seconds;
+    match kind {
+        7 => operated(
+            records,
+            places,
+            heads,
+            next,
+            sizes,
+            count,
+            used,
+            sheet,
+            starts,
+            list,
+            number,
+            args,
+            n,
+        ),
+        8 => bound(
+            records,
+            places,
+            heads,
+            next,
+            sizes,
+            count,
+            used,
+            sheet,
+            table,
+            term,
+            args,
+        ),
+        9 => last_of(count, used, args, n, 0),
+        10 => last_of(count, used, args, n, 1),
+        _ => indexed(
+            records,
+            places,
+            heads,
+            next,
+            sizes,
+            count,
+            used,
+            sheet,
+            starts,
+            second,
+            seconds,
+            number,
+            args,
+            n,
+        ),
+    }
+}
+
+// The inferred row of a record, in the first column of the rows: Below where a term that it names has a refused row there; for
+// 6 App what remains of the head's sort; else as `composed` and `plain`. `args` is used up; the tables of names come back as
+// they were.
+pub fn infer(
+    records: &mut [u8],
+    places: &mut [u32],
+    heads: &mut [u16],
+    next: &mut [u16],
+    sizes: &mut [u16],
+    count: usize,
+    used: usize,
+    params: &mut [u16],
+    images: &mut [u16],
+    bound: &mut [u16],
+    sheet: &[u8],
+    table: &[u16],
+    starts: &[u16],
+    rows: &[u32],
+    term: TermRecord,
+    args: &mut [u8],
+) -> Answer
+    requires { ⌜ TermAsks (now records) (now places) (now heads) (now next) (now sizes) count used (now params) (now images) (now bound) (now sheet) (now table) (now starts) (now rows) term (now args) ⌝ }
+    ensures { λ r. ⌜ TermIs inferred 0 (now (records .entry)) (now (places .entry)) count (now (params .entry)) (now (images .entry)) (now (bound .entry)) (now (sheet .entry)) (now (table .entry)) (now (starts .entry)) (now (rows .entry)) term (now (records .exit)) (now (places .exit)) (now (heads .exit)) (now (next .exit)) (now (sizes .exit)) (now (params .exit)) (now (images .exit)) (now (bound .exit)) r ⌝ }
+{
+    if !parts_judged(sheet, rows, 0, term, args) {
+        return refuse(Cause::Below, count, used);
+    }
+    let kind = term.kind;
+    let n = term.count;
+    match kind {
+        6 => applied(
+            records,
+            places,
+            heads,
+            next,
+            sizes,
+            count,
+            used,
+            params,
+            images,
+            bound,
+            args,
+            n,
+        ),
+        7..=11 => composed(
+            records,
+            places,
+            heads,
+            next,
+            sizes,
+            count,
+            used,
+            sheet,
+            table,
+            starts,
+            term,
+            args,
+        ),
+        _ => plain(
+            records,
+            places,
+            heads,
+            next,
+            sizes,
+            count,
+            used,
+            table,
+            term,
+        ),
+    }
+}

@@ -1,0 +1,100 @@
+-- What is said of each family, by its clause of the definition.
+-- The families that are left look at their arguments.
+use borrow.Author.Needs.{needs}
+use Prim.Native.Nat.{ℕ}
+use mathlib.Core.Path.{refl, sym, ap, subst}
+use Rattle.record.specs.Record.{mapOf, maps}
+use Rattle.rows.specs.Verdict.{sort}
+use Rattle.inferred.specs.declared.Family.{Family}
+use Rattle.inferred.specs.Inferred.{operatedBy}
+use Rattle.record.specs.Sort.{bitvec}
+use Rattle.inferring.specs.Operators.{PlainIs}
+use Rattle.inferring.specs.declared.family.Plain.the-variants.{Kind, Width}
+use Rattle.inferring.proofs.OperatorLaws.{looked-left}
+use Rattle.inferring.proofs.family.plain_of.Statement.{statement}
+use Rattle.inferring.proofs.family.plain_of.Tie as tie
+
+enum-told : tie.Need-enum-told
+enum-told c = search needs
+
+enum-told-2 : tie.Need-enum-told-2
+enum-told-2 c = search needs
+
+enum-told-3 : tie.Need-enum-told-3
+enum-told-3 c = search needs
+
+enum-told-4 : tie.Need-enum-told-4
+enum-told-4 c = search needs
+
+enum-told-5 : tie.Need-enum-told-5
+enum-told-5 c = search needs
+
+enum-told-6 : tie.Need-enum-told-6
+enum-told-6 c = search needs
+
+enum-told-7 : tie.Need-enum-told-7
+enum-told-7 c = search needs
+
+enum-told-8 : tie.Need-enum-told-8
+enum-told-8 c = search needs
+
+returns : tie.Need-returns
+unfolding operatedBy mapOf maps
+returns c =
+    let s = c .before .before in
+    let a = s .args in
+    subst (λ (f : Family). PlainIs f (a .n) (Kind 3)) (sym (c .enum-told .given .1)) (refl, λ ss cs. refl)
+
+returns-2 : tie.Need-returns-2
+unfolding operatedBy mapOf maps
+returns-2 c =
+    let s = c .before .before in
+    let a = s .args in
+    subst (λ (f : Family). PlainIs f (a .n) (Kind 4)) (sym (c .enum-told2 .given .1)) (refl, λ ss cs. refl)
+
+returns-3 : tie.Need-returns-3
+unfolding operatedBy mapOf maps
+returns-3 c =
+    let s = c .before .before in
+    let a = s .args in
+    subst (λ (f : Family). PlainIs f (a .n) (Kind 5)) (sym (c .enum-told3 .given .1)) (refl, λ ss cs. refl)
+
+returns-4 : tie.Need-returns-4
+unfolding operatedBy mapOf maps
+returns-4 c =
+    let s = c .before .before in
+    let a = s .args in
+    subst (λ (f : Family). PlainIs f (a .n) (Kind 6)) (sym (c .enum-told4 .given .1)) (refl, λ ss cs. refl)
+
+returns-5 : tie.Need-returns-5
+unfolding operatedBy mapOf maps
+returns-5 c =
+    let s = c .before .before in
+    let a = s .args in
+    subst (λ (f : Family). PlainIs f (a .n) (Kind 7)) (sym (c .enum-told5 .given .1)) (refl, λ ss cs. refl)
+
+returns-6 : tie.Need-returns-6
+unfolding operatedBy
+returns-6 c =
+    let s = c .before .before in
+    let a = s .args in
+    subst (λ (f : Family). PlainIs f (a .n) (Width 1)) (sym (c .enum-told6 .given .1)) (λ ss cs e. refl)
+
+returns-7 : tie.Need-returns-7
+unfolding operatedBy
+returns-7 c =
+    let s = c .before .before in
+    let a = s .args in
+    subst (λ (f : Family). PlainIs f (a .n) (Width (a .n))) (sym (c .enum-told7 .given .1)) (λ ss cs e. ap (λ (w : ℕ). sort (bitvec w)) e)
+
+returns-8 : tie.Need-returns-8
+returns-8 c = c .enum-told8 .given .1
+
+returns-9 : tie.Need-returns-9
+returns-9 c =
+    let s = c .before in
+    let a = s .args in
+    looked-left (a .family) (c .match .keys9)
+
+pub plain-of-spec : {M : Type 1} → statement M
+plain-of-spec = tie.close (tie.spec enum-told enum-told-2 enum-told-3 enum-told-4 enum-told-5 enum-told-6 enum-told-7 enum-told-8 returns returns-2 returns-3 returns-4 returns-5 returns-6 returns-7 returns-8 returns-9)

@@ -1,0 +1,125 @@
+-- The record that stands there is read, and its rows are those of the sheet's term.
+-- None read is ruled out by what is asked.
+use native.Mathlib.Omega.{arith}
+use borrow.Author.Needs.{needs}
+use mathlib.Core.Path.{sym, _∙_}
+use lib.ListN.{getD}
+use Rattle.sheet.specs.Stands.{term-never}
+use Rattle.verdicts.proofs.TableLaws.{stands-here, both-asks, turn-is}
+use Rattle.verdicts.proofs.table.term_rows.Statement.{statement}
+use Rattle.verdicts.proofs.table.term_rows.Tie as tie
+
+mul-at : tie.Need-mul-at
+mul-at c = omega (arith, c .before .before .before .before .before .before .before .before .before .before .before .before .pre .few)
+
+shared-slice-read-at : tie.Need-shared-slice-read-at
+shared-slice-read-at c = omega (arith, c .before .before .before .before .before .before .before .before .before .before .before .before .before .pre .placed)
+
+cast-at : tie.Need-cast-at
+cast-at c = omega (arith, c .shared-slice-known4 .given (c .before .before .before .before .before .before .before .before .before .before .before .before .before .args .t))
+
+term-requires : tie.Need-term-requires
+term-requires c κs = search needs
+
+enum-known-read : tie.Need-enum-known-read
+enum-known-read c = search needs
+
+rows-of-requires : tie.Need-rows-of-requires
+rows-of-requires c κs =
+    let s = c .before .before .before .before .before .before .before .before .before .before .before .before .before .before .before .before .before .before .before .before .before .before .before .before .before .before in
+    let a = s .args in
+    let b = a .records .now in
+    let p = a .places .now in
+    let hs = a .heads .now in
+    let ns = a .next .now in
+    let zs = a .sizes .now in
+    let n = a .count in
+    let u = a .used in
+    let m = a .params .now in
+    let g = a .images .now in
+    let o = a .bound .now in
+    let d = a .sheet .now in
+    let t = a .table .now in
+    let x = a .starts .now in
+    let w = a .rows .now in
+    let k = a .sorts in
+    let h = s .pre in
+    both-asks b p hs ns zs n u m g o d t k x w (a .t) h (c .before .before .before .before .before .before .before .before .before .before .read .given .0 .0) (c .before .before .before .before .before .before .before .before .before .before .read .given .0 .1 .0) (sym (c .before .before .before .before .before .before .before .before .before .before .before .before .term .ensures) ∙ c .before .before .before .before .before .before .before .before .before .before .read .given .1)
+
+enum-told : tie.Need-enum-told
+enum-told c = search needs
+
+same-length : tie.Need-same-length
+same-length c = search needs
+
+same-length-2 : tie.Need-same-length-2
+same-length-2 c = search needs
+
+same-length-3 : tie.Need-same-length-3
+same-length-3 c = search needs
+
+same-length-4 : tie.Need-same-length-4
+same-length-4 c = search needs
+
+same-length-5 : tie.Need-same-length-5
+same-length-5 c = search needs
+
+same-length-6 : tie.Need-same-length-6
+same-length-6 c = search needs
+
+same-length-7 : tie.Need-same-length-7
+same-length-7 c = search needs
+
+same-length-8 : tie.Need-same-length-8
+same-length-8 c = search needs
+
+same-length-9 : tie.Need-same-length-9
+same-length-9 c = search needs
+
+returns : tie.Need-returns
+returns c =
+    let s = c .before .before .before .before .before .before .before .before .before .before .before .before .before .before .before .before .before .before .before .before .before .before .before .before .before .before .before .before .before .before .before .before .before .before .before .before .before .before .before .before .before .before .before .before .before in
+    let a = s .args in
+    let b = a .records .now in
+    let p = a .places .now in
+    let hs = a .heads .now in
+    let ns = a .next .now in
+    let zs = a .sizes .now in
+    let n = a .count in
+    let u = a .used in
+    let m = a .params .now in
+    let g = a .images .now in
+    let o = a .bound .now in
+    let d = a .sheet .now in
+    let t = a .table .now in
+    let x = a .starts .now in
+    let w = a .rows .now in
+    let k = a .sorts in
+    let h = s .pre in
+    let i = c .before .before .before .before .before .before .before .before .before .before .before .before .before .before .before .before .before .before .rows-of .last in
+    turn-is b p hs ns zs n u m g o d t k x w (a .t) h (c .before .before .before .before .before .before .before .before .before .before .before .before .before .before .before .before .before .before .before .before .before .before .before .before .before .before .before .before .before .read .given .0 .0) (c .before .before .before .before .before .before .before .before .before .before .before .before .before .before .before .before .before .before .before .before .before .before .before .before .before .before .before .before .before .read .given .0 .1 .0) (sym (c .before .before .before .before .before .before .before .before .before .before .before .before .before .before .before .before .before .before .before .before .before .before .before .before .before .before .before .before .before .before .before .term .ensures) ∙ c .before .before .before .before .before .before .before .before .before .before .before .before .before .before .before .before .before .before .before .before .before .before .before .before .before .before .before .before .before .read .given .1) (i .0) (i .1 .0) (i .1 .1 .0) (i .1 .1 .1 .0) (i .1 .1 .1 .1 .0) (i .1 .1 .1 .1 .1 .1 .1 .0) (i .1 .1 .1 .1 .1 .1 .1 .1 .0) (i .1 .1 .1 .1 .1 .1 .1 .1 .1 .0) (i .1 .1 .1 .1 .1 .1 .1 .1 .1 .1 .1 .1 .1 .0) (c .before .before .before .before .before .before .before .before .before .before .before .before .before .before .before .before .before .before .rows-of .result) (c .before .before .before .before .before .before .before .before .before .before .before .before .before .before .before .before .before .before .rows-of .ensures)
+
+returns-2 : tie.Need-returns-2
+returns-2 c =
+    let s = c .before .before .before .before .before .before .before .before .before .before .before .before .before .before .before .before in
+    let a = s .args in
+    let b = a .records .now in
+    let p = a .places .now in
+    let hs = a .heads .now in
+    let ns = a .next .now in
+    let zs = a .sizes .now in
+    let n = a .count in
+    let u = a .used in
+    let m = a .params .now in
+    let g = a .images .now in
+    let o = a .bound .now in
+    let d = a .sheet .now in
+    let t = a .table .now in
+    let x = a .starts .now in
+    let w = a .rows .now in
+    let k = a .sorts in
+    let h = s .pre in
+    absurd (term-never d k (a .t) (getD x (a .t) 0) (stands-here b p hs ns zs n u m g o d t k x w (a .t) h) (sym (c .before .before .term .ensures) ∙ c .enum-told .given .1))
+
+pub term-rows-spec : {M : Type 1} → statement M
+term-rows-spec = tie.close (tie.spec mul-at shared-slice-read-at cast-at term-requires enum-known-read rows-of-requires enum-told same-length same-length-2 same-length-3 same-length-4 same-length-5 same-length-6 same-length-7 same-length-8 same-length-9 returns returns-2)

@@ -1,0 +1,186 @@
+// The rows: each term in order gets its inferred row, then its checked row, both over one store.
+use answers::code;
+use checker::check;
+use inference::infer;
+use reader::Cursor;
+use reader::ReadTerm;
+use reader::TermRecord;
+ghost use Rattle.verdicts.specs.Table.{BothAsk, BothAre, TurnAsks, TurnIs, RowsAsk, RowsAre};
+
+// The store's count and bytes in use.
+pub struct Counts {
+    pub count: usize,
+    pub used: usize,
+}
+
+// Writes both rows of the term t with this record at 2 t: the inferred one, then the checked one over the store after it; the
+// store's count and bytes in use after them.
+pub fn rows_of(
+    records: &mut [u8],
+    places: &mut [u32],
+    heads: &mut [u16],
+    next: &mut [u16],
+    sizes: &mut [u16],
+    count: usize,
+    used: usize,
+    params: &mut [u16],
+    images: &mut [u16],
+    bound: &mut [u16],
+    sheet: &[u8],
+    table: &[u16],
+    starts: &[u16],
+    rows: &mut [u32],
+    term: TermRecord,
+    t: usize,
+) -> Counts
+    requires { ⌜ BothAsk (now records) (now places) (now heads) (now next) (now sizes) count used (now params) (now images) (now bound) (now sheet) (now table) (now starts) (now rows) term t ⌝ }
+    ensures { λ r. ⌜ BothAre (now (records .entry)) (now (places .entry)) count (now (params .entry)) (now (images .entry)) (now (bound .entry)) (now (sheet .entry)) (now (table .entry)) (now (starts .entry)) (now (rows .entry)) term t (now (records .exit)) (now (places .exit)) (now (heads .exit)) (now (next .exit)) (now (sizes .exit)) (now (params .exit)) (now (images .exit)) (now (bound .exit)) (now (rows .exit)) r ⌝ }
+{
+    let mut args = [0u8; 266];
+    let one = infer(
+        records,
+        places,
+        heads,
+        next,
+        sizes,
+        count,
+        used,
+        params,
+        images,
+        bound,
+        sheet,
+        table,
+        starts,
+        rows,
+        term,
+        &mut args,
+    );
+    let m = one.count;
+    let v = one.used;
+    let two = check(
+        records,
+        places,
+        heads,
+        next,
+        sizes,
+        m,
+        v,
+        params,
+        images,
+        bound,
+        sheet,
+        table,
+        starts,
+        rows,
+        term,
+        &mut args,
+    );
+    let inferred = one.verdict;
+    let checked = two.verdict;
+    rows[2 * t] = code(inferred);
+    rows[2 * t + 1] = code(checked);
+    Counts {
+        count: two.count,
+        used: two.used,
+    }
+}
+
+// Both rows of the term t, whose record is read again at its place. Where none is read, which what is asked rules out, no row.
+pub fn term_rows(
+    records: &mut [u8],
+    places: &mut [u32],
+    heads: &mut [u16],
+    next: &mut [u16],
+    sizes: &mut [u16],
+    count: usize,
+    used: usize,
+    params: &mut [u16],
+    images: &mut [u16],
+    bound: &mut [u16],
+    sheet: &[u8],
+    table: &[u16],
+    sorts: usize,
+    starts: &[u16],
+    rows: &mut [u32],
+    t: usize,
+) -> Counts
+    requires { ⌜ TurnAsks (now records) (now places) (now heads) (now next) (now sizes) count used (now params) (now images) (now bound) (now sheet) (now table) sorts (now starts) (now rows) t ⌝ }
+    ensures { λ r. ⌜ TurnIs (now (records .entry)) (now (places .entry)) count (now (params .entry)) (now (images .entry)) (now (bound .entry)) (now (sheet .entry)) (now (table .entry)) sorts (now (starts .entry)) (now (rows .entry)) t (now (records .exit)) (now (places .exit)) (now (heads .exit)) (now (next .exit)) (now (sizes .exit)) (now (params .exit)) (now (images .exit)) (now (bound .exit)) (now (rows .exit)) r ⌝ }
+{
+    let at = starts[t] as usize;
+    let cursor = Cursor { at };
+    let read = cursor.term(sheet, sorts, t);
+    match read {
+        ReadTerm::Term(term, _) => rows_of(
+            records,
+            places,
+            heads,
+            next,
+            sizes,
+            count,
+            used,
+            params,
+            images,
+            bound,
+            sheet,
+            table,
+            starts,
+            rows,
+            term,
+            t,
+        ),
+        ReadTerm::NoTerm(_) => Counts { count, used },
+    }
+}
+
+// Writes both rows of each of the first `terms` terms, whose places are `starts`, into `rows`; the store's count and bytes in
+// use after them.
+pub fn rows_all(
+    records: &mut [u8],
+    places: &mut [u32],
+    heads: &mut [u16],
+    next: &mut [u16],
+    sizes: &mut [u16],
+    count: usize,
+    used: usize,
+    params: &mut [u16],
+    images: &mut [u16],
+    bound: &mut [u16],
+    sheet: &[u8],
+    table: &[u16],
+    sorts: usize,
+    starts: &[u16],
+    terms: usize,
+    rows: &mut [u32],
+) -> Counts
+    requires { ⌜ RowsAsk (now records) (now places) (now heads) (now next) (now sizes) count used (now params) (now images) (now bound) (now sheet) (now table) sorts (now starts) terms (now rows) ⌝ }
+    ensures { λ r. ⌜ RowsAre (now (records .entry)) (now (places .entry)) count (now (params .entry)) (now (images .entry)) (now (bound .entry)) (now (sheet .entry)) (now (table .entry)) sorts (now (starts .entry)) terms (now (rows .entry)) (now (records .exit)) (now (places .exit)) (now (heads .exit)) (now (next .exit)) (now (sizes .exit)) (now (params .exit)) (now (images .exit)) (now (bound .exit)) (now (rows .exit)) r ⌝ }
+{
+    let mut n = count;
+    let mut u = used;
+    let mut t = 0;
+    while t < terms {
+        let done = term_rows(
+            records,
+            places,
+            heads,
+            next,
+            sizes,
+            n,
+            u,
+            params,
+            images,
+            bound,
+            sheet,
+            table,
+            sorts,
+            starts,
+            rows,
+            t,
+        );
+        n = done.count;
+        u = done.used;
+        t += 1;
+    }
+    Counts { count: n, used: u }
+}
