@@ -45,9 +45,10 @@ fn main() -> ExitCode {
 fn on_random(trial: &mut Trial, sheets: u64, seed: u64, others: usize) -> Result<(), Difference> {
     let mut random = Random::new(seed);
     for at in 0..sheets {
-        // The first of each five hundred sheets fills the store.
+        // One in 500 sheets fills the store, one in 50 has great sorts.
         let mut sheet = match at % 500 {
             0 => make::crowded(&mut random),
+            by if by % 50 == 1 => make::large(&mut random),
             _ => make::sheet(&mut random),
         };
         if at % 500 != 0 && random.percent(33) {

@@ -83,6 +83,66 @@ pub fn crowded(random: &mut Random) -> Vec<u8> {
     sheet.finish()
 }
 
+/// A sheet with sorts of great tree sizes, some of them or of what is made of them past the limit.
+pub fn large(random: &mut Random) -> Vec<u8> {
+    let mut sheet = SheetWriter::new();
+    let name = Name::new(1);
+    let mut add = |sort: SortRecord<'_>| sheet.add_sort(sort).expect("under the limits");
+    let var = add(SortRecord::Var(name));
+    let int = add(SortRecord::Int);
+    let mut sorts = vec![(var, 1), (int, 1)];
+    let most = *random.of(&[1_500, 2_100, 4_096, 4_096, 4_200]);
+    let mut size = 1;
+    while sorts.len() < 40 {
+        let (last, of_last) = sorts[sorts.len() - 1];
+        let (other, of_other) = *random.of(&sorts);
+        let (sort, grown) = match random.under(5) {
+            0 => (SortRecord::Set(last), of_last + 1),
+            1 => (SortRecord::Array(last, last), 2 * of_last + 1),
+            2 => (SortRecord::Tuple(&[last, other, last]), 2 * of_last + of_other + 1),
+            3 => (SortRecord::Function(&[other, last]), of_last + of_other + 1),
+            _ => (SortRecord::Function(&[last, var, last]), 2 * of_last + 2),
+        };
+        if grown <= most {
+            sorts.push((add(sort), grown));
+            size = size.max(grown);
+        } else if size > most / 2 || random.percent(10) {
+            break;
+        }
+    }
+    let mut heads = Vec::new();
+    for _ in 0..4 {
+        let (result, _) = *random.of(&sorts);
+        let function = add(SortRecord::Function(&[var, result]));
+        heads.push(add(SortRecord::Par(&[name], function)));
+    }
+    let mut terms = Vec::new();
+    for (sort, _) in &sorts {
+        terms.push(sheet.add_term(TermRecord::Var(name, *sort)).expect("under the limits"));
+    }
+    let heads: Vec<TermId> =
+        heads.iter().map(|sort| sheet.add_term(TermRecord::Var(name, *sort)).expect("few")).collect();
+    for _ in 0..20 {
+        let (head, argument, other) = (*random.of(&heads), *random.of(&terms), random.of(&sorts).0);
+        let term = match random.under(4) {
+            0 => TermRecord::Binder(Binder::Lambda, &[(name, other), (name, other)], argument),
+            1 => TermRecord::Op(Operator::Tuple, &[argument, argument]),
+            _ => TermRecord::App(head, &[argument]),
+        };
+        terms.push(sheet.add_term(term).expect("under the limits"));
+    }
+    for _ in 0..10 {
+        let [sort, image, third] = [0; 3].map(|_| random.of(&sorts).0);
+        let question = match random.under(4) {
+            0 => QuestionRecord::Match { pattern: var, target: int, result: sort, names: &[name] },
+            1 => QuestionRecord::Match { pattern: sort, target: image, result: third, names: &[] },
+            _ => QuestionRecord::Apply { sort, map: &[(name, image)] },
+        };
+        sheet.add_question(question).expect("under the limits");
+    }
+    sheet.finish()
+}
+
 /// A copy of a sheet with something changed.
 pub fn damaged(random: &mut Random, sheet: &[u8]) -> Vec<u8> {
     let mut copy = sheet.to_vec();
