@@ -1,7 +1,9 @@
-//! A small trial; the program `beside` makes larger ones.
+//! A small trial; the program `beside` makes larger ones. And the wrapper's operators are carcara's.
 
 use beside::random::Random;
 use beside::{Trial, make};
+use oracle::ast::lists::{BINDERS, INDEXED, OPERATORS, QUALIFIED};
+use std::fmt::{Debug, Display};
 
 #[test]
 fn library_model_and_carcara_agree() {
@@ -30,4 +32,24 @@ fn library_model_and_carcara_agree() {
         assert!(trial.answers[number] > 0);
     }
     assert!(trial.lent_rows[23] > 0);
+}
+
+/// The cases of an enum of operators by their names and symbols.
+fn shown<T: Debug + Display>(operators: &[T]) -> Vec<(String, String)> {
+    operators.iter().map(|operator| (format!("{operator:?}"), operator.to_string())).collect()
+}
+
+/// The names of the cases alone.
+fn named<T: Debug>(operators: &[T]) -> Vec<String> {
+    operators.iter().map(|operator| format!("{operator:?}")).collect()
+}
+
+#[test]
+fn operators_are_carcaras() {
+    assert_eq!(shown(napsilo::Operator::ALL), shown(&OPERATORS));
+    // The last two are left out: the tester of a datatype and the selection from a tuple.
+    assert_eq!(shown(napsilo::ParamOperator::ALL), shown(&INDEXED[..12]));
+    assert_eq!(INDEXED.len(), 14);
+    assert_eq!(shown(napsilo::QualifiedOperator::ALL), shown(&QUALIFIED));
+    assert_eq!(named(napsilo::Binder::ALL), named(&BINDERS));
 }
