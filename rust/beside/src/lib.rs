@@ -1,0 +1,206 @@
+//! The proved library beside carcara (by the oracle) and beside the model.
+//!
+//! - [`make`]: random sheets whose terms mostly fit and whose patterns mostly match, and damaged copies of sheets;
+//! - [`random`]: the numbers behind them.
+//!
+//! [`Trial::sheet`] compares on one sheet. With the program's buffers and with others, short ones among them, the library's number and its
+//! four buffers, which come dirty, must be the model's over their whole length. Of an accepted sheet the inferred rows and the answers must
+//! be carcara's, and the wrapper's printout the model's.
+
+pub mod make;
+pub mod random;
+
+use napsilo::{Answer, Judged, Lent, Refusal, Row, judge_on_this_stack, judge_with, printout};
+use random::Random;
+use std::fmt::Write;
+
+/// What was compared so far.
+#[derive(Debug, Clone, Default)]
+pub struct Trial {
+    /// Sheets by their refusal; an accepted one counts at 0.
+    pub sheets: [usize; 11],
+    /// Sheets with other lent lengths by their refusal.
+    pub lent: [usize; 11],
+    /// Inferred rows by their cause; a sort counts at 0.
+    pub inferred: [usize; 30],
+    /// Checked rows by their cause.
+    pub checked: [usize; 30],
+    /// Answers by their cause; yes and no count as sorts.
+    pub answers: [usize; 30],
+    /// Rows and answers with other lent lengths by their cause, in the model's buffers, which the library's equal.
+    pub lent_rows: [usize; 30],
+    /// Inferred rows and answers that were compared with carcara.
+    pub beside_carcara: usize,
+}
+
+/// What differs, with the sheet in hexadecimal.
+pub type Difference = String;
+
+/// Bytes in hexadecimal.
+fn hex(bytes: &[u8]) -> String {
+    bytes.iter().map(|byte| format!("{byte:02x}")).collect()
+}
+
+/// The number of a row's cause, 0 for a sort.
+fn cause(row: &Row) -> usize {
+    row.as_ref().err().map_or(0, |cause| cause.number() as usize)
+}
+
+/// The text of a row.
+fn text(row: &Row) -> String {
+    match row {
+        Ok(sort) => sort.to_string(),
+        Err(cause) => format!("!{}", cause.number()),
+    }
+}
+
+impl Trial {
+    /// Compares on a sheet, with the program's buffers and with some others.
+    pub fn sheet(&mut self, sheet: &[u8], random: &mut Random, others: usize) -> Result<(), Difference> {
+        let modelled = self.buffers(sheet, Lent::PROGRAM)?;
+        self.sheets[usize::from(modelled.number)] += 1;
+        if modelled.number == 0 {
+            let judged = judge_with(sheet, Lent::PROGRAM).map_err(|e| differ(sheet, &e.to_string()))?;
+            if printout(&judged) != model::printout(sheet) {
+                return Err(differ(sheet, "the printouts differ"));
+            }
+            self.beside(sheet, &judged)?;
+        } else if oracle::lines(sheet).is_some() {
+            return Err(differ(sheet, "the library refuses what the oracle reads"));
+        }
+        for _ in 0..others {
+            let lent = lengths(random, sheet, &modelled);
+            let modelled = self.buffers(sheet, lent)?;
+            self.lent[usize::from(modelled.number)] += 1;
+            if modelled.number == 0 {
+                for word in modelled.rows.iter().chain(&modelled.answers) {
+                    self.lent_rows[(word >> 16) as usize] += 1;
+                }
+                // What the wrapper reads back from short buffers.
+                judge_with(sheet, lent).map_err(|e| differ(sheet, &e.to_string()))?;
+            }
+        }
+        Ok(())
+    }
+
+    /// The library's number and buffers must be the model's.
+    fn buffers(&self, sheet: &[u8], lent: Lent) -> Result<model::Judged, Difference> {
+        let modelled = model::judge(sheet, lent.records, lent.places, lent.rows, lent.answers);
+        let mut records = vec![0xa7; lent.records];
+        let [mut places, mut rows, mut answers] =
+            [lent.places, lent.rows, lent.answers].map(|length| vec![0xa7a7_a7a7; length]);
+        let said = judge_on_this_stack(sheet, &mut records, &mut places, &mut rows, &mut answers);
+        let number = said.err().map_or(0, Refusal::number);
+        if number != u32::from(modelled.number) {
+            return Err(differ(sheet, &format!("{lent:?}: library {number}, model {}", modelled.number)));
+        }
+        let first = |name: &str, library: &[u32], model: &[u32]| {
+            let at = library.iter().zip(model).position(|(one, two)| one != two)?;
+            Some(format!("{lent:?}: {name}[{at}]: library {:#x}, model {:#x}", library[at], model[at]))
+        };
+        let words = |bytes: &[u8]| -> Vec<u32> { bytes.iter().map(|byte| u32::from(*byte)).collect() };
+        let how = first("rows", &rows, &modelled.rows)
+            .or_else(|| first("answers", &answers, &modelled.answers))
+            .or_else(|| first("places", &places, &modelled.places))
+            .or_else(|| first("records", &words(&records), &words(&modelled.records)));
+        match how {
+            Some(how) => Err(differ(sheet, &how)),
+            None => Ok(modelled),
+        }
+    }
+
+    /// Inferred rows and answers must be carcara's.
+    fn beside(&mut self, sheet: &[u8], judged: &Judged) -> Result<(), Difference> {
+        let said = oracle::sheet::read(sheet).and_then(|read| oracle::ask::ask(&read));
+        let Some(said) = said else {
+            return Err(differ(sheet, "the oracle refuses what the library accepts"));
+        };
+        if said.rows.len() != judged.rows().len() || said.answers.len() != judged.answers().len() {
+            return Err(differ(sheet, "the counts of rows or answers differ"));
+        }
+        // carcara's pool is never full; from the first row on that is refused for room, the two go apart.
+        let mut full = false;
+        for (k, ((inferred, checked), row)) in judged.rows().zip(&said.rows).enumerate() {
+            self.inferred[cause(inferred)] += 1;
+            self.checked[cause(checked)] += 1;
+            full |= cause(inferred) == 23;
+            if full {
+                continue;
+            }
+            self.beside_carcara += 1;
+            let (library, carcara) = (text(inferred), oracle::text::row(row));
+            if library != carcara {
+                return Err(differ(sheet, &format!("T{k}: library {library}, carcara {carcara}")));
+            }
+        }
+        for (k, (answer, other)) in judged.answers().iter().zip(&said.answers).enumerate() {
+            let library = match answer {
+                Answer::Compatible(yes) => if *yes { "yes" } else { "no" }.to_owned(),
+                Answer::Sort(row) => text(row),
+            };
+            let number = answer.sort().map_or(0, cause);
+            self.answers[number] += 1;
+            if number == 23 {
+                continue;
+            }
+            self.beside_carcara += 1;
+            let carcara = oracle::text::answer(other);
+            if library != carcara {
+                return Err(differ(sheet, &format!("Q{k}: library {library}, carcara {carcara}")));
+            }
+        }
+        Ok(())
+    }
+
+    /// The counts.
+    pub fn summary(&self) -> String {
+        let mut summary = String::new();
+        for (name, counts) in [
+            ("sheets, the program's buffers", self.sheets.as_slice()),
+            ("sheets, other buffers", &self.lent),
+            ("inferred rows", &self.inferred),
+            ("checked rows", &self.checked),
+            ("answers", &self.answers),
+            ("rows and answers, other buffers", &self.lent_rows),
+        ] {
+            write!(summary, "{name}: {}", counts.iter().sum::<usize>()).expect("a string takes all");
+            let mut separator = " (";
+            for (number, count) in counts.iter().enumerate().filter(|(_, count)| **count != 0) {
+                let name = if number == 0 { "given".to_owned() } else { format!("!{number}") };
+                write!(summary, "{separator}{name} {count}").expect("a string takes all");
+                separator = ", ";
+            }
+            summary.push_str(if separator == " (" { "\n" } else { ")\n" });
+        }
+        writeln!(summary, "inferred rows and answers beside carcara: {}", self.beside_carcara).expect("as above");
+        summary
+    }
+}
+
+/// A difference on a sheet.
+fn differ(sheet: &[u8], how: &str) -> Difference {
+    format!("sheet {}\n{how}", hex(sheet))
+}
+
+/// Lent lengths: around what the sheet needs, from nothing to a little more.
+fn lengths(random: &mut Random, sheet: &[u8], modelled: &model::Judged) -> Lent {
+    let count = |at: usize| match sheet.get(at..at + 2) {
+        Some(bytes) => usize::from(u16::from_le_bytes([bytes[0], bytes[1]])),
+        None => 0,
+    };
+    let used = |length: Option<usize>| length.map_or(0, |at| at + 1);
+    let records = used(modelled.records.iter().rposition(|byte| *byte != 0));
+    let places = used(modelled.places.iter().rposition(|place| *place != 0)).max(1);
+    // What is needed and a little more, a little less, or anything from nothing on.
+    let mut length = |need: usize, less: usize, any: usize| match random.under(100) {
+        at if at < less => need - random.under(need.min(24) + 1),
+        at if at < less + any => random.under(need + 1),
+        _ => need + random.under(4),
+    };
+    Lent {
+        records: length(records, 40, 6),
+        places: length(places, 40, 6),
+        rows: length(2 * count(2).min(4_096), 2, 3),
+        answers: length(count(4).min(1_024), 2, 3),
+    }
+}

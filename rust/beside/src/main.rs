@@ -1,0 +1,82 @@
+//! Compares the library with carcara and with the model.
+//!
+//! - `beside random SHEETS SEED [OTHERS]` on so many random sheets, a third of them damaged copies, each with the program's buffers and with
+//!   so many other lent lengths (4, if not said);
+//! - `beside sweep` on the sheets of `compare sweep`;
+//! - `beside sheet HEX` on one sheet; prints what the library says to it.
+//!
+//! The first difference ends a run, with the sheet in hexadecimal.
+
+use beside::random::Random;
+use beside::{Difference, Trial, make};
+use std::process::ExitCode;
+
+fn main() -> ExitCode {
+    let arguments: Vec<String> = std::env::args().skip(1).collect();
+    let number = |at: usize, other: u64| arguments.get(at).map_or(Some(other), |text| text.parse().ok());
+    let mut trial = Trial::default();
+    let done = oracle::on_stack(|| match (arguments.first().map_or("", String::as_str), number(1, 1_000)) {
+        ("random", Some(sheets)) => {
+            let (seed, others) = (number(2, 1)?, usize::try_from(number(3, 4)?).ok()?);
+            Some(on_random(&mut trial, sheets, seed, others))
+        }
+        ("sweep", _) => Some(on_sweep(&mut trial)),
+        ("sheet", _) => Some(on_sheet(&mut trial, arguments.get(1)?)),
+        _ => None,
+    });
+    let Some(done) = done else {
+        eprintln!("beside random SHEETS SEED [OTHERS] | beside sweep | beside sheet HEX");
+        return ExitCode::FAILURE;
+    };
+    print!("{}", trial.summary());
+    match done {
+        Ok(()) => {
+            println!("no difference");
+            ExitCode::SUCCESS
+        }
+        Err(difference) => {
+            println!("a difference:\n{difference}");
+            ExitCode::FAILURE
+        }
+    }
+}
+
+/// Compares on random sheets.
+fn on_random(trial: &mut Trial, sheets: u64, seed: u64, others: usize) -> Result<(), Difference> {
+    let mut random = Random::new(seed);
+    for at in 0..sheets {
+        // One in 500 sheets fills the store, one in 50 has great sorts.
+        let mut sheet = match at % 500 {
+            0 => make::crowded(&mut random),
+            by if by % 50 == 1 => make::large(&mut random),
+            _ => make::sheet(&mut random),
+        };
+        if at % 500 != 0 && random.percent(33) {
+            sheet = make::damaged(&mut random, &sheet);
+        }
+        trial.sheet(&sheet, &mut random, others)?;
+    }
+    Ok(())
+}
+
+/// Compares on the sheets of the sweep.
+fn on_sweep(trial: &mut Trial) -> Result<(), Difference> {
+    let mut random = Random::new(1);
+    let mut done = Ok(());
+    compare::sweep::sheets(&mut |sheet| {
+        if done.is_ok() {
+            done = trial.sheet(sheet, &mut random, 1);
+        }
+    });
+    done
+}
+
+/// Compares on one sheet.
+fn on_sheet(trial: &mut Trial, hex: &str) -> Result<(), Difference> {
+    let digits: Option<Vec<u32>> = hex.chars().map(|digit| digit.to_digit(16)).collect();
+    let digits = digits.filter(|digits| digits.len().is_multiple_of(2)).ok_or("no hexadecimal text")?;
+    let byte = |pair: &[u32]| u8::try_from(pair[0] * 16 + pair[1]).expect("two digits");
+    let sheet: Vec<u8> = digits.chunks(2).map(byte).collect();
+    print!("{}", napsilo::print(&sheet));
+    trial.sheet(&sheet, &mut Random::new(1), 100)
+}

@@ -1,0 +1,28 @@
+//! Says where the static library of the proved code stands: `libverdicts.a` in the folder that `NAPSILO_LIB_DIR` names, else in
+//! `target/staticlib` of the repository, where `rt staticlib verdicts` writes it.
+
+use std::env;
+use std::path::PathBuf;
+
+fn main() {
+    println!("cargo::rerun-if-changed=build.rs");
+    println!("cargo::rerun-if-env-changed=NAPSILO_LIB_DIR");
+    let folder = match env::var_os("NAPSILO_LIB_DIR") {
+        Some(folder) => PathBuf::from(folder),
+        None => {
+            let own = env::var_os("CARGO_MANIFEST_DIR").expect("cargo names the folder");
+            PathBuf::from(own).join("../../target/staticlib")
+        }
+    };
+    let file = folder.join("libverdicts.a");
+    println!("cargo::rerun-if-changed={}", file.display());
+    if !file.is_file() {
+        println!(
+            "cargo::error=no libverdicts.a in {}: write it with `rt staticlib verdicts`, or name its folder in NAPSILO_LIB_DIR",
+            folder.display()
+        );
+        return;
+    }
+    println!("cargo::rustc-link-search=native={}", folder.display());
+    println!("cargo::rustc-link-lib=static=verdicts");
+}

@@ -1,0 +1,45 @@
+//! The call of the proved library. All unsafe code of this crate is here.
+
+/// The functions of `libverdicts.a`. Each slice is a pointer and then a length.
+mod library {
+    unsafe extern "C" {
+        /// Judges a sheet into four lent buffers: 0 for an accepted sheet, else the number of the refusal.
+        ///
+        /// It reads the sheet and reads and writes the buffers, nothing else, and keeps no pointer. It takes every length and whatever
+        /// the buffers hold. Pointers must be as those of Rust's slices are: not null and aligned also for length 0, and a buffer must
+        /// overlap nothing else.
+        pub fn napsilo_judge(
+            sheet: *const u8,
+            sheet_length: usize,
+            records: *mut u8,
+            records_length: usize,
+            places: *mut u32,
+            places_length: usize,
+            rows: *mut u32,
+            rows_length: usize,
+            answers: *mut u32,
+            answers_length: usize,
+        ) -> u32;
+    }
+}
+
+/// Judges a sheet into the lent buffers: 0 for an accepted sheet, else the number of the refusal.
+pub fn judge(sheet: &[u8], records: &mut [u8], places: &mut [u32], rows: &mut [u32], answers: &mut [u32]) -> u32 {
+    // SAFETY: each pointer and length is a Rust slice's, so it is not null, aligned, and valid for its length: to read for the sheet, to
+    // read and write for the four buffers. The buffers are borrowed exclusively, so they overlap neither each other nor the sheet, and
+    // all five borrows last until the call returns. The function has no other precondition.
+    unsafe {
+        library::napsilo_judge(
+            sheet.as_ptr(),
+            sheet.len(),
+            records.as_mut_ptr(),
+            records.len(),
+            places.as_mut_ptr(),
+            places.len(),
+            rows.as_mut_ptr(),
+            rows.len(),
+            answers.as_mut_ptr(),
+            answers.len(),
+        )
+    }
+}

@@ -1,0 +1,91 @@
+//! Sort inference and sort checking of SMT proof terms, by a library whose every function is proved to meet its contract.
+//!
+//! A *sheet* lists sorts, terms over them, and questions. Each term gets two rows:
+//!
+//! - the *inferred* row: the sort that carcara's `Pool::compute_sort` gives, or 21 where that panics;
+//! - the *checked* row: the sort that the ranks of SMT-LIB give, or why no rank fits.
+//!
+//! carcara does not look at the arguments of a plain function, so a term may have an inferred sort and no checked one. A rule should go
+//! live only if its checked row is a sort.
+//!
+//! # An example
+//!
+//! A rule of a gateway says: a session of a locked account is closed. Somebody takes the session for its account.
+//!
+//! ```
+//! use napsilo::{Cause, Names, Operator, SheetWriter, Sort, SortRecord, TermRecord, judge};
+//!
+//! # fn main() -> Result<(), Box<dyn std::error::Error>> {
+//! let mut names = Names::new();
+//! let mut sheet = SheetWriter::new();
+//!
+//! // (declare-sort Session 0), (declare-sort Account 0)
+//! let session = sheet.add_sort(SortRecord::Atom(names.name("Session")?, &[]))?;
+//! let account = sheet.add_sort(SortRecord::Atom(names.name("Account")?, &[]))?;
+//! let bool = sheet.add_sort(SortRecord::Bool)?;
+//! let owner_sort = sheet.add_sort(SortRecord::Function(&[session, account]))?;
+//! let locked_sort = sheet.add_sort(SortRecord::Function(&[account, bool]))?;
+//!
+//! // current : Session, owner : Session -> Account, locked : Account -> Bool
+//! let current = sheet.add_term(TermRecord::Var(names.name("current")?, session))?;
+//! let owner = sheet.add_term(TermRecord::Var(names.name("owner")?, owner_sort))?;
+//! let locked = sheet.add_term(TermRecord::Var(names.name("locked")?, locked_sort))?;
+//!
+//! // (locked (owner current)), and, with the mix-up, (locked current)
+//! let account_of = sheet.add_term(TermRecord::App(owner, &[current]))?;
+//! let right = sheet.add_term(TermRecord::App(locked, &[account_of]))?;
+//! let wrong = sheet.add_term(TermRecord::App(locked, &[current]))?;
+//! let rule = sheet.add_term(TermRecord::Op(Operator::Implies, &[right, wrong]))?;
+//!
+//! let judged = judge(&sheet.finish())?;
+//! assert_eq!(*judged.checked(right)?, Sort::Bool);
+//!
+//! // Inference passes the rule; the check refuses the application, and with it the rule.
+//! assert_eq!(*judged.inferred(rule)?, Sort::Bool);
+//! assert_eq!(judged.checked(wrong), Err(Cause::Misfit));
+//! assert_eq!(judged.checked(rule), Err(Cause::Below));
+//! # Ok(())
+//! # }
+//! ```
+//!
+//! # The parts of this crate
+//!
+//! - [`SheetWriter`] builds a sheet. It refuses exactly what the library's reader would refuse for a count, a length, a number, a name or
+//!   a reference ([`WriteError`]).
+//! - [`judge`], [`judge_with`] and [`judge_into`] call the library: with the program's buffers, with buffers of other lengths, into
+//!   buffers of the caller's; on a thread with a stack that is large enough ([`STACK`]). A sheet is [`Judged`] or refused ([`Refusal`], 1 to 10); a row is a [`Sort`] or refused ([`Cause`], 20 to 29).
+//! - [`printout`] and [`print()`] give the text that the program prints.
+//!
+//! # The library
+//!
+//! `libverdicts.a` is written by `rt staticlib verdicts`. The build takes it from the folder that the environment variable
+//! `NAPSILO_LIB_DIR` names, else from `target/staticlib` of the repository. Nothing checks the declaration in `ffi.rs` against the
+//! library's source, so the tests compare results.
+//!
+//! What is proved is the library: the rows, the answers and the store that it writes, for every sheet and all lengths of buffers. This
+//! crate is not: it writes sheets, reads the store back into trees, and makes text of them.
+
+#![deny(unsafe_code)]
+#![warn(missing_docs)]
+
+mod bytes;
+#[allow(unsafe_code)]
+mod ffi;
+mod judged;
+mod name;
+mod operators;
+mod refusal;
+mod sort;
+mod text;
+mod writer;
+
+pub use judged::{Answer, Judged, Lent, QuestionKind, Row, STACK, judge, judge_into, judge_on_this_stack, judge_with};
+pub use name::{Name, Names};
+pub use operators::{Binder, Operator, ParamOperator, QualifiedOperator};
+pub use refusal::{Cause, Refusal};
+pub use sort::Sort;
+pub use text::{print, printout};
+pub use writer::{
+    GREATEST_WIDTH, LONGEST_LIST, MOST_BYTES, MOST_QUESTIONS, MOST_SORTS, MOST_TERMS, QuestionId, QuestionRecord,
+    SheetWriter, SortId, SortRecord, TermId, TermRecord, WriteError,
+};

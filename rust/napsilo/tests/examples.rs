@@ -1,0 +1,190 @@
+//! The specification's examples K1 to K12, built by the writer.
+
+mod common;
+
+use common::{bytes, hex, n};
+use napsilo::{
+    Cause, Operator, QuestionRecord, SheetWriter, SortId, SortRecord, TermId, TermRecord, judge, print, printout,
+};
+
+/// A writer with Int, Real, Bool as its sorts 0 to 2, an integer and a real as its terms 0 and 1.
+fn start() -> SheetWriter {
+    let mut sheet = SheetWriter::new();
+    for sort in [SortRecord::Int, SortRecord::Real, SortRecord::Bool] {
+        sheet.add_sort(sort).unwrap();
+    }
+    for term in [TermRecord::Integer(7), TermRecord::Real] {
+        sheet.add_term(term).unwrap();
+    }
+    sheet
+}
+
+const INT: SortId = SortId::new(0);
+const REAL: SortId = SortId::new(1);
+const BOOL: SortId = SortId::new(2);
+const SEVEN: TermId = TermId::new(0);
+const HALF: TermId = TermId::new(1);
+
+/// The two columns of a term's line.
+fn rows(sheet: &SheetWriter, term: TermId) -> (String, String) {
+    let judged = judge(&sheet.finish()).unwrap();
+    let text = |row: napsilo::Row| match row {
+        Ok(sort) => sort.to_string(),
+        Err(cause) => format!("!{}", cause.number()),
+    };
+    let rows = (text(judged.inferred(term)), text(judged.checked(term)));
+    let line = format!("T{} {} {}\n", term.number(), rows.0, rows.1);
+    assert!(printout(&judged).contains(&line));
+    rows
+}
+
+/// Asserts the two columns of a term that is added last.
+fn assert_rows(mut sheet: SheetWriter, term: TermRecord<'_>, inferred: &str, checked: &str) {
+    let term = sheet.add_term(term).unwrap();
+    assert_eq!(rows(&sheet, term), (inferred.to_owned(), checked.to_owned()));
+}
+
+#[test]
+fn k1() {
+    let mut sheet = SheetWriter::new();
+    let int = sheet.add_sort(SortRecord::Int).unwrap();
+    let seven = sheet.add_term(TermRecord::Integer(7)).unwrap();
+    let sum = TermRecord::Op(Operator::Add, &[seven, seven]);
+    sheet.add_term(sum).unwrap();
+    let question = QuestionRecord::Compatible(int, int);
+    let question = sheet.add_question(question).unwrap();
+    let expected = bytes("010002000100 0104 050007000000 15070A0000000200000000 11000200000000");
+    assert_eq!(hex(&sheet.finish()), hex(&expected));
+    assert_eq!(print(&expected), "T0 Int Int\nT1 Int Int\nQ0 yes\n");
+    let judged = judge(&expected).unwrap();
+    assert_eq!(judged.answer(question).yes_or_no(), Some(true));
+    assert_eq!(judged.store().len(), 1);
+}
+
+#[test]
+fn k2_k3_k5() {
+    let op = |op| TermRecord::Op(op, &[]);
+    assert_rows(start(), op(Operator::BvAdd), "(_ BitVec ?)", "!25");
+    assert_rows(start(), op(Operator::BvConcat), "(_ BitVec 0)", "!25");
+    assert_rows(start(), op(Operator::RareList), "'?", "!24");
+}
+
+#[test]
+fn k4() {
+    let mut sheet = start();
+    let vector = sheet.add_term(TermRecord::BitVec(8)).unwrap();
+    let sum = TermRecord::Op(Operator::BvAdd, &[vector, SEVEN]);
+    assert_rows(sheet, sum, "(_ BitVec 8)", "!26");
+}
+
+#[test]
+fn k6_k7() {
+    let mut sheet = start();
+    let sort = SortRecord::Function(&[INT, REAL, BOOL]);
+    let sort = sheet.add_sort(sort).unwrap();
+    let head = sheet.add_term(TermRecord::Var(n(1), sort)).unwrap();
+    let at = |args, inferred, checked| {
+        assert_rows(sheet.clone(), TermRecord::App(head, args), inferred, checked);
+    };
+    at(&[SEVEN], "(-> Real Bool)", "(-> Real Bool)");
+    at(&[SEVEN; 3], "(->)", "!25");
+    at(&[SEVEN; 4], "!21", "!25");
+}
+
+#[test]
+fn k8() {
+    let mut sheet = start();
+    let var = sheet.add_sort(SortRecord::Var(n(1))).unwrap();
+    let set = sheet.add_sort(SortRecord::Set(var)).unwrap();
+    let sort = SortRecord::Function(&[var, var, set]);
+    let sort = sheet.add_sort(sort).unwrap();
+    let sort = sheet.add_sort(SortRecord::Par(&[n(1)], sort)).unwrap();
+    let head = sheet.add_term(TermRecord::Var(n(1), sort)).unwrap();
+    let text = "(par (n1) (-> 'n1 'n1 (Set 'n1)))".to_owned();
+    assert_eq!(rows(&sheet, head), (text.clone(), text));
+    let app = TermRecord::App(head, &[SEVEN, HALF]);
+    assert_rows(sheet, app, "!21", "!26");
+}
+
+#[test]
+fn k9_k11() {
+    let mut sheet = start();
+    let one = sheet.add_sort(SortRecord::Var(n(1))).unwrap();
+    let two = sheet.add_sort(SortRecord::Var(n(2))).unwrap();
+    let sort = sheet.add_sort(SortRecord::Function(&[one, two])).unwrap();
+    let sort = SortRecord::Par(&[n(1), n(2)], sort);
+    let sort = sheet.add_sort(sort).unwrap();
+    let head = sheet.add_term(TermRecord::Var(n(1), sort)).unwrap();
+    let question = QuestionRecord::Apply { sort, map: &[(n(1), INT)] };
+    let question = sheet.add_question(question).unwrap();
+    let judged = judge(&sheet.finish()).unwrap();
+    let answer = judged.answer(question).sort().unwrap().as_ref().unwrap();
+    assert_eq!(answer.to_string(), "(par (n2) (-> Int 'n2))");
+    assert!(printout(&judged).ends_with("\nQ0 (par (n2) (-> Int 'n2))\n"));
+    assert_rows(sheet, TermRecord::App(head, &[SEVEN]), "'n2", "!27");
+}
+
+#[test]
+fn k10() {
+    let mut sheet = start();
+    let unit = sheet.add_sort(SortRecord::Tuple(&[])).unwrap();
+    let units = sheet.add_sort(SortRecord::Set(unit)).unwrap();
+    let pair = sheet.add_sort(SortRecord::Tuple(&[INT, REAL])).unwrap();
+    let pairs = sheet.add_sort(SortRecord::Set(pair)).unwrap();
+    let left = sheet.add_term(TermRecord::Var(n(1), units)).unwrap();
+    let right = sheet.add_term(TermRecord::Var(n(2), pairs)).unwrap();
+    let join = TermRecord::Op(Operator::RelJoin, &[left, right]);
+    assert_rows(sheet, join, "(Set (Tuple Real))", "!24");
+}
+
+#[test]
+fn k12() {
+    let mut sheet = start();
+    let wide = sheet.add_term(TermRecord::BitVec(65_535)).unwrap();
+    let bit = sheet.add_term(TermRecord::BitVec(1)).unwrap();
+    let joined = TermRecord::Op(Operator::BvConcat, &[wide, bit]);
+    let joined = sheet.add_term(joined).unwrap();
+    let judged = judge(&sheet.finish()).unwrap();
+    assert_eq!(judged.inferred(joined), Err(Cause::Limit));
+    assert_eq!(judged.checked(joined), Err(Cause::Limit));
+    assert_eq!(rows(&sheet, joined), ("!22".to_owned(), "!22".to_owned()));
+}
+
+#[test]
+fn questions() {
+    let mut sheet = start();
+    let var = sheet.add_sort(SortRecord::Var(n(1))).unwrap();
+    let set = sheet.add_sort(SortRecord::Set(var)).unwrap();
+    let ints = sheet.add_sort(SortRecord::Set(INT)).unwrap();
+    let array = sheet.add_sort(SortRecord::Array(var, BOOL)).unwrap();
+    let names = &[n(1)];
+    let mut ask = |pattern, target| {
+        let question = QuestionRecord::Match { pattern, target, result: array, names };
+        sheet.add_question(question).unwrap()
+    };
+    let fits = ask(set, ints);
+    let none = ask(ints, set);
+    let unfit = ask(set, INT);
+    let no = sheet.add_question(QuestionRecord::Compatible(INT, REAL)).unwrap();
+    let judged = judge(&sheet.finish()).unwrap();
+    let answer = judged.answer(fits).sort().unwrap().as_ref().unwrap();
+    assert_eq!(answer.to_string(), "(Array Int Bool)");
+    assert_eq!(judged.answer(none).sort(), Some(&Err(Cause::Barred)));
+    assert_eq!(judged.answer(unfit).sort(), Some(&Err(Cause::NoAssignment)));
+    assert_eq!(judged.answer(no).yes_or_no(), Some(false));
+    let lines = "Q0 (Array Int Bool)\nQ1 !28\nQ2 !29\nQ3 no\n";
+    assert!(printout(&judged).ends_with(lines));
+}
+
+/// The rule that takes a session for its account; the same sheet as the program's example.
+#[test]
+fn session_for_account() {
+    let sheet = bytes(
+        "050008000000 1301010000 1301020000 0103 11000200000100 11000201000200
+         0b0503000000 0b0504000300 0b0505000400 11060201000000 11060202000300 11060202000000
+         1507030000000204000500 1507070000000200000300",
+    );
+    let expected = "T0 n1 n1\nT1 (-> n1 n2) (-> n1 n2)\nT2 (-> n2 Bool) (-> n2 Bool)\nT3 n2 n2\n\
+                    T4 Bool Bool\nT5 Bool !26\nT6 Bool !20\nT7 Bool !26\n";
+    assert_eq!(print(&sheet), expected);
+}
