@@ -30,7 +30,7 @@ def library(paths):
     for path in paths:
         lent = None
         for line in open(path):
-            line = line.rstrip("\n")
+            line = line.rstrip()
             if line.startswith("lent "):
                 words = line.split()
                 lent = tuple(int(words[i]) for i in (2, 4, 6, 8))

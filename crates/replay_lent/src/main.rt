@@ -14,9 +14,12 @@ fn print_hexes(buf: &[u8]) {
     }
 }
 
-// Writes a line: the name of the buffer of records, and its bytes.
+// Writes a line: the name of the buffer of records, and its bytes behind a blank, where there are any.
 fn print_bytes(buf: &[u8]) {
-    io::write_all(STDOUT_FILENO, b"records ");
+    io::write_all(STDOUT_FILENO, b"records");
+    if buf.len() != 0 {
+        io::write_all(STDOUT_FILENO, b" ");
+    }
     print_hexes(buf);
     io::write_all(STDOUT_FILENO, b"\n");
 }
@@ -36,12 +39,9 @@ fn print_numbers(buf: &[u32]) {
     }
 }
 
-// Writes a line: the name of a buffer of numbers, and its numbers; a blank where there is none.
+// Writes a line: the name of a buffer of numbers, and its numbers.
 fn print_words(name: &[u8], buf: &[u32]) {
     io::write_all(STDOUT_FILENO, name);
-    if buf.len() == 0 {
-        io::write_all(STDOUT_FILENO, b" ");
-    }
     print_numbers(buf);
     io::write_all(STDOUT_FILENO, b"\n");
 }

@@ -1,13 +1,13 @@
 #!/bin/sh
-# Runs the vectors of ../shared/vectors against the definitions of ../main (or of MAIN), as antt examples.
-#   run_vectors.sh MODE [--from A] [--to B] [--per N] [--only I,J,..] [--bytes hex|list]
-# MODE: program, library, reader, readlib (see vectors.py). REV=main: a commit, not the working tree. KEEP=1: do not copy the crates anew. ASK=0: do not ask what a failed one gives.
+# Runs recorded vectors (the folder VECTORS_IN) against the definitions of this repository (or of MAIN), as antt examples.
+#   definition_vectors.sh MODE [--from A] [--to B] [--per N] [--only I,J,..] [--bytes hex|list]
+# MODE: program, library, reader, readlib (see definition_vectors.py). REV=main: a commit, not the working tree. KEEP=1: do not copy the crates anew. ASK=0: do not ask what a failed one gives.
 set -u
 mode=${1:?mode}; shift
-main=${MAIN:-../main}
-out=${VECTORS_OUT:-../vectors-check}
+main=${MAIN:-$(dirname "$0")/..}
+out=${VECTORS_OUT:-vectors-check}
 export VECTORS_OUT="$out"
-tool=$(dirname "$0")/vectors.py
+tool=$(dirname "$0")/definition_vectors.py
 mkdir -p "$out"
 if [ "${KEEP:-0}" != 1 ]; then
     # what is tested: the working tree of $main, or with REV=.. that commit of it
@@ -21,7 +21,7 @@ if [ "${KEEP:-0}" != 1 ]; then
     mkdir -p "$out/crates"
     : > "$out/crates.txt"
     # the crates that the definitions under test need, and no others
-    case $mode in reader|readlib) want="record reader sheet" ;; library) want="record sheet verdicts" ;; *) want="record sheet verdicts printout" ;; esac
+    case $mode in reader|readlib) want="record reader sheet" ;; library) want="record sheet judged" ;; *) want="record sheet judged printout" ;; esac
     todo=$want; seen=
     while [ -n "$todo" ]; do
         next=

@@ -1,11 +1,11 @@
 #!/usr/bin/env python3
-"""Turns ../shared/vectors into antt examples over the definitions of specs/, and reads what the check says of them.
+"""Turns recorded vectors (the folder VECTORS_IN) into antt examples over the definitions of specs/, and reads what the check says of them.
 
-  vectors.py gen  MODE [--from A] [--to B] [--per N] [--only I,J,..]   write the crates v0, v1, .. into ../vectors-check
-  vectors.py ask  MODE --only I,J,..                                     write crate vask, whose refused examples show what the definitions give
-  vectors.py read MODE LOG..                                             list the examples that failed in the logs of `rt dev vK`
-  vectors.py told MODE LOG                                               show what they say, beside the expected
-  vectors.py strip                                                       take functions and proofs out of the copied crates (definitions stay)
+  definition_vectors.py gen  MODE [--from A] [--to B] [--per N] [--only I,J,..]   write the crates v0, v1, .. into vectors-check
+  definition_vectors.py ask  MODE --only I,J,..                                     write crate vask, whose refused examples show what the definitions give
+  definition_vectors.py read MODE LOG..                                             list the examples that failed in the logs of `rt dev vK`
+  definition_vectors.py told MODE LOG                                               show what they say, beside the expected
+  definition_vectors.py strip                                                       take functions and proofs out of the copied crates (definitions stay)
 
 MODE: program (printed lines), library (outcome and four buffers), reader (program sheets: refusal number or 0; needs crate sheet only),
       readlib (the same for the library's sheets and lent lengths).
@@ -13,8 +13,8 @@ Vectors are numbered from 0 in the order of the file.
 """
 import argparse, os, re, sys, json
 
-SHARED = os.environ.get('VECTORS_IN', '../shared/vectors')
-OUT = os.environ.get('VECTORS_OUT', '../vectors-check')
+SHARED = os.environ.get('VECTORS_IN', 'vectors')
+OUT = os.environ.get('VECTORS_OUT', 'vectors-check')
 PROGRAM_LENT = (65536, 4096, 8192, 1024)
 
 
@@ -140,9 +140,9 @@ abbrev outcomeOf : Reading Sheet → ℕ
 outcomeOf (refused e) = refusalNumber e
 outcomeOf (got a x) = 0
 '''
-PROGRAM_USES = '''use Rattle.verdicts.specs.Judged.{judged}
+PROGRAM_USES = '''use Rattle.judged.specs.Judged.{judged}
 use Rattle.printout.specs.Printed.{printed}'''
-LIBRARY_USES = '''use Rattle.verdicts.specs.Judged.{Judgement, outcomeNumber, judged, recordsAfter, placesAfter, rowsAfter, answersAfter}'''
+LIBRARY_USES = '''use Rattle.judged.specs.Judged.{Judgement, outcomeNumber, judged, recordsAfter, placesAfter, rowsAfter, answersAfter}'''
 LIBRARY_MORE = '''
 -- the outcome and the four buffers at exit, one after the other; the lengths are those lent
 abbrev exits : %(lent)s → Judgement → List ℕ → List ℕ → List ℕ → List ℕ → ℕ → Bool

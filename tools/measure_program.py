@@ -1,0 +1,153 @@
+#!/usr/bin/env python3
+"""Measures the program on large sheets: time (median, least and most of several runs, the start of the process included) and memory.
+
+usage: measure_program.py PROGRAM [RUNS]
+
+Each sheet is made here; what it prints is thrown away after its length is counted once.
+"""
+import os
+import statistics
+import struct
+import subprocess
+import sys
+import tempfile
+import time
+
+
+def u16(v):
+    return struct.pack("<H", v)
+
+
+def items(vs):
+    return bytes([len(vs)]) + b"".join(u16(v) for v in vs)
+
+
+def sheet(sorts, terms, questions=()):
+    head = struct.pack("<3H", len(sorts), len(terms), len(questions))
+    return head + b"".join(sorts) + b"".join(terms) + b"".join(questions)
+
+
+VAR = lambda n: bytes([3, 2]) + u16(n)
+LEAF = lambda k: bytes([1, k])
+FUN = lambda *l: bytes([17, 0]) + items(l)
+PAR = lambda names, b: bytes([81, 12]) + items([b]) + items(names)
+SET = lambda r: bytes([17, 14]) + items([r])
+BV = lambda w: bytes([5, 9]) + struct.pack("<I", w)
+INTEGER = lambda v: bytes([5, 0]) + struct.pack("<I", v)
+TVAR = lambda n, s: bytes([11, 5]) + u16(n) + u16(s)
+APP = lambda *l: bytes([17, 6]) + items(l)
+OP = lambda k, *l: bytes([21, 7]) + struct.pack("<I", k) + items(l)
+
+
+def mixed(n):
+    """Terms of many kinds that refer to recent terms; 65,536 bytes where n is 4,096."""
+    sorts = [LEAF(3), LEAF(4), LEAF(5), BV(8), BV(16), VAR(1), FUN(1, 1, 0), FUN(5, 5, 5), None]
+    sorts[8] = PAR([1], 7)
+    terms = [INTEGER(1), TVAR(2, 0), TVAR(3, 3), TVAR(4, 4), TVAR(5, 6), TVAR(6, 8), TVAR(7, 2)]
+    i = 0
+    while len(terms) < n:
+        t = len(terms)
+        kind = i % 8
+        last = t - 1
+        if kind == 0:
+            terms.append(OP(10, 0, 0, 0))
+        elif kind == 1:
+            terms.append(OP(17, 0, last, 0, last))
+        elif kind == 2:
+            terms.append(OP(4, 1, last, 1, last))
+        elif kind == 3:
+            terms.append(OP(83, 2, 2, 2, 2))
+        elif kind == 4:
+            terms.append(OP(90, 2, 3))
+        elif kind == 5:
+            terms.append(APP(4, 0, 0))
+        elif kind == 6:
+            terms.append(APP(5, 0, 0))
+        else:
+            terms.append(OP(9, 1, 0, 0))
+        i += 1
+    made = sheet(sorts, terms)
+    if n == 4096:
+        # as many sorts more as a sheet of 65,536 bytes holds, each of its own
+        more = min(2048 - len(sorts), (65536 - len(made)) // 6)
+        sorts += [BV(100 + i) for i in range(more)]
+        made = sheet(sorts, terms)
+    return made
+
+
+def deep(n):
+    """Each term a set of the one before it: row t is t levels deep. Then a parametric function over the deepest."""
+    sorts = [VAR(1), VAR(2), SET(0), FUN(1, 2), None, None, None]
+    sorts[4] = PAR([2], 3)
+    sorts[5] = FUN(0, 4)
+    sorts[6] = PAR([1], 5)
+    m = n - 11
+    terms = [INTEGER(7)] + [OP(123, i) for i in range(m)]
+    terms += [TVAR(9, 6), APP(m + 1, m), APP(m + 2, 0)]
+    return sheet(sorts, terms)
+
+
+def long(n):
+    """Every row a text near the longest: a Function of 64 chains of 62 Pars of 64 names of five digits."""
+    sorts = [LEAF(4)]
+    for i in range(62):
+        sorts.append(PAR([65535 - 64 * (i % 4) - j for j in range(64)], len(sorts) - 1))
+    sorts.append(FUN(*([len(sorts) - 1] * 64)))
+    top = len(sorts) - 1
+    return sheet(sorts, [TVAR(1, top) for _ in range(n)])
+
+
+def wide(n):
+    """A parametric function whose result is a tree of 4,033 nodes: each App walks it."""
+    tuple_of = lambda *l: bytes([17, 15]) + items(l)
+    sorts = [VAR(1), tuple_of(*[0] * 62), tuple_of(*[1] * 64), FUN(0, 2), PAR([1], 3)]
+    return sheet(sorts, [INTEGER(1), TVAR(2, 4)] + [APP(1, 0) for _ in range(n - 2)])
+
+
+def peak(program, path):
+    """The largest resident size of the program in KiB, as GNU time tells it."""
+    with open(path, "rb") as stdin, open(os.devnull, "wb") as sink:
+        told = subprocess.run(["/usr/bin/time", "-f", "%M", program], stdin=stdin, stdout=sink, stderr=subprocess.PIPE)
+    return int(told.stderr.split()[-1])
+
+
+def measure(program, data, runs):
+    with tempfile.NamedTemporaryFile() as f:
+        f.write(data)
+        f.flush()
+        most = peak(program, f.name)
+        with open(f.name, "rb") as stdin:
+            out = subprocess.Popen([program], stdin=stdin, stdout=subprocess.PIPE)
+            size = 0
+            while True:
+                piece = out.stdout.read(1 << 20)
+                if not piece:
+                    break
+                size += len(piece)
+            out.wait()
+        times = []
+        for _ in range(runs):
+            with open(f.name, "rb") as stdin, open(os.devnull, "wb") as sink:
+                start = time.perf_counter()
+                done = subprocess.run([program], stdin=stdin, stdout=sink)
+                times.append(time.perf_counter() - start)
+                assert done.returncode == 0
+    return size, times, most
+
+
+def main():
+    program = sys.argv[1]
+    runs = int(sys.argv[2]) if len(sys.argv) > 2 else 10
+    print("| sheet | terms | bytes | printed bytes | median ms | least | most | peak KiB |")
+    print("|---|---|---|---|---|---|---|---|")
+    cases = [("mixed", mixed, (256, 512, 1024, 2048, 4096)), ("deep", deep, (256, 512, 1024, 2048, 4096)), ("wide", wide, (256, 1024, 4096)), ("long", long, (16, 64, 256))]
+    for name, make, counts in cases:
+        for n in counts:
+            data = make(n)
+            assert len(data) <= 65536, (name, n, len(data))
+            size, times, most = measure(program, data, runs)
+            ms = [t * 1000 for t in times]
+            print(f"| {name} | {n} | {len(data)} | {size} | {statistics.median(ms):.1f} | {min(ms):.1f} | {max(ms):.1f} | {most} |", flush=True)
+
+
+main()
