@@ -64,22 +64,22 @@ fn judge_over(
     print_words(b"answers", answers);
 }
 
-// Judges a sheet over buffers of these lengths, at most 4,096 bytes, 512 places, 512 rows and 64 answers.
+// Judges a sheet over buffers of these lengths, at most 65,536 bytes, 4,096 places, 8,192 rows and 1,024 answers.
 fn run(sheet: &[u8], r: usize, p: usize, w: usize, a: usize) {
-    let mut records = [170u8; 4096];
-    let mut places = [2863311530u32; 512];
-    let mut rows = [2863311530u32; 512];
-    let mut answers = [2863311530u32; 64];
-    if 4096 < r {
+    let mut records = [170u8; 65536];
+    let mut places = [2863311530u32; 4096];
+    let mut rows = [2863311530u32; 8192];
+    let mut answers = [2863311530u32; 1024];
+    if 65536 < r {
         return;
     }
-    if 512 < p {
+    if 4096 < p {
         return;
     }
-    if 512 < w {
+    if 8192 < w {
         return;
     }
-    if 64 < a {
+    if 1024 < a {
         return;
     }
     judge_over(

@@ -27,7 +27,7 @@ slice-aggregate-judge-over : tie.Need-slice-aggregate-judge-over
 slice-aggregate-judge-over c =
     let s = c .before .before .before .before .before .before in
     let a = s .args in
-    sym (length-take-le (a .r) (replicate 4096 170) (omega (arith, c .before .before .before .before .if1 .left)))
+    sym (length-take-le (a .r) (replicate 65536 170) (omega (arith, c .before .before .before .before .if1 .left)))
 
 array-borrow-prefix-places : tie.Need-array-borrow-prefix-places
 array-borrow-prefix-places c = search needs
@@ -36,7 +36,7 @@ slice-aggregate-judge-over-2 : tie.Need-slice-aggregate-judge-over-2
 slice-aggregate-judge-over-2 c =
     let s = c .before .before .before .before .before .before .before in
     let a = s .args in
-    sym (length-take-le (a .p) (replicate 512 2863311530) (omega (arith, c .before .before .before .before .if2 .left)))
+    sym (length-take-le (a .p) (replicate 4096 2863311530) (omega (arith, c .before .before .before .before .if2 .left)))
 
 array-borrow-prefix-rows : tie.Need-array-borrow-prefix-rows
 array-borrow-prefix-rows c = search needs
@@ -45,7 +45,7 @@ slice-aggregate-judge-over-3 : tie.Need-slice-aggregate-judge-over-3
 slice-aggregate-judge-over-3 c =
     let s = c .before .before .before .before .before .before .before .before in
     let a = s .args in
-    sym (length-take-le (a .w) (replicate 512 2863311530) (omega (arith, c .before .before .before .before .if3 .left)))
+    sym (length-take-le (a .w) (replicate 8192 2863311530) (omega (arith, c .before .before .before .before .if3 .left)))
 
 array-borrow-prefix-answers : tie.Need-array-borrow-prefix-answers
 array-borrow-prefix-answers c = search needs
@@ -54,7 +54,7 @@ slice-aggregate-judge-over-4 : tie.Need-slice-aggregate-judge-over-4
 slice-aggregate-judge-over-4 c =
     let s = c .before .before .before .before .before .before .before .before .before in
     let a = s .args in
-    sym (length-take-le (a .a) (replicate 64 2863311530) (omega (arith, c .before .before .before .before .if4 .left)))
+    sym (length-take-le (a .a) (replicate 1024 2863311530) (omega (arith, c .before .before .before .before .if4 .left)))
 
 judge-over-requires : tie.Need-judge-over-requires
 judge-over-requires c κs = search needs
