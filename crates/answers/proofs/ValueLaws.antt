@@ -16,7 +16,7 @@ use Rattle.store.specs.Walk.{entry-asks}
 use Rattle.matching.specs.Contract.{Refs, sortsAt}
 use Rattle.matching.specs.Entered.{refs-first, refs-rest, sorts-end, sorts-more}
 use Rattle.checked.specs.Checked.{value, values}
-use Rattle.application.specs.Contract.{ValuesAsk, ValuesHave}
+use Rattle.answers.specs.Values.{ValuesAsk, ValuesHave}
 
 ---------------------------------------------------------------- a sort by its kind
 kind-other : (s : Sort) → (kindOf s ≡ 12 → ⊥) → value s ≡ true
