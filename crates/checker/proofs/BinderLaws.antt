@@ -10,14 +10,12 @@ use lib.ListN.{length, getD}
 use lib.Dec.{eqb, ltb}
 use borrow.Author.Tests.{eq-eqb, ne-eqb, lt-ltb}
 use Rattle.record.specs.Number.{u16At, numbersAt}
-use Rattle.record.specs.Sort.{Sort, Sorts, end, _then_, bool, function, kindOf, count, same, var, par, node}
+use Rattle.record.specs.Sort.{Sort, Sorts, end, _then_, bool, function, kindOf, count, same}
 use Rattle.record.specs.SortLaws.{same-sound, same-swap}
 use Rattle.record.specs.Record.{maps, mapOf, leaf, sortsOf}
-use Rattle.record.specs.Decode.{storeOf, sortAt, fieldsAt, Stored}
+use Rattle.record.specs.Decode.{storeOf, sortAt}
 use Rattle.record.specs.SortLists.{below-suc}
 use Rattle.record.specs.Cases.{false-second}
-use Rattle.record.specs.StoreLaws.{sort-node}
-use Rattle.record.specs.Forms.{sort-par}
 use Rattle.reader.specs.Reader.{pairSortsAt}
 use Rattle.store.specs.Entry.{EntryAsks, KindHas}
 use Rattle.store.specs.Walk.{entry-asks}
@@ -28,19 +26,10 @@ use Rattle.rows.specs.Verdict.{sort, refused, need}
 use Rattle.rows.specs.Lists.{joined}
 use Rattle.checked.specs.Checked.{value, onlyOf, boundBody, binder}
 use Rattle.answers.specs.Arguments.{looked, boundNumbers, bindingAt, LambdaAsks}
+use Rattle.answers.specs.Values.{value-kind, stored-value}
 use Rattle.checking.specs.Contract.{argsOf}
-use Rattle.checking.specs.KindLaws.{kind-same, kind-read}
+use Rattle.checking.specs.KindLaws.{kind-same}
 use Rattle.checker.specs.Bound.{PairsAsk, BodyAsks, BinderAsks}
-
----------------------------------------------------------------- the body by its kind
-value-kind : (s : Sort) → (kindOf s ≡ 12 → ⊥) → value s ≡ true
-value-kind (var v) h = refl
-value-kind (par ns b) h = absurd (h refl)
-value-kind (node k a w ss) h = refl
-
-stored-value : (b p : List ℕ) (n i : ℕ) → Stored b p n → i < n → kindOf (sortAt b p n i) ≡ 12 → value (sortAt b p n i) ≡ false
-stored-value b p n i s l e =
-    ap value (sort-node b p n i s l ∙ sort-par (storeOf b p n) (fieldsAt b (getD p i 0)) (sym (kind-read b p n i s l) ∙ e))
 
 ---------------------------------------------------------------- the pairs
 -- The sorts of m pairs.
