@@ -14,16 +14,15 @@ use Rattle.record.specs.Number.{u16At, u32At, numbersAt}
 use Rattle.record.specs.Sort.{Sort, node, function, count, tuple, set}
 use Rattle.record.specs.Record.{maps, mapOf, leasts, leastOf, mosts, mostOf, leaf, sortsOf, sortOf}
 use Rattle.record.specs.Decode.{fieldsAt, storeOf, sortAt, written}
-use Rattle.record.specs.Codec.{Bytes, length-numbersAt}
+use Rattle.record.specs.Codec.{Bytes, length-numbersAt, number-at}
 use Rattle.record.specs.Sizes.{count-sorts}
 use Rattle.record.specs.Cases.{eqb-self}
 use Rattle.record.specs.SortLists.{below-suc}
 use Rattle.record.specs.Append.{written-in, length-written}
-use Rattle.store.specs.Walk.{number-at}
 use Rattle.rows.specs.Outcome.{within}
 use Rattle.rows.specs.Lists.{remaining, joined}
 use Rattle.answers.specs.Within.{over-list, over-inner}
-use Rattle.answers.specs.Records.{listed, list-fresh, list-sort}
+use Rattle.answers.specs.Records.{listed, list-fresh, list-sort, remaining-many}
 use Rattle.answers.specs.Asks.{MakeAsks, ListAsks, ListedAsks, RemainingAsks}
 use Rattle.answers.specs.Arguments.{rowAt, integerAt, putAt, put-long, Filled, filled-more, bindingAt, boundNumbers, BindingsAsks, BindingsAre, bindings-are, LambdaAsks, sorts-joined}
 
@@ -76,17 +75,6 @@ numbers-same a x b y (suc m) h =
     let fx : x + 2 + i ≡ x + (2 + i) = omega arith in
     let fy : y + (2 + i) ≡ y + 2 + i = omega arith in
     ap (λ (z : ℕ). getD a z 0) fx ∙ h (2 + i) (omega arith) ∙ ap (λ (z : ℕ). getD b z 0) fy))
-
--- The last entry by itself, or a Function.
-pub remaining-one : (st : List Sort) (b : List ℕ) (x m : ℕ) → m ≡ 1 → remaining (sortsOf st (numbersAt b x m)) ≡ getD st (u16At b x) leaf
-unfolding sortsOf numbersAt
-remaining-one st b x m e = ap (λ (i : ℕ). remaining (sortsOf st (numbersAt b x i))) e
-
-remaining-many : (st : List Sort) (b : List ℕ) (x m : ℕ) → (m ≡ 1 → ⊥) → remaining (sortsOf st (numbersAt b x m)) ≡ function (sortsOf st (numbersAt b x m))
-unfolding sortsOf numbersAt
-remaining-many st b x zero h = refl
-remaining-many st b x (suc zero) h = absurd (h refl)
-remaining-many st b x (suc (suc m)) h = refl
 
 -- The list copied into the array.
 module _ (b p hs ns zs : List ℕ) (n u : ℕ) (a : List ℕ) (x m : ℕ) (asks : RemainingAsks b p hs ns zs n u a x m) where

@@ -5,7 +5,7 @@ use mathlib.Core.Path.{_≡_, refl, sym, ap, ap₂, subst, _∙_}
 use mathlib.Core.Bool.{Bool, true, false, _&&_}
 use mathlib.Core.List.{List}
 use native.Mathlib.Omega.{arith}
-use lib.ListN.{length, getD, take}
+use lib.ListN.{length, take}
 use lib.Seq.{take-at}
 use lib.Dec.{leb}
 use borrow.Author.Tests.{leb-true}
@@ -15,7 +15,7 @@ use Rattle.record.specs.Store.{addOnce, intern, indexOf, bytesOf, room}
 use Rattle.record.specs.Decode.{fieldsAt, Fresh, storeOf, sortAt}
 use Rattle.record.specs.Cases.{and-right}
 use Rattle.record.specs.StoreLaws.{storeOf-length, sorts-one}
-use Rattle.record.specs.SortLists.{Once, Starts, starts-self, starts-trans, starts-intern, starts-add, starts-at, starts-count, memb-at, memb-intern, index-at, index-found, intern-known, intern-parts, room-starts}
+use Rattle.record.specs.SortLists.{Once, Starts, starts-self, starts-trans, starts-intern, starts-add, starts-count, memb-at, memb-intern, index-at, index-found, intern-known, intern-parts, room-starts}
 use Rattle.record.specs.Entries.{store-ordered, sort-parts}
 use Rattle.sheet.specs.Sheet.{Lengths}
 use Rattle.store.specs.Good.{Good, good-room, good-one}
@@ -27,6 +27,7 @@ use Rattle.rows.specs.declared.RowVerdict.{RowVerdict}
 use Rattle.rows.specs.declared.RowVerdict.the-variants.{Sort as Number, Refused}
 use Rattle.rows.specs.Verdict.{Verdict, sort, refused, numberOf, codeOf}
 use Rattle.rows.specs.Outcome.{Outcome, refusal, outcomeBy, within, outcome}
+use Rattle.rows.specs.OutcomeLaws.{refusal-large}
 use Rattle.answers.specs.declared.Answer.{Answer}
 use Rattle.answers.specs.Answer.{Left, AnswerIs, accepting, refusing}
 use Rattle.answers.specs.Within.{within-at}
@@ -135,22 +136,6 @@ pub starts-set : (t : Sort) (st : List Sort) → Starts (intern t st) (intern (s
 starts-set t st = subst (Starts (intern t st)) (sym (intern-set t st)) (starts-add (intern t st) (set t))
 
 ---------------------------------------------------------------- what an answer tells
--- Whatever refused it, its code is no number of a store.
-pub cause-code : (c : Cause) → 65536 ≤ numberOf c * 65536
-cause-code c = omega (arith, low c)
-  where
-    low : (c : Cause) → 1 ≤ numberOf c
-    low Cause.Below = omega arith
-    low Cause.Panics = omega arith
-    low Cause.Limit = omega arith
-    low Cause.Full = omega arith
-    low Cause.NoRank = omega arith
-    low Cause.Count = omega arith
-    low Cause.Misfit = omega arith
-    low Cause.Unassigned = omega arith
-    low Cause.Barred = omega arith
-    low Cause.NoAssignment = omega arith
-
 -- An outcome by the two tests.
 abbrev byLimits : Bool → Bool → List Sort → List Sort → ℕ → Outcome
 byLimits w t st st′ k = outcomeBy w (outcomeBy t (record { store = st′; code = k }) (refusal st Full)) (refusal st Limit)
@@ -169,7 +154,7 @@ by-accepted false t st st′ o k i e h = absurd (omega (arith, ap (λ (x : Outco
 
 by-refused : (w t : Bool) (st st′ o : List Sort) (k : ℕ) (c : Cause) → byLimits w t st st′ k ≡ record { store = o; code = numberOf c * 65536 } → (t ≡ true → k < 65536)
     → (x : List Sort) → byLimits w t x st′ k ≡ refusal x c
-by-refused true true st st′ o k c e h x = absurd (omega (arith, ap (λ (x : Outcome). x .code) e, h refl, cause-code c))
+by-refused true true st st′ o k c e h x = absurd (omega (arith, ap (λ (x : Outcome). x .code) e, h refl, refusal-large c))
 by-refused true false st st′ o k c e h x = ap (λ (i : ℕ). record { store = x; code = i }) (ap (λ (x : Outcome). x .code) e)
 by-refused false t st st′ o k c e h x = ap (λ (i : ℕ). record { store = x; code = i }) (ap (λ (x : Outcome). x .code) e)
 
@@ -201,13 +186,9 @@ module _ (b p : List ℕ) (n : ℕ) (v : Verdict) (b′ p′ hs′ ns′ zs′ :
       (subst (λ (m : ℕ). storeOf b′ p′ m ≡ st) q kept) (a .long) (a .wide) in
       record { same = (one .0, one .1, one .2, one .3, one .4); count = q; used = one .5 }
 
-  -- No sort is lost, and none changes its number.
+  -- No sort is lost.
   pub answer-more : n ≤ r .count
   answer-more = omega (arith, starts-count (storeOf b p n) (storeOf b′ p′ (r .count)) (a .starts), storeOf-length b p n, storeOf-length b′ p′ (r .count))
-
-  pub answer-keeps : (k : ℕ) → k < n → sortAt b′ p′ (r .count) k ≡ sortAt b p n k
-  unfolding sortAt
-  answer-keeps k l = starts-at (storeOf b p n) (storeOf b′ p′ (r .count)) (a .starts) k (omega (arith, storeOf-length b p n))
 
   -- AN ACCEPTED ANSWER is a number of the store, below 4,096.
   pub answer-number : (k : ℕ) → r .verdict ≡ Number k → (k < r .count) × (k < 4096)
@@ -235,7 +216,7 @@ module _ (b p : List ℕ) (n : ℕ) (v : Verdict) (b′ p′ hs′ ns′ zs′ :
       go (Number k) e = omega (arith, answer-number k e .1)
       go (Refused c) e = small c
 
--- THE SORT OF AN ACCEPTED ANSWER, and the store that has it.
+-- AN ACCEPTED ANSWER passed both tests.
 module _ (b p : List ℕ) (n : ℕ) (s : Sort) (b′ p′ hs′ ns′ zs′ : List ℕ) (r : Answer) (a : AnswerIs b p n (sort s) b′ p′ hs′ ns′ zs′ r) where
   passed : (k : ℕ) → r .verdict ≡ Number k
       → Passed (within s) (room (length b) (length p) (intern s (storeOf b p n))) (intern s (storeOf b p n)) (storeOf b′ p′ (r .count)) (indexOf s (intern s (storeOf b p n))) k
@@ -245,15 +226,6 @@ module _ (b p : List ℕ) (n : ℕ) (s : Sort) (b′ p′ hs′ ns′ zs′ : Li
       by-accepted (within s) (room (length b) (length p) (intern s st)) st (intern s st) (storeOf b′ p′ (r .count)) (indexOf s (intern s st)) k
       (a .is (lent b p) refl refl ∙ ap (λ (v : RowVerdict). record { store = storeOf b′ p′ (r .count); code = codeOf v }) e)
       (omega (arith, answer-number b p n (sort s) b′ p′ hs′ ns′ zs′ r a k e .1))
-
-  pub answer-store : (k : ℕ) → r .verdict ≡ Number k → storeOf b′ p′ (r .count) ≡ intern s (storeOf b p n)
-  answer-store k e = sym (passed k e .sorts)
-
-  pub answer-sort : (k : ℕ) → r .verdict ≡ Number k → sortAt b′ p′ (r .count) k ≡ s
-  unfolding sortAt
-  answer-sort k e =
-      let st = storeOf b p n in
-      ap₂ (λ (x : List Sort) (i : ℕ). getD x i leaf) (answer-store k e) (sym (passed k e .number)) ∙ index-found (intern s st) s (memb-intern s st) .1
 
 ---------------------------------------------------------------- over a store that was grown on the way to the answer
 module _ (b p : List ℕ) (n : ℕ) (c q : List ℕ) (m : ℕ) (s : Sort) (same : intern s (storeOf b p n) ≡ intern s (storeOf c q m)) (starts : Starts (storeOf b p n) (storeOf c q m))

@@ -15,13 +15,11 @@ use borrow.Author.Tests.{lt-ltb, le-ltb}
 use Rattle.record.specs.Number.{u16At, u32At, numbersAt}
 use Rattle.record.specs.Sort.{Sort, Sorts, end, _then_}
 use Rattle.record.specs.Record.{leaf, sortsOf}
-use Rattle.record.specs.Codec.{u16-read, length-numbersAt}
+use Rattle.record.specs.Codec.{u16-read, length-numbersAt, number-at}
 use Rattle.record.specs.SortLists.{below-suc}
-use Rattle.reader.specs.Reader.{pairNamesAt, pairSortsAt}
-use Rattle.sheet.specs.Sheet.{bindingsOf}
+use Rattle.reader.specs.Reader.{pairSortsAt}
 use Rattle.store.specs.Good.{Good}
-use Rattle.store.specs.Walk.{number-at}
-use Rattle.rows.specs.Lists.{joined, bindingSorts}
+use Rattle.rows.specs.Lists.{joined}
 use Rattle.rows.specs.Term.{consed, sortsAt}
 use Rattle.rows.specs.Outcome.{rowSort}
 use Rattle.answers.specs.declared.arguments.Constant.{Constant}
@@ -217,19 +215,6 @@ pairs-looked g a x s y (suc m) h =
 pub bindings-are : (sheet : List ℕ) (at n : ℕ) (table a : List ℕ) → Filled a (bindingAt sheet at table) n → BindingsAre sheet at n table a
 bindings-are sheet at n table a f = record { each = f; numbers = pairs-looked (λ i. getD table i 0) a 3 sheet at n f }
 
--- They are the sorts of the bindings, where the table names the sheet's sorts ts in the store.
-pub bound-sorts : (st ts : List Sort) (table sheet : List ℕ) (at n : ℕ) → ((j : ℕ) → j < n → getD ts (u16At sheet (at + 4 * j + 2)) leaf ≡ getD st (bindingAt sheet at table j) leaf)
-    → bindingSorts (bindingsOf ts (pairNamesAt sheet at n) (pairSortsAt sheet at n)) ≡ sortsOf st (boundNumbers table sheet at n)
-unfolding bindingSorts bindingsOf pairNamesAt pairSortsAt sortsOf looked
-bound-sorts st ts table sheet at zero h = refl
-bound-sorts st ts table sheet at (suc n) h =
-    let e : at + 4 * 0 + 2 ≡ at + 2 = omega arith in
-    ap₂ _then_ (sym (ap (λ (x : ℕ). getD ts (u16At sheet x) leaf) e) ∙ h 0 (omega arith) ∙ ap (λ (x : ℕ). getD st (getD table (u16At sheet x) 0) leaf) e)
-    (bound-sorts st ts table sheet (at + 4) n
-    (λ j l.
-    let f : at + 4 + 4 * j + 2 ≡ at + 4 * suc j + 2 = omega arith in
-    ap (λ (x : ℕ). getD ts (u16At sheet x) leaf) f ∙ h (suc j) (omega arith) ∙ sym (ap (λ (x : ℕ). getD st (getD table (u16At sheet x) 0) leaf) f)))
-
 -- A Lambda's pairs on the sheet and its body, all of whose sorts the store has; a is long enough for a list of 65.
 pub record LambdaAsks (b p hs ns zs : List ℕ) (n u : ℕ) (sheet : List ℕ) (at m : ℕ) (table a : List ℕ) (body : ℕ) : Type 0 where
   pub good : Good b p hs ns zs n u
@@ -277,3 +262,37 @@ pub record ConstantsAsk (sheet starts : List ℕ) (x m : ℕ) : Type 0 where
   pub within : x + 2 * m ≤ length sheet
   pub term : (j : ℕ) → j < m → u16At sheet (x + 2 * j) < length starts
   pub start : (j : ℕ) → j < m → ConstantAsks sheet (getD starts (u16At sheet (x + 2 * j)) 0)
+
+-- The sheet names a term at x, whose record lies in it.
+pub record IndexAsks (sheet starts : List ℕ) (x : ℕ) : Type 0 where
+  pub within : x + 2 ≤ length sheet
+  pub term : u16At sheet x < length starts
+  pub start : ConstantAsks sheet (getD starts (u16At sheet x) 0)
+
+-- The integer constant that it is, a number of four bytes.
+abbrev pub indexAt : List ℕ → List ℕ → ℕ → Option ℕ
+indexAt sheet starts x = integerAt sheet (getD starts (u16At sheet x) 0)
+
+pub record IndexIs (sheet starts : List ℕ) (x : ℕ) (r : Constant) : Type 0 where
+  pub is : integerOf r ≡ indexAt sheet starts x
+  pub small : (v : ℕ) → r ≡ Integer v → v < 4294967296
+
+-- The first and the second of several.
+module _ (sheet starts : List ℕ) (x m : ℕ) (h : ConstantsAsk sheet starts x m) where
+  pub index-first : 0 < m → IndexAsks sheet starts x
+  index-first l =
+      let e : x + 2 * 0 ≡ x = omega arith in
+      record {
+        within = omega (arith, h .within);
+        term = subst (λ (y : ℕ). u16At sheet y < length starts) e (h .term 0 l);
+        start = subst (λ (y : ℕ). ConstantAsks sheet (getD starts (u16At sheet y) 0)) e (h .start 0 l);
+      }
+
+  pub index-second : 2 ≤ m → IndexAsks sheet starts (x + 2)
+  index-second l =
+      let e : x + 2 * 1 ≡ x + 2 = omega arith in
+      record {
+        within = omega (arith, h .within);
+        term = subst (λ (y : ℕ). u16At sheet y < length starts) e (h .term 1 (omega arith));
+        start = subst (λ (y : ℕ). ConstantAsks sheet (getD starts (u16At sheet y) 0)) e (h .start 1 (omega arith));
+      }

@@ -53,7 +53,7 @@ module _ (b p : List ℕ) (n : ℕ) (stored : Stored b p n) where
       ∙ shallow-sort (storeOf b p n) k (λ i o. shallow-below j i (omega arith) (omega arith)) (fieldsAt b (getD p k 0))
       (stored .each k l .shape) (stored .each k l .below)
 
-  shallow-at : (k : ℕ) → k < n → shallow (sortAt b p n k) ≡ true
+  pub shallow-at : (k : ℕ) → k < n → shallow (sortAt b p n k) ≡ true
   shallow-at k l = shallow-below (suc k) k (omega arith) l
 
   shallow-fresh : (r : List ℕ) → Fresh r n → shallow (sortOf (storeOf b p n) (fieldsAt r 0)) ≡ true

@@ -2,6 +2,7 @@
 pub mod arguments;
 pub mod heads;
 pub mod lists;
+pub mod values;
 
 use rows::Cause;
 use rows::RowVerdict;

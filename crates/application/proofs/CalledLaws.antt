@@ -15,7 +15,7 @@ use Rattle.substitution.specs.Matching.{matchesAll, listedIn}
 use Rattle.matching.specs.declared.Matched.{Matched}
 use Rattle.matching.specs.declared.Matched.the-variants.{Fits, Misfits}
 use Rattle.matching.specs.Tables.{Told, listed, Added, mapOf, Mapped, Cleared}
-use Rattle.matching.specs.TableLaws.{listed-is, added-back, cleared-mapped, cleared-map}
+use Rattle.matching.specs.TableLaws.{listed-is, added-back, cleared-mapped, cleared-map, cleared-images, cleared-bound}
 use Rattle.matching.specs.Contract.{sortsAt, AddAsks, TakeAsks, MatchAllAsks, MatchAllIs, Answered}
 use Rattle.matching.specs.Entered.{good-usable}
 use Rattle.rows.specs.declared.Cause.{Cause}
@@ -26,14 +26,16 @@ use Rattle.checked.specs.Checked.{values, delivered, called}
 use Rattle.answers.specs.declared.Answer.{Answer}
 use Rattle.answers.specs.Answer.{refusing}
 use Rattle.answers.specs.AnswerLaws.{judged-as, answered-as, answer-refused}
+use Rattle.answers.specs.Values.{ValuesAsk, ValuesHave}
 use Rattle.instance.specs.Rest.{RestAsks, RestIs}
+use Rattle.instance.specs.Mapped.{mapped-images}
 use Rattle.application.specs.declared.called.Call.{Call}
 use Rattle.application.specs.declared.called.Call.the-variants.{Settled, Unsettled, Misfits as Fails}
-use Rattle.application.specs.Contract.{AppIs, SettledAllAsks, SettledAllIs, ValuesAsk, ValuesHave, FitAsks, FitIs, FittedAsks, FittedIs, restAt, deliveredAt, boundIn, callOf, CalledAsks, DeliverAsks}
+use Rattle.application.specs.Contract.{AppIs, SettledAllAsks, SettledAllIs, FitAsks, FitIs, FittedAsks, FittedIs, restAt, deliveredAt, boundIn, callOf, CalledAsks, DeliverAsks}
 use Rattle.application.proofs.AppLaws.{app-refused, app-as}
 use Rattle.application.proofs.ListLaws.{count-at, firsts-at, others-at, refs-part, refs-behind}
 use Rattle.application.proofs.SettledLaws.{settled-remaining}
-use Rattle.application.proofs.TableLaws.{cleared-images, cleared-bound, mapped-images, add-asks, take-asks, listed-names}
+use Rattle.application.proofs.TableLaws.{add-asks, take-asks, listed-names}
 
 ---------------------------------------------------------------- with the names listed
 module _ (b p : List ℕ) (n : ℕ) (prm imgs bnd : List ℕ) (x m : ℕ) (a : List ℕ) (k : ℕ) (h : FitAsks b p n prm imgs bnd x m a k) where

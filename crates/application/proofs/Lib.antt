@@ -5,4 +5,3 @@ pub mod ListLaws
 pub mod ParametricLaws
 pub mod SettledLaws
 pub mod TableLaws
-pub mod ValueLaws

@@ -13,7 +13,7 @@ use Rattle.substitution.specs.MatchWith.{matchAllWith}
 use Rattle.matching.specs.declared.Matched.{Matched}
 use Rattle.matching.specs.declared.Matched.the-variants.{Fits, Misfits}
 use Rattle.matching.specs.Tables.{Lists, Added, mapOf, Mapped, Cleared}
-use Rattle.matching.specs.TableLaws.{lists-roomy, added-back, cleared-mapped, cleared-map}
+use Rattle.matching.specs.TableLaws.{lists-roomy, added-back, cleared-mapped, cleared-map, cleared-images, cleared-bound}
 use Rattle.matching.specs.Contract.{sortsAt, AddAsks, TakeAsks, WithAllAsks, WithIs, PairsWith, countOf}
 use Rattle.matching.specs.Contract.{answerOf as foundBy}
 use Rattle.rows.specs.declared.Cause.the-variants.{Panics}
@@ -23,9 +23,10 @@ use Rattle.answers.specs.declared.Answer.{Answer}
 use Rattle.answers.specs.Answer.{refusing}
 use Rattle.answers.specs.AnswerLaws.{judged-as, answered-as, answer-refused}
 use Rattle.instance.specs.Rest.{RestIs}
+use Rattle.instance.specs.Mapped.{mapped-images}
 use Rattle.application.specs.Contract.{AppIs, restAt, PatternsAsk, PatternsAre, ParametricAsks, substitutedAt}
 use Rattle.application.proofs.ListLaws.{refs-part, sizes-first}
-use Rattle.application.proofs.TableLaws.{cleared-images, cleared-bound, mapped-images, add-asks, take-asks, listed-names}
+use Rattle.application.proofs.TableLaws.{add-asks, take-asks, listed-names}
 use Rattle.application.proofs.CalledLaws.{fitted-asks}
 
 ---------------------------------------------------------------- matching the arguments

@@ -20,10 +20,6 @@ use Rattle.rows.specs.Lists.{remaining}
 use Rattle.checked.specs.Checked.{settled, settledAll}
 use Rattle.application.specs.Contract.{SettledAsks, SettledAllAsks, SettledIs, SettledAllIs}
 
-pub some-left : (n : ℕ) → (n ≡ 0 → ⊥) → 0 < n
-some-left zero h = absurd (h refl)
-some-left (suc n) h = omega arith
-
 -- A name is bound exactly if its entry is not 0.
 some-image : (st : List Sort) (e : ℕ) → isSome (imageAt st e) ≡ not (eqb e 0)
 some-image st zero = refl

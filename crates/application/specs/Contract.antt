@@ -7,7 +7,7 @@ use mathlib.Core.List.{List}
 use lib.ListN.{length}
 use Rattle.record.specs.Number.{u16At, numbersAt}
 use Rattle.record.specs.Sort.{Sort, sizes}
-use Rattle.record.specs.Decode.{storeOf, sortAt, Stored, Zeros}
+use Rattle.record.specs.Decode.{storeOf, sortAt, Zeros}
 use Rattle.store.specs.Good.{Good}
 use Rattle.substitution.specs.Substitution.{Map, empty, apply}
 use Rattle.substitution.specs.Matching.{matchesAll, listedIn}
@@ -20,7 +20,7 @@ use Rattle.apply.specs.Images.{Images}
 use Rattle.rows.specs.declared.Cause.the-variants.{Misfit, Unassigned}
 use Rattle.rows.specs.Verdict.{Verdict, sort, refused}
 use Rattle.rows.specs.Lists.{remaining}
-use Rattle.checked.specs.Checked.{values, settled, settledAll, delivered}
+use Rattle.checked.specs.Checked.{settled, settledAll, delivered}
 use Rattle.inferred.specs.Inferred.{substituted}
 use Rattle.answers.specs.declared.Answer.{Answer}
 use Rattle.answers.specs.Answer.{AnswerIs}
@@ -62,17 +62,6 @@ SettledIs b p n prm imgs k r =
 abbrev pub SettledAllIs : List ℕ → List ℕ → ℕ → List ℕ → List ℕ → ℕ → ℕ → Bool → Type 0
 SettledAllIs b p n prm imgs x m r =
     (f : ℕ → Bool) → Told prm f → (θ : Map) → Images (storeOf b p n) imgs θ → r ≡ settledAll f θ (sortsAt b p n b x m)
-
----------------------------------------------------------------- values
--- m numbers of sorts of some store in these buffers.
-pub record ValuesAsk (b p s : List ℕ) (x m : ℕ) : Type 0 where
-  pub many : ℕ
-  pub stored : Stored b p many
-  pub refs : Refs s x m many
-
--- Whatever the count of the store's sorts is.
-abbrev pub ValuesHave : List ℕ → List ℕ → List ℕ → ℕ → ℕ → Bool → Type 0
-ValuesHave b p s x m r = (n : ℕ) → Stored b p n → Refs s x m n → r ≡ values (sortsAt b p n s x m)
 
 ---------------------------------------------------------------- arguments at a head
 -- The m sorts of a head's Function in the store's own bytes from x on, k arguments, at most as many, and no name bound.

@@ -1,8 +1,8 @@
 // The checked sort of an App whose head is a Function or a Par of one.
 use super::settled::all_settled;
-use super::values::all_values;
 use answers::Answer;
 use answers::refuse;
+use answers::values::all_values;
 use instance::rest;
 use matching::Matched;
 use matching::plain::matches_all;

@@ -17,7 +17,6 @@ ghost use Rattle.application.specs.Contract.{AppAsks, AppIs};
 pub mod called;
 pub mod parametric;
 pub mod settled;
-pub mod values;
 
 // The checked sort of an App of `total` terms: Count without an argument, for any head; Misfit where the head is no Function
 // or Par of one; else as `called`.

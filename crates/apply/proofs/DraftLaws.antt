@@ -2,7 +2,7 @@
 use Prim.Native.Nat.{ℕ, _+_, _*_, _/_, _%_, _≤_, _<_}
 use mathlib.Core.Path.{_≡_, refl, sym, ap, ap₂, subst, _∙_}
 use mathlib.Core.Bool.{Bool}
-use mathlib.Core.List.{List, [], _∷_, _++_, append-assoc}
+use mathlib.Core.List.{List, [], _∷_, _++_, append-assoc, append-nil}
 use native.Mathlib.Omega.{arith}
 use native.Mathlib.Numerals.{add-one}
 use lib.ListN.{length, getD, set, take, length-set}
@@ -17,7 +17,7 @@ use Rattle.apply.specs.declared.lists.Numbers.{Numbers}
 use Rattle.apply.specs.declared.build.Draft.{Draft}
 use Rattle.apply.specs.Lists.{numbersOf}
 use Rattle.apply.specs.Draft.{drafted, Room, Put, ByteAsks, ListAsks, fieldsIn, Drafted}
-use Rattle.apply.proofs.ListLaws.{append-nil, has-length}
+use Rattle.apply.proofs.ListLaws.{has-length}
 
 pub byte-put : (d : Draft) (v : ℕ) → ByteAsks d v → Put d 1 (v ∷ []) (record { bytes = set (d .bytes) (d .len) v; len = d .len + 1 })
 byte-put d v a =
@@ -41,7 +41,7 @@ put-trans d e s r x t q p o =
     }
 
 pub put-none : (d : Draft) (x e : ℕ) → Room d x → Put d e [] d
-put-none d x e m = record { long = m .long; most = omega arith; is = append-nil (drafted d) }
+put-none d x e m = record { long = m .long; most = omega arith; is = sym (append-nil (drafted d)) }
 
 pub put-as : (d : Draft) (e : ℕ) (s t : List ℕ) (r : Draft) → s ≡ t → Put d e s r → Put d e t r
 put-as d e s t r q p = subst (λ (x : List ℕ). Put d e x r) q p
@@ -96,7 +96,7 @@ put-list-off d bit o e m = put-as d 129 [] (listBytes (isOne bit) (numbersOf o))
 
 pub put-start : (d : Draft) (n : ℕ) (l : List ℕ) (r : Draft) → Put d 1 (n ∷ []) r → PutInv r n l r 0
 unfolding numbersBytes
-put-start d n l r p = record { low = omega arith; put = record { long = p .long; most = omega arith; is = append-nil (drafted r) } }
+put-start d n l r p = record { low = omega arith; put = record { long = p .long; most = omega arith; is = sym (append-nil (drafted r)) } }
 
 numbers-append : (vs : List ℕ) (v : ℕ) → numbersBytes (vs ++ (v ∷ [])) ≡ numbersBytes vs ++ u16Bytes v
 unfolding numbersBytes

@@ -14,26 +14,26 @@ use Rattle.record.specs.Sort.{Sort, Sorts, function, count, size, sizes}
 use Rattle.record.specs.Record.{sortsOf, sortOf, bit, maps, mapOf, leasts, leastOf, mosts, mostOf}
 use Rattle.record.specs.Store.{intern, internAll, indicesOf, room}
 use Rattle.record.specs.Decode.{fields, Shape, storeOf}
-use Rattle.record.specs.Codec.{length-numbersAt}
+use Rattle.record.specs.Codec.{length-numbersAt, number-at}
 use Rattle.record.specs.Forms.{sort-other}
 use Rattle.record.specs.Names.{distinct}
 use Rattle.record.specs.Sizes.{count-sorts, length-indices}
-use Rattle.record.specs.SortLists.{membAll, memb-intern-all, Starts, starts-intern, starts-intern-all}
+use Rattle.record.specs.SortLists.{membAll, memb-intern-all, Starts, starts-intern, starts-intern-all, room-starts}
 use Rattle.record.specs.StoreLaws.{storeOf-length}
 use Rattle.record.specs.Entries.{store-ordered}
 use Rattle.store.specs.Contract.{Untouched}
-use Rattle.store.specs.Walk.{number-at}
+use Rattle.substitution.specs.SubstitutionLaws.{count-applied}
 use Rattle.apply.specs.declared.lists.Numbers.{Numbers}
 use Rattle.apply.specs.declared.Parts.{Parts}
 use Rattle.apply.specs.Lists.{numbersOf, Has, ReadAsks}
 use Rattle.apply.specs.Draft.{fieldsIn}
 use Rattle.apply.specs.Images.{imagesOf}
-use Rattle.apply.specs.Made.{Made, MakeAsks, room-starts, intern-first}
+use Rattle.apply.specs.Made.{Made, MakeAsks, intern-first}
 use Rattle.apply.specs.Halted.{Halted, made-over, halted-over}
 use Rattle.apply.specs.Contract.{answersAt, functionAt, SizesAsk, SizesAre, PartsAsk, PartsMade, PartsAre, FunctionAsks, FunctionFits}
 use Rattle.apply.proofs.ListLaws.{has-length, has-own}
 use Rattle.apply.proofs.SizeLaws.{capped-small, within}
-use Rattle.apply.proofs.SortForms.{count-applied, sorts-back, indices-below}
+use Rattle.apply.proofs.SortForms.{sorts-back, indices-below}
 
 -- The Function itself counts as one.
 size-function : (ss : Sorts) → size (function ss) ≡ 1 + sizes ss

@@ -2,15 +2,15 @@
 use Prim.Native.Nat.{ℕ, zero, suc, _+_, _*_, _-_, _≤_, _<_}
 use mathlib.Core.Path.{_≡_, refl, sym, ap, subst, _∙_}
 use mathlib.Core.Bool.{Bool, true, false, cond}
-use mathlib.Core.List.{List, [], _∷_, _++_}
+use mathlib.Core.List.{List, [], _∷_, _++_, append-nil}
 use native.Mathlib.Omega.{arith}
-use native.Mathlib.Nat.{not-suc-le-zero}
 use native.Mathlib.Numerals.{add-one}
 use lib.ListN.{length, getD, set, take, replicate, length-set, length-append, length-replicate}
 use lib.Seq.{length-take-le, take-suc-set, append-snoc}
 use lib.Dec.{eqb}
 use borrow.Author.Tests.{eq-eqb, ne-eqb}
 use Rattle.record.specs.Number.{u16At, numbersAt}
+use Rattle.record.specs.Codec.{numbers-more}
 use Rattle.apply.specs.declared.lists.Numbers.{Numbers}
 use Rattle.apply.specs.Lists.{numbersOf, unbound, Has, AddAsks, KeepAsks, ReadAsks, NamesAsk}
 
@@ -47,15 +47,6 @@ add-has o v a =
           ∙ take-suc-set (o .list) (o .count) v (omega (arith, a .room, a .has .long));
     }
 
-pub append-nil : (s : List ℕ) → s ≡ s ++ []
-append-nil [] = refl
-append-nil (a ∷ s) = ap (λ (l : List ℕ). a ∷ l) (append-nil s)
-
-numbers-first : (b : List ℕ) (x m : ℕ) → 0 < m → numbersAt b x m ≡ u16At b x ∷ numbersAt b (x + 2) (m - 1)
-unfolding numbersAt
-numbers-first b x zero h = absurd (not-suc-le-zero h)
-numbers-first b x (suc m) h = let e : m ≡ suc m - 1 = omega arith in ap (λ (i : ℕ). u16At b x ∷ numbersAt b (x + 2) i) e
-
 numbers-none : (b : List ℕ) (x m : ℕ) → m ≤ 0 → numbersAt b x m ≡ []
 unfolding numbersAt
 numbers-none b x zero h = refl
@@ -91,7 +82,7 @@ module _ (b : List ℕ) (x n : ℕ) (out : Numbers) (y m : ℕ) (i : ReadInv b x
             ap (λ (vs : List ℕ). vs ++ numbersAt b (y + 2) (m - 1)) (h .is)
             ∙ append-snoc (numbersOf out) v (numbersAt b (y + 2) (m - 1))
             ∙ ap (λ (k : ℕ). numbersOf out ++ k ∷ numbersAt b (y + 2) (m - 1)) e
-            ∙ ap (λ (vs : List ℕ). numbersOf out ++ vs) (sym (numbers-first b y m l))
+            ∙ ap (λ (vs : List ℕ). numbersOf out ++ vs) (sym (numbers-more b y m l))
             ∙ i .whole;
       }
 
@@ -101,7 +92,7 @@ read-end b x n out y m i h =
       long = i .has .long;
       few = i .has .few;
       small = i .has .small;
-      is = append-nil (numbersOf out) ∙ ap (λ (vs : List ℕ). numbersOf out ++ vs) (sym (numbers-none b y m h)) ∙ i .whole;
+      is = sym (append-nil (numbersOf out)) ∙ ap (λ (vs : List ℕ). numbersOf out ++ vs) (sym (numbers-none b y m h)) ∙ i .whole;
     }
 
 -- One name: it stays if it has no image.
@@ -122,7 +113,7 @@ keep-bound o v l e h =
       long = h .long;
       few = h .few;
       small = h .small;
-      is = append-nil (numbersOf o) ∙ ap (λ (vs : List ℕ). numbersOf o ++ vs) (sym (unbound-bound l v e));
+      is = sym (append-nil (numbersOf o)) ∙ ap (λ (vs : List ℕ). numbersOf o ++ vs) (sym (unbound-bound l v e));
     }
 
 one-most : (t : Bool) (v : ℕ) → length (cond t (v ∷ []) []) ≤ 1
@@ -135,7 +126,7 @@ unbound-one l v = one-most (eqb (getD l v 0) 0) v
 
 cons-by : (t : Bool) (v : ℕ) (s r : List ℕ) → s ++ cond t (v ∷ []) [] ++ r ≡ s ++ cond t (v ∷ r) r
 cons-by true v s r = append-snoc s v r
-cons-by false v s r = ap (λ (x : List ℕ). x ++ r) (sym (append-nil s))
+cons-by false v s r = ap (λ (x : List ℕ). x ++ r) (append-nil s)
 
 unbound-cons : (l : List ℕ) (v : ℕ) (s vs : List ℕ) → s ++ unbound l (v ∷ []) ++ unbound l vs ≡ s ++ unbound l (v ∷ vs)
 unfolding unbound
@@ -172,7 +163,7 @@ module _ (b : List ℕ) (x n : ℕ) (l : List ℕ) (out : Numbers) (y m : ℕ) (
             ap (λ (vs : List ℕ). vs ++ unbound l rest) (h .is)
             ∙ unbound-cons l v (numbersOf out) rest
             ∙ ap (λ (k : ℕ). numbersOf out ++ unbound l (k ∷ rest)) e
-            ∙ ap (λ (vs : List ℕ). numbersOf out ++ unbound l vs) (sym (numbers-first b y m some))
+            ∙ ap (λ (vs : List ℕ). numbersOf out ++ unbound l vs) (sym (numbers-more b y m some))
             ∙ i .whole;
       }
 
@@ -184,6 +175,6 @@ names-end b x n l out y m i h =
       few = i .has .few;
       small = i .has .small;
       is =
-          append-nil (numbersOf out)
+          sym (append-nil (numbersOf out))
           ∙ ap (λ (vs : List ℕ). numbersOf out ++ unbound l vs) (sym (numbers-none b y m h)) ∙ i .whole;
     }

@@ -2,7 +2,7 @@
 -- left; and a whole sort after its parts.
 use Prim.Native.Nat.{ℕ, zero, suc, _+_, _*_, _≤_, _<_}
 use mathlib.Core.Path.{_≡_, refl, sym, ap, ap₂, subst, _∙_}
-use mathlib.Core.Bool.{Bool, true, false, not, true≢false, false≢true}
+use mathlib.Core.Bool.{true, false, true≢false, false≢true}
 use mathlib.Core.List.{List, [], _∷_}
 use native.Mathlib.Omega.{arith}
 use native.Mathlib.Numerals.{add-one}
@@ -13,7 +13,7 @@ use Rattle.record.specs.Sort.{Sort, Sorts, count, size, sizes, kindOf, partsOf}
 use Rattle.record.specs.Record.{Fields, leaf, sortsOf}
 use Rattle.record.specs.Store.{memb, intern, internAll, indexOf, indicesOf, room}
 use Rattle.record.specs.Decode.{Below, storeOf, sortAt}
-use Rattle.record.specs.SortLists.{below-suc, membAll, memb-starts, index-starts, memb-intern-all, Starts, starts-self, starts-trans, starts-at, starts-count, starts-intern-all}
+use Rattle.record.specs.SortLists.{below-suc, membAll, memb-starts, index-starts, memb-intern-all, Starts, starts-self, starts-trans, starts-at, starts-count, starts-intern-all, room-starts}
 use Rattle.record.specs.StoreLaws.{storeOf-length}
 use Rattle.record.specs.Entries.{store-ordered}
 use Rattle.record.specs.Whole.{store-once}
@@ -26,15 +26,11 @@ use Rattle.apply.specs.declared.lists.Numbers.{Numbers}
 use Rattle.apply.specs.declared.Parts.{Parts}
 use Rattle.apply.specs.Lists.{numbersOf, unbound, Has, ReadAsks}
 use Rattle.apply.specs.Images.{imageNumber, imagesOf, Table, table-starts, images-same}
-use Rattle.apply.specs.Made.{Made, made-starts, made-there, made-known, made-known-sort, room-starts, kept-self, kept-trans, grown-count, grown-used}
+use Rattle.apply.specs.Made.{Made, made-starts, made-there, made-known, made-known-sort, kept-self, kept-trans, grown-count, grown-used}
 use Rattle.apply.specs.Halted.{Halted, made-over, halted-over}
 use Rattle.apply.specs.Contract.{answerAt, answersAt, SortAsks, PartsAsk, PartsMade, PartsAre, RebuildAsks}
 use Rattle.apply.proofs.ListLaws.{has-length, has-own, set-small}
 use Rattle.apply.proofs.SortForms.{rebuilt, image-is, image-known, answer-rebuilt, parts-one, intern-rebuilt, starts-rebuilt, sizes-within, size-refs}
-
-pub not-false : (t : Bool) → not t ≡ false → t ≡ true
-not-false true e = refl
-not-false false e = sym e
 
 -- One of several sorts is no larger than all, and its answer no larger than all answers.
 size-one-of : (st : List Sort) (vs : List ℕ) (j : ℕ) → j < length vs → size (getD st (getD vs j 0) leaf) ≤ sizes (sortsOf st vs)

@@ -20,6 +20,7 @@ use Rattle.record.specs.declared.SortRecord.{SortRecord}
 use Rattle.store.specs.Entry.{EntryIs}
 use Rattle.store.specs.declared.Interned.{Interned}
 use Rattle.substitution.specs.Substitution.{applyAll}
+use Rattle.substitution.specs.SubstitutionLaws.{count-applied}
 use Rattle.apply.specs.declared.lists.Numbers.{Numbers}
 use Rattle.apply.specs.Lists.{numbersOf, unbound, Has}
 use Rattle.apply.specs.Draft.{fieldsIn}
@@ -27,7 +28,7 @@ use Rattle.apply.specs.Images.{imagesOf, unbound-left}
 use Rattle.apply.specs.Made.{Made, MadeIs, MakeAsks, kept-self}
 use Rattle.apply.specs.Contract.{goes, answerAt, RebuildAsks}
 use Rattle.apply.proofs.ListLaws.{has-length, has-own}
-use Rattle.apply.proofs.SortForms.{headOf, rebuilt, rebuilt-gone, rebuilt-sort, one-part, goes-par, goes-some, sorts-back, indices-below, shape-left, entry-shape, answer-rebuilt, parts-one, count-applied}
+use Rattle.apply.proofs.SortForms.{headOf, rebuilt, rebuilt-gone, rebuilt-sort, one-part, goes-par, goes-some, sorts-back, indices-below, shape-left, entry-shape, answer-rebuilt, parts-one}
 
 -- The one part's number, where the list of numbers is that of one sort.
 head-there : (ps : Sorts) (st : List Sort) → ps ≡ headOf ps then end → membAll ps st ≡ true → memb (headOf ps) st ≡ true

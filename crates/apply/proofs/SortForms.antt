@@ -15,7 +15,7 @@ use Rattle.record.specs.Sort.{Sort, Sorts, var, par, node, end, _then_, count, 
 use Rattle.record.specs.Record.{Fields, leaf, sortsOf, sortOf}
 use Rattle.record.specs.Store.{memb, intern, internAll, indicesOf}
 use Rattle.record.specs.Decode.{fields, Shape, storeOf, sortAt, Stored}
-use Rattle.record.specs.Cases.{and-left, and-right, clash, not-true}
+use Rattle.record.specs.Cases.{and-left, and-right, clash, not-true, positive}
 use Rattle.record.specs.Forms.{Which, isVar, isPar, isNode, which, sort-var, sort-par, sort-other, par-one, one-element}
 use Rattle.record.specs.SortLists.{membAll, Ordered, Starts, index-found, memb-intern, starts-intern, ordered-intern, intern-known}
 use Rattle.record.specs.StoreLaws.{sort-node}
@@ -23,7 +23,7 @@ use Rattle.record.specs.Sizes.{count-sorts}
 use Rattle.record.specs.declared.SortRecord.{SortRecord}
 use Rattle.store.specs.Entry.{EntryIs}
 use Rattle.substitution.specs.Substitution.{Map, find, bound, left, under, apply, applyAll}
-use Rattle.substitution.specs.SubstitutionLaws.{apply-var, apply-var-free, left-member}
+use Rattle.substitution.specs.SubstitutionLaws.{apply-var, apply-var-free, left-member, count-applied, left-few}
 use Rattle.apply.specs.Lists.{unbound}
 use Rattle.apply.specs.Images.{imageAt, imageNumber, imagesOf, Table, find-images, unbound-left}
 use Rattle.apply.specs.Made.{intern-first}
@@ -36,11 +36,6 @@ headOf (s then ss) = s
 -- A sort that is no variable, from the names left and the parts replaced.
 unfoldable pub rebuilt : ℕ → ℕ → ℕ → List ℕ → Sorts → Sort
 rebuilt k a w ns ps = cond (eqb k 12) (under ns (headOf ps)) (node k a w ps)
-
-pub count-applied : (θ : Map) (ss : Sorts) → count (applyAll θ ss) ≡ count ss
-unfolding applyAll count
-count-applied θ end = refl
-count-applied θ (s then ss) = ap suc (count-applied θ ss)
 
 -- The three laws of `goes`.
 pub goes-par : (k m : ℕ) → goes k m ≡ true → (k ≡ 12) × (m ≡ 0)
@@ -161,16 +156,7 @@ indices-below end st m j h = absurd (omega arith)
 indices-below (s then ss) st m zero h = index-found st s (and-left (memb s st) (membAll ss st) m) .0
 indices-below (s then ss) st m (suc j) h = indices-below ss st (and-right (memb s st) (membAll ss st) m) j (omega arith)
 
--- The names left are distinct, and no more.
-few-by : (t : Bool) (n : ℕ) (r ns : List ℕ) → length r ≤ length ns → length (cond t r (n ∷ r)) ≤ suc (length ns)
-few-by true n r ns h = omega arith
-few-by false n r ns h = omega arith
-
-left-few : (m : Map) (ns : List ℕ) → length (left m ns) ≤ length ns
-unfolding left
-left-few m [] = omega arith
-left-few m (n ∷ ns) = few-by (bound m n) n (left m ns) ns (left-few m ns)
-
+-- The names left are distinct.
 distinct-by : (t : Bool) (n : ℕ) (r : List ℕ) → member n r ≡ false → distinct r ≡ true → distinct (cond t r (n ∷ r)) ≡ true
 unfolding distinct
 distinct-by true n r a d = d
@@ -203,7 +189,7 @@ shape-left f s m rs ns e q filled =
       number = s .number;
       least = omega (arith, s .least, e);
       most = omega (arith, s .most, e);
-      some = λ k. pos (length ns) (filled k);
+      some = λ k. positive (length ns) (filled k);
       few = omega (arith, ap length q, left-few m (f .names), s .few);
       once = ap distinct q ∙ left-distinct m (f .names) (s .once);
     }
@@ -211,10 +197,6 @@ shape-left f s m rs ns e q filled =
     bare : (l : List ℕ) → length l ≡ 0 → l ≡ []
     bare [] z = refl
     bare (a ∷ l) z = absurd (omega arith)
-
-    pos : (n : ℕ) → (n ≡ 0 → ⊥) → 1 ≤ n
-    pos zero d = absurd (d refl)
-    pos (suc n) d = omega arith
 
 head-one : (x : Sort) → headOf (x then end) ≡ x
 unfolding headOf
@@ -315,10 +297,6 @@ goes-not k m e = rw (ne-eqb k 12 e)
 pub number-none : (v k : ℕ) → v ≡ 0 → k ≡ imageNumber v k
 number-none zero k e = refl
 number-none (suc j) k e = absurd (omega arith)
-
-pub number-pos : (v : ℕ) → (v ≡ 0 → ⊥) → 1 ≤ v
-number-pos zero d = absurd (d refl)
-number-pos (suc j) d = omega arith
 
 pub number-some : (v k : ℕ) → (v ≡ 0 → ⊥) → v - 1 ≡ imageNumber v k
 number-some zero k d = absurd (d refl)

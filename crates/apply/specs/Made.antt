@@ -2,18 +2,15 @@
 -- promises, and how answers of several new sorts are put together.
 use Prim.Native.Nat.{ℕ, _≤_, _<_}
 use mathlib.Core.Path.{_≡_, refl, sym, ap, ap₂, subst, _∙_}
-use mathlib.Core.Bool.{true, false, _&&_}
+use mathlib.Core.Bool.{true, false}
 use mathlib.Core.List.{List}
 use native.Mathlib.Omega.{arith}
 use lib.ListN.{length, getD, take}
 use lib.Seq.{take-at}
-use lib.Dec.{leb}
-use borrow.Author.Tests.{le-leb, leb-true}
 use Rattle.record.specs.Sort.{Sort, var, par, node, size, partsOf}
 use Rattle.record.specs.Record.{Fields, leaf, sortOf}
-use Rattle.record.specs.Store.{memb, addOnce, intern, internAll, indexOf, bytesOf, room}
+use Rattle.record.specs.Store.{memb, addOnce, intern, internAll, indexOf, room}
 use Rattle.record.specs.Decode.{Shape, Below, storeOf, sortAt}
-use Rattle.record.specs.Cases.{and-left, and-right, not-true-false, clash}
 use Rattle.record.specs.SortLists.{index-found, Starts, starts-count, starts-bytes, starts-intern, memb-intern, intern-known, memb-at, index-at, Ordered, ordered-intern, ordered-intern-all, memb-intern-all, intern-all-known}
 use Rattle.record.specs.StoreLaws.{storeOf-length}
 use Rattle.record.specs.Entries.{store-ordered}
@@ -46,22 +43,6 @@ pub record MakeAsks (b p hs ns zs : List ℕ) (n u : ℕ) (f : Fields) (ps ms : 
   pub shape : Shape f
   pub below : Below f n
   pub small : size (sortOf (storeOf b p n) f) ≤ 4096
-
--- A longer store has no room where the shorter one has none.
-pub room-starts : (x y : ℕ) (st st′ : List Sort) → Starts st st′ → room x y st ≡ false → room x y st′ ≡ false
-unfolding room
-room-starts x y st st′ g e =
-    not-true-false (room x y st′)
-    (λ t.
-    let r = and-right (leb (bytesOf st′) x) (leb (length st′) y && leb (length st′) 4096) t in
-    let hb = leb-true (bytesOf st′) x (and-left (leb (bytesOf st′) x) (leb (length st′) y && leb (length st′) 4096) t) in
-    let hp = leb-true (length st′) y (and-left (leb (length st′) y) (leb (length st′) 4096) r) in
-    let hc = leb-true (length st′) 4096 (and-right (leb (length st′) y) (leb (length st′) 4096) r) in
-    let lb = starts-bytes st st′ g in
-    let lc = starts-count st st′ g in
-    clash
-    (ap₂ _&&_ (le-leb (bytesOf st) x (omega arith)) (ap₂ _&&_ (le-leb (length st) y (omega arith)) (le-leb (length st) 4096 (omega arith))))
-    e)
 
 -- What a made sort's store tells: it starts with the store before, has room, and has the sort under its number.
 module _ (b p : List ℕ) (n u : ℕ) (s : Sort) (b′ p′ hs′ ns′ zs′ : List ℕ) (i n′ u′ : ℕ) (m : Made b p n u s b′ p′ hs′ ns′ zs′ i n′ u′) where

@@ -20,9 +20,9 @@ use Rattle.substitution.specs.MatchingLaws.{MatchingAll, matchingAll}
 use Rattle.rows.specs.declared.Cause.the-variants.{Count, Misfit, Unassigned}
 use Rattle.rows.specs.Verdict.{sort, refused}
 use Rattle.rows.specs.Lists.{firsts, others}
+use Rattle.rows.specs.OutcomeLaws.{refused-sort, sort-inj}
 use Rattle.checked.specs.Fits.{Assigned, rest, Fixed, Applies, Unfixed, oneOf}
 use Rattle.checked.specs.Checked.{carried, values, listOf, settled, settledAll, called, application}
-use Rattle.checked.specs.Kept.{refused-sort, sort-inj}
 use Rattle.checked.specs.StepsKept.{others-proper, remaining-proper}
 use Rattle.checked.specs.FitLaws.{apply-like, sort-refused, other-cause}
 

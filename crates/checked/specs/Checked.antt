@@ -1,17 +1,15 @@
 -- The checked sort of one record (document 01, "Checked"), with its causes in the order 20, 24, 28, 25, 26, 27. The ranks are a
 -- parameter R; document 01's are `smtLib`.
-use Prim.Native.Nat.{ℕ, zero, suc, _+_, _*_, _-_}
+use Prim.Native.Nat.{ℕ, suc, _+_, _*_, _-_}
 use mathlib.Core.Bool.{Bool, true, false, not, cond, _&&_, _||_}
 use mathlib.Core.List.{List, [], _∷_}
 use mathlib.Core.Option.{Option, none, some}
 use lib.Dec.{eqb, leb, ltb}
 use Rattle.record.specs.Names.{member}
 use Rattle.record.specs.Sort.{Sort, Sorts, var, par, node, end, _then_, function, bool, int, real, string, reglan, array, bitvec, numberIn, count, same}
-use Rattle.sheet.specs.Sheet.{Binding}
 use Rattle.substitution.specs.Substitution.{Map, empty, find, bound, apply}
 use Rattle.substitution.specs.Matching.{matchesAll}
 use Rattle.substitution.specs.Premises.{proper, properAll}
-use Rattle.rows.specs.declared.Cause.{Cause}
 use Rattle.rows.specs.declared.Cause.the-variants.{NoRank, Count, Misfit, Unassigned, Barred}
 use Rattle.rows.specs.Verdict.{Verdict, sort, refused, need, orElse}
 use Rattle.rows.specs.Lists.{firsts, others, remaining, lastOf, joined, bindingSorts}

@@ -1,16 +1,16 @@
 -- What one step of the checked verdict keeps between the two routes, and the laws that follow the shape of its definition: one
 -- for each `need`, one for each `cond`, one for a result.
-use Prim.Native.Nat.{suc}
-use mathlib.Core.Path.{_≡_, refl, ap}
-use mathlib.Core.Bool.{Bool, true, false, cond, _&&_, false≢true, true≢false}
-use Rattle.record.specs.Sort.{Sort, Sorts, var, par, node, end, _then_, count}
+use mathlib.Core.Path.{_≡_, refl}
+use mathlib.Core.Bool.{Bool, true, false, cond, _&&_, false≢true}
+use Rattle.record.specs.Sort.{Sort, Sorts, var, par, node, end, _then_}
 use Rattle.record.specs.Cases.{conj, and-true}
 use Rattle.substitution.specs.Substitution.{Map, apply, applyAll}
 use Rattle.substitution.specs.SubstitutionLaws.{applyAll-proper, proper-clear}
-use Rattle.substitution.specs.Premises.{clear, clearAll, proper, properAll, properMap}
+use Rattle.substitution.specs.Premises.{clear, proper, properAll, properMap}
 use Rattle.rows.specs.declared.Cause.{Cause}
-use Rattle.rows.specs.Verdict.{Verdict, sort, refused, need}
+use Rattle.rows.specs.Verdict.{Verdict, sort, need}
 use Rattle.rows.specs.Lists.{lastOf}
+use Rattle.rows.specs.OutcomeLaws.{refused-sort, sort-inj}
 use Rattle.checked.specs.Checked.{carried, value, values}
 
 ---------------------------------------------------------------- what a step keeps
@@ -19,13 +19,6 @@ pub record Kept (σ : Map) (s : Sort) (v : Verdict) : Type 0 where
   pub moved : v ≡ sort (apply σ s)
   pub carries : carried s ≡ true
   pub clears : clear σ s ≡ true
-
--- A refusal is no sort.
-pub refused-sort : {C : Type 0} {n : Cause} {s : Sort} → refused n ≡ sort s → C
-refused-sort {C} {n} {s} e = let z : true ≡ false = cc in absurd (true≢false z)
-
-pub sort-inj : {r s : Sort} → sort r ≡ sort s → r ≡ s
-sort-inj {r} {s} e = cc
 
 -- A test that holds on one route holds on the other.
 pub need-kept : (σ : Map) (s : Sort) (b b′ : Bool) (n : Cause) (v v′ : Verdict) → (b ≡ true → b′ ≡ true) → (b ≡ true → v ≡ sort s → Kept σ s v′)
@@ -85,11 +78,6 @@ proper-values (s then ss) e =
 -- Values stay values, counts stay, and the last of a list is the replaced last.
 pub values-moved : (σ : Map) (ss : Sorts) → properMap σ ≡ true → carriedAll ss ≡ true → values ss ≡ true → values (applyAll σ ss) ≡ true
 values-moved σ ss e c h = proper-values (applyAll σ ss) (applyAll-proper σ ss e (carried-values ss c h))
-
-pub count-moved : (σ : Map) (ss : Sorts) → count (applyAll σ ss) ≡ count ss
-unfolding count apply
-count-moved σ end = refl
-count-moved σ (s then ss) = ap suc (count-moved σ ss)
 
 pub lastOf-moved : (σ : Map) (s : Sort) (ss : Sorts) → lastOf (apply σ s) (applyAll σ ss) ≡ apply σ (lastOf s ss)
 unfolding lastOf apply

@@ -1,9 +1,9 @@
 -- Ranks: what arguments an operator takes and what sort it then has; when a rank fits.
-use Prim.Native.Nat.{ℕ, zero, suc}
+use Prim.Native.Nat.{ℕ}
 use mathlib.Core.Bool.{Bool, true, false, cond, _&&_, _||_}
 use mathlib.Core.List.{List, [], _∷_}
 use mathlib.Core.Option.{Option, none, some}
-use Rattle.record.specs.Sort.{Sort, Sorts, var, par, node, end, _then_, bitvec, numberIn, same}
+use Rattle.record.specs.Sort.{Sort, Sorts, end, _then_, bitvec, numberIn, same}
 use Rattle.substitution.specs.Substitution.{Map, empty, bind, apply}
 use Rattle.substitution.specs.Matching.{matchesAll}
 

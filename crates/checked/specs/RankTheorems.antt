@@ -12,6 +12,7 @@ use Rattle.record.specs.Sort.{Sort, Sorts, end, _then_, bitvec, numberIn, count
 use Rattle.record.specs.Cases.{and-left, and-right, eqb-self, byTest, byOption, none-some, some-inj, clash}
 use Rattle.rows.specs.declared.Cause.the-variants.{NoRank, Count, Misfit}
 use Rattle.rows.specs.Verdict.{sort, refused}
+use Rattle.rows.specs.OutcomeLaws.{refused-sort, sort-inj}
 use Rattle.checked.specs.Rank.{Rank, rank, repeated, stretched, sameCount, counts, vector, firstFit, someCounts}
 use Rattle.checked.specs.Ranks.{smtLib}
 use Rattle.checked.specs.RankLaws.{vector-is}
@@ -19,7 +20,6 @@ use Rattle.checked.specs.RankSound.{Sound, smtLib-sound}
 use Rattle.checked.specs.Fits.{Fits, rankAt, SomeFits}
 use Rattle.checked.specs.FitLaws.{sound-well, fits-fit, fit-counts, firstFit-when, someCounts-when, firstFit-some, some-fit, some-firstFit, sort-refused, other-cause, ranked-unranked, ranked-miscounted, ranked-par, ranked-values, byRanked, operated-ranked}
 use Rattle.checked.specs.Checked.{values, concatenation, nonempty, operated}
-use Rattle.checked.specs.Kept.{refused-sort, sort-inj}
 
 ---------------------------------------------------------------- accepted exactly when some rank fits
 -- AN OPERATOR TERM IS ACCEPTED with the sort s exactly when no argument is a Par and some rank of the operator fits the

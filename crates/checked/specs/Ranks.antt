@@ -2,7 +2,7 @@
 -- number of the operator in enum Operator. Where editions differ, document 01's lines under "The rows" decide. 90 BvConcat has
 -- a rule of its own (Checked); 24 to 41, 54, 78 and 110 to 134 have no rank.
 use Prim.Native.Nat.{ℕ}
-use mathlib.Core.Bool.{Bool, true, false, cond, _&&_}
+use mathlib.Core.Bool.{true, false, cond, _&&_}
 use mathlib.Core.List.{List, [], _∷_}
 use lib.Dec.{leb}
 use Rattle.record.specs.Sort.{Sort, Sorts, var, end, _then_, bool, int, real, string, reglan, array, bitvec}

@@ -16,12 +16,13 @@ use Rattle.rows.specs.declared.Cause.the-variants.{Barred}
 use Rattle.rows.specs.Verdict.{Verdict, sort, refused}
 use Rattle.rows.specs.Lists.{bindingSorts}
 use Rattle.rows.specs.Term.{Site, overParts, Term, Terms, term, stop, _also_, constantOf, constantsOf, besides, verdictOf, verdictsOf}
+use Rattle.rows.specs.OutcomeLaws.{refused-sort, sort-inj}
 use Rattle.checked.specs.Rank.{Rank}
 use Rattle.checked.specs.Ranks.{smtLib}
 use Rattle.checked.specs.RankSound.{Sound, smtLib-sound}
 use Rattle.checked.specs.Checked.{carried, checked, check}
 use Rattle.checked.specs.Routes.{replaceBindings, replace, replaceAll, clearBindings, clearTerm, clearTerms}
-use Rattle.checked.specs.Kept.{Kept, refused-sort, sort-inj, need-kept, cond-kept, kept, carriedAll, proper-carried}
+use Rattle.checked.specs.Kept.{Kept, need-kept, cond-kept, kept, carriedAll, proper-carried}
 use Rattle.checked.specs.StepsKept.{application-kept, operated-kept, binder-kept, letting-kept, indexing-kept, qualified-kept}
 
 ---------------------------------------------------------------- one record

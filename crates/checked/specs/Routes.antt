@@ -1,6 +1,5 @@
 -- The two routes (document 01): replacing the sort variables of a term, and when that is asked for.
-use Prim.Native.Nat.{ℕ}
-use mathlib.Core.Bool.{Bool, true, false, _&&_}
+use mathlib.Core.Bool.{Bool, true, _&&_}
 use mathlib.Core.List.{List, [], _∷_}
 use Rattle.sheet.specs.Sheet.{Binding}
 use Rattle.substitution.specs.Substitution.{Map, apply}

@@ -12,7 +12,7 @@ use lib.Dec.{eqb, leb, ltb}
 use borrow.Author.Tests.{eqb-true, eqb-false, ne-eqb, leb-true, ltb-true, lt-ltb}
 use Rattle.record.specs.Sort.{Sort, Sorts, var, par, node, end, _then_, function, bool, int, reglan, array, bitvec, numberIn, count, same}
 use Rattle.record.specs.SortLaws.{same-sound, same-complete, same-refl}
-use Rattle.record.specs.Cases.{and-left, and-right, conj, and-true, not-true, byTest, some-inj}
+use Rattle.record.specs.Cases.{and-left, and-right, conj, and-true, not-true, byTest, some-inj, positive}
 use Rattle.substitution.specs.Substitution.{empty}
 use Rattle.substitution.specs.Premises.{untouched, clear, clearAll, proper, properAll, properMap}
 use Rattle.sheet.specs.Sheet.{Binding}
@@ -21,13 +21,14 @@ use Rattle.rows.specs.declared.Cause.the-variants.{NoRank, Count, Misfit, Barre
 use Rattle.rows.specs.Verdict.{Verdict, sort, need}
 use Rattle.rows.specs.Lists.{lastOf, joined, bindingSorts}
 use Rattle.rows.specs.Term.{Site, Term, Terms, term, stop, _also_, constantsOf, verdictOf, verdictsOf}
+use Rattle.rows.specs.OutcomeLaws.{refused-sort, sort-inj}
 use Rattle.checked.specs.Rank.{Rank, vector}
 use Rattle.checked.specs.RankLaws.{vector-is}
 use Rattle.checked.specs.RankSound.{Sound, smtLib-sound}
 use Rattle.checked.specs.Ranks.{smtLib}
 use Rattle.checked.specs.Checked.{carried, value, values, called, application, operated, onlyOf, boundBody, binder, letting, resized, indexed₁, indexed₂, indexedOn, indexing, constantArray, qualified, checked, check}
 use Rattle.checked.specs.Routes.{clearBindings, clearTerm, clearTerms}
-use Rattle.checked.specs.Kept.{refused-sort, sort-inj, carriedAll}
+use Rattle.checked.specs.Kept.{carriedAll}
 use Rattle.checked.specs.RouteLaws.{verdicts-kept, parts, besides-parts}
 use Rattle.checked.specs.Fits.{oneOf}
 use Rattle.checked.specs.RankTheorems.{accepted, concat-accepted}
@@ -266,9 +267,6 @@ rule-only R S z s c h =
     let (i, e, a, b, d) = const-only (z .own) (z .args) s k in
     byConst i e (eqb-true (z .kind) 12 q) (eqb-true (z .number) 0 x) a y b d)
     (λ q12. refused-sort (rw (q0, q1, q2, q3, q4, q5, q6, q7, q8, q9, q11, q12) at h)))))))))))))
-  where
-    positive : (n : ℕ) → (n ≡ 0 → ⊥) → 0 < n
-    positive n d = omega (arith, d)
 
 pub rule-when : (R : ℕ → List Rank) → ((n : ℕ) → Sound (R n)) → (z : Site) (s : Sort) → carriedAll (z .args) ≡ true → Rule R z s → checked R z ≡ sort s
 unfolding checked qualified

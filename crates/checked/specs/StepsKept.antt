@@ -14,7 +14,7 @@ use Rattle.record.specs.Sort.{Sort, Sorts, var, par, node, end, _then_, functio
 use Rattle.record.specs.SortLaws.{same-sound, same-complete}
 use Rattle.record.specs.Cases.{and-left, and-right, conj, and-true, or-left, or-right, not-true, eqb-self, byTest, byOption, none-some}
 use Rattle.substitution.specs.Substitution.{Map, empty, find, bound, apply, applyAll, through, occurs, occursAny}
-use Rattle.substitution.specs.SubstitutionLaws.{image-untouched, image-proper, apply-proper, applyAll-proper, find-through, apply-apply, left-untouched}
+use Rattle.substitution.specs.SubstitutionLaws.{image-untouched, image-proper, apply-proper, applyAll-proper, find-through, apply-apply, left-untouched, count-applied}
 use Rattle.substitution.specs.Premises.{touches, untouched, clear, clearAll, proper, properAll, properMap}
 use Rattle.substitution.specs.Matching.{matchesAll}
 use Rattle.substitution.specs.MatchingLaws.{matchAll-within, matchAll-moved, matchAll-proper}
@@ -22,11 +22,12 @@ use Rattle.rows.specs.declared.Cause.{Cause}
 use Rattle.rows.specs.declared.Cause.the-variants.{NoRank, Count, Misfit, Unassigned, Barred}
 use Rattle.rows.specs.Verdict.{Verdict, sort, need}
 use Rattle.rows.specs.Lists.{firsts, others, remaining, lastOf, joined}
+use Rattle.rows.specs.OutcomeLaws.{refused-sort}
 use Rattle.checked.specs.Rank.{Rank, vector, firstFit, someCounts}
 use Rattle.checked.specs.RankLaws.{someCounts-moved, vector-is, vector-still}
 use Rattle.checked.specs.RankSound.{Sound, firstFit-moved, firstFit-proper}
 use Rattle.checked.specs.Checked.{carried, value, values, settled, settledAll, called, application, concatenation, nonempty, ranked, operated, onlyOf, boundBody, binder, innerOf, letting, resized, indexed₁, indexed₂, indexedBy, indexedOn, indexing, constantArray, qualified}
-use Rattle.checked.specs.Kept.{Kept, refused-sort, need-kept, cond-kept, kept, carriedAll, carried-value, carried-values, proper-value, values-moved, count-moved, lastOf-moved, lastOf-proper}
+use Rattle.checked.specs.Kept.{Kept, need-kept, cond-kept, kept, carriedAll, carried-value, carried-values, proper-value, values-moved, lastOf-moved, lastOf-proper}
 
 ---------------------------------------------------------------- operators
 -- Ranks: the counts stay, values stay values, and the rank that fits is the one that fits.
@@ -170,7 +171,7 @@ pub called-kept : (σ : Map) (listed : ℕ → Bool) (ss ts : Sorts) (s : Sort) 
 unfolding called through properMap
 called-kept σ listed ss ts s e d p c =
     need-kept σ s (ltb (count ts) (count ss)) (ltb (count (applyAll σ ts)) (count (applyAll σ ss))) Count _ _
-    (λ q. rw (count-moved σ ts, count-moved σ ss) q)
+    (λ q. rw (count-applied σ ts, count-applied σ ss) q)
     (λ q. need-kept σ s (values ts) (values (applyAll σ ts)) Misfit _ _ (values-moved σ ts e c) (λ v h.
     let r = remaining (others ss ts) in
     let pr = remaining-proper (others ss ts) (others-proper ss ts p) in
@@ -262,14 +263,14 @@ boundBody-kept σ n bs (b then (d then ds)) s e p c h = refused-sort h
 boundBody-kept σ n bs (b then end) s e p c h =
     let cb = and-left (carried b) true c in
     cond-kept σ s (eqb n 3) _ _ _ _
-    (need-kept σ s (ltb 0 (count bs)) (ltb 0 (count (applyAll σ bs))) Count _ _ (λ q. rw (count-moved σ bs) q) (λ q.
+    (need-kept σ s (ltb 0 (count bs)) (ltb 0 (count (applyAll σ bs))) Count _ _ (λ q. rw (count-applied σ bs) q) (λ q.
     need-kept σ s (value b) (value (apply σ b)) Misfit _ _ (λ v. proper-value (apply σ b) (apply-proper σ b e (carried-value b cb v)))
     (λ v. kept σ (function (joined bs b)) s _ (joined-proper bs b p (carried-value b cb v)) (ap sort (ap function (joined-moved σ bs b))))))
     (cond-kept σ s (eqb n 2) _ _ _ _
-    (need-kept σ s (eqb (count bs) 1) (eqb (count (applyAll σ bs)) 1) Count _ _ (λ q. rw (count-moved σ bs) q) (λ q.
+    (need-kept σ s (eqb (count bs) 1) (eqb (count (applyAll σ bs)) 1) Count _ _ (λ q. rw (count-applied σ bs) q) (λ q.
     need-kept σ s (same b bool) (same (apply σ b) bool) Misfit _ _ (same-moved σ b bool refl)
     (λ v. kept σ (onlyOf bs) s _ (only-proper bs p) (ap sort (only-moved σ bs)))))
-    (need-kept σ s (ltb 0 (count bs)) (ltb 0 (count (applyAll σ bs))) Count _ _ (λ q. rw (count-moved σ bs) q) (λ q.
+    (need-kept σ s (ltb 0 (count bs)) (ltb 0 (count (applyAll σ bs))) Count _ _ (λ q. rw (count-applied σ bs) q) (λ q.
     need-kept σ s (same b bool) (same (apply σ b) bool) Misfit _ _ (same-moved σ b bool refl)
     (λ v. kept σ bool s _ refl refl))))
     h
@@ -291,7 +292,7 @@ pub letting-kept : (σ : Map) (ts : Sorts) (s : Sort) → properMap σ ≡ true 
     → letting ts ≡ sort s → Kept σ s (letting (applyAll σ ts))
 unfolding letting
 letting-kept σ ts s e c =
-    need-kept σ s (ltb 1 (count ts)) (ltb 1 (count (applyAll σ ts))) Count _ _ (λ q. rw (count-moved σ ts) q) (λ q.
+    need-kept σ s (ltb 1 (count ts)) (ltb 1 (count (applyAll σ ts))) Count _ _ (λ q. rw (count-applied σ ts) q) (λ q.
     need-kept σ s (values ts) (values (applyAll σ ts)) Misfit _ _ (values-moved σ ts e c)
     (λ v. inner-kept σ ts s (carried-values ts c v)))
 

@@ -16,11 +16,11 @@ use Rattle.record.specs.Cases.{and-left, and-right, eqb-self, byTest}
 use Rattle.substitution.specs.Substitution.{empty, bind, apply, applyAll, occurs}
 use Rattle.rows.specs.declared.Cause.the-variants.{Count, Misfit}
 use Rattle.rows.specs.Verdict.{sort, refused, need}
+use Rattle.rows.specs.OutcomeLaws.{refused-sort, sort-inj}
 use Rattle.checked.specs.Rank.{Rank, rank, repeated, stretched}
 use Rattle.checked.specs.Ranks.{x, one, two, smtLib}
 use Rattle.checked.specs.Fits.{rankAt}
 use Rattle.checked.specs.Checked.{values, ranked, operated, indexing}
-use Rattle.checked.specs.Kept.{refused-sort, sort-inj}
 use Rattle.checked.specs.FitLaws.{sort-refused, operated-ranked}
 use Rattle.checked.specs.RankTheorems.{accepted-smtLib, concat-accepted}
 

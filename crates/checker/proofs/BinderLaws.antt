@@ -1,5 +1,5 @@
 -- The verdicts on Binders, by what was read of the pairs and of the body.
-use Prim.Native.Nat.{ℕ, zero, suc, _+_, _*_, _-_, _≤_, _<_}
+use Prim.Native.Nat.{ℕ, zero, suc, _+_, _*_, _≤_, _<_}
 use mathlib.Core.Path.{_≡_, refl, sym, ap, ap₂, subst, _∙_}
 use mathlib.Core.Bool.{Bool, true, false, cond, _&&_}
 use mathlib.Core.List.{List}
@@ -26,8 +26,9 @@ use Rattle.rows.specs.Verdict.{sort, refused, need}
 use Rattle.rows.specs.Lists.{joined}
 use Rattle.checked.specs.Checked.{value, onlyOf, boundBody, binder}
 use Rattle.answers.specs.Arguments.{looked, boundNumbers, bindingAt, LambdaAsks}
+use Rattle.answers.specs.Values.{value-kind, stored-value}
 use Rattle.checking.specs.Contract.{argsOf}
-use Rattle.checking.specs.KindLaws.{kind-same, value-kind, stored-value}
+use Rattle.checking.specs.KindLaws.{kind-same}
 use Rattle.checker.specs.Bound.{PairsAsk, BodyAsks, BinderAsks}
 
 ---------------------------------------------------------------- the pairs

@@ -8,18 +8,15 @@ use mathlib.Core.Option.{Option, none, some}
 use native.Mathlib.Omega.{arith}
 use native.Mathlib.Numerals.{add-one}
 use native.Mathlib.Nat.{mul-le-mul}
-use lib.ListN.{getD}
 use lib.Dec.{eqb, ltb}
 use borrow.Author.Tests.{eq-eqb, eqb-true, eqb-false, ne-eqb, le-leb, lt-leb, lt-ltb, le-ltb}
-use Rattle.record.specs.Number.{u16At, u32At, numbersAt}
+use Rattle.record.specs.Number.{u16At, numbersAt}
 use Rattle.record.specs.Sort.{Sort, Sorts, reglan, bitvec, kindOf, numberIn, same}
 use Rattle.record.specs.SortLaws.{same-sound, same-swap}
 use Rattle.record.specs.Record.{maps, mapOf, sortsOf}
 use Rattle.record.specs.Decode.{storeOf, sortAt}
-use Rattle.record.specs.Codec.{Bytes}
 use Rattle.record.specs.Cases.{both-ways}
 use Rattle.record.specs.declared.SortRecord.{SortRecord}
-use Rattle.reader.specs.Was.{u16-small}
 use Rattle.store.specs.Entry.{EntryAsks, EntryIs, EntryHas}
 use Rattle.store.specs.Walk.{entry-asks}
 use Rattle.rows.specs.declared.Cause.the-variants.{NoRank, Count, Misfit}
@@ -30,36 +27,16 @@ use Rattle.answers.specs.declared.arguments.Constant.{Constant}
 use Rattle.answers.specs.declared.arguments.Constant.the-variants.{Integer, Other}
 use Rattle.answers.specs.Answer.{AnswerIs, accepting, refusing}
 use Rattle.answers.specs.AnswerLaws.{judged-as, answer-known, answer-refused}
-use Rattle.answers.specs.Arguments.{integerOf, integerAt, constantsFrom, constantsIn, ConstantsAsk}
+use Rattle.answers.specs.Arguments.{integerOf, constantsFrom, constantsIn, IndexIs, indexAt}
 use Rattle.answers.specs.Asks.{KnownAsks}
 use Rattle.checking.specs.Rule.{plainSort}
 use Rattle.checking.specs.Contract.{argsOf}
 use Rattle.checking.specs.KindLaws.{kind-same, kind-vector, vector-not, vector-small}
 use Rattle.checker.specs.declared.indexed.Indices.{Indices}
 use Rattle.checker.specs.declared.indexed.Indices.the-variants.{One, Two, Wrong}
-use Rattle.checker.specs.Indexed.{IndexAsks, Small, IndexIs, indicesFrom, IndicesAre, keptAs, widenedVerdict, IndexedAsks, indexedWith, IndexingAsks}
+use Rattle.checker.specs.Indexed.{indicesFrom, IndicesAre, keptAs, widenedVerdict, IndexedAsks, indexedWith, IndexingAsks}
 
 ---------------------------------------------------------------- the indices
-small-by : (t : Bool) (v w : ℕ) → some v ≡ cond t (some w) none → w < 4294967296 → v < 4294967296
-small-by true v w e h = let q : v ≡ w = cc in omega arith
-small-by false v w e h = let z : _≡_ {A = ℕ} 0 1 = cc in absurd (omega arith)
-
-word-small : (s : List ℕ) → Bytes s → (x : ℕ) → u32At s x < 4294967296
-unfolding u32At
-word-small s bytes x = omega (arith, u16-small s bytes x, u16-small s bytes (x + 2))
-
-index-small : (s : List ℕ) → Bytes s → (x : ℕ) (r : Constant) → integerOf r ≡ integerAt s x → Small r
-index-small s bytes x (Integer v) e = small-by (eqb (getD s (x + 1) 0) 0) v (u32At s (x + 2)) e (word-small s bytes (x + 2))
-index-small s bytes x Other e = tt
-
-pub index-is : (s xs : List ℕ) (x : ℕ) → Bytes s → (k : ℕ) → k ≡ u16At s x → (r : Constant) → integerOf r ≡ integerAt s (getD xs k 0) → IndexIs s xs x r
-index-is s xs x bytes k e r h =
-    record { is = h ∙ ap (λ (i : ℕ). integerAt s (getD xs i 0)) e; small = index-small s bytes (getD xs k 0) r h }
-
--- The term that the sheet names at a place, by its number of an integer constant.
-abbrev constantAt : List ℕ → List ℕ → ℕ → Option ℕ
-constantAt s xs x = integerAt s (getD xs (u16At s x) 0)
-
 many-wrong : (a b c : Option ℕ) (is : List (Option ℕ)) → Wrong ≡ indicesFrom (a ∷ b ∷ c ∷ is)
 many-wrong none b c is = refl
 many-wrong (some i) none c is = refl
@@ -77,31 +54,21 @@ module _ (s xs : List ℕ) (x : ℕ) where
   many-is (suc zero) l = absurd (omega arith)
   many-is (suc (suc zero)) l = absurd (omega arith)
   many-is (suc (suc (suc m))) l =
-      many-wrong (constantAt s xs x) (constantAt s xs (x + 2)) (constantAt s xs (x + 2 + 2)) (constantsIn s xs (x + 2 + 2 + 2) m)
+      many-wrong (indexAt s xs x) (indexAt s xs (x + 2)) (indexAt s xs (x + 2 + 2)) (constantsIn s xs (x + 2 + 2 + 2) m)
 
-  first-is : (m : ℕ) → (m ≡ 0 → ⊥) → none ≡ constantAt s xs x → Wrong ≡ indicesFrom (constantsIn s xs x m)
+  first-is : (m : ℕ) → (m ≡ 0 → ⊥) → none ≡ indexAt s xs x → Wrong ≡ indicesFrom (constantsIn s xs x m)
   unfolding numbersAt constantsFrom
   first-is zero h e = absurd (h refl)
   first-is (suc m) h e = ap (λ (o : Option ℕ). indicesFrom (o ∷ constantsIn s xs (x + 2) m)) e
 
-  one-is : (m i : ℕ) → m ≡ 1 → some i ≡ constantAt s xs x → One i ≡ indicesFrom (constantsIn s xs x m)
+  one-is : (m i : ℕ) → m ≡ 1 → some i ≡ indexAt s xs x → One i ≡ indicesFrom (constantsIn s xs x m)
   unfolding numbersAt constantsFrom
   one-is m i h e = ap (λ (o : Option ℕ). indicesFrom (o ∷ [])) e ∙ ap (λ (j : ℕ). indicesFrom (constantsIn s xs x j)) (sym h)
 
-  two-are : (m : ℕ) (r : Indices) (o q : Option ℕ) → m ≡ 2 → o ≡ constantAt s xs x → q ≡ constantAt s xs (x + 2) → r ≡ indicesFrom (o ∷ q ∷ []) → r ≡ indicesFrom (constantsIn s xs x m)
+  two-are : (m : ℕ) (r : Indices) (o q : Option ℕ) → m ≡ 2 → o ≡ indexAt s xs x → q ≡ indexAt s xs (x + 2) → r ≡ indicesFrom (o ∷ q ∷ []) → r ≡ indicesFrom (constantsIn s xs x m)
   unfolding numbersAt constantsFrom
   two-are m r o q h e f g =
       g ∙ ap₂ (λ (i j : Option ℕ). indicesFrom (i ∷ j ∷ [])) e f ∙ ap (λ (j : ℕ). indicesFrom (constantsIn s xs x j)) (sym h)
-
-  module _ (m : ℕ) (f : ConstantsAsk s xs x m) where
-    pub first-asks : (m ≡ 0 → ⊥) → IndexAsks s xs x
-    first-asks h =
-        let e : x + 2 * 0 ≡ x = omega arith in
-        let l : 0 < m = omega (arith, h) in
-        subst (IndexAsks s xs) e (record { within = omega (arith, f .within); term = f .term 0 l; start = f .start 0 l })
-
-    pub second-asks : 1 < m → IndexAsks s xs (x + 2)
-    second-asks l = record { within = omega (arith, f .within); term = f .term 1 l; start = f .start 1 l }
 
   pub indices-zero : (m : ℕ) → m ≡ 0 → IndicesAre s xs x m Wrong
   indices-zero m e = record { are = zero-is m e; small = tt }
@@ -115,7 +82,7 @@ module _ (s xs : List ℕ) (x : ℕ) where
 
     module _ (i : ℕ) (e : r ≡ Integer i) where
       pub indices-one : m ≡ 1 → IndicesAre s xs x m (One i)
-      indices-one d = record { are = one-is m i d (sym (ap integerOf e) ∙ h .is); small = subst Small e (h .small) }
+      indices-one d = record { are = one-is m i d (sym (ap integerOf e) ∙ h .is); small = h .small i e }
 
       module _ (l : m ≤ 2) (more : 1 < m) (q : Constant) (g : IndexIs s xs (x + 2) q) where
         two : m ≡ 2
@@ -269,9 +236,6 @@ module _ (b p hs ns zs : List ℕ) (n u a : ℕ) (f : KnownAsks b p hs ns zs n u
         extract-fits w =
             is-vector ∙ ap (λ (c : Bool). need c Count (sort (bitvec (suc (i - j))))) (lt-ltb i (r .number) w)
             ∙ ap (λ (x : ℕ). sort (bitvec x)) (sym (add-one (i - j)))
-
-        pub extract-small : r .number < 65536
-        extract-small = vector-small b p n a (f .good .stored) (f .known) r argument
 
 pub two-other : (op i j : ℕ) (s : Sort) → (op ≡ 0 → ⊥) → (op ≡ 11 → ⊥) → indexed₂ op i j s ≡ refused Count
 two-other op i j s x y = rw (ne-eqb op 0 x, ne-eqb op 11 y) refl

@@ -4,39 +4,21 @@ use mathlib.Core.Path.{_≡_}
 use mathlib.Core.Bool.{cond}
 use mathlib.Core.List.{List, [], _∷_}
 use mathlib.Core.Option.{Option, none, some}
-use lib.ListN.{length, getD}
+use lib.ListN.{length}
 use lib.Dec.{eqb}
-use Rattle.record.specs.Number.{u16At}
 use Rattle.record.specs.Sort.{Sort, bitvec}
 use Rattle.store.specs.Good.{Good}
 use Rattle.rows.specs.declared.Cause.the-variants.{Count, Misfit}
 use Rattle.rows.specs.Verdict.{Verdict, sort, refused, need}
 use Rattle.checked.specs.Checked.{indexed₁, indexed₂}
 use Rattle.answers.specs.declared.Answer.{Answer}
-use Rattle.answers.specs.declared.arguments.Constant.{Constant}
-use Rattle.answers.specs.declared.arguments.Constant.the-variants.{Integer, Other}
 use Rattle.answers.specs.Answer.{accepting, refusing}
-use Rattle.answers.specs.Arguments.{ConstantAsks, integerOf, integerAt, constantsIn, ConstantsAsk}
+use Rattle.answers.specs.Arguments.{constantsIn, ConstantsAsk}
 use Rattle.checking.specs.Contract.{argAt}
 use Rattle.checker.specs.declared.indexed.Indices.{Indices}
 use Rattle.checker.specs.declared.indexed.Indices.the-variants.{One, Two, Wrong}
 
 ---------------------------------------------------------------- the indices
--- The sheet names a term at x, whose record lies in it.
-pub record IndexAsks (s xs : List ℕ) (x : ℕ) : Type 0 where
-  pub within : x + 2 ≤ length s
-  pub term : u16At s x < length xs
-  pub start : ConstantAsks s (getD xs (u16At s x) 0)
-
--- An integer constant is of four bytes.
-abbrev pub Small : Constant → Type 0
-Small (Integer v) = v < 4294967296
-Small Other = Unit {0}
-
-pub record IndexIs (s xs : List ℕ) (x : ℕ) (r : Constant) : Type 0 where
-  pub is : integerOf r ≡ integerAt s (getD xs (u16At s x) 0)
-  pub small : Small r
-
 -- One or two integer constants.
 abbrev pub indicesFrom : List (Option ℕ) → Indices
 indicesFrom [] = Wrong

@@ -2,7 +2,7 @@
 // arguments, whose sorts are in `args` from byte 3 on.
 use answers::Answer;
 use answers::arguments::Constant;
-use answers::arguments::constant_at;
+use answers::arguments::index_at;
 use answers::bit_vector;
 use answers::found;
 use answers::refuse;
@@ -17,23 +17,13 @@ ghost use Rattle.answers.specs.Asks.{KnownAsks};
 ghost use Rattle.answers.specs.Arguments.{constantsIn, ConstantsAsk};
 ghost use Rattle.store.specs.Good.{Good};
 ghost use Rattle.checking.specs.Contract.{argsOf};
-ghost use Rattle.checker.specs.Indexed.{IndexAsks, IndexIs, IndicesAre, keptAs, widenedVerdict, OneIndexAsks, IndexedAsks, indexedWith, IndexingAsks};
+ghost use Rattle.checker.specs.Indexed.{IndicesAre, keptAs, widenedVerdict, OneIndexAsks, IndexedAsks, indexedWith, IndexingAsks};
 
 // The indices of an indexed operator: one or two integer constants; or neither.
 pub enum Indices {
     One(usize),
     Two(usize, usize),
     Wrong,
-}
-
-// The number of the term that the sheet names at `at`, where it is an integer constant.
-pub fn index_at(sheet: &[u8], starts: &[u16], at: usize) -> Constant
-    requires { ⌜ IndexAsks (now sheet) (now starts) at ⌝ }
-    ensures { λ r. ⌜ IndexIs (now (sheet .entry)) (now (starts .entry)) at r ⌝ }
-{
-    let t = u16_at(sheet, at);
-    let start = starts[t] as usize;
-    constant_at(sheet, start)
 }
 
 // The index terms where they are one or two integer constants.

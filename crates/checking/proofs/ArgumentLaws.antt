@@ -17,13 +17,14 @@ use Rattle.record.specs.Record.{leaf, sortsOf}
 use Rattle.record.specs.Decode.{storeOf, sortAt, Stored}
 use Rattle.record.specs.StoreLaws.{sorts-one}
 use Rattle.record.specs.SortLists.{below-suc}
+use Rattle.record.specs.Cases.{false-second}
 use Rattle.store.specs.Entry.{EntryAsks, KindHas}
 use Rattle.store.specs.Walk.{entry-asks}
-use Rattle.checked.specs.Checked.{value, values, onlyOf}
+use Rattle.checked.specs.Checked.{onlyOf}
 use Rattle.checking.specs.Rule.{plainSort, allSame}
-use Rattle.checking.specs.Contract.{argAt, ArgsAsk, argsOf, KindsHave, SameHas, ValuesHave}
+use Rattle.checking.specs.Contract.{argAt, ArgsAsk, argsOf, KindsHave, SameHas}
 use Rattle.checking.specs.Contract.{KindHas as KindAtHas}
-use Rattle.checking.specs.KindLaws.{kind-plain, kind-same, value-kind, stored-value}
+use Rattle.checking.specs.KindLaws.{kind-plain, kind-same}
 
 -- A test that holds of every sort of a list.
 unfoldable allBy : (Sort → Bool) → Sorts → Bool
@@ -34,15 +35,6 @@ same-by : (s : Sort) (ts : Sorts) → allSame s ts ≡ allBy (λ t. same s t) ts
 unfolding allSame allBy
 same-by s end = refl
 same-by s (t then ts) = ap (same s t &&_) (same-by s ts)
-
-values-by : (ts : Sorts) → values ts ≡ allBy (λ t. value t) ts
-unfolding values allBy
-values-by end = refl
-values-by (t then ts) = ap (value t &&_) (values-by ts)
-
-and-no : (a : Bool) → (a && false) ≡ false
-and-no true = refl
-and-no false = refl
 
 by-all : (f : Sort → Bool) (st : List Sort) (a : List ℕ) (x m : ℕ) → ((j : ℕ) → j < m → f (getD st (u16At a (x + 2 * j)) leaf) ≡ true) → allBy f (sortsOf st (numbersAt a x m)) ≡ true
 unfolding allBy sortsOf numbersAt
@@ -62,13 +54,9 @@ by-one f st a x (suc m) zero l h =
 by-one f st a x (suc m) (suc j) l h =
     let q : x + 2 + 2 * j ≡ x + 2 * suc j = omega arith in
     ap (f (getD st (u16At a x) leaf) &&_) (by-one f st a (x + 2) m j (omega arith) (ap (λ (i : ℕ). f (getD st (u16At a i) leaf)) q ∙ h))
-    ∙ and-no (f (getD st (u16At a x) leaf))
+    ∙ false-second (f (getD st (u16At a x) leaf)) false refl
 
 ---------------------------------------------------------------- kinds
--- A kind 12 is a Par.
-no-value : (s : Sort) → kindOf s ≡ 12 → (kindOf s ≡ 12 → value s ≡ false) → value s ≡ false
-no-value s e h = h e
-
 none-same : (b p : List ℕ) (n : ℕ) (a : List ℕ) → allSame (onlyOf (argsOf b p n a 0)) (argsOf b p n a 0) ≡ true
 unfolding allSame sortsOf numbersAt
 none-same b p n a = refl
@@ -110,20 +98,6 @@ module _ (b p a : List ℕ) where
       (λ j h.
       same-complete (plainSort k) (sortAt b p n (argAt a j))
       (sym (kind-plain b p n (argAt a j) (o .stored) (o .below j h) k map (g j (omega arith) n (o .stored) (o .below j h))))))
-
-  pub values-no : (m i v q : ℕ) → i < m → v ≡ argAt a i → KindHas b p v q → q ≡ 12 → ValuesHave b p a m false
-  unfolding sortAt
-  values-no m i v q l e h t n o =
-      let s = sortAt b p n (argAt a i) in
-      sym (values-by (argsOf b p n a m)
-      ∙ by-one (λ x. value x) (storeOf b p n) a 3 m i l (no-value s (kind-here (λ (j : ℕ). j ≡ 12) i v q e h t n (o .stored) (o .below i l)) (stored-value b p n (argAt a i) (o .stored) (o .below i l))))
-
-  pub values-yes : (m i : ℕ) → m ≤ i → Seen b p a (λ j. j ≡ 12 → ⊥) i → ValuesHave b p a m true
-  unfolding sortAt
-  values-yes m i l g n o =
-      sym (values-by (argsOf b p n a m)
-      ∙ by-all (λ x. value x) (storeOf b p n) a 3 m
-      (λ j h. value-kind (sortAt b p n (argAt a j)) (g j (omega arith) n (o .stored) (o .below j h))))
 
   -- The argument i, missing or there.
   pub kind-missing : (m i k : ℕ) → m ≤ i → KindAtHas b p a m i k true

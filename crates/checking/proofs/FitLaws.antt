@@ -1,7 +1,7 @@
 -- The fits of the rules, by what the scans and the entries of the store told.
 use Prim.Native.Nat.{ℕ, zero, suc, _+_, _<_}
 use mathlib.Core.Path.{_≡_, refl, sym, ap, ap₂, subst, _∙_}
-use mathlib.Core.Bool.{Bool, true, false, not, cond, _&&_, _||_, true≢false}
+use mathlib.Core.Bool.{Bool, true, false, cond, _&&_, _||_}
 use mathlib.Core.List.{List}
 use native.Mathlib.Omega.{arith}
 use lib.ListN.{length, getD}
@@ -14,7 +14,7 @@ use Rattle.record.specs.Record.{Fields, bit, maps, mapOf, leasts, leastOf, most
 use Rattle.record.specs.Decode.{fieldsAt, storeOf, sortAt, Stored, Distinct}
 use Rattle.record.specs.Codec.{length-numbersAt}
 use Rattle.record.specs.StoreLaws.{sorts-one}
-use Rattle.record.specs.Cases.{and-left, and-right, or-cases, both-ways}
+use Rattle.record.specs.Cases.{and-left, and-right, or-cases, both-ways, false-second}
 use Rattle.record.specs.declared.SortRecord.{SortRecord}
 use Rattle.store.specs.Entry.{EntryIs, EntryHas, KindHas}
 use Rattle.store.specs.Walk.{walk-node}
@@ -29,10 +29,6 @@ use Rattle.checking.specs.Contract.{argAt, Over, ArgsAsk, argsOf, KindsH
 use Rattle.checking.specs.Contract.{KindHas as KindAtHas}
 use Rattle.checking.specs.KindLaws.{vector-small, vector-not, kind-vector}
 
-pub not-left : (a : Bool) → not a ≡ false → a ≡ true
-not-left true e = refl
-not-left false e = absurd (true≢false e)
-
 need-yes : (b : Bool) (v : Verdict) → b ≡ true → v ≡ need b Misfit v
 need-yes b v e = sym (ap (λ (t : Bool). need t Misfit v) e)
 
@@ -45,10 +41,6 @@ plain-map k e = eqb-true (mapOf k) 1 e
 and-one : (b : Bool) → (b && true) ≡ b
 and-one true = refl
 and-one false = refl
-
-and-none : (b : Bool) → (b && false) ≡ false
-and-none true = refl
-and-none false = refl
 
 -- Two numbers of a store are the same sort where they are equal.
 pub numbers-same : (b p : List ℕ) (n i j : ℕ) → Stored b p n → Distinct b p n → i < n → j < n → same (sortAt b p n i) (sortAt b p n j) ≡ eqb i j
@@ -137,14 +129,14 @@ module _ (b p a : List ℕ) (m : ℕ) where
         fixed-no-2 e n o =
             fixed-fails n (fixed-is n
             ∙ ap (λ (c : Bool). (leb m 0 || same (plainSort x) (sortAt b p n (argAt a 0))) && (c && (leb m 2 || same (plainSort z) (sortAt b p n (argAt a 2))))) (sym (i n o (fixed-kinds .1)) ∙ e)
-            ∙ and-none (leb m 0 || same (plainSort x) (sortAt b p n (argAt a 0))))
+            ∙ false-second (leb m 0 || same (plainSort x) (sortAt b p n (argAt a 0))) false refl)
 
         module _ (v : Bool) (j : KindAtHas b p a m 2 z v) where
           pub fixed-no-3 : v ≡ false → FitHas b p a m (Fixed m x y z r) Nothing
           fixed-no-3 e n o =
               let X = leb m 0 || same (plainSort x) (sortAt b p n (argAt a 0)) in
               let Y = leb m 1 || same (plainSort y) (sortAt b p n (argAt a 1)) in
-              fixed-fails n (fixed-is n ∙ ap (λ (c : Bool). X && (Y && c)) (sym (j n o (fixed-kinds .2)) ∙ e) ∙ ap (X &&_) (and-none Y) ∙ and-none X)
+              fixed-fails n (fixed-is n ∙ ap (λ (c : Bool). X && (Y && c)) (sym (j n o (fixed-kinds .2)) ∙ e) ∙ ap (X &&_) (false-second Y false refl) ∙ false-second X false refl)
 
           pub fixed-yes : t ≡ true → u ≡ true → v ≡ true → FitHas b p a m (Fixed m x y z r) (Plain r)
           unfolding fitted
@@ -290,7 +282,7 @@ module _ (b p a : List ℕ) (m r : ℕ) (f : FitAsks b p a m (Vectors 1 1 r)) wh
           let s = onlyOf (argsOf b p n a m) in
           record {
             is = sym (ap (λ (c : Bool). need (vector s && c) Misfit (sort (vectorsResult r s))) (sym (g n o) ∙ e)
-                ∙ ap (λ (c : Bool). need c Misfit (sort (vectorsResult r s))) (and-none (vector s)));
+                ∙ ap (λ (c : Bool). need c Misfit (sort (vectorsResult r s))) (false-second (vector s) false refl));
             ok = tt;
           }
 
@@ -362,7 +354,7 @@ module _ (b p a : List ℕ) (m : ℕ) (f : FitAsks b p a m Concat) where
             is = sym (concat-is n
                 ∙ ap (λ (c : Bool). need (vector (sortAt b p n i) && c) Misfit W)
                 (vector-not (sortAt b p n j) (λ e. d (hy n (o .stored) (concat-second n o) .kind ∙ e)))
-                ∙ ap (λ (c : Bool). need c Misfit W) (and-none (vector (sortAt b p n i))));
+                ∙ ap (λ (c : Bool). need c Misfit W) (false-second (vector (sortAt b p n i)) false refl));
             ok = tt;
           }
 

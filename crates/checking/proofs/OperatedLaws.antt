@@ -22,13 +22,14 @@ use Rattle.rows.specs.declared.Cause.the-variants.{NoRank, Count, Misfit}
 use Rattle.rows.specs.Verdict.{sort, refused, need}
 use Rattle.checked.specs.Ranks.{smtLib}
 use Rattle.checked.specs.Checked.{values, operated}
+use Rattle.answers.specs.Values.{ValuesHave, ValuesAsk}
 use Rattle.checking.specs.declared.rule.Rule.{Rule}
 use Rattle.checking.specs.declared.rule.Rule.the-variants.{Fixed, Numbers, Select, Store, Vectors}
 use Rattle.checking.specs.declared.op.Fit.{Fit}
 use Rattle.checking.specs.declared.op.Fit.the-variants.{Known, Nothing}
 use Rattle.checking.specs.Rule.{countsFor, selecting, storing, selected, stored, fitted, isRanked, ruled, ruleOf, plainKind, oneOrTwo, wellRule}
 use Rattle.checking.specs.RuleLaws.{operated-ruled, well-rule}
-use Rattle.checking.specs.Contract.{Over, ArgsAsk, argsOf, ValuesHave, fitVerdict, FitAsks, FitHas, ArrayAsks, ArrayHas, OperatedAsks}
+use Rattle.checking.specs.Contract.{Over, ArgsAsk, argsOf, fitVerdict, FitAsks, FitHas, ArrayAsks, ArrayHas, OperatedAsks, args-refs}
 use Rattle.checking.proofs.FitLaws.{numbers-same, two-args, three-args, array-two, array-sort}
 
 ---------------------------------------------------------------- arrays
@@ -232,6 +233,9 @@ module _ (b p hs ns zs : List ℕ) (n u op : ℕ) (a : List ℕ) (m : ℕ) (f : 
   pub args-ask : ArgsAsk b p a m
   args-ask = record { within = f .within; many = n; over = args-over }
 
+  pub values-ask : ValuesAsk b p a 3 m
+  values-ask = record { many = n; stored = f .good .stored; refs = args-refs b p a n m (f .within) args-over }
+
   args-count : count (argsOf b p n a m) ≡ m
   args-count = count-sorts (storeOf b p n) (numbersAt a 3 m) ∙ length-numbersAt a 3 m
 
@@ -256,12 +260,12 @@ module _ (b p hs ns zs : List ℕ) (n u op : ℕ) (a : List ℕ) (m : ℕ) (f : 
             verdict-is ∙ ruled-by
             ∙ ap₂ (λ (x y : Bool). need x NoRank (need y Count (need (values (argsOf b p n a m)) Misfit (fitted r (argsOf b p n a m))))) (sym et ∙ go) (sym ec ∙ e)
 
-        module _ (on : c ≡ true) (v : Bool) (ev : ValuesHave b p a m v) where
+        module _ (on : c ≡ true) (v : Bool) (ev : ValuesHave b p a 3 m v) where
           by-values : operated smtLib op (argsOf b p n a m) ≡ need v Misfit (fitted r (argsOf b p n a m))
           by-values =
               verdict-is ∙ ruled-by
               ∙ ap₂ (λ (x y : Bool). need x NoRank (need y Count (need (values (argsOf b p n a m)) Misfit (fitted r (argsOf b p n a m))))) (sym et ∙ go) (sym ec ∙ on)
-              ∙ ap (λ (x : Bool). need x Misfit (fitted r (argsOf b p n a m))) (sym (ev n args-over))
+              ∙ ap (λ (x : Bool). need x Misfit (fitted r (argsOf b p n a m))) (sym (ev n (args-over .stored) (args-refs b p a n m (f .within) args-over)))
 
           pub no-value : v ≡ false → operated smtLib op (argsOf b p n a m) ≡ refused Misfit
           no-value e = by-values ∙ ap (λ (x : Bool). need x Misfit (fitted r (argsOf b p n a m))) e

@@ -1,9 +1,9 @@
 -- The rule of an arm of `rule_of`: one of single numbers is tested by its keys, one of a range by the numbers between them.
 use Prim.Native.Nat.{ℕ, zero, suc, _+_, _≤_, _<_}
 use mathlib.Core.Path.{_≡_, refl, sym, ap, subst, _∙_}
-use mathlib.Core.Bool.{Bool, true, false, cond, _&&_, _||_, true≢false}
+use mathlib.Core.Bool.{Bool, true, cond, _&&_, _||_}
 use mathlib.Core.List.{List, [], _∷_}
-use mathlib.Core.Logic.{inl, inr, ⊎-elim}
+use mathlib.Core.Logic.{⊎-elim}
 use native.Mathlib.Omega.{arith}
 use native.Mathlib.Nat.{eq-or-lt-of-le}
 use lib.ListN.{getD}
@@ -12,7 +12,8 @@ use borrow.Author.Tests.{eq-eqb, ne-eqb}
 use types.Run.{OneOf}
 use Rattle.record.specs.Sort.{sameNames}
 use Rattle.record.specs.SortLaws.{sameNames-sound}
-use Rattle.record.specs.Cases.{and-left, and-right}
+use Rattle.record.specs.Cases.{and-left, and-right, or-other}
+use Rattle.answers.specs.Arms.{Missed, among, missed}
 use Rattle.checking.specs.declared.rule.Rule.{Rule}
 use Rattle.checking.specs.declared.rule.Rule.the-variants.{Unranked, All, Fixed, Numbers, Equal, Choose, Select, Store, Vectors, Concat}
 use Rattle.checking.specs.Rule.{ruleOf, countsFor}
@@ -75,40 +76,11 @@ keys-are f (k ∷ (l ∷ ks)) e o h =
     h
 
 ---------------------------------------------------------------- the numbers between
--- o is in none of these arms' numbers, the last arm first.
-abbrev pub Missed : List (List ℕ) → ℕ → Type 0
-Missed [] o = Unit {0}
-Missed (ks ∷ kss) o = Missed kss o × (OneOf ks o → ⊥)
-
-unfoldable keyed : List ℕ → ℕ → Bool
-keyed [] o = false
-keyed (k ∷ ks) o = eqb o k || keyed ks o
-
-unfoldable among : List (List ℕ) → ℕ → Bool
-unfolding keyed
-among [] o = false
-among (ks ∷ kss) o = keyed ks o || among kss o
-
-not-keyed : (ks : List ℕ) (o : ℕ) → (OneOf ks o → ⊥) → keyed ks o ≡ false
-unfolding keyed
-not-keyed [] o h = refl
-not-keyed (k ∷ []) o h = rw (ne-eqb o k h) refl
-not-keyed (k ∷ (l ∷ ks)) o h = rw (ne-eqb o k (λ q. h (inl q))) (not-keyed (l ∷ ks) o (λ q. h (inr q)))
-
-missed : (kss : List (List ℕ)) (o : ℕ) → Missed kss o → among kss o ≡ false
-unfolding among
-missed [] o h = refl
-missed (ks ∷ kss) o h = rw (not-keyed ks o (h .1)) (missed kss o (h .0))
-
 -- Whether the n operators from o on have the rule f or among the single numbers.
 unfoldable pub allOf : Rule → List (List ℕ) → ℕ → ℕ → Bool
 unfolding ofRule among
 allOf f kss o zero = true
 allOf f kss o (suc n) = (among kss o || ofRule f o) && allOf f kss (suc o) n
-
-or-other : (a b : Bool) → a ≡ false → a || b ≡ true → b ≡ true
-or-other true b h e = absurd (true≢false h)
-or-other false b h e = e
 
 pub range-is : (f : Rule) (kss : List (List ℕ)) (lo n : ℕ) → allOf f kss lo n ≡ true → (o : ℕ) → Missed kss o → lo ≤ o → o < lo + n → f ≡ ruleOf o
 unfolding allOf

@@ -1,17 +1,17 @@
 -- The verdicts on constants, Vars, Lets and (as const), by what was read.
 use Prim.Native.Nat.{ℕ, zero, suc, _+_, _*_, _-_, _≤_, _<_}
 use mathlib.Core.Path.{_≡_, refl, sym, ap, ap₂, subst, _∙_}
-use mathlib.Core.Bool.{Bool, true, false, not, cond, _&&_, false≢true}
+use mathlib.Core.Bool.{Bool, true, false, not, _&&_}
 use mathlib.Core.List.{List, [], _∷_}
 use native.Mathlib.Omega.{arith}
 use lib.ListN.{length, getD}
 use lib.Dec.{eqb, ltb}
-use borrow.Author.Tests.{eq-eqb, eqb-true, ne-eqb, lt-ltb, le-ltb}
+use borrow.Author.Tests.{eq-eqb, ne-eqb, lt-ltb, le-ltb}
 use Rattle.record.specs.Number.{u16At, numbersAt}
-use Rattle.record.specs.Sort.{Sort, Sorts, var, par, node, end, _then_, array, bitvec, kindOf, count, same}
-use Rattle.record.specs.SortLaws.{same-refl, same-swap}
+use Rattle.record.specs.Sort.{Sort, var, par, node, end, _then_, array, bitvec, kindOf, count, same}
+use Rattle.record.specs.SortLaws.{same-refl}
 use Rattle.record.specs.Record.{Fields, maps, mapOf, leaf, sortsOf}
-use Rattle.record.specs.Decode.{fieldsAt, storeOf, sortAt, Stored}
+use Rattle.record.specs.Decode.{storeOf, sortAt, Stored}
 use Rattle.record.specs.Codec.{length-numbersAt}
 use Rattle.record.specs.Sizes.{count-sorts}
 use Rattle.record.specs.declared.SortRecord.{SortRecord}
@@ -23,8 +23,9 @@ use Rattle.rows.specs.declared.Cause.the-variants.{NoRank, Count, Misfit, Barre
 use Rattle.rows.specs.Verdict.{Verdict, sort, refused, need}
 use Rattle.rows.specs.Lists.{lastOf}
 use Rattle.checked.specs.Checked.{carried, values, innerOf, letting, constantArray, qualified}
+use Rattle.answers.specs.Values.{ValuesHave, ValuesAsk}
 use Rattle.checking.specs.Rule.{plainSort}
-use Rattle.checking.specs.Contract.{argAt, Over, ArgsAsk, argsOf, ValuesHave}
+use Rattle.checking.specs.Contract.{argsOf, args-refs}
 use Rattle.checking.specs.Single.{constantVerdict, OverAsks, QualifiedAsks}
 use Rattle.checking.proofs.FitLaws.{numbers-same, array-two, array-sort}
 
@@ -150,8 +151,8 @@ inner-read st a (suc (suc m)) l =
     ap sort (last-read st (getD st (u16At a 3) leaf) a (3 + 2) m ∙ ap (λ (i : ℕ). getD st (u16At a i) leaf) e)
 
 module _ (b p : List ℕ) (n : ℕ) (a : List ℕ) (m : ℕ) (f : OverAsks b p n a m) where
-  pub over-args : ArgsAsk b p a m
-  over-args = record { within = f .within; many = n; over = f .over }
+  pub over-values : ValuesAsk b p a 3 m
+  over-values = record { many = n; stored = f .over .stored; refs = args-refs b p a n m (f .within) (f .over) }
 
   letting-by : letting (argsOf b p n a m) ≡ need (ltb 1 m) Count (need (values (argsOf b p n a m)) Misfit (innerOf (argsOf b p n a m)))
   unfolding letting
@@ -162,10 +163,10 @@ module _ (b p : List ℕ) (n : ℕ) (a : List ℕ) (m : ℕ) (f : OverAsks b p n
   pub letting-few : m < 2 → letting (argsOf b p n a m) ≡ refused Count
   letting-few l = letting-by ∙ ap (λ (c : Bool). need c Count (need (values (argsOf b p n a m)) Misfit (innerOf (argsOf b p n a m)))) (le-ltb 1 m (omega arith))
 
-  module _ (l : 2 ≤ m) (v : Bool) (h : ValuesHave b p a m v) where
+  module _ (l : 2 ≤ m) (v : Bool) (h : ValuesHave b p a 3 m v) where
     letting-on : letting (argsOf b p n a m) ≡ need v Misfit (innerOf (argsOf b p n a m))
     letting-on =
-        letting-by ∙ ap₂ (λ (c d : Bool). need c Count (need d Misfit (innerOf (argsOf b p n a m)))) (lt-ltb 1 m (omega arith)) (sym (h n (f .over)))
+        letting-by ∙ ap₂ (λ (c d : Bool). need c Count (need d Misfit (innerOf (argsOf b p n a m)))) (lt-ltb 1 m (omega arith)) (sym (h n (f .over .stored) (args-refs b p a n m (f .within) (f .over))))
 
     pub letting-par : v ≡ false → letting (argsOf b p n a m) ≡ refused Misfit
     letting-par e = letting-on ∙ ap (λ (c : Bool). need c Misfit (innerOf (argsOf b p n a m))) e

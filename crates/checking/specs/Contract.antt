@@ -11,9 +11,10 @@ use Rattle.record.specs.Sort.{Sort, Sorts, bitvec, same}
 use Rattle.record.specs.Record.{mapOf, leaf, sortsOf}
 use Rattle.record.specs.Decode.{storeOf, sortAt, Stored, Distinct}
 use Rattle.store.specs.Good.{Good}
+use Rattle.matching.specs.Contract.{Refs}
 use Rattle.rows.specs.declared.Cause.the-variants.{Misfit}
 use Rattle.rows.specs.Verdict.{Verdict, sort, refused}
-use Rattle.checked.specs.Checked.{values, onlyOf}
+use Rattle.checked.specs.Checked.{onlyOf}
 use Rattle.checking.specs.declared.rule.Rule.{Rule}
 use Rattle.checking.specs.declared.rule.Rule.the-variants.{Select, Store}
 use Rattle.checking.specs.declared.op.Fit.{Fit}
@@ -51,9 +52,9 @@ KindHas b p a m i k r = (n : ℕ) → Over b p n a m → mapOf k ≡ 1 → r ≡
 abbrev pub SameHas : List ℕ → List ℕ → List ℕ → ℕ → Bool → Type 0
 SameHas b p a m r = (n : ℕ) → Over b p n a m → r ≡ allSame (onlyOf (argsOf b p n a m)) (argsOf b p n a m)
 
--- None is a Par.
-abbrev pub ValuesHave : List ℕ → List ℕ → List ℕ → ℕ → Bool → Type 0
-ValuesHave b p a m r = (n : ℕ) → Over b p n a m → r ≡ values (argsOf b p n a m)
+-- They are references to its sorts.
+pub args-refs : (b p a : List ℕ) (n m : ℕ) → 3 + 2 * m ≤ length a → Over b p n a m → Refs a 3 m n
+args-refs b p a n m h o = record { within = h; below = o .below }
 
 ---------------------------------------------------------------- fits
 -- The verdict of a fit over a store.

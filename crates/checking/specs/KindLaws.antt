@@ -1,13 +1,13 @@
 -- The sorts of a store by their kinds: a kind without parts, a vector, a Par.
 use Prim.Native.Nat.{ℕ, _<_}
-use mathlib.Core.Path.{_≡_, refl, sym, ap, _∙_}
+use mathlib.Core.Path.{_≡_, sym, ap, _∙_}
 use mathlib.Core.Bool.{true, false}
 use mathlib.Core.List.{List}
 use native.Mathlib.Omega.{arith}
 use lib.ListN.{getD}
 use lib.Dec.{eqb}
 use borrow.Author.Tests.{eq-eqb, eqb-true}
-use Rattle.record.specs.Sort.{Sort, var, par, node, bitvec, kindOf, numberIn, same}
+use Rattle.record.specs.Sort.{Sort, node, bitvec, kindOf, numberIn, same}
 use Rattle.record.specs.SortLaws.{same-sound, same-complete, same-other}
 use Rattle.record.specs.Record.{Fields, bit, maps, mapOf, sortsOf, sortOf}
 use Rattle.record.specs.Decode.{fieldsAt, Shape, storeOf, sortAt, Stored}
@@ -17,7 +17,7 @@ use Rattle.record.specs.Cases.{both-ways}
 use Rattle.record.specs.declared.SortRecord.{SortRecord}
 use Rattle.store.specs.Entry.{EntryIs}
 use Rattle.checked.specs.Rank.{vector}
-use Rattle.checked.specs.Checked.{value}
+use Rattle.checked.specs.FitLaws.{vector-when}
 use Rattle.checking.specs.Rule.{plainSort}
 
 -- A record whose map is 1 is a sort without parts.
@@ -53,15 +53,6 @@ module _ (b p : List ℕ) (n i : ℕ) (s : Stored b p n) (l : i < n) where
       (λ e. eq-eqb (kindOf (sortAt b p n i)) k (sym (ap kindOf (same-sound (plainSort k) (sortAt b p n i) e))))
       (λ e. same-complete (plainSort k) (sortAt b p n i) (sym (kind-plain k m (eqb-true (kindOf (sortAt b p n i)) k e))))
 
-pub value-kind : (s : Sort) → (kindOf s ≡ 12 → ⊥) → value s ≡ true
-value-kind (var v) h = refl
-value-kind (par ns b) h = absurd (h refl)
-value-kind (node k a w ss) h = refl
-
-pub stored-value : (b p : List ℕ) (n i : ℕ) → Stored b p n → i < n → kindOf (sortAt b p n i) ≡ 12 → value (sortAt b p n i) ≡ false
-stored-value b p n i s l e =
-    ap value (sort-node b p n i s l ∙ sort-par (storeOf b p n) (fieldsAt b (getD p i 0)) (sym (kind-read b p n i s l) ∙ e))
-
 ---------------------------------------------------------------- vectors
 -- What a record of this kind stands for.
 vector-fields : (st : List Sort) (f : Fields) → Shape f → f .kind ≡ 9 → sortOf st f ≡ bitvec (f .number)
@@ -73,15 +64,12 @@ vector-fields st f s h =
     ∙ ap (λ (i : ℕ). node 9 i (f .number) (sortsOf st (f .list))) (s .proper .noName (ap (bit 2) t))
     ∙ ap (λ (l : List ℕ). node 9 0 (f .number) (sortsOf st l)) (s .proper .noList (ap (bit 16) t))
 
-vector-of : (s : Sort) (w : ℕ) → s ≡ bitvec w → vector s ≡ true
-vector-of s w e = same-complete s (bitvec (numberIn s)) (e ∙ ap bitvec (sym (ap numberIn e)))
-
 pub vector-not : (s : Sort) → (kindOf s ≡ 9 → ⊥) → vector s ≡ false
 vector-not s h = same-other s (bitvec (numberIn s)) (λ e. h (ap kindOf e))
 
 pub kind-vector : (b p : List ℕ) (n k : ℕ) → Stored b p n → k < n → kindOf (sortAt b p n k) ≡ 9 → vector (sortAt b p n k) ≡ true
 kind-vector b p n k s l h =
-    vector-of (sortAt b p n k) (fieldsAt b (getD p k 0) .number)
+    vector-when (sortAt b p n k) (fieldsAt b (getD p k 0) .number)
     (sort-node b p n k s l ∙ vector-fields (storeOf b p n) (fieldsAt b (getD p k 0)) (s .each k l .shape) (sym (kind-read b p n k s l) ∙ h))
 
 pub vector-small : (b p : List ℕ) (n k : ℕ) → Stored b p n → k < n → (r : SortRecord) → EntryIs b p n k r → r .number < 65536

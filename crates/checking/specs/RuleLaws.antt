@@ -18,6 +18,7 @@ use Rattle.rows.specs.Verdict.{Verdict, sort, refused, need, orElse}
 use Rattle.checked.specs.Rank.{Rank, repeated, stretched, patterns, sameCount, counts, vector, vectorsIn, every, answer, fit, firstFit, someCounts, orNext}
 use Rattle.checked.specs.Ranks.{Table, done, row, ranksIn, standard, smtLib, x, y, one, two}
 use Rattle.checked.specs.Checked.{value, values, onlyOf, nonempty, ranked, concatenation, operated}
+use Rattle.checked.specs.RankTheorems.{repeated-count}
 use Rattle.checking.specs.declared.rule.Rule.{Rule}
 use Rattle.checking.specs.declared.rule.Rule.the-variants.{Unranked, All, Fixed, Numbers, Equal, Choose, Select, Store, Vectors, Concat}
 use Rattle.checking.specs.Rule.{Rules, none, range, rulesIn, rules, ruleOf, plainSort, fixedOf, leastOf, numbersResult, vectorsResult, ranksOf, wellRule, allSame, countsFor, choosing, selecting, storing, selected, stored, fitted, isRanked, ruled, oneOrTwo}
@@ -95,11 +96,6 @@ unfolding ruleOf
 well-rule n = well-pick (eqb n 90) Concat (rulesIn rules n) (unfold wellRule in refl) (well-in rules n all-well)
 
 ---------------------------------------------------------------- counts
-repeated-count : (p : Sort) (ts : Sorts) → sameCount (repeated p ts) ts ≡ true
-unfolding sameCount repeated
-repeated-count p end = refl
-repeated-count p (t then ts) = repeated-count p ts
-
 two-count : (p : Sort) (ts : Sorts) → sameCount (stretched (two p) ts) ts ≡ leb 2 (count ts)
 unfolding sameCount stretched count
 two-count p end = refl
@@ -197,10 +193,6 @@ keep-true false o = refl
 keep-false : (b : Bool) (o : Option Map) → keep b nothing ≡ keep (b && false) o
 keep-false true o = refl
 keep-false false o = refl
-
-keep-none : (b : Bool) → keep b nothing ≡ nothing
-keep-none true = refl
-keep-none false = refl
 
 -- A sort without parts matches itself alone.
 plain-matches : (ns : ℕ → Bool) (k : ℕ) (t : Sort) (m : Map) → matches ns (plainSort k) t m ≡ keep (same (plainSort k) t) (some m)

@@ -1,5 +1,5 @@
 -- What the functions on constants, Vars, Lets and (as const) ask and promise.
-use Prim.Native.Nat.{ℕ, _+_, _*_, _≤_, _<_}
+use Prim.Native.Nat.{ℕ, _+_, _*_, _≤_}
 use mathlib.Core.Bool.{not, cond}
 use mathlib.Core.List.{List}
 use lib.ListN.{length}

@@ -8,6 +8,7 @@ use answers::bit_vector;
 use answers::found;
 use answers::leaf;
 use answers::refuse;
+use answers::values::all_values;
 use record::u16_at;
 use rows::Cause;
 use store::entries::entry;
@@ -17,7 +18,7 @@ ghost use Rattle.checked.specs.Ranks.{smtLib};
 ghost use Rattle.checked.specs.Checked.{operated};
 ghost use Rattle.answers.specs.Answer.{AnswerIs};
 ghost use Rattle.checking.specs.declared.rule.Rule.the-variants.{All, Fixed, Numbers, Equal, Choose, Vectors, Concat};
-ghost use Rattle.checking.specs.Contract.{ArgsAsk, argsOf, KindsHave, KindHas, SameHas, ValuesHave, FitAsks, FitHas, ArrayAsks, ArrayHas, fitVerdict, DeliverAsks, OperatedAsks};
+ghost use Rattle.checking.specs.Contract.{ArgsAsk, argsOf, KindsHave, KindHas, SameHas, FitAsks, FitHas, ArrayAsks, ArrayHas, fitVerdict, DeliverAsks, OperatedAsks};
 ghost use Rattle.record.specs.Decode.{storeOf};
 
 // The result of a rule that fits: a sort of the store, the sort of a kind without parts, a vector of a width; or no fit.
@@ -37,22 +38,6 @@ pub fn all_kind(records: &[u8], places: &[u32], args: &[u8], n: usize, kind: usi
     while i < n {
         let k = u16_at(args, 3 + 2 * i);
         if kind_at(records, places, k) != kind {
-            return false;
-        }
-        i += 1;
-    }
-    true
-}
-
-// Whether none of the n arguments is a Par.
-pub fn all_values(records: &[u8], places: &[u32], args: &[u8], n: usize) -> bool
-    requires { ⌜ ArgsAsk (now records) (now places) (now args) n ⌝ }
-    ensures { λ r. ⌜ ValuesHave (now (records .entry)) (now (places .entry)) (now (args .entry)) n r ⌝ }
-{
-    let mut i = 0;
-    while i < n {
-        let k = u16_at(args, 3 + 2 * i);
-        if kind_at(records, places, k) == 12 {
             return false;
         }
         i += 1;
@@ -307,7 +292,7 @@ pub fn operated(
     if !counts(rule, n) {
         return refuse(Cause::Count, count, used);
     }
-    if !all_values(records, places, args, n) {
+    if !all_values(records, places, args, 3, n) {
         return refuse(Cause::Misfit, count, used);
     }
     let made = fit_rule(records, places, rule, args, n);

@@ -1,10 +1,10 @@
 // The checked sort of a constant, a Var, a Let and an (as const).
-use super::op::all_values;
 use answers::Answer;
 use answers::bit_vector;
 use answers::found;
 use answers::leaf;
 use answers::refuse;
+use answers::values::all_values;
 use matching::premises::is_proper;
 use record::u16_at;
 use rows::Cause;
@@ -94,7 +94,7 @@ pub fn letting(
     if n < 2 {
         return refuse(Cause::Count, count, used);
     }
-    if !all_values(records, places, args, n) {
+    if !all_values(records, places, args, 3, n) {
         return refuse(Cause::Misfit, count, used);
     }
     let k = u16_at(args, 3 + 2 * (n - 1));

@@ -1,79 +1,33 @@
 -- The indices of an operator, by the terms that the sheet names; its first argument; and which operator answers what.
 use Prim.Native.Nat.{ℕ, zero, suc, _+_, _*_, _-_, _≤_, _<_}
-use mathlib.Core.Path.{_≡_, refl, sym, ap, subst, _∙_}
-use mathlib.Core.Bool.{Bool, true, false, cond}
+use mathlib.Core.Path.{_≡_, refl, sym, ap, _∙_}
+use mathlib.Core.Bool.{true, false}
 use mathlib.Core.List.{List, [], _∷_}
 use mathlib.Core.Option.{Option, none, some}
 use mathlib.Core.Logic.{inl, inr, ⊎-elim}
 use native.Mathlib.Omega.{arith}
 use native.Mathlib.Nat.{not-suc-le-zero, mul-le-mul, eq-or-lt-of-le}
-use lib.ListN.{length, getD}
 use lib.Dec.{eqb, leb}
 use borrow.Author.Tests.{eq-eqb, ne-eqb, le-leb, lt-leb}
 use types.Run.{OneOf}
-use Rattle.record.specs.Number.{u16At, u32At, numbersAt}
-use Rattle.record.specs.Codec.{Bytes}
+use Rattle.record.specs.Number.{u16At, numbersAt}
 use Rattle.record.specs.Sort.{Sort, Sorts, _then_, bool, int, reglan, bitvec, paramBitVec, kindOf, numberIn}
 use Rattle.record.specs.Record.{Fields}
 use Rattle.record.specs.Decode.{sortAt}
 use Rattle.record.specs.declared.SortRecord.{SortRecord}
 use Rattle.store.specs.Entry.{EntryIs, EntryHas}
+use Rattle.substitution.specs.MatchWithLaws.{param-kind}
 use Rattle.rows.specs.declared.Cause.the-variants.{Panics}
 use Rattle.rows.specs.Verdict.{Verdict, sort, refused, need}
 use Rattle.inferred.specs.Inferred.{extracted, resizedOf, firstOf, indexed}
 use Rattle.answers.specs.declared.arguments.Constant.{Constant}
-use Rattle.answers.specs.Arguments.{integerOf, integerAt, ConstantAsks, constantsFrom, constantsIn, ConstantsAsk}
+use Rattle.answers.specs.Arguments.{integerOf, constantsFrom, constantsIn, indexAt, IndexIs}
 use Rattle.inferring.specs.Asks.{Referring, sortsIn}
-use Rattle.inferring.proofs.WalkLaws.{param-kind}
 use Rattle.inferring.proofs.SingleLaws.{first-known, first-then}
-use Rattle.inference.specs.Indexed.{IndexAsks, indexAt, IndexIs, resizing, Indexing, extracts, zeroes, signs, repeats, converts}
-
----------------------------------------------------------------- one index
--- A number of four bytes.
-abbrev numberFrom : Option ℕ → ℕ
-numberFrom none = 0
-numberFrom (some v) = v
-
-integer-small : (s : List ℕ) → Bytes s → (y : ℕ) → numberFrom (integerAt s y) < 4294967296
-unfolding u32At u16At
-integer-small s h y = go (eqb (getD s (y + 1) 0) 0)
-  where
-    go : (t : Bool) → numberFrom (cond t (some (u32At s (y + 2))) none) < 4294967296
-    go true = omega (arith, h (y + 2), h (y + 2 + 1), h (y + 2 + 2), h (y + 2 + 2 + 1))
-    go false = omega arith
-
--- The term t that the sheet names at x, and the number found at its start.
-module _ (s xs : List ℕ) (x : ℕ) (t : ℕ) (e : t ≡ u16At s x) where
-  pub index-start : IndexAsks s xs x → ConstantAsks s (getD xs t 0)
-  index-start h = subst (λ (i : ℕ). ConstantAsks s (getD xs i 0)) (sym e) (h .start)
-
-  pub index-is : Bytes s → (o : Constant) → integerOf o ≡ integerAt s (getD xs t 0) → IndexIs s xs x o
-  index-is h o q =
-      record {
-        is = q ∙ ap (λ (i : ℕ). integerAt s (getD xs i 0)) e;
-        small = λ v z. omega (arith, integer-small s h (getD xs t 0), ap numberFrom (sym q), ap (λ (c : Constant). numberFrom (integerOf c)) z);
-      }
+use Rattle.inference.specs.Indexed.{resizing, Indexing, extracts, zeroes, signs, repeats, converts}
 
 ---------------------------------------------------------------- the list of indices
 module _ (s xs : List ℕ) (x q : ℕ) where
-  pub index-first : ConstantsAsk s xs x q → 0 < q → IndexAsks s xs x
-  index-first h l =
-      let e : x + 2 * 0 ≡ x = omega arith in
-      record {
-        within = omega (arith, h .within);
-        term = subst (λ (y : ℕ). u16At s y < length xs) e (h .term 0 l);
-        start = subst (λ (y : ℕ). ConstantAsks s (getD xs (u16At s y) 0)) e (h .start 0 l);
-      }
-
-  pub index-second : ConstantsAsk s xs x q → 2 ≤ q → IndexAsks s xs (x + 2)
-  index-second h l =
-      let e : x + 2 * 1 ≡ x + 2 = omega arith in
-      record {
-        within = omega (arith, h .within);
-        term = subst (λ (y : ℕ). u16At s y < length xs) e (h .term 1 (omega arith));
-        start = subst (λ (y : ℕ). ConstantAsks s (getD xs (u16At s y) 0)) e (h .start 1 (omega arith));
-      }
-
   pub constants-none : q ≡ 0 → constantsIn s xs x q ≡ []
   unfolding constantsFrom numbersAt
   constants-none z = ap (λ (i : ℕ). constantsIn s xs x i) z

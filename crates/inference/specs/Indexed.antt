@@ -1,31 +1,11 @@
 -- What the indexed operators ask: arguments, and index terms that the sheet names.
-use Prim.Native.Nat.{ℕ, _+_, _*_, _≤_, _<_}
+use Prim.Native.Nat.{ℕ, _+_, _*_, _<_}
 use mathlib.Core.Path.{_≡_}
 use mathlib.Core.Bool.{Bool, true, false}
 use mathlib.Core.List.{List}
-use mathlib.Core.Option.{Option}
-use lib.ListN.{length, getD}
-use Rattle.record.specs.Number.{u16At}
 use Rattle.store.specs.Good.{Good}
-use Rattle.answers.specs.declared.arguments.Constant.{Constant}
-use Rattle.answers.specs.declared.arguments.Constant.the-variants.{Integer}
-use Rattle.answers.specs.Arguments.{integerOf, integerAt, ConstantAsks, ConstantsAsk}
+use Rattle.answers.specs.Arguments.{ConstantsAsk}
 use Rattle.inferring.specs.Asks.{ArgsAsks}
-
----------------------------------------------------------------- one index
--- The sheet names a term at x, whose record lies in it.
-pub record IndexAsks (s xs : List ℕ) (x : ℕ) : Type 0 where
-  pub within : x + 2 ≤ length s
-  pub term : u16At s x < length xs
-  pub start : ConstantAsks s (getD xs (u16At s x) 0)
-
--- The integer constant that it is, a number of four bytes.
-abbrev pub indexAt : List ℕ → List ℕ → ℕ → Option ℕ
-indexAt s xs x = integerAt s (getD xs (u16At s x) 0)
-
-pub record IndexIs (s xs : List ℕ) (x : ℕ) (r : Constant) : Type 0 where
-  pub is : integerOf r ≡ indexAt s xs x
-  pub small : (v : ℕ) → r ≡ Integer v → v < 4294967296
 
 ---------------------------------------------------------------- the operators
 -- The width of a vector with the index: added, or so many times.

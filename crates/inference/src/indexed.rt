@@ -2,7 +2,7 @@
 // arguments, whose sorts are in `args` from byte 3 on.
 use answers::Answer;
 use answers::arguments::Constant;
-use answers::arguments::constant_at;
+use answers::arguments::index_at;
 use answers::bit_vector;
 use answers::leaf;
 use answers::refuse;
@@ -17,17 +17,7 @@ ghost use Rattle.inferred.specs.Inferred.{extracted, resizedOf, indexed};
 ghost use Rattle.answers.specs.Answer.{AnswerIs};
 ghost use Rattle.answers.specs.Arguments.{constantsIn};
 ghost use Rattle.inferring.specs.Asks.{sortsIn};
-ghost use Rattle.inference.specs.Indexed.{IndexAsks, IndexIs, ExtractAsks, ResizeAsks, resizing, IndexedAsks, FirstAsks, GivenAsks};
-
-// The number of the term that the sheet names at `at`, where it is an integer constant; else Other.
-pub fn index_at(sheet: &[u8], starts: &[u16], at: usize) -> Constant
-    requires { ⌜ IndexAsks (now sheet) (now starts) at ⌝ }
-    ensures { λ r. ⌜ IndexIs (now (sheet .entry)) (now (starts .entry)) at r ⌝ }
-{
-    let t = u16_at(sheet, at);
-    let place = starts[t] as usize;
-    constant_at(sheet, place)
-}
+ghost use Rattle.inference.specs.Indexed.{ExtractAsks, ResizeAsks, resizing, IndexedAsks, FirstAsks, GivenAsks};
 
 // BvExtract's width from its second index and the first, i; ParamBitVec where it is no integer; Panics where it is missing or
 // over i.

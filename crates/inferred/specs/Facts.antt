@@ -1,21 +1,19 @@
 -- What the inferred sort is, stated over the width and over the columns: the group of nineteen, BvConcat, the indexed operators,
 -- and the join of relations.
 use Prim.Native.Nat.{ℕ, zero, suc, _+_, _*_, _-_, _≤_, _<_}
-use mathlib.Core.Path.{_≡_, refl, sym, ap, _∙_}
+use mathlib.Core.Path.{_≡_, refl, ap}
 use mathlib.Core.Bool.{Bool, true, false, cond}
 use mathlib.Core.List.{List, [], _∷_}
-use mathlib.Core.Option.{Option, none, some}
-use native.Mathlib.Omega.{arith}
-use lib.Dec.{eqb, leb}
+use mathlib.Core.Option.{Option, some}
 use borrow.Author.Tests.{le-leb, lt-leb}
-use Rattle.record.specs.Sort.{Sort, Sorts, var, par, node, end, _then_, bitvec, paramBitVec, set, tuple}
+use Rattle.record.specs.Sort.{Sort, Sorts, end, _then_, bitvec, paramBitVec, set, tuple}
 use Rattle.rows.specs.declared.Cause.the-variants.{Panics}
-use Rattle.rows.specs.Verdict.{Verdict, sort, refused}
+use Rattle.rows.specs.Verdict.{sort, refused}
 use Rattle.rows.specs.Lists.{joined, appended}
 use Rattle.inferred.specs.declared.Family.{Family}
 use Rattle.inferred.specs.declared.Family.the-variants.{Truth, Integer, Decimal, Text, Regular, Vector, OneBit, Bits, Constant, Concat, First, Second, Last, Sum, Element, RareList, Singleton, Tuple, UnitTuple, Transpose, Join, Product}
 use Rattle.inferred.specs.Family.{familyOf}
-use Rattle.inferred.specs.Inferred.{firstVector, concatFrom, allButLast, overBoth, joinOf, operatedBy, indexed}
+use Rattle.inferred.specs.Inferred.{concatFrom, allButLast, operatedBy, indexed}
 
 ---------------------------------------------------------------- the group of nineteen
 abbrev isVector : Family → Bool

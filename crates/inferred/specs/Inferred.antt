@@ -1,6 +1,6 @@
 -- The inferred sort of one record (Pool::compute_sort and compute_indexed_op_sort of pool/mod.rs, with overflow
 -- checks), 21 where the Rust panics.
-use Prim.Native.Nat.{ℕ, zero, suc, _+_, _*_, _-_}
+use Prim.Native.Nat.{ℕ, suc, _+_, _*_, _-_}
 use mathlib.Core.Bool.{Bool, true, false, cond, _&&_, _||_}
 use mathlib.Core.List.{List, [], _∷_}
 use mathlib.Core.Option.{Option, none, some}
@@ -9,7 +9,6 @@ use Rattle.record.specs.Sort.{Sort, Sorts, var, par, node, end, _then_, functio
 use Rattle.sheet.specs.Sheet.{Binding}
 use Rattle.substitution.specs.Substitution.{Map, empty, apply}
 use Rattle.substitution.specs.MatchWith.{isParamBitVec, isBitVec, matchAllWith}
-use Rattle.rows.specs.declared.Cause.{Cause}
 use Rattle.rows.specs.declared.Cause.the-variants.{Panics}
 use Rattle.rows.specs.Verdict.{Verdict, sort, refused, need}
 use Rattle.rows.specs.Lists.{firsts, others, remaining, lastOf, joined, appended, bindingSorts}

@@ -1,20 +1,21 @@
 -- Operator numbers by their families: one computed test for the keys of an arm, and one for each range between them.
 use Prim.Native.Nat.{ℕ, zero, suc, _+_, _≤_, _<_}
 use mathlib.Core.Path.{_≡_, refl, sym, ap, subst, _∙_}
-use mathlib.Core.Bool.{Bool, true, false, cond, _&&_, _||_, true≢false}
+use mathlib.Core.Bool.{Bool, true, _&&_, _||_}
 use mathlib.Core.List.{List, [], _∷_}
-use mathlib.Core.Logic.{_⊎_, inl, inr, ⊎-elim}
+use mathlib.Core.Logic.{_⊎_, ⊎-elim}
 use native.Mathlib.Omega.{arith}
 use native.Mathlib.Nat.{eq-or-lt-of-le}
 use native.Mathlib.Decide.{decLt}
 use lib.ListN.{getD}
 use lib.Dec.{eqb, leb}
-use borrow.Author.Tests.{eqb-true, leb-true, lt-leb, eqb-false, ne-eqb}
+use borrow.Author.Tests.{eqb-true, leb-true, lt-leb}
 use types.Run.{OneOf}
-use Rattle.record.specs.Cases.{and-left, and-right, byTest}
+use Rattle.record.specs.Cases.{and-left, and-right, false-second, or-other}
 use Rattle.inferred.specs.declared.Family.{Family}
 use Rattle.inferred.specs.declared.Family.the-variants.{Truth, Integer, Decimal, Text, Regular, Vector, OneBit, Bits, Constant, Concat, First, Second, Last, Sum, Element, RareList, Singleton, Tuple, UnitTuple, Transpose, Join, Product}
 use Rattle.inferred.specs.Family.{Families, done, range, familyIn, families, familyOf}
+use Rattle.answers.specs.Arms.{Missed, among, missed}
 
 -- A family as a number, and back.
 tagOf : Family → ℕ
@@ -98,40 +99,11 @@ keys-are f (k ∷ (l ∷ ks)) e o h =
     h
 
 ---------------------------------------------------------------- the numbers between
--- o is in none of these arms' numbers, the last arm first.
-abbrev pub Missed : List (List ℕ) → ℕ → Type 0
-Missed [] o = Unit {0}
-Missed (ks ∷ kss) o = Missed kss o × (OneOf ks o → ⊥)
-
-unfoldable keyed : List ℕ → ℕ → Bool
-keyed [] o = false
-keyed (k ∷ ks) o = eqb o k || keyed ks o
-
-unfoldable among : List (List ℕ) → ℕ → Bool
-unfolding keyed
-among [] o = false
-among (ks ∷ kss) o = keyed ks o || among kss o
-
-not-keyed : (ks : List ℕ) (o : ℕ) → (OneOf ks o → ⊥) → keyed ks o ≡ false
-unfolding keyed
-not-keyed [] o h = refl
-not-keyed (k ∷ []) o h = rw (ne-eqb o k h) refl
-not-keyed (k ∷ (l ∷ ks)) o h = rw (ne-eqb o k (λ q. h (inl q))) (not-keyed (l ∷ ks) o (λ q. h (inr q)))
-
-missed : (kss : List (List ℕ)) (o : ℕ) → Missed kss o → among kss o ≡ false
-unfolding among
-missed [] o h = refl
-missed (ks ∷ kss) o h = rw (not-keyed ks o (h .1)) (missed kss o (h .0))
-
 -- Whether the n operators from o on are of the family f or among the single numbers.
 unfoldable pub allOf : Family → List (List ℕ) → ℕ → ℕ → Bool
 unfolding ofFamily among
 allOf f kss o zero = true
 allOf f kss o (suc n) = (among kss o || ofFamily f o) && allOf f kss (suc o) n
-
-or-other : (a b : Bool) → a ≡ false → a || b ≡ true → b ≡ true
-or-other true b h e = absurd (true≢false h)
-or-other false b h e = e
 
 pub range-is : (f : Family) (kss : List (List ℕ)) (lo n : ℕ) → allOf f kss lo n ≡ true → (o : ℕ) → Missed kss o → lo ≤ o → o < lo + n → f ≡ familyOf o
 unfolding allOf
@@ -150,16 +122,12 @@ unfoldable upTo : Families → ℕ → Bool
 upTo done m = true
 upTo (range a b f fs) m = leb b m && upTo fs m
 
-and-none : (a b : Bool) → b ≡ false → a && b ≡ false
-and-none true b h = h
-and-none false b h = refl
-
 beyond : (fs : Families) (m n : ℕ) → upTo fs m ≡ true → m < n → familyIn fs n ≡ Truth
 unfolding familyIn upTo
 beyond done m n e h = refl
 beyond (range a b f fs) m n e h =
     let l = leb-true b m (and-left (leb b m) (upTo fs m) e) in
-    rw (and-none (leb a n) (leb n b) (lt-leb n b (omega arith))) (beyond fs m n (and-right (leb b m) (upTo fs m) e) h)
+    rw (false-second (leb a n) (leb n b) (lt-leb n b (omega arith))) (beyond fs m n (and-right (leb b m) (upTo fs m) e) h)
 
 pub past-all : (o : ℕ) → 134 < o → Truth ≡ familyOf o
 unfolding familyOf upTo

@@ -1,35 +1,18 @@
 -- The families of a group that are left when some were told apart.
 use Prim.Native.Nat.{ℕ}
 use mathlib.Core.Path.{_≡_, refl}
-use mathlib.Core.Bool.{Bool, true, false, _||_, false≢true}
+use mathlib.Core.Bool.{true, false≢true}
 use mathlib.Core.List.{List, [], _∷_}
-use mathlib.Core.Logic.{⊎-elim}
 use mathlib.Core.Option.{Option}
-use lib.Dec.{eqb}
-use borrow.Author.Tests.{eq-eqb}
 use types.Run.{OneOf}
 use Rattle.record.specs.Sort.{Sorts}
 use Rattle.inferred.specs.Inferred.{operatedBy}
 use Rattle.inferred.specs.declared.Family.{Family}
 use Rattle.inferred.specs.declared.Family.the-variants.{Truth, Integer, Decimal, Text, Regular, Vector, OneBit, Bits, Constant, Concat, First, Second, Last, Sum, Element, RareList, Singleton, Tuple, UnitTuple, Transpose, Join, Product}
+use Rattle.answers.specs.Arms.{keyed, one-keyed}
 use Rattle.inferring.specs.Operators.{noConstants, makes, looks}
 use denote.Enum.Declared.{tagOf}
 use Rattle.inferred.proofs.Family.{the-type}
-
-unfoldable keyed : List ℕ → ℕ → Bool
-keyed [] o = false
-keyed (k ∷ ks) o = eqb o k || keyed ks o
-
-or-right : (a b : Bool) → b ≡ true → a || b ≡ true
-or-right true b h = refl
-or-right false b h = h
-
-one-keyed : (ks : List ℕ) (o : ℕ) → OneOf ks o → keyed ks o ≡ true
-unfolding keyed
-one-keyed [] o h = absurd h
-one-keyed (k ∷ []) o h = rw (eq-eqb o k h) refl
-one-keyed (k ∷ (l ∷ ks)) o h =
-    ⊎-elim (λ (q : o ≡ k). rw (eq-eqb o k q) refl) (λ (q : OneOf (l ∷ ks) o). or-right (eqb o k) (keyed (l ∷ ks) o) (one-keyed (l ∷ ks) o q)) h
 
 -- The numbers of the families that are not Singleton, Tuple, UnitTuple, Transpose or Join.
 abbrev pub others : List ℕ

@@ -1,25 +1,24 @@
 -- The columns of relations in the store's bytes, and the lists that are put together of them.
 use Prim.Native.Nat.{ℕ, zero, suc, _+_, _*_, _-_, _≤_, _<_}
 use mathlib.Core.Path.{_≡_, refl, sym, ap, ap₂, subst, _∙_}
-use mathlib.Core.Bool.{Bool, true, false, cond, _&&_}
-use mathlib.Core.List.{List, [], _∷_}
-use mathlib.Core.Option.{Option, none, some}
+use mathlib.Core.Bool.{Bool, true, false}
+use mathlib.Core.List.{List}
+use mathlib.Core.Option.{none, some}
 use native.Mathlib.Omega.{arith}
-use native.Mathlib.Numerals.{add-one}
 use native.Mathlib.Nat.{not-suc-le-zero}
 use native.Mathlib.Decide.{decLt}
 use lib.ListN.{length, getD}
-use lib.Dec.{eqb, leb}
+use lib.Dec.{leb}
 use borrow.Author.Tests.{ne-eqb, le-leb, lt-leb}
 use Rattle.record.specs.Number.{u16At, numbersAt}
 use Rattle.record.specs.Sort.{Sort, Sorts, var, par, node, end, _then_, set, tuple, kindOf}
 use Rattle.record.specs.Record.{Fields, leaf, leasts, leastOf, sortsOf}
-use Rattle.record.specs.Decode.{fields, fieldsAt, storeOf, sortAt, Stored}
+use Rattle.record.specs.Decode.{fieldsAt, storeOf, sortAt, Stored}
 use Rattle.record.specs.Codec.{length-numbersAt}
 use Rattle.record.specs.StoreLaws.{parts-more}
 use Rattle.record.specs.declared.SortRecord.{SortRecord}
 use Rattle.store.specs.Good.{Good}
-use Rattle.store.specs.Entry.{EntryAsks, EntryIs, EntryHas}
+use Rattle.store.specs.Entry.{EntryAsks, EntryHas}
 use Rattle.store.specs.Walk.{entry-asks, walk-node}
 use Rattle.rows.specs.declared.Cause.the-variants.{Panics}
 use Rattle.rows.specs.Verdict.{Verdict, sort, refused}
@@ -27,12 +26,11 @@ use Rattle.rows.specs.Lists.{appended}
 use Rattle.inferred.specs.Inferred.{columns, relation, backwards, allButLast, joinOf, productOf, overColumns, overBoth, transposeOf}
 use Rattle.answers.specs.Arguments.{putAt, Filled, filled-more}
 use Rattle.answers.specs.Asks.{ListAsks}
-use Rattle.answers.specs.Heads.{KnownIn, HeadAsks}
-use Rattle.inferring.specs.declared.relations.Columns.{Columns}
+use Rattle.answers.specs.Heads.{HeadAsks}
 use Rattle.inferring.specs.declared.relations.Columns.the-variants.{Are, NoColumns}
 use Rattle.inferring.specs.declared.relations.Both.the-variants.{Have, Lack}
-use Rattle.inferring.specs.Asks.{Referring, sortsIn, ReadAsks, ArgsAsks, args-refer, refer-first, refer-rest, sorts-first}
-use Rattle.inferring.specs.Relations.{Standing, ColumnsIs, ColumnsHas, Having, BothIs, BothHas, PutAsks, PutHas, backAt, BackwardsIs, SideAsks}
+use Rattle.inferring.specs.Asks.{Referring, sortsIn, ReadAsks, ArgsAsks, refer-first, refer-rest, sorts-first}
+use Rattle.inferring.specs.Relations.{Standing, ColumnsHas, Having, BothHas, PutAsks, PutHas, BackwardsIs, SideAsks}
 
 ---------------------------------------------------------------- the columns of a sort
 not-set : (s : Sort) → (kindOf s ≡ 14 → ⊥) → columns s ≡ none

@@ -1,37 +1,32 @@
 -- One argument, by its place; Real among the arguments; the element of an Array; the constants that arguments are.
 use Prim.Native.Nat.{ℕ, zero, suc, _+_, _*_, _-_, _≤_, _<_}
 use mathlib.Core.Path.{_≡_, refl, sym, ap, subst, _∙_}
-use mathlib.Core.Bool.{Bool, true, false, _&&_, _||_}
+use mathlib.Core.Bool.{Bool, true, false}
 use mathlib.Core.List.{List, [], _∷_}
 use mathlib.Core.Option.{Option, none, some}
 use native.Mathlib.Omega.{arith}
 use native.Mathlib.Nat.{not-suc-le-zero}
 use lib.ListN.{length, getD}
-use lib.Dec.{eqb}
-use borrow.Author.Tests.{eq-eqb, ne-eqb}
+use borrow.Author.Tests.{ne-eqb}
 use Rattle.record.specs.Number.{u16At, numbersAt}
-use Rattle.record.specs.Sort.{Sort, Sorts, var, par, node, end, _then_, real, bitvec, paramBitVec, kindOf, count, same, sameAll}
+use Rattle.record.specs.Sort.{Sort, Sorts, var, par, node, end, _then_, real, bitvec, paramBitVec, kindOf, count, same}
 use Rattle.record.specs.Record.{Fields, leaf, maps, mapOf, bit, leasts, leastOf, sortsOf}
-use Rattle.record.specs.Decode.{fields, fieldsAt, storeOf, sortAt, Stored}
+use Rattle.record.specs.Decode.{fieldsAt, storeOf, sortAt, Stored}
 use Rattle.record.specs.Codec.{length-numbersAt}
 use Rattle.record.specs.declared.SortRecord.{SortRecord}
 use Rattle.store.specs.Entry.{EntryAsks, EntryIs, EntryHas, KindHas}
 use Rattle.store.specs.Walk.{entry-asks, walk-node}
-use Rattle.store.specs.Good.{Good}
 use Rattle.record.specs.Store.{fieldsOf}
 use Rattle.record.specs.Sizes.{Formed, sort-formed, length-indices}
-use Rattle.record.specs.Forms.{Which, isVar, isPar, isNode, which, sort-var, sort-par, sort-other}
 use Rattle.record.specs.StoreLaws.{sort-node}
 use Rattle.rows.specs.declared.Cause.the-variants.{Panics}
 use Rattle.rows.specs.Verdict.{Verdict, sort, refused}
 use Rattle.rows.specs.Lists.{lastOf}
-use Rattle.inferred.specs.Inferred.{finalOf, someReal, elementOf, selected, rareOf, singletonOf, constantWidth}
-use Rattle.answers.specs.declared.Answer.{Answer}
+use Rattle.inferred.specs.Inferred.{finalOf, someReal, elementOf, selected, constantWidth}
 use Rattle.answers.specs.declared.arguments.Constant.{Constant}
-use Rattle.answers.specs.declared.arguments.Constant.the-variants.{Integer, Other}
 use Rattle.answers.specs.Arguments.{integerOf, integerAt, ConstantAsks}
 use Rattle.answers.specs.Arguments.{constantsFrom, constantsIn, ConstantsAsk}
-use Rattle.inferring.specs.Asks.{Referring, sortsIn, ReadAsks, ArgsAsks, args-refer, refer-first, sorts-first}
+use Rattle.inferring.specs.Asks.{Referring, sortsIn, refer-first, sorts-first}
 use Rattle.inferring.specs.Single.{nthOf, lastFrom, RealHas}
 use Rattle.inferring.proofs.WalkLaws.{Walking, walk-end, walk-here, walk-on, walk-kind, walk-known}
 

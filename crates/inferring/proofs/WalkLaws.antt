@@ -1,29 +1,29 @@
 -- Loops over the arguments: what is left of them computes the whole; and what each argument of a vector operator does.
-use Prim.Native.Nat.{ℕ, zero, suc, _+_, _*_, _-_, _≤_, _<_}
+use Prim.Native.Nat.{ℕ, _+_, _*_, _-_, _≤_, _<_}
 use mathlib.Core.Path.{_≡_, refl, sym, ap, subst, _∙_}
 use mathlib.Core.Bool.{Bool, true, false, _||_}
 use mathlib.Core.List.{List}
 use mathlib.Core.Logic.{⊎-elim}
 use native.Mathlib.Omega.{arith}
 use native.Mathlib.Nat.{eq-or-lt-of-le}
-use lib.ListN.{length, getD}
+use lib.ListN.{length}
 use lib.Dec.{eqb}
 use borrow.Author.Tests.{eq-eqb, ne-eqb}
 use Rattle.record.specs.Number.{u16At, numbersAt}
-use Rattle.record.specs.Sort.{Sort, Sorts, var, par, node, end, _then_, bitvec, paramBitVec, kindOf, numberIn}
+use Rattle.record.specs.Sort.{Sort, Sorts, end, _then_, kindOf, numberIn}
 use Rattle.record.specs.Record.{sortsOf, Fields}
-use Rattle.record.specs.Decode.{fields, fieldsAt, storeOf, sortAt, Stored}
+use Rattle.record.specs.Decode.{sortAt}
 use Rattle.record.specs.declared.SortRecord.{SortRecord}
-use Rattle.substitution.specs.MatchWith.{isParamBitVec, isBitVec}
 use Rattle.store.specs.Entry.{EntryAsks, EntryIs, EntryHas, KindHas}
 use Rattle.store.specs.Walk.{entry-asks}
+use Rattle.substitution.specs.MatchWithLaws.{param-kind, vector-kind}
 use Rattle.rows.specs.declared.Cause.the-variants.{Panics}
 use Rattle.rows.specs.Verdict.{Verdict, sort, refused}
 use Rattle.inferred.specs.Inferred.{firstVector, concatUnknown, concatFrom}
 use Rattle.inferring.specs.declared.vectors.Scan.the-variants.{Vector, Nothing, Other}
 use Rattle.inferring.specs.declared.vectors.Widths.the-variants.{Sum, Unknown, NoVector}
 use Rattle.inferring.specs.Asks.{Referring, sortsIn, ReadAsks, refer-first, refer-rest, sorts-first}
-use Rattle.inferring.specs.Vectors.{ScanIs, ScanHas, VectorsHas, FewReferring, WidthAsks, WidthsHas}
+use Rattle.inferring.specs.Vectors.{ScanHas, VectorsHas, WidthAsks, WidthsHas}
 
 -- f of the `left` arguments from `at` on is g of all.
 pub record Walking (T : Type 0) (f g : Sorts → T) (b p a : List ℕ) (x m at left : ℕ) : Type 0 where
@@ -71,10 +71,6 @@ module _ {T : Type 0} {f g : Sorts → T} {b p a : List ℕ} {x m at left : ℕ}
       pub walk-read : (r : SortRecord) → EntryHas b p k r → (n : ℕ) → Referring b p n a x m → EntryIs b p n k r
       walk-read r q n h = q n (h .stored) (walk-known n h)
 
-pub pos : (i : ℕ) → (i ≡ 0 → ⊥) → 0 < i
-pos zero h = absurd (h refl)
-pos (suc i) h = omega arith
-
 pub none-left : (i : ℕ) → i ≤ 0 → i ≡ 0
 none-left i h = omega arith
 
@@ -85,16 +81,6 @@ pub few-of : {b p a : List ℕ} {m : ℕ} → WidthAsks b p a m → m ≤ 64
 few-of (n, f) = f .few
 
 ---------------------------------------------------------------- one argument of a vector operator
-pub param-kind : (s : Sort) → isParamBitVec s ≡ eqb (kindOf s) 10
-param-kind (var v) = refl
-param-kind (par ns b) = refl
-param-kind (node k a w ss) = refl
-
-vector-kind : (s : Sort) → isBitVec s ≡ eqb (kindOf s) 9 || eqb (kindOf s) 10
-vector-kind (var v) = refl
-vector-kind (par ns b) = refl
-vector-kind (node k a w ss) = refl
-
 apart : (k i j : ℕ) → k ≡ i → (i ≡ j → ⊥) → k ≡ j → ⊥
 apart k i j e d q = d (sym e ∙ q)
 

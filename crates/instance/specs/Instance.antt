@@ -2,7 +2,7 @@
 -- list but the names of a Par, which only become fewer, so that the tree size alone decides whether it is over a limit.
 use Prim.Native.Nat.{ℕ, zero, suc, _≤_, _<_}
 use mathlib.Core.Path.{_≡_, refl, sym, ap, ap₂, subst, _∙_}
-use mathlib.Core.Bool.{Bool, true, false, cond, _&&_}
+use mathlib.Core.Bool.{true, _&&_}
 use mathlib.Core.List.{List, [], _∷_}
 use mathlib.Core.Option.{Option, none, some}
 use native.Mathlib.Omega.{arith}
@@ -15,7 +15,8 @@ use Rattle.record.specs.Decode.{storeOf, sortAt}
 use Rattle.record.specs.Cases.{and-left, and-right}
 use Rattle.record.specs.StoreLaws.{storeOf-length}
 use Rattle.store.specs.Good.{Good}
-use Rattle.substitution.specs.Substitution.{Map, find, orElse, bound, left, under, apply, applyAll}
+use Rattle.substitution.specs.Substitution.{Map, find, orElse, left, under, apply, applyAll}
+use Rattle.substitution.specs.SubstitutionLaws.{count-applied, left-few}
 use Rattle.apply.specs.declared.Applied.{Applied}
 use Rattle.apply.specs.declared.Applied.the-variants.{Is, TooLarge, NoRoom}
 use Rattle.apply.specs.Images.{imageAt, Images, images-apply}
@@ -26,7 +27,7 @@ use Rattle.rows.specs.Outcome.{shallow, shallowAll, within}
 use Rattle.answers.specs.declared.Answer.{Answer}
 use Rattle.answers.specs.Answer.{AnswerIs, accepting, refusing}
 use Rattle.answers.specs.AnswerLaws.{untouched-as, answer-limit, answer-full, answer-made}
-use Rattle.answers.specs.Within.{within-at, over-size}
+use Rattle.answers.specs.Within.{over-size, shallow-at}
 
 -- THE ANSWER r TO THE SORT k of the store with its names replaced, for every map that the table l stands for.
 abbrev pub InstanceIs : List ℕ → List ℕ → ℕ → List ℕ → ℕ → List ℕ → List ℕ → List ℕ → List ℕ → List ℕ → Answer → Type 0
@@ -40,25 +41,10 @@ answerOf n u TooLarge = refusing Limit n u
 answerOf n u NoRoom = refusing Full n u
 
 ---------------------------------------------------------------- replacing keeps widths and lists
--- Names of a Par only become fewer.
-left-fewer : (θ : Map) (ns : List ℕ) → length (left θ ns) ≤ length ns
-unfolding left
-left-fewer θ [] = omega arith
-left-fewer θ (n ∷ ns) = go (bound θ n) (left-fewer θ ns)
-  where
-    go : (t : Bool) → length (left θ ns) ≤ length ns → length (cond t (left θ ns) (n ∷ left θ ns)) ≤ suc (length ns)
-    go true h = omega arith
-    go false h = omega arith
-
 shallow-under : (ns : List ℕ) (s : Sort) → length ns ≤ 64 → shallow s ≡ true → shallow (under ns s) ≡ true
 unfolding shallow
 shallow-under [] s h e = e
 shallow-under (n ∷ ns) s h e = ap₂ _&&_ (le-leb (length (n ∷ ns)) 64 h) e
-
-pub count-apply : (θ : Map) (ss : Sorts) → count (applyAll θ ss) ≡ count ss
-unfolding count apply
-count-apply θ end = refl
-count-apply θ (s then ss) = ap suc (count-apply θ ss)
 
 -- EVERY IMAGE KEEPS THE LIMITS of widths and lists: so does the sort replaced.
 module _ (θ : Map) (each : (v : ℕ) (s : Sort) → find θ v ≡ some s → shallow s ≡ true) where
@@ -74,12 +60,12 @@ module _ (θ : Map) (each : (v : ℕ) (s : Sort) → find θ v ≡ some s → sh
     shallow-apply (var v) h = shallow-image v (find θ v) refl
     shallow-apply (par ns b) h =
         shallow-under (left θ ns) (apply θ b)
-        (omega (arith, left-fewer θ ns, leb-true (length ns) 64 (and-left (leb (length ns) 64) (shallow b) h)))
+        (omega (arith, left-few θ ns, leb-true (length ns) 64 (and-left (leb (length ns) 64) (shallow b) h)))
         (shallow-apply b (and-right (leb (length ns) 64) (shallow b) h))
     shallow-apply (node k a w ss) h =
         let r = and-right (leb w 65535) (leb (count ss) 64 && shallowAll ss) h in
         ap₂ _&&_ (and-left (leb w 65535) (leb (count ss) 64 && shallowAll ss) h)
-        (ap₂ _&&_ (ap (λ (c : ℕ). leb c 64) (count-apply θ ss) ∙ and-left (leb (count ss) 64) (shallowAll ss) r)
+        (ap₂ _&&_ (ap (λ (c : ℕ). leb c 64) (count-applied θ ss) ∙ and-left (leb (count ss) 64) (shallowAll ss) r)
         (shallow-all-apply ss (and-right (leb (count ss) 64) (shallowAll ss) r)))
 
     pub shallow-all-apply : (ss : Sorts) → shallowAll ss ≡ true → shallowAll (applyAll θ ss) ≡ true
@@ -89,16 +75,12 @@ module _ (θ : Map) (each : (v : ℕ) (s : Sort) → find θ v ≡ some s → sh
 
 -- OVER A GOOD STORE the images and the sort are sorts of the store, so the tree size alone decides.
 module _ (b p hs ns zs : List ℕ) (n u : ℕ) (g : Good b p hs ns zs n u) (l : List ℕ) (θ : Map) (m : Images (storeOf b p n) l θ) where
-  pub stored-shallow : (k : ℕ) → k < n → shallow (sortAt b p n k) ≡ true
-  unfolding within
-  stored-shallow k h = and-left (shallow (sortAt b p n k)) (leb (size (sortAt b p n k)) 4096) (within-at b p hs ns zs n u g k h)
-
   image-shallow : (v e : ℕ) → getD l v 0 ≡ e → (s : Sort) → imageAt (storeOf b p n) e ≡ some s → shallow s ≡ true
   unfolding sortAt
   image-shallow v zero q s o = let z : _≡_ {A = ℕ} 0 1 = cc in absurd (omega arith)
   image-shallow v (suc j) q s o =
       let e : getD (storeOf b p n) j leaf ≡ s = cc in
-      ap shallow (sym e) ∙ stored-shallow j (omega (arith, q, m .table .below v, storeOf-length b p n))
+      ap shallow (sym e) ∙ shallow-at b p n (g .stored) j (omega (arith, q, m .table .below v, storeOf-length b p n))
 
   pub each-image : (v : ℕ) (s : Sort) → find θ v ≡ some s → shallow s ≡ true
   each-image v s e = image-shallow v (getD l v 0) refl s (sym (m .look v) ∙ e)
@@ -106,7 +88,7 @@ module _ (b p hs ns zs : List ℕ) (n u : ℕ) (g : Good b p hs ns zs n u) (l : 
   instance-within : (k : ℕ) → k < n → size (apply θ (sortAt b p n k)) ≤ 4096 → within (apply θ (sortAt b p n k)) ≡ true
   unfolding within
   instance-within k h o =
-      ap₂ _&&_ (shallow-apply θ each-image (sortAt b p n k) (stored-shallow k h)) (le-leb (size (apply θ (sortAt b p n k))) 4096 o)
+      ap₂ _&&_ (shallow-apply θ each-image (sortAt b p n k) (shallow-at b p n (g .stored) k h)) (le-leb (size (apply θ (sortAt b p n k))) 4096 o)
 
 -- WHAT SUBSTITUTION GIVES is the answer, where the tree size alone decides.
 module _ (b p hs ns zs : List ℕ) (n u : ℕ) (g : Good b p hs ns zs n u) where

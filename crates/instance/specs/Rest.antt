@@ -14,6 +14,7 @@ use Rattle.record.specs.Codec.{length-numbersAt}
 use Rattle.record.specs.Sizes.{count-sorts}
 use Rattle.store.specs.Good.{Good}
 use Rattle.substitution.specs.Substitution.{Map, apply, applyAll}
+use Rattle.substitution.specs.SubstitutionLaws.{count-applied}
 use Rattle.apply.specs.declared.Applied.{Applied}
 use Rattle.apply.specs.Images.{Images, images-applyAll}
 use Rattle.apply.specs.Contract.{functionAt, ApplyAsks, FunctionAsks, AppliedIs}
@@ -23,7 +24,9 @@ use Rattle.rows.specs.Lists.{remaining}
 use Rattle.answers.specs.declared.Answer.{Answer}
 use Rattle.answers.specs.Answer.{AnswerIs}
 use Rattle.answers.specs.AnswerLaws.{judged-as}
-use Rattle.instance.specs.Instance.{InstanceIs, answerOf, count-apply, shallow-all-apply, stored-shallow, each-image, applied-answer}
+use Rattle.answers.specs.Within.{shallow-at}
+use Rattle.answers.specs.Records.{remaining-many, remaining-one}
+use Rattle.instance.specs.Instance.{InstanceIs, answerOf, shallow-all-apply, each-image, applied-answer}
 
 -- At most 64 numbers of sorts, two bytes each from x on, as for a Function of them.
 abbrev pub RestAsks : List ℕ → List ℕ → List ℕ → List ℕ → List ℕ → ℕ → ℕ → List ℕ → ℕ → ℕ → Type 0
@@ -35,17 +38,6 @@ abbrev pub RestIs : List ℕ → List ℕ → ℕ → List ℕ → ℕ → ℕ �
 RestIs b p n l x m b′ p′ hs′ ns′ zs′ r =
     (θ : Map) → Images (storeOf b p n) l θ
     → AnswerIs b p n (sort (apply θ (remaining (sortsOf (storeOf b p n) (numbersAt b x m))))) b′ p′ hs′ ns′ zs′ r
-
--- One sort by itself; any other number of them is a Function.
-remaining-one : (b p : List ℕ) (n x m : ℕ) → m ≡ 1 → remaining (sortsOf (storeOf b p n) (numbersAt b x m)) ≡ sortAt b p n (u16At b x)
-unfolding sortsOf numbersAt sortAt
-remaining-one b p n x m e = rw e
-
-remaining-function : (st : List Sort) (b : List ℕ) (x m : ℕ) → (m ≡ 1 → ⊥) → remaining (sortsOf st (numbersAt b x m)) ≡ function (sortsOf st (numbersAt b x m))
-unfolding sortsOf numbersAt
-remaining-function st b x zero h = refl
-remaining-function st b x (suc zero) h = absurd (h refl)
-remaining-function st b x (suc (suc m)) h = refl
 
 apply-function : (θ : Map) (ss : Sorts) → apply θ (function ss) ≡ function (applyAll θ ss)
 unfolding apply
@@ -64,8 +56,9 @@ module _ (b p hs ns zs : List ℕ) (n u : ℕ) (l : List ℕ) (x m : ℕ) (a : R
 
   pub one-is : m ≡ 1 → (k : ℕ) → k ≡ u16At b x → (b′ p′ hs′ ns′ zs′ : List ℕ) (r : Answer) → InstanceIs b p n l k b′ p′ hs′ ns′ zs′ r
       → RestIs b p n l x m b′ p′ hs′ ns′ zs′ r
+  unfolding sortAt
   one-is e k q b′ p′ hs′ ns′ zs′ r h θ t =
-      judged-as (ap (λ (s : Sort). sort (apply θ s)) (remaining-one b p n x m e ∙ ap (sortAt b p n) (sym q))) (h θ t)
+      judged-as (ap (λ (s : Sort). sort (apply θ s)) (remaining-one (storeOf b p n) b x m e ∙ ap (sortAt b p n) (sym q))) (h θ t)
 
 -- OVER A GOOD STORE each sort of the list keeps the limits of widths and lists.
 module _ (b p hs ns zs : List ℕ) (n u : ℕ) (g : Good b p hs ns zs n u) (l : List ℕ) (θ : Map) (t : Images (storeOf b p n) l θ) where
@@ -74,7 +67,7 @@ module _ (b p hs ns zs : List ℕ) (n u : ℕ) (g : Good b p hs ns zs n u) (l : 
   list-shallow x zero h = refl
   list-shallow x (suc m) h =
       let z : x + 2 * 0 ≡ x = omega arith in
-      ap₂ _&&_ (stored-shallow b p hs ns zs n u g l θ t (u16At b x) (omega (arith, ap (u16At b) z, h 0 (omega arith))))
+      ap₂ _&&_ (shallow-at b p n (g .stored) (u16At b x) (omega (arith, ap (u16At b) z, h 0 (omega arith))))
       (list-shallow (x + 2) m
       (λ j o.
       let e : x + 2 * suc j ≡ x + 2 + 2 * j = omega arith in omega (arith, ap (u16At b) e, h (suc j) (omega arith))))
@@ -87,7 +80,7 @@ module _ (b p hs ns zs : List ℕ) (n u : ℕ) (g : Good b p hs ns zs n u) (l : 
       let ss = sortsOf (storeOf b p n) (numbersAt b x m) in
       ap₂ _&&_
       (shallow-function (applyAll θ ss)
-      (omega (arith, count-apply θ ss, count-sorts (storeOf b p n) (numbersAt b x m), length-numbersAt b x m))
+      (omega (arith, count-applied θ ss, count-sorts (storeOf b p n) (numbersAt b x m), length-numbersAt b x m))
       (shallow-all-apply θ (each-image b p hs ns zs n u g l θ t) ss (list-shallow x m h)))
       (le-leb (size (function (applyAll θ ss))) 4096 o)
 
@@ -97,7 +90,7 @@ pub rest-of : (b p hs ns zs : List ℕ) (n u : ℕ) (l : List ℕ) (x m : ℕ) �
     → RestIs b p n l x m b′ p′ hs′ ns′ zs′ (answerOf n u r)
 rest-of b p hs ns zs n u l x m a other b′ p′ hs′ ns′ zs′ r w θ t =
     let ss = sortsOf (storeOf b p n) (numbersAt b x m) in
-    judged-as (ap sort (ap (apply θ) (remaining-function (storeOf b p n) b x m other) ∙ apply-function θ ss))
+    judged-as (ap sort (ap (apply θ) (remaining-many (storeOf b p n) b x m other) ∙ apply-function θ ss))
     (applied-answer b p hs ns zs n u (a .ready .good) (function (applyAll θ ss))
     (rest-within b p hs ns zs n u (a .ready .good) l θ t x m (a .below) (a .few)) b′ p′ hs′ ns′ zs′ r
     (subst (λ (qs : Sorts). AppliedIs b p hs ns zs n u (function qs) b′ p′ hs′ ns′ zs′ r) (images-applyAll (storeOf b p n) l θ t ss) w))

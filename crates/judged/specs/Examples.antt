@@ -3,7 +3,7 @@
 use Prim.Native.Nat.{ℕ}
 use mathlib.Core.Path.{_≡_, refl}
 use mathlib.Core.List.{List, [], _∷_}
-use Rattle.record.specs.Sort.{Sort, Sorts, var, par, end, _then_, function, bool, int, real, string, reglan, array, bitvec, paramBitVec, type, set, tuple}
+use Rattle.record.specs.Sort.{Sort, Sorts, var, par, end, _then_, function, bool, int, real, string, array, bitvec, paramBitVec, type, set, tuple}
 use Rattle.sheet.specs.Sheet.{Lengths, Binding}
 use Rattle.rows.specs.declared.Cause.the-variants.{Below, Panics, NoRank, Count, Misfit, Unassigned, Barred, NoAssignment}
 use Rattle.rows.specs.Verdict.{Verdict, sort, refused}

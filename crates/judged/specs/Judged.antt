@@ -1,6 +1,6 @@
 -- The judgement of a whole sheet: what the entry point returns, and what the four lent buffers then hold.
 use Prim.Native.Nat.{ℕ}
-use mathlib.Core.List.{List, []}
+use mathlib.Core.List.{List}
 use lib.ListN.{replicate}
 use Rattle.record.specs.Sort.{Sort}
 use Rattle.record.specs.Store.{padded, storeBytes, storePlaces}

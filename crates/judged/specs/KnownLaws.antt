@@ -1,7 +1,7 @@
 -- Every row that names a sort names one of the store that is left, and so does every answer to a match or an apply.
-use Prim.Native.Nat.{ℕ, zero, suc, _+_, _*_, _-_, _≤_, _<_}
-use mathlib.Core.Path.{_≡_, refl, sym, ap, subst, _∙_}
-use mathlib.Core.Bool.{Bool, true, false, _||_}
+use Prim.Native.Nat.{ℕ, zero, suc, _+_, _*_, _-_, _<_}
+use mathlib.Core.Path.{_≡_, refl, sym, ap, subst}
+use mathlib.Core.Bool.{false}
 use mathlib.Core.List.{List, [], _∷_}
 use native.Mathlib.Omega.{arith}
 use lib.ListN.{length, getD}
@@ -10,7 +10,7 @@ use borrow.Author.Tests.{ne-eqb, ltb-true, ltb-false}
 use Rattle.record.specs.Sort.{Sort}
 use Rattle.record.specs.SortLists.{starts-count}
 use Rattle.record.specs.Cases.{byTest}
-use Rattle.sheet.specs.Sheet.{Lengths, Sheet, TermFields, QuestionFields}
+use Rattle.sheet.specs.Sheet.{Lengths, Sheet, TermFields}
 use Rattle.rows.specs.declared.Cause.the-variants.{Limit, Full}
 use Rattle.rows.specs.Verdict.{Verdict, sort, refused, numberOf}
 use Rattle.rows.specs.Term.{Site, verdictAt}

@@ -39,10 +39,6 @@ pub answer-compatible : (l : Lengths) (q : QuestionFields) (st : List Sort) → 
 unfolding answerOf
 answer-compatible l q st e = simp e
 
-yesNo-small : (b : Bool) → yesNo b ≤ 1
-yesNo-small true = omega arith
-yesNo-small false = omega arith
-
 -- QUESTIONS 1 AND 2 ARE ANSWERED BY THEIR VERDICTS.
 pub answer-is : (l : Lengths) (q : QuestionFields) (st : List Sort) → eqb (q .kind) 0 ≡ false → answerOf l q st ≡ outcome l st (answerVerdict q)
 unfolding answerOf answerVerdict

@@ -37,7 +37,7 @@ uneven l end (t then ts) m d = refl
 uneven l (p then ps) end m d = refl
 uneven l (p then ps) (t then ts) m d = and-none (matches l p t m) (λ k. matchesAll l ps ts k) (λ k. uneven l ps ts k (λ e. d (ap suc e)))
 
-keep-none : (c : Bool) → keep c none ≡ none
+pub keep-none : (c : Bool) → keep c none ≡ none
 keep-none true = refl
 keep-none false = refl
 

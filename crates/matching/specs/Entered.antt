@@ -1,7 +1,7 @@
 -- The sorts of a store by their numbers, for walks: an entry's three forms, its parts and their sizes, equality by number,
 -- and lists of numbers taken apart.
-use Prim.Native.Nat.{ℕ, zero, suc, _+_, _*_, _-_, _≤_, _<_}
-use mathlib.Core.Path.{_≡_, refl, sym, ap, subst, _∙_}
+use Prim.Native.Nat.{ℕ, suc, _+_, _*_, _-_, _≤_, _<_}
+use mathlib.Core.Path.{_≡_, sym, ap, subst, _∙_}
 use mathlib.Core.Bool.{true, false, _&&_}
 use mathlib.Core.List.{List}
 use native.Mathlib.Omega.{arith}
@@ -11,31 +11,23 @@ use borrow.Author.Tests.{eqb-true}
 use Rattle.record.specs.Cases.{and-left, and-right}
 use Rattle.record.specs.Names.{distinct}
 use Rattle.record.specs.Number.{u16At, numbersAt}
-use Rattle.record.specs.Sort.{Sort, Sorts, var, par, node, end, _then_, size, sizes, partsOf, same}
+use Rattle.record.specs.Sort.{Sort, var, par, node, end, _then_, size, sizes, same}
 use Rattle.record.specs.SortLaws.{same-complete, same-other}
-use Rattle.record.specs.Record.{Fields, leaf, sortOf}
+use Rattle.record.specs.Record.{Fields, leaf}
 use Rattle.record.specs.Store.{memb}
-use Rattle.record.specs.Decode.{fields, fieldsAt, storeOf, sortAt, Stored}
-use Rattle.record.specs.Forms.{sort-var, sort-par, sort-other, par-one}
+use Rattle.record.specs.Decode.{fields, fieldsAt, storeOf, sortAt}
 use Rattle.record.specs.SortLists.{memb-at}
-use Rattle.record.specs.StoreLaws.{storeOf-length, sort-node, parts-end, parts-more, sorts-one}
+use Rattle.record.specs.StoreLaws.{storeOf-length, parts-end, parts-more, sorts-one}
 use Rattle.record.specs.declared.SortRecord.{SortRecord}
 use Rattle.store.specs.Good.{Good}
 use Rattle.store.specs.Entry.{EntryIs, EntryHas}
 use Rattle.store.specs.Walk.{walk-var, walk-one, walk-par, walk-node, walk-size}
 use Rattle.matching.specs.Tables.{VarIn}
 use Rattle.matching.specs.Contract.{Usable, Refs, sortsAt, sameHead}
-use Rattle.matching.specs.TableLaws.{numbers-more}
 
 -- A good store is usable.
 pub good-usable : (b p hs ns zs : List ℕ) (n u : ℕ) → Good b p hs ns zs n u → Usable b p n
 good-usable b p hs ns zs n u g = record { stored = g .stored; distinct = g .distinct; count = g .indexed .count }
-
-pub size-pos : (s : Sort) → 1 ≤ size s
-unfolding size
-size-pos (var v) = omega arith
-size-pos (par ns b) = omega arith
-size-pos (node k a w ss) = omega arith
 
 ---------------------------------------------------------------- equality by number
 module _ (b p : List ℕ) (n : ℕ) (u : Usable b p n) (k j : ℕ) (lk : k < n) (lj : j < n) where
@@ -46,11 +38,6 @@ module _ (b p : List ℕ) (n : ℕ) (u : Usable b p n) (k j : ℕ) (lk : k < n) 
   other-number d = same-other (sortAt b p n k) (sortAt b p n j) (λ e. d (sorts-one b p n (u .stored) (u .distinct) k j lk lj e))
 
 ---------------------------------------------------------------- lists of numbers
-pub length-at : (s : List ℕ) (x m : ℕ) → length (numbersAt s x m) ≡ m
-unfolding numbersAt
-length-at s x zero = refl
-length-at s x (suc m) = ap suc (length-at s (x + 2) m)
-
 module _ (s : List ℕ) (x m n : ℕ) (some : 0 < m) (r : Refs s x m n) where
   pub refs-first : u16At s x < n
   refs-first = let e : x + 2 * 0 ≡ x = omega arith in subst (λ (i : ℕ). u16At s i < n) e (r .below 0 some)

@@ -2,4 +2,3 @@ pub mod Tables
 pub mod Contract
 pub mod TableLaws
 pub mod Entered
-pub mod Asked

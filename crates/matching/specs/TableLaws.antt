@@ -14,13 +14,14 @@ use lib.Dec.{eqb}
 use borrow.Author.Tests.{eqb-true, eqb-false, eq-eqb, ne-eqb}
 use Rattle.record.specs.Cases.{byTest, and-left, and-right, not-true, clash, eqb-self}
 use Rattle.record.specs.Names.{member, distinct}
-use Rattle.record.specs.Number.{u16At, numbersAt}
+use Rattle.record.specs.Number.{numbersAt}
 use Rattle.record.specs.Sort.{Sort, var}
 use Rattle.record.specs.Record.{leaf}
 use Rattle.record.specs.Store.{indexOf}
-use Rattle.record.specs.SortLists.{below-suc, index-found, Starts, starts-at, starts-count, memb-starts}
+use Rattle.record.specs.SortLists.{below-suc, index-found}
 use Rattle.record.specs.StoreLaws.{storeOf-length}
 use Rattle.record.specs.Decode.{storeOf, sortAt, Zeros}
+use Rattle.store.specs.Good.{zeros-same}
 use Rattle.substitution.specs.Substitution.{empty, bind, find}
 use Rattle.substitution.specs.Matching.{listedIn}
 use Rattle.matching.specs.Tables.{times, Lists, Roomy, listed, Told, Added, imageOf, mapOf, Tabled, VarIn, Mapped, Cleared}
@@ -99,12 +100,14 @@ pub added-back : (prm us mid prm′ : List ℕ) → Added prm us mid → Added p
 added-back prm us mid prm′ a c =
     ext-getD 0 prm′ prm (sym (c .long) ∙ a .long) (λ v h. omega (arith, a .each v, c .each v))
 
----------------------------------------------------------------- what a name is bound to
-pub numbers-more : (s : List ℕ) (x m : ℕ) → 0 < m → numbersAt s x m ≡ u16At s x ∷ numbersAt s (x + 2) (m - 1)
-unfolding numbersAt
-numbers-more s x zero h = absurd (not-suc-le-zero h)
-numbers-more s x (suc m) h = let e : m ≡ suc m - 1 = omega arith in ap (λ (i : ℕ). u16At s x ∷ numbersAt s (x + 2) i) e
+-- Two pairs of tables of zeros are one.
+pub cleared-images : (l m l′ m′ : List ℕ) → Cleared l m → Cleared l′ m′ → l′ ≡ l
+cleared-images l m l′ m′ a c = zeros-same l′ l 0 (c .names ∙ sym (a .names)) (λ k h. absurd (not-suc-le-zero h)) (c .images) (a .images)
 
+pub cleared-bound : (l m l′ m′ : List ℕ) → Cleared l m → Cleared l′ m′ → m′ ≡ m
+cleared-bound l m l′ m′ a c = zeros-same m′ m 0 (c .order ∙ sym (a .order)) (λ k h. absurd (not-suc-le-zero h)) (c .bound) (a .bound)
+
+---------------------------------------------------------------- what a name is bound to
 pub numbers-none : (s : List ℕ) (x m : ℕ) → m ≡ 0 → numbersAt s x m ≡ []
 unfolding numbersAt
 numbers-none s x m e = rw e
@@ -333,31 +336,3 @@ cleared-mapped b p n imgs bnd c =
 pub cleared-map : (st : List Sort) (imgs bnd : List ℕ) → mapOf st imgs bnd 0 ≡ empty
 unfolding mapOf
 cleared-map st imgs bnd = refl
-
----------------------------------------------------------------- a store that has grown
--- The tables keep their meaning where the store only has sorts behind those it had.
-map-grown : (st st′ : List Sort) (imgs bnd : List ℕ) (m : ℕ) → Starts st st′ → ((i : ℕ) → i < m → 0 < getD imgs (getD bnd i 0) 0)
-    → ((v : ℕ) → getD imgs v 0 ≤ length st) → mapOf st′ imgs bnd m ≡ mapOf st imgs bnd m
-unfolding mapOf
-map-grown st st′ imgs bnd zero s known below = refl
-map-grown st st′ imgs bnd (suc m) s known below =
-    rw (
-      starts-at st st′ s (getD imgs (getD bnd m 0) 0 - 1) (omega (arith, known m (omega arith), below (getD bnd m 0))),
-      map-grown st st′ imgs bnd m s (λ i l. known i (omega arith)) below,
-    )
-    refl
-
-module _ (b p : List ℕ) (n : ℕ) (c q : List ℕ) (n′ : ℕ) (s : Starts (storeOf b p n) (storeOf c q n′)) (imgs bnd : List ℕ) (m : ℕ) (h : Mapped b p n imgs bnd m) where
-  pub mapped-starts : Mapped c q n′ imgs bnd m
-  mapped-starts =
-      record {
-        tabled = h .tabled;
-        below = λ v.
-            omega (arith, h .below v, starts-count (storeOf b p n) (storeOf c q n′) s, storeOf-length b p n, storeOf-length c q n′);
-        vars = λ i l. memb-starts (storeOf b p n) (storeOf c q n′) (var (getD bnd i 0)) s (h .vars i l);
-      }
-
-  pub map-starts : mapOf (storeOf c q n′) imgs bnd m ≡ mapOf (storeOf b p n) imgs bnd m
-  map-starts =
-      map-grown (storeOf b p n) (storeOf c q n′) imgs bnd m s (h .tabled .known)
-      (λ v. omega (arith, h .below v, storeOf-length b p n))

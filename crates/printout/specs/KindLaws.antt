@@ -10,14 +10,13 @@ use Rattle.record.specs.Sort.{Sort}
 use Rattle.record.specs.SortLists.{below-suc}
 use Rattle.reader.specs.declared.Refusal.{Refusal}
 use Rattle.sheet.specs.declared.SheetCounts.{SheetCounts}
-use Rattle.sheet.specs.Sheet.{Sheet, Lengths, Reading, readSheet, QuestionFields, questionFields}
+use Rattle.sheet.specs.Sheet.{Sheet, Reading, readSheet, QuestionFields, questionFields}
 use Rattle.sheet.specs.Sheet.Reading.{refused, got}
 use Rattle.sheet.specs.Trees.{trees-length}
-use Rattle.sheet.specs.Contract.{eachAt, questionAt, questionsAt, QuestionStands, SheetAccepted, sheetIn}
+use Rattle.sheet.specs.Contract.{eachAt, questionAt, questionsAt, QuestionStands, SheetAccepted}
 use Rattle.sheet.specs.Stands.{each-length, question-is}
-use Rattle.printout.specs.declared.kinds.Totals.{Totals}
 use Rattle.printout.specs.Printed.{kindsOf, programLengths}
-use Rattle.printout.specs.Kinds.{PutAsks, Put, Listed, KindsAre}
+use Rattle.printout.specs.Kinds.{Put, Listed, KindsAre}
 
 ---------------------------------------------------------------- the loop
 pub put-none : (s ys kinds : List ℕ) → Put s ys 0 kinds kinds

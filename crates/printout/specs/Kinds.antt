@@ -3,7 +3,7 @@ use Prim.Native.Nat.{ℕ, _+_, _≤_, _<_}
 use mathlib.Core.Path.{_≡_}
 use mathlib.Core.List.{List}
 use lib.ListN.{length, getD, take}
-use Rattle.sheet.specs.Sheet.{Sheet, Reading, readSheet}
+use Rattle.sheet.specs.Sheet.{Sheet, readSheet}
 use Rattle.sheet.specs.Sheet.Reading.{got}
 use Rattle.sheet.specs.Contract.{QuestionStands}
 use Rattle.printout.specs.declared.kinds.Totals.{Totals}

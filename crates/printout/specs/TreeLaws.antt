@@ -8,13 +8,13 @@ use Rattle.record.specs.Number.{u16At, numbersAt}
 use Rattle.record.specs.Sort.{Sorts, end, _then_, count, size, sizes, nameIn, numberIn, partsOf, namesOf}
 use Rattle.record.specs.Record.{sortsOf}
 use Rattle.record.specs.Decode.{fieldsAt, fields, Shape, storeOf, sortAt, Stored}
-use Rattle.record.specs.Codec.{length-numbersAt}
+use Rattle.record.specs.Codec.{length-numbersAt, number-at}
 use Rattle.record.specs.StoreLaws.{sort-made, sort-node}
 use Rattle.record.specs.Sizes.{Formed, sort-formed, count-sorts}
 use Rattle.record.specs.Entries.{stored-first}
 use Rattle.record.specs.declared.SortRecord.{SortRecord}
 use Rattle.store.specs.Entry.{EntryIs}
-use Rattle.store.specs.Walk.{number-at, walk-size}
+use Rattle.store.specs.Walk.{walk-size}
 use Rattle.printout.specs.Text.{ascii, text, texts}
 use Rattle.printout.specs.Pieces.{formOf, frames, piecesText}
 use Rattle.printout.specs.PieceLaws.{pieces-text, pieces-length, form-below, form-par, names-form, own-short}

@@ -1,22 +1,19 @@
 -- The printout line by line: each line is a term's or a question's, and a piece goes on by one line at a time.
 use Prim.Native.Nat.{ℕ, zero, suc, _+_, _*_, _-_, _≤_, _<_}
 use mathlib.Core.Path.{_≡_, refl, sym, ap, ap₂, subst, _∙_}
-use mathlib.Core.Bool.{Bool, true, false}
-use mathlib.Core.List.{List, [], _∷_, _++_, append-assoc}
+use mathlib.Core.List.{List, [], _∷_, _++_, append-assoc, append-nil}
 use native.Mathlib.Omega.{arith}
 use lib.ListN.{length, getD}
-use lib.Dec.{ltb}
 use borrow.Author.Tests.{lt-ltb, le-ltb}
-use Rattle.record.specs.Decode.{storeOf, Stored}
+use Rattle.record.specs.Decode.{storeOf}
 use Rattle.record.specs.Sort.{Sort}
 use Rattle.printout.specs.declared.Shown.{Shown}
 use Rattle.printout.specs.declared.Shown.the-variants.{To, Full}
-use Rattle.printout.specs.declared.whole.Piece.{Piece}
 use Rattle.printout.specs.Lines.{termLine, questionLine, termLines, questionLines, linesOf}
 use Rattle.printout.specs.Wrote.{Wrote, ShownIs, wrote-none, wrote-as, wrote-more, wrote-long}
 use Rattle.printout.specs.TreeLaws.{text-asks}
-use Rattle.printout.specs.LineAsks.{RowAsks, AnswerAsks, Known, TermAsks, QuestionAsks, TermHas, QuestionHas}
-use Rattle.printout.specs.Whole.{lineAt, linesFrom, Judged, LineAsks, LineHas, PieceAsks, PieceIs, PieceHas}
+use Rattle.printout.specs.LineAsks.{RowAsks, Known, TermAsks, QuestionAsks, TermHas, QuestionHas}
+use Rattle.printout.specs.Whole.{lineAt, linesFrom, Judged, LineAsks, LineHas, PieceAsks, PieceHas}
 
 ---------------------------------------------------------------- one line
 pub line-term : (st : List Sort) (rows kinds answers : List ℕ) (t k : ℕ) → k < t → lineAt st rows kinds answers t k ≡ termLine st k (getD rows (2 * k) 0) (getD rows (2 * k + 1) 0)
@@ -71,10 +68,6 @@ module _ (b p rows kinds answers : List ℕ) (t q : ℕ) where
 pub lines-more : (f : ℕ → List ℕ) (k m : ℕ) → linesFrom f k (suc m) ≡ linesFrom f k m ++ f (k + m)
 unfolding linesFrom
 lines-more f k zero = let e : k ≡ k + 0 = omega arith in append-nil (f k) ∙ ap f e
-  where
-    append-nil : (l : List ℕ) → l ++ [] ≡ l
-    append-nil [] = refl
-    append-nil (x ∷ l) = ap (λ (y : List ℕ). x ∷ y) (append-nil l)
 lines-more f k (suc m) =
     let e : suc k + m ≡ k + suc m = omega arith in
     ap (λ (l : List ℕ). f k ++ l) (lines-more f (suc k) m)

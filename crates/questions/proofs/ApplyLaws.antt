@@ -5,12 +5,11 @@ use mathlib.Core.List.{List}
 use native.Mathlib.Omega.{arith}
 use lib.ListN.{length, getD}
 use Rattle.record.specs.Number.{u16At, numbersAt}
-use Rattle.record.specs.Codec.{length-numbersAt}
+use Rattle.record.specs.Codec.{length-numbersAt, number-at}
 use Rattle.record.specs.Sort.{Sort, Sorts}
 use Rattle.record.specs.Record.{leaf, sortsOf}
 use Rattle.record.specs.Decode.{storeOf, sortAt}
 use Rattle.record.specs.StoreLaws.{storeOf-length}
-use Rattle.reader.specs.Was.{number-at}
 use Rattle.reader.specs.declared.QuestionRecord.{QuestionRecord}
 use Rattle.sheet.specs.Trees.{mapped}
 use Rattle.substitution.specs.Substitution.{apply}

@@ -1,29 +1,27 @@
 -- Question 1: what its steps ask, and that each way through them gives the definition's answer with the tables as they were.
-use Prim.Native.Nat.{ℕ, zero, suc, _+_, _<_}
+use Prim.Native.Nat.{ℕ, _+_, _<_}
 use mathlib.Core.Path.{_≡_, refl, sym, ap, ap₂, subst, _∙_}
 use mathlib.Core.Bool.{Bool, true, false, not}
 use mathlib.Core.List.{List, []}
 use mathlib.Core.Option.{Option, none, some}
 use native.Mathlib.Omega.{arith}
-use native.Mathlib.Nat.{not-suc-le-zero}
 use lib.ListN.{getD}
 use Rattle.record.specs.Number.{u16At, numbersAt}
 use Rattle.record.specs.Codec.{length-numbersAt}
 use Rattle.record.specs.Sort.{Sort}
 use Rattle.record.specs.Record.{leaf}
 use Rattle.record.specs.Decode.{storeOf, sortAt}
-use Rattle.record.specs.StoreLaws.{storeOf-length}
+use Rattle.record.specs.Cases.{not-true, not-false}
 use Rattle.reader.specs.declared.QuestionRecord.{QuestionRecord}
-use Rattle.store.specs.Good.{Good, zeros-same}
 use Rattle.substitution.specs.Substitution.{Map, empty}
 use Rattle.substitution.specs.Matching.{matches, listedIn, premise}
 use Rattle.matching.specs.declared.Matched.{Matched}
 use Rattle.matching.specs.declared.Matched.the-variants.{Fits, Misfits}
-use Rattle.matching.specs.Tables.{Lists, Told, listed, Added, imageOf, mapOf, Tabled, Mapped, Cleared}
-use Rattle.matching.specs.TableLaws.{times-few, listed-is, lists-none, lists-added, added-back, find-is, cleared-mapped, cleared-map}
-use Rattle.matching.specs.Contract.{Usable, PairAsks, TestAsks, PremiseIs, AddAsks, TakeAsks, Answered}
+use Rattle.matching.specs.Tables.{Lists, Told, listed, Added, mapOf, Tabled, Mapped, Cleared}
+use Rattle.matching.specs.TableLaws.{times-few, listed-is, lists-none, lists-added, added-back, cleared-mapped, cleared-map, cleared-images, cleared-bound}
+use Rattle.matching.specs.Contract.{PairAsks, TestAsks, PremiseIs, AddAsks, TakeAsks, Answered}
 use Rattle.matching.specs.Contract.{MatchAsks as PlainAsks, MatchIs as PlainIs}
-use Rattle.apply.specs.Images.{imageAt, Images}
+use Rattle.matching.specs.Entered.{good-usable}
 use Rattle.apply.specs.Contract.{ApplyAsks as ReplaceAsks}
 use Rattle.rows.specs.declared.Cause.the-variants.{Barred, NoAssignment}
 use Rattle.rows.specs.Verdict.{refused, need}
@@ -31,12 +29,10 @@ use Rattle.answers.specs.declared.Answer.{Answer}
 use Rattle.answers.specs.Answer.{refusing}
 use Rattle.answers.specs.AnswerLaws.{judged-as, answered-as, answer-refused}
 use Rattle.instance.specs.Instance.{InstanceIs}
+use Rattle.instance.specs.Mapped.{mapped-images}
 use Rattle.judged.specs.Questions.{firstOf, restOf, assigned, matchAnswer}
 use Rattle.questions.specs.Contract.{ListedAsks, ListedIs, MatchAsks, MatchIs}
 use Rattle.questions.specs.Asked.{sortsBy, sorts-first, sorts-second, sorts-third}
-
-pub good-usable : (b p hs ns zs : List ℕ) (n u : ℕ) → Good b p hs ns zs n u → Usable b p n
-good-usable b p hs ns zs n u g = record { stored = g .stored; distinct = g .distinct; count = g .indexed .count }
 
 ---------------------------------------------------------------- the definition by its three cases
 pub match-by : (vs : List ℕ) (p t r : Sort) (a : Bool) (o : Option Map) → a ≡ premise vs p t → o ≡ matches (listedIn vs) p t empty
@@ -47,34 +43,7 @@ match-by vs p t r a o e f = sym (ap₂ (λ (x : Bool) (y : Option Map). need x B
 pub match-barred : (vs : List ℕ) (p t r : Sort) → false ≡ premise vs p t → matchAnswer vs p t r ≡ refused Barred
 match-barred vs p t r e = match-by vs p t r false (matches (listedIn vs) p t empty) e refl
 
----------------------------------------------------------------- the tables
--- Two pairs of tables of zeros are one.
-pub cleared-images : (l m l′ m′ : List ℕ) → Cleared l m → Cleared l′ m′ → l′ ≡ l
-cleared-images l m l′ m′ a c = zeros-same l′ l 0 (c .names ∙ sym (a .names)) (λ k h. absurd (not-suc-le-zero h)) (c .images) (a .images)
-
-pub cleared-bound : (l m l′ m′ : List ℕ) → Cleared l m → Cleared l′ m′ → m′ ≡ m
-cleared-bound l m l′ m′ a c = zeros-same m′ m 0 (c .order ∙ sym (a .order)) (λ k h. absurd (not-suc-le-zero h)) (c .bound) (a .bound)
-
-image-same : (st : List Sort) (e : ℕ) → imageOf st e ≡ imageAt st e
-image-same st zero = refl
-image-same st (suc j) = refl
-
-pub mapped-images : (b p : List ℕ) (n : ℕ) (l bnd : List ℕ) (m : ℕ) → Mapped b p n l bnd m → Images (storeOf b p n) l (mapOf (storeOf b p n) l bnd m)
-mapped-images b p n l bnd m h =
-    record {
-      table = record { long = h .tabled .names; below = λ v. omega (arith, h .below v, storeOf-length b p n) };
-      look = λ v. find-is (storeOf b p n) l bnd m v (h .tabled) ∙ image-same (storeOf b p n) (getD l v 0);
-    }
-
 ---------------------------------------------------------------- with the names listed
-not-on : (t : Bool) → not t ≡ true → t ≡ false
-not-on true e = sym e
-not-on false e = refl
-
-not-off : (t : Bool) → not t ≡ false → t ≡ true
-not-off true e = refl
-not-off false e = sym e
-
 module _ (b p hs ns zs : List ℕ) (n u : ℕ) (prm imgs bnd : List ℕ) (k j i : ℕ) (h : ListedAsks b p hs ns zs n u prm imgs bnd k j i) where
   pub pair-asks : PairAsks b p n k j
   pair-asks = record { usable = good-usable b p hs ns zs n u (h .good); left = h .pattern; right = h .target }
@@ -90,7 +59,7 @@ module _ (b p hs ns zs : List ℕ) (n u : ℕ) (prm imgs bnd : List ℕ) (k j i 
   listed-barred t q e r d =
       record {
         answer = λ vs ls.
-            judged-as (match-barred vs (sortAt b p n k) (sortAt b p n j) (sortAt b p n i) (sym (not-on t e) ∙ q vs ls))
+            judged-as (match-barred vs (sortAt b p n k) (sortAt b p n j) (sortAt b p n i) (sym (not-true t e) ∙ q vs ls))
             (answered-as d (answer-refused b p hs ns zs n u (h .good) Barred));
         images = refl;
         bound = refl;
@@ -125,7 +94,7 @@ module _ (b p hs ns zs : List ℕ) (n u : ℕ) (prm imgs bnd : List ℕ) (k j i 
           record {
             answer = λ vs ls.
                 judged-as
-                (match-by vs (sortAt b p n k) (sortAt b p n j) (sortAt b p n i) true (some θ) (sym (not-off t o) ∙ q vs ls)
+                (match-by vs (sortAt b p n k) (sortAt b p n j) (sortAt b p n i) true (some θ) (sym (not-false t o) ∙ q vs ls)
                 (subst (λ (y : Matched). Answered b p n l m y (matches (listedIn vs) (sortAt b p n k) (sortAt b p n j) empty)) e (found-by vs ls) .result))
                 (a θ (mapped-images b p n l m c (fits-mapped c e)));
             images = cleared-images imgs bnd l′ m′ (h .cleared) z;
@@ -137,7 +106,7 @@ module _ (b p hs ns zs : List ℕ) (n u : ℕ) (prm imgs bnd : List ℕ) (k j i 
           record {
             answer = λ vs ls.
                 judged-as
-                (match-by vs (sortAt b p n k) (sortAt b p n j) (sortAt b p n i) true none (sym (not-off t o) ∙ q vs ls)
+                (match-by vs (sortAt b p n k) (sortAt b p n j) (sortAt b p n i) true none (sym (not-false t o) ∙ q vs ls)
                 (subst (λ (y : Matched). Answered b p n l m y (matches (listedIn vs) (sortAt b p n k) (sortAt b p n j) empty)) e (found-by vs ls) .result))
                 (answered-as d (answer-refused b p hs ns zs n u (h .good) NoAssignment));
             images = cleared-images imgs bnd l′ m′ (h .cleared) z;

@@ -17,13 +17,13 @@ use Rattle.sheet.specs.Sheet.{Lengths}
 use Rattle.store.specs.Good.{Good}
 use Rattle.substitution.specs.Compatible.{compatible}
 use Rattle.matching.specs.Contract.{PairAsks}
+use Rattle.matching.specs.Entered.{good-usable}
 use Rattle.rows.specs.Outcome.{Outcome, outcome}
 use Rattle.answers.specs.declared.Answer.{Answer}
 use Rattle.judged.specs.Questions.{firstOf, restOf, yesNo, matchAnswer, applyAnswer, answerOf}
 use Rattle.questions.specs.declared.Word.{Word}
 use Rattle.questions.specs.Contract.{questionOver, ApplyAsks, ApplyIs, MatchAsks, MatchIs, WordIs, QuestionAsks, QuestionIs}
 use Rattle.questions.specs.Asked.{sortsBy, sorts-first, sorts-second}
-use Rattle.questions.proofs.MatchLaws.{good-usable}
 
 -- The three cases of the definition.
 abbrev compatibleCase : List Sort → List ℕ → List ℕ → QuestionRecord → Outcome

@@ -7,13 +7,12 @@ use native.Mathlib.Omega.{arith}
 use lib.ListN.{length, getD, set, take, drop, length-set, take-append-drop}
 use lib.Seq.{take-suc-set, drop-set-lt, drop-drop}
 use Rattle.record.specs.Number.{u16At, numbersAt}
-use Rattle.record.specs.Codec.{length-numbersAt}
+use Rattle.record.specs.Codec.{length-numbersAt, number-at}
 use Rattle.record.specs.Sort.{Sort, Sorts}
 use Rattle.record.specs.Decode.{storeOf}
 use Rattle.record.specs.StoreLaws.{storeOf-length}
 use Rattle.record.specs.SortLists.{Starts, starts-self, starts-trans, starts-at, starts-count}
 use Rattle.reader.specs.Reader.{readQuestion}
-use Rattle.reader.specs.Was.{number-at}
 use Rattle.reader.specs.QuestionWas.{QuestionWas}
 use Rattle.reader.specs.declared.Cursor.{Cursor}
 use Rattle.reader.specs.declared.QuestionRecord.{QuestionRecord}

@@ -9,9 +9,9 @@ use lib.ListN.{length, getD}
 use Rattle.record.specs.Number.{u16At, numbersAt}
 use Rattle.record.specs.Sort.{Sort, Sorts}
 use Rattle.record.specs.Record.{leaf, sortsOf}
+use Rattle.record.specs.Codec.{numbers-more}
 use Rattle.reader.specs.declared.QuestionRecord.{QuestionRecord}
 use Rattle.sheet.specs.Trees.{mapped}
-use Rattle.matching.specs.TableLaws.{numbers-more}
 use Rattle.judged.specs.Questions.{firstOf, restOf}
 use Rattle.questions.specs.Fill.{SortAsks}
 use Rattle.questions.specs.Contract.{Asked}

@@ -12,13 +12,14 @@ use lib.Dec.{eqb}
 use borrow.Author.Tests.{eqb-true, eqb-false}
 use Rattle.record.specs.Number.{u16At, numbersAt}
 use Rattle.record.specs.Names.{member}
-use Rattle.record.specs.Cases.{byTest}
+use Rattle.record.specs.Cases.{byTest, or-right}
 use Rattle.record.specs.Sort.{Sort}
 use Rattle.record.specs.Record.{sortsOf}
 use Rattle.record.specs.Decode.{Zeros}
+use Rattle.record.specs.Codec.{numbers-more}
 use Rattle.sheet.specs.Trees.{mapped}
 use Rattle.substitution.specs.Substitution.{find}
-use Rattle.matching.specs.TableLaws.{numbers-more, numbers-none}
+use Rattle.matching.specs.TableLaws.{numbers-none}
 use Rattle.apply.specs.Images.{imageAt, Images}
 use Rattle.judged.specs.Questions.{imagesOf}
 
@@ -210,10 +211,6 @@ filled-images st l vs ks z long names sorts =
     }
 
 ---------------------------------------------------------------- emptying it again
-or-none : (a b : Bool) → (a || b) ≡ false → b ≡ false
-or-none true b e = let z : _≡_ {A = ℕ} 0 1 = cc in absurd (omega arith)
-or-none false b e = e
-
 filled-other : (l vs ks : List ℕ) → Zeros l 0 → (v : ℕ) → member v vs ≡ false → getD (filled l vs ks) v 0 ≡ 0
 unfolding filled member
 filled-other l [] ks z v e = z v (omega arith)
@@ -223,7 +220,7 @@ filled-other l (w ∷ vs) (k ∷ ks) z v e =
     (λ q. let d : true ≡ false = sym (ap (λ (t : Bool). t || member v vs) q) ∙ e in let i : _≡_ {A = ℕ} 0 1 = cc in absurd (omega arith))
     (λ q.
     getD-set-other (filled l vs ks) w v (k + 1) 0 (λ o. eqb-false w v q (sym o))
-    ∙ filled-other l vs ks z v (or-none (eqb w v) (member v vs) e))
+    ∙ filled-other l vs ks z v (or-right (eqb w v) (member v vs) e))
 
 emptied-length : (l vs : List ℕ) → length (emptied l vs) ≡ length l
 unfolding emptied

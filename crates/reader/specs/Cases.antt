@@ -11,6 +11,7 @@ use borrow.Author.Tests.{le-leb, lt-leb, leb-true, leb-false, lt-ltb, le-ltb, eq
 use Rattle.record.specs.Number.{u16At, u32At, numbersAt}
 use Rattle.record.specs.Names.{member, distinct}
 use Rattle.record.specs.Record.{bit, mapOf, leastOf, mostOf}
+use Rattle.record.specs.Codec.{numbers-more}
 use Rattle.reader.specs.Tables.{termMapOf, termNumberOf, termLeastOf, termMostOf, secondLeastOf, secondMostOf, questionMapOf, questionLeastOf, questionMostOf, namesLeastOf, namesMostOf}
 use Rattle.reader.specs.declared.Refusal.{Refusal}
 use Rattle.reader.specs.declared.Refusal.the-variants.{PastEnd, Map, Value, Reference}
@@ -432,11 +433,6 @@ module _ (s : List ℕ) (sorts x : ℕ) where
     question-3 o = simp (r, eq-eqb m (questionMapOf k) (o ∙ er))
 
 -- THE NUMBERS OF A LIST ONE AFTER THE OTHER, as the loops over them ask
-pub numbers-more : (b : List ℕ) (x n : ℕ) → 0 < n → numbersAt b x n ≡ u16At b x ∷ numbersAt b (x + 2) (n - 1)
-unfolding numbersAt
-numbers-more b x zero h = absurd (not-suc-le-zero h)
-numbers-more b x (suc n) h = let e : n ≡ suc n - 1 = omega arith in ap (λ (i : ℕ). u16At b x ∷ numbersAt b (x + 2) i) e
-
 pub pair-sorts-more : (b : List ℕ) (x n : ℕ) → 0 < n → pairSortsAt b x n ≡ u16At b (x + 2) ∷ pairSortsAt b (x + 4) (n - 1)
 unfolding pairSortsAt
 pair-sorts-more b x zero h = absurd (not-suc-le-zero h)

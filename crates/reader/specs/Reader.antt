@@ -1,7 +1,7 @@
 -- Reading one record field by field, with document 01's order of refusals: "map byte 3, bit 1 missing 4, kind byte 3,
 -- other 4; per field, all its bytes, 3, 5, 6". A field whose bit does not stand is 0 or empty and takes no bytes.
 use Prim.Native.Nat.{ℕ, zero, suc, _+_, _*_}
-use mathlib.Core.Bool.{Bool, true, false, not, cond, _&&_, _||_}
+use mathlib.Core.Bool.{Bool, true, false, cond, _&&_, _||_}
 use mathlib.Core.List.{List, [], _∷_}
 use lib.ListN.{length, getD}
 use lib.Dec.{leb, ltb, eqb}
@@ -18,13 +18,10 @@ use Rattle.reader.specs.declared.ReadList.{ReadList}
 use Rattle.reader.specs.declared.ReadList.the-variants.{List as Found, NoList}
 use Rattle.reader.specs.declared.ReadHead.{ReadHead}
 use Rattle.reader.specs.declared.ReadHead.the-variants.{Head, NoHead}
-use Rattle.record.specs.declared.SortRecord.{SortRecord}
 use Rattle.reader.specs.declared.ReadSort.{ReadSort}
 use Rattle.reader.specs.declared.ReadSort.the-variants.{Sort, NoSort}
-use Rattle.reader.specs.declared.TermRecord.{TermRecord}
 use Rattle.reader.specs.declared.ReadTerm.{ReadTerm}
 use Rattle.reader.specs.declared.ReadTerm.the-variants.{Term, NoTerm}
-use Rattle.reader.specs.declared.QuestionRecord.{QuestionRecord}
 use Rattle.reader.specs.declared.ReadQuestion.{ReadQuestion}
 use Rattle.reader.specs.declared.ReadQuestion.the-variants.{Question, NoQuestion}
 

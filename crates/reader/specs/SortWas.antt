@@ -1,15 +1,15 @@
 -- What a sort record that was read tells: the bytes there are a whole record in the store's form, its fields are those
 -- read, and the next cursor is behind it.
 use Prim.Native.Nat.{ℕ, _+_, _*_, _≤_, _<_}
-use mathlib.Core.Path.{_≡_, refl, sym, ap, ap₂, subst, _∙_}
-use mathlib.Core.Bool.{Bool, true, false, not, _&&_, _||_}
-use mathlib.Core.List.{List, [], _∷_}
+use mathlib.Core.Path.{_≡_, refl, sym, ap, subst, _∙_}
+use mathlib.Core.Bool.{Bool, true, false, _||_}
+use mathlib.Core.List.{List}
 use native.Mathlib.Omega.{arith}
 use lib.ListN.{length, getD, List·getD-eq-default}
 use lib.Dec.{leb, eqb}
 use borrow.Author.Tests.{leb-true, leb-false, eqb-true}
 use Rattle.record.specs.Number.{u16At, u32At, numbersAt}
-use Rattle.record.specs.Names.{member, distinct}
+use Rattle.record.specs.Names.{distinct}
 use Rattle.record.specs.Record.{Fields, maps, mapOf, leasts, leastOf, mostOf, bit, recordBytes}
 use Rattle.record.specs.Store.{given}
 use Rattle.record.specs.Decode.{listOf, numberPlace, listPlace, namesPlace, endPlace, fields, fieldsBy, fieldsAt, Proper, Shape, Below, Held}

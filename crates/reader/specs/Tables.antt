@@ -1,7 +1,7 @@
 -- The bit maps and limits of term and question records, by kind (document 01, "Term records" and "Questions").
 -- Those of sort records stand in the crate record.
 use Prim.Native.Nat.{ℕ, _-_}
-use mathlib.Core.Bool.{Bool, true, false, cond}
+use mathlib.Core.Bool.{cond}
 use mathlib.Core.List.{List, [], _∷_}
 use lib.ListN.{getD}
 use lib.Dec.{eqb}

@@ -13,6 +13,7 @@ use Rattle.record.specs.Record.{bit}
 use Rattle.record.specs.Store.{given}
 use Rattle.record.specs.Table.{at}
 use Rattle.record.specs.Codec.{Bytes}
+use Rattle.record.specs.Cases.{or-other}
 use Rattle.reader.specs.Tables.{termMaps, termMapOf, termNumberOf, termLeasts, termLeastOf, termMosts, termMostOf, secondLeastOf, secondMostOf}
 use Rattle.reader.specs.declared.Refusal.{Refusal}
 use Rattle.reader.specs.declared.Cursor.{Cursor}
@@ -94,10 +95,6 @@ second-let : (n q : ℕ) → secondLeastOf 9 n ≤ q → q ≤ secondMostOf 9 n 
 unfolding secondLeastOf secondMostOf
 second-let n q l h = omega arith
 
-or-other : (a c : Bool) → (a || c) ≡ true → a ≡ false → c ≡ true
-or-other true c h e = false-true (sym e)
-or-other false c h e = h
-
 module _ (s : List ℕ) (bytes : Bytes s) (sorts t x m k : ℕ) (c2 : Cursor) (head : HeadWas s x m k c2) (mk : m ≡ termMapOf k)
     (a : ℕ) (c3 : Cursor) (w : ℕ) (c4 : Cursor) (o : ℕ) (c5 : Cursor) (l n : ℕ) (c6 : Cursor) (ps p : ℕ) (c7 : Cursor) (z q : ℕ) (c8 : Cursor)
     (r3 : NumberWas s (c2 .at) (given (bit 2 m) (u16At s (c2 .at))) (given (bit 2 m) 2) a c3)
@@ -151,7 +148,7 @@ module _ (s : List ℕ) (bytes : Bytes s) (sorts t x m k : ℕ) (c2 : Cursor) (h
         seconds = second-few k n q (bit 64 m) few (r8 .most) (r8 .empty);
         second = omega (arith, r8 .ends, r8 .inside in7);
         values = let-values;
-        indices = λ d. references-below s z q t (or-other (eqb k 9) (allBelow t (numbersAt s z q)) indexed (ne-eqb k 9 d));
+        indices = λ d. references-below s z q t (or-other (eqb k 9) (allBelow t (numbersAt s z q)) (ne-eqb k 9 d) indexed);
         noName = λ e. r3 .value ∙ ap (λ (b : Bool). given b (u16At s (c2 .at))) (on 2 e);
         noNumber = λ e. r4 .value ∙ ap (λ (b : Bool). given b (u32At s (c3 .at))) (on 4 e);
         noSort = λ e. r5 .value ∙ ap (λ (b : Bool). given b (u16At s (c4 .at))) (on 8 e);
@@ -165,11 +162,11 @@ module _ (s : List ℕ) (bytes : Bytes s) (sorts t x m k : ℕ) (c2 : Cursor) (h
         inside = r8 .inside in7;
       }
 
-no-term : {B : Type 0} {e : Refusal} {r : TermRecord} {c : Cursor} → NoTerm e ≡ Term r c → B
+pub no-term : {B : Type 0} {e : Refusal} {r : TermRecord} {c : Cursor} → NoTerm e ≡ Term r c → B
 no-term h = let z : _≡_ {A = ℕ} 0 1 = cc in absurd (omega arith)
 
-term-is : {r v : TermRecord} {c d : Cursor} → Term r c ≡ Term v d → r ≡ v
-term-is h = cc
+pub term-of : {r v : TermRecord} {c d : Cursor} → Term r c ≡ Term v d → r ≡ v
+term-of h = cc
 
 next-is : {r v : TermRecord} {c d : Cursor} → Term r c ≡ Term v d → c ≡ d
 next-is h = cc
@@ -196,7 +193,7 @@ module _ (s : List ℕ) (bytes : Bytes s) (sorts t x : ℕ) (r : TermRecord) (c 
       let r6 = references-were s m (termLeastOf k) (termMostOf k) t (c5 .at) p6 in
       let r8 = second-was s m k n t (c7 .at) p8 in
       subst (TermWas s sorts t x r) (next-is h8)
-      (subst (λ (j : TermRecord). TermWas s sorts t x j c8) (term-is h8)
+      (subst (λ (j : TermRecord). TermWas s sorts t x j c8) (term-of h8)
       (fields-were s bytes sorts t x m k c2 head mk a c3 w c4 o c5 l n c6 ps p c7 z q c8 (name-was s m (c2 .at) p3) (r4 .0) (r4 .1) (r5 .0) (r5 .1) (r6 .0) (r6 .1) (pairs-were s m sorts (c6 .at) p7) (r8 .0) (r8 .1)))))))))
 
   pub term-was : readTerm s sorts t x ≡ Term r c → TermWas s sorts t x r c

@@ -1,7 +1,7 @@
 -- What a field that was read tells: its value, where it stands, and where the next one starts.
 use Prim.Native.Nat.{ℕ, zero, suc, _+_, _*_, _≤_, _<_}
 use mathlib.Core.Path.{_≡_, refl, sym, ap, ap₂, _∙_}
-use mathlib.Core.Bool.{Bool, true, false, cond, _&&_, _||_}
+use mathlib.Core.Bool.{Bool, true, false, cond, _||_}
 use mathlib.Core.List.{List, [], _∷_}
 use native.Mathlib.Omega.{arith}
 use native.Mathlib.Nat.{not-suc-le-zero}
@@ -13,7 +13,8 @@ use Rattle.record.specs.Names.{distinct}
 use Rattle.record.specs.Record.{bit}
 use Rattle.record.specs.Store.{given}
 use Rattle.record.specs.Decode.{listOf, listWidth}
-use Rattle.record.specs.Codec.{Bytes, length-numbersAt}
+use Rattle.record.specs.Codec.{Bytes, length-numbersAt, number-at}
+use Rattle.record.specs.Cases.{and-left, and-right}
 use Rattle.reader.specs.Tables.{secondLeastOf, secondMostOf}
 use Rattle.reader.specs.declared.Refusal.{Refusal}
 use Rattle.reader.specs.declared.Refusal.the-variants.{PastEnd, Value, Reference}
@@ -305,25 +306,11 @@ unfolding readPairs
 pairs-were s m sorts x r = pairs-by s sorts x (bit 32 m) r
 
 -- WHAT A TEST OF ALL NUMBERS SAYS OF EACH
-and-left : (a c : Bool) → (a && c) ≡ true → a ≡ true
-and-left true c e = refl
-and-left false c e = e
-
-and-right : (a c : Bool) → (a && c) ≡ true → c ≡ true
-and-right true c e = e
-and-right false c e = false-true e
-
 pub all-below-each : (i : ℕ) (vs : List ℕ) → allBelow i vs ≡ true → (j : ℕ) → j < length vs → getD vs j 0 < i
 unfolding allBelow
 all-below-each i [] e j l = absurd (not-suc-le-zero l)
 all-below-each i (v ∷ vs) e zero l = ltb-true v i (and-left (ltb v i) (allBelow i vs) e)
 all-below-each i (v ∷ vs) e (suc j) l = all-below-each i vs (and-right (ltb v i) (allBelow i vs) e) j (omega arith)
-
-pub number-at : (s : List ℕ) (x n j : ℕ) → j < n → getD (numbersAt s x n) j 0 ≡ u16At s (x + 2 * j)
-unfolding numbersAt
-number-at s x zero j l = absurd (not-suc-le-zero l)
-number-at s x (suc n) zero l = let e : x ≡ x + 2 * 0 = omega arith in ap (u16At s) e
-number-at s x (suc n) (suc j) l = let e : x + 2 + 2 * j ≡ x + 2 * suc j = omega arith in number-at s (x + 2) n j (omega arith) ∙ ap (u16At s) e
 
 pub pair-sort-at : (s : List ℕ) (x n j : ℕ) → j < n → getD (pairSortsAt s x n) j 0 ≡ u16At s (x + 4 * j + 2)
 unfolding pairSortsAt

@@ -11,14 +11,13 @@ use lib.Seq.{getD-append-add, getD-take, take-suc, take-length, length-take-le}
 use Rattle.record.specs.Sort.{Sort, Sorts, var, par, node, end, _then_}
 use Rattle.record.specs.Record.{leaf, sortsOf, sortOf}
 use Rattle.record.specs.Store.{memb, indexOf, indicesOf, fieldsOf, recordOf, recordsOf, offsetsOf, padded, storeBytes, storePlaces, recordSize, bytesOf}
-use Rattle.record.specs.Decode.{fieldsAt, Below, Stands, Fresh, storeOf}
+use Rattle.record.specs.Decode.{fieldsAt, Below, Stands, storeOf}
 use Rattle.record.specs.Bytes.{stands-move, stands-each, stands-same}
 use Rattle.record.specs.Codec.{decoded}
 use Rattle.record.specs.Forms.{sort-var, sort-par, sort-other}
 use Rattle.record.specs.Cases.{and-left, and-right}
 use Rattle.record.specs.SortLists.{Once, Ordered, membAll, partsIn, index-found, index-starts, parts-starts}
 use Rattle.record.specs.StoreLaws.{sort-agree}
-use Rattle.record.specs.Append.{fresh-fields, fresh-of}
 use Rattle.record.specs.Sizes.{Formed, AllFormed, formed-shape, record-of-size}
 
 sorts-back : (st : List Sort) (ss : Sorts) → membAll ss st ≡ true → sortsOf st (indicesOf ss st) ≡ ss
@@ -51,18 +50,6 @@ module _ (st ts : List Sort) (m : ℕ) (low : (s : Sort) → memb s ts ≡ true 
   fields-below (par ns b) h zero o = low b h
   fields-below (par ns b) h (suc j) o = absurd (omega arith)
   fields-below (node k a w ss) h j o = indices-below ss h j o
-
--- A RECORD TO INTERN: the record of a well-formed sort whose parts are in the store, and it stands for that sort.
-module _ (st : List Sort) (s : Sort) (formed : Formed s) (parts : partsIn s st ≡ true) where
-  pub fresh-record : Fresh (recordOf st s) (length st)
-  unfolding recordOf
-  fresh-record =
-      fresh-of (fieldsOf st s) (length st) (formed-shape st s formed)
-      (fields-below st st (length st) (λ t h. index-found st t h .0) s parts)
-
-  pub fresh-sort : sortOf st (fieldsAt (recordOf st s) 0) ≡ s
-  unfolding recordOf
-  fresh-sort = ap (sortOf st) (fresh-fields (fieldsOf st s) (formed-shape st s formed)) ∙ sort-back st s formed parts
 
 -- Where the records and the offsets stand.
 length-offsets : (st ss : List Sort) (x : ℕ) → length (offsetsOf st x ss) ≡ length ss

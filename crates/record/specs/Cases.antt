@@ -1,6 +1,6 @@
 -- Small laws of Bool, Option and numbers that the laws of sorts, substitution, matching and rows use: taking tests apart, and cases that keep
 -- their equation.
-use Prim.Native.Nat.{ℕ, suc, _<_}
+use Prim.Native.Nat.{ℕ, zero, suc, _<_}
 use mathlib.Core.Path.{_≡_, refl, sym}
 use mathlib.Core.Bool.{Bool, true, false, not, _&&_, _||_, false≢true, true≢false}
 use mathlib.Core.Option.{Option, none, some}
@@ -32,7 +32,6 @@ three false b c e = absurd (false≢true e)
 pub three-right : (a b c : Bool) → (a && (b && c)) ≡ true → (a ≡ true) × (b ≡ true) × (c ≡ true)
 three-right a b c e = let f = and-right a (b && c) e in (and-left a (b && c) e, and-left b c f, and-right b c f)
 
--- Both sides of a disjunction that fails.
 -- A conjunction with a false side is false.
 pub false-first : (a b : Bool) → a ≡ false → (a && b) ≡ false
 false-first true b e = absurd (true≢false e)
@@ -42,6 +41,7 @@ pub false-second : (a b : Bool) → b ≡ false → (a && b) ≡ false
 false-second true b e = e
 false-second false b e = refl
 
+-- Both sides of a disjunction that fails.
 pub or-left : (a b : Bool) → (a || b) ≡ false → a ≡ false
 or-left true b e = e
 or-left false b e = refl
@@ -63,6 +63,11 @@ pub or-cases : {C : Type 0} (a b : Bool) → (a || b) ≡ true → (a ≡ true �
 or-cases true b e f g = f refl
 or-cases false b e f g = g e
 
+-- A disjunction that holds and whose first side fails.
+pub or-other : (a b : Bool) → a ≡ false → (a || b) ≡ true → b ≡ true
+or-other true b h e = absurd (true≢false h)
+or-other false b h e = e
+
 -- The last two sides may change places, and a side said twice counts once.
 pub last-two : (a b c : Bool) → (a || b || c) ≡ (a || c || b)
 last-two true b c = refl
@@ -75,9 +80,14 @@ pub said-twice : (a : Bool) → (a || false || false || a) ≡ a
 said-twice true = refl
 said-twice false = refl
 
+-- A test whose negation held failed; one whose negation failed held.
 pub not-true : (a : Bool) → not a ≡ true → a ≡ false
 not-true true e = sym e
 not-true false e = refl
+
+pub not-false : (a : Bool) → not a ≡ false → a ≡ true
+not-false true e = refl
+not-false false e = sym e
 
 -- A test cannot both hold and fail.
 pub clash : {C : Type 0} {a : Bool} → a ≡ true → a ≡ false → C
@@ -121,3 +131,8 @@ not-true-false false h = refl
 -- A number below the next one and other than this one is below this one.
 pub below-other : (a b : ℕ) → a < suc b → (a ≡ b → ⊥) → a < b
 below-other a b h n = omega arith
+
+-- A number other than 0 is over 0.
+pub positive : (n : ℕ) → (n ≡ 0 → ⊥) → 0 < n
+positive zero h = absurd (h refl)
+positive (suc n) h = omega arith

@@ -1,9 +1,10 @@
 -- Reading the bytes of a record gives its fields back, and a record's bytes are those of its fields.
-use Prim.Native.Nat.{ℕ, zero, suc, _+_, _*_, _/_, _%_, _<_}
+use Prim.Native.Nat.{ℕ, zero, suc, _+_, _*_, _-_, _/_, _%_, _<_}
 use mathlib.Core.Path.{_≡_, refl, sym, ap, ap₂, _∙_}
 use mathlib.Core.Bool.{Bool, true, false}
 use mathlib.Core.List.{List, [], _∷_, _++_}
 use native.Mathlib.Omega.{arith}
+use native.Mathlib.Nat.{not-suc-le-zero}
 use lib.ListN.{length, getD, length-append}
 use Rattle.record.specs.Number.{u16At, u32At, numbersAt, numbersBytes}
 use Rattle.record.specs.Record.{Fields, mapOf, bit, nameBytes, numberBytes, listBytes, recordBytes}
@@ -37,6 +38,20 @@ pub length-numbersAt : (b : List ℕ) (x n : ℕ) → length (numbersAt b x n) �
 unfolding numbersAt
 length-numbersAt b x zero = refl
 length-numbersAt b x (suc n) = ap suc (length-numbersAt b (x + 2) n)
+
+-- A number of a list by its place, and the first with the others.
+pub number-at : (b : List ℕ) (x n j : ℕ) → j < n → getD (numbersAt b x n) j 0 ≡ u16At b (x + 2 * j)
+unfolding numbersAt
+number-at b x zero j l = absurd (not-suc-le-zero l)
+number-at b x (suc n) zero l = let e : x ≡ x + 2 * 0 = omega arith in ap (u16At b) e
+number-at b x (suc n) (suc j) l =
+    let e : x + 2 + 2 * j ≡ x + 2 * suc j = omega arith in
+    number-at b (x + 2) n j (omega arith) ∙ ap (u16At b) e
+
+pub numbers-more : (b : List ℕ) (x n : ℕ) → 0 < n → numbersAt b x n ≡ u16At b x ∷ numbersAt b (x + 2) (n - 1)
+unfolding numbersAt
+numbers-more b x zero h = absurd (not-suc-le-zero h)
+numbers-more b x (suc n) h = let e : n ≡ suc n - 1 = omega arith in ap (λ (i : ℕ). u16At b x ∷ numbersAt b (x + 2) i) e
 
 pub numbers-read : (vs b : List ℕ) (x : ℕ) → Stands (numbersBytes vs) b x → numbersAt b x (length vs) ≡ vs
 unfolding numbersAt numbersBytes Stands

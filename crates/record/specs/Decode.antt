@@ -2,10 +2,9 @@
 -- store of n records, and when records and stores are well formed. `Store.antt` has the other direction.
 use Prim.Native.Nat.{ℕ, zero, suc, _+_, _*_, _<_, _≤_}
 use mathlib.Core.Path.{_≡_}
-use mathlib.Core.Bool.{Bool, true, false, not, _&&_, _||_}
+use mathlib.Core.Bool.{Bool, true, false}
 use mathlib.Core.List.{List, [], _∷_, _++_}
 use lib.ListN.{length, getD, take, drop}
-use lib.Dec.{eqb}
 use Rattle.record.specs.Names.{distinct}
 use Rattle.record.specs.Number.{u16At, u32At, numbersAt}
 use Rattle.record.specs.Sort.{Sort}

@@ -1,5 +1,4 @@
--- The sorts of a well-formed store, as a list: they are well formed, parts stand before wholes, and the first m of
--- them are the store of m.
+-- The sorts of a well-formed store, as a list: parts stand before wholes, and the first m of them are the store of m.
 use Prim.Native.Nat.{ℕ, zero, suc, _+_, _*_, _≤_, _<_}
 use mathlib.Core.Path.{_≡_, refl, sym, ap, ap₂, subst, _∙_}
 use mathlib.Core.Bool.{true, _&&_}
@@ -11,12 +10,12 @@ use lib.ListN.{length, getD, take, drop, take-append-drop}
 use lib.Seq.{take-append-le, take-length}
 use Rattle.record.specs.Sort.{Sort}
 use Rattle.record.specs.Record.{Fields, leaf, sortsOf, sortOf}
-use Rattle.record.specs.Store.{recordsOf, recordSize, bytesOf}
+use Rattle.record.specs.Store.{recordSize, bytesOf}
 use Rattle.record.specs.Decode.{fieldsAt, Shape, Below, storeOf, sortAt, Stored, Packed, Running}
 use Rattle.record.specs.Forms.{Which, isVar, isPar, isNode, which, sort-var, sort-par, sort-other, par-one}
 use Rattle.record.specs.SortLists.{memb-at, membAll, partsIn, Ordered, Starts, starts-bytes, bytes-append}
 use Rattle.record.specs.StoreLaws.{storeOf-length, sort-made}
-use Rattle.record.specs.Sizes.{record-size, record-short, Formed, sort-formed, AllFormed, records-length}
+use Rattle.record.specs.Sizes.{record-size, record-short}
 
 -- The first m sorts of a store.
 pub store-take : (b p : List ℕ) (m n : ℕ) → m ≤ n → take m (storeOf b p n) ≡ storeOf b p m
@@ -40,16 +39,6 @@ store-starts b p m n l = (
 
 pub bytes-grow : (b p : List ℕ) (m n : ℕ) → m ≤ n → bytesOf (storeOf b p m) ≤ bytesOf (storeOf b p n)
 bytes-grow b p m n l = starts-bytes (storeOf b p m) (storeOf b p n) (store-starts b p m n l)
-
--- ITS SORTS ARE WELL FORMED, and their records take as many bytes as `bytesOf` says.
-pub store-formed : (b p : List ℕ) (n : ℕ) → Stored b p n → AllFormed (storeOf b p n)
-unfolding AllFormed sortAt
-store-formed b p n s k l =
-    let h : k < n = omega (arith, storeOf-length b p n) in
-    subst Formed (sym (sort-made b p k n h)) (sort-formed (storeOf b p k) (fieldsAt b (getD p k 0)) (s .each k h .shape))
-
-pub store-bytes : (b p : List ℕ) (n : ℕ) → Stored b p n → length (recordsOf (storeOf b p n) (storeOf b p n)) ≡ bytesOf (storeOf b p n)
-store-bytes b p n s = records-length (storeOf b p n) (storeOf b p n) (store-formed b p n s)
 
 -- At most 266 bytes a sort.
 pub store-short : (b p : List ℕ) (n : ℕ) → Stored b p n → (m : ℕ) → m ≤ n → bytesOf (storeOf b p m) ≤ 266 * m

@@ -8,7 +8,7 @@ use lib.ListN.{length, getD, length-append}
 use lib.Dec.{leb, leb→le}
 use Rattle.record.specs.Sort.{Sort, Sorts, var, par, node, end, _then_, count, size, sizes}
 use Rattle.record.specs.Record.{Fields, bit, maps, mapOf, mosts, mostOf, nameBytes, numberBytes, listBytes, recordBytes, leaf, sortsOf, sortOf}
-use Rattle.record.specs.Store.{given, recordSize, bytesOf, indexOf, indicesOf, fieldsOf, recordOf, recordsOf}
+use Rattle.record.specs.Store.{given, recordSize, indexOf, indicesOf, fieldsOf, recordOf}
 use Rattle.record.specs.Decode.{fields, Shape}
 use Rattle.record.specs.Table.{at}
 use Rattle.record.specs.Codec.{length-numbers, length-name, length-number, fields-equal}
@@ -200,17 +200,6 @@ record-of-size st (node k a w ss) h =
 -- Every sort of the list is well formed.
 unfoldable pub AllFormed : List Sort → Type 0
 AllFormed ss = (k : ℕ) → k < length ss → Formed (getD ss k leaf)
-
-pub records-length : (st ss : List Sort) → AllFormed ss → length (recordsOf st ss) ≡ bytesOf ss
-unfolding AllFormed recordsOf bytesOf
-records-length st [] h = refl
-records-length st (s ∷ ss) h =
-    omega (
-      arith,
-      length-append (recordOf st s) (recordsOf st ss),
-      record-of-size st s (h 0 (omega arith)),
-      records-length st ss (λ k l. h (suc k) (omega arith)),
-    )
 
 -- The size of a record's sort, by the sizes of its references.
 size-list : (ts : List Sort) (rs : List ℕ) → length rs ≡ 1 → sizes (sortsOf ts rs) ≡ size (getD ts (getD rs 0 0) leaf)

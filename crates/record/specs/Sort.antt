@@ -1,5 +1,5 @@
 -- Sorts as trees (enum Sort of src/ast/sort.rs), their tree size, and when two are equal.
-use Prim.Native.Nat.{ℕ, zero, suc, _+_}
+use Prim.Native.Nat.{ℕ, suc, _+_}
 use mathlib.Core.Bool.{Bool, true, false, _&&_}
 use mathlib.Core.List.{List, [], _∷_}
 use lib.Dec.{eqb}

@@ -14,17 +14,13 @@ use borrow.Author.Tests.{le-leb, leb-true}
 use Rattle.record.specs.Sort.{Sort, Sorts, var, par, node, end, _then_, same}
 use Rattle.record.specs.Record.{leaf}
 use Rattle.record.specs.Store.{memb, addOnce, intern, internAll, indexOf, recordSize, bytesOf, room}
-use Rattle.record.specs.Cases.{and-left, and-right, not-true-false}
+use Rattle.record.specs.Cases.{and-left, and-right, not-true-false, or-second}
 use Rattle.record.specs.SortLaws.{same-sound, same-refl, same-other}
 
 -- What holds of each index below n, and of n, holds of each below suc n.
 pub below-suc : (P : ℕ → Type 0) (n : ℕ) → ((k : ℕ) → k < n → P k) → P n → (k : ℕ) → k < suc n → P k
 below-suc P n all here k l =
     ⊎-elim (λ (e : k ≡ n). subst P (sym e) here) (λ h. all k h) (eq-or-lt-of-le (le-of-suc-le-suc l))
-
-or-right : (a b : Bool) → b ≡ true → a || b ≡ true
-or-right true b e = refl
-or-right false b e = e
 
 or-neither : (a b : Bool) → a ≡ false → b ≡ false → a || b ≡ false
 or-neither true b e f = e
@@ -36,7 +32,7 @@ unfolding memb
 memb-at [] d k h = absurd (not-suc-le-zero h)
 memb-at (t ∷ ts) d zero h = ap (λ (x : Bool). x || memb t ts) (same-refl t)
 memb-at (t ∷ ts) d (suc k) h =
-    or-right (same t (getD ts k d)) (memb (getD ts k d) ts) (memb-at ts d k (omega arith))
+    or-second (same t (getD ts k d)) (memb (getD ts k d) ts) (memb-at ts d k (omega arith))
 
 pub memb-none : (st : List Sort) (d s : Sort) → ((k : ℕ) → k < length st → getD st k d ≡ s → ⊥) → memb s st ≡ false
 unfolding memb

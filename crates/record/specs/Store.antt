@@ -1,10 +1,10 @@
 -- The store (document 01, "Sort records and the store"; storage.rs): each distinct sort once, in first-made
 -- order, parts first from left to right, as records back to back with their byte offsets beside them.
-use Prim.Native.Nat.{ℕ, zero, suc, _+_, _*_, _-_}
+use Prim.Native.Nat.{ℕ, suc, _+_, _*_, _-_}
 use mathlib.Core.Bool.{Bool, true, false, cond, _&&_, _||_}
 use mathlib.Core.List.{List, [], _∷_, _++_}
-use lib.ListN.{length, getD, replicate}
-use lib.Dec.{eqb, leb}
+use lib.ListN.{length, replicate}
+use lib.Dec.{leb}
 use Rattle.record.specs.Sort.{Sort, Sorts, var, par, node, end, _then_, same, count}
 use Rattle.record.specs.Record.{Fields, mapOf, bit, recordBytes}
 

@@ -2,7 +2,7 @@
 -- its sorts and the places `offsetsOf` them, so with zeros behind the buffers are `storeBytes` and `storePlaces`.
 use Prim.Native.Nat.{ℕ, zero, suc, _+_, _-_, _≤_, _<_}
 use mathlib.Core.Path.{_≡_, refl, sym, ap, ap₂, subst, _∙_}
-use mathlib.Core.List.{List, [], _∷_, _++_}
+use mathlib.Core.List.{List, [], _∷_, _++_, append-nil, append-assoc}
 use native.Mathlib.Omega.{arith}
 use lib.ListN.{length, getD, take, drop, replicate, length-append, length-replicate, getD-replicate, take-append-drop, length-drop}
 use lib.Seq.{take-add, take-suc, length-take-le, getD-drop, ext-getD}
@@ -57,16 +57,8 @@ module _ (st : List Sort) (once : Once st) where
 records-append : (st ss : List Sort) (s : Sort) → recordsOf st (ss ++ (s ∷ [])) ≡ recordsOf st ss ++ recordOf st s
 unfolding recordsOf
 records-append st [] s = append-nil (recordOf st s)
-  where
-    append-nil : (l : List ℕ) → l ++ [] ≡ l
-    append-nil [] = refl
-    append-nil (a ∷ l) = ap (λ (r : List ℕ). a ∷ r) (append-nil l)
 records-append st (t ∷ ss) s =
-    ap (λ (l : List ℕ). recordOf st t ++ l) (records-append st ss s) ∙ assoc (recordOf st t) (recordsOf st ss) (recordOf st s)
-  where
-    assoc : (a b c : List ℕ) → a ++ (b ++ c) ≡ a ++ b ++ c
-    assoc [] b c = refl
-    assoc (x ∷ a) b c = ap (λ (l : List ℕ). x ∷ l) (assoc a b c)
+    ap (λ (l : List ℕ). recordOf st t ++ l) (records-append st ss s) ∙ sym (append-assoc (recordOf st t) (recordsOf st ss) (recordOf st s))
 
 offsets-append : (st ss : List Sort) (x : ℕ) (s : Sort) → offsetsOf st x (ss ++ (s ∷ [])) ≡ offsetsOf st x ss ++ ((x + length (recordsOf st ss)) ∷ [])
 unfolding offsetsOf recordsOf

@@ -1,5 +1,4 @@
 -- Lists of sorts, as both verdicts take them apart.
-use Prim.Native.Nat.{ℕ}
 use mathlib.Core.List.{List, [], _∷_}
 use Rattle.record.specs.Sort.{Sort, Sorts, end, _then_, function}
 use Rattle.sheet.specs.Sheet.{Binding}

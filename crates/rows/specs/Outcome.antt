@@ -1,7 +1,7 @@
 -- A verdict meets the limits: 22 by the answer, 23 by the store; the row is coded, and an accepted answer is interned.
 use Prim.Native.Nat.{ℕ, _+_, _*_}
 use mathlib.Core.Bool.{Bool, true, false, cond, _&&_}
-use mathlib.Core.List.{List, [], _∷_}
+use mathlib.Core.List.{List}
 use mathlib.Core.Option.{Option, none, some}
 use lib.ListN.{length, getD}
 use lib.Dec.{leb, ltb}

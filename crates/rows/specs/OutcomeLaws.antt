@@ -154,17 +154,18 @@ Passes v = (s : Sort) × (v ≡ sort s) × (within s ≡ false)
 abbrev pub Overflows : Lengths → List Sort → Verdict → Type 0
 Overflows l st v = (s : Sort) × (v ≡ sort s) × (within s ≡ true) × (room (l .records) (l .places) (intern s st) ≡ false)
 
-refused-sort : {C : Type 0} {c : Cause} {s : Sort} → refused c ≡ sort s → C
+-- A refusal is no sort, and two sorts of one verdict are one.
+pub refused-sort : {C : Type 0} {c : Cause} {s : Sort} → refused c ≡ sort s → C
 refused-sort {C} {c} {s} e = let z : true ≡ false = cc in absurd (true≢false z)
 
-sort-one : {r s : Sort} → sort r ≡ sort s → r ≡ s
-sort-one {r} {s} e = cc
+pub sort-inj : {r s : Sort} → sort r ≡ sort s → r ≡ s
+sort-inj {r} {s} e = cc
 
 pub plain-limit : (l : Lengths) (st : List Sort) (v : Verdict) → plain v ≡ true → (outcome l st v .code ≡ numberOf Limit * 65536) ↔ Passes v
 unfolding outcome plain
 plain-limit l st (sort s) p = (
   λ e. (s, refl, outcome-limit l st s .0 e),
-  λ h. outcome-limit l st s .1 (subst (λ (r : Sort). within r ≡ false) (sym (sort-one (h .1))) (h .2)),
+  λ h. outcome-limit l st s .1 (subst (λ (r : Sort). within r ≡ false) (sym (sort-inj (h .1))) (h .2)),
 )
 plain-limit l st (refused c) p = (
   λ e. absurd (clash (or-first (eqb (numberOf c * 65536) (numberOf Limit * 65536)) (eqb (numberOf c * 65536) (numberOf Full * 65536)) (eq-eqb (numberOf c * 65536) (numberOf Limit * 65536) e)) (not-true (limited (numberOf c * 65536)) p)),
@@ -176,8 +177,8 @@ unfolding outcome plain
 plain-full l st (sort s) p = (
   λ e. let f = outcome-full l st s .0 e in (s, refl, f .0, f .1),
   λ h. outcome-full l st s .1 (
-    subst (λ (r : Sort). within r ≡ true) (sym (sort-one (h .1))) (h .2),
-    subst (λ (r : Sort). room (l .records) (l .places) (intern r st) ≡ false) (sym (sort-one (h .1))) (h .3),
+    subst (λ (r : Sort). within r ≡ true) (sym (sort-inj (h .1))) (h .2),
+    subst (λ (r : Sort). room (l .records) (l .places) (intern r st) ≡ false) (sym (sort-inj (h .1))) (h .3),
   ),
 )
 plain-full l st (refused c) p = (

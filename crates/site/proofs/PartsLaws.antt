@@ -9,12 +9,12 @@ use borrow.Author.Tests.{ne-eqb}
 use Rattle.record.specs.Number.{u16At, numbersAt}
 use Rattle.record.specs.Sort.{Sort, Sorts, end}
 use Rattle.record.specs.Record.{sortsOf}
+use Rattle.record.specs.Cases.{not-false}
 use Rattle.reader.specs.declared.TermRecord.{TermRecord}
 use Rattle.rows.specs.declared.Cause.the-variants.{Below}
 use Rattle.rows.specs.Verdict.{Verdict, refused}
 use Rattle.rows.specs.Term.{Site, overParts, sortsAt}
 use Rattle.answers.specs.Arguments.{GatherIs, JudgedIs, argumentsOf, codesOf, gathered-known}
-use Rattle.site.specs.SiteLaws.{not-off}
 use Rattle.site.specs.Site.{ownOver, bindingsOver, constantsOver, indicesOver, siteOver, indexSorts, termVerdict, Standing, PartsAre}
 
 over-none : (J : Site → Verdict) (st : List Sort) (s tbl xs : List ℕ) (r : TermRecord) (o : Option Sorts)
@@ -40,7 +40,7 @@ module _ (s rows : List ℕ) (column : ℕ) (r : TermRecord) (a : List ℕ) wher
   -- None is: t is the test of the list's rows.
   module _ (t : Bool) (f : not t ≡ false) (g : GatherIs s (r .list) (r .count) rows column a t) (side : column ≤ 1) where
     on : t ≡ true
-    on = not-off t f
+    on = not-false t f
 
     known : (n : ℕ) (tbl xs : List ℕ) → Standing n s tbl xs rows r → (j : ℕ) → j < r .count → u16At a (3 + 2 * j) < n
     known n tbl xs h = gathered-known s (r .list) (r .count) rows column a t g on side (h .term) n (h .known) (h .was .references)

@@ -15,12 +15,12 @@ use Rattle.record.specs.Sort.{Sort}
 use Rattle.record.specs.Record.{bit}
 use Rattle.record.specs.Store.{given}
 use Rattle.reader.specs.Tables.{termMaps, termMapOf, termNumberOf, termLeastOf, termMostOf}
-use Rattle.reader.specs.declared.Refusal.{Refusal}
 use Rattle.reader.specs.declared.Cursor.{Cursor}
 use Rattle.reader.specs.declared.TermRecord.{TermRecord}
-use Rattle.reader.specs.declared.ReadTerm.the-variants.{Term, NoTerm}
+use Rattle.reader.specs.declared.ReadTerm.the-variants.{Term}
 use Rattle.reader.specs.Reader.{readHead, readName, readNumber, readOwn, readReferences, readPairs, readSecond, readTermFields, readTerm}
 use Rattle.reader.specs.Was.{by-need, by-number, by-list, by-head, NumberWas, HeadWas, head-was, name-was, number-was}
+use Rattle.reader.specs.TermWas.{no-term, term-of}
 use Rattle.sheet.specs.Sheet.{TermFields, termFields}
 use Rattle.sheet.specs.Contract.{eachAt, termAt, termsAt, TermStands}
 use Rattle.sheet.specs.Stands.{each-length, term-is}
@@ -31,12 +31,6 @@ use Rattle.answers.specs.Arguments.{ConstantAsks, integerAt, constantsFrom}
 pub record IntegerWas (s : List ℕ) (x : ℕ) (r : TermRecord) : Type 0 where
   pub inside : x + 6 ≤ length s
   pub value : r .number ≡ u32At s (x + 2)
-
-no-term : {B : Type 0} {e : Refusal} {r : TermRecord} {c : Cursor} → NoTerm e ≡ Term r c → B
-no-term h = let z : _≡_ {A = ℕ} 0 1 = cc in absurd (omega arith)
-
-term-of : {r v : TermRecord} {c d : Cursor} → Term r c ≡ Term v d → r ≡ v
-term-of h = cc
 
 module _ (s : List ℕ) (sorts t x : ℕ) (r : TermRecord) (c : Cursor) (integer : r .kind ≡ 0) where
   -- A record of kind 0 has no name, and its number comes first.

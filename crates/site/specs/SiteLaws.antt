@@ -2,7 +2,7 @@
 -- its row, and what the arms of a dispatcher over the kinds need. A caller's Standing is `.standing` of its TermAsks.
 use Prim.Native.Nat.{ℕ, zero, suc, _+_, _*_, _-_, _≤_, _<_}
 use mathlib.Core.Path.{_≡_, refl, sym, ap, ap₂, subst, _∙_}
-use mathlib.Core.Bool.{Bool, true, false, not, cond, true≢false, false≢true}
+use mathlib.Core.Bool.{Bool, true, false, cond}
 use mathlib.Core.List.{List, [], _∷_}
 use mathlib.Core.Option.{Option}
 use native.Mathlib.Omega.{arith}
@@ -13,7 +13,7 @@ use Rattle.record.specs.Number.{u16At, numbersAt}
 use Rattle.record.specs.Sort.{Sort, Sorts, _then_, bool}
 use Rattle.record.specs.Record.{bit, leaf, sortsOf}
 use Rattle.record.specs.Decode.{storeOf, sortAt}
-use Rattle.record.specs.Codec.{length-numbersAt}
+use Rattle.record.specs.Codec.{length-numbersAt, number-at}
 use Rattle.reader.specs.Tables.{termMaps, termMapOf, termNumbers, termNumberOf, termLeasts, termLeastOf, termMosts, termMostOf}
 use Rattle.reader.specs.Reader.{pairNamesAt, pairSortsAt}
 use Rattle.reader.specs.declared.TermRecord.{TermRecord}
@@ -21,7 +21,6 @@ use Rattle.sheet.specs.Sheet.{Binding, TermFields, bindingsOf, termFields}
 use Rattle.sheet.specs.Contract.{termsAt}
 use Rattle.sheet.specs.Trees.{treesOf, trees-length, trees-at}
 use Rattle.store.specs.Good.{Good}
-use Rattle.store.specs.Walk.{number-at}
 use Rattle.rows.specs.declared.Cause.the-variants.{Below}
 use Rattle.rows.specs.Verdict.{Verdict}
 use Rattle.rows.specs.Lists.{bindingSorts}
@@ -33,16 +32,6 @@ use Rattle.answers.specs.AnswerLaws.{judged-as, answered-as, answer-refused}
 use Rattle.answers.specs.Arguments.{argumentsOf, looked, boundNumbers, bindingAt, constantsIn, ConstantsAsk}
 use Rattle.site.specs.Site.{ownOver, bindingsOver, termVerdict, Standing, TermAsks, TermIs, SiteAsks, SiteIs, PartsAsk, PartsAre}
 use Rattle.site.specs.Constants.{constant-asks, constants-by}
-
--- A test whose negation held failed.
-pub not-on : (t : Bool) → not t ≡ true → t ≡ false
-not-on true e = absurd (false≢true e)
-not-on false e = refl
-
--- A test whose negation failed held.
-pub not-off : (t : Bool) → not t ≡ false → t ≡ true
-not-off true e = refl
-not-off false e = absurd (true≢false e)
 
 ---------------------------------------------------------------- the parts and the row
 -- The array after, as long as the one before, has the arguments.
@@ -194,10 +183,6 @@ module _ {n : ℕ} {s tbl xs rows : List ℕ} {r : TermRecord} (h : Standing n s
   pub count-few : r .count ≤ 64
   count-few = h .was .few
 
-  -- At most 64 in its second list.
-  pub seconds-few : r .seconds ≤ 64
-  seconds-few = h .was .seconds
-
   -- A known kind.
   pub kind-known : r .kind < 13
   kind-known = h .was .known
@@ -212,45 +197,10 @@ module _ {n : ℕ} {s tbl xs rows : List ℕ} {r : TermRecord} (h : Standing n s
   count-most : (k : ℕ) → r .kind ≡ k → r .count ≤ termMostOf k
   count-most k e = subst (λ (j : ℕ). r .count ≤ termMostOf j) e (h .was .most)
 
-  -- The width of a bit-vector constant (4).
-  pub width-number : r .kind ≡ 4 → r .number ≤ 65535
-  unfolding termNumberOf termNumbers
-  width-number e = number-most 4 e
-
   -- The operator of an Op (7).
   pub op-number : r .kind ≡ 7 → r .number ≤ 134
   unfolding termNumberOf termNumbers
   op-number e = number-most 7 e
-
-  -- Which binder a Binder (8) is.
-  pub binder-number : r .kind ≡ 8 → r .number ≤ 3
-  unfolding termNumberOf termNumbers
-  binder-number e = number-most 8 e
-
-  -- The operator of a ParamOp (11).
-  pub index-number : r .kind ≡ 11 → r .number ≤ 11
-  unfolding termNumberOf termNumbers
-  index-number e = number-most 11 e
-
-  -- The operator of an AsOp (12).
-  pub as-number : r .kind ≡ 12 → r .number ≤ 2
-  unfolding termNumberOf termNumbers
-  as-number e = number-most 12 e
-
-  -- An App (6) has its head.
-  pub app-some : r .kind ≡ 6 → 1 ≤ r .count
-  unfolding termLeastOf termLeasts
-  app-some e = count-least 6 e
-
-  -- A Let (9) has its inner term.
-  pub let-some : r .kind ≡ 9 → 1 ≤ r .count
-  unfolding termLeastOf termLeasts
-  let-some e = count-least 9 e
-
-  -- A Match (10) has its subject.
-  pub match-some : r .kind ≡ 10 → 1 ≤ r .count
-  unfolding termLeastOf termLeasts
-  match-some e = count-least 10 e
 
   binder-least : r .kind ≡ 8 → 1 ≤ r .count
   unfolding termLeastOf termLeasts

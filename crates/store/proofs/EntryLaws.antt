@@ -13,15 +13,14 @@ use Rattle.record.specs.Record.{Fields, bit, sortsOf, sortOf}
 use Rattle.record.specs.Store.{given}
 use Rattle.record.specs.Decode.{listOf, listWidth, numberPlace, listPlace, namesPlace, endPlace, fieldsBy, fieldsAt, Stands, Shape, storeOf, sortAt}
 use Rattle.record.specs.Bytes.{stands-self}
-use Rattle.record.specs.Codec.{fields-equal, record-end, length-numbersAt}
+use Rattle.record.specs.Codec.{fields-equal, record-end, length-numbersAt, number-at}
 use Rattle.record.specs.Forms.{Which, isVar, isPar, isNode, which, sort-var, sort-par, sort-other, par-one, par-name, par-number, var-number, var-list, var-names, other-names, one-element}
 use Rattle.record.specs.StoreLaws.{sort-node}
 use Rattle.record.specs.Sizes.{most-few, size-sort}
 use Rattle.store.specs.Good.{Sized}
 use Rattle.record.specs.Sort.{kindOf, nameIn, numberIn, partsOf, namesOf}
-use Rattle.store.specs.Entry.{isOne, PlaceAsks, PlaceIs, EntryAsks, EntryIs, EntryHas, KindHas, SizeHas, TreeAsks, TreeHas}
+use Rattle.store.specs.Entry.{isOne, PlaceAsks, PlaceIs, EntryAsks, EntryHas, KindHas, SizeHas, TreeAsks, TreeHas}
 use Rattle.record.specs.declared.SortRecord.{SortRecord}
-use Rattle.store.specs.Walk.{number-at}
 
 -- a bit as a number
 pub bit-on : (w m v : ℕ) → m / w % 2 ≡ 1 → v ≡ given (bit w m) v

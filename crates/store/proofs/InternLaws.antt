@@ -2,7 +2,7 @@
 use Prim.Native.Nat.{ℕ, suc, _+_, _≤_, _<_}
 use mathlib.Core.Path.{_≡_, refl, sym, ap, ap₂, subst, _∙_}
 use mathlib.Core.List.{List, [], _∷_, _++_}
-use mathlib.Core.Bool.{Bool, true, false, _&&_, true≢false}
+use mathlib.Core.Bool.{true, false, _&&_}
 use native.Mathlib.Omega.{arith}
 use native.Mathlib.Numerals.{add-one}
 use lib.ListN.{length, getD, set, length-set, length-append, List·getD-append}
@@ -18,6 +18,7 @@ use Rattle.record.specs.StoreLaws.{storeOf-length, sort-node, same-record}
 use Rattle.record.specs.Sizes.{record-size}
 use Rattle.record.specs.Whole.{store-once}
 use Rattle.record.specs.Append.{written-before, length-written, new-record, old-record, pushed-store, pushed-packed, pushed-stored, pushed-distinct, pushed-running, pushed-bytes, pushed-places}
+use Rattle.record.specs.Cases.{false-first, false-second}
 use Rattle.store.specs.declared.Found.the-variants.{At}
 use Rattle.store.specs.declared.Pushed.the-variants.{Added, Full}
 use Rattle.store.specs.Index.{hashOf, Chained, chained-same, chained-push, hash-small}
@@ -195,14 +196,6 @@ module _ (b p hs ns zs : List ℕ) (n u : ℕ) (r : List ℕ) (w : ℕ) (a : Int
   made-holds b′ p′ hs′ ns′ zs′ f =
       rw (f .bytes, f .places, f .heads, f .next, f .sizes, add-one) (made (f .room) (f .place) (f .count))
 
-  and-first : (x y : Bool) → x ≡ false → x && y ≡ false
-  and-first true y e = absurd (true≢false e)
-  and-first false y e = e
-
-  and-second : (x y : Bool) → y ≡ false → x && y ≡ false
-  and-second true y e = e
-  and-second false y e = refl
-
   -- A record that had no room leaves none for its sort.
   no-room : NoRoomFor b p n u (length r) → room (length b) (length p) (storeOf b p n ++ (sortOf (storeOf b p n) (fieldsAt r 0) ∷ [])) ≡ false
   unfolding room
@@ -213,14 +206,14 @@ module _ (b p hs ns zs : List ℕ) (n u : ℕ) (r : List ℕ) (w : ℕ) (a : Int
 
       go : NoRoomFor b p n u (length r) → leb (bytesOf st) (length b) && (leb (length st) (length p) && leb (length st) 4096) ≡ false
       go (NoRoomFor.bytes h) =
-          and-first (leb (bytesOf st) (length b)) (leb (length st) (length p) && leb (length st) 4096)
+          false-first (leb (bytesOf st) (length b)) (leb (length st) (length p) && leb (length st) 4096)
           (lt-leb (bytesOf st) (length b) (omega (arith, add-bytes)))
       go (NoRoomFor.places h) =
-          and-second (leb (bytesOf st) (length b)) (leb (length st) (length p) && leb (length st) 4096)
-          (and-first (leb (length st) (length p)) (leb (length st) 4096) (lt-leb (length st) (length p) (omega (arith, add-count))))
+          false-second (leb (bytesOf st) (length b)) (leb (length st) (length p) && leb (length st) 4096)
+          (false-first (leb (length st) (length p)) (leb (length st) 4096) (lt-leb (length st) (length p) (omega (arith, add-count))))
       go (NoRoomFor.cap h) =
-          and-second (leb (bytesOf st) (length b)) (leb (length st) (length p) && leb (length st) 4096)
-          (and-second (leb (length st) (length p)) (leb (length st) 4096) (lt-leb (length st) 4096 (omega (arith, add-count))))
+          false-second (leb (bytesOf st) (length b)) (leb (length st) (length p) && leb (length st) 4096)
+          (false-second (leb (length st) (length p)) (leb (length st) 4096) (lt-leb (length st) 4096 (omega (arith, add-count))))
 
   pub full-means : (b′ p′ hs′ ns′ zs′ : List ℕ) → PushedIs b p hs ns zs n u r w b′ p′ hs′ ns′ zs′ Full
       → (room (length b) (length p) (addOnce (storeOf b p n) (sortOf (storeOf b p n) (fieldsAt r 0))) ≡ false) × Untouched b p hs ns zs b′ p′ hs′ ns′ zs′

@@ -2,11 +2,11 @@
 use Prim.Native.Nat.{ℕ, _+_, _*_, _≤_, _<_}
 use mathlib.Core.Path.{_≡_}
 use mathlib.Core.Bool.{Bool}
-use mathlib.Core.List.{List, []}
+use mathlib.Core.List.{List}
 use lib.ListN.{length, getD}
 use lib.Dec.{eqb}
 use Rattle.record.specs.Number.{u16At, numbersAt}
-use Rattle.record.specs.Sort.{Sort, Sorts, var, par, node, end, _then_, size, kindOf, nameIn, numberIn, partsOf, namesOf}
+use Rattle.record.specs.Sort.{size, kindOf, nameIn, numberIn, partsOf, namesOf}
 use Rattle.record.specs.Record.{recordBytes, sortsOf, sortOf}
 use Rattle.record.specs.Decode.{fields, fieldsAt, Below, Stands, Held, Fresh, storeOf, sortAt, Stored}
 use Rattle.store.specs.Good.{Sized}

@@ -1,17 +1,16 @@
 -- Walks over the store, by what `entry` read: which sort the entry k is, where its parts are, and how sizes fall.
-use Prim.Native.Nat.{ℕ, zero, suc, _+_, _*_, _-_, _≤_, _<_}
+use Prim.Native.Nat.{ℕ, _+_, _*_, _≤_, _<_}
 use mathlib.Core.Path.{_≡_, sym, ap, _∙_}
 use mathlib.Core.List.{List}
 use native.Mathlib.Omega.{arith}
-use native.Mathlib.Nat.{not-suc-le-zero}
 use lib.ListN.{length, getD}
 use Rattle.record.specs.Number.{u16At, numbersAt}
 use Rattle.record.specs.Sort.{Sort, var, par, node, size, sizes}
 use Rattle.record.specs.Record.{Fields, leaf, sortsOf, sortOf}
 use Rattle.record.specs.Decode.{fields, fieldsAt, Fresh, storeOf, sortAt, Stored}
-use Rattle.record.specs.Codec.{length-numbersAt}
+use Rattle.record.specs.Codec.{length-numbersAt, number-at}
 use Rattle.record.specs.Forms.{sort-var, sort-par, sort-other, par-one}
-use Rattle.record.specs.StoreLaws.{sort-node, parts-more}
+use Rattle.record.specs.StoreLaws.{sort-node}
 use Rattle.record.specs.Sizes.{size-sort}
 use Rattle.store.specs.Entry.{EntryAsks, EntryIs, TreeAsks}
 use Rattle.record.specs.declared.SortRecord.{SortRecord}
@@ -27,15 +26,6 @@ tree-asks zs r n table few fresh =
       table = table;
       fresh = record { whole = fresh .whole; shape = fresh .shape; below = λ j l. omega (arith, fresh .below j l) };
     }
-
--- A number of a list, by its place.
-pub number-at : (b : List ℕ) (x n j : ℕ) → j < n → getD (numbersAt b x n) j 0 ≡ u16At b (x + 2 * j)
-unfolding numbersAt
-number-at b x zero j l = absurd (not-suc-le-zero l)
-number-at b x (suc n) zero l = let e : x ≡ x + 2 * 0 = omega arith in ap (u16At b) e
-number-at b x (suc n) (suc j) l =
-    let e : x + 2 + 2 * j ≡ x + 2 * suc j = omega arith in
-    number-at b (x + 2) n j (omega arith) ∙ ap (u16At b) e
 
 -- THE SORT k by its kind: Var, Par, or another.
 module _ (b p : List ℕ) (n k : ℕ) (stored : Stored b p n) (l : k < n) (r : SortRecord) (e : EntryIs b p n k r) where
@@ -71,12 +61,6 @@ module _ (b p : List ℕ) (n k : ℕ) (stored : Stored b p n) (l : k < n) (r : S
       ap size (sort-node b p n k stored l)
       ∙ size-sort (storeOf b p n) (fieldsAt b (getD p k 0)) (stored .each k l .shape)
       ∙ ap (λ (f : Fields). 1 + sizes (sortsOf (storeOf b p n) (f .list))) (e .place .same)
-
--- The sizes of a list of references: those of the first, and of the rest.
-pub sizes-more : (b p : List ℕ) (n x m : ℕ) → 0 < m
-    → sizes (sortsOf (storeOf b p n) (numbersAt b x m)) ≡ size (sortAt b p n (u16At b x)) + sizes (sortsOf (storeOf b p n) (numbersAt b (x + 2) (m - 1)))
-unfolding size sortAt
-sizes-more b p n x m some = ap sizes (parts-more (storeOf b p n) b x m some)
 
 pub size-pos : (s : Sort) → 1 ≤ size s
 unfolding size

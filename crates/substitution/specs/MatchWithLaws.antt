@@ -1,20 +1,31 @@
 -- Under matching's premise match_with is matching by the definition, so what is proved of that holds of match_with.
 use Prim.Native.Nat.{ℕ}
 use mathlib.Core.Path.{_≡_, refl, sym, subst, _∙_}
-use mathlib.Core.Bool.{Bool, true, false, not, cond, _&&_, false≢true, true≢false}
+use mathlib.Core.Bool.{Bool, true, false, not, cond, _&&_, _||_, false≢true, true≢false}
 use mathlib.Core.List.{List, _++_}
 use mathlib.Core.Option.{Option, none, some}
 use lib.Dec.{eqb}
-use Rattle.record.specs.Sort.{Sort, Sorts, var, par, node, end, _then_, same}
+use Rattle.record.specs.Sort.{Sort, Sorts, var, par, node, end, _then_, kindOf, same}
 use Rattle.record.specs.SortLaws.{same-sound, same-refl}
 use Rattle.record.specs.Cases.{and-left, and-right, and-true, or-left, or-right, not-true, three, eqb-self, byTest, byOption, none-some, some-inj}
 use Rattle.record.specs.Names.{member}
 use Rattle.substitution.specs.Substitution.{Map, empty, bind, find, occurs, occursAny}
 use Rattle.substitution.specs.Matching.{keep, meet, matches, matchesAll, listedIn, known, knownAll, unlisted, unlistedAll, premise}
 use Rattle.substitution.specs.MatchingLaws.{keep-rest, andThen-middle, match-self, known-parless, knownAll-parless, unlisted-free, unlistedAll-free, Matching, MatchingAll, matching, matchingAll}
-use Rattle.substitution.specs.MatchWith.{isParamBitVec, paramEq, meetWith, allMembers, matchWith, matchAllWith}
+use Rattle.substitution.specs.MatchWith.{isParamBitVec, isBitVec, paramEq, meetWith, allMembers, matchWith, matchAllWith}
 
 ---------------------------------------------------------------- param_eq
+-- Its two tests look at the kind.
+pub param-kind : (s : Sort) → isParamBitVec s ≡ eqb (kindOf s) 10
+param-kind (var v) = refl
+param-kind (par ns b) = refl
+param-kind (node k a w ss) = refl
+
+pub vector-kind : (s : Sort) → isBitVec s ≡ (eqb (kindOf s) 9 || eqb (kindOf s) 10)
+vector-kind (var v) = refl
+vector-kind (par ns b) = refl
+vector-kind (node k a w ss) = refl
+
 -- Without ParamBitVec it is equality.
 pub known-width : (s : Sort) → known s ≡ true → isParamBitVec s ≡ false
 unfolding known

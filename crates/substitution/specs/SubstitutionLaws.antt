@@ -1,13 +1,14 @@
 -- Laws of substitution: what it does to a variable and to a Par, when it changes nothing, which names are left, and how two of them follow each other.
-use Prim.Native.Nat.{ℕ, _+_, _≤_}
+use Prim.Native.Nat.{ℕ, suc, _+_, _≤_}
 use mathlib.Core.Path.{_≡_, refl, sym, ap, _∙_}
-use mathlib.Core.Bool.{true, false, not, _&&_, _||_, false≢true}
+use mathlib.Core.Bool.{Bool, true, false, not, cond, _&&_, _||_, false≢true}
 use mathlib.Core.List.{List, [], _∷_}
 use mathlib.Core.Option.{none, some}
 use native.Mathlib.Omega.{arith}
+use lib.ListN.{length}
 use lib.Dec.{eqb}
 use borrow.Author.Tests.{eqb-true}
-use Rattle.record.specs.Sort.{Sort, Sorts, var, par, node, end, _then_, size, sizes}
+use Rattle.record.specs.Sort.{Sort, Sorts, var, par, node, end, _then_, count, size, sizes}
 use Rattle.record.specs.Cases.{and-left, and-right, conj, and-true, or-left, or-right, or-second, not-true, eqb-self, byTest, byOption, none-some, some-inj, clash}
 use Rattle.record.specs.Names.{member}
 use Rattle.substitution.specs.Substitution.{Map, empty, bind, find, bound, left, under, apply, applyAll, through, occurs, occursAny}
@@ -46,6 +47,16 @@ left-member m v (n ∷ ns) =
     (λ b. rw b (byTest (eqb n v)
     (λ q. let bv : bound m v ≡ false = rw (← eqb-true n v q) b in rw (q, bv) refl)
     (λ q. rw q (left-member m v ns))))
+
+-- They are no more than there were.
+pub left-few : (m : Map) (ns : List ℕ) → length (left m ns) ≤ length ns
+unfolding left
+left-few m [] = omega arith
+left-few m (n ∷ ns) = go (bound m n) (left-few m ns)
+  where
+    go : (t : Bool) → length (left m ns) ≤ length ns → length (cond t (left m ns) (n ∷ left m ns)) ≤ suc (length ns)
+    go true h = omega arith
+    go false h = omega arith
 
 -- All of them are left if the map binds none, and none is left if it binds all.
 pub left-all : (m : Map) (ns : List ℕ) → ((v : ℕ) → member v ns ≡ true → bound m v ≡ false) → left m ns ≡ ns
@@ -371,3 +382,10 @@ mutual
   applyAll-applyAll σ θ (s then ss) e h d =
       let p = apply-apply σ θ s e (search conj) d in
       let t = applyAll-applyAll σ θ ss e (search conj) d in cc
+
+---------------------------------------------------------------- lists
+-- As many sorts as before.
+pub count-applied : (m : Map) (ss : Sorts) → count (applyAll m ss) ≡ count ss
+unfolding applyAll count
+count-applied m end = refl
+count-applied m (s then ss) = ap suc (count-applied m ss)

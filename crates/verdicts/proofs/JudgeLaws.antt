@@ -26,10 +26,9 @@ use Rattle.judged.specs.Questions.{Answered, answersOf}
 use Rattle.judged.specs.QuestionLaws.{answers-count}
 use Rattle.judged.specs.Judged.{Judgement, refused, accepted, judgedSheet, judgedBy, judged, recordsAfter, placesAfter, rowsAfter, answersAfter}
 use Rattle.questions.specs.All.{AllAsks, AllIs, stands-asks, trees-starts}
-use Rattle.questions.specs.declared.all.Counts.{Counts as AnswerCounts}
+use Rattle.questions.specs.declared.all.Counts.{Counts}
 use Rattle.verdicts.specs.declared.Outcome.{Outcome}
 use Rattle.verdicts.specs.declared.Outcome.the-variants.{Accepted, Refused}
-use Rattle.verdicts.specs.declared.table.Counts.{Counts}
 use Rattle.verdicts.specs.Table.{RowsAsk, RowsAre}
 use Rattle.verdicts.specs.Judge.{lengthsOf, outcomeOf, numberOf, Reads, ReadsBack, JudgeIs, NumberIs, ClearedAsks, AcceptedAsks, judge-number}
 
@@ -166,7 +165,7 @@ module _ (s b p hs ns zs tbl xs ys : List ℕ) (c : SheetCounts) (rw an : List �
         (λ j o. omega (arith, stands .known j o, storeOf-length b p (c .count))))
 
     -- After the answers: THE JUDGEMENT.
-    module _ (b₂ p₂ hs₂ ns₂ zs₂ prm₂ imgs₂ bnd₂ an₂ : List ℕ) (q : AnswerCounts)
+    module _ (b₂ p₂ hs₂ ns₂ zs₂ prm₂ imgs₂ bnd₂ an₂ : List ℕ) (q : Counts)
         (o : AllIs b₁ p₁ (r .count) prm₁ imgs₁ bnd₁ s tbl (c .sorts) ys (c .questions) an b₂ p₂ hs₂ ns₂ zs₂ prm₂ imgs₂ bnd₂ an₂ q) where
       abbrev answered : Answered
       answered = answersOf lengths (tabled .store) questions

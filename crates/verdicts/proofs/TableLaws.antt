@@ -12,7 +12,7 @@ use lib.Seq.{take-suc-set, drop-set-lt, drop-drop, getD-take, getD-set-same, get
 use lib.Dec.{eqb}
 use borrow.Author.Tests.{eqb-true, eqb-false}
 use Rattle.record.specs.Number.{u16At, numbersAt}
-use Rattle.record.specs.Codec.{length-numbersAt}
+use Rattle.record.specs.Codec.{length-numbersAt, number-at}
 use Rattle.record.specs.Sort.{Sort, Sorts}
 use Rattle.record.specs.Decode.{storeOf}
 use Rattle.record.specs.StoreLaws.{storeOf-length}
@@ -28,25 +28,25 @@ use Rattle.sheet.specs.Trees.{treesOf, trees-length}
 use Rattle.sheet.specs.Contract.{eachAt, termAt, termsAt, TermStands}
 use Rattle.sheet.specs.Stands.{Numbered, term-again, term-is}
 use Rattle.store.specs.Good.{Good}
-use Rattle.store.specs.Walk.{number-at}
 use Rattle.matching.specs.Tables.{Blank}
 use Rattle.rows.specs.declared.RowVerdict.{RowVerdict}
 use Rattle.rows.specs.declared.RowVerdict.the-variants.{Sort as Number, Refused}
 use Rattle.rows.specs.Verdict.{Verdict, codeOf}
 use Rattle.rows.specs.Term.{Site, overParts, consed, sortsAt}
 use Rattle.rows.specs.Outcome.{Outcome, outcome, rowSort}
+use Rattle.rows.specs.OutcomeLaws.{refusal-large}
 use Rattle.inferred.specs.Inferred.{inferred}
 use Rattle.checked.specs.Checked.{checked}
 use Rattle.checked.specs.Ranks.{smtLib}
 use Rattle.answers.specs.declared.Answer.{Answer}
 use Rattle.answers.specs.Answer.{AnswerIs}
-use Rattle.answers.specs.AnswerLaws.{cause-code, answer-more, answer-number}
+use Rattle.answers.specs.AnswerLaws.{answer-more, answer-number}
 use Rattle.answers.specs.Arguments.{argumentsOf}
 use Rattle.site.specs.Site.{ownOver, bindingsOver, constantsOver, indicesOver, termVerdict, Standing, TermAsks, TermIs}
 use Rattle.site.specs.SiteLaws.{verdict-at}
 use Rattle.judged.specs.Rows.{Tabled, rowOf, rowsAdded, checkedAfter, bothRows, rowsOf}
 use Rattle.questions.specs.All.{trees-starts}
-use Rattle.verdicts.specs.declared.table.Counts.{Counts}
+use Rattle.questions.specs.declared.all.Counts.{Counts}
 use Rattle.verdicts.specs.Table.{tabled, Known, BothAsk, BothAre, TurnAsks, TurnIs, RowsAsk, RowsAre}
 
 ---------------------------------------------------------------- rows that are read
@@ -149,7 +149,7 @@ code-known b p n v b′ p′ hs′ ns′ zs′ q a = go (q .verdict) refl
   where
     go : (w : RowVerdict) → q .verdict ≡ w → codeOf w < 65536 → codeOf w < q .count
     go (Number k) e o = answer-number b p n v b′ p′ hs′ ns′ zs′ q a k e .0
-    go (Refused c) e o = absurd (omega (arith, cause-code c))
+    go (Refused c) e o = absurd (omega (arith, refusal-large c))
 
 ---------------------------------------------------------------- two rows written
 module _ (rows : List ℕ) (k x y : ℕ) where

@@ -16,7 +16,7 @@ use Rattle.matching.specs.Tables.{Blank}
 use Rattle.checked.specs.Ranks.{smtLib}
 use Rattle.site.specs.Site.{Standing}
 use Rattle.judged.specs.Rows.{Tabled, bothRows, rowsOf}
-use Rattle.verdicts.specs.declared.table.Counts.{Counts}
+use Rattle.questions.specs.declared.all.Counts.{Counts}
 
 -- A store and the coded rows so far.
 abbrev pub tabled : List Sort → List ℕ → Tabled

@@ -2,16 +2,11 @@
 use answers::code;
 use checker::check;
 use inference::infer;
+use questions::all::Counts;
 use reader::Cursor;
 use reader::ReadTerm;
 use reader::TermRecord;
 ghost use Rattle.verdicts.specs.Table.{BothAsk, BothAre, TurnAsks, TurnIs, RowsAsk, RowsAre};
-
-// The store's count and bytes in use.
-pub struct Counts {
-    pub count: usize,
-    pub used: usize,
-}
 
 // Writes both rows of the term t with this record at 2 t: the inferred one, then the checked one over the store after it; the
 // store's count and bytes in use after them.

@@ -3,12 +3,12 @@
 use native.Mathlib.Omega.{arith}
 use borrow.Author.Needs.{needs}
 use mathlib.Core.Path.{refl}
+use Rattle.record.specs.Cases.{positive}
 use Rattle.matching.specs.Contract.{sortsAt}
 use Rattle.rows.specs.declared.Cause.the-variants.{Panics}
 use Rattle.inferred.specs.Inferred.{applied as inferredApp}
 use Rattle.answers.specs.AnswerLaws.{judged-as}
 use Rattle.application.proofs.AppLaws.{app-refused, app-as}
-use Rattle.application.proofs.SettledLaws.{some-left}
 use Rattle.application.proofs.HeadLaws.{applied-none, head-asks, applied-other, called-asks, applied-many, remaining-asks, applied-rest, parametric-asks, applied-parametric}
 use Rattle.application.proofs.applied.Statement.{statement}
 use Rattle.application.proofs.applied.Tie as tie
@@ -39,7 +39,7 @@ sub-n c =
     let s = c .before .before .before .before .before .before .before .before .before .before in
     let a = s .args in
     let t = a .total in
-    some-left t (c .if1 .left)
+    positive t (c .if1 .left)
 
 u16-at-requires : tie.Need-u16-at-requires
 u16-at-requires c κs =
@@ -62,7 +62,7 @@ head-of-requires c κs =
     let o = a .bound .now in
     let d = a .args .now in
     let t = a .total in
-    head-asks b p hs nx zs n u prm g o d t (s .pre) (some-left t (c .before .before .before .before .if1 .left)) (c .before .before .u16-at .result) (c .before .before .u16-at .ensures .0)
+    head-asks b p hs nx zs n u prm g o d t (s .pre) (positive t (c .before .before .before .before .if1 .left)) (c .before .before .u16-at .result) (c .before .before .u16-at .ensures .0)
 
 enum-known-head : tie.Need-enum-known-head
 enum-known-head c = search needs
@@ -96,7 +96,7 @@ returns-2 c =
     let d = a .args .now in
     let t = a .total in
     let v = c .before .before .before .head .given .0 in
-    app-refused b p hs nx zs n u prm g o (s .pre .good) (inferredApp (sortsAt b p n d 3 t)) Panics (applied-many b p hs nx zs n u prm g o d t (s .pre) (some-left t (c .before .before .before .before .before .before .before .before .before .before .if1 .left)) (c .before .before .before .before .before .before .before .before .u16-at .result) (c .before .before .before .before .before .before .before .before .u16-at .ensures .0) (c .before .before .before .before .before .head-of .result) (c .before .before .before .before .before .head-of .ensures) (v .0) (v .1 .0) (v .1 .1 .0) (v .1 .1 .1 .0) (c .before .before .before .head .given .1) (c .before .if2 .taken)) (c .refuse2 .result) (c .refuse2 .ensures)
+    app-refused b p hs nx zs n u prm g o (s .pre .good) (inferredApp (sortsAt b p n d 3 t)) Panics (applied-many b p hs nx zs n u prm g o d t (s .pre) (positive t (c .before .before .before .before .before .before .before .before .before .before .if1 .left)) (c .before .before .before .before .before .before .before .before .u16-at .result) (c .before .before .before .before .before .before .before .before .u16-at .ensures .0) (c .before .before .before .before .before .head-of .result) (c .before .before .before .before .before .head-of .ensures) (v .0) (v .1 .0) (v .1 .1 .0) (v .1 .1 .1 .0) (c .before .before .before .head .given .1) (c .before .if2 .taken)) (c .refuse2 .result) (c .refuse2 .ensures)
 
 mul-at : tie.Need-mul-at
 mul-at c =
@@ -115,7 +115,7 @@ mul-at c =
     let d = a .args .now in
     let t = a .total in
     let v = c .before .before .before .head .given .0 in
-    omega (arith, called-asks b p hs nx zs n u prm g o d t (s .pre) (some-left t (c .before .before .before .before .before .before .before .before .before .before .if1 .left)) (c .before .before .before .before .before .before .before .before .u16-at .result) (c .before .before .before .before .before .before .before .before .u16-at .ensures .0) (c .before .before .before .before .before .head-of .result) (c .before .before .before .before .before .head-of .ensures) (v .0) (v .1 .0) (v .1 .1 .0) (v .1 .1 .1 .0) (c .before .before .before .head .given .1) .list .within, c .before .if2 .left, s .good)
+    omega (arith, called-asks b p hs nx zs n u prm g o d t (s .pre) (positive t (c .before .before .before .before .before .before .before .before .before .before .if1 .left)) (c .before .before .before .before .before .before .before .before .u16-at .result) (c .before .before .before .before .before .before .before .before .u16-at .ensures .0) (c .before .before .before .before .before .head-of .result) (c .before .before .before .before .before .head-of .ensures) (v .0) (v .1 .0) (v .1 .1 .0) (v .1 .1 .1 .0) (c .before .before .before .head .given .1) .list .within, c .before .if2 .left, s .good)
 
 add-at : tie.Need-add-at
 add-at c =
@@ -134,7 +134,7 @@ add-at c =
     let d = a .args .now in
     let t = a .total in
     let v = c .before .before .before .head .given .0 in
-    omega (arith, called-asks b p hs nx zs n u prm g o d t (s .pre) (some-left t (c .before .before .before .before .before .before .before .before .before .before .if1 .left)) (c .before .before .before .before .before .before .before .before .u16-at .result) (c .before .before .before .before .before .before .before .before .u16-at .ensures .0) (c .before .before .before .before .before .head-of .result) (c .before .before .before .before .before .head-of .ensures) (v .0) (v .1 .0) (v .1 .1 .0) (v .1 .1 .1 .0) (c .before .before .before .head .given .1) .list .within, c .before .if2 .left, s .good)
+    omega (arith, called-asks b p hs nx zs n u prm g o d t (s .pre) (positive t (c .before .before .before .before .before .before .before .before .before .before .if1 .left)) (c .before .before .before .before .before .before .before .before .u16-at .result) (c .before .before .before .before .before .before .before .before .u16-at .ensures .0) (c .before .before .before .before .before .head-of .result) (c .before .before .before .before .before .head-of .ensures) (v .0) (v .1 .0) (v .1 .1 .0) (v .1 .1 .1 .0) (c .before .before .before .head .given .1) .list .within, c .before .if2 .left, s .good)
 
 remaining-requires : tie.Need-remaining-requires
 remaining-requires c κs =
@@ -153,7 +153,7 @@ remaining-requires c κs =
     let d = a .args .now in
     let t = a .total in
     let v = c .before .before .before .before .before .before .before .before .before .head .given .0 in
-    remaining-asks b p hs nx zs n u prm g o d t (s .pre) (some-left t (c .before .before .before .before .before .before .before .before .before .before .before .before .before .before .before .before .if1 .left)) (c .before .before .before .before .before .before .before .before .before .before .before .before .before .before .u16-at .result) (c .before .before .before .before .before .before .before .before .before .before .before .before .before .before .u16-at .ensures .0) (c .before .before .before .before .before .before .before .before .before .before .before .head-of .result) (c .before .before .before .before .before .before .before .before .before .before .before .head-of .ensures) (v .0) (v .1 .0) (v .1 .1 .0) (v .1 .1 .1 .0) (c .before .before .before .before .before .before .before .before .before .head .given .1) (c .before .before .before .before .before .before .before .if2 .left)
+    remaining-asks b p hs nx zs n u prm g o d t (s .pre) (positive t (c .before .before .before .before .before .before .before .before .before .before .before .before .before .before .before .before .if1 .left)) (c .before .before .before .before .before .before .before .before .before .before .before .before .before .before .u16-at .result) (c .before .before .before .before .before .before .before .before .before .before .before .before .before .before .u16-at .ensures .0) (c .before .before .before .before .before .before .before .before .before .before .before .head-of .result) (c .before .before .before .before .before .before .before .before .before .before .before .head-of .ensures) (v .0) (v .1 .0) (v .1 .1 .0) (v .1 .1 .1 .0) (c .before .before .before .before .before .before .before .before .before .head .given .1) (c .before .before .before .before .before .before .before .if2 .left)
 
 same-length-4 : tie.Need-same-length-4
 same-length-4 c = search needs
@@ -190,7 +190,7 @@ returns-3 c =
     let d = a .args .now in
     let t = a .total in
     let v = c .before .before .before .before .before .before .before .before .before .before .before .before .before .before .before .before .before .before .before .before .before .before .head .given .0 in
-    record { answer = judged-as (applied-rest b p hs nx zs n u prm g o d t (s .pre) (some-left t (c .before .before .before .before .before .before .before .before .before .before .before .before .before .before .before .before .before .before .before .before .before .before .before .before .before .before .before .before .before .if1 .left)) (c .before .before .before .before .before .before .before .before .before .before .before .before .before .before .before .before .before .before .before .before .before .before .before .before .before .before .before .u16-at .result) (c .before .before .before .before .before .before .before .before .before .before .before .before .before .before .before .before .before .before .before .before .before .before .before .before .before .before .before .u16-at .ensures .0) (c .before .before .before .before .before .before .before .before .before .before .before .before .before .before .before .before .before .before .before .before .before .before .before .before .head-of .result) (c .before .before .before .before .before .before .before .before .before .before .before .before .before .before .before .before .before .before .before .before .before .before .before .before .head-of .ensures) (v .0) (v .1 .0) (v .1 .1 .0) (v .1 .1 .1 .0) (c .before .before .before .before .before .before .before .before .before .before .before .before .before .before .before .before .before .before .before .before .before .before .head .given .1) (c .before .before .before .before .before .before .before .before .before .before .before .before .before .before .before .before .before .before .before .before .if2 .left) (c .before .before .before .before .before .before .before .before .before .before .before .before .before .before .before .before .before .before .before .if3 .taken)) (c .before .before .before .before .before .before .before .before .before .before .before .before .remaining .ensures); params = refl; images = refl; bound = refl }
+    record { answer = judged-as (applied-rest b p hs nx zs n u prm g o d t (s .pre) (positive t (c .before .before .before .before .before .before .before .before .before .before .before .before .before .before .before .before .before .before .before .before .before .before .before .before .before .before .before .before .before .if1 .left)) (c .before .before .before .before .before .before .before .before .before .before .before .before .before .before .before .before .before .before .before .before .before .before .before .before .before .before .before .u16-at .result) (c .before .before .before .before .before .before .before .before .before .before .before .before .before .before .before .before .before .before .before .before .before .before .before .before .before .before .before .u16-at .ensures .0) (c .before .before .before .before .before .before .before .before .before .before .before .before .before .before .before .before .before .before .before .before .before .before .before .before .head-of .result) (c .before .before .before .before .before .before .before .before .before .before .before .before .before .before .before .before .before .before .before .before .before .before .before .before .head-of .ensures) (v .0) (v .1 .0) (v .1 .1 .0) (v .1 .1 .1 .0) (c .before .before .before .before .before .before .before .before .before .before .before .before .before .before .before .before .before .before .before .before .before .before .head .given .1) (c .before .before .before .before .before .before .before .before .before .before .before .before .before .before .before .before .before .before .before .before .if2 .left) (c .before .before .before .before .before .before .before .before .before .before .before .before .before .before .before .before .before .before .before .if3 .taken)) (c .before .before .before .before .before .before .before .before .before .before .before .before .remaining .ensures); params = refl; images = refl; bound = refl }
 
 parametric-requires : tie.Need-parametric-requires
 parametric-requires c κs =
@@ -209,7 +209,7 @@ parametric-requires c κs =
     let d = a .args .now in
     let t = a .total in
     let v = c .before .before .before .before .before .before .before .before .before .before .before .before .head .given .0 in
-    parametric-asks b p hs nx zs n u prm g o d t (s .pre) (some-left t (c .before .before .before .before .before .before .before .before .before .before .before .before .before .before .before .before .before .before .before .if1 .left)) (c .before .before .before .before .before .before .before .before .before .before .before .before .before .before .before .before .before .u16-at .result) (c .before .before .before .before .before .before .before .before .before .before .before .before .before .before .before .before .before .u16-at .ensures .0) (c .before .before .before .before .before .before .before .before .before .before .before .before .before .before .head-of .result) (c .before .before .before .before .before .before .before .before .before .before .before .before .before .before .head-of .ensures) (v .0) (v .1 .0) (v .1 .1 .0) (v .1 .1 .1 .0) (c .before .before .before .before .before .before .before .before .before .before .before .before .head .given .1) (c .before .before .before .before .before .before .before .before .before .before .if2 .left)
+    parametric-asks b p hs nx zs n u prm g o d t (s .pre) (positive t (c .before .before .before .before .before .before .before .before .before .before .before .before .before .before .before .before .before .before .before .if1 .left)) (c .before .before .before .before .before .before .before .before .before .before .before .before .before .before .before .before .before .u16-at .result) (c .before .before .before .before .before .before .before .before .before .before .before .before .before .before .before .before .before .u16-at .ensures .0) (c .before .before .before .before .before .before .before .before .before .before .before .before .before .before .head-of .result) (c .before .before .before .before .before .before .before .before .before .before .before .before .before .before .head-of .ensures) (v .0) (v .1 .0) (v .1 .1 .0) (v .1 .1 .1 .0) (c .before .before .before .before .before .before .before .before .before .before .before .before .head .given .1) (c .before .before .before .before .before .before .before .before .before .before .if2 .left)
 
 enum-told : tie.Need-enum-told
 enum-told c = search needs
@@ -261,7 +261,7 @@ returns-4 c =
     let d = a .args .now in
     let t = a .total in
     let v = c .before .before .before .before .before .before .before .before .before .before .before .before .before .before .before .before .before .before .before .before .before .before .before .before .before .before .before .before .before .head .given .0 in
-    app-as (applied-parametric b p hs nx zs n u prm g o d t (s .pre) (some-left t (c .before .before .before .before .before .before .before .before .before .before .before .before .before .before .before .before .before .before .before .before .before .before .before .before .before .before .before .before .before .before .before .before .before .before .before .before .if1 .left)) (c .before .before .before .before .before .before .before .before .before .before .before .before .before .before .before .before .before .before .before .before .before .before .before .before .before .before .before .before .before .before .before .before .before .before .u16-at .result) (c .before .before .before .before .before .before .before .before .before .before .before .before .before .before .before .before .before .before .before .before .before .before .before .before .before .before .before .before .before .before .before .before .before .before .u16-at .ensures .0) (c .before .before .before .before .before .before .before .before .before .before .before .before .before .before .before .before .before .before .before .before .before .before .before .before .before .before .before .before .before .before .before .head-of .result) (c .before .before .before .before .before .before .before .before .before .before .before .before .before .before .before .before .before .before .before .before .before .before .before .before .before .before .before .before .before .before .before .head-of .ensures) (v .0) (v .1 .0) (v .1 .1 .0) (v .1 .1 .1 .0) (c .before .before .before .before .before .before .before .before .before .before .before .before .before .before .before .before .before .before .before .before .before .before .before .before .before .before .before .before .before .head .given .1) (c .before .before .before .before .before .before .before .before .before .before .before .before .before .before .before .before .before .before .before .before .before .before .before .before .before .before .before .if2 .left) (c .before .before .before .before .before .before .before .before .before .before .before .before .before .before .before .before .before .before .before .before .before .before .before .before .before .before .if3 .left)) (c .before .before .before .before .before .before .before .before .before .before .before .before .before .before .before .before .parametric .ensures)
+    app-as (applied-parametric b p hs nx zs n u prm g o d t (s .pre) (positive t (c .before .before .before .before .before .before .before .before .before .before .before .before .before .before .before .before .before .before .before .before .before .before .before .before .before .before .before .before .before .before .before .before .before .before .before .before .if1 .left)) (c .before .before .before .before .before .before .before .before .before .before .before .before .before .before .before .before .before .before .before .before .before .before .before .before .before .before .before .before .before .before .before .before .before .before .u16-at .result) (c .before .before .before .before .before .before .before .before .before .before .before .before .before .before .before .before .before .before .before .before .before .before .before .before .before .before .before .before .before .before .before .before .before .before .u16-at .ensures .0) (c .before .before .before .before .before .before .before .before .before .before .before .before .before .before .before .before .before .before .before .before .before .before .before .before .before .before .before .before .before .before .before .head-of .result) (c .before .before .before .before .before .before .before .before .before .before .before .before .before .before .before .before .before .before .before .before .before .before .before .before .before .before .before .before .before .before .before .head-of .ensures) (v .0) (v .1 .0) (v .1 .1 .0) (v .1 .1 .1 .0) (c .before .before .before .before .before .before .before .before .before .before .before .before .before .before .before .before .before .before .before .before .before .before .before .before .before .before .before .before .before .head .given .1) (c .before .before .before .before .before .before .before .before .before .before .before .before .before .before .before .before .before .before .before .before .before .before .before .before .before .before .before .if2 .left) (c .before .before .before .before .before .before .before .before .before .before .before .before .before .before .before .before .before .before .before .before .before .before .before .before .before .before .if3 .left)) (c .before .before .before .before .before .before .before .before .before .before .before .before .before .before .before .before .parametric .ensures)
 
 same-length-19 : tie.Need-same-length-19
 same-length-19 c = search needs
@@ -288,7 +288,7 @@ returns-5 c =
     let o = a .bound .now in
     let d = a .args .now in
     let t = a .total in
-    app-refused b p hs nx zs n u prm g o (s .pre .good) (inferredApp (sortsAt b p n d 3 t)) Panics (applied-other b p hs nx zs n u prm g o d t (s .pre) (some-left t (c .before .before .before .before .before .before .before .before .if1 .left)) (c .before .before .before .before .before .before .u16-at .result) (c .before .before .before .before .before .before .u16-at .ensures .0) (c .before .before .before .head-of .result) (c .before .before .before .head-of .ensures) (c .before .enum-told .given .1)) (c .refuse3 .result) (c .refuse3 .ensures)
+    app-refused b p hs nx zs n u prm g o (s .pre .good) (inferredApp (sortsAt b p n d 3 t)) Panics (applied-other b p hs nx zs n u prm g o d t (s .pre) (positive t (c .before .before .before .before .before .before .before .before .if1 .left)) (c .before .before .before .before .before .before .u16-at .result) (c .before .before .before .before .before .before .u16-at .ensures .0) (c .before .before .before .head-of .result) (c .before .before .before .head-of .ensures) (c .before .enum-told .given .1)) (c .refuse3 .result) (c .refuse3 .ensures)
 
 pub applied-spec : {M : Type 1} → statement M
 applied-spec = tie.close (tie.spec refuse-requires returns sub-n u16-at-requires head-of-requires enum-known-head refuse-requires-2 same-length same-length-2 same-length-3 returns-2 mul-at add-at remaining-requires same-length-4 same-length-5 same-length-6 same-length-7 same-length-8 same-length-9 returns-3 parametric-requires enum-told refuse-requires-3 same-length-10 same-length-11 same-length-12 same-length-13 same-length-14 same-length-15 same-length-16 same-length-17 same-length-18 returns-4 same-length-19 same-length-20 same-length-21 returns-5)

@@ -11,9 +11,9 @@ use Rattle.record.specs.Decode.{storeOf, sortAt}
 use Rattle.apply.specs.Lists.{numbersOf}
 use Rattle.apply.specs.Made.{MadeIs}
 use Rattle.apply.specs.Contract.{answerAt, ReplacedIs}
-use Rattle.record.specs.Cases.{not-true}
+use Rattle.record.specs.Cases.{not-true, not-false}
 use Rattle.apply.proofs.SortForms.{name-small}
-use Rattle.apply.proofs.PartLaws.{not-false, PartsInv, parts-start, parts-asks, parts-number, parts-halted, parts-more, parts-done, sort-image, sort-read, sort-falls, sort-parts-ask, sort-stuck, sort-rebuild, sort-made, sort-full}
+use Rattle.apply.proofs.PartLaws.{PartsInv, parts-start, parts-asks, parts-number, parts-halted, parts-more, parts-done, sort-image, sort-read, sort-falls, sort-parts-ask, sort-stuck, sort-rebuild, sort-made, sort-full}
 use Prim.Native.Nat.{ℕ, _<_}
 use borrow.Fn.Kinds.{In}
 use borrow.Fn.PlainCycle.{Measures, is, falls, and}

@@ -10,9 +10,10 @@ use Rattle.record.specs.Record.{leaf}
 use Rattle.record.specs.Decode.{storeOf, sortAt}
 use Rattle.rows.specs.Verdict.{sort}
 use Rattle.answers.specs.AnswerLaws.{judged-as, answered-as, answer-known}
-use Rattle.answers.proofs.ListLaws.{remaining-one, remaining-known, copy-fits, remaining-listed, remaining-tree}
+use Rattle.answers.proofs.ListLaws.{remaining-known, copy-fits, remaining-listed, remaining-tree}
 use Rattle.answers.proofs.lists.remaining.Statement.{statement}
 use Rattle.answers.proofs.lists.remaining.Tie as tie
+use Rattle.answers.specs.Records.{remaining-one}
 
 u16-at-requires : tie.Need-u16-at-requires
 u16-at-requires c κs = omega (arith, c .before .before .before .before .before .before .before .before .pre .within, c .before .if1 .taken)

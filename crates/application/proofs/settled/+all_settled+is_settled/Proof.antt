@@ -3,10 +3,11 @@ use native.Mathlib.Omega.{arith}
 use Rattle.record.specs.Number.{u16At}
 use Rattle.record.specs.Sort.{size, sizes}
 use Rattle.record.specs.Decode.{sortAt}
+use Rattle.record.specs.Cases.{positive}
 use Rattle.matching.specs.Contract.{sortsAt}
-use Rattle.matching.specs.Entered.{entry-size, sizes-more, size-pos, entry-name}
-use Rattle.store.specs.Walk.{entry-asks}
-use Rattle.application.proofs.SettledLaws.{some-left, parts-ask, first-asks, rest-asks, settled-none, settled-more, settled-fails, settled-other, settled-name, settled-parts}
+use Rattle.matching.specs.Entered.{entry-size, sizes-more, entry-name}
+use Rattle.store.specs.Walk.{entry-asks, size-pos}
+use Rattle.application.proofs.SettledLaws.{parts-ask, first-asks, rest-asks, settled-none, settled-more, settled-fails, settled-other, settled-name, settled-parts}
 use Prim.Native.Nat.{ℕ, _+_, _*_, _<_}
 use borrow.Fn.Kinds.{In}
 use borrow.Fn.PlainCycle.{Measures, is, falls, and}
@@ -76,7 +77,7 @@ all-settled-is-settled-requires t c κs =
     let imgs = a .images .now in
     let x = a .at in
     let m = a .left in
-    let more = some-left m (c .before .if1 .left) in
+    let more = positive m (c .before .if1 .left) in
     rw (c .u16-at .ensures .0)
     (omega (arith, s .pre .0, sizes-more b p n b x m more), first-asks b p n prm imgs x m asks more)
 
@@ -91,7 +92,7 @@ all-settled-sub-all-settled t c =
     let s = c .before .before .before .before .before .before .before .before in
     let a = s .args in
     let m = a .left in
-    some-left m (c .before .before .before .if1 .left)
+    positive m (c .before .before .before .if1 .left)
 
 all-settled-all-settled-requires : (t : ℕ) → all-settled-lts.Need-all-settled-requires (all-settled-env t) (all-settled-at t) all-settled.Post
 all-settled-all-settled-requires t c κs =
@@ -105,7 +106,7 @@ all-settled-all-settled-requires t c κs =
     let imgs = a .images .now in
     let x = a .at in
     let m = a .left in
-    let more = some-left m (c .before .before .before .if1 .left) in
+    let more = positive m (c .before .before .before .if1 .left) in
     (omega (arith, s .pre .0, sizes-more b p n b x m more, size-pos (sortAt b p n (u16At b x))), rest-asks b p n prm imgs x m asks more)
 
 all-settled-returns-2 : (t : ℕ) → all-settled-lts.Need-returns-2 (all-settled-env t) (all-settled-at t) all-settled.Post
@@ -119,7 +120,7 @@ all-settled-returns-2 t c =
     let imgs = a .images .now in
     let x = a .at in
     let m = a .left in
-    let more = some-left m (c .before .before .before .before .if1 .left) in
+    let more = positive m (c .before .before .before .before .if1 .left) in
     settled-more b p n prm imgs x m more (c .before .before .before .u16-at .result) (c .before .before .before .u16-at .ensures .0) (c .before .before .is-settled .result) (c .before .before .is-settled .ensures) (c .before .if2 .taken) (c .all-settled .result) (c .all-settled .ensures)
 
 all-settled-returns-3 : (t : ℕ) → all-settled-lts.Need-returns-3 (all-settled-env t) (all-settled-at t) all-settled.Post
@@ -133,7 +134,7 @@ all-settled-returns-3 t c =
     let imgs = a .images .now in
     let x = a .at in
     let m = a .left in
-    let more = some-left m (c .before .before .before .if1 .left) in
+    let more = positive m (c .before .before .before .if1 .left) in
     settled-fails b p n prm imgs x m more (c .before .before .u16-at .result) (c .before .before .u16-at .ensures .0) (c .before .is-settled .result) (c .before .is-settled .ensures) (c .if2 .left)
 
 is-settled-entry-requires : (t : ℕ) → is-settled-lts.Need-entry-requires (is-settled-env t) (is-settled-at t) is-settled.Post

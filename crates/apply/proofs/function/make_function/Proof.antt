@@ -4,10 +4,9 @@ use borrow.Author.Needs.{needs}
 use mathlib.Core.Path.{subst, _∙_}
 use Rattle.record.specs.Record.{sortOf}
 use Rattle.record.specs.Decode.{storeOf}
-use Rattle.record.specs.Cases.{not-true}
+use Rattle.record.specs.Cases.{not-true, not-false}
 use Rattle.apply.specs.Draft.{fieldsIn}
 use Rattle.apply.specs.Made.{MadeIs}
-use Rattle.apply.proofs.PartLaws.{not-false}
 use Rattle.apply.proofs.FunctionLaws.{function-read, function-parts, function-stuck, function-make, function-made, function-full}
 use Rattle.apply.proofs.function.make_function.Statement.{statement}
 use Rattle.apply.proofs.function.make_function.Tie as tie

@@ -2,7 +2,9 @@
 -- The list of constants is as long as the index terms are many, and is read from the front.
 use native.Mathlib.Omega.{arith}
 use borrow.Author.Needs.{needs}
-use Rattle.checker.proofs.IndexedLaws.{first-asks, second-asks, indices-zero, indices-many, indices-other, indices-one, indices-two, indices-wrong}
+use Rattle.record.specs.Cases.{positive}
+use Rattle.answers.specs.Arguments.{index-first, index-second}
+use Rattle.checker.proofs.IndexedLaws.{indices-zero, indices-many, indices-other, indices-one, indices-two, indices-wrong}
 use Rattle.checker.proofs.indexed.indices_of.Statement.{statement}
 use Rattle.checker.proofs.indexed.indices_of.Tie as tie
 
@@ -28,7 +30,7 @@ index-at-requires c κs =
     let q = s .args in
     let z = q .sheet .now in
     let xs = q .starts .now in
-    first-asks z xs (q .second) (q .seconds) (s .pre) (c .before .if1 .left)
+    index-first z xs (q .second) (q .seconds) (s .pre) (positive (q .seconds) (c .before .if1 .left))
 
 enum-known-first : tie.Need-enum-known-first
 enum-known-first c = search needs
@@ -52,7 +54,7 @@ index-at-requires-2 c κs =
     let q = s .args in
     let z = q .sheet .now in
     let xs = q .starts .now in
-    second-asks z xs (q .second) (q .seconds) (s .pre) (omega (arith, c .before .before .before .before .before .before .if1 .left, c .if3 .left))
+    index-second z xs (q .second) (q .seconds) (s .pre) (omega (arith, c .before .before .before .before .before .before .if1 .left, c .if3 .left))
 
 enum-known-last : tie.Need-enum-known-last
 enum-known-last c = search needs

@@ -1,7 +1,7 @@
 -- The fit of fixed kinds.
 -- Each argument that is there is of its kind.
-use Rattle.checking.proofs.FitLaws.{not-left, fixed-no, fixed-no-2, fixed-no-3, fixed-yes}
-use Rattle.record.specs.Cases.{not-true}
+use Rattle.checking.proofs.FitLaws.{fixed-no, fixed-no-2, fixed-no-3, fixed-yes}
+use Rattle.record.specs.Cases.{not-true, not-false}
 use Rattle.checking.proofs.op.fit_fixed.Statement.{statement}
 use Rattle.checking.proofs.op.fit_fixed.Tie as tie
 
@@ -48,7 +48,7 @@ returns-4 c =
     let b = q .records .now in
     let p = q .places .now in
     let a = q .args .now in
-    fixed-yes b p a (q .n) (q .a) (q .b) (q .c) (q .result) (s .pre) (c .before .before .before .before .before .is-kind .result) (c .before .before .before .before .before .is-kind .ensures) (c .before .before .before .is-kind2 .result) (c .before .before .before .is-kind2 .ensures) (c .before .is-kind3 .result) (c .before .is-kind3 .ensures) (not-left (c .before .before .before .before .before .is-kind .result) (c .before .before .before .before .if1 .left)) (not-left (c .before .before .before .is-kind2 .result) (c .before .before .if2 .left)) (not-left (c .before .is-kind3 .result) (c .if3 .left))
+    fixed-yes b p a (q .n) (q .a) (q .b) (q .c) (q .result) (s .pre) (c .before .before .before .before .before .is-kind .result) (c .before .before .before .before .before .is-kind .ensures) (c .before .before .before .is-kind2 .result) (c .before .before .before .is-kind2 .ensures) (c .before .is-kind3 .result) (c .before .is-kind3 .ensures) (not-false (c .before .before .before .before .before .is-kind .result) (c .before .before .before .before .if1 .left)) (not-false (c .before .before .before .is-kind2 .result) (c .before .before .if2 .left)) (not-false (c .before .is-kind3 .result) (c .if3 .left))
 
 pub fit-fixed-spec : {M : Type 1} → statement M
 fit-fixed-spec = tie.close (tie.spec is-kind-requires returns is-kind-requires-2 returns-2 is-kind-requires-3 returns-3 returns-4)

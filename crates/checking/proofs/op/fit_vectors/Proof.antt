@@ -2,8 +2,8 @@
 -- The first is a vector, and the others have its number.
 use native.Mathlib.Omega.{arith}
 use Rattle.checking.proofs.ArgumentLaws.{arg-asks}
-use Rattle.checking.proofs.FitLaws.{not-left, vectors-some, vectors-other, vectors-differ, vectors-same, vectors-bit, vectors-kind}
-use Rattle.record.specs.Cases.{not-true}
+use Rattle.checking.proofs.FitLaws.{vectors-some, vectors-other, vectors-differ, vectors-same, vectors-bit, vectors-kind}
+use Rattle.record.specs.Cases.{not-true, not-false}
 use Rattle.checking.proofs.op.fit_vectors.Statement.{statement}
 use Rattle.checking.proofs.op.fit_vectors.Tie as tie
 
@@ -53,7 +53,7 @@ returns-3 c =
     let b = q .records .now in
     let p = q .places .now in
     let a = q .args .now in
-    vectors-same b p a (q .n) (q .result) (s .pre) (c .before .before .before .before .before .u16-at .result) (c .before .before .before .before .kind-at .result) (c .before .before .before .before .before .u16-at .ensures .0) (c .before .before .before .before .kind-at .ensures) (c .before .before .all-same .result) (c .before .before .all-same .ensures) (c .before .before .before .if1 .left) (not-left (c .before .before .all-same .result) (c .before .if2 .left)) (c .if3 .taken)
+    vectors-same b p a (q .n) (q .result) (s .pre) (c .before .before .before .before .before .u16-at .result) (c .before .before .before .before .kind-at .result) (c .before .before .before .before .before .u16-at .ensures .0) (c .before .before .before .before .kind-at .ensures) (c .before .before .all-same .result) (c .before .before .all-same .ensures) (c .before .before .before .if1 .left) (not-false (c .before .before .all-same .result) (c .before .if2 .left)) (c .if3 .taken)
 
 returns-4 : tie.Need-returns-4
 returns-4 c =
@@ -62,7 +62,7 @@ returns-4 c =
     let b = q .records .now in
     let p = q .places .now in
     let a = q .args .now in
-    vectors-bit b p a (q .n) (q .result) (s .pre) (c .before .before .before .before .before .before .u16-at .result) (c .before .before .before .before .before .kind-at .result) (c .before .before .before .before .before .before .u16-at .ensures .0) (c .before .before .before .before .before .kind-at .ensures) (c .before .before .before .all-same .result) (c .before .before .before .all-same .ensures) (c .before .before .before .before .if1 .left) (not-left (c .before .before .before .all-same .result) (c .before .before .if2 .left)) (c .if4 .taken)
+    vectors-bit b p a (q .n) (q .result) (s .pre) (c .before .before .before .before .before .before .u16-at .result) (c .before .before .before .before .before .kind-at .result) (c .before .before .before .before .before .before .u16-at .ensures .0) (c .before .before .before .before .before .kind-at .ensures) (c .before .before .before .all-same .result) (c .before .before .before .all-same .ensures) (c .before .before .before .before .if1 .left) (not-false (c .before .before .before .all-same .result) (c .before .before .if2 .left)) (c .if4 .taken)
 
 returns-5 : tie.Need-returns-5
 returns-5 c =
@@ -71,7 +71,7 @@ returns-5 c =
     let b = q .records .now in
     let p = q .places .now in
     let a = q .args .now in
-    vectors-kind b p a (q .n) (q .result) (s .pre) (c .before .before .before .before .before .before .u16-at .result) (c .before .before .before .before .before .kind-at .result) (c .before .before .before .before .before .before .u16-at .ensures .0) (c .before .before .before .before .before .kind-at .ensures) (c .before .before .before .all-same .result) (c .before .before .before .all-same .ensures) (c .before .before .before .before .if1 .left) (not-left (c .before .before .before .all-same .result) (c .before .before .if2 .left)) (c .before .if3 .left) (c .if4 .left)
+    vectors-kind b p a (q .n) (q .result) (s .pre) (c .before .before .before .before .before .before .u16-at .result) (c .before .before .before .before .before .kind-at .result) (c .before .before .before .before .before .before .u16-at .ensures .0) (c .before .before .before .before .before .kind-at .ensures) (c .before .before .before .all-same .result) (c .before .before .before .all-same .ensures) (c .before .before .before .before .if1 .left) (not-false (c .before .before .before .all-same .result) (c .before .before .if2 .left)) (c .before .if3 .left) (c .if4 .left)
 
 pub fit-vectors-spec : {M : Type 1} → statement M
 fit-vectors-spec = tie.close (tie.spec u16-at-requires kind-at-requires returns all-same-requires returns-2 returns-3 returns-4 returns-5)

@@ -4,9 +4,8 @@ use native.Mathlib.Omega.{arith}
 use borrow.Author.Needs.{needs}
 use Rattle.rows.specs.declared.Cause.the-variants.{Count, Misfit}
 use Rattle.answers.specs.AnswerLaws.{judged-as, answered-as, answer-known, answer-refused}
-use Rattle.record.specs.Cases.{not-true}
-use Rattle.checking.proofs.FitLaws.{not-left}
-use Rattle.checking.proofs.SingleLaws.{over-args, letting-few, letting-par, letting-inner, inner-known}
+use Rattle.record.specs.Cases.{not-true, not-false}
+use Rattle.checking.proofs.SingleLaws.{letting-few, letting-par, letting-inner, inner-known, over-values}
 use Rattle.checking.proofs.single.letting.Statement.{statement}
 use Rattle.checking.proofs.single.letting.Tie as tie
 
@@ -31,7 +30,7 @@ all-values-requires c κs =
     let p = q .places .now in
     let n = q .count in
     let a = q .args .now in
-    over-args b p n a (q .n) (s .pre)
+    over-values b p n a (q .n) (s .pre)
 
 refuse-requires-2 : tie.Need-refuse-requires-2
 refuse-requires-2 c κs = search needs
@@ -70,7 +69,7 @@ returns-3 c =
     let n = q .count in
     let a = q .args .now in
     λ hs ns zs g.
-    judged-as (letting-inner b p n a (q .n) (s .pre) (c .before .before .before .before .if1 .left) (c .before .before .before .all-values .result) (c .before .before .before .all-values .ensures) (not-left (c .before .before .before .all-values .result) (c .before .before .if2 .left)) (c .before .u16-at .result) (c .before .u16-at .ensures .0))
+    judged-as (letting-inner b p n a (q .n) (s .pre) (c .before .before .before .before .if1 .left) (c .before .before .before .all-values .result) (c .before .before .before .all-values .ensures) (not-false (c .before .before .before .all-values .result) (c .before .before .if2 .left)) (c .before .u16-at .result) (c .before .u16-at .ensures .0))
     (answered-as (c .found .ensures) (answer-known b p hs ns zs n (q .used) g (c .before .u16-at .result) (inner-known b p n a (q .n) (s .pre) (c .before .before .before .before .if1 .left) (c .before .before .before .all-values .result) (c .before .before .before .all-values .ensures) (c .before .u16-at .result) (c .before .u16-at .ensures .0))))
 
 pub letting-spec : {M : Type 1} → statement M

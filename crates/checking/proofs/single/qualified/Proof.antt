@@ -4,8 +4,7 @@ use native.Mathlib.Omega.{arith}
 use borrow.Author.Needs.{needs}
 use Rattle.rows.specs.declared.Cause.the-variants.{NoRank, Count, Misfit, Barred}
 use Rattle.answers.specs.AnswerLaws.{judged-as, answered-as, answer-known, answer-refused}
-use Rattle.record.specs.Cases.{not-true}
-use Rattle.checking.proofs.FitLaws.{not-left}
+use Rattle.record.specs.Cases.{not-true, not-false}
 use Rattle.checking.proofs.SingleLaws.{own-entry, qualified-other, qualified-barred, qualified-count, qualified-kind, element-place, qualified-misfit, qualified-fits}
 use Rattle.checking.proofs.single.qualified.Statement.{statement}
 use Rattle.checking.proofs.single.qualified.Tie as tie
@@ -50,7 +49,7 @@ returns-3 c =
     let p = q .places .now in
     let n = q .count in
     let a = q .args .now in
-    λ hs ns zs g. judged-as (qualified-count b p n (q .k) a (q .n) (s .pre) (q .number) (c .before .before .before .before .if1 .left) (c .before .before .before .is-proper .result) (c .before .before .before .is-proper .ensures) (not-left (c .before .before .before .is-proper .result) (c .before .before .if2 .left)) (c .before .if3 .taken)) (answered-as (c .refuse3 .ensures) (answer-refused b p hs ns zs n (q .used) g Count))
+    λ hs ns zs g. judged-as (qualified-count b p n (q .k) a (q .n) (s .pre) (q .number) (c .before .before .before .before .if1 .left) (c .before .before .before .is-proper .result) (c .before .before .before .is-proper .ensures) (not-false (c .before .before .before .is-proper .result) (c .before .before .if2 .left)) (c .before .if3 .taken)) (answered-as (c .refuse3 .ensures) (answer-refused b p hs ns zs n (q .used) g Count))
 
 entry-requires : tie.Need-entry-requires
 entry-requires c κs =
@@ -72,7 +71,7 @@ returns-4 c =
     let p = q .places .now in
     let n = q .count in
     let a = q .args .now in
-    λ hs ns zs g. judged-as (qualified-kind b p n (q .k) a (q .n) (s .pre) (q .number) (c .before .before .before .before .before .before .before .if1 .left) (c .before .before .before .before .before .before .is-proper .result) (c .before .before .before .before .before .before .is-proper .ensures) (not-left (c .before .before .before .before .before .before .is-proper .result) (c .before .before .before .before .before .if2 .left)) (c .before .before .before .before .if3 .left) (c .before .before .before .entry .result) (c .before .before .before .entry .ensures) (c .before .if4 .taken)) (answered-as (c .refuse4 .ensures) (answer-refused b p hs ns zs n (q .used) g Misfit))
+    λ hs ns zs g. judged-as (qualified-kind b p n (q .k) a (q .n) (s .pre) (q .number) (c .before .before .before .before .before .before .before .if1 .left) (c .before .before .before .before .before .before .is-proper .result) (c .before .before .before .before .before .before .is-proper .ensures) (not-false (c .before .before .before .before .before .before .is-proper .result) (c .before .before .before .before .before .if2 .left)) (c .before .before .before .before .if3 .left) (c .before .before .before .entry .result) (c .before .before .before .entry .ensures) (c .before .if4 .taken)) (answered-as (c .refuse4 .ensures) (answer-refused b p hs ns zs n (q .used) g Misfit))
 
 add-u16-at : tie.Need-add-u16-at
 add-u16-at c =
@@ -82,7 +81,7 @@ add-u16-at c =
     let p = q .places .now in
     let n = q .count in
     let a = q .args .now in
-    omega (arith, element-place b p n (q .k) a (q .n) (s .pre) (q .number) (c .before .before .before .before .before .before .if1 .left) (c .before .before .before .before .before .is-proper .result) (c .before .before .before .before .before .is-proper .ensures) (not-left (c .before .before .before .before .before .is-proper .result) (c .before .before .before .before .if2 .left)) (c .before .before .before .if3 .left) (c .before .before .entry .result) (c .before .before .entry .ensures) (c .if4 .left), s .good .0)
+    omega (arith, element-place b p n (q .k) a (q .n) (s .pre) (q .number) (c .before .before .before .before .before .before .if1 .left) (c .before .before .before .before .before .is-proper .result) (c .before .before .before .before .before .is-proper .ensures) (not-false (c .before .before .before .before .before .is-proper .result) (c .before .before .before .before .if2 .left)) (c .before .before .before .if3 .left) (c .before .before .entry .result) (c .before .before .entry .ensures) (c .if4 .left), s .good .0)
 
 u16-at-requires : tie.Need-u16-at-requires
 u16-at-requires c κs =
@@ -92,7 +91,7 @@ u16-at-requires c κs =
     let p = q .places .now in
     let n = q .count in
     let a = q .args .now in
-    omega (arith, element-place b p n (q .k) a (q .n) (s .pre) (q .number) (c .before .before .before .before .before .before .if1 .left) (c .before .before .before .before .before .is-proper .result) (c .before .before .before .before .before .is-proper .ensures) (not-left (c .before .before .before .before .before .is-proper .result) (c .before .before .before .before .if2 .left)) (c .before .before .before .if3 .left) (c .before .before .entry .result) (c .before .before .entry .ensures) (c .if4 .left))
+    omega (arith, element-place b p n (q .k) a (q .n) (s .pre) (q .number) (c .before .before .before .before .before .before .if1 .left) (c .before .before .before .before .before .is-proper .result) (c .before .before .before .before .before .is-proper .ensures) (not-false (c .before .before .before .before .before .is-proper .result) (c .before .before .before .before .if2 .left)) (c .before .before .before .if3 .left) (c .before .before .entry .result) (c .before .before .entry .ensures) (c .if4 .left))
 
 u16-at-requires-2 : tie.Need-u16-at-requires-2
 u16-at-requires-2 c κs = omega (arith, c .before .before .before .before .before .before .before .before .before .before .before .pre .args .within, c .before .before .before .before .if3 .left)
@@ -108,7 +107,7 @@ returns-5 c =
     let p = q .places .now in
     let n = q .count in
     let a = q .args .now in
-    λ hs ns zs g. judged-as (qualified-misfit b p n (q .k) a (q .n) (s .pre) (q .number) (c .before .before .before .before .before .before .before .before .before .before .if1 .left) (c .before .before .before .before .before .before .before .before .before .is-proper .result) (c .before .before .before .before .before .before .before .before .before .is-proper .ensures) (not-left (c .before .before .before .before .before .before .before .before .before .is-proper .result) (c .before .before .before .before .before .before .before .before .if2 .left)) (c .before .before .before .before .before .before .before .if3 .left) (c .before .before .before .before .before .before .entry .result) (c .before .before .before .before .before .before .entry .ensures) (c .before .before .before .before .if4 .left) (c .before .before .before .u16-at .result) (c .before .before .u16-at2 .result) (c .before .before .before .u16-at .ensures .0) (c .before .before .u16-at2 .ensures .0) (c .before .if5 .taken)) (answered-as (c .refuse5 .ensures) (answer-refused b p hs ns zs n (q .used) g Misfit))
+    λ hs ns zs g. judged-as (qualified-misfit b p n (q .k) a (q .n) (s .pre) (q .number) (c .before .before .before .before .before .before .before .before .before .before .if1 .left) (c .before .before .before .before .before .before .before .before .before .is-proper .result) (c .before .before .before .before .before .before .before .before .before .is-proper .ensures) (not-false (c .before .before .before .before .before .before .before .before .before .is-proper .result) (c .before .before .before .before .before .before .before .before .if2 .left)) (c .before .before .before .before .before .before .before .if3 .left) (c .before .before .before .before .before .before .entry .result) (c .before .before .before .before .before .before .entry .ensures) (c .before .before .before .before .if4 .left) (c .before .before .before .u16-at .result) (c .before .before .u16-at2 .result) (c .before .before .before .u16-at .ensures .0) (c .before .before .u16-at2 .ensures .0) (c .before .if5 .taken)) (answered-as (c .refuse5 .ensures) (answer-refused b p hs ns zs n (q .used) g Misfit))
 
 found-requires : tie.Need-found-requires
 found-requires c κs = search needs
@@ -121,7 +120,7 @@ returns-6 c =
     let p = q .places .now in
     let n = q .count in
     let a = q .args .now in
-    λ hs ns zs g. judged-as (qualified-fits b p n (q .k) a (q .n) (s .pre) (q .number) (c .before .before .before .before .before .before .before .before .before .before .if1 .left) (c .before .before .before .before .before .before .before .before .before .is-proper .result) (c .before .before .before .before .before .before .before .before .before .is-proper .ensures) (not-left (c .before .before .before .before .before .before .before .before .before .is-proper .result) (c .before .before .before .before .before .before .before .before .if2 .left)) (c .before .before .before .before .before .before .before .if3 .left) (c .before .before .before .before .before .before .entry .result) (c .before .before .before .before .before .before .entry .ensures) (c .before .before .before .before .if4 .left) (c .before .before .before .u16-at .result) (c .before .before .u16-at2 .result) (c .before .before .before .u16-at .ensures .0) (c .before .before .u16-at2 .ensures .0) (c .before .if5 .left)) (answered-as (c .found .ensures) (answer-known b p hs ns zs n (q .used) g (q .k) (s .pre .own .known)))
+    λ hs ns zs g. judged-as (qualified-fits b p n (q .k) a (q .n) (s .pre) (q .number) (c .before .before .before .before .before .before .before .before .before .before .if1 .left) (c .before .before .before .before .before .before .before .before .before .is-proper .result) (c .before .before .before .before .before .before .before .before .before .is-proper .ensures) (not-false (c .before .before .before .before .before .before .before .before .before .is-proper .result) (c .before .before .before .before .before .before .before .before .if2 .left)) (c .before .before .before .before .before .before .before .if3 .left) (c .before .before .before .before .before .before .entry .result) (c .before .before .before .before .before .before .entry .ensures) (c .before .before .before .before .if4 .left) (c .before .before .before .u16-at .result) (c .before .before .u16-at2 .result) (c .before .before .before .u16-at .ensures .0) (c .before .before .u16-at2 .ensures .0) (c .before .if5 .left)) (answered-as (c .found .ensures) (answer-known b p hs ns zs n (q .used) g (q .k) (s .pre .own .known)))
 
 pub qualified-spec : {M : Type 1} → statement M
 qualified-spec = tie.close (tie.spec refuse-requires returns is-proper-requires refuse-requires-2 returns-2 refuse-requires-3 returns-3 entry-requires refuse-requires-4 returns-4 add-u16-at u16-at-requires u16-at-requires-2 refuse-requires-5 returns-5 found-requires returns-6)

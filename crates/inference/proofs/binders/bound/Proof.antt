@@ -6,10 +6,10 @@ use mathlib.Core.Path.{refl}
 use lib.ListN.{getD}
 use Rattle.record.specs.Record.{mapOf, maps}
 use Rattle.record.specs.Decode.{storeOf}
+use Rattle.record.specs.Cases.{positive}
 use Rattle.rows.specs.declared.Cause.the-variants.{Panics}
 use Rattle.answers.specs.AnswerLaws.{judged-as, answered-as, answer-known, answer-refused}
 use Rattle.inferring.specs.Asks.{sortsIn, args-refer}
-use Rattle.inferring.proofs.WalkLaws.{pos}
 use Rattle.inferring.proofs.SingleLaws.{first-known}
 use Rattle.inference.proofs.TermLaws.{truth-of, lambda-is, choice-none, choice-in, choice-known, choice-is}
 use Rattle.site.specs.Site.{bindingsOver}
@@ -141,14 +141,14 @@ add-u16-at c =
     let s = c .before .before .before .before .before .before .before .before .before .before .before in
     let a = s .args in
     let r = a .term in
-    let q = pos (r .paired) (c .if3 .left) in omega (arith, s .pre .pairs .within, s .good .1 .1 .1 .1 .1 .1 .1 .0)
+    let q = positive (r .paired) (c .if3 .left) in omega (arith, s .pre .pairs .within, s .good .1 .1 .1 .1 .1 .1 .1 .0)
 
 u16-at-requires-2 : tie.Need-u16-at-requires-2
 u16-at-requires-2 c κs =
     let s = c .before .before .before .before .before .before .before .before .before .before .before in
     let a = s .args in
     let r = a .term in
-    let q = pos (r .paired) (c .if3 .left) in omega (arith, s .pre .pairs .within)
+    let q = positive (r .paired) (c .if3 .left) in omega (arith, s .pre .pairs .within)
 
 mul-k : tie.Need-mul-k
 mul-k c = omega (arith, c .u16-at2 .ensures .1)
@@ -164,7 +164,7 @@ shared-slice-read-k c =
     let z = a .sheet .now in
     let t = a .table .now in
     let r = a .term in
-    choice-in b p n z t r x (s .pre .pairs) (pos (r .paired) (c .before .before .if3 .left)) (c .before .u16-at2 .result) (c .before .u16-at2 .ensures .0)
+    choice-in b p n z t r x (s .pre .pairs) (positive (r .paired) (c .before .before .if3 .left)) (c .before .u16-at2 .result) (c .before .u16-at2 .ensures .0)
 
 cast-k : tie.Need-cast-k
 cast-k c = omega (arith, c .shared-slice-known3 .given (c .before .u16-at2 .result))
@@ -187,7 +187,7 @@ returns-4 c =
     let z = a .sheet .now in
     let t = a .table .now in
     let r = a .term in
-    judged-as (choice-is b p n z t r x (s .pre .pairs) (pos (r .paired) (c .before .before .before .if3 .left)) (c .before .before .u16-at2 .result) (c .before .before .u16-at2 .ensures .0) (c .before .before .before .before .if2 .left)) (answered-as (c .found .ensures) (answer-known b p hs ns zs n u (s .pre .args .good) (getD t (c .before .before .u16-at2 .result) 0) (choice-known b p n z t r x (s .pre .pairs) (pos (r .paired) (c .before .before .before .if3 .left)) (c .before .before .u16-at2 .result) (c .before .before .u16-at2 .ensures .0))))
+    judged-as (choice-is b p n z t r x (s .pre .pairs) (positive (r .paired) (c .before .before .before .if3 .left)) (c .before .before .u16-at2 .result) (c .before .before .u16-at2 .ensures .0) (c .before .before .before .before .if2 .left)) (answered-as (c .found .ensures) (answer-known b p hs ns zs n u (s .pre .args .good) (getD t (c .before .before .u16-at2 .result) 0) (choice-known b p n z t r x (s .pre .pairs) (positive (r .paired) (c .before .before .before .if3 .left)) (c .before .before .u16-at2 .result) (c .before .before .u16-at2 .ensures .0))))
 
 pub bound-spec : {M : Type 1} → statement M
 bound-spec = tie.close (tie.spec u16-at-requires lambda-requires same-length same-length-2 same-length-3 same-length-4 same-length-5 same-length-6 returns leaf-requires same-length-7 same-length-8 same-length-9 same-length-10 same-length-11 returns-2 refuse-requires returns-3 add-u16-at u16-at-requires-2 mul-k shared-slice-read-k cast-k found-requires returns-4)

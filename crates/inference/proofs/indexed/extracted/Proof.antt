@@ -6,9 +6,9 @@ use mathlib.Core.Path.{refl, ap, _∙_}
 use Rattle.record.specs.Record.{mapOf, maps}
 use Rattle.rows.specs.declared.Cause.the-variants.{Panics}
 use Rattle.answers.specs.declared.arguments.Constant.{Constant}
-use Rattle.answers.specs.Arguments.{integerOf}
+use Rattle.answers.specs.Arguments.{integerOf, index-second}
 use Rattle.answers.specs.AnswerLaws.{judged-as, answered-as, answer-refused}
-use Rattle.inference.proofs.IndexedLaws.{index-second, extractBy, extract-over, extract-fits, extract-none, extract-second}
+use Rattle.inference.proofs.IndexedLaws.{extractBy, extract-over, extract-fits, extract-none, extract-second}
 use Rattle.inference.proofs.indexed.extracted.Statement.{statement}
 use Rattle.inference.proofs.indexed.extracted.Tie as tie
 

@@ -6,14 +6,14 @@ use mathlib.Core.Path.{refl, ap, _∙_}
 use mathlib.Core.Option.{Option}
 use mathlib.Core.List.{List, _∷_}
 use Rattle.record.specs.Record.{mapOf, maps}
+use Rattle.record.specs.Cases.{positive}
 use Rattle.rows.specs.declared.Cause.the-variants.{Panics}
 use Rattle.inferred.specs.Inferred.{indexed}
 use Rattle.answers.specs.declared.arguments.Constant.{Constant}
-use Rattle.answers.specs.Arguments.{integerOf, constantsIn}
+use Rattle.answers.specs.Arguments.{integerOf, constantsIn, index-first}
 use Rattle.answers.specs.AnswerLaws.{judged-as, answered-as, answer-refused}
 use Rattle.inferring.specs.Asks.{sortsIn}
-use Rattle.inferring.proofs.WalkLaws.{pos}
-use Rattle.inference.proofs.IndexedLaws.{index-first, constants-none, looks-none, looks-unknown, looks-first}
+use Rattle.inference.proofs.IndexedLaws.{constants-none, looks-none, looks-unknown, looks-first}
 use Rattle.inference.proofs.indexed.first_index.Statement.{statement}
 use Rattle.inference.proofs.indexed.first_index.Tie as tie
 
@@ -43,7 +43,7 @@ index-at-requires c κs =
     let a = s .args in
     let z = a .sheet .now in
     let t = a .starts .now in
-    index-first z t (a .second) (a .seconds) (s .pre .asks .terms) (pos (a .seconds) (c .if1 .left))
+    index-first z t (a .second) (a .seconds) (s .pre .asks .terms) (positive (a .seconds) (c .if1 .left))
 
 enum-known-first : tie.Need-enum-known-first
 enum-known-first c = search needs
@@ -89,7 +89,7 @@ returns-2 c =
     let z = a .sheet .now in
     let t = a .starts .now in
     let d = c .before .before .before .before .before .before .before .before .before .before .by-index .last in
-    judged-as {b = b} {p = p} {n = n} {b′ = d .0} {p′ = d .1 .0} {hs′ = d .1 .1 .0} {ns′ = d .1 .1 .1 .0} {zs′ = d .1 .1 .1 .1 .0} (looks-first z t (a .second) (a .seconds) (pos (a .seconds) (c .before .before .before .before .before .before .before .before .before .before .before .before .before .before .before .before .before .before .before .before .if1 .left)) (c .before .before .before .before .before .before .before .before .before .before .before .before .before .before .before .before .before .before .before .index-at .result) (c .before .before .before .before .before .before .before .before .before .before .before .before .before .before .before .before .before .before .before .index-at .ensures) (a .op) (sortsIn b p n x 3 m) ∙ ap (λ (o : Constant). indexed (a .op) (integerOf o ∷ constantsIn z t (a .second + 2) (a .seconds - 1)) (sortsIn b p n x 3 m)) (c .before .before .before .before .before .before .before .before .before .before .before .before .before .before .before .before .before .first .given .1)) (c .before .before .before .before .before .before .before .before .before .before .by-index .ensures)
+    judged-as {b = b} {p = p} {n = n} {b′ = d .0} {p′ = d .1 .0} {hs′ = d .1 .1 .0} {ns′ = d .1 .1 .1 .0} {zs′ = d .1 .1 .1 .1 .0} (looks-first z t (a .second) (a .seconds) (positive (a .seconds) (c .before .before .before .before .before .before .before .before .before .before .before .before .before .before .before .before .before .before .before .before .if1 .left)) (c .before .before .before .before .before .before .before .before .before .before .before .before .before .before .before .before .before .before .before .index-at .result) (c .before .before .before .before .before .before .before .before .before .before .before .before .before .before .before .before .before .before .before .index-at .ensures) (a .op) (sortsIn b p n x 3 m) ∙ ap (λ (o : Constant). indexed (a .op) (integerOf o ∷ constantsIn z t (a .second + 2) (a .seconds - 1)) (sortsIn b p n x 3 m)) (c .before .before .before .before .before .before .before .before .before .before .before .before .before .before .before .before .before .first .given .1)) (c .before .before .before .before .before .before .before .before .before .before .by-index .ensures)
 
 same-length-6 : tie.Need-same-length-6
 same-length-6 c = search needs
@@ -117,7 +117,7 @@ returns-3 c =
     let m = a .n in
     let z = a .sheet .now in
     let t = a .starts .now in
-    judged-as (looks-first z t (a .second) (a .seconds) (pos (a .seconds) (c .before .before .before .before .before .before .before .before .before .before .before .before .before .before .before .before .before .before .before .if1 .left)) (c .before .before .before .before .before .before .before .before .before .before .before .before .before .before .before .before .before .before .index-at .result) (c .before .before .before .before .before .before .before .before .before .before .before .before .before .before .before .before .before .before .index-at .ensures) (a .op) (sortsIn b p n x 3 m) ∙ ap (λ (o : Constant). indexed (a .op) (integerOf o ∷ constantsIn z t (a .second + 2) (a .seconds - 1)) (sortsIn b p n x 3 m)) (c .before .before .before .before .before .before .before .before .before .before .before .before .before .before .before .before .enum-told .given .1) ∙ looks-unknown (a .op) (constantsIn z t (a .second + 2) (a .seconds - 1)) (sortsIn b p n x 3 m) (s .pre .looks)) (c .before .before .before .before .before .before .before .before .before .before .leaf .ensures)
+    judged-as (looks-first z t (a .second) (a .seconds) (positive (a .seconds) (c .before .before .before .before .before .before .before .before .before .before .before .before .before .before .before .before .before .before .before .if1 .left)) (c .before .before .before .before .before .before .before .before .before .before .before .before .before .before .before .before .before .before .index-at .result) (c .before .before .before .before .before .before .before .before .before .before .before .before .before .before .before .before .before .before .index-at .ensures) (a .op) (sortsIn b p n x 3 m) ∙ ap (λ (o : Constant). indexed (a .op) (integerOf o ∷ constantsIn z t (a .second + 2) (a .seconds - 1)) (sortsIn b p n x 3 m)) (c .before .before .before .before .before .before .before .before .before .before .before .before .before .before .before .before .enum-told .given .1) ∙ looks-unknown (a .op) (constantsIn z t (a .second + 2) (a .seconds - 1)) (sortsIn b p n x 3 m) (s .pre .looks)) (c .before .before .before .before .before .before .before .before .before .before .leaf .ensures)
 
 pub first-index-spec : {M : Type 1} → statement M
 first-index-spec = tie.close (tie.spec refuse-requires returns index-at-requires enum-known-first by-index-requires enum-told leaf-requires same-length same-length-2 same-length-3 same-length-4 same-length-5 returns-2 same-length-6 same-length-7 same-length-8 same-length-9 same-length-10 returns-3)

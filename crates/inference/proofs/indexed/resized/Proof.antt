@@ -6,12 +6,12 @@ use mathlib.Core.Path.{refl, ap, _∙_}
 use mathlib.Core.Bool.{Bool}
 use Rattle.record.specs.Sort.{bitvec}
 use Rattle.record.specs.Record.{mapOf, maps}
+use Rattle.record.specs.Cases.{positive}
 use Rattle.rows.specs.declared.Cause.the-variants.{Panics}
 use Rattle.rows.specs.Verdict.{sort}
 use Rattle.inferred.specs.Inferred.{resizedOf}
 use Rattle.answers.specs.AnswerLaws.{judged-as, answered-as, answer-refused}
 use Rattle.inferring.specs.Asks.{args-refer}
-use Rattle.inferring.proofs.WalkLaws.{pos}
 use Rattle.inferring.proofs.SingleLaws.{sorts-none, first-entry}
 use Rattle.inference.specs.Indexed.{resizing}
 use Rattle.inference.proofs.IndexedLaws.{resized-known, resized-unknown, resized-other, width-small, times-small}
@@ -54,7 +54,7 @@ entry-requires c κs =
     let u = a .used in
     let x = a .args .now in
     let m = a .n in
-    first-entry b p n x m (args-refer b p hs ns zs n u x m (s .pre .args)) (pos m (c .before .before .before .if1 .left)) (c .before .before .u16-at .result) (c .before .before .u16-at .ensures .0)
+    first-entry b p n x m (args-refer b p hs ns zs n u x m (s .pre .args)) (positive m (c .before .before .before .if1 .left)) (c .before .before .u16-at .result) (c .before .before .u16-at .ensures .0)
 
 leaf-requires : tie.Need-leaf-requires
 unfolding mapOf maps
@@ -90,7 +90,7 @@ returns-2 c =
     let u = a .used in
     let x = a .args .now in
     let m = a .n in
-    judged-as (resized-unknown b p n x m (args-refer b p hs ns zs n u x m (s .pre .args)) (pos m (c .before .before .before .before .before .before .before .before .before .before .before .before .before .before .before .before .before .before .before .before .before .if1 .left)) (c .before .before .before .before .before .before .before .before .before .before .before .before .before .before .before .before .before .before .before .before .u16-at .result) (c .before .before .before .before .before .before .before .before .before .before .before .before .before .before .before .before .before .before .before .before .u16-at .ensures .0) (c .before .before .before .before .before .before .before .before .before .before .before .before .before .before .before .before .before .entry .result) (c .before .before .before .before .before .before .before .before .before .before .before .before .before .before .before .before .before .entry .ensures) (resizing (a .adds) (a .i)) (c .before .before .before .before .before .before .before .before .before .before .before .before .before .before .before .before .if2 .taken)) (c .before .before .before .before .before .before .before .before .before .before .leaf .ensures)
+    judged-as (resized-unknown b p n x m (args-refer b p hs ns zs n u x m (s .pre .args)) (positive m (c .before .before .before .before .before .before .before .before .before .before .before .before .before .before .before .before .before .before .before .before .before .if1 .left)) (c .before .before .before .before .before .before .before .before .before .before .before .before .before .before .before .before .before .before .before .before .u16-at .result) (c .before .before .before .before .before .before .before .before .before .before .before .before .before .before .before .before .before .before .before .before .u16-at .ensures .0) (c .before .before .before .before .before .before .before .before .before .before .before .before .before .before .before .before .before .entry .result) (c .before .before .before .before .before .before .before .before .before .before .before .before .before .before .before .before .before .entry .ensures) (resizing (a .adds) (a .i)) (c .before .before .before .before .before .before .before .before .before .before .before .before .before .before .before .before .if2 .taken)) (c .before .before .before .before .before .before .before .before .before .before .leaf .ensures)
 
 refuse-requires-2 : tie.Need-refuse-requires-2
 refuse-requires-2 c κs = search needs
@@ -114,7 +114,7 @@ returns-3 c =
     let u = a .used in
     let x = a .args .now in
     let m = a .n in
-    judged-as (resized-other b p n x m (args-refer b p hs ns zs n u x m (s .pre .args)) (pos m (c .before .before .before .before .before .before .before .if1 .left)) (c .before .before .before .before .before .before .u16-at .result) (c .before .before .before .before .before .before .u16-at .ensures .0) (c .before .before .before .entry .result) (c .before .before .before .entry .ensures) (resizing (a .adds) (a .i)) (c .before .if3 .taken) (c .before .before .if2 .left)) (answered-as (c .refuse2 .ensures) (answer-refused b p hs ns zs n u (s .pre .args .good) Panics))
+    judged-as (resized-other b p n x m (args-refer b p hs ns zs n u x m (s .pre .args)) (positive m (c .before .before .before .before .before .before .before .if1 .left)) (c .before .before .before .before .before .before .u16-at .result) (c .before .before .before .before .before .before .u16-at .ensures .0) (c .before .before .before .entry .result) (c .before .before .before .entry .ensures) (resizing (a .adds) (a .i)) (c .before .if3 .taken) (c .before .before .if2 .left)) (answered-as (c .refuse2 .ensures) (answer-refused b p hs ns zs n u (s .pre .args .good) Panics))
 
 add-bit-vector : tie.Need-add-bit-vector
 add-bit-vector c =
@@ -129,7 +129,7 @@ add-bit-vector c =
     let u = a .used in
     let x = a .args .now in
     let m = a .n in
-    omega (arith, s .pre .small, width-small b p n x m (args-refer b p hs ns zs n u x m (s .pre .args)) (pos m (c .before .before .before .before .before .before .before .before .before .before .before .before .if1 .left)) (c .before .before .before .before .before .before .before .before .before .before .before .u16-at .result) (c .before .before .before .before .before .before .before .before .before .before .before .u16-at .ensures .0) (c .before .before .before .before .before .before .before .before .entry .result) (c .before .before .before .before .before .before .before .before .entry .ensures))
+    omega (arith, s .pre .small, width-small b p n x m (args-refer b p hs ns zs n u x m (s .pre .args)) (positive m (c .before .before .before .before .before .before .before .before .before .before .before .before .if1 .left)) (c .before .before .before .before .before .before .before .before .before .before .before .u16-at .result) (c .before .before .before .before .before .before .before .before .before .before .before .u16-at .ensures .0) (c .before .before .before .before .before .before .before .before .entry .result) (c .before .before .before .before .before .before .before .before .entry .ensures))
 
 bit-vector-requires : tie.Need-bit-vector-requires
 bit-vector-requires c κs =
@@ -164,7 +164,7 @@ returns-4 c =
     let u = a .used in
     let x = a .args .now in
     let m = a .n in
-    judged-as (resized-known b p n x m (args-refer b p hs ns zs n u x m (s .pre .args)) (pos m (c .before .before .before .before .before .before .before .before .before .before .before .before .before .before .before .before .before .before .before .before .before .before .before .if1 .left)) (c .before .before .before .before .before .before .before .before .before .before .before .before .before .before .before .before .before .before .before .before .before .before .u16-at .result) (c .before .before .before .before .before .before .before .before .before .before .before .before .before .before .before .before .before .before .before .before .before .before .u16-at .ensures .0) (c .before .before .before .before .before .before .before .before .before .before .before .before .before .before .before .before .before .before .before .entry .result) (c .before .before .before .before .before .before .before .before .before .before .before .before .before .before .before .before .before .before .before .entry .ensures) (resizing (a .adds) (a .i)) (c .before .before .before .before .before .before .before .before .before .before .before .before .before .before .before .before .before .if3 .left) ∙ ap (λ (d : Bool). sort (bitvec (resizing d (a .i) (c .before .before .before .before .before .before .before .before .before .before .before .before .before .before .before .before .before .before .before .entry .result .number)))) (c .before .before .before .before .before .before .before .before .before .before .before .before .before .before .before .before .if4 .taken)) (c .before .before .before .before .before .before .before .before .before .before .bit-vector .ensures)
+    judged-as (resized-known b p n x m (args-refer b p hs ns zs n u x m (s .pre .args)) (positive m (c .before .before .before .before .before .before .before .before .before .before .before .before .before .before .before .before .before .before .before .before .before .before .before .if1 .left)) (c .before .before .before .before .before .before .before .before .before .before .before .before .before .before .before .before .before .before .before .before .before .before .u16-at .result) (c .before .before .before .before .before .before .before .before .before .before .before .before .before .before .before .before .before .before .before .before .before .before .u16-at .ensures .0) (c .before .before .before .before .before .before .before .before .before .before .before .before .before .before .before .before .before .before .before .entry .result) (c .before .before .before .before .before .before .before .before .before .before .before .before .before .before .before .before .before .before .before .entry .ensures) (resizing (a .adds) (a .i)) (c .before .before .before .before .before .before .before .before .before .before .before .before .before .before .before .before .before .if3 .left) ∙ ap (λ (d : Bool). sort (bitvec (resizing d (a .i) (c .before .before .before .before .before .before .before .before .before .before .before .before .before .before .before .before .before .before .before .entry .result .number)))) (c .before .before .before .before .before .before .before .before .before .before .before .before .before .before .before .before .if4 .taken)) (c .before .before .before .before .before .before .before .before .before .before .bit-vector .ensures)
 
 mul-bit-vector : tie.Need-mul-bit-vector
 mul-bit-vector c =
@@ -179,7 +179,7 @@ mul-bit-vector c =
     let u = a .used in
     let x = a .args .now in
     let m = a .n in
-    omega (arith, times-small (a .i) (c .before .before .before .before .before .before .before .before .entry .result .number) (s .pre .small) (width-small b p n x m (args-refer b p hs ns zs n u x m (s .pre .args)) (pos m (c .before .before .before .before .before .before .before .before .before .before .before .before .if1 .left)) (c .before .before .before .before .before .before .before .before .before .before .before .u16-at .result) (c .before .before .before .before .before .before .before .before .before .before .before .u16-at .ensures .0) (c .before .before .before .before .before .before .before .before .entry .result) (c .before .before .before .before .before .before .before .before .entry .ensures)))
+    omega (arith, times-small (a .i) (c .before .before .before .before .before .before .before .before .entry .result .number) (s .pre .small) (width-small b p n x m (args-refer b p hs ns zs n u x m (s .pre .args)) (positive m (c .before .before .before .before .before .before .before .before .before .before .before .before .if1 .left)) (c .before .before .before .before .before .before .before .before .before .before .before .u16-at .result) (c .before .before .before .before .before .before .before .before .before .before .before .u16-at .ensures .0) (c .before .before .before .before .before .before .before .before .entry .result) (c .before .before .before .before .before .before .before .before .entry .ensures)))
 
 bit-vector-requires-2 : tie.Need-bit-vector-requires-2
 bit-vector-requires-2 c κs =
@@ -214,7 +214,7 @@ returns-5 c =
     let u = a .used in
     let x = a .args .now in
     let m = a .n in
-    judged-as (resized-known b p n x m (args-refer b p hs ns zs n u x m (s .pre .args)) (pos m (c .before .before .before .before .before .before .before .before .before .before .before .before .before .before .before .before .before .before .before .before .before .before .before .if1 .left)) (c .before .before .before .before .before .before .before .before .before .before .before .before .before .before .before .before .before .before .before .before .before .before .u16-at .result) (c .before .before .before .before .before .before .before .before .before .before .before .before .before .before .before .before .before .before .before .before .before .before .u16-at .ensures .0) (c .before .before .before .before .before .before .before .before .before .before .before .before .before .before .before .before .before .before .before .entry .result) (c .before .before .before .before .before .before .before .before .before .before .before .before .before .before .before .before .before .before .before .entry .ensures) (resizing (a .adds) (a .i)) (c .before .before .before .before .before .before .before .before .before .before .before .before .before .before .before .before .before .if3 .left) ∙ ap (λ (d : Bool). sort (bitvec (resizing d (a .i) (c .before .before .before .before .before .before .before .before .before .before .before .before .before .before .before .before .before .before .before .entry .result .number)))) (c .before .before .before .before .before .before .before .before .before .before .before .before .before .before .before .before .if4 .left)) (c .before .before .before .before .before .before .before .before .before .before .bit-vector2 .ensures)
+    judged-as (resized-known b p n x m (args-refer b p hs ns zs n u x m (s .pre .args)) (positive m (c .before .before .before .before .before .before .before .before .before .before .before .before .before .before .before .before .before .before .before .before .before .before .before .if1 .left)) (c .before .before .before .before .before .before .before .before .before .before .before .before .before .before .before .before .before .before .before .before .before .before .u16-at .result) (c .before .before .before .before .before .before .before .before .before .before .before .before .before .before .before .before .before .before .before .before .before .before .u16-at .ensures .0) (c .before .before .before .before .before .before .before .before .before .before .before .before .before .before .before .before .before .before .before .entry .result) (c .before .before .before .before .before .before .before .before .before .before .before .before .before .before .before .before .before .before .before .entry .ensures) (resizing (a .adds) (a .i)) (c .before .before .before .before .before .before .before .before .before .before .before .before .before .before .before .before .before .if3 .left) ∙ ap (λ (d : Bool). sort (bitvec (resizing d (a .i) (c .before .before .before .before .before .before .before .before .before .before .before .before .before .before .before .before .before .before .before .entry .result .number)))) (c .before .before .before .before .before .before .before .before .before .before .before .before .before .before .before .before .if4 .left)) (c .before .before .before .before .before .before .before .before .before .before .bit-vector2 .ensures)
 
 pub resized-spec : {M : Type 1} → statement M
 resized-spec = tie.close (tie.spec refuse-requires returns u16-at-requires entry-requires leaf-requires same-length same-length-2 same-length-3 same-length-4 same-length-5 returns-2 refuse-requires-2 same-length-6 same-length-7 returns-3 add-bit-vector bit-vector-requires same-length-8 same-length-9 same-length-10 same-length-11 same-length-12 returns-4 mul-bit-vector bit-vector-requires-2 same-length-13 same-length-14 same-length-15 same-length-16 same-length-17 returns-5)

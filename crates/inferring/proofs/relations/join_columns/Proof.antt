@@ -2,9 +2,9 @@
 -- Without a column on the right side the Rust panics.
 use native.Mathlib.Omega.{arith}
 use borrow.Author.Needs.{needs}
+use Rattle.record.specs.Cases.{positive}
 use Rattle.rows.specs.declared.Cause.the-variants.{Panics}
 use Rattle.answers.specs.AnswerLaws.{judged-as, answered-as, answer-refused}
-use Rattle.inferring.proofs.WalkLaws.{pos}
 use Rattle.inferring.proofs.RelationLaws.{join-panics, empty-asks, join-empty, less-asks, join-less}
 use Rattle.inferring.proofs.relations.join_columns.Statement.{statement}
 use Rattle.inferring.proofs.relations.join_columns.Tie as tie
@@ -30,13 +30,13 @@ add-side-by-side : tie.Need-add-side-by-side
 add-side-by-side c =
     let s = c .before .before .before .before .before .before .before .before .before .before .before .before .before .before in
     let a = s .args in
-    let more = pos (a .q) (c .before .before .before .before .before .before .before .if1 .left) in omega (arith, s .pre .right .within, s .good .0)
+    let more = positive (a .q) (c .before .before .before .before .before .before .before .if1 .left) in omega (arith, s .pre .right .within, s .good .0)
 
 sub-side-by-side : tie.Need-sub-side-by-side
 sub-side-by-side c =
     let s = c .before .before .before .before .before .before .before .before .before .before .before .before .before .before in
     let a = s .args in
-    pos (a .q) (c .before .before .before .before .before .before .before .if1 .left)
+    positive (a .q) (c .before .before .before .before .before .before .before .if1 .left)
 
 side-by-side-requires : tie.Need-side-by-side-requires
 side-by-side-requires c κs =
@@ -50,7 +50,7 @@ side-by-side-requires c κs =
     let n = a .count in
     let u = a .used in
     let x = a .args .now in
-    empty-asks b p hs ns zs n u x (a .at) (a .m) (a .to) (a .q) (s .pre) (pos (a .q) (c .before .before .before .before .before .before .before .if1 .left))
+    empty-asks b p hs ns zs n u x (a .at) (a .m) (a .to) (a .q) (s .pre) (positive (a .q) (c .before .before .before .before .before .before .before .if1 .left))
 
 same-length : tie.Need-same-length
 same-length c = search needs
@@ -82,25 +82,25 @@ returns-2 c =
     let n = a .count in
     let u = a .used in
     let x = a .args .now in
-    judged-as (join-empty b p hs ns zs n u x (a .at) (a .m) (a .to) (a .q) (s .pre) (pos (a .q) (c .before .before .before .before .before .before .before .before .before .before .before .before .before .before .before .before .before .before .before .before .if1 .left)) (c .before .before .before .before .before .before .before .before .before .before .before .before .before .before .before .before .before .before .before .if2 .taken)) (c .before .before .before .before .before .before .before .before .before .before .before .before .side-by-side .ensures)
+    judged-as (join-empty b p hs ns zs n u x (a .at) (a .m) (a .to) (a .q) (s .pre) (positive (a .q) (c .before .before .before .before .before .before .before .before .before .before .before .before .before .before .before .before .before .before .before .before .if1 .left)) (c .before .before .before .before .before .before .before .before .before .before .before .before .before .before .before .before .before .before .before .if2 .taken)) (c .before .before .before .before .before .before .before .before .before .before .before .before .side-by-side .ensures)
 
 sub-side-by-side-2 : tie.Need-sub-side-by-side-2
 sub-side-by-side-2 c =
     let s = c .before .before .before .before .before .before .before .before .before .before .before .before .before .before in
     let a = s .args in
-    pos (a .m) (c .before .before .before .before .before .before .if2 .left)
+    positive (a .m) (c .before .before .before .before .before .before .if2 .left)
 
 add-side-by-side-2 : tie.Need-add-side-by-side-2
 add-side-by-side-2 c =
     let s = c .before .before .before .before .before .before .before .before .before .before .before .before .before .before in
     let a = s .args in
-    let more = pos (a .q) (c .before .before .before .before .before .before .before .if1 .left) in omega (arith, s .pre .right .within, s .good .0)
+    let more = positive (a .q) (c .before .before .before .before .before .before .before .if1 .left) in omega (arith, s .pre .right .within, s .good .0)
 
 sub-side-by-side-3 : tie.Need-sub-side-by-side-3
 sub-side-by-side-3 c =
     let s = c .before .before .before .before .before .before .before .before .before .before .before .before .before .before in
     let a = s .args in
-    pos (a .q) (c .before .before .before .before .before .before .before .if1 .left)
+    positive (a .q) (c .before .before .before .before .before .before .before .if1 .left)
 
 side-by-side-requires-2 : tie.Need-side-by-side-requires-2
 side-by-side-requires-2 c κs =
@@ -114,7 +114,7 @@ side-by-side-requires-2 c κs =
     let n = a .count in
     let u = a .used in
     let x = a .args .now in
-    less-asks b p hs ns zs n u x (a .at) (a .m) (a .to) (a .q) (s .pre) (pos (a .q) (c .before .before .before .before .before .before .before .if1 .left))
+    less-asks b p hs ns zs n u x (a .at) (a .m) (a .to) (a .q) (s .pre) (positive (a .q) (c .before .before .before .before .before .before .before .if1 .left))
 
 same-length-7 : tie.Need-same-length-7
 same-length-7 c = search needs
@@ -146,7 +146,7 @@ returns-3 c =
     let n = a .count in
     let u = a .used in
     let x = a .args .now in
-    judged-as {b = b} {p = p} (join-less b p hs ns zs n u x (a .at) (a .m) (a .to) (a .q) (s .pre) (pos (a .q) (c .before .before .before .before .before .before .before .before .before .before .before .before .before .before .before .before .before .before .before .before .if1 .left)) (pos (a .m) (c .before .before .before .before .before .before .before .before .before .before .before .before .before .before .before .before .before .before .before .if2 .left))) (c .before .before .before .before .before .before .before .before .before .before .before .before .side-by-side2 .ensures)
+    judged-as {b = b} {p = p} (join-less b p hs ns zs n u x (a .at) (a .m) (a .to) (a .q) (s .pre) (positive (a .q) (c .before .before .before .before .before .before .before .before .before .before .before .before .before .before .before .before .before .before .before .before .if1 .left)) (positive (a .m) (c .before .before .before .before .before .before .before .before .before .before .before .before .before .before .before .before .before .before .before .if2 .left))) (c .before .before .before .before .before .before .before .before .before .before .before .before .side-by-side2 .ensures)
 
 pub join-columns-spec : {M : Type 1} → statement M
 join-columns-spec = tie.close (tie.spec refuse-requires returns add-side-by-side sub-side-by-side side-by-side-requires same-length same-length-2 same-length-3 same-length-4 same-length-5 same-length-6 returns-2 sub-side-by-side-2 add-side-by-side-2 sub-side-by-side-3 side-by-side-requires-2 same-length-7 same-length-8 same-length-9 same-length-10 same-length-11 same-length-12 returns-3)

@@ -5,11 +5,11 @@ use borrow.Author.Needs.{needs}
 use Prim.Native.Nat.{_-_}
 use mathlib.Core.Path.{ap, subst}
 use Rattle.record.specs.Decode.{sortAt}
+use Rattle.record.specs.Cases.{positive}
 use Rattle.rows.specs.declared.Cause.the-variants.{Panics}
 use Rattle.inferred.specs.Inferred.{transposeOf}
 use Rattle.answers.specs.AnswerLaws.{judged-as, answered-as, answer-refused}
 use Rattle.inferring.specs.Asks.{sortsIn, args-refer}
-use Rattle.inferring.proofs.WalkLaws.{pos}
 use Rattle.inferring.proofs.SingleLaws.{sorts-none, first-known, first-then}
 use Rattle.inferring.specs.Relations.{ColumnsIs}
 use Rattle.inferring.proofs.RelationLaws.{backwards-asks, backwards-is, trans-none, trans-is}
@@ -52,7 +52,7 @@ columns-of-requires c κs =
     let u = a .used in
     let x = a .args .now in
     let m = a .n in
-    (n, record { stored = s .pre .good .stored; known = first-known b p n x m (args-refer b p hs ns zs n u x m (s .pre)) (pos m (c .before .before .before .before .if1 .left)) (c .before .before .u16-at .result) (c .before .before .u16-at .ensures .0) })
+    (n, record { stored = s .pre .good .stored; known = first-known b p n x m (args-refer b p hs ns zs n u x m (s .pre)) (positive m (c .before .before .before .before .if1 .left)) (c .before .before .u16-at .result) (c .before .before .u16-at .ensures .0) })
 
 enum-known-left : tie.Need-enum-known-left
 enum-known-left c = search needs
@@ -70,7 +70,7 @@ put-backwards-requires c κs =
     let u = a .used in
     let x = a .args .now in
     let m = a .n in
-    let is = subst (ColumnsIs b p n (sortAt b p n (c .before .before .before .before .before .before .before .before .u16-at .result))) (c .before .before .before .left .given .1) (c .before .before .before .before .before .columns-of .ensures n (s .pre .good .stored) (first-known b p n x m (args-refer b p hs ns zs n u x m (s .pre)) (pos m (c .before .before .before .before .before .before .before .before .before .before .if1 .left)) (c .before .before .before .before .before .before .before .before .u16-at .result) (c .before .before .before .before .before .before .before .before .u16-at .ensures .0))) in
+    let is = subst (ColumnsIs b p n (sortAt b p n (c .before .before .before .before .before .before .before .before .u16-at .result))) (c .before .before .before .left .given .1) (c .before .before .before .before .before .columns-of .ensures n (s .pre .good .stored) (first-known b p n x m (args-refer b p hs ns zs n u x m (s .pre)) (positive m (c .before .before .before .before .before .before .before .before .before .before .if1 .left)) (c .before .before .before .before .before .before .before .before .u16-at .result) (c .before .before .before .before .before .before .before .before .u16-at .ensures .0))) in
     record { within = is .1 .within; room = omega (arith, is .1 .few, s .pre .room); low = omega arith; few = is .1 .few }
 
 relation-requires : tie.Need-relation-requires
@@ -86,7 +86,7 @@ relation-requires c κs =
     let u = a .used in
     let x = a .args .now in
     let m = a .n in
-    let is = subst (ColumnsIs b p n (sortAt b p n (c .before .before .before .before .before .before .before .before .before .before .before .before .before .before .before .before .before .u16-at .result))) (c .before .before .before .before .before .before .before .before .before .before .before .before .left .given .1) (c .before .before .before .before .before .before .before .before .before .before .before .before .before .before .columns-of .ensures n (s .pre .good .stored) (first-known b p n x m (args-refer b p hs ns zs n u x m (s .pre)) (pos m (c .before .before .before .before .before .before .before .before .before .before .before .before .before .before .before .before .before .before .before .if1 .left)) (c .before .before .before .before .before .before .before .before .before .before .before .before .before .before .before .before .before .u16-at .result) (c .before .before .before .before .before .before .before .before .before .before .before .before .before .before .before .before .before .u16-at .ensures .0))) in
+    let is = subst (ColumnsIs b p n (sortAt b p n (c .before .before .before .before .before .before .before .before .before .before .before .before .before .before .before .before .before .u16-at .result))) (c .before .before .before .before .before .before .before .before .before .before .before .before .left .given .1) (c .before .before .before .before .before .before .before .before .before .before .before .before .before .before .columns-of .ensures n (s .pre .good .stored) (first-known b p n x m (args-refer b p hs ns zs n u x m (s .pre)) (positive m (c .before .before .before .before .before .before .before .before .before .before .before .before .before .before .before .before .before .before .before .if1 .left)) (c .before .before .before .before .before .before .before .before .before .before .before .before .before .before .before .before .before .u16-at .result) (c .before .before .before .before .before .before .before .before .before .before .before .before .before .before .before .before .before .u16-at .ensures .0))) in
     backwards-asks b p hs ns zs n u (c .before .before .before .before .before .before .before .before .before .before .before .before .left .given .0 .0) (c .before .before .before .before .before .before .before .before .before .before .before .before .left .given .0 .1 .0) (is .1) (c .before .before .before .before .before .before .before .before .put-backwards .last .1 .1 .1 .0) (c .before .before .before .before .before .before .before .before .put-backwards .ensures) (s .pre .good) (omega (arith, s .pre .room, c .before .before .before .before .before .before .before .before .put-backwards .kept .1 .1 .1 .0))
 
 enum-told : tie.Need-enum-told
@@ -126,8 +126,8 @@ returns-2 c =
     let u = a .used in
     let x = a .args .now in
     let m = a .n in
-    let is = subst (ColumnsIs b p n (sortAt b p n (c .before .before .before .before .before .before .before .before .before .before .before .before .before .before .before .before .before .before .before .before .before .before .before .before .before .before .before .before .before .before .u16-at .result))) (c .before .before .before .before .before .before .before .before .before .before .before .before .before .before .before .before .before .before .before .before .before .before .before .before .before .left .given .1) (c .before .before .before .before .before .before .before .before .before .before .before .before .before .before .before .before .before .before .before .before .before .before .before .before .before .before .before .columns-of .ensures n (s .pre .good .stored) (first-known b p n x m (args-refer b p hs ns zs n u x m (s .pre)) (pos m (c .before .before .before .before .before .before .before .before .before .before .before .before .before .before .before .before .before .before .before .before .before .before .before .before .before .before .before .before .before .before .before .before .if1 .left)) (c .before .before .before .before .before .before .before .before .before .before .before .before .before .before .before .before .before .before .before .before .before .before .before .before .before .before .before .before .before .before .u16-at .result) (c .before .before .before .before .before .before .before .before .before .before .before .before .before .before .before .before .before .before .before .before .before .before .before .before .before .before .before .before .before .before .u16-at .ensures .0))) in
-    judged-as (trans-is (sortsIn b p n x 3 m) (sortAt b p n (c .before .before .before .before .before .before .before .before .before .before .before .before .before .before .before .before .before .before .before .before .before .before .before .before .before .before .before .before .before .before .u16-at .result)) (sortsIn b p n x 5 (m - 1)) (first-then b p n x m (args-refer b p hs ns zs n u x m (s .pre)) (pos m (c .before .before .before .before .before .before .before .before .before .before .before .before .before .before .before .before .before .before .before .before .before .before .before .before .before .before .before .before .before .before .before .before .if1 .left)) (c .before .before .before .before .before .before .before .before .before .before .before .before .before .before .before .before .before .before .before .before .before .before .before .before .before .before .before .before .before .before .u16-at .result) (c .before .before .before .before .before .before .before .before .before .before .before .before .before .before .before .before .before .before .before .before .before .before .before .before .before .before .before .before .before .before .u16-at .ensures .0)) (sortsIn b p n b (c .before .before .before .before .before .before .before .before .before .before .before .before .before .before .before .before .before .before .before .before .before .before .before .before .before .left .given .0 .0) (c .before .before .before .before .before .before .before .before .before .before .before .before .before .before .before .before .before .before .before .before .before .before .before .before .before .left .given .0 .1 .0)) (sortsIn b p n (c .before .before .before .before .before .before .before .before .before .before .before .before .before .before .before .before .before .before .before .before .before .put-backwards .last .1 .1 .1 .0) 3 (c .before .before .before .before .before .before .before .before .before .before .before .before .before .before .before .before .before .before .before .before .before .before .before .before .before .left .given .0 .1 .0)) (is .0) (backwards-is b p hs ns zs n u (c .before .before .before .before .before .before .before .before .before .before .before .before .before .before .before .before .before .before .before .before .before .before .before .before .before .left .given .0 .0) (c .before .before .before .before .before .before .before .before .before .before .before .before .before .before .before .before .before .before .before .before .before .before .before .before .before .left .given .0 .1 .0) (is .1) (c .before .before .before .before .before .before .before .before .before .before .before .before .before .before .before .before .before .before .before .before .before .put-backwards .last .1 .1 .1 .0) (c .before .before .before .before .before .before .before .before .before .before .before .before .before .before .before .before .before .before .before .before .before .put-backwards .ensures))) (c .before .before .before .before .before .before .before .before .before .before .before .before .relation .ensures)
+    let is = subst (ColumnsIs b p n (sortAt b p n (c .before .before .before .before .before .before .before .before .before .before .before .before .before .before .before .before .before .before .before .before .before .before .before .before .before .before .before .before .before .before .u16-at .result))) (c .before .before .before .before .before .before .before .before .before .before .before .before .before .before .before .before .before .before .before .before .before .before .before .before .before .left .given .1) (c .before .before .before .before .before .before .before .before .before .before .before .before .before .before .before .before .before .before .before .before .before .before .before .before .before .before .before .columns-of .ensures n (s .pre .good .stored) (first-known b p n x m (args-refer b p hs ns zs n u x m (s .pre)) (positive m (c .before .before .before .before .before .before .before .before .before .before .before .before .before .before .before .before .before .before .before .before .before .before .before .before .before .before .before .before .before .before .before .before .if1 .left)) (c .before .before .before .before .before .before .before .before .before .before .before .before .before .before .before .before .before .before .before .before .before .before .before .before .before .before .before .before .before .before .u16-at .result) (c .before .before .before .before .before .before .before .before .before .before .before .before .before .before .before .before .before .before .before .before .before .before .before .before .before .before .before .before .before .before .u16-at .ensures .0))) in
+    judged-as (trans-is (sortsIn b p n x 3 m) (sortAt b p n (c .before .before .before .before .before .before .before .before .before .before .before .before .before .before .before .before .before .before .before .before .before .before .before .before .before .before .before .before .before .before .u16-at .result)) (sortsIn b p n x 5 (m - 1)) (first-then b p n x m (args-refer b p hs ns zs n u x m (s .pre)) (positive m (c .before .before .before .before .before .before .before .before .before .before .before .before .before .before .before .before .before .before .before .before .before .before .before .before .before .before .before .before .before .before .before .before .if1 .left)) (c .before .before .before .before .before .before .before .before .before .before .before .before .before .before .before .before .before .before .before .before .before .before .before .before .before .before .before .before .before .before .u16-at .result) (c .before .before .before .before .before .before .before .before .before .before .before .before .before .before .before .before .before .before .before .before .before .before .before .before .before .before .before .before .before .before .u16-at .ensures .0)) (sortsIn b p n b (c .before .before .before .before .before .before .before .before .before .before .before .before .before .before .before .before .before .before .before .before .before .before .before .before .before .left .given .0 .0) (c .before .before .before .before .before .before .before .before .before .before .before .before .before .before .before .before .before .before .before .before .before .before .before .before .before .left .given .0 .1 .0)) (sortsIn b p n (c .before .before .before .before .before .before .before .before .before .before .before .before .before .before .before .before .before .before .before .before .before .put-backwards .last .1 .1 .1 .0) 3 (c .before .before .before .before .before .before .before .before .before .before .before .before .before .before .before .before .before .before .before .before .before .before .before .before .before .left .given .0 .1 .0)) (is .0) (backwards-is b p hs ns zs n u (c .before .before .before .before .before .before .before .before .before .before .before .before .before .before .before .before .before .before .before .before .before .before .before .before .before .left .given .0 .0) (c .before .before .before .before .before .before .before .before .before .before .before .before .before .before .before .before .before .before .before .before .before .before .before .before .before .left .given .0 .1 .0) (is .1) (c .before .before .before .before .before .before .before .before .before .before .before .before .before .before .before .before .before .before .before .before .before .put-backwards .last .1 .1 .1 .0) (c .before .before .before .before .before .before .before .before .before .before .before .before .before .before .before .before .before .before .before .before .before .put-backwards .ensures))) (c .before .before .before .before .before .before .before .before .before .before .before .before .relation .ensures)
 
 same-length-7 : tie.Need-same-length-7
 same-length-7 c = search needs
@@ -151,7 +151,7 @@ returns-3 c =
     let u = a .used in
     let x = a .args .now in
     let m = a .n in
-    judged-as (trans-none (sortsIn b p n x 3 m) (sortAt b p n (c .before .before .before .before .before .before .u16-at .result)) (sortsIn b p n x 5 (m - 1)) (first-then b p n x m (args-refer b p hs ns zs n u x m (s .pre)) (pos m (c .before .before .before .before .before .before .before .before .if1 .left)) (c .before .before .before .before .before .before .u16-at .result) (c .before .before .before .before .before .before .u16-at .ensures .0)) (subst (ColumnsIs b p n (sortAt b p n (c .before .before .before .before .before .before .u16-at .result))) (c .before .enum-told .given .1) (c .before .before .before .columns-of .ensures n (s .pre .good .stored) (first-known b p n x m (args-refer b p hs ns zs n u x m (s .pre)) (pos m (c .before .before .before .before .before .before .before .before .if1 .left)) (c .before .before .before .before .before .before .u16-at .result) (c .before .before .before .before .before .before .u16-at .ensures .0))))) (answered-as (c .refuse2 .ensures) (answer-refused b p hs ns zs n u (s .pre .good) Panics))
+    judged-as (trans-none (sortsIn b p n x 3 m) (sortAt b p n (c .before .before .before .before .before .before .u16-at .result)) (sortsIn b p n x 5 (m - 1)) (first-then b p n x m (args-refer b p hs ns zs n u x m (s .pre)) (positive m (c .before .before .before .before .before .before .before .before .if1 .left)) (c .before .before .before .before .before .before .u16-at .result) (c .before .before .before .before .before .before .u16-at .ensures .0)) (subst (ColumnsIs b p n (sortAt b p n (c .before .before .before .before .before .before .u16-at .result))) (c .before .enum-told .given .1) (c .before .before .before .columns-of .ensures n (s .pre .good .stored) (first-known b p n x m (args-refer b p hs ns zs n u x m (s .pre)) (positive m (c .before .before .before .before .before .before .before .before .if1 .left)) (c .before .before .before .before .before .before .u16-at .result) (c .before .before .before .before .before .before .u16-at .ensures .0))))) (answered-as (c .refuse2 .ensures) (answer-refused b p hs ns zs n u (s .pre .good) Panics))
 
 pub transpose-spec : {M : Type 1} → statement M
 transpose-spec = tie.close (tie.spec refuse-requires returns u16-at-requires columns-of-requires enum-known-left put-backwards-requires relation-requires enum-told refuse-requires-2 same-length same-length-2 same-length-3 same-length-4 same-length-5 same-length-6 returns-2 same-length-7 same-length-8 same-length-9 returns-3)

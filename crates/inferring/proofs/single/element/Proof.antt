@@ -4,10 +4,10 @@ use native.Mathlib.Omega.{arith}
 use borrow.Author.Needs.{needs}
 use mathlib.Core.Path.{ap}
 use mathlib.Core.Option.{some}
+use Rattle.record.specs.Cases.{positive}
 use Rattle.rows.specs.declared.Cause.the-variants.{Panics}
 use Rattle.inferred.specs.Inferred.{selected}
 use Rattle.answers.specs.AnswerLaws.{judged-as, answered-as, answer-known, answer-refused}
-use Rattle.inferring.proofs.WalkLaws.{pos}
 use Rattle.inferring.proofs.SingleLaws.{sorts-none, first-entry, element-in, element-known, element-is, element-none}
 use Rattle.inferring.proofs.single.element.Statement.{statement}
 use Rattle.inferring.proofs.single.element.Tie as tie
@@ -33,7 +33,7 @@ u16-at-requires c κs =
     let s = c .before .before .before .before in
     let a = s .args in
     let m = a .n in
-    let some = pos m (c .if1 .left) in omega (arith, s .pre .within)
+    let some = positive m (c .if1 .left) in omega (arith, s .pre .within)
 
 entry-requires : tie.Need-entry-requires
 entry-requires c κs =
@@ -44,7 +44,7 @@ entry-requires c κs =
     let n = a .count in
     let x = a .args .now in
     let m = a .n in
-    first-entry b p n x m (s .pre) (pos m (c .before .if1 .left)) (c .u16-at .result) (c .u16-at .ensures .0)
+    first-entry b p n x m (s .pre) (positive m (c .before .if1 .left)) (c .u16-at .result) (c .u16-at .ensures .0)
 
 refuse-requires-2 : tie.Need-refuse-requires-2
 refuse-requires-2 c κs = search needs
@@ -60,7 +60,7 @@ returns-2 c =
     let x = a .args .now in
     let m = a .n in
     λ hs ns zs h.
-    judged-as (element-none b p n x m (s .pre) (pos m (c .before .before .before .before .if1 .left)) (c .before .before .before .u16-at .result) (c .before .before .before .u16-at .ensures .0) (c .before .before .entry .result) (c .before .before .entry .ensures) (c .before .if2 .taken)) (answered-as (c .refuse2 .ensures) (answer-refused b p hs ns zs n u (h .good) Panics))
+    judged-as (element-none b p n x m (s .pre) (positive m (c .before .before .before .before .if1 .left)) (c .before .before .before .u16-at .result) (c .before .before .before .u16-at .ensures .0) (c .before .before .entry .result) (c .before .before .entry .ensures) (c .before .if2 .taken)) (answered-as (c .refuse2 .ensures) (answer-refused b p hs ns zs n u (h .good) Panics))
 
 add-u16-at : tie.Need-add-u16-at
 add-u16-at c =
@@ -71,7 +71,7 @@ add-u16-at c =
     let n = a .count in
     let x = a .args .now in
     let m = a .n in
-    omega (arith, element-in b p n x m (s .pre) (pos m (c .before .before .before .if1 .left)) (c .before .before .u16-at .result) (c .before .before .u16-at .ensures .0) (c .before .entry .result) (c .before .entry .ensures) (c .if2 .left), s .good .0)
+    omega (arith, element-in b p n x m (s .pre) (positive m (c .before .before .before .if1 .left)) (c .before .before .u16-at .result) (c .before .before .u16-at .ensures .0) (c .before .entry .result) (c .before .entry .ensures) (c .if2 .left), s .good .0)
 
 u16-at-requires-2 : tie.Need-u16-at-requires-2
 u16-at-requires-2 c κs =
@@ -82,7 +82,7 @@ u16-at-requires-2 c κs =
     let n = a .count in
     let x = a .args .now in
     let m = a .n in
-    element-in b p n x m (s .pre) (pos m (c .before .before .before .if1 .left)) (c .before .before .u16-at .result) (c .before .before .u16-at .ensures .0) (c .before .entry .result) (c .before .entry .ensures) (c .if2 .left)
+    element-in b p n x m (s .pre) (positive m (c .before .before .before .if1 .left)) (c .before .before .u16-at .result) (c .before .before .u16-at .ensures .0) (c .before .entry .result) (c .before .entry .ensures) (c .if2 .left)
 
 found-requires : tie.Need-found-requires
 found-requires c κs = search needs
@@ -101,8 +101,8 @@ returns-3 c =
     let i = c .before .before .if2 .left in
     let v = c .before .u16-at2 .result in
     let z = c .before .u16-at2 .ensures .0 in
-    judged-as (element-is b p n x m (s .pre) (pos m (c .before .before .before .before .before .if1 .left)) (c .before .before .before .before .u16-at .result) (c .before .before .before .before .u16-at .ensures .0) (c .before .before .before .entry .result) (c .before .before .before .entry .ensures) i v z)
-    (answered-as (c .found .ensures) (answer-known b p hs ns zs n u (h .good) v (element-known b p n x m (s .pre) (pos m (c .before .before .before .before .before .if1 .left)) (c .before .before .before .before .u16-at .result) (c .before .before .before .before .u16-at .ensures .0) (c .before .before .before .entry .result) (c .before .before .before .entry .ensures) i v z)))
+    judged-as (element-is b p n x m (s .pre) (positive m (c .before .before .before .before .before .if1 .left)) (c .before .before .before .before .u16-at .result) (c .before .before .before .before .u16-at .ensures .0) (c .before .before .before .entry .result) (c .before .before .before .entry .ensures) i v z)
+    (answered-as (c .found .ensures) (answer-known b p hs ns zs n u (h .good) v (element-known b p n x m (s .pre) (positive m (c .before .before .before .before .before .if1 .left)) (c .before .before .before .before .u16-at .result) (c .before .before .before .before .u16-at .ensures .0) (c .before .before .before .entry .result) (c .before .before .before .entry .ensures) i v z)))
 
 pub element-spec : {M : Type 1} → statement M
 element-spec = tie.close (tie.spec refuse-requires returns u16-at-requires entry-requires refuse-requires-2 returns-2 add-u16-at u16-at-requires-2 found-requires returns-3)

@@ -3,10 +3,10 @@
 use native.Mathlib.Omega.{arith}
 use borrow.Author.Needs.{needs}
 use mathlib.Core.Path.{ap}
+use Rattle.record.specs.Cases.{positive}
 use Rattle.inferred.specs.Inferred.{rareOf}
 use Rattle.answers.specs.AnswerLaws.{judged-as, answered-as, answer-known}
 use Rattle.inferring.specs.Asks.{args-refer}
-use Rattle.inferring.proofs.WalkLaws.{pos}
 use Rattle.inferring.proofs.SingleLaws.{sorts-none, first-known, first-then}
 use Rattle.inferring.proofs.single.rare_list.Statement.{statement}
 use Rattle.inferring.proofs.single.rare_list.Tie as tie
@@ -63,7 +63,7 @@ returns-2 c =
     let u = a .used in
     let x = a .args .now in
     let m = a .n in
-    judged-as (ap rareOf (first-then b p n x m (args-refer b p hs ns zs n u x m (s .pre)) (pos m (c .before .before .if1 .left)) (c .before .u16-at .result) (c .before .u16-at .ensures .0))) (answered-as (c .found .ensures) (answer-known b p hs ns zs n u (s .pre .good) (c .before .u16-at .result) (first-known b p n x m (args-refer b p hs ns zs n u x m (s .pre)) (pos m (c .before .before .if1 .left)) (c .before .u16-at .result) (c .before .u16-at .ensures .0))))
+    judged-as (ap rareOf (first-then b p n x m (args-refer b p hs ns zs n u x m (s .pre)) (positive m (c .before .before .if1 .left)) (c .before .u16-at .result) (c .before .u16-at .ensures .0))) (answered-as (c .found .ensures) (answer-known b p hs ns zs n u (s .pre .good) (c .before .u16-at .result) (first-known b p n x m (args-refer b p hs ns zs n u x m (s .pre)) (positive m (c .before .before .if1 .left)) (c .before .u16-at .result) (c .before .u16-at .ensures .0))))
 
 pub rare-list-spec : {M : Type 1} → statement M
 rare-list-spec = tie.close (tie.spec variable-requires same-length same-length-2 same-length-3 same-length-4 same-length-5 returns u16-at-requires found-requires returns-2)

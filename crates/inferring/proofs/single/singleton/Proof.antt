@@ -3,11 +3,11 @@
 use native.Mathlib.Omega.{arith}
 use borrow.Author.Needs.{needs}
 use mathlib.Core.Path.{ap}
+use Rattle.record.specs.Cases.{positive}
 use Rattle.rows.specs.declared.Cause.the-variants.{Panics}
 use Rattle.inferred.specs.Inferred.{singletonOf}
 use Rattle.answers.specs.AnswerLaws.{judged-as, answered-as, answer-refused}
 use Rattle.inferring.specs.Asks.{args-refer}
-use Rattle.inferring.proofs.WalkLaws.{pos}
 use Rattle.inferring.proofs.SingleLaws.{sorts-none, first-known, first-then}
 use Rattle.inferring.proofs.single.singleton.Statement.{statement}
 use Rattle.inferring.proofs.single.singleton.Tie as tie
@@ -48,7 +48,7 @@ set-of-requires c κs =
     let u = a .used in
     let x = a .args .now in
     let m = a .n in
-    record { good = s .pre .good; known = first-known b p n x m (args-refer b p hs ns zs n u x m (s .pre)) (pos m (c .before .before .before .before .before .before .if1 .left)) (c .before .before .before .before .before .u16-at .result) (c .before .before .before .before .before .u16-at .ensures .0) }
+    record { good = s .pre .good; known = first-known b p n x m (args-refer b p hs ns zs n u x m (s .pre)) (positive m (c .before .before .before .before .before .before .if1 .left)) (c .before .before .before .before .before .u16-at .result) (c .before .before .before .before .before .u16-at .ensures .0) }
 
 same-length : tie.Need-same-length
 same-length c = search needs
@@ -78,7 +78,7 @@ returns-2 c =
     let u = a .used in
     let x = a .args .now in
     let m = a .n in
-    judged-as (ap singletonOf (first-then b p n x m (args-refer b p hs ns zs n u x m (s .pre)) (pos m (c .before .before .before .before .before .before .before .before .before .before .before .before .before .before .before .before .before .if1 .left)) (c .before .before .before .before .before .before .before .before .before .before .before .before .before .before .before .before .u16-at .result) (c .before .before .before .before .before .before .before .before .before .before .before .before .before .before .before .before .u16-at .ensures .0))) (c .before .before .before .before .before .before .before .before .before .before .set-of .ensures)
+    judged-as (ap singletonOf (first-then b p n x m (args-refer b p hs ns zs n u x m (s .pre)) (positive m (c .before .before .before .before .before .before .before .before .before .before .before .before .before .before .before .before .before .if1 .left)) (c .before .before .before .before .before .before .before .before .before .before .before .before .before .before .before .before .u16-at .result) (c .before .before .before .before .before .before .before .before .before .before .before .before .before .before .before .before .u16-at .ensures .0))) (c .before .before .before .before .before .before .before .before .before .before .set-of .ensures)
 
 pub singleton-spec : {M : Type 1} → statement M
 singleton-spec = tie.close (tie.spec refuse-requires returns u16-at-requires set-of-requires same-length same-length-2 same-length-3 same-length-4 same-length-5 returns-2)

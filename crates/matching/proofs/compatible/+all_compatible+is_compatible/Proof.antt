@@ -5,10 +5,11 @@ use borrow.Author.Needs.{needs}
 use Rattle.record.specs.Number.{u16At}
 use Rattle.record.specs.Sort.{size, sizes}
 use Rattle.record.specs.Decode.{sortAt}
+use Rattle.record.specs.Cases.{positive}
 use Rattle.matching.specs.Contract.{sortsAt}
-use Rattle.matching.specs.Entered.{entry-one, entry-refs, entry-body, sizes-more, size-pos}
-use Rattle.store.specs.Walk.{entry-asks}
-use Rattle.matching.proofs.WalkLaws.{some-left, left-body, right-body, both-parts, both-fall, pair-first, pair-rest}
+use Rattle.matching.specs.Entered.{entry-one, entry-refs, entry-body, sizes-more}
+use Rattle.store.specs.Walk.{entry-asks, size-pos}
+use Rattle.matching.proofs.WalkLaws.{left-body, right-body, both-parts, both-fall, pair-first, pair-rest}
 use Rattle.matching.proofs.CompatibleLaws.{fit-none, fit-more, fit-fails, fit-var, fit-par, fit-to-var, fit-to-par, fit-param, fit-node, fit-other}
 use Prim.Native.Nat.{ℕ, _+_, _*_, _<_}
 use borrow.Fn.Kinds.{In}
@@ -94,7 +95,7 @@ all-compatible-u16-at-requires t c κs =
     let t = a .others .now in
     let y = a .to in
     let m = a .left in
-    let some = some-left m (c .if1 .left) in
+    let some = positive m (c .if1 .left) in
     omega (arith, asks .left .within)
 
 all-compatible-u16-at-requires-2 : (t : ℕ) → all-compatible-lts.Need-u16-at-requires-2 (all-compatible-env t) (all-compatible-at t) all-compatible.Post
@@ -110,7 +111,7 @@ all-compatible-u16-at-requires-2 t c κs =
     let t = a .others .now in
     let y = a .to in
     let m = a .left in
-    let some = some-left m (c .before .if1 .left) in
+    let some = positive m (c .before .if1 .left) in
     omega (arith, asks .right .within)
 
 all-compatible-is-compatible-requires : (t : ℕ) → all-compatible-lts.Need-is-compatible-requires (all-compatible-env t) (all-compatible-at t) all-compatible.Post
@@ -126,7 +127,7 @@ all-compatible-is-compatible-requires t c κs =
     let t = a .others .now in
     let y = a .to in
     let m = a .left in
-    let some = some-left m (c .before .before .if1 .left) in
+    let some = positive m (c .before .before .if1 .left) in
     rw (c .before .u16-at .ensures .0, c .u16-at2 .ensures .0) (omega (arith, s .pre .0, sizes-more b p n l x m some, sizes-more b p n t y m some), pair-first b p n l x t y m asks some)
 
 all-compatible-add-all-compatible : (t : ℕ) → all-compatible-lts.Need-add-all-compatible (all-compatible-env t) (all-compatible-at t) all-compatible.Post
@@ -142,7 +143,7 @@ all-compatible-add-all-compatible t c =
     let t = a .others .now in
     let y = a .to in
     let m = a .left in
-    let some = some-left m (c .before .before .before .before .if1 .left) in
+    let some = positive m (c .before .before .before .before .if1 .left) in
     omega (arith, asks .left .within, s .good)
 
 all-compatible-add-all-compatible-2 : (t : ℕ) → all-compatible-lts.Need-add-all-compatible-2 (all-compatible-env t) (all-compatible-at t) all-compatible.Post
@@ -158,7 +159,7 @@ all-compatible-add-all-compatible-2 t c =
     let t = a .others .now in
     let y = a .to in
     let m = a .left in
-    let some = some-left m (c .before .before .before .before .if1 .left) in
+    let some = positive m (c .before .before .before .before .if1 .left) in
     omega (arith, asks .right .within, s .good)
 
 all-compatible-sub-all-compatible : (t : ℕ) → all-compatible-lts.Need-sub-all-compatible (all-compatible-env t) (all-compatible-at t) all-compatible.Post
@@ -174,7 +175,7 @@ all-compatible-sub-all-compatible t c =
     let t = a .others .now in
     let y = a .to in
     let m = a .left in
-    some-left m (c .before .before .before .before .if1 .left)
+    positive m (c .before .before .before .before .if1 .left)
 
 all-compatible-all-compatible-requires : (t : ℕ) → all-compatible-lts.Need-all-compatible-requires (all-compatible-env t) (all-compatible-at t) all-compatible.Post
 all-compatible-all-compatible-requires t c κs =
@@ -189,7 +190,7 @@ all-compatible-all-compatible-requires t c κs =
     let t = a .others .now in
     let y = a .to in
     let m = a .left in
-    let some = some-left m (c .before .before .before .before .if1 .left) in
+    let some = positive m (c .before .before .before .before .if1 .left) in
     (omega (arith, s .pre .0, sizes-more b p n l x m some, sizes-more b p n t y m some, size-pos (sortAt b p n (u16At l x))), pair-rest b p n l x t y m asks some)
 
 all-compatible-returns-2 : (t : ℕ) → all-compatible-lts.Need-returns-2 (all-compatible-env t) (all-compatible-at t) all-compatible.Post
@@ -205,7 +206,7 @@ all-compatible-returns-2 t c =
     let t = a .others .now in
     let y = a .to in
     let m = a .left in
-    let some = some-left m (c .before .before .before .before .before .if1 .left) in
+    let some = positive m (c .before .before .before .before .before .if1 .left) in
     fit-more b p n l x t y m some (c .before .before .before .before .u16-at .result) (c .before .before .before .u16-at2 .result) (c .before .before .before .before .u16-at .ensures .0) (c .before .before .before .u16-at2 .ensures .0) (c .before .before .is-compatible .result) (c .before .before .is-compatible .ensures) (c .before .if2 .taken) (c .all-compatible .result) (c .all-compatible .ensures)
 
 all-compatible-returns-3 : (t : ℕ) → all-compatible-lts.Need-returns-3 (all-compatible-env t) (all-compatible-at t) all-compatible.Post
@@ -221,7 +222,7 @@ all-compatible-returns-3 t c =
     let t = a .others .now in
     let y = a .to in
     let m = a .left in
-    let some = some-left m (c .before .before .before .before .if1 .left) in
+    let some = positive m (c .before .before .before .before .if1 .left) in
     fit-fails b p n l x t y m some (c .before .before .before .u16-at .result) (c .before .before .u16-at2 .result) (c .before .before .before .u16-at .ensures .0) (c .before .before .u16-at2 .ensures .0) (c .before .is-compatible .result) (c .before .is-compatible .ensures) (c .if2 .left)
 
 is-compatible-entry-requires : (t : ℕ) → is-compatible-lts.Need-entry-requires (is-compatible-env t) (is-compatible-at t) is-compatible.Post

@@ -4,9 +4,10 @@ use borrow.Author.Needs.{needs}
 use Rattle.record.specs.Number.{u16At}
 use Rattle.record.specs.Sort.{size, sizes}
 use Rattle.record.specs.Decode.{sortAt}
+use Rattle.record.specs.Cases.{positive}
+use Rattle.store.specs.Walk.{size-pos}
 use Rattle.matching.specs.Contract.{sortsAt}
-use Rattle.matching.specs.Entered.{sizes-more, size-pos}
-use Rattle.matching.proofs.WalkLaws.{some-left}
+use Rattle.matching.specs.Entered.{sizes-more}
 use Rattle.matching.proofs.GeneralLaws.{meet-asks, names-added, under-falls, body-asks, names-taken, through-falls, target-asks, parts-fall, parts-ask, general-holds, general-fails, general-met, general-under, general-through, general-parts, general-none, general-first, general-rest, general-more, general-misfit}
 use Prim.Native.Nat.{ℕ, _+_, _*_, _<_}
 use borrow.Fn.Kinds.{In}
@@ -97,7 +98,7 @@ match-all-with-u16-at-requires t c κs =
     let t = a .targets .now in
     let y = a .to in
     let i = a .left in
-    let some = some-left i (c .if1 .left) in
+    let some = positive i (c .if1 .left) in
     omega (arith, asks .pairs .left .within)
 
 match-all-with-u16-at-requires-2 : (t : ℕ) → match-all-with-lts.Need-u16-at-requires-2 (match-all-with-env t) (match-all-with-at t) match-all-with.Post
@@ -117,7 +118,7 @@ match-all-with-u16-at-requires-2 t c κs =
     let t = a .targets .now in
     let y = a .to in
     let i = a .left in
-    let some = some-left i (c .before .if1 .left) in
+    let some = positive i (c .before .if1 .left) in
     omega (arith, asks .pairs .right .within)
 
 match-all-with-match-with-requires : (t : ℕ) → match-all-with-lts.Need-match-with-requires (match-all-with-env t) (match-all-with-at t) match-all-with.Post
@@ -137,7 +138,7 @@ match-all-with-match-with-requires t c κs =
     let t = a .targets .now in
     let y = a .to in
     let i = a .left in
-    let some = some-left i (c .before .before .before .before .before .if1 .left) in
+    let some = positive i (c .before .before .before .before .before .if1 .left) in
     rw (c .before .before .before .before .u16-at .ensures .0, c .before .before .before .u16-at2 .ensures .0) (omega (arith, s .pre .0, sizes-more b p n l x i some, sizes-more b p n t y i some), general-first b p n prm imgs bnd m l x t y i asks some)
 
 match-all-with-enum-known-first : (t : ℕ) → match-all-with-lts.Need-enum-known-first (match-all-with-env t) (match-all-with-at t) match-all-with.Post
@@ -161,7 +162,7 @@ match-all-with-add-match-all-with t c =
     let t = a .targets .now in
     let y = a .to in
     let i = a .left in
-    let some = some-left i (c .before .before .before .before .before .before .before .before .before .before .before .before .before .before .before .before .before .before .if1 .left) in
+    let some = positive i (c .before .before .before .before .before .before .before .before .before .before .before .before .before .before .before .before .before .before .if1 .left) in
     omega (arith, asks .pairs .left .within, s .good)
 
 match-all-with-add-match-all-with-2 : (t : ℕ) → match-all-with-lts.Need-add-match-all-with-2 (match-all-with-env t) (match-all-with-at t) match-all-with.Post
@@ -181,7 +182,7 @@ match-all-with-add-match-all-with-2 t c =
     let t = a .targets .now in
     let y = a .to in
     let i = a .left in
-    let some = some-left i (c .before .before .before .before .before .before .before .before .before .before .before .before .before .before .before .before .before .before .if1 .left) in
+    let some = positive i (c .before .before .before .before .before .before .before .before .before .before .before .before .before .before .before .before .before .before .if1 .left) in
     omega (arith, asks .pairs .right .within, s .good)
 
 match-all-with-sub-match-all-with : (t : ℕ) → match-all-with-lts.Need-sub-match-all-with (match-all-with-env t) (match-all-with-at t) match-all-with.Post
@@ -201,7 +202,7 @@ match-all-with-sub-match-all-with t c =
     let t = a .targets .now in
     let y = a .to in
     let i = a .left in
-    some-left i (c .before .before .before .before .before .before .before .before .before .before .before .before .before .before .before .before .before .before .if1 .left)
+    positive i (c .before .before .before .before .before .before .before .before .before .before .before .before .before .before .before .before .before .before .if1 .left)
 
 match-all-with-match-all-with-requires : (t : ℕ) → match-all-with-lts.Need-match-all-with-requires (match-all-with-env t) (match-all-with-at t) match-all-with.Post
 match-all-with-match-all-with-requires t c κs =
@@ -220,7 +221,7 @@ match-all-with-match-all-with-requires t c κs =
     let t = a .targets .now in
     let y = a .to in
     let i = a .left in
-    let some = some-left i (c .before .before .before .before .before .before .before .before .before .before .before .before .before .before .before .before .before .before .if1 .left) in
+    let some = positive i (c .before .before .before .before .before .before .before .before .before .before .before .before .before .before .before .before .before .before .if1 .left) in
     let z = c .before .before .before .before .before .before .before .before .before .before .before .before .match-with in
     (omega (arith, s .pre .0, sizes-more b p n l x i some, sizes-more b p n t y i some, size-pos (sortAt b p n (u16At l x))), general-rest b p n prm imgs bnd m l x t y i asks some (c .before .before .before .before .before .before .before .before .before .before .before .before .before .before .before .before .before .u16-at .result) (c .before .before .before .before .before .before .before .before .before .before .before .before .before .before .before .before .u16-at2 .result) (c .before .before .before .before .before .before .before .before .before .before .before .before .before .before .before .before .before .u16-at .ensures .0) (c .before .before .before .before .before .before .before .before .before .before .before .before .before .before .before .before .u16-at2 .ensures .0) (z .last .1 .1 .1 .0) (z .last .1 .1 .1 .1 .0) (z .last .1 .1 .1 .1 .1 .0) (z .result) (z .ensures) (c .before .before .before .before .first .given .0 .0) (c .before .before .before .before .first .given .1))
 
@@ -257,7 +258,7 @@ match-all-with-returns-2 t c =
     let t = a .targets .now in
     let y = a .to in
     let i = a .left in
-    let some = some-left i (c .before .before .before .before .before .before .before .before .before .before .before .before .before .before .before .before .before .before .before .before .before .before .before .before .before .if1 .left) in
+    let some = positive i (c .before .before .before .before .before .before .before .before .before .before .before .before .before .before .before .before .before .before .before .before .before .before .before .before .before .if1 .left) in
     let z = c .before .before .before .before .before .before .before .before .before .before .before .before .before .before .before .before .before .before .before .match-with in
     let w = c .before .before .before .before .before .before .match-all-with in
     general-more b p n prm imgs bnd m l x t y i asks some (c .before .before .before .before .before .before .before .before .before .before .before .before .before .before .before .before .before .before .before .before .before .before .before .before .u16-at .result) (c .before .before .before .before .before .before .before .before .before .before .before .before .before .before .before .before .before .before .before .before .before .before .before .u16-at2 .result) (c .before .before .before .before .before .before .before .before .before .before .before .before .before .before .before .before .before .before .before .before .before .before .before .before .u16-at .ensures .0) (c .before .before .before .before .before .before .before .before .before .before .before .before .before .before .before .before .before .before .before .before .before .before .before .u16-at2 .ensures .0) (z .last .1 .1 .1 .0) (z .last .1 .1 .1 .1 .0) (z .last .1 .1 .1 .1 .1 .0) (z .result) (z .ensures) (c .before .before .before .before .before .before .before .before .before .before .before .first .given .0 .0) (c .before .before .before .before .before .before .before .before .before .before .before .first .given .1) (w .last .1 .1 .1 .0) (w .last .1 .1 .1 .1 .0) (w .last .1 .1 .1 .1 .1 .0) (w .result) (w .ensures)
@@ -291,7 +292,7 @@ match-all-with-returns-3 t c =
     let t = a .targets .now in
     let y = a .to in
     let i = a .left in
-    let some = some-left i (c .before .before .before .before .before .before .before .before .before .before .before .before .before .before .before .if1 .left) in
+    let some = positive i (c .before .before .before .before .before .before .before .before .before .before .before .before .before .before .before .if1 .left) in
     let z = c .before .before .before .before .before .before .before .before .before .match-with in
     general-misfit b p n prm imgs bnd m l x t y i asks some (c .before .before .before .before .before .before .before .before .before .before .before .before .before .before .u16-at .result) (c .before .before .before .before .before .before .before .before .before .before .before .before .before .u16-at2 .result) (c .before .before .before .before .before .before .before .before .before .before .before .before .before .before .u16-at .ensures .0) (c .before .before .before .before .before .before .before .before .before .before .before .before .before .u16-at2 .ensures .0) (z .last .1 .1 .1 .0) (z .last .1 .1 .1 .1 .0) (z .last .1 .1 .1 .1 .1 .0) (z .result) (z .ensures) (c .before .first2 .given .0 .0) (c .before .first2 .given .1)
 

@@ -5,10 +5,10 @@ use borrow.Author.Needs.{needs}
 use Rattle.record.specs.Number.{u16At}
 use Rattle.record.specs.Sort.{size, sizes}
 use Rattle.record.specs.Decode.{sortAt}
+use Rattle.record.specs.Cases.{positive}
 use Rattle.matching.specs.Contract.{sortsAt}
-use Rattle.matching.specs.Entered.{entry-var, entry-size, sizes-more, size-pos}
-use Rattle.store.specs.Walk.{entry-asks}
-use Rattle.matching.proofs.WalkLaws.{some-left}
+use Rattle.matching.specs.Entered.{entry-var, entry-size, sizes-more}
+use Rattle.store.specs.Walk.{entry-asks, size-pos}
 use Rattle.matching.proofs.PlainLaws.{meet-asks, plain-par, parts-match, plain-node, plain-head, plain-none, plain-first, plain-rest, plain-more, plain-fails}
 use Prim.Native.Nat.{ℕ, _+_, _*_, _<_}
 use borrow.Fn.Kinds.{In}
@@ -263,7 +263,7 @@ matches-all-u16-at-requires t c κs =
     let t = a .targets .now in
     let y = a .to in
     let i = a .left in
-    let some = some-left i (c .if1 .left) in
+    let some = positive i (c .if1 .left) in
     omega (arith, asks .pairs .left .within)
 
 matches-all-u16-at-requires-2 : (t : ℕ) → matches-all-lts.Need-u16-at-requires-2 (matches-all-env t) (matches-all-at t) matches-all.Post
@@ -283,7 +283,7 @@ matches-all-u16-at-requires-2 t c κs =
     let t = a .targets .now in
     let y = a .to in
     let i = a .left in
-    let some = some-left i (c .before .if1 .left) in
+    let some = positive i (c .before .if1 .left) in
     omega (arith, asks .pairs .right .within)
 
 matches-all-matches-requires : (t : ℕ) → matches-all-lts.Need-matches-requires (matches-all-env t) (matches-all-at t) matches-all.Post
@@ -303,7 +303,7 @@ matches-all-matches-requires t c κs =
     let t = a .targets .now in
     let y = a .to in
     let i = a .left in
-    let some = some-left i (c .before .before .before .before .if1 .left) in
+    let some = positive i (c .before .before .before .before .if1 .left) in
     rw (c .before .before .before .u16-at .ensures .0, c .before .before .u16-at2 .ensures .0) (omega (arith, s .pre .0, sizes-more b p n l x i some), plain-first b p n prm imgs bnd m l x t y i asks some)
 
 matches-all-enum-known-first : (t : ℕ) → matches-all-lts.Need-enum-known-first (matches-all-env t) (matches-all-at t) matches-all.Post
@@ -327,7 +327,7 @@ matches-all-add-matches-all t c =
     let t = a .targets .now in
     let y = a .to in
     let i = a .left in
-    let some = some-left i (c .before .before .before .before .before .before .before .before .before .before .before .before .before .before .if1 .left) in
+    let some = positive i (c .before .before .before .before .before .before .before .before .before .before .before .before .before .before .if1 .left) in
     omega (arith, asks .pairs .left .within, s .good)
 
 matches-all-add-matches-all-2 : (t : ℕ) → matches-all-lts.Need-add-matches-all-2 (matches-all-env t) (matches-all-at t) matches-all.Post
@@ -347,7 +347,7 @@ matches-all-add-matches-all-2 t c =
     let t = a .targets .now in
     let y = a .to in
     let i = a .left in
-    let some = some-left i (c .before .before .before .before .before .before .before .before .before .before .before .before .before .before .if1 .left) in
+    let some = positive i (c .before .before .before .before .before .before .before .before .before .before .before .before .before .before .if1 .left) in
     omega (arith, asks .pairs .right .within, s .good)
 
 matches-all-sub-matches-all : (t : ℕ) → matches-all-lts.Need-sub-matches-all (matches-all-env t) (matches-all-at t) matches-all.Post
@@ -367,7 +367,7 @@ matches-all-sub-matches-all t c =
     let t = a .targets .now in
     let y = a .to in
     let i = a .left in
-    let some = some-left i (c .before .before .before .before .before .before .before .before .before .before .before .before .before .before .if1 .left) in
+    let some = positive i (c .before .before .before .before .before .before .before .before .before .before .before .before .before .before .if1 .left) in
     omega (arith, some)
 
 matches-all-matches-all-requires : (t : ℕ) → matches-all-lts.Need-matches-all-requires (matches-all-env t) (matches-all-at t) matches-all.Post
@@ -387,7 +387,7 @@ matches-all-matches-all-requires t c κs =
     let t = a .targets .now in
     let y = a .to in
     let i = a .left in
-    let some = some-left i (c .before .before .before .before .before .before .before .before .before .before .before .before .before .before .if1 .left) in
+    let some = positive i (c .before .before .before .before .before .before .before .before .before .before .before .before .before .before .if1 .left) in
     let z = c .before .before .before .before .before .before .before .before .before .matches in
     (omega (arith, s .pre .0, sizes-more b p n l x i some, size-pos (sortAt b p n (u16At l x))), plain-rest b p n prm imgs bnd m l x t y i asks some (c .before .before .before .before .before .before .before .before .before .before .before .before .before .u16-at .result) (c .before .before .before .before .before .before .before .before .before .before .before .before .u16-at2 .result) (c .before .before .before .before .before .before .before .before .before .before .before .before .before .u16-at .ensures .0) (c .before .before .before .before .before .before .before .before .before .before .before .before .u16-at2 .ensures .0) (z .last .1 .1 .1 .1 .0) (z .last .1 .1 .1 .1 .1 .0) (z .result) (z .ensures) (c .before .before .before .first .given .0 .0) (c .before .before .before .first .given .1))
 
@@ -420,7 +420,7 @@ matches-all-returns-2 t c =
     let t = a .targets .now in
     let y = a .to in
     let i = a .left in
-    let some = some-left i (c .before .before .before .before .before .before .before .before .before .before .before .before .before .before .before .before .before .before .before .if1 .left) in
+    let some = positive i (c .before .before .before .before .before .before .before .before .before .before .before .before .before .before .before .before .before .before .before .if1 .left) in
     let z = c .before .before .before .before .before .before .before .before .before .before .before .before .before .before .matches in
     let w = c .before .before .before .before .matches-all in
     plain-more b p n prm imgs bnd m l x t y i asks some (c .before .before .before .before .before .before .before .before .before .before .before .before .before .before .before .before .before .before .u16-at .result) (c .before .before .before .before .before .before .before .before .before .before .before .before .before .before .before .before .before .u16-at2 .result) (c .before .before .before .before .before .before .before .before .before .before .before .before .before .before .before .before .before .before .u16-at .ensures .0) (c .before .before .before .before .before .before .before .before .before .before .before .before .before .before .before .before .before .u16-at2 .ensures .0) (z .last .1 .1 .1 .1 .0) (z .last .1 .1 .1 .1 .1 .0) (z .result) (z .ensures) (c .before .before .before .before .before .before .before .before .first .given .0 .0) (c .before .before .before .before .before .before .before .before .first .given .1) (w .last .1 .1 .1 .1 .0) (w .last .1 .1 .1 .1 .1 .0) (w .result) (w .ensures)
@@ -450,7 +450,7 @@ matches-all-returns-3 t c =
     let t = a .targets .now in
     let y = a .to in
     let i = a .left in
-    let some = some-left i (c .before .before .before .before .before .before .before .before .before .before .before .before .if1 .left) in
+    let some = positive i (c .before .before .before .before .before .before .before .before .before .before .before .before .if1 .left) in
     let z = c .before .before .before .before .before .before .before .matches in
     plain-fails b p n prm imgs bnd m l x t y i asks some (c .before .before .before .before .before .before .before .before .before .before .before .u16-at .result) (c .before .before .before .before .before .before .before .before .before .before .u16-at2 .result) (c .before .before .before .before .before .before .before .before .before .before .before .u16-at .ensures .0) (c .before .before .before .before .before .before .before .before .before .before .u16-at2 .ensures .0) (z .last .1 .1 .1 .1 .0) (z .last .1 .1 .1 .1 .1 .0) (z .result) (z .ensures) (c .before .first2 .given .0 .0) (c .before .first2 .given .1)
 

@@ -3,10 +3,11 @@ use native.Mathlib.Omega.{arith}
 use Rattle.record.specs.Number.{u16At}
 use Rattle.record.specs.Sort.{size, sizes}
 use Rattle.record.specs.Decode.{sortAt}
+use Rattle.record.specs.Cases.{positive}
 use Rattle.matching.specs.Contract.{sortsAt}
-use Rattle.matching.specs.Entered.{entry-size, sizes-more, size-pos}
-use Rattle.store.specs.Walk.{entry-asks}
-use Rattle.matching.proofs.WalkLaws.{some-left, parts-ask, first-asks, rest-asks}
+use Rattle.matching.specs.Entered.{entry-size, sizes-more}
+use Rattle.store.specs.Walk.{entry-asks, size-pos}
+use Rattle.matching.proofs.WalkLaws.{parts-ask, first-asks, rest-asks}
 use Rattle.matching.proofs.PremiseLaws.{known-none, known-more, known-fails, known-var, known-par, known-param, known-node}
 use Prim.Native.Nat.{ℕ, _+_, _*_, _<_}
 use borrow.Fn.Kinds.{In}
@@ -72,7 +73,7 @@ all-known-u16-at-requires t c κs =
     let l = a .list .now in
     let x = a .at in
     let m = a .left in
-    let some = some-left m (c .if1 .left) in
+    let some = positive m (c .if1 .left) in
     omega (arith, asks .refs .within)
 
 all-known-is-known-requires : (t : ℕ) → all-known-lts.Need-is-known-requires (all-known-env t) (all-known-at t) all-known.Post
@@ -86,7 +87,7 @@ all-known-is-known-requires t c κs =
     let l = a .list .now in
     let x = a .at in
     let m = a .left in
-    let some = some-left m (c .before .if1 .left) in
+    let some = positive m (c .before .if1 .left) in
     rw (c .u16-at .ensures .0) (omega (arith, s .pre .0, sizes-more b p n l x m some), first-asks b p n l x m (asks) some)
 
 all-known-add-all-known : (t : ℕ) → all-known-lts.Need-add-all-known (all-known-env t) (all-known-at t) all-known.Post
@@ -100,7 +101,7 @@ all-known-add-all-known t c =
     let l = a .list .now in
     let x = a .at in
     let m = a .left in
-    let some = some-left m (c .before .before .before .if1 .left) in
+    let some = positive m (c .before .before .before .if1 .left) in
     omega (arith, asks .refs .within, s .good)
 
 all-known-sub-all-known : (t : ℕ) → all-known-lts.Need-sub-all-known (all-known-env t) (all-known-at t) all-known.Post
@@ -114,7 +115,7 @@ all-known-sub-all-known t c =
     let l = a .list .now in
     let x = a .at in
     let m = a .left in
-    some-left m (c .before .before .before .if1 .left)
+    positive m (c .before .before .before .if1 .left)
 
 all-known-all-known-requires : (t : ℕ) → all-known-lts.Need-all-known-requires (all-known-env t) (all-known-at t) all-known.Post
 all-known-all-known-requires t c κs =
@@ -127,7 +128,7 @@ all-known-all-known-requires t c κs =
     let l = a .list .now in
     let x = a .at in
     let m = a .left in
-    let some = some-left m (c .before .before .before .if1 .left) in
+    let some = positive m (c .before .before .before .if1 .left) in
     (omega (arith, s .pre .0, sizes-more b p n l x m some, size-pos (sortAt b p n (u16At l x))), rest-asks b p n l x m (asks) some)
 
 all-known-returns-2 : (t : ℕ) → all-known-lts.Need-returns-2 (all-known-env t) (all-known-at t) all-known.Post
@@ -141,7 +142,7 @@ all-known-returns-2 t c =
     let l = a .list .now in
     let x = a .at in
     let m = a .left in
-    let some = some-left m (c .before .before .before .before .if1 .left) in
+    let some = positive m (c .before .before .before .before .if1 .left) in
     known-more b p n l x m some (c .before .before .before .u16-at .result) (c .before .before .before .u16-at .ensures .0) (c .before .before .is-known .result) (c .before .before .is-known .ensures) (c .before .if2 .taken) (c .all-known .result) (c .all-known .ensures)
 
 all-known-returns-3 : (t : ℕ) → all-known-lts.Need-returns-3 (all-known-env t) (all-known-at t) all-known.Post
@@ -155,7 +156,7 @@ all-known-returns-3 t c =
     let l = a .list .now in
     let x = a .at in
     let m = a .left in
-    let some = some-left m (c .before .before .before .if1 .left) in
+    let some = positive m (c .before .before .before .if1 .left) in
     known-fails b p n l x m some (c .before .before .u16-at .result) (c .before .before .u16-at .ensures .0) (c .before .is-known .result) (c .before .is-known .ensures) (c .if2 .left)
 
 is-known-entry-requires : (t : ℕ) → is-known-lts.Need-entry-requires (is-known-env t) (is-known-at t) is-known.Post

@@ -4,10 +4,11 @@ use borrow.Author.Needs.{needs}
 use Rattle.record.specs.Number.{u16At}
 use Rattle.record.specs.Sort.{size, sizes}
 use Rattle.record.specs.Decode.{sortAt}
+use Rattle.record.specs.Cases.{positive}
 use Rattle.matching.specs.Contract.{sortsAt}
-use Rattle.matching.specs.Entered.{entry-size, sizes-more, size-pos}
-use Rattle.store.specs.Walk.{entry-asks}
-use Rattle.matching.proofs.WalkLaws.{some-left, parts-ask, first-asks, rest-asks}
+use Rattle.matching.specs.Entered.{entry-size, sizes-more}
+use Rattle.store.specs.Walk.{entry-asks, size-pos}
+use Rattle.matching.proofs.WalkLaws.{parts-ask, first-asks, rest-asks}
 use Rattle.matching.proofs.PremiseLaws.{proper-none, proper-more, proper-fails, proper-var, proper-par, proper-node, proper-other}
 use Prim.Native.Nat.{ℕ, _+_, _*_, _<_}
 use borrow.Fn.Kinds.{In}
@@ -75,7 +76,7 @@ all-proper-u16-at-requires t c κs =
     let l = a .list .now in
     let x = a .at in
     let m = a .left in
-    let some = some-left m (c .if1 .left) in
+    let some = positive m (c .if1 .left) in
     omega (arith, asks .refs .within)
 
 all-proper-is-proper-requires : (t : ℕ) → all-proper-lts.Need-is-proper-requires (all-proper-env t) (all-proper-at t) all-proper.Post
@@ -89,7 +90,7 @@ all-proper-is-proper-requires t c κs =
     let l = a .list .now in
     let x = a .at in
     let m = a .left in
-    let some = some-left m (c .before .if1 .left) in
+    let some = positive m (c .before .if1 .left) in
     rw (c .u16-at .ensures .0) (omega (arith, s .pre .0, sizes-more b p n l x m some), first-asks b p n l x m (asks) some)
 
 all-proper-add-all-proper : (t : ℕ) → all-proper-lts.Need-add-all-proper (all-proper-env t) (all-proper-at t) all-proper.Post
@@ -103,7 +104,7 @@ all-proper-add-all-proper t c =
     let l = a .list .now in
     let x = a .at in
     let m = a .left in
-    let some = some-left m (c .before .before .before .if1 .left) in
+    let some = positive m (c .before .before .before .if1 .left) in
     omega (arith, asks .refs .within, s .good)
 
 all-proper-sub-all-proper : (t : ℕ) → all-proper-lts.Need-sub-all-proper (all-proper-env t) (all-proper-at t) all-proper.Post
@@ -117,7 +118,7 @@ all-proper-sub-all-proper t c =
     let l = a .list .now in
     let x = a .at in
     let m = a .left in
-    some-left m (c .before .before .before .if1 .left)
+    positive m (c .before .before .before .if1 .left)
 
 all-proper-all-proper-requires : (t : ℕ) → all-proper-lts.Need-all-proper-requires (all-proper-env t) (all-proper-at t) all-proper.Post
 all-proper-all-proper-requires t c κs =
@@ -130,7 +131,7 @@ all-proper-all-proper-requires t c κs =
     let l = a .list .now in
     let x = a .at in
     let m = a .left in
-    let some = some-left m (c .before .before .before .if1 .left) in
+    let some = positive m (c .before .before .before .if1 .left) in
     (omega (arith, s .pre .0, sizes-more b p n l x m some, size-pos (sortAt b p n (u16At l x))), rest-asks b p n l x m (asks) some)
 
 all-proper-returns-2 : (t : ℕ) → all-proper-lts.Need-returns-2 (all-proper-env t) (all-proper-at t) all-proper.Post
@@ -144,7 +145,7 @@ all-proper-returns-2 t c =
     let l = a .list .now in
     let x = a .at in
     let m = a .left in
-    let some = some-left m (c .before .before .before .before .if1 .left) in
+    let some = positive m (c .before .before .before .before .if1 .left) in
     proper-more b p n l x m some (c .before .before .before .u16-at .result) (c .before .before .before .u16-at .ensures .0) (c .before .before .is-proper .result) (c .before .before .is-proper .ensures) (c .before .if2 .taken) (c .all-proper .result) (c .all-proper .ensures)
 
 all-proper-returns-3 : (t : ℕ) → all-proper-lts.Need-returns-3 (all-proper-env t) (all-proper-at t) all-proper.Post
@@ -158,7 +159,7 @@ all-proper-returns-3 t c =
     let l = a .list .now in
     let x = a .at in
     let m = a .left in
-    let some = some-left m (c .before .before .before .if1 .left) in
+    let some = positive m (c .before .before .before .if1 .left) in
     proper-fails b p n l x m some (c .before .before .u16-at .result) (c .before .before .u16-at .ensures .0) (c .before .is-proper .result) (c .before .is-proper .ensures) (c .if2 .left)
 
 is-proper-entry-requires : (t : ℕ) → is-proper-lts.Need-entry-requires (is-proper-env t) (is-proper-at t) is-proper.Post

@@ -3,10 +3,11 @@ use native.Mathlib.Omega.{arith}
 use Rattle.record.specs.Number.{u16At}
 use Rattle.record.specs.Sort.{size, sizes}
 use Rattle.record.specs.Decode.{sortAt}
+use Rattle.record.specs.Cases.{positive}
 use Rattle.matching.specs.Contract.{sortsAt}
-use Rattle.matching.specs.Entered.{entry-size, sizes-more, size-pos, entry-name, entry-names}
-use Rattle.store.specs.Walk.{entry-asks}
-use Rattle.matching.proofs.WalkLaws.{some-left, parts-ask, first-asks, rest-asks}
+use Rattle.matching.specs.Entered.{entry-size, sizes-more, entry-name, entry-names}
+use Rattle.store.specs.Walk.{entry-asks, size-pos}
+use Rattle.matching.proofs.WalkLaws.{parts-ask, first-asks, rest-asks}
 use Rattle.matching.proofs.PremiseLaws.{unlisted-none, unlisted-more, unlisted-fails, unlisted-var, unlisted-node, unlisted-other}
 use Prim.Native.Nat.{ℕ, _+_, _*_, _<_}
 use borrow.Fn.Kinds.{In}
@@ -81,7 +82,7 @@ all-unlisted-u16-at-requires t c κs =
     let x = a .at in
     let m = a .left in
     let prm = a .params .now in
-    let some = some-left m (c .if1 .left) in
+    let some = positive m (c .if1 .left) in
     omega (arith, asks .list .refs .within)
 
 all-unlisted-is-unlisted-requires : (t : ℕ) → all-unlisted-lts.Need-is-unlisted-requires (all-unlisted-env t) (all-unlisted-at t) all-unlisted.Post
@@ -96,7 +97,7 @@ all-unlisted-is-unlisted-requires t c κs =
     let x = a .at in
     let m = a .left in
     let prm = a .params .now in
-    let some = some-left m (c .before .if1 .left) in
+    let some = positive m (c .before .if1 .left) in
     rw (c .u16-at .ensures .0) (omega (arith, s .pre .0, sizes-more b p n l x m some), record { one = first-asks b p n l x m (asks .list) some; table = asks .table })
 
 all-unlisted-add-all-unlisted : (t : ℕ) → all-unlisted-lts.Need-add-all-unlisted (all-unlisted-env t) (all-unlisted-at t) all-unlisted.Post
@@ -111,7 +112,7 @@ all-unlisted-add-all-unlisted t c =
     let x = a .at in
     let m = a .left in
     let prm = a .params .now in
-    let some = some-left m (c .before .before .before .if1 .left) in
+    let some = positive m (c .before .before .before .if1 .left) in
     omega (arith, asks .list .refs .within, s .good)
 
 all-unlisted-sub-all-unlisted : (t : ℕ) → all-unlisted-lts.Need-sub-all-unlisted (all-unlisted-env t) (all-unlisted-at t) all-unlisted.Post
@@ -126,7 +127,7 @@ all-unlisted-sub-all-unlisted t c =
     let x = a .at in
     let m = a .left in
     let prm = a .params .now in
-    some-left m (c .before .before .before .if1 .left)
+    positive m (c .before .before .before .if1 .left)
 
 all-unlisted-all-unlisted-requires : (t : ℕ) → all-unlisted-lts.Need-all-unlisted-requires (all-unlisted-env t) (all-unlisted-at t) all-unlisted.Post
 all-unlisted-all-unlisted-requires t c κs =
@@ -140,7 +141,7 @@ all-unlisted-all-unlisted-requires t c κs =
     let x = a .at in
     let m = a .left in
     let prm = a .params .now in
-    let some = some-left m (c .before .before .before .if1 .left) in
+    let some = positive m (c .before .before .before .if1 .left) in
     (omega (arith, s .pre .0, sizes-more b p n l x m some, size-pos (sortAt b p n (u16At l x))), record { list = rest-asks b p n l x m (asks .list) some; table = asks .table })
 
 all-unlisted-returns-2 : (t : ℕ) → all-unlisted-lts.Need-returns-2 (all-unlisted-env t) (all-unlisted-at t) all-unlisted.Post
@@ -155,7 +156,7 @@ all-unlisted-returns-2 t c =
     let x = a .at in
     let m = a .left in
     let prm = a .params .now in
-    let some = some-left m (c .before .before .before .before .if1 .left) in
+    let some = positive m (c .before .before .before .before .if1 .left) in
     unlisted-more b p n l x m some (c .before .before .before .u16-at .result) (c .before .before .before .u16-at .ensures .0) (c .before .before .is-unlisted .result) prm (c .before .before .is-unlisted .ensures) (c .before .if2 .taken) (c .all-unlisted .result) (c .all-unlisted .ensures)
 
 all-unlisted-returns-3 : (t : ℕ) → all-unlisted-lts.Need-returns-3 (all-unlisted-env t) (all-unlisted-at t) all-unlisted.Post
@@ -170,7 +171,7 @@ all-unlisted-returns-3 t c =
     let x = a .at in
     let m = a .left in
     let prm = a .params .now in
-    let some = some-left m (c .before .before .before .if1 .left) in
+    let some = positive m (c .before .before .before .if1 .left) in
     unlisted-fails b p n l x m some (c .before .before .u16-at .result) (c .before .before .u16-at .ensures .0) (c .before .is-unlisted .result) prm (c .before .is-unlisted .ensures) (c .if2 .left)
 
 is-unlisted-entry-requires : (t : ℕ) → is-unlisted-lts.Need-entry-requires (is-unlisted-env t) (is-unlisted-at t) is-unlisted.Post
