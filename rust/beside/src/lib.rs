@@ -2,12 +2,14 @@
 //!
 //! - [`make`]: random sheets whose terms mostly fit and whose patterns mostly match, and damaged copies of sheets;
 //! - [`random`]: the numbers behind them;
-//! - [`record`]: random sheets written with what they must give.
+//! - [`record`]: random sheets written with what they must give;
+//! - [`guarded`]: small sheets with guards round the buffers.
 //!
 //! [`Trial::sheet`] compares on one sheet. With the program's buffers and with others, short ones among them, the library's number and its
 //! four buffers, which come dirty, must be the model's over their whole length. Of an accepted sheet the inferred rows and the answers must
 //! be carcara's, and the wrapper's printout the model's.
 
+pub mod guarded;
 pub mod make;
 pub mod random;
 pub mod record;
