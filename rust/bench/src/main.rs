@@ -148,22 +148,26 @@ fn measure_cases(runs: usize) {
 /// Measures how the families grow.
 fn measure_growth(runs: usize) {
     const SIZES: [usize; 5] = [256, 512, 1_024, 2_048, 4_096];
-    println!(
-        "Medians of {runs} runs in µs: library / carcara's pool. Growth: sixteen times the terms take so many times as long.\n"
-    );
+    println!("Library / carcara's pool in µs: medians of {runs} runs, and the least times in brackets.");
+    println!("Growth: so many times as long take 4,096 terms as 256, by the least times.\n");
     println!("| family | 256 | 512 | 1,024 | 2,048 | 4,096 | growth | ns a term at 4,096 |");
     println!("|---|---|---|---|---|---|---|---|");
     for (name, family) in FAMILIES {
-        let medians = SIZES.map(|terms| {
+        let spreads = SIZES.map(|terms| {
             let case = Case::new(name, family(terms, 1));
             compared(&case);
             let (one, other) = in_turn(runs, &mut *library(&case), &mut *pool(&case));
-            (one.median, other.median)
+            [one, other]
         });
-        let cells = medians.map(|(one, other)| format!("{} / {}", time(one), time(other))).join(" | ");
-        let ((one, other), (first, second)) = (medians[4], medians[0]);
-        let growth = format!("{:.1} / {:.1}", one / first, other / second);
-        let each = [one, other].map(|median| format!("{:.0}", median * 1e3 / 4_096.0)).join(" / ");
+        let both = |of: &dyn Fn(usize) -> String| format!("{} / {}", of(0), of(1));
+        let cell = |spread: &[Spread; 2]| {
+            let [medians, least] = [|spread: &Spread| spread.median, |spread: &Spread| spread.least]
+                .map(|of| both(&|side| time(of(&spread[side]))));
+            format!("{medians} ({least})")
+        };
+        let cells = spreads.each_ref().map(cell).join(" | ");
+        let growth = both(&|side| format!("{:.1}", spreads[4][side].least / spreads[0][side].least));
+        let each = both(&|side| format!("{:.0}", spreads[4][side].median * 1e3 / 4_096.0));
         println!("| {name} | {cells} | {growth} | {each} |");
     }
 }

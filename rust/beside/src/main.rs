@@ -16,7 +16,9 @@ use beside::{Difference, Trial, make};
 use std::process::ExitCode;
 
 /// How the program is called.
-const USAGE: &str = "beside random SHEETS SEED [OTHERS] | beside sweep | beside sheet HEX | beside record SHEETS SEED FILE LENT LENT_FILE";
+const USAGE: &str = "\
+beside random SHEETS SEED [OTHERS] | beside sweep | beside sheet HEX | beside guarded SHEETS SEED
+beside record SHEETS SEED FILE LENT LENT_FILE";
 
 fn main() -> ExitCode {
     let arguments: Vec<String> = std::env::args().skip(1).collect();
