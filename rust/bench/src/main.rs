@@ -1,7 +1,7 @@
 //! Measures the proved library beside carcara's pool, on the same sheets.
 //!
 //! - `bench all [RUNS]`: all cases, and how the families grow from 256 to 4,096 terms; RUNS of each (25, if not said);
-//! - `bench cases [RUNS]`, `bench growth [RUNS]`: one of the two;
+//! - `bench cases [RUNS [TEXT]]`, `bench growth [RUNS]`: one of the two; with TEXT the cases in whose name it stands;
 //! - `bench once CASE library|pool [TIMES]`: one case, one side, so many times, without a word; for a profiler;
 //! - `bench list`: the cases.
 //!
@@ -69,6 +69,7 @@ fn cases() -> Vec<Case> {
         ("worst: 2,000 heads match and give a chain of 1,000", special::great_chain()),
         ("worst: 4,000 Bools, 1,900 sorts in one bucket", special::collisions(1_900, 4_000)),
         ("worst: 1 Bool, 2,047 sorts in one bucket", special::collisions(2_047, 1)),
+        ("worst: 20 heads give 4,033 nodes, 2,000 sorts in one bucket", special::great_collisions(20)),
         ("an empty sheet", vec![0; 6]),
     ] {
         cases.push(Case::new(name, sheet));
@@ -128,14 +129,14 @@ fn shown(spread: &Spread) -> String {
     format!("{median} ({least}; {first} to {third})")
 }
 
-/// Measures all cases.
-fn measure_cases(runs: usize) {
+/// Measures the cases in whose name a text stands.
+fn measure_cases(runs: usize, text: &str) {
     println!(
         "Times in µs: median (least; first to third quartile) of {runs} runs. Ratio: library by pool, of medians.\n"
     );
     println!("| case | terms | with a checked sort | bytes | library, both rows | carcara's pool, inference | ratio |");
     println!("|---|---|---|---|---|---|---|");
-    for case in cases() {
+    for case in cases().into_iter().filter(|case| case.name.contains(text)) {
         let (terms, checked) = compared(&case);
         let (one, other) = in_turn(runs, &mut *library(&case), &mut *pool(&case));
         let bytes: usize = case.sheets.iter().map(Vec::len).sum();
@@ -172,9 +173,15 @@ fn measure_growth(runs: usize) {
     }
 }
 
+/// A case that takes too long for many runs; `once` knows it.
+fn long_case() -> Case {
+    Case::new("worst: 2,000 heads give 4,033 nodes, 2,000 sorts in one bucket", special::great_collisions(2_000))
+}
+
 /// Runs one side of a case so many times.
 fn once(name: &str, side: &str, times: usize) -> Option<()> {
-    let cases = cases();
+    let mut cases = cases();
+    cases.push(long_case());
     let case = cases.iter().find(|case| case.name == name)?;
     let mut work = match side {
         "library" => library(case),
@@ -194,13 +201,13 @@ fn main() -> ExitCode {
     let done = oracle::on_stack(|| {
         match text(0) {
             "all" => {
-                measure_cases(number(1, 25));
+                measure_cases(number(1, 25), "");
                 println!();
                 measure_growth(number(1, 25));
             }
-            "cases" => measure_cases(number(1, 25)),
+            "cases" => measure_cases(number(1, 25), text(2)),
             "growth" => measure_growth(number(1, 25)),
-            "list" => cases().iter().for_each(|case| println!("{}", case.name)),
+            "list" => cases().iter().chain([&long_case()]).for_each(|case| println!("{}", case.name)),
             "once" => return once(text(1), text(2), number(3, 1)),
             _ => return None,
         }
@@ -209,7 +216,9 @@ fn main() -> ExitCode {
     match done {
         Some(()) => ExitCode::SUCCESS,
         None => {
-            eprintln!("bench all|cases|growth [RUNS] | bench list | bench once CASE library|pool [TIMES]");
+            eprintln!(
+                "bench all|growth [RUNS] | bench cases [RUNS [TEXT]] | bench list | bench once CASE library|pool [TIMES]"
+            );
             ExitCode::FAILURE
         }
     }

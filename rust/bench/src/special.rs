@@ -101,11 +101,16 @@ fn bundle(make: &mut Make, leaf: SortId, count: usize) -> SortId {
 }
 
 /// 2,000 variables of a sort, each an argument of a parametric head whose parameter and result sorts are given.
-fn applied(mut make: Make, parameter: SortId, result: SortId, argument: SortId) -> Vec<u8> {
+fn applied(make: Make, parameter: SortId, result: SortId, argument: SortId) -> Vec<u8> {
+    applied_to(2_000, make, parameter, result, argument)
+}
+
+/// The same with so many variables.
+fn applied_to(count: usize, mut make: Make, parameter: SortId, result: SortId, argument: SortId) -> Vec<u8> {
     let function = make.sort(SortRecord::Function(&[parameter, result]));
     let sort = make.sort(SortRecord::Par(&[PARAMETER], function));
     let head = make.var(sort);
-    for _ in 0..2_000 {
+    for _ in 0..count {
         let argument = make.var(argument);
         make.term(TermRecord::App(head, &[argument]));
     }
@@ -172,21 +177,28 @@ fn bucket(record: &[u8]) -> usize {
     record.iter().fold(0, |hash, byte| (hash * 31 + usize::from(*byte)) % 1_024)
 }
 
+/// The record of a declared sort over one other.
+fn atom(name: u16, part: u16) -> [u8; 7] {
+    let ([low, high], [part_low, part_high]) = (name.to_le_bytes(), part.to_le_bytes());
+    [19, 1, low, high, 1, part_low, part_high]
+}
+
+/// Adds declared sorts over one that is there, all in a bucket, until there are so many sorts; `but` has this record already.
+fn crowd(make: &mut Make, wanted: usize, but: Option<(u16, u16)>, sorts: usize) {
+    let mut meeting = (0..64_u16)
+        .flat_map(|part| (1..=u16::MAX).map(move |name| (name, part)))
+        .filter(|found| bucket(&atom(found.0, found.1)) == wanted && Some(*found) != but);
+    while make.sheet.sorts() < sorts {
+        let (name, part) = meeting.next().expect("there are 4,096");
+        make.sort(SortRecord::Atom(Name::new(name), &[SortId::new(part)]));
+    }
+}
+
 /// Terms of sort Bool, before which so many other sorts stand in the bucket of Bool.
 pub fn collisions(sorts: usize, terms: usize) -> Vec<u8> {
     let mut make = Make::new(terms, SEED);
     let bool = make.sort(SortRecord::Bool);
-    let wanted = bucket(&[1, 3]);
-    // Declared sorts over one that is there, whose names are such that their records meet Bool's.
-    let mut meeting =
-        (0..64_u16).flat_map(|part| (1..=u16::MAX).map(move |name| (part, name))).filter(|(part, name)| {
-            let ([low, high], [part_low, part_high]) = (name.to_le_bytes(), part.to_le_bytes());
-            bucket(&[19, 1, low, high, 1, part_low, part_high]) == wanted
-        });
-    while make.sheet.sorts() <= sorts {
-        let (part, name) = meeting.next().expect("there are 4,096");
-        make.sort(SortRecord::Atom(Name::new(name), &[SortId::new(part)]));
-    }
+    crowd(&mut make, bucket(&[1, 3]), None, sorts + 1);
     let mut said = vec![make.var(bool)];
     while make.sheet.terms() < terms {
         let arguments = [*make.random.of(&said), *make.random.of(&said)];
@@ -194,4 +206,19 @@ pub fn collisions(sorts: usize, terms: usize) -> Vec<u8> {
         said.push(make.term(TermRecord::Op(operator, &arguments)));
     }
     make.sheet.finish()
+}
+
+/// So many parametric heads' applications whose result is a tree of 4,033 nodes, 1,984 of them a sort before which 2,000 others stand in its
+/// bucket.
+pub fn great_collisions(count: usize) -> Vec<u8> {
+    const MARK: u16 = 7;
+    let mut make = Make::new(0, SEED);
+    let int = make.sort(SortRecord::Int);
+    make.sort(SortRecord::Atom(Name::new(MARK), &[int]));
+    crowd(&mut make, bucket(&atom(MARK, int.number())), Some((MARK, int.number())), 2_002);
+    let variable = make.sort(SortRecord::Var(PARAMETER));
+    let marked = make.sort(SortRecord::Atom(Name::new(MARK), &[variable]));
+    let tuple = make.sort(SortRecord::Tuple(&[marked; 31]));
+    let result = make.sort(SortRecord::Tuple(&[tuple; 64]));
+    applied_to(count, make, variable, result, int)
 }

@@ -1,7 +1,7 @@
 //! Random sheets of the comparison, written with what they must give.
 //!
 //! Expected is what the model says, never what the library says. Inferred rows and answers are written only where carcara says the same.
-//! (What the library says steers the making of half of the sheets, as [`make`](crate::make) tells; the others come without it.)
+//! Two generators take turns: what the library says steers the making in [`make`](crate::make), and that of `compare` does without it.
 
 use crate::random::Random;
 use crate::{Difference, lengths, make};

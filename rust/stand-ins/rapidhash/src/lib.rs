@@ -1,7 +1,7 @@
 //! Stands in for the crate `rapidhash`: hash maps and sets of the standard library with another hasher.
 //!
-//! The hasher folds words in by multiplication, as rapidhash does, so that what is measured on it costs about as much; its numbers are
-//! others. It has fixed keys, so two runs hash alike. No result of the code that is built on it depends on the order of a map.
+//! The hasher folds words in by multiplication, in the way of rapidhash; its numbers are others, and its speed was not measured beside it. It
+//! has fixed keys, so two runs hash alike. No result of the code that is built on it depends on the order of a map.
 
 use std::collections::{HashMap, HashSet};
 use std::hash::BuildHasher;
