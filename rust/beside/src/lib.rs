@@ -1,14 +1,18 @@
 //! The proved library beside carcara (by the oracle) and beside the model.
 //!
 //! - [`make`]: random sheets whose terms mostly fit and whose patterns mostly match, and damaged copies of sheets;
-//! - [`random`]: the numbers behind them.
+//! - [`random`]: the numbers behind them;
+//! - [`record`]: random sheets written with what they must give;
+//! - [`guarded`]: small sheets with guards round the buffers.
 //!
 //! [`Trial::sheet`] compares on one sheet. With the program's buffers and with others, short ones among them, the library's number and its
 //! four buffers, which come dirty, must be the model's over their whole length. Of an accepted sheet the inferred rows and the answers must
 //! be carcara's, and the wrapper's printout the model's.
 
+pub mod guarded;
 pub mod make;
 pub mod random;
+pub mod record;
 
 use napsilo::{Answer, Judged, Lent, Refusal, Row, judge_on_this_stack, judge_with, printout};
 use random::Random;

@@ -3,7 +3,11 @@
 //! - `beside random SHEETS SEED [OTHERS]` on so many random sheets, a third of them damaged copies, each with the program's buffers and with
 //!   so many other lent lengths (4, if not said);
 //! - `beside sweep` on the sheets of `compare sweep`;
-//! - `beside sheet HEX` on one sheet; prints what the library says to it.
+//! - `beside sheet HEX` on one sheet; prints what the library says to it;
+//! - `beside guarded SHEETS SEED` on so many small sheets, with guards round the buffers, with the model alone; for a memory checker.
+//!
+//! - `beside record SHEETS SEED FILE LENT LENT_FILE` compares nothing: it writes so many random sheets with their printouts to a file, and so
+//!   many with lent lengths and the buffers at exit to another, both by the model and, where carcara has a say, by carcara.
 //!
 //! The first difference ends a run, with the sheet in hexadecimal.
 
@@ -11,9 +15,19 @@ use beside::random::Random;
 use beside::{Difference, Trial, make};
 use std::process::ExitCode;
 
+/// How the program is called.
+const USAGE: &str = "\
+beside random SHEETS SEED [OTHERS] | beside sweep | beside sheet HEX | beside guarded SHEETS SEED
+beside record SHEETS SEED FILE LENT LENT_FILE";
+
 fn main() -> ExitCode {
     let arguments: Vec<String> = std::env::args().skip(1).collect();
     let number = |at: usize, other: u64| arguments.get(at).map_or(Some(other), |text| text.parse().ok());
+    match arguments.first().map_or("", String::as_str) {
+        "record" => return record(&arguments[1..]),
+        "guarded" => return guarded(&arguments[1..]),
+        _ => (),
+    }
     let mut trial = Trial::default();
     let done = oracle::on_stack(|| match (arguments.first().map_or("", String::as_str), number(1, 1_000)) {
         ("random", Some(sheets)) => {
@@ -25,13 +39,50 @@ fn main() -> ExitCode {
         _ => None,
     });
     let Some(done) = done else {
-        eprintln!("beside random SHEETS SEED [OTHERS] | beside sweep | beside sheet HEX");
+        eprintln!("{USAGE}");
         return ExitCode::FAILURE;
     };
     print!("{}", trial.summary());
     match done {
         Ok(()) => {
             println!("no difference");
+            ExitCode::SUCCESS
+        }
+        Err(difference) => {
+            println!("a difference:\n{difference}");
+            ExitCode::FAILURE
+        }
+    }
+}
+
+/// Writes random sheets with what they must give.
+fn record(arguments: &[String]) -> ExitCode {
+    let number = |at: usize| arguments.get(at).and_then(|text| text.parse::<u64>().ok());
+    let count = |at: usize| number(at).and_then(|count| usize::try_from(count).ok());
+    let (Some(sheets), Some(seed), Some(lent), [_, _, file, _, lent_file]) = (count(0), number(1), count(3), arguments)
+    else {
+        eprintln!("{USAGE}");
+        return ExitCode::FAILURE;
+    };
+    match oracle::on_stack(|| beside::record::files(seed, (sheets, file), (lent, lent_file))) {
+        Ok(written) => {
+            print!("{written}");
+            ExitCode::SUCCESS
+        }
+        Err(difference) => {
+            println!("a difference:\n{difference}");
+            ExitCode::FAILURE
+        }
+    }
+}
+
+/// Compares on small sheets with guards round the buffers.
+fn guarded(arguments: &[String]) -> ExitCode {
+    let number = |at: usize, other: u64| arguments.get(at).and_then(|text| text.parse().ok()).unwrap_or(other);
+    let sheets = usize::try_from(number(0, 1_000)).expect("64 bits");
+    match oracle::on_stack(|| beside::guarded::on_small(sheets, number(1, 1))) {
+        Ok(numbers) => {
+            println!("{sheets} sheets, by number from 0 to 10: {numbers:?}\nno difference");
             ExitCode::SUCCESS
         }
         Err(difference) => {

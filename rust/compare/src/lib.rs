@@ -2,13 +2,15 @@
 //!
 //! - [`writer`]: writes sheets;
 //! - [`sweep`]: sheets with every operator at every choice of arguments from a list of sorts;
-//! - [`random`]: random sheets, some of them broken.
+//! - [`random`]: random sheets, some of them broken;
+//! - [`vectors`]: writes sheets with what they must give.
 //!
 //! The oracle and the model are compared in the inferred column and in the answers, and in whether a sheet is refused; the model and the
 //! program in the whole printout.
 
 pub mod random;
 pub mod sweep;
+pub mod vectors;
 pub mod writer;
 
 use std::io::{self, Write};

@@ -7,7 +7,7 @@
 //! - `compare library SHEETS SEED` writes random sheets and lent lengths with the model's buffers at exit.
 
 use compare::random::Source;
-use compare::{Counts, hex, random, sweep};
+use compare::{Counts, random, sweep, vectors};
 use std::io::{self, BufWriter, Write};
 use std::path::{Path, PathBuf};
 use std::process::ExitCode;
@@ -57,22 +57,13 @@ fn agree(sheets: u64, seed: u64, program: Option<&Path>) -> io::Result<bool> {
     Ok(counts.differences.is_empty())
 }
 
-/// Writes a sheet with the model's printout.
-fn write_printout(out: &mut impl Write, sheet: &[u8]) -> io::Result<()> {
-    writeln!(out, "sheet {}", hex(sheet))?;
-    for line in model::printout(sheet).lines() {
-        writeln!(out, "  {line}")?;
-    }
-    writeln!(out)
-}
-
 /// Writes the sheets of the sweep with the model's printout.
 fn write_sweep() -> io::Result<()> {
     let mut out = BufWriter::new(io::stdout().lock());
     let mut result = Ok(());
     sweep::sheets(&mut |sheet| {
         if result.is_ok() {
-            result = write_printout(&mut out, sheet);
+            result = vectors::printout(&mut out, sheet);
         }
     });
     result?;
@@ -84,14 +75,9 @@ fn write_program(sheets: u64, seed: u64) -> io::Result<()> {
     let mut out = BufWriter::new(io::stdout().lock());
     let mut source = Source::new(seed);
     for _ in 0..sheets {
-        write_printout(&mut out, &random::sheet(&mut source))?;
+        vectors::printout(&mut out, &random::sheet(&mut source))?;
     }
     out.flush()
-}
-
-/// Numbers with a blank before each.
-fn spaced(numbers: &[u32]) -> String {
-    numbers.iter().map(|number| format!(" {number}")).collect()
 }
 
 /// Writes random sheets and lent lengths with the model's buffers at exit.
@@ -100,15 +86,8 @@ fn write_library(sheets: u64, seed: u64) -> io::Result<()> {
     let mut source = Source::new(seed);
     for _ in 0..sheets {
         let sheet = random::sheet(&mut source);
-        let [records, places, rows, answers] = random::lent(&mut source, &sheet);
-        let judged = model::judge(&sheet, records, places, rows, answers);
-        writeln!(out, "lent records {records} places {places} rows {rows} answers {answers}")?;
-        writeln!(out, "sheet {}", hex(&sheet))?;
-        writeln!(out, "  outcome {}", judged.number)?;
-        writeln!(out, "  records {}", hex(&judged.records))?;
-        writeln!(out, "  places{}", spaced(&judged.places))?;
-        writeln!(out, "  rows{}", spaced(&judged.rows))?;
-        writeln!(out, "  answers{}\n", spaced(&judged.answers))?;
+        let lent = random::lent(&mut source, &sheet);
+        vectors::buffers(&mut out, &sheet, lent)?;
     }
     out.flush()
 }

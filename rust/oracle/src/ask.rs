@@ -59,15 +59,14 @@ pub fn ask(sheet: &Sheet) -> Option<Said> {
     let mut sizes = Sizes::new();
     let mut sorts: Vec<Rc<Sort>> = Vec::new();
     for record in &sheet.sorts {
-        let sort = sort(record, &sorts);
-        let sort = pool.add_sort(sort);
+        let sort = pool.add_sort(sort(record, &sorts, &name));
         (size(&mut sizes, &sort) <= LARGEST).then_some(())?;
         sorts.push(sort);
     }
     let mut terms: Vec<Option<Rc<Term>>> = Vec::new();
     let mut rows = Vec::new();
     for record in &sheet.terms {
-        let (term, row) = match term(record, &sorts, &terms) {
+        let (term, row) = match term(record, &sorts, &terms, &name) {
             None => (None, Row::Refused(20)),
             Some(term) => match quiet::catch(|| pool.add(term)) {
                 None => (None, Row::Refused(21)),
@@ -100,8 +99,8 @@ pub fn over_unsorted(operator: Operator) -> Row {
     }
 }
 
-/// A sort record's sort.
-fn sort(record: &Record, sorts: &[Rc<Sort>]) -> Sort {
+/// A sort record's sort. `name` gives the string of a name.
+pub fn sort(record: &Record, sorts: &[Rc<Sort>], name: &impl Fn(u16) -> String) -> Sort {
     let list = || -> Vec<_> { numbered(&record.list, sorts).collect() };
     let part = |at: usize| sorts[usize::from(record.list[at])].clone();
     match record.kind {
@@ -126,12 +125,17 @@ fn sort(record: &Record, sorts: &[Rc<Sort>]) -> Sort {
 }
 
 /// The sorts of these numbers.
-fn numbered(numbers: &[u16], sorts: &[Rc<Sort>]) -> impl Iterator<Item = Rc<Sort>> {
+pub fn numbered(numbers: &[u16], sorts: &[Rc<Sort>]) -> impl Iterator<Item = Rc<Sort>> {
     numbers.iter().map(|&number| sorts[usize::from(number)].clone())
 }
 
-/// A term record's term; nothing if a term that it refers to has no sort.
-fn term(record: &Record, sorts: &[Rc<Sort>], terms: &[Option<Rc<Term>>]) -> Option<Term> {
+/// A term record's term; nothing if a term that it refers to has no sort. `name` gives the string of a name.
+pub fn term(
+    record: &Record,
+    sorts: &[Rc<Sort>],
+    terms: &[Option<Rc<Term>>],
+    name: &impl Fn(u16) -> String,
+) -> Option<Term> {
     let find = |number: &u16| terms[usize::from(*number)].clone();
     let mut list: Vec<Rc<Term>> = record.list.iter().map(find).collect::<Option<_>>()?;
     let own = |number: u16| sorts[usize::from(number)].clone();

@@ -3,7 +3,6 @@
 //! Entries stand in a vector, and a table leads from a key's hash to their positions. Only what the files of carcara use is here.
 
 use std::borrow::Borrow;
-use std::collections::HashMap;
 use std::collections::hash_map::RandomState;
 use std::fmt;
 use std::hash::{BuildHasher, Hash};
@@ -14,8 +13,11 @@ use std::ops::{Index, IndexMut};
 pub struct IndexMap<K, V, S = RandomState> {
     /// The entries, in order.
     entries: Vec<(K, V)>,
-    /// The positions of the entries whose keys have this hash.
-    table: HashMap<u64, Vec<usize>>,
+    /// The hashes of their keys.
+    hashes: Vec<u64>,
+    /// A slot holds one more than the position of an entry, or 0. An entry stands in the first slot from its hash on that was free. There
+    /// are as many slots as a power of two, at most half of them taken, or none.
+    slots: Vec<usize>,
     hasher: S,
 }
 
@@ -28,7 +30,7 @@ impl<K, V> IndexMap<K, V> {
 
 impl<K, V, S: Default> Default for IndexMap<K, V, S> {
     fn default() -> Self {
-        IndexMap { entries: Vec::new(), table: HashMap::new(), hasher: S::default() }
+        IndexMap { entries: Vec::new(), hashes: Vec::new(), slots: Vec::new(), hasher: S::default() }
     }
 }
 
@@ -48,6 +50,22 @@ impl<K, V, S> IndexMap<K, V, S> {
     pub fn is_empty(&self) -> bool {
         self.entries.is_empty()
     }
+
+    /// The slots from that of a hash on, round and round.
+    fn from_hash(slots: &[usize], hash: u64) -> impl Iterator<Item = usize> {
+        let mask = slots.len() - 1;
+        (hash as usize & mask..).map(move |slot| slot & mask)
+    }
+
+    /// Fills a table of this length anew.
+    fn refill(&mut self, length: usize) {
+        let mut slots = vec![0; length];
+        for (at, hash) in self.hashes.iter().enumerate() {
+            let free = Self::from_hash(&slots, *hash).find(|&slot| slots[slot] == 0);
+            slots[free.expect("half of the slots are free")] = at + 1;
+        }
+        self.slots = slots;
+    }
 }
 
 impl<K: Hash + Eq, V, S: BuildHasher> IndexMap<K, V, S> {
@@ -56,8 +74,13 @@ impl<K: Hash + Eq, V, S: BuildHasher> IndexMap<K, V, S> {
     where
         K: Borrow<Q>,
     {
-        let places = self.table.get(&self.hasher.hash_one(key))?;
-        places.iter().copied().find(|&at| self.entries[at].0.borrow() == key)
+        if self.slots.is_empty() {
+            return None;
+        }
+        let hash = self.hasher.hash_one(key);
+        Self::from_hash(&self.slots, hash)
+            .map(|slot| self.slots[slot].checked_sub(1))
+            .find(|found| found.is_none_or(|at| self.hashes[at] == hash && self.entries[at].0.borrow() == key))?
     }
 
     /// The value of a key.
@@ -81,9 +104,15 @@ impl<K: Hash + Eq, V, S: BuildHasher> IndexMap<K, V, S> {
         match self.position(&key) {
             Some(at) => Some(std::mem::replace(&mut self.entries[at].1, value)),
             None => {
-                let hash = self.hasher.hash_one(&key);
-                self.table.entry(hash).or_default().push(self.entries.len());
+                self.hashes.push(self.hasher.hash_one(&key));
                 self.entries.push((key, value));
+                if 2 * self.entries.len() > self.slots.len() {
+                    self.refill((2 * self.slots.len()).max(8));
+                } else {
+                    let last = self.entries.len() - 1;
+                    let free = Self::from_hash(&self.slots, self.hashes[last]).find(|&slot| self.slots[slot] == 0);
+                    self.slots[free.expect("half of the slots are free")] = last + 1;
+                }
                 None
             }
         }
@@ -95,16 +124,10 @@ impl<K: Hash + Eq, V, S: BuildHasher> IndexMap<K, V, S> {
         K: Borrow<Q>,
     {
         let at = self.position(key)?;
-        let last = self.entries.len() - 1;
-        let moved = self.hasher.hash_one(&self.entries[last].0);
-        let places = self.table.entry(self.hasher.hash_one(key)).or_default();
-        places.retain(|&place| place != at);
-        for place in self.table.entry(moved).or_default() {
-            if *place == last {
-                *place = at;
-            }
-        }
-        Some(self.entries.swap_remove(at).1)
+        self.hashes.swap_remove(at);
+        let (_, value) = self.entries.swap_remove(at);
+        self.refill(self.slots.len());
+        Some(value)
     }
 
     /// The entry of a key, there or to be made.
@@ -197,7 +220,7 @@ impl<T> IndexSet<T> {
 impl<T, S> IndexSet<T, S> {
     /// An empty set with a hasher of the caller's. The capacity is not used.
     pub fn with_capacity_and_hasher(_capacity: usize, hasher: S) -> Self {
-        IndexSet(IndexMap { entries: Vec::new(), table: HashMap::new(), hasher })
+        IndexSet(IndexMap { entries: Vec::new(), hashes: Vec::new(), slots: Vec::new(), hasher })
     }
 
     /// The elements in order.

@@ -1,0 +1,59 @@
+//! Times: runs of both sides in turn, and how they spread.
+
+use std::time::Duration;
+
+/// How the times of some runs spread, in microseconds.
+#[derive(Debug, Clone, Copy)]
+pub struct Spread {
+    /// The least.
+    pub least: f64,
+    /// The first quartile.
+    pub first: f64,
+    /// The median.
+    pub median: f64,
+    /// The third quartile.
+    pub third: f64,
+}
+
+/// A run repeats its work until it took so long.
+const LEAST_RUN: Duration = Duration::from_millis(3);
+
+/// The time of one run: what its work takes on the mean, in microseconds.
+fn run(work: &mut dyn FnMut() -> Duration) -> f64 {
+    let mut sum = Duration::ZERO;
+    let mut times = 0_u32;
+    while sum < LEAST_RUN {
+        sum += work();
+        times += 1;
+    }
+    sum.as_secs_f64() * 1e6 / f64::from(times)
+}
+
+/// The spread of some times.
+fn spread(mut times: Vec<f64>) -> Spread {
+    times.sort_by(f64::total_cmp);
+    // Between the two that are nearest.
+    let at = |quarter: usize| {
+        let last = times.len() - 1;
+        let (whole, rest) = (quarter * last / 4, quarter * last % 4);
+        let step = times[(whole + 1).min(last)] - times[whole];
+        times[whole] + step * [0.0, 0.25, 0.5, 0.75][rest]
+    };
+    Spread { least: times[0], first: at(1), median: at(2), third: at(3) }
+}
+
+/// Runs two works in turn, each so many times after one time that does not count.
+pub fn in_turn(
+    runs: usize,
+    one: &mut dyn FnMut() -> Duration,
+    other: &mut dyn FnMut() -> Duration,
+) -> (Spread, Spread) {
+    one();
+    other();
+    let mut times = (Vec::new(), Vec::new());
+    for _ in 0..runs {
+        times.0.push(run(one));
+        times.1.push(run(other));
+    }
+    (spread(times.0), spread(times.1))
+}
