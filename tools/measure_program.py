@@ -1,7 +1,7 @@
 #!/usr/bin/env python3
 """Measures the program on large sheets: time (median, least and most of several runs, the start of the process included) and memory.
 
-usage: measure_program.py PROGRAM [RUNS]
+usage: measure_program.py PROGRAM [RUNS [CASE=TERMS]]
 
 Each sheet is made here; what it prints is thrown away after its length is counted once.
 """
@@ -68,9 +68,14 @@ def mixed(n):
         i += 1
     made = sheet(sorts, terms)
     if n == 4096:
-        # as many sorts more as a sheet of 65,536 bytes holds, each of its own
-        more = min(2048 - len(sorts), (65536 - len(made)) // 6)
-        sorts += [BV(100 + i) for i in range(more)]
+        # up to 65,536 bytes: as many sorts as a sheet holds, each of its own, then arguments of two bytes more for sums
+        sorts += [BV(100 + i) for i in range(2047 - len(sorts))] + [SET(1)]
+        made = sheet(sorts, terms)
+        short = (65536 - len(made)) // 2
+        for t in range(7, n, 8):
+            more = min(short, 8)
+            terms[t] = OP(10, *[0] * (3 + more))
+            short -= more
         made = sheet(sorts, terms)
     return made
 
@@ -140,6 +145,11 @@ def main():
     runs = int(sys.argv[2]) if len(sys.argv) > 2 else 10
     print("| sheet | terms | bytes | printed bytes | median ms | least | most | peak KiB |")
     print("|---|---|---|---|---|---|---|---|")
+    if len(sys.argv) > 3:
+        name, n = sys.argv[3].split("=")
+        size, times, most = measure(program, {"mixed": mixed, "deep": deep, "wide": wide, "long": long}[name](int(n)), runs)
+        print(name, n, size, sorted(round(t * 1000, 1) for t in times), most)
+        return
     cases = [("mixed", mixed, (256, 512, 1024, 2048, 4096)), ("deep", deep, (256, 512, 1024, 2048, 4096)), ("wide", wide, (256, 1024, 4096)), ("long", long, (16, 64, 256))]
     for name, make, counts in cases:
         for n in counts:
