@@ -22,15 +22,15 @@ use Rattle.judged.specs.QuestionLaws.{questionAt}
 use Rattle.judged.specs.JudgedLaws.{judged-read, judged-counts, judged-fits}
 use Rattle.judged.specs.KnownLaws.{judged-rows-known, judged-answers-known}
 use Rattle.verdicts.specs.declared.Outcome.the-variants.{Accepted}
-use Rattle.verdicts.specs.Judge.{outcomeOf, ReadsBack, JudgeIs}
+use Rattle.verdicts.specs.Judge.{outcomeOf, Reads, ReadsBack, JudgeIs}
 use Rattle.printout.specs.declared.kinds.Totals.{Totals}
 use Rattle.printout.specs.declared.whole.Piece.{Piece}
-use Rattle.printout.specs.Lines.{rowText, termLine, questionLine, answerText}
+use Rattle.printout.specs.Lines.{rowText, answerText, linesOf}
 use Rattle.printout.specs.TextLaws.{row-fits, term-fits, answer-fits, question-fits}
-use Rattle.printout.specs.Printed.{kindsOf, programLengths}
+use Rattle.printout.specs.Printed.{kindsOf, printed, programLengths}
 use Rattle.printout.specs.Kinds.{Listed, KindsAre}
 use Rattle.printout.specs.Whole.{lineAt, linesFrom, Judged, PieceIs}
-use Rattle.printout.specs.WholeLaws.{line-term, line-question}
+use Rattle.printout.specs.WholeLaws.{line-term, line-question, lines-split, lines-whole}
 use Rattle.printing.specs.Print.{LinesAsk}
 
 -- Every refusal has one digit or two.
@@ -137,49 +137,110 @@ taken s l e = go (judged s l) refl e
     go (refused x) q o = let z : _≡_ {A = ℕ} 0 1 = cc in absurd (omega arith)
     go (accepted h st rows answers) q o = record { sheet = h; store = st; rows = rows; answers = answers; is = q }
 
--- WHAT `judge` LEFT OF AN ACCEPTED SHEET CAN BE PRINTED, with the kinds of its questions.
-pub print-asks : (s b p w g : List ℕ) → JudgeIs s programLengths b p w g Accepted → (k k′ : List ℕ) (r : Totals) → 1024 ≤ length k → KindsAre s k k′ r
-    → (o : List ℕ) → 3735560 ≤ length o → LinesAsk b p w k′ g (r .terms) (r .questions) o
+-- What an accepted sheet left, with the kinds of its questions: its judgement, whose rows, kinds and answers stand first in the buffers.
+record Found (s b p w k g : List ℕ) (r : Totals) : Type 0 where
+  taken : Taken s programLengths
+  reads : Reads b p (taken .store)
+  terms : r .terms ≡ length (taken .sheet .terms)
+  questions : r .questions ≡ length (taken .sheet .questions)
+  rows : length (taken .rows) ≡ 2 * r .terms
+  answers : length (taken .answers) ≡ r .questions
+  lent : 2 * r .terms ≤ 8192
+  asked : r .questions ≤ 1024
+  lentRows : length w ≡ 8192
+  lentAnswers : length g ≡ 1024
+  row : (i : ℕ) → i < 2 * r .terms → getD (taken .rows) i 0 ≡ getD w i 0
+  answer : (i : ℕ) → i < r .questions → getD (taken .answers) i 0 ≡ getD g i 0
+  kind : (i : ℕ) → i < r .questions → getD (kindsOf (taken .sheet .questions)) i 0 ≡ getD k i 0
+
+found : (s b p w g : List ℕ) → JudgeIs s programLengths b p w g Accepted → (k k′ : List ℕ) (r : Totals) → KindsAre s k k′ r → Found s b p w k′ g r
 unfolding judged rowsAfter answersAfter
-print-asks s b p w g a k k′ r room kinds o long =
+found s b p w g a k k′ r kinds =
     let l = programLengths in
     let j = taken s l (a .outcome) in
     let h = j .sheet in
-    let st = j .store in
     let e = j .is in
-    let read = judged-read smtLib s l h st (j .rows) (j .answers) e in
+    let read = judged-read smtLib s l h (j .store) (j .rows) (j .answers) e in
     let listed = kinds .accepted h (read .0) (read .1) in
-    let counts = judged-counts smtLib s l h st (j .rows) (j .answers) e in
-    let fits = judged-fits smtLib s l h st (j .rows) (j .answers) e in
-    let reads = subst (λ (x : Judgement). ReadsBack x b p) e (a .buffers .reads) in
-    let rows : w ≡ padded 8192 (j .rows) = a .buffers .rows ∙ ap (rowsAfter l) e in
-    let answers : g ≡ padded 1024 (j .answers) = a .buffers .answers ∙ ap (answersAfter l) e in
-    let row : (i : ℕ) → i < 2 * r .terms → getD w i 0 ≡ getD (j .rows) i 0 =
-    λ i o. ap (λ (x : List ℕ). getD x i 0) rows ∙ padded-first 8192 (j .rows) i (omega (arith, listed .terms, counts .0)) in
-    let answer : (i : ℕ) → i < r .questions → getD g i 0 ≡ getD (j .answers) i 0 =
-    λ i o. ap (λ (x : List ℕ). getD x i 0) answers ∙ padded-first 1024 (j .answers) i (omega (arith, listed .questions, counts .1)) in
-    let kind : (i : ℕ) → i < r .questions → getD k′ i 0 ≡ questionAt (h .questions) i .kind =
-    λ i o. sym (getD-take (r .questions) k′ i 0 o) ∙ ap (λ (x : List ℕ). getD x i 0) (listed .kinds) ∙ kind-at (h .questions) i (omega (arith, listed .questions)) in
+    let counts = judged-counts smtLib s l h (j .store) (j .rows) (j .answers) e in
+    let fits = judged-fits smtLib s l h (j .store) (j .rows) (j .answers) e in
+    let ew : w ≡ padded 8192 (j .rows) = a .buffers .rows ∙ ap (rowsAfter l) e in
+    let eg : g ≡ padded 1024 (j .answers) = a .buffers .answers ∙ ap (answersAfter l) e in
     record {
-      many = length st;
+      taken = j;
+      reads = subst (λ (x : Judgement). ReadsBack x b p) e (a .buffers .reads);
+      terms = listed .terms;
+      questions = listed .questions;
+      rows = omega (arith, counts .0, listed .terms);
+      answers = omega (arith, counts .1, listed .questions);
+      lent = omega (arith, counts .0, fits .0, listed .terms);
+      asked = omega (arith, counts .1, fits .1, listed .questions);
+      lentRows = ap length ew ∙ padded-long 8192 (j .rows) (fits .0);
+      lentAnswers = ap length eg ∙ padded-long 1024 (j .answers) (fits .1);
+      row = λ i o. sym (ap (λ (x : List ℕ). getD x i 0) ew ∙ padded-first 8192 (j .rows) i (omega (arith, listed .terms, counts .0)));
+      answer = λ i o. sym (ap (λ (x : List ℕ). getD x i 0) eg ∙ padded-first 1024 (j .answers) i (omega (arith, listed .questions, counts .1)));
+      kind = λ i o. sym (sym (getD-take (r .questions) k′ i 0 o) ∙ ap (λ (x : List ℕ). getD x i 0) (listed .kinds));
+    }
+
+-- WHAT `judge` LEFT OF AN ACCEPTED SHEET CAN BE PRINTED, with the kinds of its questions,
+pub print-asks : (s b p w g : List ℕ) → JudgeIs s programLengths b p w g Accepted → (k k′ : List ℕ) (r : Totals) → 1024 ≤ length k → KindsAre s k k′ r
+    → (o : List ℕ) → 3735560 ≤ length o → LinesAsk b p w k′ g (r .terms) (r .questions) o
+unfolding judged
+print-asks s b p w g a k k′ r room kinds o long =
+    let l = programLengths in
+    let f = found s b p w g a k k′ r kinds in
+    let j = f .taken in
+    let h = j .sheet in
+    let kind : (i : ℕ) → i < r .questions → getD k′ i 0 ≡ questionAt (h .questions) i .kind =
+    λ i o. sym (f .kind i o) ∙ kind-at (h .questions) i (omega (arith, f .questions)) in
+    record {
+      many = length (j .store);
       room = long;
       judged =
           record {
-            stored = reads .stored;
-            small = reads .small;
-            terms = omega (arith, ap length rows, padded-long 8192 (j .rows) (fits .0), counts .0, fits .0, listed .terms);
-            questions = omega (arith, ap length answers, padded-long 1024 (j .answers) (fits .1), counts .1, fits .1, listed .questions);
-            asked = omega (arith, kinds .long, counts .1, fits .1, listed .questions);
-            few = omega (arith, counts .0, fits .0, listed .terms);
-            fewer = omega (arith, counts .1, fits .1, listed .questions);
+            stored = f .reads .stored;
+            small = f .reads .small;
+            terms = omega (arith, f .lentRows, f .lent);
+            questions = omega (arith, f .lentAnswers, f .asked);
+            asked = omega (arith, kinds .long, f .asked);
+            few = omega (arith, f .lent);
+            fewer = f .asked;
             row = λ i o z.
-                omega (arith, row i o, judged-rows-known smtLib s l h st (j .rows) (j .answers) e i (omega (arith, listed .terms)) (omega (arith, row i o)));
+                omega (
+                  arith,
+                  f .row i o,
+                  judged-rows-known smtLib s l h (j .store) (j .rows) (j .answers) (j .is) i (omega (arith, f .terms)) (omega (arith, f .row i o)),
+                );
             answer = λ i o z y.
                 omega (
                   arith,
-                  answer i o,
-                  judged-answers-known smtLib s l h st (j .rows) (j .answers) e i (omega (arith, listed .questions))
-                      (ne-eqb (questionAt (h .questions) i .kind) 0 (λ q. z (kind i o ∙ q))) (omega (arith, answer i o)),
+                  f .answer i o,
+                  judged-answers-known smtLib s l h (j .store) (j .rows) (j .answers) (j .is) i (omega (arith, f .questions))
+                      (ne-eqb (questionAt (h .questions) i .kind) 0 (λ q. z (kind i o ∙ q))) (omega (arith, f .answer i o)),
                 );
           };
     }
+
+-- AND ITS LINES IN ORDER, over the store of `print-asks`, ARE THE PRINTOUT OF THE JUDGEMENT.
+pub print-whole : (s b p w g : List ℕ) (a : JudgeIs s programLengths b p w g Accepted) (k k′ : List ℕ) (r : Totals) (room : 1024 ≤ length k) (kinds : KindsAre s k k′ r)
+    (o : List ℕ) (long : 3735560 ≤ length o)
+    → printed (judged s programLengths)
+    ≡ linesFrom (λ i. lineAt (storeOf b p (print-asks s b p w g a k k′ r room kinds o long .many)) w k′ g (r .terms) i) 0 (r .terms + r .questions)
+unfolding printed print-asks
+print-whole s b p w g a k k′ r room kinds o long =
+    let f = found s b p w g a k k′ r kinds in
+    let j = f .taken in
+    let qs = j .sheet .questions in
+    ap printed (j .is)
+    ∙ ap (λ (st : List Sort). linesOf st (j .rows) (kindsOf qs) (j .answers)) (sym (f .reads .back))
+    ∙ lines-whole (storeOf b p (length (j .store))) (j .rows) (kindsOf qs) (j .answers) w k′ g (r .terms) (r .questions)
+    (f .rows) (kinds-count qs ∙ sym (f .questions)) (f .answers) (f .row) (f .kind) (f .answer)
+
+-- A piece, then the lines behind it, are the lines from its first one on: so pieces that follow on one another leave none out.
+pub piece-then : (f : ℕ → List ℕ) (from next total : ℕ) → from ≤ next → next ≤ total
+    → linesFrom f from (total - from) ≡ linesFrom f from (next - from) ++ linesFrom f next (total - next)
+piece-then f from next total h u =
+    let e : total - from ≡ next - from + (total - next) = omega arith in
+    let d : from + (next - from) ≡ next = omega arith in
+    ap (linesFrom f from) e ∙ lines-split f from (next - from) (total - next)
+    ∙ ap (λ (i : ℕ). linesFrom f from (next - from) ++ linesFrom f i (total - next)) d

@@ -130,7 +130,7 @@ module _ (b p rows kinds answers : List ℕ) (t q from : ℕ) (a : PieceAsks b p
 
 ---------------------------------------------------------------- the whole
 -- The first of some lines, and those behind them.
-lines-split : (f : ℕ → List ℕ) (k m i : ℕ) → linesFrom f k (m + i) ≡ linesFrom f k m ++ linesFrom f (k + m) i
+pub lines-split : (f : ℕ → List ℕ) (k m i : ℕ) → linesFrom f k (m + i) ≡ linesFrom f k m ++ linesFrom f (k + m) i
 unfolding linesFrom
 lines-split f k zero i =
     let e : k ≡ k + 0 = omega arith in
