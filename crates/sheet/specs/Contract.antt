@@ -324,7 +324,7 @@ lent b p rows answers = record { records = length b; places = length p; rows = r
 -- The library's own tables: their lengths, and the store's side tables empty.
 pub record ReadSheetAsks (hs ns zs tbl xs ys rec : List ℕ) : Type 0 where
   pub heads : length hs ≡ 1024
-  pub next : length ns ≡ 4096
+  pub next : length ns ≡ 8192
   pub sizes : length zs ≡ 4096
   pub table : length tbl ≡ 2048
   pub terms : length xs ≡ 4096

@@ -1,18 +1,16 @@
--- Laws of the search: whether a record is there by its bytes, and the walk along the chain of a hash.
-use Prim.Native.Nat.{ℕ, zero, suc, _+_, _-_, _≤_, _<_}
-use mathlib.Core.Path.{_≡_, refl, sym, ap, subst, _∙_}
+-- Laws of the search: whether a record is there by its bytes, and the walk of a hash through the index.
+use Prim.Native.Nat.{ℕ, zero, suc, _+_, _*_, _-_, _/_, _%_, _≤_, _<_}
+use mathlib.Core.Path.{_≡_, sym, ap, subst, _∙_}
 use mathlib.Core.Bool.{true, false, false≢true}
 use mathlib.Core.List.{List}
 use native.Mathlib.Omega.{arith}
-use native.Mathlib.Decide.{decLt}
 use lib.ListN.{length, getD, take, drop}
 use lib.Seq.{getD-take, getD-drop}
 use Rattle.record.specs.Record.{recordBytes}
 use Rattle.record.specs.Decode.{fieldsAt, Stands, Held}
 use Rattle.record.specs.Bytes.{stands-each, stands-part}
 use Rattle.record.specs.Codec.{decoded}
-use Rattle.record.specs.SortLists.{below-suc}
-use Rattle.store.specs.Index.{hashOf, lastWith, last-le, last-at, last-above}
+use Rattle.store.specs.Index.{hashOf, bucketOf, restOf, slotBelow, tree, Reaches, tree-le, tree-right, reaches-some, reaches-down, entry-there}
 use Rattle.store.specs.Good.{hashAt}
 use Rattle.store.specs.Contract.{RecordAsks, Searched, Absent}
 
@@ -40,15 +38,16 @@ module _ (b p : List ℕ) (k : ℕ) (r : List ℕ) (a : RecordAsks b p k r) wher
       → (false ≡ true → fieldsAt b (getD p k 0) ≡ fieldsAt r 0) × (fieldsAt b (getD p k 0) ≡ fieldsAt r 0 → false ≡ true)
   not-there l = (λ q. absurd (false≢true q), λ e. absurd (omega (arith, a .held .within, ap length (same-bytes e))))
 
--- No record from m on, below n, is r.
-unfoldable pub AbsentFrom : List ℕ → List ℕ → ℕ → ℕ → List ℕ → Type 0
-AbsentFrom b p m n r = (k : ℕ) → m ≤ k → k < n → fieldsAt b (getD p k 0) ≡ fieldsAt r 0 → ⊥
+-- The search down a walk: j is what some slot on it holds, and each record below n that is r is on the walk from there.
+pub record FindInv (b p : List ℕ) (n : ℕ) (r : List ℕ) (rest j : ℕ) : Type 0 where
+  pub slot : ℕ
+  pub holds : tree (hashAt b p) n slot ≡ j
+  pub there : (k : ℕ) → k < n → fieldsAt b (getD p k 0) ≡ fieldsAt r 0 → (e : ℕ) × Reaches (tree (hashAt b p) n) (suc k) e slot rest
 
--- The search along a chain: j names an entry with the hash, and none from j on is r.
-pub record FindInv (b p : List ℕ) (n : ℕ) (r : List ℕ) (j : ℕ) : Type 0 where
-  pub low : j ≤ n
-  pub hashed : (k : ℕ) → j ≡ suc k → hashAt b p k ≡ hashOf r
-  pub absent : AbsentFrom b p j n r
+-- What the search counts down: the entries from the present one on, none where there is none.
+abbrev pub left : ℕ → ℕ
+left zero = 0
+left (suc k) = 4096 - k
 
 module _ (b p hs ns : List ℕ) (n : ℕ) (r : List ℕ) (a : Searched b p hs ns n r) where
   hash-same : (k : ℕ) → fieldsAt b (getD p k 0) ≡ fieldsAt r 0 → hashAt b p k ≡ hashOf r
@@ -63,46 +62,63 @@ module _ (b p hs ns : List ℕ) (n : ℕ) (r : List ℕ) (a : Searched b p hs ns
         proper = a .fresh .shape .proper;
       }
 
-  pub find-start : (h : ℕ) → h ≡ hashOf r → h < length hs → FindInv b p n r (getD hs h 0)
-  unfolding AbsentFrom
-  find-start h eh l =
-      let e : getD hs h 0 ≡ lastWith (hashAt b p) h n = a .indexed .chained .first h l in
+  pub find-start : (h : ℕ) → h ≡ hashOf r → FindInv b p n r (restOf h) (getD hs (bucketOf h) 0)
+  find-start h eh =
       record {
-        low = omega (arith, e, last-le (hashAt b p) h n);
-        hashed = λ k q. last-at (hashAt b p) h n k (sym e ∙ q) ∙ eh;
-        absent = λ k m o q. last-above (hashAt b p) h n k (omega (arith, e)) o (hash-same k q ∙ sym eh);
+        slot = bucketOf h;
+        holds = sym (a .indexed .planted .first (bucketOf h) (omega arith));
+        there = λ k l q.
+            subst (λ (i : ℕ). (e : ℕ) × Reaches (tree (hashAt b p) n) (suc k) e (bucketOf i) (restOf i)) (hash-same k q ∙ sym eh)
+            (entry-there (hashAt b p) n k l);
       }
 
-  next-is : (k : ℕ) → suc k ≤ n → hashAt b p k ≡ hashOf r → getD ns k 0 ≡ lastWith (hashAt b p) (hashOf r) k
-  next-is k l e = a .indexed .chained .rest k l ∙ ap (λ (h : ℕ). lastWith (hashAt b p) h k) e
+  pub find-low : (rest j : ℕ) → FindInv b p n r rest j → j ≤ n
+  find-low rest j f = omega (arith, f .holds, tree-le (hashAt b p) n (f .slot))
 
-  step-suc : (k : ℕ) → FindInv b p n r (suc k) → (fieldsAt b (getD p k 0) ≡ fieldsAt r 0 → ⊥) → FindInv b p n r (getD ns k 0)
-  unfolding AbsentFrom
-  step-suc k f other =
-      let e = next-is k (f .low) (f .hashed k refl) in
+  next-is : (k rest : ℕ) → tree (hashAt b p) n (slotBelow k rest) ≡ getD ns (2 * k + rest % 2) 0
+  next-is k rest = sym (a .indexed .planted .rest (2 * k + rest % 2))
+
+  step-suc : (rest k : ℕ) → FindInv b p n r rest (suc k) → (fieldsAt b (getD p k 0) ≡ fieldsAt r 0 → ⊥)
+      → FindInv b p n r (rest / 2) (getD ns (2 * k + rest % 2) 0)
+  step-suc rest k f other =
       record {
-        low = omega (arith, e, last-le (hashAt b p) (hashOf r) k, f .low);
-        hashed = λ i q. last-at (hashAt b p) (hashOf r) k i (sym e ∙ q);
-        absent = λ i m o q.
-            below-suc (λ (l : ℕ). getD ns k 0 ≤ l → fieldsAt b (getD p l 0) ≡ fieldsAt r 0 → ⊥) k
-            (λ l lk ml ql. last-above (hashAt b p) (hashOf r) k l (omega (arith, e)) lk (hash-same l ql))
-            (λ ml ql. other ql) i (small i o q (decLt i (suc k))) m q;
+        slot = slotBelow k rest;
+        holds = next-is k rest;
+        there = λ i l q.
+            let (e, w) = f .there i l q in
+            (e, reaches-down (tree (hashAt b p) n) (suc i) e (f .slot) rest k w (f .holds) (λ z. differs i q z));
       }
     where
-      small : (i : ℕ) → i < n → fieldsAt b (getD p i 0) ≡ fieldsAt r 0 → Dec (i < suc k) → i < suc k
-      small i o q (yes h) = h
-      small i o q (no h) = absurd (f .absent i (omega arith) o q)
+      differs : (i : ℕ) → fieldsAt b (getD p i 0) ≡ fieldsAt r 0 → suc k ≡ suc i → ⊥
+      differs i q z =
+          let o : i ≡ k = omega arith in
+          other (subst (λ (j : ℕ). fieldsAt b (getD p j 0) ≡ fieldsAt r 0) o q)
 
-  pub find-step : (j : ℕ) → 0 < j → FindInv b p n r j → (fieldsAt b (getD p (j - 1) 0) ≡ fieldsAt r 0 → ⊥) → FindInv b p n r (getD ns (j - 1) 0)
-  find-step zero h f other = absurd (omega arith)
-  find-step (suc k) h f other = let e : suc k - 1 ≡ k = omega arith in rw e (step-suc k f (rw e at other))
+  pub find-step : (rest j : ℕ) → 0 < j → FindInv b p n r rest j → (fieldsAt b (getD p (j - 1) 0) ≡ fieldsAt r 0 → ⊥)
+      → FindInv b p n r (rest / 2) (getD ns (2 * (j - 1) + rest % 2) 0)
+  find-step rest zero h f other = absurd (omega arith)
+  find-step rest (suc k) h f other = let e : suc k - 1 ≡ k = omega arith in rw e (step-suc rest k f (rw e at other))
 
-  pub find-less : (j : ℕ) → 0 < j → FindInv b p n r j → getD ns (j - 1) 0 < j
-  find-less zero h f = absurd (omega arith)
-  find-less (suc k) h f =
+  less-by : (k rest v : ℕ) → k < n → tree (hashAt b p) n (slotBelow k rest) ≡ v → left v < 4096 - k
+  less-by k rest zero l e = omega (arith, a .indexed .count)
+  less-by k rest (suc i) l e =
+      omega (
+        arith,
+        a .indexed .count,
+        tree-right (hashAt b p) n (slotBelow k rest) i e,
+        tree-le (hashAt b p) n (slotBelow k rest),
+        e,
+      )
+
+  pub find-less : (rest j : ℕ) → 0 < j → FindInv b p n r rest j → left (getD ns (2 * (j - 1) + rest % 2) 0) < left j
+  find-less rest zero h f = absurd (omega arith)
+  find-less rest (suc k) h f =
       let e : suc k - 1 ≡ k = omega arith in
-      rw e (omega (arith, next-is k (f .low) (f .hashed k refl), last-le (hashAt b p) (hashOf r) k))
+      rw e (less-by k rest (getD ns (2 * k + rest % 2) 0) (omega (arith, find-low rest (suc k) f)) (next-is k rest))
 
-pub find-end : (b p : List ℕ) (n : ℕ) (r : List ℕ) (j : ℕ) → j ≤ 0 → FindInv b p n r j → Absent b p n r
-unfolding AbsentFrom Absent
-find-end b p n r j h f k l e = f .absent k (omega arith) l e
+  pub find-end : (rest j : ℕ) → j ≤ 0 → FindInv b p n r rest j → Absent b p n r
+  unfolding Absent
+  find-end rest j h f k l q =
+      let (e, w) = f .there k l q in
+      let o = reaches-some (tree (hashAt b p) n) (suc k) e (f .slot) rest w (λ z. omega (arith, f .holds)) in
+      omega (arith, f .holds)

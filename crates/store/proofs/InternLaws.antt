@@ -21,9 +21,9 @@ use Rattle.record.specs.Append.{written-before, length-written, new-record, old
 use Rattle.record.specs.Cases.{false-first, false-second}
 use Rattle.store.specs.declared.Found.the-variants.{At}
 use Rattle.store.specs.declared.Pushed.the-variants.{Added, Full}
-use Rattle.store.specs.Index.{hashOf, Chained, chained-same, chained-push, hash-small}
+use Rattle.store.specs.Index.{hashOf, planted-same}
 use Rattle.store.specs.Good.{hashAt, Indexed, Sized, Good, good-room}
-use Rattle.store.specs.Contract.{Searched, Absent, FoundIs, NoRoomFor, PushedIs, InternAsks, Holds, Untouched}
+use Rattle.store.specs.Contract.{Searched, Absent, FoundIs, Appended, NoRoomFor, PushedIs, InternAsks, Holds, Untouched}
 
 -- What is interned can be searched for.
 pub intern-searched : (b p hs ns zs : List ℕ) (n u : ℕ) (r : List ℕ) (w : ℕ) → InternAsks b p hs ns zs n u r w → Searched b p hs ns n r
@@ -92,24 +92,21 @@ module _ (b p hs ns zs : List ℕ) (n u : ℕ) (r : List ℕ) (w : ℕ) (a : Int
     made-store : storeOf (written b u r) (set p n u) (suc n) ≡ storeOf b p n ++ (sortOf (storeOf b p n) (fieldsAt r 0) ∷ [])
     made-store = pushed-store b p n u r (a .good .stored) (a .good .packed) (a .fresh) fits place
 
-    made-indexed : Indexed (written b u r) (set p n u) (set hs (hashOf r) (suc n)) (set ns n (getD hs (hashOf r) 0)) (suc n)
-    made-indexed =
+    made-indexed : (hs′ ns′ zs′ : List ℕ) → Appended b p hs ns zs n u r w (written b u r) (set p n u) hs′ ns′ zs′
+        → Indexed (written b u r) (set p n u) hs′ ns′ (suc n)
+    made-indexed hs′ ns′ zs′ o =
         let g = a .good in
         let c = written b u r in
         let q = set p n u in
-        let e : hashAt c q n ≡ hashOf r =
-        ap hashOf (ap recordBytes (new-record b p n u r (g .stored) (g .packed) (a .fresh) fits place) ∙ a .fresh .whole) in
-        let h : Chained (hashAt c q) n hs ns =
-        chained-same (hashAt b p) (hashAt c q) n hs ns
-        (λ k l. sym (ap (λ (f : Fields). hashOf (recordBytes f)) (old-record b p n u r (g .stored) (g .packed) (a .fresh) fits place k l)))
-        (g .indexed .chained) in
         record {
-          chained =
-              subst (λ (i : ℕ). Chained (hashAt c q) (suc n) (set hs i (suc n)) (set ns n (getD hs i 0))) e
-              (chained-push (hashAt c q) n hs ns (omega (arith, e, hash-small r, g .indexed .heads)) (omega (arith, g .indexed .next)) h);
-          heads = length-set hs (hashOf r) (suc n) ∙ g .indexed .heads;
-          next = length-set ns n (getD hs (hashOf r) 0) ∙ g .indexed .next;
-          rest = λ k l. getD-set-other ns n k (getD hs (hashOf r) 0) 0 (λ e. omega arith) ∙ g .indexed .rest k (omega arith);
+          planted =
+              o .planted (hashAt c q)
+              (planted-same (hashAt b p) (hashAt c q) n hs ns
+              (λ k l. sym (ap (λ (f : Fields). hashOf (recordBytes f)) (old-record b p n u r (g .stored) (g .packed) (a .fresh) fits place k l)))
+              (g .indexed .planted))
+              (ap hashOf (ap recordBytes (new-record b p n u r (g .stored) (g .packed) (a .fresh) fits place) ∙ a .fresh .whole));
+          heads = o .heads ∙ g .indexed .heads;
+          next = o .next ∙ g .indexed .next;
           count = omega arith;
         }
 
@@ -141,9 +138,10 @@ module _ (b p hs ns zs : List ℕ) (n u : ℕ) (r : List ℕ) (w : ℕ) (a : Int
           rest = λ k l. getD-set-other zs n k w 0 (λ e. omega arith) ∙ z .rest k (omega arith);
         }
 
-    made-good : Good (written b u r) (set p n u) (set hs (hashOf r) (suc n)) (set ns n (getD hs (hashOf r) 0)) (set zs n w) (suc n) (u + length r)
+    made-good : (hs′ ns′ : List ℕ) → Indexed (written b u r) (set p n u) hs′ ns′ (suc n)
+        → Good (written b u r) (set p n u) hs′ ns′ (set zs n w) (suc n) (u + length r)
     unfolding Absent
-    made-good =
+    made-good hs′ ns′ i =
         let g = a .good in
         record {
           stored = pushed-stored b p n u r (g .stored) (g .packed) (a .fresh) fits place;
@@ -153,25 +151,27 @@ module _ (b p hs ns zs : List ℕ) (n u : ℕ) (r : List ℕ) (w : ℕ) (a : Int
           running = pushed-running b p n u r (g .stored) (g .packed) (a .fresh) fits place (g .running) (g .total);
           bytes = pushed-bytes b p n u r (g .stored) (g .packed) (a .fresh) fits place (g .bytes);
           places = pushed-places b p n u r (g .stored) (g .packed) (a .fresh) fits place (g .places);
-          indexed = made-indexed;
+          indexed = i;
           sized = made-sized;
         }
 
-    made : Holds b p n u r (written b u r) (set p n u) (set hs (hashOf r) (suc n)) (set ns n (getD hs (hashOf r) 0)) (set zs n w) n (suc n) (u + length r)
+    made : (hs′ ns′ : List ℕ) → Indexed (written b u r) (set p n u) hs′ ns′ (suc n)
+        → Holds b p n u r (written b u r) (set p n u) hs′ ns′ (set zs n w) n (suc n) (u + length r)
     unfolding sortAt
-    made =
+    made hs′ ns′ i =
         let g = a .good in
+        let good = made-good hs′ ns′ i in
         let c = written b u r in
         let q = set p n u in
         let st = storeOf c q (suc n) in
         let added : st ≡ addOnce (storeOf b p n) (sortOf (storeOf b p n) (fieldsAt r 0)) = made-store ∙ sym add-is in
-        let room-after = good-room c q (set hs (hashOf r) (suc n)) (set ns n (getD hs (hashOf r) 0)) (set zs n w) (suc n) (u + length r) made-good in
+        let room-after = good-room c q hs′ ns′ (set zs n w) (suc n) (u + length r) good in
         record {
-          good = made-good;
+          good = good;
           added = added;
           number =
               sym (sym (ap (λ (s : Sort). indexOf s st) new-sort)
-              ∙ index-at st (store-once c q (suc n) (made-good .stored) (made-good .distinct)) n (omega (arith, storeOf-length c q (suc n))));
+              ∙ index-at st (store-once c q (suc n) (good .stored) (good .distinct)) n (omega (arith, storeOf-length c q (suc n))));
           here = new-sort;
           known = omega arith;
           only = λ j l h. omega arith;
@@ -194,7 +194,9 @@ module _ (b p hs ns zs : List ℕ) (n u : ℕ) (r : List ℕ) (w : ℕ) (a : Int
   pub made-holds : (b′ p′ hs′ ns′ zs′ : List ℕ) → PushedIs b p hs ns zs n u r w b′ p′ hs′ ns′ zs′ Added
       → Holds b p n u r b′ p′ hs′ ns′ zs′ n (n + 1) (u + length r)
   made-holds b′ p′ hs′ ns′ zs′ f =
-      rw (f .bytes, f .places, f .heads, f .next, f .sizes, add-one) (made (f .room) (f .place) (f .count))
+      let o = rw (f .bytes, f .places) at f in
+      rw (f .bytes, f .places, f .sizes, add-one)
+      (made (f .room) (f .place) (f .count) hs′ ns′ (made-indexed (f .room) (f .place) (f .count) hs′ ns′ zs′ o))
 
   -- A record that had no room leaves none for its sort.
   no-room : NoRoomFor b p n u (length r) → room (length b) (length p) (storeOf b p n ++ (sortOf (storeOf b p n) (fieldsAt r 0) ∷ [])) ≡ false

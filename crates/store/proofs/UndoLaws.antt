@@ -15,9 +15,9 @@ use Rattle.record.specs.StoreLaws.{storeOf-length, sort-made}
 use Rattle.record.specs.Entries.{store-take, stored-first, running-packed}
 use Rattle.record.specs.Append.{written-before, written-in, written-after, length-written, record-kept, store-same, kept-stored, kept-packed, kept-distinct, kept-running}
 use Rattle.record.specs.Whole.{bytes-next}
-use Rattle.store.specs.Index.{hashOf, hash-small, Chained, chained-same, chained-pop, chained-behind}
+use Rattle.store.specs.Index.{hashOf, bucketOf, restOf, tree, newSlot, Reaches, Relinked, end-low, last-there, planted-same, planted-pop}
 use Rattle.store.specs.Good.{hashAt, Indexed, Sized, Good, good-one}
-use Rattle.store.specs.Contract.{PopAsks, CutTo, UndoAsks, UndoIs}
+use Rattle.store.specs.Contract.{RelinkAsks, RelinkHas, PopAsks, CutTo, UndoAsks, UndoIs}
 
 abbrev zeros : ℕ → List ℕ
 zeros n = replicate n 0
@@ -29,6 +29,12 @@ set-zeros l k h z i g = go (decLt k i)
     go : Dec (k < i) → getD (set l k 0) i 0 ≡ 0
     go (yes t) = getD-set-other l k i 0 0 (λ e. omega arith) ∙ z i t
     go (no t) = let e : k ≡ i = omega arith in subst (λ (j : ℕ). getD (set l k 0) j 0 ≡ 0) e (getD-set-same l k 0 0 h)
+
+-- The last entry's slot holds none, in tables as long.
+record Unlinked (b p hs ns : List ℕ) (k : ℕ) (hs′ ns′ : List ℕ) : Type 0 where
+  linked : Relinked hs ns (newSlot (hashAt b p) k) 0 hs′ ns′
+  heads : length hs′ ≡ length hs
+  next : length ns′ ≡ length ns
 
 module _ (b p hs ns zs : List ℕ) (k u : ℕ) (g : Good b p hs ns zs (suc k) u) where
   -- Where the last record lies: from its place to the end of the bytes in use.
@@ -48,6 +54,30 @@ module _ (b p hs ns zs : List ℕ) (k u : ℕ) (g : Good b p hs ns zs (suc k) u)
       let e : u - getD p k 0 ≡ length (recordBytes (fieldsAt b (getD p k 0))) = omega (arith, last-end) in
       ap (λ (i : ℕ). take i (drop (getD p k 0) b)) e
       ∙ sym (stands-part (recordBytes (fieldsAt b (getD p k 0))) b (getD p k 0) (h .within) (h .stands))
+
+  -- The walk of its hash reaches it.
+  last-reached : (h : ℕ) → h ≡ hashAt b p k → Reaches (tree (hashAt b p) (suc k)) (suc k) (newSlot (hashAt b p) k) (bucketOf h) (restOf h)
+  last-reached h eh =
+      subst (λ (i : ℕ). Reaches (tree (hashAt b p) (suc k)) (suc k) (newSlot (hashAt b p) k) (bucketOf i) (restOf i)) (sym eh)
+      (last-there (hashAt b p) k)
+
+  last-asks : (h : ℕ) → h ≡ hashAt b p k → RelinkAsks hs ns h (suc k) 0
+  last-asks h eh =
+      record {
+        walk =
+            record {
+              hashes = hashAt b p;
+              count = suc k;
+              slot = newSlot (hashAt b p) k;
+              few = g .indexed .count;
+              planted = g .indexed .planted;
+              reaches = last-reached h eh;
+              heads = g .indexed .heads;
+              next = g .indexed .next;
+            };
+        low = omega (arith, end-low (hashAt b p) k (hashAt b p k), g .indexed .count);
+        small = omega arith;
+      }
 
   module _ (c : List ℕ) (ec : c ≡ written b (getD p k 0) (zeros (u - getD p k 0))) where
     fits : getD p k 0 + length (zeros (u - getD p k 0)) ≤ length b
@@ -98,20 +128,16 @@ module _ (b p hs ns zs : List ℕ) (k u : ℕ) (g : Good b p hs ns zs (suc k) u)
     cut-same : storeOf b p k ≡ storeOf c (set p k 0) k
     cut-same = store-same b p c (set p k 0) k (getD p k 0) first first-packed cut-bytes cut-place
 
-    cut-indexed : (h : ℕ) → h ≡ hashAt b p k → Indexed c (set p k 0) (set hs h (getD ns k 0)) (set ns k 0) k
-    cut-indexed h eh =
+    cut-indexed : (hs′ ns′ : List ℕ) → Unlinked b p hs ns k hs′ ns′ → Indexed c (set p k 0) hs′ ns′ k
+    cut-indexed hs′ ns′ o =
         let i = g .indexed in
-        let small : hashAt b p k < length hs = omega (arith, hash-small (recordBytes (fieldsAt b (getD p k 0))), i .heads) in
         record {
-          chained =
-              chained-same (hashAt b p) (hashAt c (set p k 0)) k (set hs h (getD ns k 0)) (set ns k 0)
+          planted =
+              planted-same (hashAt b p) (hashAt c (set p k 0)) k hs′ ns′
               (λ j l. sym (ap (λ (f : Fields). hashOf (recordBytes f)) (cut-fields j l)))
-              (subst (λ (y : ℕ). Chained (hashAt b p) k (set hs y (getD ns k 0)) (set ns k 0)) (sym eh)
-              (chained-behind (hashAt b p) k (set hs (hashAt b p k) (getD ns k 0)) ns 0
-              (chained-pop (hashAt b p) k hs ns small (i .chained))));
-          heads = length-set hs h (getD ns k 0) ∙ i .heads;
-          next = length-set ns k 0 ∙ i .next;
-          rest = set-zeros ns k (omega (arith, i .next, i .count)) (i .rest);
+              (planted-pop (hashAt b p) k hs ns hs′ ns′ (i .planted) (o .linked));
+          heads = o .heads ∙ i .heads;
+          next = o .next ∙ i .next;
           count = omega (arith, i .count);
         }
 
@@ -130,9 +156,9 @@ module _ (b p hs ns zs : List ℕ) (k u : ℕ) (g : Good b p hs ns zs (suc k) u)
           rest = set-zeros zs k (omega (arith, z .table, g .indexed .count)) (z .rest);
         }
 
-    cut-good : (h : ℕ) → h ≡ hashAt b p k → Good c (set p k 0) (set hs h (getD ns k 0)) (set ns k 0) (set zs k 0) k (getD p k 0)
+    cut-good : (hs′ ns′ : List ℕ) → Unlinked b p hs ns k hs′ ns′ → Good c (set p k 0) hs′ ns′ (set zs k 0) k (getD p k 0)
     unfolding Distinct Running
-    cut-good h eh =
+    cut-good hs′ ns′ o =
         record {
           stored = kept-stored b p c (set p k 0) k (getD p k 0) first first-packed cut-bytes cut-place long wide;
           packed = kept-packed b p c (set p k 0) k (getD p k 0) first first-packed cut-bytes cut-place long wide;
@@ -145,14 +171,14 @@ module _ (b p hs ns zs : List ℕ) (k u : ℕ) (g : Good b p hs ns zs (suc k) u)
               (λ j l. g .running j (omega arith));
           bytes = cut-zeros;
           places = set-zeros p k last-place (g .places);
-          indexed = cut-indexed h eh;
+          indexed = cut-indexed hs′ ns′ o;
           sized = cut-sized;
         }
 
-    cut-to : (h : ℕ) → h ≡ hashAt b p k → CutTo b p (suc k) c (set p k 0) (set hs h (getD ns k 0)) (set ns k 0) (set zs k 0) k (getD p k 0)
-    cut-to h eh =
+    cut-to : (hs′ ns′ : List ℕ) → Unlinked b p hs ns k hs′ ns′ → CutTo b p (suc k) c (set p k 0) hs′ ns′ (set zs k 0) k (getD p k 0)
+    cut-to hs′ ns′ o =
         record {
-          good = cut-good h eh;
+          good = cut-good hs′ ns′ o;
           store = sym cut-same ∙ sym (store-take b p k (suc k) (omega arith));
           long = cut-long;
           wide = length-set p k 0;
@@ -169,20 +195,31 @@ module _ (b p hs ns zs : List ℕ) (n u : ℕ) (a : PopAsks b p hs ns zs n u) wh
           let e : suc k - 1 ≡ k = omega arith in
           rw e (omega (arith, last-end b p hs ns zs k u (a .good)))
 
-  pub pop-to : (h : ℕ) → h ≡ hashOf (take (u - getD p (n - 1) 0) (drop (getD p (n - 1) 0) b)) → (c : List ℕ)
-      → c ≡ written b (getD p (n - 1) 0) (replicate (u - getD p (n - 1) 0) 0)
-      → CutTo b p n c (set p (n - 1) 0) (set hs h (getD ns (n - 1) 0)) (set ns (n - 1) 0) (set zs (n - 1) 0) (n - 1) (getD p (n - 1) 0)
-  pop-to = go n a
-    where
-      go : (n : ℕ) → PopAsks b p hs ns zs n u → (h : ℕ) → h ≡ hashOf (take (u - getD p (n - 1) 0) (drop (getD p (n - 1) 0) b)) → (c : List ℕ)
-          → c ≡ written b (getD p (n - 1) 0) (replicate (u - getD p (n - 1) 0) 0)
-          → CutTo b p n c (set p (n - 1) 0) (set hs h (getD ns (n - 1) 0)) (set ns (n - 1) 0) (set zs (n - 1) 0) (n - 1) (getD p (n - 1) 0)
-      go zero a h eh c ec = absurd (omega (arith, a .some))
-      go (suc k) a h eh c ec =
-          let e : suc k - 1 ≡ k = omega arith in
-          rw e
-          (cut-to b p hs ns zs k u (a .good) c (rw e at ec) h
-          (rw e at eh ∙ ap hashOf (last-hash b p hs ns zs k u (a .good))))
+  module _ (h : ℕ) (eh : h ≡ hashOf (take (u - getD p (n - 1) 0) (drop (getD p (n - 1) 0) b))) where
+    pub pop-asks : RelinkAsks hs ns h n 0
+    pop-asks = go n a eh
+      where
+        go : (n : ℕ) → PopAsks b p hs ns zs n u → h ≡ hashOf (take (u - getD p (n - 1) 0) (drop (getD p (n - 1) 0) b)) → RelinkAsks hs ns h n 0
+        go zero a eh = absurd (omega (arith, a .some))
+        go (suc k) a eh =
+            let e : suc k - 1 ≡ k = omega arith in
+            last-asks b p hs ns zs k u (a .good) h (rw e at eh ∙ ap hashOf (last-hash b p hs ns zs k u (a .good)))
+
+    pub pop-to : (hs′ ns′ : List ℕ) → RelinkHas hs ns h n 0 hs′ ns′ → length hs′ ≡ length hs → length ns′ ≡ length ns → (c : List ℕ)
+        → c ≡ written b (getD p (n - 1) 0) (replicate (u - getD p (n - 1) 0) 0)
+        → CutTo b p n c (set p (n - 1) 0) hs′ ns′ (set zs (n - 1) 0) (n - 1) (getD p (n - 1) 0)
+    pop-to hs′ ns′ o lh ln = go n a eh o
+      where
+        go : (n : ℕ) → PopAsks b p hs ns zs n u → h ≡ hashOf (take (u - getD p (n - 1) 0) (drop (getD p (n - 1) 0) b))
+            → RelinkHas hs ns h n 0 hs′ ns′ → (c : List ℕ) → c ≡ written b (getD p (n - 1) 0) (replicate (u - getD p (n - 1) 0) 0)
+            → CutTo b p n c (set p (n - 1) 0) hs′ ns′ (set zs (n - 1) 0) (n - 1) (getD p (n - 1) 0)
+        go zero a eh o c ec = absurd (omega (arith, a .some))
+        go (suc k) a eh o c ec =
+            let e : suc k - 1 ≡ k = omega arith in
+            let q : h ≡ hashAt b p k = rw e at eh ∙ ap hashOf (last-hash b p hs ns zs k u (a .good)) in
+            let linked =
+            o (hashAt b p) (suc k) (newSlot (hashAt b p) k) (a .good .indexed .planted) (last-reached b p hs ns zs k u (a .good) h q) in
+            rw e (cut-to b p hs ns zs k u (a .good) c (rw e at ec) hs′ ns′ (record { linked = linked; heads = lh; next = ln }))
 
 -- The loop: the present store is the first n of the m sorts, and n has not passed `from`.
 pub record UndoInv (c q : List ℕ) (m from : ℕ) (b p hs ns zs : List ℕ) (n u : ℕ) : Type 0 where

@@ -1,5 +1,5 @@
 -- What finding, appending, interning and undoing promise.
-use Prim.Native.Nat.{ℕ, _+_, _≤_, _<_}
+use Prim.Native.Nat.{ℕ, suc, _+_, _≤_, _<_}
 use mathlib.Core.Path.{_≡_}
 use mathlib.Core.Bool.{true, false}
 use mathlib.Core.List.{List}
@@ -8,7 +8,7 @@ use Rattle.record.specs.Sort.{size}
 use Rattle.record.specs.Record.{recordBytes, sortOf}
 use Rattle.record.specs.Store.{addOnce, indexOf, room}
 use Rattle.record.specs.Decode.{fieldsAt, Proper, Held, Fresh, storeOf, sortAt, Stored, written}
-use Rattle.store.specs.Index.{hashOf}
+use Rattle.store.specs.Index.{hashOf, bucketOf, restOf, tree, Planted, Reaches, Relinked}
 use Rattle.store.specs.Good.{Indexed, Good, Kept}
 use Rattle.store.specs.declared.Found.{Found}
 use Rattle.store.specs.declared.Found.the-variants.{At, Nothing}
@@ -45,11 +45,34 @@ FoundIs b p n r Nothing = Absent b p n r
 abbrev pub FindHas : List ℕ → List ℕ → List ℕ → List ℕ → List ℕ → Found → Type 0
 FindHas b p hs ns r f = (n : ℕ) → Searched b p hs ns n r → FoundIs b p n r f
 
-pub record PushAsks (b hs ns zs : List ℕ) (u w : ℕ) : Type 0 where
+-- Tables that hold the tree of some entries, where the walk of the hash h reaches v.
+pub record SlotAsks (hs ns : List ℕ) (h v : ℕ) : Type 0 where
+  pub hashes : ℕ → ℕ
+  pub count : ℕ
+  pub slot : ℕ
+  pub few : count ≤ 4096
+  pub planted : Planted hashes count hs ns
+  pub reaches : Reaches (tree hashes count) v slot (bucketOf h) (restOf h)
+  pub heads : length hs ≡ 1024
+  pub next : length ns ≡ 8192
+
+-- It is the slot that the walk reaches, whatever entries the tables hold the tree of.
+abbrev pub SlotHas : List ℕ → List ℕ → ℕ → ℕ → ℕ → Type 0
+SlotHas hs ns h v r = (f : ℕ → ℕ) (n e : ℕ) → Planted f n hs ns → Reaches (tree f n) v e (bucketOf h) (restOf h) → r ≡ e
+
+pub record RelinkAsks (hs ns : List ℕ) (h v w : ℕ) : Type 0 where
+  pub walk : SlotAsks hs ns h v
+  pub low : walk .slot < 9216
+  pub small : w ≤ 4096
+
+-- The slot that the walk reaches now holds w.
+abbrev pub RelinkHas : List ℕ → List ℕ → ℕ → ℕ → ℕ → List ℕ → List ℕ → Type 0
+RelinkHas hs ns h v w hs′ ns′ = (f : ℕ → ℕ) (n e : ℕ) → Planted f n hs ns → Reaches (tree f n) v e (bucketOf h) (restOf h) → Relinked hs ns e w hs′ ns′
+
+pub record PushAsks (b p hs ns zs : List ℕ) (n u w : ℕ) : Type 0 where
   pub used : u ≤ length b
   pub short : u ≤ 1089536
-  pub heads : length hs ≡ 1024
-  pub next : length ns ≡ 4096
+  pub indexed : Indexed b p hs ns n
   pub table : length zs ≡ 4096
   pub weight : w ≤ 4096
 
@@ -60,8 +83,9 @@ pub record Appended (b p hs ns zs : List ℕ) (n u : ℕ) (r : List ℕ) (w : �
   pub count : n < 4096
   pub bytes : b′ ≡ written b u r
   pub places : p′ ≡ set p n u
-  pub heads : hs′ ≡ set hs (hashOf r) (n + 1)
-  pub next : ns′ ≡ set ns n (getD hs (hashOf r) 0)
+  pub planted : (f : ℕ → ℕ) → Planted f n hs ns → f n ≡ hashOf r → Planted f (suc n) hs′ ns′
+  pub heads : length hs′ ≡ length hs
+  pub next : length ns′ ≡ length ns
   pub sizes : zs′ ≡ set zs n w
 
 -- A record of e bytes has no room behind n records in u bytes.

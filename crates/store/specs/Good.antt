@@ -1,6 +1,6 @@
 -- A store in its lent buffers with the library's side tables: when all of it is well formed. Such a state is fixed by
 -- the list of its sorts and the two lent lengths alone.
-use Prim.Native.Nat.{ℕ, _≤_, _<_}
+use Prim.Native.Nat.{ℕ, _+_, _≤_, _<_}
 use mathlib.Core.Path.{_≡_, refl, sym, ap, ap₂, _∙_}
 use mathlib.Core.Bool.{true, _&&_}
 use mathlib.Core.List.{List}
@@ -17,7 +17,7 @@ use Rattle.record.specs.Decode.{fieldsAt, storeOf, sortAt, Stored, Distinct, Pa
 use Rattle.record.specs.StoreLaws.{storeOf-length}
 use Rattle.record.specs.Entries.{store-short}
 use Rattle.record.specs.Whole.{whole-bytes, whole-places}
-use Rattle.store.specs.Index.{hashOf, lastWith, Chained}
+use Rattle.store.specs.Index.{hashOf, tree, Planted, planted-none}
 
 -- The hash of the record k.
 abbrev pub hashAt : List ℕ → List ℕ → ℕ → ℕ
@@ -25,10 +25,9 @@ hashAt b p k = hashOf (recordBytes (fieldsAt b (getD p k 0)))
 
 -- The index hs ns of the store's n records.
 pub record Indexed (b p hs ns : List ℕ) (n : ℕ) : Type 0 where
-  pub chained : Chained (hashAt b p) n hs ns
+  pub planted : Planted (hashAt b p) n hs ns
   pub heads : length hs ≡ 1024
-  pub next : length ns ≡ 4096
-  pub rest : Zeros ns n
+  pub next : length ns ≡ 8192
   pub count : n ≤ 4096
 
 -- The table zs has the tree size of each of the n sorts, none over document 01's limit.
@@ -95,26 +94,20 @@ module _ (b p hs ns zs b′ p′ hs′ ns′ zs′ : List ℕ) (n u u′ : ℕ) 
   one-places : p ≡ p′
   one-places = good-places b p hs ns zs n u g ∙ ap₂ storePlaces wide e ∙ sym (good-places b′ p′ hs′ ns′ zs′ n u′ g′)
 
-  one-last : (h m : ℕ) → lastWith (hashAt b p) h m ≡ lastWith (hashAt b′ p′) h m
-  one-last h m = ap₂ (λ (x y : List ℕ). lastWith (hashAt x y) h m) one-bytes one-places
-
-  one-hash : (k : ℕ) → hashAt b p k ≡ hashAt b′ p′ k
-  one-hash k = ap₂ (λ (x y : List ℕ). hashAt x y k) one-bytes one-places
+  one-tree : (x : ℕ) → tree (hashAt b p) n x ≡ tree (hashAt b′ p′) n x
+  one-tree x = ap₂ (λ (c q : List ℕ). tree (hashAt c q) n x) one-bytes one-places
 
   one-heads : hs ≡ hs′
   one-heads =
       ext-getD 0 hs hs′ (g .indexed .heads ∙ sym (g′ .indexed .heads))
-      (λ h l.
-      g .indexed .chained .first h l ∙ one-last h n
-      ∙ sym (g′ .indexed .chained .first h (omega (arith, g .indexed .heads, g′ .indexed .heads))))
+      (λ x l.
+      let h : x < 1024 = omega (arith, g .indexed .heads) in
+      g .indexed .planted .first x h ∙ one-tree x ∙ sym (g′ .indexed .planted .first x h))
 
   one-next : ns ≡ ns′
   one-next =
-      zeros-same ns ns′ n (g .indexed .next ∙ sym (g′ .indexed .next))
-      (λ k l.
-      g .indexed .chained .rest k l ∙ one-last (hashAt b p k) k ∙ ap (λ (h : ℕ). lastWith (hashAt b′ p′) h k) (one-hash k)
-      ∙ sym (g′ .indexed .chained .rest k l))
-      (g .indexed .rest) (g′ .indexed .rest)
+      ext-getD 0 ns ns′ (g .indexed .next ∙ sym (g′ .indexed .next))
+      (λ x l. g .indexed .planted .rest x ∙ one-tree (1024 + x) ∙ sym (g′ .indexed .planted .rest x))
 
   one-sizes : zs ≡ zs′
   unfolding sortAt
@@ -128,8 +121,8 @@ module _ (b p hs ns zs b′ p′ hs′ ns′ zs′ : List ℕ) (n u u′ : ℕ) 
 
 -- THE EMPTY STORE: buffers and tables of zeros, of any lent lengths.
 pub good-empty : (b p hs ns zs : List ℕ) → Zeros b 0 → Zeros p 0 → Zeros hs 0 → Zeros ns 0 → Zeros zs 0
-    → length hs ≡ 1024 → length ns ≡ 4096 → length zs ≡ 4096 → Good b p hs ns zs 0 0
-unfolding storeOf bytesOf Distinct Running lastWith
+    → length hs ≡ 1024 → length ns ≡ 8192 → length zs ≡ 4096 → Good b p hs ns zs 0 0
+unfolding storeOf bytesOf Distinct Running
 good-empty b p hs ns zs zb zp zh zn zz lh ln lz =
     record {
       stored = record { placed = omega arith; each = λ k l. absurd (not-suc-le-zero l) };
@@ -141,10 +134,9 @@ good-empty b p hs ns zs zb zp zh zn zz lh ln lz =
       places = zp;
       indexed =
           record {
-            chained = record { first = λ h l. zh h (omega arith); rest = λ k l. absurd (not-suc-le-zero l) };
+            planted = planted-none (hashAt b p) hs ns (λ x. zh x (omega arith)) (λ x. zn x (omega arith));
             heads = lh;
             next = ln;
-            rest = zn;
             count = omega arith;
           };
       sized =

@@ -1,14 +1,16 @@
 // The sort store: records back to back in a lent buffer, their places in another, and beside them the library's own
-// chained hash index and tree sizes. A record is found, interned, and taken back.
+// index and tree sizes. A record is found, interned, and taken back.
 pub mod buffers;
 pub mod entries;
+pub mod slots;
 
 use buffers::clear_at;
 use buffers::copy_at;
 use check::same;
+use slots::relink;
 ghost use mathlib.Core.Path.{_≡_};
 ghost use mathlib.Core.Bool.{true};
-ghost use Prim.Native.Nat.{_-_, _<_};
+ghost use Prim.Native.Nat.{_-_};
 ghost use lib.ListN.{getD};
 ghost use Rattle.record.specs.Decode.{fieldsAt};
 ghost use Rattle.store.specs.Index.{hashOf};
@@ -33,15 +35,16 @@ pub enum Interned {
     NoRoom,
 }
 
-// The hash of a record's bytes.
+// The hash of a record's bytes: for each of them a product and a rotation by 17 bits, in 32 bits.
 pub fn hash(rec: &[u8]) -> usize
-    ensures { λ r. ⌜ (r ≡ hashOf (now (rec .entry))) × (r < 1024) ⌝ }
+    ensures { λ r. ⌜ r ≡ hashOf (now (rec .entry)) ⌝ }
 {
     let mut h = 0;
     let mut i = 0;
     while i < rec.len() {
         let v = rec[i] as usize;
-        h = (h * 31 + v) % 1024;
+        let x = (h + v) * 1640531527 % 4294967296;
+        h = x / 32768 + x % 32768 * 131072;
         i += 1;
     }
     h
@@ -64,19 +67,21 @@ pub fn record_is(records: &[u8], places: &[u32], k: usize, rec: &[u8]) -> bool
     same(&records[at..end], rec)
 }
 
-// The number of a record, along the chain of its hash; `Nothing` where no record of the store is this one.
+// The number of a record, down the walk of its hash; `Nothing` where no record of the store is this one.
 pub fn find(records: &[u8], places: &[u32], heads: &[u16], next: &[u16], rec: &[u8]) -> Found
     requires { ⌜ FindAsks (now records) (now places) (now heads) (now next) (now rec) ⌝ }
     ensures { λ r. ⌜ FindHas (now (records .entry)) (now (places .entry)) (now (heads .entry)) (now (next .entry)) (now (rec .entry)) r ⌝ }
 {
     let h = hash(rec);
-    let mut j = heads[h] as usize;
+    let mut rest = h / 1024;
+    let mut j = heads[h % 1024] as usize;
     while 0 < j {
         let k = j - 1;
         if record_is(records, places, k, rec) {
             return Found::At(k);
         }
-        j = next[k] as usize;
+        j = next[2 * k + rest % 2] as usize;
+        rest = rest / 2;
     }
     Found::Nothing
 }
@@ -93,7 +98,7 @@ pub fn push(
     rec: &[u8],
     weight: usize,
 ) -> Pushed
-    requires { ⌜ PushAsks (now records) (now heads) (now next) (now sizes) used weight ⌝ }
+    requires { ⌜ PushAsks (now records) (now places) (now heads) (now next) (now sizes) count used weight ⌝ }
     ensures { λ r. ⌜ PushedIs (now (records .entry)) (now (places .entry)) (now (heads .entry)) (now (next .entry)) (now (sizes .entry)) count used (now (rec .entry)) weight (now (records .exit)) (now (places .exit)) (now (heads .exit)) (now (next .exit)) (now (sizes .exit)) r ⌝ }
 {
     if 4096 <= count {
@@ -108,9 +113,7 @@ pub fn push(
     copy_at(records, used, rec);
     places[count] = used as u32;
     let h = hash(rec);
-    let last = heads[h];
-    next[count] = last;
-    heads[h] = (count + 1) as u16;
+    relink(heads, next, h, 0, count + 1);
     sizes[count] = weight as u16;
     Pushed::Added
 }
@@ -170,9 +173,7 @@ pub fn pop(
     let k = count - 1;
     let at = places[k] as usize;
     let h = hash(&records[at..used]);
-    let last = next[k];
-    heads[h] = last;
-    next[k] = 0;
+    relink(heads, next, h, count, 0);
     sizes[k] = 0;
     places[k] = 0;
     clear_at(records, at, used - at);

@@ -61,18 +61,18 @@ blank-tables =
           };
     }
 
-pub own-tables : ReadSheetAsks (replicate 1024 0) (replicate 4096 0) (replicate 4096 0) (replicate 2048 0) (replicate 4096 0) (replicate 1024 0) (replicate 266 0)
+pub own-tables : ReadSheetAsks (replicate 1024 0) (replicate 8192 0) (replicate 4096 0) (replicate 2048 0) (replicate 4096 0) (replicate 1024 0) (replicate 266 0)
 own-tables =
     record {
       heads = length-replicate {A = ℕ} 1024 0;
-      next = length-replicate {A = ℕ} 4096 0;
+      next = length-replicate {A = ℕ} 8192 0;
       sizes = length-replicate {A = ℕ} 4096 0;
       table = length-replicate {A = ℕ} 2048 0;
       terms = length-replicate {A = ℕ} 4096 0;
       questions = length-replicate {A = ℕ} 1024 0;
       scratch = length-replicate {A = ℕ} 266 0;
       noHeads = zeros-all 1024;
-      noNext = zeros-all 4096;
+      noNext = zeros-all 8192;
       noSizes = zeros-all 4096;
     }
 

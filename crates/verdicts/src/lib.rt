@@ -113,7 +113,7 @@ pub fn judge_cleared(
     ensures { λ r. ⌜ JudgeIs (now (sheet .entry)) (lengthsOf (now (records .entry)) (now (places .entry)) (now (rows .entry)) (now (answers .entry))) (now (records .exit)) (now (places .exit)) (now (rows .exit)) (now (answers .exit)) r ⌝ }
 {
     let mut heads = [0u16; 1024];
-    let mut next = [0u16; 4096];
+    let mut next = [0u16; 8192];
     let mut sizes = [0u16; 4096];
     let mut table = [0u16; 2048];
     let mut starts = [0u16; 4096];

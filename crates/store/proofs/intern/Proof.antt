@@ -43,7 +43,7 @@ push-requires c κs =
     let n = a .count in
     let u = a .used in
     let w = a .weight in
-    record { used = s .pre .good .packed .used; short = good-short b p hs ns zs n u (s .pre .good); heads = s .pre .good .indexed .heads; next = s .pre .good .indexed .next; table = s .pre .good .sized .table; weight = s .pre .small }
+    record { used = s .pre .good .packed .used; short = good-short b p hs ns zs n u (s .pre .good); indexed = s .pre .good .indexed; table = s .pre .good .sized .table; weight = s .pre .small }
 
 enum-told-2 : tie.Need-enum-told-2
 enum-told-2 c = search needs

@@ -3,7 +3,7 @@
 use native.Mathlib.Omega.{arith}
 use borrow.Author.Needs.{needs}
 use Prim.Native.Nat.{_-_}
-use Rattle.store.proofs.UndoLaws.{pop-place, pop-to}
+use Rattle.store.proofs.UndoLaws.{pop-place, pop-asks, pop-to}
 use Rattle.store.proofs.pop.Statement.{statement}
 use Rattle.store.proofs.pop.Tie as tie
 
@@ -30,8 +30,7 @@ sub-hash c =
     let zs = a .sizes .now in
     let n = a .count in
     let u = a .used in
-    let low = pop-place b p hs ns zs n u (s .pre) in
-    low
+    pop-place b p hs ns zs n u (s .pre)
 
 part-hash-start : tie.Need-part-hash-start
 part-hash-start c =
@@ -44,8 +43,7 @@ part-hash-start c =
     let zs = a .sizes .now in
     let n = a .count in
     let u = a .used in
-    let low = pop-place b p hs ns zs n u (s .pre) in
-    omega (arith, low, s .pre .good .packed .used)
+    omega (arith, pop-place b p hs ns zs n u (s .pre), s .pre .good .packed .used)
 
 part-hash-end : tie.Need-part-hash-end
 part-hash-end c =
@@ -58,45 +56,39 @@ part-hash-end c =
     let zs = a .sizes .now in
     let n = a .count in
     let u = a .used in
-    let low = pop-place b p hs ns zs n u (s .pre) in
-    omega (arith, low, s .pre .good .packed .used)
+    omega (arith, pop-place b p hs ns zs n u (s .pre), s .pre .good .packed .used)
 
 hash-requires : tie.Need-hash-requires
 hash-requires c κs = search needs
 
-mul-last : tie.Need-mul-last
-mul-last c = omega (arith, c .before .before .before .before .before .before .before .before .before .pre .some, c .before .before .before .before .before .before .before .before .before .pre .good .indexed .count)
-
-slice-read-last : tie.Need-slice-read-last
-slice-read-last c = omega (arith, c .before .before .before .before .before .before .before .before .before .before .pre .some, c .before .before .before .before .before .before .before .before .before .before .pre .good .indexed .count, c .before .before .before .before .before .before .before .before .before .before .pre .good .indexed .next)
-
-mul-heads : tie.Need-mul-heads
-mul-heads c = omega (arith, c .before .hash .ensures .1)
-
-slice-write-heads : tie.Need-slice-write-heads
-slice-write-heads c = omega (arith, c .before .hash .ensures .1, c .before .before .before .before .before .before .before .before .before .before .pre .good .indexed .heads)
-
-mul-next : tie.Need-mul-next
-mul-next c = omega (arith, c .before .before .before .before .before .before .before .before .before .before .pre .some, c .before .before .before .before .before .before .before .before .before .before .pre .good .indexed .count)
-
-slice-write-next : tie.Need-slice-write-next
-slice-write-next c = omega (arith, c .before .before .before .before .before .before .before .before .before .before .pre .some, c .before .before .before .before .before .before .before .before .before .before .pre .good .indexed .count, c .before .before .before .before .before .before .before .before .before .before .pre .good .indexed .next)
+relink-requires : tie.Need-relink-requires
+relink-requires c κs =
+    let s = c .before .before .before .before .before .before .before .before .before .before .before in
+    let a = s .args in
+    let b = a .records .now in
+    let p = a .places .now in
+    let hs = a .heads .now in
+    let ns = a .next .now in
+    let zs = a .sizes .now in
+    let n = a .count in
+    let u = a .used in
+    pop-asks b p hs ns zs n u (s .pre) (c .before .before .hash .result) (c .before .before .hash .ensures)
 
 mul-sizes : tie.Need-mul-sizes
-mul-sizes c = omega (arith, c .before .before .before .before .before .before .before .before .before .before .pre .some, c .before .before .before .before .before .before .before .before .before .before .pre .good .indexed .count)
+mul-sizes c = omega (arith, c .before .before .before .before .before .before .before .before .before .before .before .before .before .before .before .before .pre .some, c .before .before .before .before .before .before .before .before .before .before .before .before .before .before .before .before .pre .good .indexed .count)
 
 slice-write-sizes : tie.Need-slice-write-sizes
-slice-write-sizes c = omega (arith, c .before .before .before .before .before .before .before .before .before .before .pre .some, c .before .before .before .before .before .before .before .before .before .before .pre .good .indexed .count, c .before .before .before .before .before .before .before .before .before .before .pre .good .sized .table)
+slice-write-sizes c = omega (arith, c .before .before .before .before .before .before .before .before .before .before .before .before .before .before .before .before .pre .some, c .before .before .before .before .before .before .before .before .before .before .before .before .before .before .before .before .pre .good .indexed .count, c .before .before .before .before .before .before .before .before .before .before .before .before .before .before .before .before .pre .good .sized .table)
 
 mul-places : tie.Need-mul-places
-mul-places c = omega (arith, c .before .before .before .before .before .before .before .before .before .before .pre .some, c .before .before .before .before .before .before .before .before .before .before .pre .good .indexed .count)
+mul-places c = omega (arith, c .before .before .before .before .before .before .before .before .before .before .before .before .before .before .before .before .pre .some, c .before .before .before .before .before .before .before .before .before .before .before .before .before .before .before .before .pre .good .indexed .count)
 
 slice-write-places : tie.Need-slice-write-places
-slice-write-places c = omega (arith, c .before .before .before .before .before .before .before .before .before .before .pre .some, c .before .before .before .before .before .before .before .before .before .before .pre .good .stored .placed)
+slice-write-places c = omega (arith, c .before .before .before .before .before .before .before .before .before .before .before .before .before .before .before .before .pre .some, c .before .before .before .before .before .before .before .before .before .before .before .before .before .before .before .before .pre .good .stored .placed)
 
 sub-clear-at : tie.Need-sub-clear-at
 sub-clear-at c =
-    let s = c .before .before .before .before .before .before .before .before .before .before .before in
+    let s = c .before .before .before .before .before .before .before .before .before .before .before .before .before .before .before .before .before in
     let a = s .args in
     let b = a .records .now in
     let p = a .places .now in
@@ -105,12 +97,11 @@ sub-clear-at c =
     let zs = a .sizes .now in
     let n = a .count in
     let u = a .used in
-    let low = pop-place b p hs ns zs n u (s .pre) in
-    low
+    pop-place b p hs ns zs n u (s .pre)
 
 clear-at-requires : tie.Need-clear-at-requires
 clear-at-requires c κs =
-    let s = c .before .before .before .before .before .before .before .before .before .before .before in
+    let s = c .before .before .before .before .before .before .before .before .before .before .before .before .before .before .before .before .before in
     let a = s .args in
     let b = a .records .now in
     let p = a .places .now in
@@ -119,8 +110,7 @@ clear-at-requires c κs =
     let zs = a .sizes .now in
     let n = a .count in
     let u = a .used in
-    let low = pop-place b p hs ns zs n u (s .pre) in
-    omega (arith, low, s .pre .good .packed .used)
+    omega (arith, pop-place b p hs ns zs n u (s .pre), s .pre .good .packed .used)
 
 same-length : tie.Need-same-length
 same-length c = search needs
@@ -139,7 +129,7 @@ same-length-5 c = search needs
 
 returns : tie.Need-returns
 returns c =
-    let s = c .before .before .before .before .before .before .before .before .before .before .before .before .before .before in
+    let s = c .before .before .before .before .before .before .before .before .before .before .before .before .before .before .before .before .before .before .before .before in
     let a = s .args in
     let b = a .records .now in
     let p = a .places .now in
@@ -148,8 +138,9 @@ returns c =
     let zs = a .sizes .now in
     let n = a .count in
     let u = a .used in
-    let low = pop-place b p hs ns zs n u (s .pre) in
-    pop-to b p hs ns zs n u (s .pre) (c .before .before .before .before .before .hash .result) (c .before .before .before .before .before .hash .ensures .0) (c .before .before .clear-at .last .0) (c .before .before .clear-at .ensures)
+    let o = c .before .before .before .before .before .before .before .before .relink in
+    let d = c .before .before .clear-at in
+    pop-to b p hs ns zs n u (s .pre) (c .before .before .before .before .before .before .before .before .before .before .before .hash .result) (c .before .before .before .before .before .before .before .before .before .before .before .hash .ensures) (o .last .0) (o .last .1 .0) (o .ensures) (o .kept .0) (o .kept .1 .0) (d .last .0) (d .ensures)
 
 pub pop-spec : {M : Type 1} → statement M
-pop-spec = tie.close (tie.spec sub-k mul-at slice-read-at cast-at sub-hash part-hash-start part-hash-end hash-requires mul-last slice-read-last mul-heads slice-write-heads mul-next slice-write-next mul-sizes slice-write-sizes mul-places slice-write-places sub-clear-at clear-at-requires same-length same-length-2 same-length-3 same-length-4 same-length-5 returns)
+pop-spec = tie.close (tie.spec sub-k mul-at slice-read-at cast-at sub-hash part-hash-start part-hash-end hash-requires relink-requires mul-sizes slice-write-sizes mul-places slice-write-places sub-clear-at clear-at-requires same-length same-length-2 same-length-3 same-length-4 same-length-5 returns)

@@ -1,11 +1,10 @@
--- The exit lists are the entry lists with the record, its place, its link and its size written.
+-- The exit lists are the entry lists with the record, its place and its size written, and the index has it.
 -- The three tests are the three ways to have no room; then nothing was written.
 use native.Mathlib.Omega.{arith}
 use borrow.Author.Needs.{needs}
-use Prim.Native.Nat.{ℕ, _+_}
-use mathlib.Core.Path.{refl, ap}
-use lib.ListN.{getD, set}
+use mathlib.Core.Path.{refl}
 use Rattle.store.specs.Contract.{NoRoomFor}
+use Rattle.store.proofs.SlotLaws.{push-asks, push-planted}
 use Rattle.store.proofs.push.Statement.{statement}
 use Rattle.store.proofs.push.Tie as tie
 
@@ -36,38 +35,29 @@ slice-write-places c = search needs
 hash-requires : tie.Need-hash-requires
 hash-requires c κs = search needs
 
-mul-last : tie.Need-mul-last
-mul-last c = search needs
+add-relink : tie.Need-add-relink
+add-relink c = search needs
 
-slice-read-last : tie.Need-slice-read-last
-slice-read-last c = omega (arith, c .before .hash .ensures .1, c .before .before .before .before .before .before .before .before .before .before .before .before .before .before .before .pre .heads)
-
-mul-next : tie.Need-mul-next
-mul-next c = search needs
-
-slice-write-next : tie.Need-slice-write-next
-slice-write-next c = omega (arith, c .before .before .before .before .before .before .before .before .if1 .left, c .before .before .before .before .before .before .before .before .before .before .before .before .before .before .before .pre .next)
-
-add-heads : tie.Need-add-heads
-add-heads c = search needs
-
-cast-heads : tie.Need-cast-heads
-cast-heads c = search needs
-
-mul-heads : tie.Need-mul-heads
-mul-heads c = search needs
-
-slice-write-heads : tie.Need-slice-write-heads
-slice-write-heads c = omega (arith, c .before .hash .ensures .1, c .before .before .before .before .before .before .before .before .before .before .before .before .before .before .before .pre .heads)
+relink-requires : tie.Need-relink-requires
+relink-requires c κs =
+    let s = c .before .before .before .before .before .before .before .before .before .before .before .before .before .before .before .before in
+    let a = s .args in
+    let b = a .records .now in
+    let p = a .places .now in
+    let hs = a .heads .now in
+    let ns = a .next .now in
+    let r = a .rec .now in
+    let n = a .count in
+    push-asks b p hs ns n (c .before .before .hash .result) (s .pre .indexed) (omega (arith, c .before .before .before .before .before .before .before .before .before .if1 .left))
 
 cast-sizes : tie.Need-cast-sizes
-cast-sizes c = omega (arith, c .before .before .before .before .before .before .before .before .before .before .before .before .before .before .before .pre .weight)
+cast-sizes c = omega (arith, c .before .before .before .before .before .before .before .before .before .before .before .before .before .before .before .before .before .before .before .before .before .pre .weight)
 
 mul-sizes : tie.Need-mul-sizes
 mul-sizes c = search needs
 
 slice-write-sizes : tie.Need-slice-write-sizes
-slice-write-sizes c = omega (arith, c .before .before .before .before .before .before .before .before .if1 .left, c .before .before .before .before .before .before .before .before .before .before .before .before .before .before .before .pre .table)
+slice-write-sizes c = omega (arith, c .before .before .before .before .before .before .before .before .before .before .before .before .before .before .if1 .left, c .before .before .before .before .before .before .before .before .before .before .before .before .before .before .before .before .before .before .before .before .before .pre .table)
 
 same-length : tie.Need-same-length
 same-length c = search needs
@@ -86,27 +76,26 @@ same-length-5 c = search needs
 
 returns-4 : tie.Need-returns-4
 returns-4 c =
-    let s = c .before .before .before .before .before .before .before .before .before .before .before .before .before .before .before in
+    let s = c .before .before .before .before .before .before .before .before .before .before .before .before .before .before .before .before .before .before .before .before .before in
     let a = s .args in
     let b = a .records .now in
     let p = a .places .now in
     let hs = a .heads .now in
     let ns = a .next .now in
-    let zs = a .sizes .now in
     let r = a .rec .now in
     let n = a .count in
-    let u = a .used in
-    let w = a .weight in
+    let o = c .before .before .before .before .relink in
     record {
-      room = omega (arith, c .before .before .before .before .before .before .if3 .left, s .pre .used);
+      room = omega (arith, c .before .before .before .before .before .before .before .before .before .before .before .before .if3 .left, s .pre .used);
       place = search needs;
       count = search needs;
       bytes = search needs;
       places = search needs;
-      heads = ap (λ (h : ℕ). set hs h (n + 1)) (c .before .hash .ensures .0);
-      next = ap (λ (h : ℕ). set ns n (getD hs h 0)) (c .before .hash .ensures .0);
+      planted = push-planted hs ns n (c .before .before .before .before .before .before .before .hash .result) r (o .last .0) (o .last .1 .0) (c .before .before .before .before .before .before .before .hash .ensures) (o .ensures);
+      heads = o .kept .0;
+      next = o .kept .1 .0;
       sizes = refl;
     }
 
 pub push-spec : {M : Type 1} → statement M
-push-spec = tie.close (tie.spec returns returns-2 sub-if3 returns-3 copy-at-requires cast-places mul-places slice-write-places hash-requires mul-last slice-read-last mul-next slice-write-next add-heads cast-heads mul-heads slice-write-heads cast-sizes mul-sizes slice-write-sizes same-length same-length-2 same-length-3 same-length-4 same-length-5 returns-4)
+push-spec = tie.close (tie.spec returns returns-2 sub-if3 returns-3 copy-at-requires cast-places mul-places slice-write-places hash-requires add-relink relink-requires cast-sizes mul-sizes slice-write-sizes same-length same-length-2 same-length-3 same-length-4 same-length-5 returns-4)
