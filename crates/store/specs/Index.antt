@@ -1,28 +1,36 @@
 -- A digital tree over numbered entries: its slots, the walk of a hash through them, and what one entry more or less changes.
-use Prim.Native.Nat.{ℕ, zero, suc, _+_, _*_, _%_, _/_, _≤_, _<_}
+use Prim.Native.Nat.{ℕ, zero, suc, _+_, _*_, _-_, _%_, _/_, _≤_, _<_}
 use mathlib.Core.Path.{_≡_, refl, sym, ap, ap₂, subst, _∙_}
 use mathlib.Core.Bool.{Bool, true, false, cond}
 use mathlib.Core.List.{List, [], _∷_}
 use native.Mathlib.Omega.{arith}
 use native.Mathlib.Nat.{not-suc-le-zero}
 use native.Mathlib.Numerals.{add-one}
-use lib.ListN.{length, getD, drop}
-use lib.Seq.{drop-cons, drop-length}
+use lib.ListN.{length, getD, drop, length-drop}
+use lib.Seq.{drop-cons}
 use lib.Dec.{eqb}
 use borrow.Author.Tests.{eqb-true, eq-eqb, ne-eqb}
 use Rattle.record.specs.SortLists.{below-suc}
 
--- The hash of bytes: for each of them a product and a rotation by 17 bits, in 32 bits.
-abbrev pub mixed : ℕ → ℕ → ℕ
-mixed h v = (h + v) * 1640531527 % 4294967296 / 32768 + (h + v) * 1640531527 % 4294967296 % 32768 * 131072
+-- The hash of bytes, two halves of 32 bits. It begins with the last byte. Then each pair of bytes is a number that goes into the low
+-- half by a product and a rotation by 17 bits; the product goes into the high half in the same way.
+abbrev pub turned : ℕ → ℕ
+turned x = x / 32768 + x % 32768 * 131072
 
-unfoldable pub hashFrom : ℕ → List ℕ → ℕ
-hashFrom h [] = h
-hashFrom h (v ∷ vs) = hashFrom (mixed h v) vs
+abbrev pub lowProduct : ℕ → ℕ → ℕ → ℕ
+lowProduct l v w = (l + (v + w * 256)) * 1640531527 % 4294967296
+
+abbrev pub highProduct : ℕ → ℕ → ℕ
+highProduct h x = (h + x) * 1540483477 % 4294967296
+
+unfoldable pub hashFrom : ℕ → ℕ → List ℕ → ℕ
+hashFrom l h [] = l + h * 4294967296
+hashFrom l h (v ∷ []) = l + h * 4294967296
+hashFrom l h (v ∷ (w ∷ vs)) = hashFrom (turned (lowProduct l v w)) (turned (highProduct h (lowProduct l v w))) vs
 
 unfoldable pub hashOf : List ℕ → ℕ
 unfolding hashFrom
-hashOf r = hashFrom 0 r
+hashOf r = hashFrom (getD r (length r - 1) 0) 0 r
 
 -- The slots: from 0 on one for each of 1,024 buckets, from 1024 on two below each entry k. What a slot holds is one more
 -- than the number of an entry, or 0. The walk of a hash begins in the bucket of its low 10 bits and goes down by the others.
@@ -230,15 +238,28 @@ pub planted-none : (f : ℕ → ℕ) (hs ns : List ℕ) → ((x : ℕ) → getD 
 unfolding tree
 planted-none f hs ns zh zn = record { first = λ x l. zh x; rest = λ x. zn x }
 
--- A hash stays below 2^32.
-pub mixed-small : (h v : ℕ) → mixed h v < 4294967296
-mixed-small h v = omega arith
+-- A half stays below 2^32.
+pub turned-small : (x : ℕ) → x < 4294967296 → turned x < 4294967296
+turned-small x l = omega arith
 
--- The hash, one byte after the other.
-pub hash-step : (r : List ℕ) (h i : ℕ) → i < length r → hashFrom (mixed h (getD r i 0)) (drop (i + 1) r) ≡ hashFrom h (drop i r)
+-- The hash, one pair after the other.
+pub hash-step : (r : List ℕ) (l h i : ℕ) → i + 1 < length r
+    → (let x = lowProduct l (getD r i 0) (getD r (i + 1) 0) in hashFrom (turned x) (turned (highProduct h x)) (drop (i + 2) r) ≡ hashFrom l h (drop i r))
 unfolding hashFrom
-hash-step r h i l = rw (add-one, drop-cons r i 0 l)
+hash-step r l h i o =
+    let e : i + 2 ≡ suc (suc i) = omega arith in
+    rw (e, add-one, drop-cons r i 0 (omega arith), drop-cons r (suc i) 0 (omega arith))
 
-pub hash-end : (r : List ℕ) (h i : ℕ) → i ≡ length r → hashFrom h (drop i r) ≡ h
+hash-short : (r : List ℕ) (l h : ℕ) → length r ≤ 1 → hashFrom l h r ≡ l + h * 4294967296
 unfolding hashFrom
-hash-end r h i e = rw (e, drop-length)
+hash-short [] l h o = refl
+hash-short (v ∷ []) l h o = refl
+hash-short (v ∷ (w ∷ vs)) l h o = absurd (omega arith)
+
+pub hash-end : (r : List ℕ) (l h i : ℕ) → length r ≤ i + 1 → hashFrom l h (drop i r) ≡ l + h * 4294967296
+hash-end r l h i o = hash-short (drop i r) l h (omega (arith, length-drop i r))
+
+pub hash-none : (r : List ℕ) → length r ≡ 0 → hashOf r ≡ 0
+unfolding hashOf
+hash-none [] e = refl
+hash-none (v ∷ vs) e = absurd (omega arith)

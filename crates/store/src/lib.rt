@@ -35,19 +35,27 @@ pub enum Interned {
     NoRoom,
 }
 
-// The hash of a record's bytes: for each of them a product and a rotation by 17 bits, in 32 bits.
+// The hash of a record's bytes, two halves of 32 bits. It begins with the last byte. Then each pair of bytes is a number that goes
+// into the low half by a product and a rotation by 17 bits; the product goes into the high half in the same way.
 pub fn hash(rec: &[u8]) -> usize
     ensures { λ r. ⌜ r ≡ hashOf (now (rec .entry)) ⌝ }
 {
-    let mut h = 0;
-    let mut i = 0;
-    while i < rec.len() {
-        let v = rec[i] as usize;
-        let x = (h + v) * 1640531527 % 4294967296;
-        h = x / 32768 + x % 32768 * 131072;
-        i += 1;
+    if rec.len() == 0 {
+        return 0;
     }
-    h
+    let mut low = rec[rec.len() - 1] as usize;
+    let mut high = 0;
+    let mut i = 0;
+    while i + 1 < rec.len() {
+        let v = rec[i] as usize;
+        let w = rec[i + 1] as usize;
+        let x = (low + (v + w * 256)) * 1640531527 % 4294967296;
+        let y = (high + x) * 1540483477 % 4294967296;
+        low = x / 32768 + x % 32768 * 131072;
+        high = y / 32768 + y % 32768 * 131072;
+        i += 2;
+    }
+    low + high * 4294967296
 }
 
 // Whether the record `k` is this one: its bytes are there, since no record is the beginning of another.
