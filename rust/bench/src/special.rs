@@ -172,9 +172,14 @@ pub fn great_chain() -> Vec<u8> {
     applied(make, pattern, pattern, target)
 }
 
-/// The bucket of the store's index in which a record stands.
-fn bucket(record: &[u8]) -> usize {
-    record.iter().fold(0, |hash, byte| (hash * 31 + usize::from(*byte)) % 1_024)
+/// The bucket of the store's index in which a record stands: the low half of its hash decides.
+fn bucket(record: &[u8]) -> u32 {
+    let last = record.last().map_or(0, |byte| u32::from(*byte));
+    let low = record.chunks_exact(2).fold(last, |low, pair| {
+        let number = u32::from(u16::from_le_bytes([pair[0], pair[1]]));
+        low.wrapping_add(number).wrapping_mul(1_640_531_527).rotate_left(17)
+    });
+    low % 1_024
 }
 
 /// The record of a declared sort over one other.
@@ -184,7 +189,7 @@ fn atom(name: u16, part: u16) -> [u8; 7] {
 }
 
 /// Adds declared sorts over one that is there, all in a bucket, until there are so many sorts; `but` has this record already.
-fn crowd(make: &mut Make, wanted: usize, but: Option<(u16, u16)>, sorts: usize) {
+fn crowd(make: &mut Make, wanted: u32, but: Option<(u16, u16)>, sorts: usize) {
     let mut meeting = (0..64_u16)
         .flat_map(|part| (1..=u16::MAX).map(move |name| (name, part)))
         .filter(|found| bucket(&atom(found.0, found.1)) == wanted && Some(*found) != but);
