@@ -1,5 +1,5 @@
 -- The checked App: what its steps ask, and that each way through them gives the definition's verdict.
-use Prim.Native.Nat.{ℕ, _+_, _*_, _-_, _≤_, _<_}
+use Prim.Native.Nat.{ℕ, zero, suc, _+_, _*_, _-_, _≤_, _<_}
 use mathlib.Core.Path.{_≡_, refl, sym, ap, ap₂, subst, _∙_}
 use mathlib.Core.Bool.{Bool, true, false}
 use mathlib.Core.List.{List}
@@ -7,6 +7,7 @@ use mathlib.Core.Option.{Option, some}
 use native.Mathlib.Omega.{arith}
 use lib.Dec.{ltb}
 use borrow.Author.Tests.{lt-ltb, le-ltb}
+use Rattle.record.specs.Names.{member}
 use Rattle.record.specs.Number.{numbersAt}
 use Rattle.record.specs.Sort.{Sorts}
 use Rattle.record.specs.Decode.{storeOf}
@@ -31,11 +32,37 @@ use Rattle.instance.specs.Rest.{RestAsks, RestIs}
 use Rattle.instance.specs.Mapped.{mapped-images}
 use Rattle.application.specs.declared.called.Call.{Call}
 use Rattle.application.specs.declared.called.Call.the-variants.{Settled, Unsettled, Misfits as Fails}
-use Rattle.application.specs.Contract.{AppIs, SettledAllAsks, SettledAllIs, FitAsks, FitIs, FittedAsks, FittedIs, restAt, deliveredAt, boundIn, callOf, CalledAsks, DeliverAsks}
+use Rattle.application.specs.Contract.{AppIs, SettledAllAsks, SettledAllIs, FitAsks, FitIs, FittedAsks, FittedIs, restAt, deliveredAt, boundIn, callOf, CalledAsks, DeliverAsks, Plain, PlainAsks, PlainIs}
 use Rattle.application.proofs.AppLaws.{app-refused, app-as}
 use Rattle.application.proofs.ListLaws.{count-at, firsts-at, others-at, refs-part, refs-behind}
 use Rattle.application.proofs.SettledLaws.{settled-remaining}
 use Rattle.application.proofs.TableLaws.{add-asks, take-asks, listed-names}
+
+---------------------------------------------------------------- a head at its arguments, by the test of names
+module _ (b p : List ℕ) (n x m : ℕ) (a : List ℕ) (k : ℕ) (f : ℕ → Bool) where
+  abbrev ss : Sorts
+  ss = sortsAt b p n b x m
+
+  abbrev ts : Sorts
+  ts = sortsAt b p n a 5 k
+
+  abbrev behind : Verdict
+  behind = delivered f (remaining (others ss ts)) (matchesAll f (firsts ss ts) ts empty)
+
+  by-count : called f (some ss) ts ≡ need (ltb k m) Count (need (values ts) Misfit behind)
+  unfolding called
+  by-count =
+      ap₂ (λ (i j : ℕ). need (ltb i j) Count (need (values ts) Misfit behind)) (count-at (storeOf b p n) a 5 k) (count-at (storeOf b p n) b x m)
+
+  called-over : m ≤ k → called f (some ss) ts ≡ refused Count
+  called-over l = by-count ∙ ap (λ (z : Bool). need z Count (need (values ts) Misfit behind)) (le-ltb k m l)
+
+  pub called-under : k < m → called f (some ss) ts ≡ need (values ts) Misfit (deliveredAt f b p n x m a k)
+  called-under l =
+      by-count ∙ ap (λ (z : Bool). need z Count (need (values ts) Misfit behind)) (lt-ltb k m l)
+      ∙ ap₂ (λ (i o : Sorts). need (values ts) Misfit (delivered f (remaining i) (matchesAll f o ts empty)))
+      (others-at (storeOf b p n) b x m a 5 k (omega arith))
+      (firsts-at (storeOf b p n) b x m a 5 k (omega arith))
 
 ---------------------------------------------------------------- with the names listed
 module _ (b p : List ℕ) (n : ℕ) (prm imgs bnd : List ℕ) (x m : ℕ) (a : List ℕ) (k : ℕ) (h : FitAsks b p n prm imgs bnd x m a k) where
@@ -205,47 +232,45 @@ module _ (b p hs ns zs : List ℕ) (n u : ℕ) (prm imgs bnd : List ℕ) (x m y 
     pub values-ask : ValuesAsk b p a 5 k
     values-ask = record { many = n; stored = h .good .stored; refs = h .args }
 
-    abbrev ss : Sorts
-    ss = sortsAt b p n b x m
-
-    abbrev ts : Sorts
-    ts = sortsAt b p n a 5 k
-
     abbrev f : ℕ → Bool
     f = listedIn (numbersAt b y q)
 
-    abbrev behind : Verdict
-    behind = delivered f (remaining (others ss ts)) (matchesAll f (firsts ss ts) ts empty)
+    abbrev verdictOf : Verdict
+    verdictOf = called f (some (sortsAt b p n b x m)) (sortsAt b p n a 5 k)
 
-    called-by : called f (some ss) ts ≡ need (ltb k m) Count (need (values ts) Misfit behind)
-    unfolding called
-    called-by =
-        ap₂ (λ (i j : ℕ). need (ltb i j) Count (need (values ts) Misfit behind)) (count-at (storeOf b p n) a 5 k) (count-at (storeOf b p n) b x m)
+    pub called-count : m ≤ k → (r : Answer) → r ≡ refusing Count n u → AppIs verdictOf b p n prm imgs bnd b p hs ns zs prm imgs bnd r
+    called-count l = app-refused b p hs ns zs n u prm imgs bnd (h .good) verdictOf Count (called-over b p n x m a k f l)
 
-    pub called-count : m ≤ k → (r : Answer) → r ≡ refusing Count n u → AppIs (called f (some ss) ts) b p n prm imgs bnd b p hs ns zs prm imgs bnd r
-    called-count l =
-        app-refused b p hs ns zs n u prm imgs bnd (h .good) (called f (some ss) ts) Count
-        (called-by ∙ ap (λ (z : Bool). need z Count (need (values ts) Misfit behind)) (le-ltb k m l))
+    module _ (l : k < m) where
+      -- Without parameters.
+      pub plain-asks : PlainAsks b p hs ns zs n u x m a k
+      plain-asks = record { good = h .good; list = h .list; few = h .few; args = h .args; fewer = l }
 
-    module _ (l : k < m) (t : Bool) (v : ValuesHave b p a 5 k t) where
-      by-values : called f (some ss) ts ≡ need t Misfit behind
-      by-values =
-          called-by ∙ ap₂ (λ (z o : Bool). need z Count (need o Misfit behind)) (lt-ltb k m l) (sym (v n (h .good .stored) (h .args)))
+      plain-names : (i : ℕ) → i ≡ 0 → Plain (listedIn (numbersAt b y i))
+      unfolding numbersAt member
+      plain-names zero e v = refl
+      plain-names (suc i) e v = absurd (omega arith)
 
-      pub called-misfit : t ≡ false → (r : Answer) → r ≡ refusing Misfit n u → AppIs (called f (some ss) ts) b p n prm imgs bnd b p hs ns zs prm imgs bnd r
-      called-misfit e =
-          app-refused b p hs ns zs n u prm imgs bnd (h .good) (called f (some ss) ts) Misfit (by-values ∙ ap (λ (z : Bool). need z Misfit behind) e)
+      pub called-plain : q ≡ 0 → (b′ p′ hs′ ns′ zs′ : List ℕ) (r : Answer) → PlainIs b p n x m a k b′ p′ hs′ ns′ zs′ r
+          → AppIs verdictOf b p n prm imgs bnd b′ p′ hs′ ns′ zs′ prm imgs bnd r
+      called-plain e b′ p′ hs′ ns′ zs′ r g = record { answer = g f (plain-names q e); params = refl; images = refl; bound = refl }
 
+      -- With parameters, by whether an argument is a Par.
       pub deliver-asks : DeliverAsks b p hs ns zs n u prm imgs bnd x m y q a k
       deliver-asks = record { called = h; fewer = omega arith }
 
-      pub called-delivered : t ≡ true → (b′ p′ hs′ ns′ zs′ prm′ l′ d′ : List ℕ) (r : Answer)
-          → AppIs (deliveredAt f b p n x m a k) b p n prm imgs bnd b′ p′ hs′ ns′ zs′ prm′ l′ d′ r
-          → AppIs (called f (some ss) ts) b p n prm imgs bnd b′ p′ hs′ ns′ zs′ prm′ l′ d′ r
-      called-delivered e b′ p′ hs′ ns′ zs′ prm′ l′ d′ r g =
-          app-as
-          (by-values ∙ ap (λ (z : Bool). need z Misfit behind) e
-          ∙ ap₂ (λ (i o : Sorts). delivered f (remaining i) (matchesAll f o ts empty))
-          (others-at (storeOf b p n) b x m a 5 k (omega arith))
-          (firsts-at (storeOf b p n) b x m a 5 k (omega arith)))
-          g
+      module _ (t : Bool) (v : ValuesHave b p a 5 k t) where
+        by-values : verdictOf ≡ need t Misfit (deliveredAt f b p n x m a k)
+        by-values =
+            called-under b p n x m a k f l ∙ ap (λ (z : Bool). need z Misfit (deliveredAt f b p n x m a k)) (sym (v n (h .good .stored) (h .args)))
+
+        pub called-misfit : t ≡ false → (r : Answer) → r ≡ refusing Misfit n u → AppIs verdictOf b p n prm imgs bnd b p hs ns zs prm imgs bnd r
+        called-misfit e =
+            app-refused b p hs ns zs n u prm imgs bnd (h .good) verdictOf Misfit
+            (by-values ∙ ap (λ (z : Bool). need z Misfit (deliveredAt f b p n x m a k)) e)
+
+        pub called-delivered : t ≡ true → (b′ p′ hs′ ns′ zs′ prm′ l′ d′ : List ℕ) (r : Answer)
+            → AppIs (deliveredAt f b p n x m a k) b p n prm imgs bnd b′ p′ hs′ ns′ zs′ prm′ l′ d′ r
+            → AppIs verdictOf b p n prm imgs bnd b′ p′ hs′ ns′ zs′ prm′ l′ d′ r
+        called-delivered e b′ p′ hs′ ns′ zs′ prm′ l′ d′ r g =
+            app-as (by-values ∙ ap (λ (z : Bool). need z Misfit (deliveredAt f b p n x m a k)) e) g

@@ -1,7 +1,9 @@
 pub mod AppLaws
 pub mod CalledLaws
+pub mod ExactLaws
 pub mod HeadLaws
 pub mod ListLaws
 pub mod ParametricLaws
+pub mod PlainLaws
 pub mod SettledLaws
 pub mod TableLaws

@@ -2,25 +2,26 @@
 -- array from byte 3 on, the head first, so that its arguments stand from byte 5 on.
 use Prim.Native.Nat.{ℕ, _+_, _*_, _-_, _≤_, _<_}
 use mathlib.Core.Path.{_≡_}
-use mathlib.Core.Bool.{Bool}
+use mathlib.Core.Bool.{Bool, false}
 use mathlib.Core.List.{List}
+use mathlib.Core.Option.{some}
 use lib.ListN.{length}
 use Rattle.record.specs.Number.{u16At, numbersAt}
 use Rattle.record.specs.Sort.{Sort, sizes}
 use Rattle.record.specs.Decode.{storeOf, sortAt, Zeros}
-use Rattle.store.specs.Good.{Good}
+use Rattle.store.specs.Good.{Good, Sized}
 use Rattle.substitution.specs.Substitution.{Map, empty, apply}
-use Rattle.substitution.specs.Matching.{matchesAll, listedIn}
+use Rattle.substitution.specs.Matching.{keep, matchesAll, listedIn}
 use Rattle.substitution.specs.MatchWith.{matchAllWith}
 use Rattle.matching.specs.declared.Matched.{Matched}
 use Rattle.matching.specs.Tables.{Told, mapOf, Mapped, Cleared, Blank}
-use Rattle.matching.specs.Contract.{Usable, Refs, sortsAt, OneAsks, ListAsks, countOf}
+use Rattle.matching.specs.Contract.{Usable, Refs, sortsAt, OneAsks, ListAsks, PairsAsk, countOf}
 use Rattle.matching.specs.Contract.{answerOf as foundBy}
 use Rattle.apply.specs.Images.{Images}
 use Rattle.rows.specs.declared.Cause.the-variants.{Misfit, Unassigned}
 use Rattle.rows.specs.Verdict.{Verdict, sort, refused}
 use Rattle.rows.specs.Lists.{remaining}
-use Rattle.checked.specs.Checked.{settled, settledAll, delivered}
+use Rattle.checked.specs.Checked.{settled, settledAll, delivered, called}
 use Rattle.inferred.specs.Inferred.{substituted}
 use Rattle.answers.specs.declared.Answer.{Answer}
 use Rattle.answers.specs.Answer.{AnswerIs}
@@ -124,6 +125,42 @@ pub record FittedIs (b p : List ℕ) (n : ℕ) (prm : List ℕ) (x m y q : ℕ) 
   pub params : prm′ ≡ prm
   pub mapped : Mapped b p n l d (boundIn r)
   pub verdict : deliveredAt (listedIn (numbersAt b y q)) b p n x m a k ≡ callOf (storeOf b p n) l d (restAt b p n x m k) r
+
+---------------------------------------------------------------- a head without parameters
+-- No name is one.
+abbrev pub Plain : (ℕ → Bool) → Type 0
+Plain f = (v : ℕ) → f v ≡ false
+
+-- A sort of a store whose tree sizes the table has; m of them, in the store's own bytes from x on.
+pub record ParlessAsks (b p zs : List ℕ) (n k : ℕ) : Type 0 where
+  pub one : OneAsks b p n k
+  pub sized : Sized b p zs n
+
+pub record ParlessAllAsks (b p zs : List ℕ) (n x m : ℕ) : Type 0 where
+  pub list : ListAsks b p n b x m
+  pub sized : Sized b p zs n
+
+-- k arguments, and as many sorts of a head's list.
+pub record ExactAsks (b p zs : List ℕ) (n x : ℕ) (a : List ℕ) (k : ℕ) : Type 0 where
+  pub pairs : PairsAsk b p n b x a 5 k
+  pub sized : Sized b p zs n
+
+-- THE ARGUMENTS FIT, AND NOTHING IS BOUND, or they do not.
+abbrev pub ExactIs : List ℕ → List ℕ → ℕ → ℕ → List ℕ → ℕ → Bool → Type 0
+ExactIs b p n x a k r = (f : ℕ → Bool) → Plain f → matchesAll f (sortsAt b p n b x k) (sortsAt b p n a 5 k) empty ≡ keep r (some empty)
+
+-- A head with m sorts from x on, at k arguments, fewer than its sorts.
+pub record PlainAsks (b p hs ns zs : List ℕ) (n u x m : ℕ) (a : List ℕ) (k : ℕ) : Type 0 where
+  pub good : Good b p hs ns zs n u
+  pub list : Refs b x m n
+  pub few : m ≤ 64
+  pub args : Refs a 5 k n
+  pub fewer : k < m
+
+-- THE ANSWER TO THE CHECKED VERDICT.
+abbrev pub PlainIs : List ℕ → List ℕ → ℕ → ℕ → ℕ → List ℕ → ℕ → List ℕ → List ℕ → List ℕ → List ℕ → List ℕ → Answer → Type 0
+PlainIs b p n x m a k b′ p′ hs′ ns′ zs′ r =
+    (f : ℕ → Bool) → Plain f → AnswerIs b p n (called f (some (sortsAt b p n b x m)) (sortsAt b p n a 5 k)) b′ p′ hs′ ns′ zs′ r
 
 ---------------------------------------------------------------- the inferred App
 -- The sorts that are matched are together no larger than a sort of the store.

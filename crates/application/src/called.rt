@@ -1,4 +1,5 @@
 // The checked sort of an App whose head is a Function or a Par of one.
+use super::plain::plain;
 use super::settled::all_settled;
 use answers::Answer;
 use answers::refuse;
@@ -171,7 +172,7 @@ pub fn delivered(
 }
 
 // A head with m sorts from `list` on and `named` parameters from `names` on, at the n arguments in `args` from byte 5 on:
-// Count unless n is under m; Misfit where an argument is a Par; else as `delivered`.
+// Count unless n is under m; as `plain` without parameters; else Misfit where an argument is a Par, or as `delivered`.
 pub fn called(
     records: &mut [u8],
     places: &mut [u32],
@@ -195,6 +196,21 @@ pub fn called(
 {
     if m <= n {
         return refuse(Cause::Count, count, used);
+    }
+    if named == 0 {
+        return plain(
+            records,
+            places,
+            heads,
+            next,
+            sizes,
+            count,
+            used,
+            list,
+            m,
+            args,
+            n,
+        );
     }
     if all_values(records, places, args, 5, n) {
         return delivered(

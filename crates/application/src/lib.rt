@@ -16,6 +16,7 @@ ghost use Rattle.application.specs.Contract.{AppAsks, AppIs};
 
 pub mod called;
 pub mod parametric;
+pub mod plain;
 pub mod settled;
 
 // The checked sort of an App of `total` terms: Count without an argument, for any head; Misfit where the head is no Function

@@ -1,7 +1,7 @@
--- The tests of the count and of the arguments, in the order of the definition.
--- What is left is what `delivered` answers.
+-- The tests of the count, of the parameters and of the arguments, in the order of the definition.
+-- What is left is what `plain` and `delivered` answer.
 use borrow.Author.Needs.{needs}
-use Rattle.application.proofs.CalledLaws.{values-ask, called-count, called-misfit, deliver-asks, called-delivered}
+use Rattle.application.proofs.CalledLaws.{values-ask, called-count, plain-asks, called-plain, called-misfit, deliver-asks, called-delivered}
 use Rattle.application.proofs.called.called.Statement.{statement}
 use Rattle.application.proofs.called.called.Tie as tie
 
@@ -30,9 +30,68 @@ returns c =
     let k = a .n in
     called-count b p hs nx zs n u prm g o x m y q d k (s .pre) (c .before .if1 .taken) (c .refuse .result) (c .refuse .ensures)
 
+plain-requires : tie.Need-plain-requires
+plain-requires c κs =
+    let s = c .before .before .before .before .before .before .before .before .before .before .before .before .before .before .before .before in
+    let a = s .args in
+    let b = a .records .now in
+    let p = a .places .now in
+    let hs = a .heads .now in
+    let nx = a .next .now in
+    let zs = a .sizes .now in
+    let n = a .count in
+    let u = a .used in
+    let prm = a .params .now in
+    let g = a .images .now in
+    let o = a .bound .now in
+    let d = a .args .now in
+    let x = a .list in
+    let m = a .m in
+    let y = a .names in
+    let q = a .named in
+    let k = a .n in
+    plain-asks b p hs nx zs n u prm g o x m y q d k (s .pre) (c .before .before .before .before .before .before .if1 .left)
+
+same-length : tie.Need-same-length
+same-length c = search needs
+
+same-length-2 : tie.Need-same-length-2
+same-length-2 c = search needs
+
+same-length-3 : tie.Need-same-length-3
+same-length-3 c = search needs
+
+same-length-4 : tie.Need-same-length-4
+same-length-4 c = search needs
+
+same-length-5 : tie.Need-same-length-5
+same-length-5 c = search needs
+
+returns-2 : tie.Need-returns-2
+returns-2 c =
+    let s = c .before .before .before .before .before .before .before .before .before .before .before .before .before .before .before .before .before .before .before .before .before .before .before .before .before .before .before in
+    let a = s .args in
+    let b = a .records .now in
+    let p = a .places .now in
+    let hs = a .heads .now in
+    let nx = a .next .now in
+    let zs = a .sizes .now in
+    let n = a .count in
+    let u = a .used in
+    let prm = a .params .now in
+    let g = a .images .now in
+    let o = a .bound .now in
+    let d = a .args .now in
+    let x = a .list in
+    let m = a .m in
+    let y = a .names in
+    let q = a .named in
+    let k = a .n in
+    called-plain b p hs nx zs n u prm g o x m y q d k (s .pre) (c .before .before .before .before .before .before .before .before .before .before .before .before .before .before .before .before .before .if1 .left) (c .before .before .before .before .before .before .before .before .before .before .before .before .before .before .before .before .if2 .taken) (c .before .before .before .before .before .before .before .before .before .before .plain .last .0) (c .before .before .before .before .before .before .before .before .before .before .plain .last .1 .0) (c .before .before .before .before .before .before .before .before .before .before .plain .last .1 .1 .0) (c .before .before .before .before .before .before .before .before .before .before .plain .last .1 .1 .1 .0) (c .before .before .before .before .before .before .before .before .before .before .plain .last .1 .1 .1 .1 .0) (c .before .before .before .before .before .before .before .before .before .before .plain .result) (c .before .before .before .before .before .before .before .before .before .before .plain .ensures)
+
 all-values-requires : tie.Need-all-values-requires
 all-values-requires c κs =
-    let s = c .before .before .before .before .before .before .before .before .before .before .before .before in
+    let s = c .before .before .before .before .before .before .before .before .before .before .before .before .before in
     let a = s .args in
     let b = a .records .now in
     let p = a .places .now in
@@ -54,7 +113,7 @@ all-values-requires c κs =
 
 delivered-requires : tie.Need-delivered-requires
 delivered-requires c κs =
-    let s = c .before .before .before .before .before .before .before .before .before .before .before .before .before .before .before .before .before .before .before .before .before .before in
+    let s = c .before .before .before .before .before .before .before .before .before .before .before .before .before .before .before .before .before .before .before .before .before .before .before in
     let a = s .args in
     let b = a .records .now in
     let p = a .places .now in
@@ -72,22 +131,7 @@ delivered-requires c κs =
     let y = a .names in
     let q = a .named in
     let k = a .n in
-    deliver-asks b p hs nx zs n u prm g o x m y q d k (s .pre) (c .before .before .before .before .before .before .before .before .before .before .before .before .if1 .left) (c .before .before .before .before .before .before .before .before .before .all-values .result) (c .before .before .before .before .before .before .before .before .before .all-values .ensures)
-
-same-length : tie.Need-same-length
-same-length c = search needs
-
-same-length-2 : tie.Need-same-length-2
-same-length-2 c = search needs
-
-same-length-3 : tie.Need-same-length-3
-same-length-3 c = search needs
-
-same-length-4 : tie.Need-same-length-4
-same-length-4 c = search needs
-
-same-length-5 : tie.Need-same-length-5
-same-length-5 c = search needs
+    deliver-asks b p hs nx zs n u prm g o x m y q d k (s .pre) (c .before .before .before .before .before .before .before .before .before .before .before .before .before .if1 .left)
 
 same-length-6 : tie.Need-same-length-6
 same-length-6 c = search needs
@@ -98,40 +142,24 @@ same-length-7 c = search needs
 same-length-8 : tie.Need-same-length-8
 same-length-8 c = search needs
 
-returns-2 : tie.Need-returns-2
-returns-2 c =
-    let s = c .before .before .before .before .before .before .before .before .before .before .before .before .before .before .before .before .before .before .before .before .before .before .before .before .before .before .before .before .before .before .before .before .before .before .before .before .before .before .before in
-    let a = s .args in
-    let b = a .records .now in
-    let p = a .places .now in
-    let hs = a .heads .now in
-    let nx = a .next .now in
-    let zs = a .sizes .now in
-    let n = a .count in
-    let u = a .used in
-    let prm = a .params .now in
-    let g = a .images .now in
-    let o = a .bound .now in
-    let d = a .args .now in
-    let x = a .list in
-    let m = a .m in
-    let y = a .names in
-    let q = a .named in
-    let k = a .n in
-    called-delivered b p hs nx zs n u prm g o x m y q d k (s .pre) (c .before .before .before .before .before .before .before .before .before .before .before .before .before .before .before .before .before .before .before .before .before .before .before .before .before .before .before .before .before .if1 .left) (c .before .before .before .before .before .before .before .before .before .before .before .before .before .before .before .before .before .before .before .before .before .before .before .before .before .before .all-values .result) (c .before .before .before .before .before .before .before .before .before .before .before .before .before .before .before .before .before .before .before .before .before .before .before .before .before .before .all-values .ensures) (c .before .before .before .before .before .before .before .before .before .before .before .before .before .before .before .before .before .before .before .before .before .before .before .before .before .if2 .taken) (c .before .before .before .before .before .before .before .before .before .before .before .before .before .before .before .before .delivered .last .0) (c .before .before .before .before .before .before .before .before .before .before .before .before .before .before .before .before .delivered .last .1 .0) (c .before .before .before .before .before .before .before .before .before .before .before .before .before .before .before .before .delivered .last .1 .1 .0) (c .before .before .before .before .before .before .before .before .before .before .before .before .before .before .before .before .delivered .last .1 .1 .1 .0) (c .before .before .before .before .before .before .before .before .before .before .before .before .before .before .before .before .delivered .last .1 .1 .1 .1 .0) (c .before .before .before .before .before .before .before .before .before .before .before .before .before .before .before .before .delivered .last .1 .1 .1 .1 .1 .1 .1 .0) (c .before .before .before .before .before .before .before .before .before .before .before .before .before .before .before .before .delivered .last .1 .1 .1 .1 .1 .1 .1 .1 .0) (c .before .before .before .before .before .before .before .before .before .before .before .before .before .before .before .before .delivered .last .1 .1 .1 .1 .1 .1 .1 .1 .1 .0) (c .before .before .before .before .before .before .before .before .before .before .before .before .before .before .before .before .delivered .result) (c .before .before .before .before .before .before .before .before .before .before .before .before .before .before .before .before .delivered .ensures)
-
-refuse-requires-2 : tie.Need-refuse-requires-2
-refuse-requires-2 c κs = search needs
-
 same-length-9 : tie.Need-same-length-9
 same-length-9 c = search needs
 
 same-length-10 : tie.Need-same-length-10
 same-length-10 c = search needs
 
+same-length-11 : tie.Need-same-length-11
+same-length-11 c = search needs
+
+same-length-12 : tie.Need-same-length-12
+same-length-12 c = search needs
+
+same-length-13 : tie.Need-same-length-13
+same-length-13 c = search needs
+
 returns-3 : tie.Need-returns-3
 returns-3 c =
-    let s = c .before .before .before .before .before .before .before .before .before .before .before .before .before .before .before in
+    let s = c .before .before .before .before .before .before .before .before .before .before .before .before .before .before .before .before .before .before .before .before .before .before .before .before .before .before .before .before .before .before .before .before .before .before .before .before .before .before .before .before in
     let a = s .args in
     let b = a .records .now in
     let p = a .places .now in
@@ -149,7 +177,38 @@ returns-3 c =
     let y = a .names in
     let q = a .named in
     let k = a .n in
-    called-misfit b p hs nx zs n u prm g o x m y q d k (s .pre) (c .before .before .before .before .before .if1 .left) (c .before .before .all-values .result) (c .before .before .all-values .ensures) (c .before .if2 .left) (c .refuse2 .result) (c .refuse2 .ensures)
+    called-delivered b p hs nx zs n u prm g o x m y q d k (s .pre) (c .before .before .before .before .before .before .before .before .before .before .before .before .before .before .before .before .before .before .before .before .before .before .before .before .before .before .before .before .before .before .if1 .left) (c .before .before .before .before .before .before .before .before .before .before .before .before .before .before .before .before .before .before .before .before .before .before .before .before .before .before .all-values .result) (c .before .before .before .before .before .before .before .before .before .before .before .before .before .before .before .before .before .before .before .before .before .before .before .before .before .before .all-values .ensures) (c .before .before .before .before .before .before .before .before .before .before .before .before .before .before .before .before .before .before .before .before .before .before .before .before .before .if3 .taken) (c .before .before .before .before .before .before .before .before .before .before .before .before .before .before .before .before .delivered .last .0) (c .before .before .before .before .before .before .before .before .before .before .before .before .before .before .before .before .delivered .last .1 .0) (c .before .before .before .before .before .before .before .before .before .before .before .before .before .before .before .before .delivered .last .1 .1 .0) (c .before .before .before .before .before .before .before .before .before .before .before .before .before .before .before .before .delivered .last .1 .1 .1 .0) (c .before .before .before .before .before .before .before .before .before .before .before .before .before .before .before .before .delivered .last .1 .1 .1 .1 .0) (c .before .before .before .before .before .before .before .before .before .before .before .before .before .before .before .before .delivered .last .1 .1 .1 .1 .1 .1 .1 .0) (c .before .before .before .before .before .before .before .before .before .before .before .before .before .before .before .before .delivered .last .1 .1 .1 .1 .1 .1 .1 .1 .0) (c .before .before .before .before .before .before .before .before .before .before .before .before .before .before .before .before .delivered .last .1 .1 .1 .1 .1 .1 .1 .1 .1 .0) (c .before .before .before .before .before .before .before .before .before .before .before .before .before .before .before .before .delivered .result) (c .before .before .before .before .before .before .before .before .before .before .before .before .before .before .before .before .delivered .ensures)
+
+refuse-requires-2 : tie.Need-refuse-requires-2
+refuse-requires-2 c κs = search needs
+
+same-length-14 : tie.Need-same-length-14
+same-length-14 c = search needs
+
+same-length-15 : tie.Need-same-length-15
+same-length-15 c = search needs
+
+returns-4 : tie.Need-returns-4
+returns-4 c =
+    let s = c .before .before .before .before .before .before .before .before .before .before .before .before .before .before .before .before in
+    let a = s .args in
+    let b = a .records .now in
+    let p = a .places .now in
+    let hs = a .heads .now in
+    let nx = a .next .now in
+    let zs = a .sizes .now in
+    let n = a .count in
+    let u = a .used in
+    let prm = a .params .now in
+    let g = a .images .now in
+    let o = a .bound .now in
+    let d = a .args .now in
+    let x = a .list in
+    let m = a .m in
+    let y = a .names in
+    let q = a .named in
+    let k = a .n in
+    called-misfit b p hs nx zs n u prm g o x m y q d k (s .pre) (c .before .before .before .before .before .before .if1 .left) (c .before .before .all-values .result) (c .before .before .all-values .ensures) (c .before .if3 .left) (c .refuse2 .result) (c .refuse2 .ensures)
 
 pub called-spec : {M : Type 1} → statement M
-called-spec = tie.close (tie.spec refuse-requires returns all-values-requires delivered-requires same-length same-length-2 same-length-3 same-length-4 same-length-5 same-length-6 same-length-7 same-length-8 returns-2 refuse-requires-2 same-length-9 same-length-10 returns-3)
+called-spec = tie.close (tie.spec refuse-requires returns plain-requires same-length same-length-2 same-length-3 same-length-4 same-length-5 returns-2 all-values-requires delivered-requires same-length-6 same-length-7 same-length-8 same-length-9 same-length-10 same-length-11 same-length-12 same-length-13 returns-3 refuse-requires-2 same-length-14 same-length-15 returns-4)

@@ -1,0 +1,120 @@
+// The checked sort of an App whose head is a Function without parameters: an argument fits a sort of the head's list exactly
+// if it is that sort and no Par stands in it.
+use answers::Answer;
+use answers::lists::remaining;
+use answers::refuse;
+use record::u16_at;
+use rows::Cause;
+use store::entries::entry;
+ghost use mathlib.Core.Path.{_≡_};
+ghost use Rattle.record.specs.Decode.{sortAt};
+ghost use Rattle.substitution.specs.Premises.{parless, parlessAll};
+ghost use Rattle.matching.specs.Contract.{sortsAt};
+ghost use Rattle.application.specs.Contract.{ParlessAsks, ParlessAllAsks, ExactAsks, ExactIs, PlainAsks, PlainIs};
+
+// Whether no Par stands in the sort `k`. A sort of tree size 1 has no parts, and is no Par.
+pub fn is_parless(records: &[u8], places: &[u32], sizes: &[u16], count: usize, k: usize) -> bool
+    requires { ⌜ ParlessAsks (now records) (now places) (now sizes) count k ⌝ }
+    ensures { λ r. ⌜ r ≡ parless (sortAt (now (records .entry)) (now (places .entry)) count k) ⌝ }
+{
+    if sizes[k] == 1 {
+        return true;
+    }
+    let a = entry(records, places, k);
+    if a.kind == 12 {
+        return false;
+    }
+    all_parless(records, places, sizes, count, a.list, a.count)
+}
+
+// Whether no Par stands in any of the `left` sorts that the store names from `at` on.
+pub fn all_parless(
+    records: &[u8],
+    places: &[u32],
+    sizes: &[u16],
+    count: usize,
+    at: usize,
+    left: usize,
+) -> bool
+    requires { ⌜ ParlessAllAsks (now records) (now places) (now sizes) count at left ⌝ }
+    ensures { λ r. ⌜ r ≡ parlessAll (sortsAt (now (records .entry)) (now (places .entry)) count (now (records .entry)) at left) ⌝ }
+{
+    if left == 0 {
+        return true;
+    }
+    let k = u16_at(records, at);
+    if is_parless(records, places, sizes, count, k) {
+        return all_parless(records, places, sizes, count, at + 2, left - 1);
+    }
+    false
+}
+
+// Whether the n arguments in `args` from byte 5 on are the sorts that the store names from `list` on, and no Par stands in
+// them.
+pub fn all_exact(
+    records: &[u8],
+    places: &[u32],
+    sizes: &[u16],
+    count: usize,
+    list: usize,
+    args: &[u8],
+    n: usize,
+) -> bool
+    requires { ⌜ ExactAsks (now records) (now places) (now sizes) count list (now args) n ⌝ }
+    ensures { λ r. ⌜ ExactIs (now (records .entry)) (now (places .entry)) count list (now (args .entry)) n r ⌝ }
+{
+    let mut at = list;
+    let mut to = 5;
+    let mut left = n;
+    while 0 < left {
+        let k = u16_at(records, at);
+        let t = u16_at(args, to);
+        if k != t {
+            return false;
+        }
+        if !is_parless(records, places, sizes, count, k) {
+            return false;
+        }
+        at += 2;
+        to += 2;
+        left -= 1;
+    }
+    true
+}
+
+// What remains of a head's m sorts from `list` on at n arguments, fewer than m: the last one by itself, or the Function of
+// them, found or added, Limit or Full; Misfit where an argument is not the sort in its place, or a Par stands in it.
+pub fn plain(
+    records: &mut [u8],
+    places: &mut [u32],
+    heads: &mut [u16],
+    next: &mut [u16],
+    sizes: &mut [u16],
+    count: usize,
+    used: usize,
+    list: usize,
+    m: usize,
+    args: &[u8],
+    n: usize,
+) -> Answer
+    requires { ⌜ PlainAsks (now records) (now places) (now heads) (now next) (now sizes) count used list m (now args) n ⌝ }
+    ensures { λ r. ⌜ PlainIs (now (records .entry)) (now (places .entry)) count list m (now (args .entry)) n (now (records .exit)) (now (places .exit)) (now (heads .exit)) (now (next .exit)) (now (sizes .exit)) r ⌝ }
+{
+    if all_exact(records, places, sizes, count, list, args, n) {
+        let at = list + 2 * n;
+        let mut rec = [0u8; 131];
+        return remaining(
+            records,
+            places,
+            heads,
+            next,
+            sizes,
+            count,
+            used,
+            &mut rec,
+            at,
+            m - n,
+        );
+    }
+    refuse(Cause::Misfit, count, used)
+}
