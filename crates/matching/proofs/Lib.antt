@@ -2,6 +2,7 @@ mod NamesLaws
 mod MapLaws
 mod HeadLaws
 mod WalkLaws
+mod NoteLaws
 mod PremiseLaws
 mod CompatibleLaws
 mod PlainLaws

@@ -1,4 +1,5 @@
 pub mod Tables
 pub mod Contract
+pub mod Notes
 pub mod TableLaws
 pub mod Entered
