@@ -6,5 +6,6 @@ mod NoteLaws
 mod PremiseLaws
 mod CompatibleLaws
 mod PlainLaws
+mod MetLaws
 mod GeneralLaws
 mod TurnLaws

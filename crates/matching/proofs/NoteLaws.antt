@@ -8,7 +8,7 @@ use lib.Seq.{getD-set-same, getD-set-other}
 use native.Mathlib.Decide.{ℕ-discrete}
 use Rattle.matching.specs.Notes.{Table, NoteIs}
 
-zeros-are : (n i : ℕ) → _≡_ {A = ℕ} (getD (replicate n 0) i 0) 0
+pub zeros-are : (n i : ℕ) → _≡_ {A = ℕ} (getD (replicate n 0) i 0) 0
 zeros-are zero i = refl
 zeros-are (suc n) zero = refl
 zeros-are (suc n) (suc i) = zeros-are n i
