@@ -7,5 +7,6 @@ mod PremiseLaws
 mod CompatibleLaws
 mod PlainLaws
 mod MetLaws
+mod WithLaws
 mod GeneralLaws
 mod TurnLaws

@@ -1,14 +1,11 @@
 -- A pair that matched matches again: from every map that binds what was bound then, and it binds nothing (`match-again`).
 -- So a table of such pairs stays right while the map grows.
-use Prim.Native.Nat.{ℕ, _+_, _*_, _%_, _<_}
+use Prim.Native.Nat.{ℕ, _%_, _<_}
 use mathlib.Core.Path.{_≡_, refl, sym, ap, _∙_}
 use mathlib.Core.Bool.{Bool, _&&_}
 use mathlib.Core.List.{List}
 use mathlib.Core.Option.{some}
-use native.Mathlib.Omega.{arith}
-use native.Mathlib.Decide.{ℕ-discrete}
-use lib.ListN.{length, getD, set, replicate, length-set, length-replicate}
-use lib.Seq.{getD-set-same, getD-set-other}
+use lib.ListN.{getD}
 use lib.Dec.{eqb}
 use Rattle.record.specs.Cases.{byTest, byOption, none-some, some-inj, eqb-self}
 use Rattle.record.specs.Sort.{Sort, Sorts, var, par, node, end, _then_, same}
@@ -21,13 +18,13 @@ use Rattle.matching.specs.declared.Matched.{Matched}
 use Rattle.matching.specs.declared.Matched.the-variants.{Fits, Misfits}
 use Rattle.matching.specs.Tables.{mapOf, listed}
 use Rattle.matching.specs.Contract.{MatchAsks, MatchIs}
-use Rattle.matching.specs.Notes.{pairOf, PairIs, Met, MetBefore, MetAfter}
-use Rattle.matching.proofs.NoteLaws.{zeros-are}
+use Rattle.matching.specs.Notes.{pairOf, PairIs, MatchedAt, MetBefore, MetAfter}
+use Rattle.matching.proofs.NoteLaws.{pairs-more, pairs-put}
 use Rattle.matching.proofs.MapLaws.{answered-as, answered-fits}
 
 ---------------------------------------------------------------- on trees
 -- θ binds what m binds.
-abbrev Holds : Map → Map → Type 0
+abbrev pub Holds : Map → Map → Type 0
 Holds m θ = (u : ℕ) (s : Sort) → find m u ≡ some s → find θ u ≡ some s
 
 mutual
@@ -60,40 +57,6 @@ mutual
       rw (match-again ns p t m k θ f (λ u s q. g u s (matchAll-extends ns ps ts k m′ h u s q)))
       (matchAll-again ns ps ts k m′ θ h g)
 
----------------------------------------------------------------- the tables
--- Nothing is noted in a table of zeros.
-pub met-none : (b p : List ℕ) (n : ℕ) (prm : List ℕ) (θ : Map) → Met b p n prm θ (replicate 64 0)
-met-none b p n prm θ =
-    record { long = length-replicate {A = ℕ} 64 0; each = λ f told i k j below e. absurd (omega (arith, zeros-are 64 i)) }
-
--- The same table for a map that binds more.
-met-more : (b p : List ℕ) (n : ℕ) (prm : List ℕ) (θ η : Map) (l : List ℕ) → Met b p n prm θ l → Holds θ η → Met b p n prm η l
-met-more b p n prm θ η l h g =
-    record {
-      long = h .long;
-      each = λ f told i k j below e. match-again f (sortAt b p n k) (sortAt b p n j) θ θ η (h .each f told i k j below e) g;
-    }
-
--- One more pair.
-met-put : (b p : List ℕ) (n : ℕ) (prm : List ℕ) (θ : Map) (l : List ℕ) (k j : ℕ) (l′ : List ℕ) → j < 65536 → Met b p n prm θ l
-    → ((f : ℕ → Bool) → ((v : ℕ) → f v ≡ listed prm v) → matches f (sortAt b p n k) (sortAt b p n j) θ ≡ some θ)
-    → PairIs l k j l′ → Met b p n prm θ l′
-met-put b p n prm θ l k j l′ small t h q =
-    record {
-      long = ap length q ∙ length-set l (k % 64) (pairOf k j) ∙ t .long;
-      each = λ f told i x y below e. go f told i x y below (ap (λ (z : List ℕ). getD z i 0) (sym q) ∙ e) (ℕ-discrete i (k % 64));
-    }
-  where
-    go : (f : ℕ → Bool) → ((v : ℕ) → f v ≡ listed prm v) → (i x y : ℕ) → y < 65536 → getD (set l (k % 64) (pairOf k j)) i 0 ≡ pairOf x y → Dec (i ≡ k % 64)
-        → matches f (sortAt b p n x) (sortAt b p n y) θ ≡ some θ
-    go f told i x y below e (yes z) =
-        let w : getD (set l (k % 64) (pairOf k j)) (k % 64) 0 ≡ pairOf k j = getD-set-same l (k % 64) (pairOf k j) 0 (omega (arith, t .long)) in
-        let v = ap (λ (u : ℕ). getD (set l (k % 64) (pairOf k j)) u 0) z in
-        let dx : k ≡ x = omega (arith, v, w, e) in
-        let dy : j ≡ y = omega (arith, v, w, e) in
-        rw (← dx, ← dy) (h f told)
-    go f told i x y below e (no d) = t .each f told i x y below (sym (getD-set-other l (k % 64) i (pairOf k j) 0 d) ∙ e)
-
 ---------------------------------------------------------------- after a match
 module _ (b p : List ℕ) (n : ℕ) (prm imgs bnd : List ℕ) (m k j : ℕ) (imgs′ bnd′ : List ℕ) where
   -- The map found binds what was bound.
@@ -105,14 +68,17 @@ module _ (b p : List ℕ) (n : ℕ) (prm imgs bnd : List ℕ) (m k j : ℕ) (img
   -- A table that was left as it was.
   pub after-same : (l : List ℕ) (z : Matched) → MetBefore b p n prm imgs bnd m l → MatchIs b p n prm imgs bnd m k j imgs′ bnd′ z
       → MetAfter b p n prm imgs′ bnd′ l z
-  after-same l (Fits i) t h = met-more b p n prm (mapOf (storeOf b p n) imgs bnd m) (mapOf (storeOf b p n) imgs′ bnd′ i) l t (grown i h)
+  after-same l (Fits i) t h =
+      pairs-more (MatchedAt b p n prm (mapOf (storeOf b p n) imgs bnd m)) (MatchedAt b p n prm (mapOf (storeOf b p n) imgs′ bnd′ i)) l
+      (λ x y q f told. match-again f (sortAt b p n x) (sortAt b p n y) (mapOf (storeOf b p n) imgs bnd m) (mapOf (storeOf b p n) imgs bnd m) (mapOf (storeOf b p n) imgs′ bnd′ i) (q f told) (grown i h))
+      t
   after-same l (Misfits i) t h = tt
 
   -- A table right for the map found, with the pair noted.
   pub after-put : (l l′ : List ℕ) (z : Matched) → j < 65536 → MetAfter b p n prm imgs′ bnd′ l z → MatchIs b p n prm imgs bnd m k j imgs′ bnd′ z
       → PairIs l k j l′ → MetAfter b p n prm imgs′ bnd′ l′ z
   after-put l l′ (Fits i) small t h q =
-      met-put b p n prm (mapOf (storeOf b p n) imgs′ bnd′ i) l k j l′ small t
+      pairs-put (MatchedAt b p n prm (mapOf (storeOf b p n) imgs′ bnd′ i)) l k j l′ small t
       (λ f told. match-again f (sortAt b p n k) (sortAt b p n j) (mapOf (storeOf b p n) imgs bnd m) (mapOf (storeOf b p n) imgs′ bnd′ i) (mapOf (storeOf b p n) imgs′ bnd′ i)
       (sym (h f told .result)) (λ u s e. e))
       q
@@ -120,6 +86,6 @@ module _ (b p : List ℕ) (n : ℕ) (prm imgs bnd : List ℕ) (m k j : ℕ) (img
 
 -- A pair that is noted fits, and the tables of the map are as they were.
 pub met-fits : (b p : List ℕ) (n : ℕ) (prm imgs bnd : List ℕ) (m k j : ℕ) (l : List ℕ) → MatchAsks b p n prm imgs bnd m k j → j < 65536
-    → MetBefore b p n prm imgs bnd m l → getD l (k % 64) 0 ≡ pairOf k j → MatchIs b p n prm imgs bnd m k j imgs bnd (Fits m)
+    → MetBefore b p n prm imgs bnd m l → getD l (k % 32) 0 ≡ pairOf k j → MatchIs b p n prm imgs bnd m k j imgs bnd (Fits m)
 met-fits b p n prm imgs bnd m k j l a small t e f told =
-    answered-as (sym (t .each f told (k % 64) k j small e)) (answered-fits b p n imgs bnd m (a .mapped))
+    answered-as (sym (t .each (k % 32) k j small e f told)) (answered-fits b p n imgs bnd m (a .mapped))

@@ -8,6 +8,7 @@ use lib.ListN.{length, getD, set}
 use Rattle.record.specs.Decode.{storeOf, sortAt}
 use Rattle.substitution.specs.Substitution.{Map}
 use Rattle.substitution.specs.Matching.{matches, known, unlisted}
+use Rattle.substitution.specs.MatchWith.{matchWith}
 use Rattle.substitution.specs.Premises.{proper}
 use Rattle.matching.specs.Tables.{Lists, Told, mapOf}
 use Rattle.matching.specs.declared.Matched.{Matched}
@@ -45,26 +46,40 @@ abbrev pub pairOf : ℕ → ℕ → ℕ
 pairOf k j = (k + 1) * 65536 + j
 
 pub record MetAsks (l : List ℕ) (k j : ℕ) : Type 0 where
-  pub long : length l ≡ 64
+  pub long : length l ≡ 32
   pub small : k < 65535
   pub target : j < 65536
 
 abbrev pub MetIs : List ℕ → ℕ → ℕ → Bool → Type 0
-MetIs l k j r = r ≡ true → getD l (k % 64) 0 ≡ pairOf k j
+MetIs l k j r = r ≡ true → getD l (k % 32) 0 ≡ pairOf k j
 
 abbrev pub PairIs : List ℕ → ℕ → ℕ → List ℕ → Type 0
-PairIs l k j l′ = l′ ≡ set l (k % 64) (pairOf k j)
+PairIs l k j l′ = l′ ≡ set l (k % 32) (pairOf k j)
 
--- A table in which each pair noted matches from the map θ and gives θ, for every test of names that the table prm stands for.
-pub record Met (b p : List ℕ) (n : ℕ) (prm : List ℕ) (θ : Map) (l : List ℕ) : Type 0 where
-  pub long : length l ≡ 64
-  pub each : (f : ℕ → Bool) → Told prm f → (i k j : ℕ) → j < 65536 → getD l i 0 ≡ pairOf k j
-      → matches f (sortAt b p n k) (sortAt b p n j) θ ≡ some θ
+-- A table of 32 entries in which G holds of each pair noted.
+pub record Pairs (G : ℕ → ℕ → Type 0) (l : List ℕ) : Type 0 where
+  pub long : length l ≡ 32
+  pub each : (i k j : ℕ) → j < 65536 → getD l i 0 ≡ pairOf k j → G k j
+
+-- The pattern k matches the target j from the map θ and gives θ, for every test of names that the table prm stands for.
+abbrev pub MatchedAt : List ℕ → List ℕ → ℕ → List ℕ → Map → ℕ → ℕ → Type 0
+MatchedAt b p n prm θ k j = (f : ℕ → Bool) → Told prm f → matches f (sortAt b p n k) (sortAt b p n j) θ ≡ some θ
 
 abbrev pub MetBefore : List ℕ → List ℕ → ℕ → List ℕ → List ℕ → List ℕ → ℕ → List ℕ → Type 0
-MetBefore b p n prm imgs bnd m l = Met b p n prm (mapOf (storeOf b p n) imgs bnd m) l
+MetBefore b p n prm imgs bnd m l = Pairs (MatchedAt b p n prm (mapOf (storeOf b p n) imgs bnd m)) l
 
 -- After a match, for the map found; nothing is said of the table after a misfit.
 abbrev pub MetAfter : List ℕ → List ℕ → ℕ → List ℕ → List ℕ → List ℕ → List ℕ → Matched → Type 0
-MetAfter b p n prm imgs bnd l (Fits m) = Met b p n prm (mapOf (storeOf b p n) imgs bnd m) l
+MetAfter b p n prm imgs bnd l (Fits m) = MetBefore b p n prm imgs bnd m l
 MetAfter b p n prm imgs bnd l (Misfits m) = Unit {0}
+
+-- The same by match_with, for every list of names that the table lists.
+abbrev pub MatchedWith : List ℕ → List ℕ → ℕ → List ℕ → Map → ℕ → ℕ → Type 0
+MatchedWith b p n prm θ k j = (ns : List ℕ) → Lists prm ns → matchWith ns (sortAt b p n k) (sortAt b p n j) θ ≡ some θ
+
+abbrev pub WithBefore : List ℕ → List ℕ → ℕ → List ℕ → List ℕ → List ℕ → ℕ → List ℕ → Type 0
+WithBefore b p n prm imgs bnd m l = Pairs (MatchedWith b p n prm (mapOf (storeOf b p n) imgs bnd m)) l
+
+abbrev pub WithAfter : List ℕ → List ℕ → ℕ → List ℕ → List ℕ → List ℕ → List ℕ → Matched → Type 0
+WithAfter b p n prm imgs bnd l (Fits m) = WithBefore b p n prm imgs bnd m l
+WithAfter b p n prm imgs bnd l (Misfits m) = Unit {0}

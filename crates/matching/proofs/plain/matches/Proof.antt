@@ -1,9 +1,9 @@
 -- The walk from an empty table.
-use native.Mathlib.Omega.{arith}
 use borrow.Author.Needs.{needs}
 use Rattle.record.specs.Decode.{storeOf}
 use Rattle.matching.specs.Tables.{mapOf}
-use Rattle.matching.proofs.MetLaws.{met-none}
+use Rattle.matching.specs.Notes.{MatchedAt}
+use Rattle.matching.proofs.NoteLaws.{pairs-none}
 use Rattle.matching.proofs.plain.matches.Statement.{statement}
 use Rattle.matching.proofs.plain.matches.Tie as tie
 
@@ -21,7 +21,7 @@ matches-past-requires c κs =
     let imgs = a .images .now in
     let bnd = a .bound .now in
     let m = a .m in
-    (s .pre, met-none b p n prm (mapOf (storeOf b p n) imgs bnd m))
+    (s .pre, pairs-none (MatchedAt b p n prm (mapOf (storeOf b p n) imgs bnd m)))
 
 same-length : tie.Need-same-length
 same-length c = search needs

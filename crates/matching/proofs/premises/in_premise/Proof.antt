@@ -1,5 +1,4 @@
 -- One test after another, each from what the tests before it have noted.
-use native.Mathlib.Omega.{arith}
 use borrow.Author.Needs.{needs}
 use Rattle.record.specs.Cases.{not-true, not-false}
 use Rattle.matching.specs.Notes.{KnownAt, UnlistedAt}

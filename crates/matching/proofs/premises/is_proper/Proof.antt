@@ -1,5 +1,4 @@
 -- The walk from an empty table.
-use native.Mathlib.Omega.{arith}
 use borrow.Author.Needs.{needs}
 use Rattle.matching.specs.Notes.{ProperAt}
 use Rattle.matching.proofs.NoteLaws.{table-none}
