@@ -1,18 +1,18 @@
 -- Laws of the numbers held in an array: one more, those read from bytes, and the names without an image.
 use Prim.Native.Nat.{ℕ, zero, suc, _+_, _*_, _-_, _≤_, _<_}
-use mathlib.Core.Path.{_≡_, refl, sym, ap, subst, _∙_}
+use mathlib.Core.Path.{_≡_, refl, sym, ap, ap₂, subst, _∙_}
 use mathlib.Core.Bool.{Bool, true, false, cond}
 use mathlib.Core.List.{List, [], _∷_, _++_, append-nil}
 use native.Mathlib.Omega.{arith}
 use native.Mathlib.Numerals.{add-one}
 use lib.ListN.{length, getD, set, take, replicate, length-set, length-append, length-replicate}
-use lib.Seq.{length-take-le, take-suc-set, append-snoc}
+use lib.Seq.{length-take-le, take-suc, take-suc-set, append-snoc}
 use lib.Dec.{eqb}
 use borrow.Author.Tests.{eq-eqb, ne-eqb}
 use Rattle.record.specs.Number.{u16At, numbersAt}
 use Rattle.record.specs.Codec.{numbers-more}
 use Rattle.apply.specs.declared.lists.Numbers.{Numbers}
-use Rattle.apply.specs.Lists.{numbersOf, unbound, Has, AddAsks, KeepAsks, ReadAsks, NamesAsk}
+use Rattle.apply.specs.Lists.{numbersOf, unbound, Has, AddAsks, KeepAsks, ReadAsks, NamesAsk, SameAsks}
 
 pub has-length : (o : Numbers) (vs : List ℕ) → Has o vs → length vs ≡ o .count
 has-length o vs h = sym (ap length (h .is)) ∙ length-take-le (o .count) (o .list) (omega (arith, h .long, h .few))
@@ -95,6 +95,39 @@ read-end b x n out y m i h =
       is = sym (append-nil (numbersOf out)) ∙ ap (λ (vs : List ℕ). numbersOf out ++ vs) (sym (numbers-none b y m h)) ∙ i .whole;
     }
 
+-- The first numbers of a list so far, and those left of what stands there, make what stands there.
+pub record SameInv (b : List ℕ) (x : ℕ) (l : List ℕ) (n y j : ℕ) : Type 0 where
+  pub low : j ≤ n
+  pub within : y + 2 * (n - j) ≤ length b
+  pub whole : take j l ++ numbersAt b y (n - j) ≡ numbersAt b x n
+
+pub same-start : (b : List ℕ) (x : ℕ) (l : List ℕ) (n : ℕ) → SameAsks b x l n → SameInv b x l n x 0
+same-start b x l n a =
+    let e : n - 0 ≡ n = omega arith in
+    record { low = omega arith; within = omega (arith, a .within); whole = ap (numbersAt b x) e }
+
+pub same-more : (b : List ℕ) (x : ℕ) (l : List ℕ) (n y j : ℕ) → SameInv b x l n y j → j < n → j < length l → u16At b y ≡ getD l j 0
+    → SameInv b x l n (y + 2) (j + 1)
+same-more b x l n y j i h k q =
+    let e : n - (j + 1) ≡ n - j - 1 = omega arith in
+    record {
+      low = omega arith;
+      within = omega (arith, i .within);
+      whole =
+          ap₂ (λ (c r : ℕ). take c l ++ numbersAt b (y + 2) r) (add-one j) e
+          ∙ ap (λ (vs : List ℕ). vs ++ numbersAt b (y + 2) (n - j - 1)) (take-suc l j 0 k)
+          ∙ append-snoc (take j l) (getD l j 0) (numbersAt b (y + 2) (n - j - 1))
+          ∙ ap (λ (v : ℕ). take j l ++ v ∷ numbersAt b (y + 2) (n - j - 1)) (sym q)
+          ∙ ap (λ (vs : List ℕ). take j l ++ vs) (sym (numbers-more b y (n - j) (omega arith)))
+          ∙ i .whole;
+    }
+
+pub same-end : (b : List ℕ) (x : ℕ) (l : List ℕ) (n y j : ℕ) → SameInv b x l n y j → n ≤ j → take n l ≡ numbersAt b x n
+same-end b x l n y j i h =
+    let e : n ≡ j = omega (arith, i .low) in
+    ap (λ (c : ℕ). take c l) e ∙ sym (append-nil (take j l))
+    ∙ ap (λ (vs : List ℕ). take j l ++ vs) (sym (numbers-none b y (n - j) (omega arith))) ∙ i .whole
+
 -- One name: it stays if it has no image.
 pub unbound-free : (l : List ℕ) (v : ℕ) → getD l v 0 ≡ 0 → unbound l (v ∷ []) ≡ v ∷ []
 unfolding unbound
@@ -123,6 +156,26 @@ one-most false v = omega arith
 unbound-one : (l : List ℕ) (v : ℕ) → length (unbound l (v ∷ [])) ≤ 1
 unfolding unbound
 unbound-one l v = one-most (eqb (getD l v 0) 0) v
+
+few-by : (t : Bool) (v : ℕ) (r : List ℕ) (n : ℕ) → length r ≤ n → length (cond t (v ∷ r) r) ≤ suc n
+few-by true v r n h = omega arith
+few-by false v r n h = omega arith
+
+unbound-few : (l vs : List ℕ) → length (unbound l vs) ≤ length vs
+unfolding unbound
+unbound-few l [] = omega arith
+unbound-few l (v ∷ vs) = few-by (eqb (getD l v 0) 0) v (unbound l vs) (length vs) (unbound-few l vs)
+
+all-by : (t : Bool) (v : ℕ) (r vs : List ℕ) → length r ≤ length vs → (length r ≡ length vs → r ≡ vs) → length (cond t (v ∷ r) r) ≡ suc (length vs)
+    → cond t (v ∷ r) r ≡ v ∷ vs
+all-by true v r vs h f e = ap (λ (ws : List ℕ). v ∷ ws) (f (omega arith))
+all-by false v r vs h f e = absurd (omega arith)
+
+-- As many names as before are the names before.
+pub unbound-all : (l vs : List ℕ) → length (unbound l vs) ≡ length vs → unbound l vs ≡ vs
+unfolding unbound
+unbound-all l [] e = refl
+unbound-all l (v ∷ vs) e = all-by (eqb (getD l v 0) 0) v (unbound l vs) vs (unbound-few l vs) (unbound-all l vs) e
 
 cons-by : (t : Bool) (v : ℕ) (s r : List ℕ) → s ++ cond t (v ∷ []) [] ++ r ≡ s ++ cond t (v ∷ r) r
 cons-by true v s r = append-snoc s v r

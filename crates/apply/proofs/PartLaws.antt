@@ -30,7 +30,7 @@ use Rattle.apply.specs.Made.{Made, made-starts, made-there, made-known, 
 use Rattle.apply.specs.Halted.{Halted, made-over, halted-over}
 use Rattle.apply.specs.Contract.{answerAt, answersAt, SortAsks, PartsAsk, PartsMade, PartsAre, RebuildAsks}
 use Rattle.apply.proofs.ListLaws.{has-length, has-own, set-small}
-use Rattle.apply.proofs.SortForms.{rebuilt, image-is, image-known, answer-rebuilt, parts-one, intern-rebuilt, starts-rebuilt, sizes-within, size-refs}
+use Rattle.apply.proofs.SortForms.{rebuilt, image-is, image-known, answer-rebuilt, answer-leaf, parts-one, intern-rebuilt, starts-rebuilt, sizes-within, size-refs}
 
 -- One of several sorts is no larger than all, and its answer no larger than all answers.
 size-one-of : (st : List Sort) (vs : List ℕ) (j : ℕ) → j < length vs → size (getD st (getD vs j 0) leaf) ≤ sizes (sortsOf st vs)
@@ -260,6 +260,12 @@ module _ (b p hs ns zs : List ℕ) (n u k : ℕ) (l : List ℕ) (a : SortAsks b 
       (ap (sortAt b p n) q ∙ image-is b p n l (a .ready .good .stored) (a .ready .table) k (a .known) e is h)
       (made-known-sort b p hs ns zs n u (a .ready .good) i
       (omega (arith, q, image-known b p n l (a .ready .good .stored) (a .ready .table) k (a .known) e is)))
+
+  pub sort-leaf : (e .kind ≡ 2 → ⊥) → e .count ≡ 0 → Made b p n u (answerAt b p n l k) b p hs ns zs k n u
+  sort-leaf d z =
+      subst (λ (s : Sort). Made b p n u s b p hs ns zs k n u)
+      (answer-leaf b p n l (a .ready .good .stored) (a .ready .table) k (a .known) e is d z)
+      (made-known-sort b p hs ns zs n u (a .ready .good) k (a .known))
 
   pub sort-read : ReadAsks b (e .list) (e .count)
   sort-read = record { within = is .place .list; few = is .few }

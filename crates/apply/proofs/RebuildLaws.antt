@@ -10,6 +10,7 @@ use Rattle.record.specs.Number.{numbersAt}
 use Rattle.record.specs.Sort.{Sort, Sorts, end, _then_, count, size, partsOf}
 use Rattle.record.specs.Record.{sortOf}
 use Rattle.record.specs.Store.{memb, indexOf, indicesOf}
+use Rattle.record.specs.Codec.{length-numbersAt}
 use Rattle.record.specs.Decode.{fields, storeOf, sortAt}
 use Rattle.record.specs.Cases.{and-left}
 use Rattle.record.specs.SortLists.{membAll, intern-known}
@@ -22,13 +23,13 @@ use Rattle.store.specs.declared.Interned.{Interned}
 use Rattle.substitution.specs.Substitution.{applyAll}
 use Rattle.substitution.specs.SubstitutionLaws.{count-applied}
 use Rattle.apply.specs.declared.lists.Numbers.{Numbers}
-use Rattle.apply.specs.Lists.{numbersOf, unbound, Has}
+use Rattle.apply.specs.Lists.{numbersOf, unbound, Has, SameAsks}
 use Rattle.apply.specs.Draft.{fieldsIn}
 use Rattle.apply.specs.Images.{imagesOf, unbound-left}
-use Rattle.apply.specs.Made.{Made, MadeIs, MakeAsks, kept-self}
+use Rattle.apply.specs.Made.{Made, MadeIs, MakeAsks, kept-self, made-known-sort}
 use Rattle.apply.specs.Contract.{goes, answerAt, RebuildAsks}
-use Rattle.apply.proofs.ListLaws.{has-length, has-own}
-use Rattle.apply.proofs.SortForms.{headOf, rebuilt, rebuilt-gone, rebuilt-sort, one-part, goes-par, goes-some, sorts-back, indices-below, shape-left, entry-shape, answer-rebuilt, parts-one}
+use Rattle.apply.proofs.ListLaws.{has-length, has-own, unbound-all}
+use Rattle.apply.proofs.SortForms.{headOf, rebuilt, rebuilt-gone, rebuilt-sort, one-part, goes-par, goes-some, sorts-back, indices-below, shape-left, entry-shape, entry-sort, answer-rebuilt, parts-one}
 
 -- The one part's number, where the list of numbers is that of one sort.
 head-there : (ps : Sorts) (st : List Sort) → ps ≡ headOf ps then end → membAll ps st ≡ true → memb (headOf ps) st ≡ true
@@ -59,6 +60,24 @@ module _ (b p hs ns zs : List ℕ) (n u k : ℕ) (parts : Numbers) (l : List ℕ
   goes-at : (t : Bool) → goes (r .kind) (o .count) ≡ t → goes (r .kind) (length names) ≡ t
   goes-at t g = ap (goes (r .kind)) (has-length o names ho) ∙ g
 
+  as-many : length (numbersOf parts) ≡ length (numbersAt b (r .list) (r .count))
+  as-many =
+      ap length (a .has .is) ∙ length-indices ps (storeOf b p n) ∙ count-applied (imagesOf (storeOf b p n) l) (partsOf (sortAt b p n k))
+      ∙ ap count (sym (e .parts)) ∙ count-sorts (storeOf b p n) (numbersAt b (r .list) (r .count))
+
+  count-same : parts .count ≡ r .count
+  count-same =
+      sym (has-length parts (numbersOf parts) (has-own parts (indicesOf ps (storeOf b p n)) (a .has))) ∙ as-many
+      ∙ length-numbersAt b (r .list) (r .count)
+
+  pub rebuild-same-asks : SameAsks b (r .list) (parts .list) (parts .count)
+  rebuild-same-asks =
+      record {
+        within = omega (arith, e .place .list, count-same);
+        long = omega (arith, a .has .few, a .has .long);
+        few = a .has .few;
+      }
+
   pub rebuild-gone : goes (r .kind) (o .count) ≡ true → Made b p n u (answerAt b p n l k) b p hs ns zs (getD (parts .list) 0 0) n u
   rebuild-gone g =
       let single = one-part ps (one (goes-par (r .kind) (o .count) g .0)) in
@@ -83,10 +102,19 @@ module _ (b p hs ns zs : List ℕ) (n u k : ℕ) (parts : Numbers) (l : List ℕ
         ∙ ap (rebuilt (r .kind) (r .name) (r .number) names) (sorts-back ps (storeOf b p n) (a .there))
         ∙ sym answer-is
 
-    as-many : length (numbersOf parts) ≡ length (numbersAt b (r .list) (r .count))
-    as-many =
-        ap length (a .has .is) ∙ length-indices ps (storeOf b p n) ∙ count-applied (imagesOf (storeOf b p n) l) (partsOf (sortAt b p n k))
-        ∙ ap count (sym (e .parts)) ∙ count-sorts (storeOf b p n) (numbersAt b (r .list) (r .count))
+    -- Parts and names as they were: the sort stays as it is.
+    pub rebuild-same : o .count ≡ r .named → numbersOf parts ≡ numbersAt b (r .list) (parts .count)
+        → Made b p n u (answerAt b p n l k) b p hs ns zs k n u
+    rebuild-same en ep =
+        let own = numbersAt b (r .names) (r .named) in
+        let ns-same : numbersOf o ≡ own =
+        ho .is ∙ unbound-all l own (has-length o names ho ∙ en ∙ sym (length-numbersAt b (r .names) (r .named))) in
+        subst (λ (s : Sort). Made b p n u s b p hs ns zs k n u)
+        (entry-sort b p n l (a .ready .good .stored) (a .ready .table) k (a .known) r e
+        ∙ sym (ap₂ (λ (x y : List ℕ). sortOf (storeOf b p n) (fields (r .kind) (r .name) (r .number) x y))
+        (ep ∙ ap (numbersAt b (r .list)) count-same) ns-same)
+        ∙ rebuild-is)
+        (made-known-sort b p hs ns zs n u (a .ready .good) k (a .known))
 
     pub rebuild-asks : MakeAsks b p hs ns zs n u (fieldsIn (r .kind) (r .name) (r .number) parts o) parts o
     rebuild-asks =

@@ -2,7 +2,7 @@
 use Prim.Native.Nat.{ℕ, suc, _+_, _*_, _-_, _≤_, _<_}
 use mathlib.Core.Path.{_≡_, refl, sym, ap, ap₂, subst, _∙_}
 use mathlib.Core.Bool.{Bool, true, false}
-use mathlib.Core.List.{List}
+use mathlib.Core.List.{List, []}
 use native.Mathlib.Omega.{arith}
 use lib.ListN.{length, getD}
 use lib.Dec.{leb}
@@ -20,7 +20,7 @@ use Rattle.apply.specs.Lists.{unbound, Has, NamesAsk}
 use Rattle.apply.specs.Images.{imageNumber, imagesOf}
 use Rattle.apply.specs.Contract.{capped, goes, answerAt, answersAt, SizeAsks, SizesAsk, SizeIs, SizesAre}
 use Rattle.apply.proofs.ListLaws.{has-length}
-use Rattle.apply.proofs.SortForms.{rebuilt, image-is, image-known, answer-rebuilt, parts-one, size-gone, size-stays, size-refs}
+use Rattle.apply.proofs.SortForms.{rebuilt, image-is, image-known, answer-rebuilt, answer-leaf, parts-one, size-gone, size-stays, size-refs}
 
 pub over : (v : ℕ) → 4096 < v → 4097 ≡ capped v
 unfolding capped
@@ -92,6 +92,14 @@ module _ (b p zs : List ℕ) (n k : ℕ) (l : List ℕ) (a : SizeAsks b p zs n k
   pub size-image-known : (i : ℕ) → i ≡ imageNumber (getD l (r .name) 0) k → i < length zs
   size-image-known i e =
       omega (arith, e, image-known b p n l (a .reading .stored) (a .reading .table) k (a .known) r is, a .reading .sized .table, a .reading .count)
+
+  pub size-leaf : (r .kind ≡ 2 → ⊥) → r .count ≡ 0 → SizeIs b p n k l 1
+  unfolding numbersAt sortsOf size
+  size-leaf d z =
+      let none : numbersAt b (r .list) (r .count) ≡ [] = ap (numbersAt b (r .list)) z in
+      within 1 (omega arith)
+      ∙ ap capped (sym (sym (ap size (answer-leaf b p n l (a .reading .stored) (a .reading .table) k (a .known) r is d z)) ∙ size-refs b p n k r is
+      ∙ ap (λ (vs : List ℕ). 1 + sizes (sortsOf (storeOf b p n) vs)) none))
 
   pub sizes-asks : SizesAsk b p zs n (r .list) (r .count) l
   sizes-asks =

@@ -40,3 +40,8 @@ pub record ReadAsks (b : List ℕ) (x n : ℕ) : Type 0 where
 pub record NamesAsk (b : List ℕ) (x n : ℕ) (l : List ℕ) : Type 0 where
   pub read : ReadAsks b x n
   pub table : length l ≡ 65536
+
+pub record SameAsks (b : List ℕ) (x : ℕ) (l : List ℕ) (n : ℕ) : Type 0 where
+  pub within : x + 2 * n ≤ length b
+  pub long : n ≤ length l
+  pub few : n ≤ 64

@@ -7,6 +7,7 @@ use build::make;
 use lists::Numbers;
 use lists::names_left;
 use lists::read_numbers;
+use lists::same_numbers;
 use record::u16_at;
 use store::Interned;
 use store::entries::entry;
@@ -92,6 +93,9 @@ pub fn applied_size(
         let i = image_of(images, e.name, k);
         return size_at(sizes, i);
     }
+    if e.count == 0 {
+        return 1;
+    }
     let sum = applied_sizes(records, places, sizes, count, e.list, e.count, images);
     let kept = names_left(records, e.names, e.named, images);
     if wrapper_goes(e.kind, kept.count) {
@@ -127,8 +131,8 @@ pub fn applied_sizes(
     sum
 }
 
-// The sort `k` replaced, from the numbers of its parts replaced; `NoRoom`, with all as it was, where the store with it
-// would be too long.
+// The sort `k` replaced, from the numbers of its parts replaced: `k` itself where these and the names are its own; `NoRoom`,
+// with all as it was, where the store with it would be too long.
 pub fn rebuild(
     records: &mut [u8],
     places: &mut [u32],
@@ -150,6 +154,12 @@ pub fn rebuild(
         let list = parts.list;
         let body = list[0] as usize;
         return Interned::Is(body, count, used);
+    }
+    if kept.count == e.named {
+        let list = parts.list;
+        if same_numbers(records, e.list, &list, parts.count) {
+            return Interned::Is(k, count, used);
+        }
     }
     make(
         records,
@@ -187,6 +197,9 @@ pub fn apply_sort(
     if e.kind == 2 {
         let i = image_of(images, e.name, k);
         return Replaced::Is(i, count, used);
+    }
+    if e.count == 0 {
+        return Replaced::Is(k, count, used);
     }
     let parts = read_numbers(records, e.list, e.count);
     let done = apply_parts(

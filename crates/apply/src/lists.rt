@@ -1,11 +1,12 @@
 // At most 64 numbers by value: the references of a record, and the names of a Par that a table of images leaves.
 use record::u16_at;
 ghost use mathlib.Core.Path.{_≡_};
+ghost use mathlib.Core.Bool.{true};
 ghost use mathlib.Core.List.{[], _∷_, _++_};
 ghost use Prim.Native.Nat.{_+_, _*_, _≤_};
-ghost use lib.ListN.{length, getD};
+ghost use lib.ListN.{length, getD, take};
 ghost use Rattle.record.specs.Number.{numbersAt};
-ghost use Rattle.apply.specs.Lists.{numbersOf, unbound, Has, AddAsks, KeepAsks, ReadAsks, NamesAsk};
+ghost use Rattle.apply.specs.Lists.{numbersOf, unbound, Has, AddAsks, KeepAsks, ReadAsks, NamesAsk, SameAsks};
 
 pub struct Numbers {
     pub list: [u16; 64],
@@ -49,6 +50,25 @@ pub fn read_numbers(records: &[u8], at: usize, n: usize) -> Numbers
         left -= 1;
     }
     out
+}
+
+// Whether the first `n` numbers are those of two bytes each from `at` on; false where one differs.
+pub fn same_numbers(records: &[u8], at: usize, list: &[u16], n: usize) -> bool
+    requires { ⌜ SameAsks (now records) at (now list) n ⌝ }
+    ensures { λ r. ⌜ (r ≡ true → take n (now (list .entry)) ≡ numbersAt (now (records .entry)) at n) ⌝ }
+{
+    let mut next = at;
+    let mut j = 0;
+    while j < n {
+        let v = u16_at(records, next);
+        let w = list[j] as usize;
+        if v != w {
+            return false;
+        }
+        next += 2;
+        j += 1;
+    }
+    true
 }
 
 // The names with `v` behind them, if it has no image; else the names.

@@ -10,7 +10,7 @@ use Rattle.record.specs.Record.{sortsOf}
 use Rattle.record.specs.Decode.{storeOf, sortAt}
 use Rattle.apply.specs.Contract.{answerAt, answersAt}
 use Rattle.apply.proofs.SortForms.{name-small}
-use Rattle.apply.proofs.SizeLaws.{capped-most, size-image, size-image-known, sizes-asks, size-falls, names-ask, size-of-gone, size-of-rest, SumInv, sum-start, sum-asks, sum-more, sum-end}
+use Rattle.apply.proofs.SizeLaws.{capped-most, size-image, size-image-known, size-leaf, sizes-asks, size-falls, names-ask, size-of-gone, size-of-rest, SumInv, sum-start, sum-asks, sum-more, sum-end}
 use Prim.Native.Nat.{ℕ, _<_}
 use borrow.Fn.Kinds.{In}
 use borrow.Fn.PlainCycle.{Measures, is, falls, and}
@@ -66,6 +66,12 @@ applied-size-env t = (entry-reads.Asked, entry-reads.Learnt, image-of-reads.Aske
 abbrev applied-sizes-env : ℕ → applied-sizes-lts.Claims
 applied-sizes-env t = (u16-at-reads.Asked, u16-at-reads.Learnt, applied-size-below t, applied-size.Post, capped-at-reads.Asked, capped-at-reads.Learnt)
 
+abbrev applied-sizes-Inv-loop : applied-sizes-lts.InvT-loop
+applied-sizes-Inv-loop records places sizes count at n images sum₀ next₀ left₀ sum next left = SumInv records places sizes count at n images sum next left
+
+abbrev applied-sizes-μ-loop : applied-sizes-lts.MeasureT-loop
+applied-sizes-μ-loop records places sizes count at n images sum₀ next₀ left₀ sum next left = left
+
 applied-size-entry-requires : (t : ℕ) → applied-size-lts.Need-entry-requires (applied-size-env t) (applied-size-at t) applied-size.Post
 applied-size-entry-requires t c κs =
     let s = c .before .before .before .before in
@@ -107,76 +113,82 @@ applied-size-returns t c =
     let e = c .before .before .before .before .entry .result in
     size-image b p zs n (a .k) l (s .pre .1) e (c .before .before .before .before .entry .ensures) (c .before .before .if1 .taken) (c .before .image-of .result) (c .before .image-of .ensures) (c .size-at .result) (c .size-at .ensures)
 
-applied-size-applied-sizes-requires : (t : ℕ) → applied-size-lts.Need-applied-sizes-requires (applied-size-env t) (applied-size-at t) applied-size.Post
-applied-size-applied-sizes-requires t c κs =
-    let s = c .before .before .before .before .before .before .before in
+applied-size-returns-2 : (t : ℕ) → applied-size-lts.Need-returns-2 (applied-size-env t) (applied-size-at t) applied-size.Post
+applied-size-returns-2 t c =
+    let s = c .before .before .before .before .before .before .before .before .before in
     let a = s .args in
     let b = a .records .now in
     let p = a .places .now in
     let zs = a .sizes .now in
     let n = a .count in
     let l = a .images .now in
-    let e = c .before .before .entry .result in
-    (omega (arith, s .pre .0, size-falls b p zs n (a .k) l (s .pre .1) e (c .before .before .entry .ensures)), sizes-asks b p zs n (a .k) l (s .pre .1) e (c .before .before .entry .ensures))
+    let e = c .before .before .before .before .entry .result in
+    size-leaf b p zs n (a .k) l (s .pre .1) e (c .before .before .before .before .entry .ensures) (c .before .before .if1 .left) (c .if2 .taken)
+
+applied-size-applied-sizes-requires : (t : ℕ) → applied-size-lts.Need-applied-sizes-requires (applied-size-env t) (applied-size-at t) applied-size.Post
+applied-size-applied-sizes-requires t c κs =
+    let s = c .before .before .before .before .before .before .before .before .before in
+    let a = s .args in
+    let b = a .records .now in
+    let p = a .places .now in
+    let zs = a .sizes .now in
+    let n = a .count in
+    let l = a .images .now in
+    let e = c .before .before .before .before .entry .result in
+    (omega (arith, s .pre .0, size-falls b p zs n (a .k) l (s .pre .1) e (c .before .before .before .before .entry .ensures)), sizes-asks b p zs n (a .k) l (s .pre .1) e (c .before .before .before .before .entry .ensures))
 
 applied-size-names-left-requires : (t : ℕ) → applied-size-lts.Need-names-left-requires (applied-size-env t) (applied-size-at t) applied-size.Post
 applied-size-names-left-requires t c κs =
-    let s = c .before .before .before .before .before .before .before .before in
+    let s = c .before .before .before .before .before .before .before .before .before .before in
     let a = s .args in
     let b = a .records .now in
     let p = a .places .now in
     let zs = a .sizes .now in
     let n = a .count in
     let l = a .images .now in
-    let e = c .before .before .before .entry .result in
-    names-ask b p zs n (a .k) l (s .pre .1) e (c .before .before .before .entry .ensures)
+    let e = c .before .before .before .before .before .entry .result in
+    names-ask b p zs n (a .k) l (s .pre .1) e (c .before .before .before .before .before .entry .ensures)
 
 applied-size-wrapper-goes-requires : (t : ℕ) → applied-size-lts.Need-wrapper-goes-requires (applied-size-env t) (applied-size-at t) applied-size.Post
 applied-size-wrapper-goes-requires t c κs = search needs
 
-applied-size-returns-2 : (t : ℕ) → applied-size-lts.Need-returns-2 (applied-size-env t) (applied-size-at t) applied-size.Post
-applied-size-returns-2 t c =
-    let s = c .before .before .before .before .before .before .before .before .before .before .before in
+applied-size-returns-3 : (t : ℕ) → applied-size-lts.Need-returns-3 (applied-size-env t) (applied-size-at t) applied-size.Post
+applied-size-returns-3 t c =
+    let s = c .before .before .before .before .before .before .before .before .before .before .before .before .before in
     let a = s .args in
     let b = a .records .now in
     let p = a .places .now in
     let zs = a .sizes .now in
     let n = a .count in
     let l = a .images .now in
-    let e = c .before .before .before .before .before .before .entry .result in
-    size-of-gone b p zs n (a .k) l (s .pre .1) e (c .before .before .before .before .before .before .entry .ensures) (c .before .before .before .before .if1 .left) (c .before .before .names-left .result) (c .before .before .names-left .ensures) (c .before .before .before .applied-sizes .result) (c .before .before .before .applied-sizes .ensures) (sym (c .before .wrapper-goes .ensures) ∙ c .if2 .taken)
+    let e = c .before .before .before .before .before .before .before .before .entry .result in
+    size-of-gone b p zs n (a .k) l (s .pre .1) e (c .before .before .before .before .before .before .before .before .entry .ensures) (c .before .before .before .before .before .before .if1 .left) (c .before .before .names-left .result) (c .before .before .names-left .ensures) (c .before .before .before .applied-sizes .result) (c .before .before .before .applied-sizes .ensures) (sym (c .before .wrapper-goes .ensures) ∙ c .if3 .taken)
 
 applied-size-add-capped-at : (t : ℕ) → applied-size-lts.Need-add-capped-at (applied-size-env t) (applied-size-at t) applied-size.Post
 applied-size-add-capped-at t c =
-    let s = c .before .before .before .before .before .before .before .before .before .before .before in
+    let s = c .before .before .before .before .before .before .before .before .before .before .before .before .before in
     let a = s .args in
     let b = a .records .now in
     let p = a .places .now in
     let n = a .count in
     let l = a .images .now in
-    let e = c .before .before .before .before .before .before .entry .result in
+    let e = c .before .before .before .before .before .before .before .before .entry .result in
     omega (arith, c .before .before .before .applied-sizes .ensures, capped-most (sizes (answersAt b p n l (numbersAt b (e .list) (e .count)))))
 
 applied-size-capped-at-requires : (t : ℕ) → applied-size-lts.Need-capped-at-requires (applied-size-env t) (applied-size-at t) applied-size.Post
 applied-size-capped-at-requires t c κs = search needs
 
-applied-size-returns-3 : (t : ℕ) → applied-size-lts.Need-returns-3 (applied-size-env t) (applied-size-at t) applied-size.Post
-applied-size-returns-3 t c =
-    let s = c .before .before .before .before .before .before .before .before .before .before .before .before in
+applied-size-returns-4 : (t : ℕ) → applied-size-lts.Need-returns-4 (applied-size-env t) (applied-size-at t) applied-size.Post
+applied-size-returns-4 t c =
+    let s = c .before .before .before .before .before .before .before .before .before .before .before .before .before .before in
     let a = s .args in
     let b = a .records .now in
     let p = a .places .now in
     let zs = a .sizes .now in
     let n = a .count in
     let l = a .images .now in
-    let e = c .before .before .before .before .before .before .before .entry .result in
-    size-of-rest b p zs n (a .k) l (s .pre .1) e (c .before .before .before .before .before .before .before .entry .ensures) (c .before .before .before .before .before .if1 .left) (c .before .before .before .names-left .result) (c .before .before .before .names-left .ensures) (c .before .before .before .before .applied-sizes .result) (c .before .before .before .before .applied-sizes .ensures) (sym (c .before .before .wrapper-goes .ensures) ∙ c .before .if2 .left) (c .capped-at .result) (c .capped-at .ensures)
-
-abbrev applied-sizes-Inv-loop : applied-sizes-lts.InvT-loop
-applied-sizes-Inv-loop records places sizes count at n images sum₀ next₀ left₀ sum next left = SumInv records places sizes count at n images sum next left
-
-abbrev applied-sizes-μ-loop : applied-sizes-lts.MeasureT-loop
-applied-sizes-μ-loop records places sizes count at n images sum₀ next₀ left₀ sum next left = left
+    let e = c .before .before .before .before .before .before .before .before .before .entry .result in
+    size-of-rest b p zs n (a .k) l (s .pre .1) e (c .before .before .before .before .before .before .before .before .before .entry .ensures) (c .before .before .before .before .before .before .before .if1 .left) (c .before .before .before .names-left .result) (c .before .before .before .names-left .ensures) (c .before .before .before .before .applied-sizes .result) (c .before .before .before .before .applied-sizes .ensures) (sym (c .before .before .wrapper-goes .ensures) ∙ c .before .if3 .left) (c .capped-at .result) (c .capped-at .ensures)
 
 applied-sizes-loop-holds : (t : ℕ) → applied-sizes-lts.Need-loop-holds (applied-sizes-env t) (applied-sizes-at t) applied-sizes.Post applied-sizes-Inv-loop applied-sizes-μ-loop
 applied-sizes-loop-holds t c =
@@ -190,8 +202,7 @@ applied-sizes-loop-holds t c =
     sum-start b p zs n (a .at) (a .n) l (s .pre .1)
 
 applied-sizes-u16-at-requires : (t : ℕ) → applied-sizes-lts.Need-u16-at-requires (applied-sizes-env t) (applied-sizes-at t) applied-sizes.Post applied-sizes-Inv-loop applied-sizes-μ-loop
-applied-sizes-u16-at-requires t c κs =
-    omega (arith, c .before .loop .inv .asks .within, c .loop-test .taken)
+applied-sizes-u16-at-requires t c κs = omega (arith, c .before .loop .inv .asks .within, c .loop-test .taken)
 
 applied-sizes-applied-size-requires : (t : ℕ) → applied-sizes-lts.Need-applied-size-requires (applied-sizes-env t) (applied-sizes-at t) applied-sizes.Post applied-sizes-Inv-loop applied-sizes-μ-loop
 applied-sizes-applied-size-requires t c κs =
@@ -221,16 +232,13 @@ applied-sizes-capped-at-requires : (t : ℕ) → applied-sizes-lts.Need-capped-a
 applied-sizes-capped-at-requires t c κs = search needs
 
 applied-sizes-add-next : (t : ℕ) → applied-sizes-lts.Need-add-next (applied-sizes-env t) (applied-sizes-at t) applied-sizes.Post applied-sizes-Inv-loop applied-sizes-μ-loop
-applied-sizes-add-next t c =
-    omega (arith, c .before .before .before .before .loop .inv .asks .within, c .before .before .before .loop-test .taken, c .before .before .before .before .before .before .before .before .before .good .0)
+applied-sizes-add-next t c = omega (arith, c .before .before .before .before .loop .inv .asks .within, c .before .before .before .loop-test .taken, c .before .before .before .before .before .before .before .before .before .good .0)
 
 applied-sizes-sub-left : (t : ℕ) → applied-sizes-lts.Need-sub-left (applied-sizes-env t) (applied-sizes-at t) applied-sizes.Post applied-sizes-Inv-loop applied-sizes-μ-loop
-applied-sizes-sub-left t c =
-    c .before .before .before .loop-test .taken
+applied-sizes-sub-left t c = c .before .before .before .loop-test .taken
 
 applied-sizes-loop-less : (t : ℕ) → applied-sizes-lts.Need-loop-less (applied-sizes-env t) (applied-sizes-at t) applied-sizes.Post applied-sizes-Inv-loop applied-sizes-μ-loop
-applied-sizes-loop-less t c =
-    omega (arith, c .before .before .before .loop-test .taken)
+applied-sizes-loop-less t c = omega (arith, c .before .before .before .loop-test .taken)
 
 applied-sizes-loop-again : (t : ℕ) → applied-sizes-lts.Need-loop-again (applied-sizes-env t) (applied-sizes-at t) applied-sizes.Post applied-sizes-Inv-loop applied-sizes-μ-loop
 applied-sizes-loop-again t c =
@@ -257,29 +265,4 @@ applied-sizes-returns t c =
     sum-end b p zs n (a .at) (a .n) l (i .sum) (i .next) (i .left) (i .inv) (c .loop-test .left)
 
 pub +applied-size+applied-sizes-spec : {M : Type 1} → statement M
-+applied-size+applied-sizes-spec =
-    close μ-applied-size μ-applied-sizes (λ t. applied-size-lts.spec (applied-size-env t) (applied-size-at t) applied-size.Post
-    (applied-size-entry-requires t)
-    (applied-size-image-of-requires t)
-    (applied-size-size-at-requires t)
-    (applied-size-returns t)
-    (applied-size-applied-sizes-requires t)
-    (applied-size-names-left-requires t)
-    (applied-size-wrapper-goes-requires t)
-    (applied-size-returns-2 t)
-    (applied-size-add-capped-at t)
-    (applied-size-capped-at-requires t)
-    (applied-size-returns-3 t))
-    λ t. applied-sizes-lts.spec (applied-sizes-env t) (applied-sizes-at t) applied-sizes.Post
-    applied-sizes-Inv-loop
-    applied-sizes-μ-loop
-    (applied-sizes-loop-holds t)
-    (applied-sizes-u16-at-requires t)
-    (applied-sizes-applied-size-requires t)
-    (applied-sizes-add-capped-at t)
-    (applied-sizes-capped-at-requires t)
-    (applied-sizes-add-next t)
-    (applied-sizes-sub-left t)
-    (applied-sizes-loop-less t)
-    (applied-sizes-loop-again t)
-    (applied-sizes-returns t)
++applied-size+applied-sizes-spec = close μ-applied-size μ-applied-sizes (λ t. applied-size-lts.spec (applied-size-env t) (applied-size-at t) applied-size.Post (applied-size-entry-requires t) (applied-size-image-of-requires t) (applied-size-size-at-requires t) (applied-size-returns t) (applied-size-returns-2 t) (applied-size-applied-sizes-requires t) (applied-size-names-left-requires t) (applied-size-wrapper-goes-requires t) (applied-size-returns-3 t) (applied-size-add-capped-at t) (applied-size-capped-at-requires t) (applied-size-returns-4 t)) (λ t. applied-sizes-lts.spec (applied-sizes-env t) (applied-sizes-at t) applied-sizes.Post applied-sizes-Inv-loop applied-sizes-μ-loop (applied-sizes-loop-holds t) (applied-sizes-u16-at-requires t) (applied-sizes-applied-size-requires t) (applied-sizes-add-capped-at t) (applied-sizes-capped-at-requires t) (applied-sizes-add-next t) (applied-sizes-sub-left t) (applied-sizes-loop-less t) (applied-sizes-loop-again t) (applied-sizes-returns t))

@@ -1,8 +1,9 @@
--- The body of a Par without names left is there; any other is made over the parts.
+-- The body of a Par without names left is there, and so is a sort whose parts and names stay; any other is made over the
+-- parts.
 use native.Mathlib.Omega.{arith}
 use borrow.Author.Needs.{needs}
 use mathlib.Core.Path.{sym, _∙_}
-use Rattle.apply.proofs.RebuildLaws.{rebuild-gone, rebuild-asks, rebuild-made}
+use Rattle.apply.proofs.RebuildLaws.{rebuild-gone, rebuild-same-asks, rebuild-same, rebuild-asks, rebuild-made}
 use Rattle.apply.proofs.rebuild.Statement.{statement}
 use Rattle.apply.proofs.rebuild.Tie as tie
 
@@ -53,9 +54,12 @@ returns c =
     let o = c .before .before .before .names-left .result in
     rebuild-gone b p hs ns zs n u k (a .parts) l (s .pre) e is o (c .before .before .before .names-left .ensures) (sym (c .before .before .wrapper-goes .ensures) ∙ c .before .if1 .taken)
 
-make-requires : tie.Need-make-requires
-make-requires c κs =
-    let s = c .before .before .before .before .before .before .before .before .before .before .before .before .before .before .before .before .before .before in
+slice-aggregate-same-numbers : tie.Need-slice-aggregate-same-numbers
+slice-aggregate-same-numbers c = sym (c .before .before .before .before .before .before .before .before .before .before .before .before .before .before .before .before .before .before .before .pre .has .long)
+
+same-numbers-requires : tie.Need-same-numbers-requires
+same-numbers-requires c κs =
+    let s = c .before .before .before .before .before .before .before .before .before .before .before .before .before .before .before .before .before .before .before in
     let a = s .args in
     let b = a .records .now in
     let p = a .places .now in
@@ -66,16 +70,52 @@ make-requires c κs =
     let u = a .used in
     let l = a .images .now in
     let k = a .k in
-    let e = c .before .before .before .before .before .before .before .before .before .entry .result in
-    let is = c .before .before .before .before .before .before .before .before .before .entry .ensures n (s .pre .ready .good .stored) (s .pre .known) in
-    let o = c .before .before .before .before .before .before .before .names-left .result in
-    rebuild-asks b p hs ns zs n u k (a .parts) l (s .pre) e is o (c .before .before .before .before .before .before .before .names-left .ensures) (sym (c .before .before .before .before .before .before .wrapper-goes .ensures) ∙ c .before .before .before .before .before .if1 .left)
+    let e = c .before .before .before .before .before .before .before .before .before .before .entry .result in
+    let is = c .before .before .before .before .before .before .before .before .before .before .entry .ensures n (s .pre .ready .good .stored) (s .pre .known) in
+    let o = c .before .before .before .before .before .before .before .before .names-left .result in
+    rebuild-same-asks b p hs ns zs n u k (a .parts) l (s .pre) e is o (c .before .before .before .before .before .before .before .before .names-left .ensures)
 
 same-length-3 : tie.Need-same-length-3
 same-length-3 c = search needs
 
 same-length-4 : tie.Need-same-length-4
 same-length-4 c = search needs
+
+returns-2 : tie.Need-returns-2
+returns-2 c =
+    let s = c .before .before .before .before .before .before .before .before .before .before .before .before .before .before .before .before .before .before .before .before .before in
+    let a = s .args in
+    let b = a .records .now in
+    let p = a .places .now in
+    let hs = a .heads .now in
+    let ns = a .next .now in
+    let zs = a .sizes .now in
+    let n = a .count in
+    let u = a .used in
+    let l = a .images .now in
+    let k = a .k in
+    let e = c .before .before .before .before .before .before .before .before .before .before .before .before .entry .result in
+    let is = c .before .before .before .before .before .before .before .before .before .before .before .before .entry .ensures n (s .pre .ready .good .stored) (s .pre .known) in
+    let o = c .before .before .before .before .before .before .before .before .before .before .names-left .result in
+    rebuild-same b p hs ns zs n u k (a .parts) l (s .pre) e is o (c .before .before .before .before .before .before .before .before .before .before .names-left .ensures) (sym (c .before .before .before .before .before .before .before .before .before .wrapper-goes .ensures) ∙ c .before .before .before .before .before .before .before .before .if1 .left) (c .before .before .before .before .before .if2 .taken) (c .before .same-numbers .ensures (c .if3 .taken))
+
+make-requires : tie.Need-make-requires
+make-requires c κs =
+    let s = c .before .before .before .before .before .before .before .before .before .before .before .before .before .before .before .before .before .before .before .before .before in
+    let a = s .args in
+    let b = a .records .now in
+    let p = a .places .now in
+    let hs = a .heads .now in
+    let ns = a .next .now in
+    let zs = a .sizes .now in
+    let n = a .count in
+    let u = a .used in
+    let l = a .images .now in
+    let k = a .k in
+    let e = c .before .before .before .before .before .before .before .before .before .before .before .before .entry .result in
+    let is = c .before .before .before .before .before .before .before .before .before .before .before .before .entry .ensures n (s .pre .ready .good .stored) (s .pre .known) in
+    let o = c .before .before .before .before .before .before .before .before .before .before .names-left .result in
+    rebuild-asks b p hs ns zs n u k (a .parts) l (s .pre) e is o (c .before .before .before .before .before .before .before .before .before .before .names-left .ensures) (sym (c .before .before .before .before .before .before .before .before .before .wrapper-goes .ensures) ∙ c .before .before .before .before .before .before .before .before .if1 .left)
 
 same-length-5 : tie.Need-same-length-5
 same-length-5 c = search needs
@@ -86,9 +126,15 @@ same-length-6 c = search needs
 same-length-7 : tie.Need-same-length-7
 same-length-7 c = search needs
 
-returns-2 : tie.Need-returns-2
-returns-2 c =
-    let s = c .before .before .before .before .before .before .before .before .before .before .before .before .before .before .before .before .before .before .before .before .before .before .before .before .before .before .before .before .before in
+same-length-8 : tie.Need-same-length-8
+same-length-8 c = search needs
+
+same-length-9 : tie.Need-same-length-9
+same-length-9 c = search needs
+
+returns-3 : tie.Need-returns-3
+returns-3 c =
+    let s = c .before .before .before .before .before .before .before .before .before .before .before .before .before .before .before .before .before .before .before .before .before .before .before .before .before .before .before .before .before .before .before .before in
     let a = s .args in
     let b = a .records .now in
     let p = a .places .now in
@@ -99,11 +145,11 @@ returns-2 c =
     let u = a .used in
     let l = a .images .now in
     let k = a .k in
-    let e = c .before .before .before .before .before .before .before .before .before .before .before .before .before .before .before .before .before .before .before .before .entry .result in
-    let is = c .before .before .before .before .before .before .before .before .before .before .before .before .before .before .before .before .before .before .before .before .entry .ensures n (s .pre .ready .good .stored) (s .pre .known) in
-    let o = c .before .before .before .before .before .before .before .before .before .before .before .before .before .before .before .before .before .before .names-left .result in
+    let e = c .before .before .before .before .before .before .before .before .before .before .before .before .before .before .before .before .before .before .before .before .before .before .before .entry .result in
+    let is = c .before .before .before .before .before .before .before .before .before .before .before .before .before .before .before .before .before .before .before .before .before .before .before .entry .ensures n (s .pre .ready .good .stored) (s .pre .known) in
+    let o = c .before .before .before .before .before .before .before .before .before .before .before .before .before .before .before .before .before .before .before .before .before .names-left .result in
     let d = c .before .before .before .before .before .before .before .before .before .before .make .last in
-    rebuild-made b p hs ns zs n u k (a .parts) l (s .pre) e is o (c .before .before .before .before .before .before .before .before .before .before .before .before .before .before .before .before .before .before .names-left .ensures) (sym (c .before .before .before .before .before .before .before .before .before .before .before .before .before .before .before .before .before .wrapper-goes .ensures) ∙ c .before .before .before .before .before .before .before .before .before .before .before .before .before .before .before .before .if1 .left) (d .0) (d .1 .0) (d .1 .1 .0) (d .1 .1 .1 .0) (d .1 .1 .1 .1 .0) (c .before .before .before .before .before .before .before .before .before .before .make .result) (c .before .before .before .before .before .before .before .before .before .before .make .ensures)
+    rebuild-made b p hs ns zs n u k (a .parts) l (s .pre) e is o (c .before .before .before .before .before .before .before .before .before .before .before .before .before .before .before .before .before .before .before .before .before .names-left .ensures) (sym (c .before .before .before .before .before .before .before .before .before .before .before .before .before .before .before .before .before .before .before .before .wrapper-goes .ensures) ∙ c .before .before .before .before .before .before .before .before .before .before .before .before .before .before .before .before .before .before .before .if1 .left) (d .0) (d .1 .0) (d .1 .1 .0) (d .1 .1 .1 .0) (d .1 .1 .1 .1 .0) (c .before .before .before .before .before .before .before .before .before .before .make .result) (c .before .before .before .before .before .before .before .before .before .before .make .ensures)
 
 pub rebuild-spec : {M : Type 1} → statement M
-rebuild-spec = tie.close (tie.spec entry-requires names-left-requires wrapper-goes-requires array-read-body cast-body same-length same-length-2 returns make-requires same-length-3 same-length-4 same-length-5 same-length-6 same-length-7 returns-2)
+rebuild-spec = tie.close (tie.spec entry-requires names-left-requires wrapper-goes-requires array-read-body cast-body same-length same-length-2 returns slice-aggregate-same-numbers same-numbers-requires same-length-3 same-length-4 returns-2 make-requires same-length-5 same-length-6 same-length-7 same-length-8 same-length-9 returns-3)
