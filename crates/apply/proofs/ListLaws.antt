@@ -20,7 +20,7 @@ has-length o vs h = sym (ap length (h .is)) ∙ length-take-le (o .count) (o .li
 pub has-own : (o : Numbers) (vs : List ℕ) → Has o vs → Has o (numbersOf o)
 has-own o vs h = record { long = h .long; few = h .few; small = h .small; is = refl }
 
-zeros-are : (n i : ℕ) → _≡_ {A = ℕ} (getD (replicate n 0) i 0) 0
+pub zeros-are : (n i : ℕ) → _≡_ {A = ℕ} (getD (replicate n 0) i 0) 0
 zeros-are zero i = refl
 zeros-are (suc n) zero = refl
 zeros-are (suc n) (suc i) = zeros-are n i

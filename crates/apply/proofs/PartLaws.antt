@@ -29,8 +29,10 @@ use Rattle.apply.specs.Images.{imageNumber, imagesOf, Table, table-start
 use Rattle.apply.specs.Made.{Made, made-starts, made-there, made-known, made-known-sort, kept-self, kept-trans, grown-count, grown-used}
 use Rattle.apply.specs.Halted.{Halted, made-over, halted-over}
 use Rattle.apply.specs.Contract.{answerAt, answersAt, SortAsks, PartsAsk, PartsMade, PartsAre, RebuildAsks}
+use Rattle.apply.specs.Known.{Known}
 use Rattle.apply.proofs.ListLaws.{has-length, has-own, set-small}
 use Rattle.apply.proofs.SortForms.{rebuilt, image-is, image-known, answer-rebuilt, answer-leaf, parts-one, intern-rebuilt, starts-rebuilt, sizes-within, size-refs}
+use Rattle.apply.proofs.KnownLaws.{map-same, sort-same, answer-same, table-same, known-added}
 
 -- One of several sorts is no larger than all, and its answer no larger than all answers.
 size-one-of : (st : List Sort) (vs : List ℕ) (j : ℕ) → j < length vs → size (getD st (getD vs j 0) leaf) ≤ sizes (sortsOf st vs)
@@ -55,21 +57,6 @@ indices-each θ st ts (v ∷ vs) [] h e = absurd (omega arith)
 indices-each θ st ts (v ∷ vs) (x ∷ l) h e =
     ap₂ (λ (i : ℕ) (is : List ℕ). i ∷ is) (e 0 (omega arith)) (indices-each θ st ts vs l (omega arith) (λ i k. e (suc i) (omega arith)))
 
--- In a store that has grown, an old sort and its answer are as they were.
-module _ (b p c q : List ℕ) (n m : ℕ) (l : List ℕ) (starts : Starts (storeOf b p n) (storeOf c q m)) (t : Table l n) where
-  map-same : imagesOf (storeOf c q m) l ≡ imagesOf (storeOf b p n) l
-  map-same = images-same (storeOf b p n) (storeOf c q m) l starts (subst (Table l) (sym (storeOf-length b p n)) t)
-
-  sort-same : (k : ℕ) → k < n → sortAt c q m k ≡ sortAt b p n k
-  unfolding sortAt
-  sort-same k h = starts-at (storeOf b p n) (storeOf c q m) starts k (omega (arith, storeOf-length b p n))
-
-  answer-same : (k : ℕ) → k < n → answerAt c q m l k ≡ answerAt b p n l k
-  answer-same k h = ap₂ apply map-same (sort-same k h)
-
-  table-same : Table l m
-  table-same = table-starts l n m (omega (arith, starts-count (storeOf b p n) (storeOf c q m) starts, storeOf-length b p n, storeOf-length c q m)) t
-
 -- ALONG THE PARTS: the first j have their answers' numbers, the others their own, and what is left makes the whole.
 pub record PartsInv (b p : List ℕ) (n u : ℕ) (parts : Numbers) (l c q hs ns zs list : List ℕ) (m v j : ℕ) : Type 0 where
   pub low : j ≤ parts .count
@@ -82,6 +69,12 @@ pub record PartsInv (b p : List ℕ) (n u : ℕ) (parts : Numbers) (l c q hs ns 
   pub there : (i : ℕ) → i < j → memb (answerAt b p n l (getD (parts .list) i 0)) (storeOf c q m) ≡ true
   pub number : (i : ℕ) → i < j → getD list i 0 ≡ indexOf (answerAt b p n l (getD (parts .list) i 0)) (storeOf c q m)
   pub total : internAll (answersAt b p n l (drop j (numbersOf parts))) (storeOf c q m) ≡ internAll (answersAt b p n l (numbersOf parts)) (storeOf b p n)
+
+-- With the table of answers, which stays true and as long as it was.
+pub record KnownInv (b p : List ℕ) (n u : ℕ) (parts : Numbers) (l ws₀ c q hs ns zs ws list : List ℕ) (m v j : ℕ) : Type 0 where
+  pub inv : PartsInv b p n u parts l c q hs ns zs list m v j
+  pub known : Known c q m l ws
+  pub lasts : length ws ≡ length ws₀
 
 pub parts-start : (b p hs ns zs : List ℕ) (n u : ℕ) (parts : Numbers) (l : List ℕ) → PartsAsk b p hs ns zs n u parts l
     → PartsInv b p n u parts l b p hs ns zs (parts .list) n u 0
@@ -372,6 +365,12 @@ module _ (b p hs ns zs : List ℕ) (n u k : ℕ) (l : List ℕ) (a : SortAsks b 
         sort-made d t is′ ms′ ys′ i m v y =
             made-over b p hs ns zs n u (a .ready .good) c q js os xs (r .count) (r .used) (w .good) starts (w .kept) (answerAt b p n l k) interned
             d t is′ ms′ ys′ i m v (subst (λ (s : Sort). Made c q (r .count) (r .used) s d t is′ ms′ ys′ i m v) ans-same y)
+
+        -- The table has it too.
+        pub sort-known : (d t is′ ms′ ys′ : List ℕ) (i m v : ℕ) → Made c q (r .count) (r .used) (answerAt c q (r .count) l k) d t is′ ms′ ys′ i m v
+            → (ws : List ℕ) → Known c q (r .count) l ws → Known d t m l (set ws k (i + 1))
+        sort-known d t is′ ms′ ys′ i m v y ws h =
+            known-added c q (r .count) (r .used) k l d t is′ ms′ ys′ i m v y (sort-rebuild .ready .table) (sort-rebuild .known) ws h
 
         pub sort-full : (d t is′ ms′ ys′ : List ℕ)
             → (room (length c) (length q) (intern (answerAt c q (r .count) l k) (storeOf c q (r .count))) ≡ false) × Untouched c q js os xs d t is′ ms′ ys′

@@ -1,7 +1,7 @@
 -- Laws of the capped tree size of an answer.
 use Prim.Native.Nat.{ℕ, suc, _+_, _*_, _-_, _≤_, _<_}
 use mathlib.Core.Path.{_≡_, refl, sym, ap, ap₂, subst, _∙_}
-use mathlib.Core.Bool.{Bool, true, false}
+use mathlib.Core.Bool.{Bool, true, false, cond}
 use mathlib.Core.List.{List, []}
 use native.Mathlib.Omega.{arith}
 use lib.ListN.{length, getD}
@@ -19,6 +19,7 @@ use Rattle.apply.specs.declared.lists.Numbers.{Numbers}
 use Rattle.apply.specs.Lists.{unbound, Has, NamesAsk}
 use Rattle.apply.specs.Images.{imageNumber, imagesOf}
 use Rattle.apply.specs.Contract.{capped, goes, answerAt, answersAt, SizeAsks, SizesAsk, SizeIs, SizesAre}
+use Rattle.apply.specs.Known.{Weighed}
 use Rattle.apply.proofs.ListLaws.{has-length}
 use Rattle.apply.proofs.SortForms.{rebuilt, image-is, image-known, answer-rebuilt, answer-leaf, parts-one, size-gone, size-stays, size-refs}
 
@@ -29,6 +30,13 @@ over v h = rw (lt-leb v 4096 h)
 pub within : (v : ℕ) → v ≤ 4096 → v ≡ capped v
 unfolding capped
 within v h = rw (le-leb v 4096 h)
+
+-- The tests of the code.
+pub size-gone-is : (k m sum : ℕ) → goes k m ≡ true → sum ≡ cond (goes k m) sum (capped (1 + sum))
+size-gone-is k m sum g = sym (ap (λ (t : Bool). cond t sum (capped (1 + sum))) g)
+
+pub size-rest-is : (k m sum : ℕ) → goes k m ≡ false → capped (1 + sum) ≡ cond (goes k m) sum (capped (1 + sum))
+size-rest-is k m sum g = sym (ap (λ (t : Bool). cond t sum (capped (1 + sum))) g)
 
 -- What a capped size tells.
 pub capped-over : (v r : ℕ) → r ≡ capped v → 4096 < r → 4096 < v
@@ -125,17 +133,22 @@ module _ (b p zs : List ℕ) (n k : ℕ) (l : List ℕ) (a : SizeAsks b p zs n k
     goes-at : (t : Bool) → goes (r .kind) (o .count) ≡ t → goes (r .kind) (length (unbound l (numbersAt b (r .names) (r .named)))) ≡ t
     goes-at t g = ap (goes (r .kind)) (has-length o (unbound l (numbersAt b (r .names) (r .named))) ho) ∙ g
 
-    pub size-of-gone : goes (r .kind) (o .count) ≡ true → SizeIs b p n k l sum
+    size-of-gone : goes (r .kind) (o .count) ≡ true → SizeIs b p n k l sum
     size-of-gone g =
         sum-is
         ∙ ap capped (sym (ap size answer-is ∙ size-gone (r .kind) (r .name) (r .number) (unbound l (numbersAt b (r .names) (r .named))) parts
         (parts-one b p n l (a .reading .stored) (a .reading .table) k (a .known) r is) (goes-at true g)))
 
-    pub size-of-rest : goes (r .kind) (o .count) ≡ false → (v : ℕ) → v ≡ capped (1 + sum) → SizeIs b p n k l v
+    size-of-rest : goes (r .kind) (o .count) ≡ false → (v : ℕ) → v ≡ capped (1 + sum) → SizeIs b p n k l v
     size-of-rest g v e =
         e ∙ capped-next (sizes parts) sum sum-is
         ∙ ap capped (sym (ap size answer-is ∙ size-stays (r .kind) (r .name) (r .number) (unbound l (numbersAt b (r .names) (r .named))) parts other
         (parts-one b p n l (a .reading .stored) (a .reading .table) k (a .known) r is) (goes-at false g)))
+
+    -- By the test of the code.
+    pub size-whole : (t : Bool) → goes (r .kind) (o .count) ≡ t → (v : ℕ) → v ≡ cond t sum (capped (1 + sum)) → SizeIs b p n k l v
+    size-whole true g v e = e ∙ size-of-gone g
+    size-whole false g v e = size-of-rest g v e
 
 -- Along the references: what is summed and what is left make the whole.
 pub record SumInv (b p zs : List ℕ) (n x m : ℕ) (l : List ℕ) (sum y left : ℕ) : Type 0 where
@@ -143,6 +156,12 @@ pub record SumInv (b p zs : List ℕ) (n x m : ℕ) (l : List ℕ) (sum y left :
   pub low : sizes (sortsOf (storeOf b p n) (numbersAt b y left)) ≤ sizes (sortsOf (storeOf b p n) (numbersAt b x m))
   pub most : sum ≤ 4097
   pub total : capped (sum + sizes (answersAt b p n l (numbersAt b y left))) ≡ capped (sizes (answersAt b p n l (numbersAt b x m)))
+
+-- With the table of sizes, which stays true and as long as it was.
+pub record WeighInv (b p zs : List ℕ) (n x m : ℕ) (l ws₀ ws : List ℕ) (sum y left : ℕ) : Type 0 where
+  pub sums : SumInv b p zs n x m l sum y left
+  pub weighed : Weighed b p n l ws
+  pub long : length ws ≡ length ws₀
 
 pub sum-start : (b p zs : List ℕ) (n x m : ℕ) (l : List ℕ) → SizesAsk b p zs n x m l → SumInv b p zs n x m l 0 x m
 sum-start b p zs n x m l a =

@@ -1,11 +1,11 @@
 // A Function of several sorts of the store with their names replaced by a table of images.
 use super::Applied;
 use super::Replaced;
-use super::applied_sizes;
-use super::apply_parts;
 use super::build::make;
 use super::lists::no_numbers;
 use super::lists::read_numbers;
+use super::whole::answer_sizes;
+use super::whole::make_answers;
 use store::Interned;
 use store::undo;
 ghost use Rattle.apply.specs.Contract.{functionAt, FunctionAsks, FunctionFits, ReplacedIs, AppliedIs};
@@ -28,7 +28,7 @@ pub fn make_function(
     ensures { λ r. ⌜ ReplacedIs (now (records .entry)) (now (places .entry)) count used (functionAt (now (records .entry)) (now (places .entry)) count (now (images .entry)) at left) (now (records .exit)) (now (places .exit)) (now (heads .exit)) (now (next .exit)) (now (sizes .exit)) r ⌝ }
 {
     let parts = read_numbers(records, at, left);
-    let done = apply_parts(
+    let done = make_answers(
         records,
         places,
         heads,
@@ -84,7 +84,7 @@ pub fn apply_function(
     requires { ⌜ FunctionAsks (now records) (now places) (now heads) (now next) (now sizes) count used (now images) at left ⌝ }
     ensures { λ r. ⌜ AppliedIs (now (records .entry)) (now (places .entry)) (now (heads .entry)) (now (next .entry)) (now (sizes .entry)) count used (functionAt (now (records .entry)) (now (places .entry)) count (now (images .entry)) at left) (now (records .exit)) (now (places .exit)) (now (heads .exit)) (now (next .exit)) (now (sizes .exit)) r ⌝ }
 {
-    let sum = applied_sizes(records, places, sizes, count, at, left, images);
+    let sum = answer_sizes(records, places, sizes, count, at, left, images);
     // The Function itself counts as one.
     if 4095 < sum {
         return Applied::TooLarge;

@@ -2,6 +2,8 @@
 pub mod build;
 pub mod function;
 pub mod lists;
+pub mod tables;
+pub mod whole;
 
 use build::make;
 use lists::Numbers;
@@ -13,11 +15,17 @@ use store::Interned;
 use store::entries::entry;
 use store::entries::size_at;
 use store::undo;
+use tables::recall;
+use tables::remember;
+use whole::answer_size;
+use whole::make_answer;
 ghost use mathlib.Core.Path.{_≡_};
-ghost use Prim.Native.Nat.{_<_};
+ghost use mathlib.Core.Bool.{cond};
+ghost use Prim.Native.Nat.{_+_, _≤_, _<_};
 ghost use lib.ListN.{length, getD};
 ghost use Rattle.apply.specs.Images.{imageNumber};
-ghost use Rattle.apply.specs.Contract.{capped, goes, answerAt, SizeAsks, SizeIs, SizesAsk, SizesAre, RebuildAsks, SortAsks, ReplacedIs, PartsAsk, PartsAre, ApplyAsks, AppliedIs};
+ghost use Rattle.apply.specs.Contract.{capped, goes, answerAt, RebuildAsks, ApplyAsks, AppliedIs};
+ghost use Rattle.apply.specs.Known.{WeighAsks, WeighIs, WeighAllAsk, WeighAllAre, KnownAsks, KnownIs, KnownAllAsk, KnownAllAre};
 ghost use Rattle.apply.specs.Made.{MadeIs};
 
 pub enum Replaced {
@@ -76,18 +84,35 @@ pub fn image_of(images: &[u16], name: usize, k: usize) -> usize
     seen - 1
 }
 
-// The tree size of the sort `k` replaced, or 4,097 for each that is larger than 4,096.
+// The size of a sort from those of its parts together, of which a Par without names left has only these.
+pub fn whole_size(kind: usize, names: usize, sum: usize) -> usize
+    requires { ⌜ sum ≤ 4097 ⌝ }
+    ensures { λ r. ⌜ r ≡ cond (goes kind names) sum (capped (1 + sum)) ⌝ }
+{
+    if wrapper_goes(kind, names) {
+        return sum;
+    }
+    capped_at(1 + sum)
+}
+
+// The tree size of the sort `k` replaced, or 4,097 for each that is larger than 4,096; from the table `weighed`, which keeps
+// the sizes of sorts with parts.
 pub fn applied_size(
     records: &[u8],
     places: &[u32],
     sizes: &[u16],
+    weighed: &mut [u16],
     count: usize,
     k: usize,
     images: &[u16],
 ) -> usize
-    requires { ⌜ SizeAsks (now records) (now places) (now sizes) count k (now images) ⌝ }
-    ensures { λ r. ⌜ SizeIs (now (records .entry)) (now (places .entry)) count k (now (images .entry)) r ⌝ }
+    requires { ⌜ WeighAsks (now records) (now places) (now sizes) (now weighed) count k (now images) ⌝ }
+    ensures { λ r. ⌜ WeighIs (now (records .entry)) (now (places .entry)) count k (now (images .entry)) (now (weighed .exit)) r ⌝ }
 {
+    let seen = recall(weighed, k);
+    if seen != 0 {
+        return seen;
+    }
     let e = entry(records, places, k);
     if e.kind == 2 {
         let i = image_of(images, e.name, k);
@@ -96,34 +121,43 @@ pub fn applied_size(
     if e.count == 0 {
         return 1;
     }
-    let sum = applied_sizes(records, places, sizes, count, e.list, e.count, images);
+    let sum = applied_sizes(
+        records,
+        places,
+        sizes,
+        weighed,
+        count,
+        e.list,
+        e.count,
+        images,
+    );
     let kept = names_left(records, e.names, e.named, images);
-    if wrapper_goes(e.kind, kept.count) {
-        return sum;
-    }
-    capped_at(1 + sum)
+    let size = whole_size(e.kind, kept.count, sum);
+    remember(weighed, k, size);
+    size
 }
 
 // The tree sizes together of the sorts replaced that `n` references from `at` on name, or 4,097 where that is more than
-// 4,096.
+// 4,096; each from the table `weighed`, where that keeps it.
 pub fn applied_sizes(
     records: &[u8],
     places: &[u32],
     sizes: &[u16],
+    weighed: &mut [u16],
     count: usize,
     at: usize,
     n: usize,
     images: &[u16],
 ) -> usize
-    requires { ⌜ SizesAsk (now records) (now places) (now sizes) count at n (now images) ⌝ }
-    ensures { λ r. ⌜ SizesAre (now (records .entry)) (now (places .entry)) count at n (now (images .entry)) r ⌝ }
+    requires { ⌜ WeighAllAsk (now records) (now places) (now sizes) (now weighed) count at n (now images) ⌝ }
+    ensures { λ r. ⌜ WeighAllAre (now (records .entry)) (now (places .entry)) count at n (now (images .entry)) (now (weighed .exit)) r ⌝ }
 {
     let mut sum = 0;
     let mut next = at;
     let mut left = n;
     while 0 < left {
         let k = u16_at(records, next);
-        let one = applied_size(records, places, sizes, count, k, images);
+        let one = applied_size(records, places, sizes, weighed, count, k, images);
         sum = capped_at(sum + one);
         next += 2;
         left -= 1;
@@ -178,21 +212,26 @@ pub fn rebuild(
 }
 
 // The number of the sort `k` replaced, in the store with its sorts added, parts first from left to right; `Stuck` where
-// that store would be too long.
+// that store would be too long. From the table `known`, which keeps the numbers of answers for sorts with parts.
 pub fn apply_sort(
     records: &mut [u8],
     places: &mut [u32],
     heads: &mut [u16],
     next: &mut [u16],
     sizes: &mut [u16],
+    known: &mut [u16],
     count: usize,
     used: usize,
     k: usize,
     images: &[u16],
 ) -> Replaced
-    requires { ⌜ SortAsks (now records) (now places) (now heads) (now next) (now sizes) count used k (now images) ⌝ }
-    ensures { λ r. ⌜ ReplacedIs (now (records .entry)) (now (places .entry)) count used (answerAt (now (records .entry)) (now (places .entry)) count (now (images .entry)) k) (now (records .exit)) (now (places .exit)) (now (heads .exit)) (now (next .exit)) (now (sizes .exit)) r ⌝ }
+    requires { ⌜ KnownAsks (now records) (now places) (now heads) (now next) (now sizes) (now known) count used k (now images) ⌝ }
+    ensures { λ r. ⌜ KnownIs (now (records .entry)) (now (places .entry)) count used k (now (images .entry)) (now (records .exit)) (now (places .exit)) (now (heads .exit)) (now (next .exit)) (now (sizes .exit)) (now (known .exit)) r ⌝ }
 {
+    let seen = recall(known, k);
+    if seen != 0 {
+        return Replaced::Is(seen - 1, count, used);
+    }
     let e = entry(records, places, k);
     if e.kind == 2 {
         let i = image_of(images, e.name, k);
@@ -208,6 +247,7 @@ pub fn apply_sort(
         heads,
         next,
         sizes,
+        known,
         count,
         used,
         parts,
@@ -221,26 +261,30 @@ pub fn apply_sort(
     let list = done.numbers;
     let made = rebuild(records, places, heads, next, sizes, n, u, k, list, images);
     match made {
-        Interned::Is(i, m, v) => Replaced::Is(i, m, v),
+        Interned::Is(i, m, v) => {
+            remember(known, k, i + 1);
+            Replaced::Is(i, m, v)
+        }
         Interned::NoRoom => Replaced::Stuck(n, u),
     }
 }
 
 // The sorts with these numbers replaced, from left to right, and the numbers of the answers; not `ok` where the store
-// with them would be too long.
+// with them would be too long. Each from the table `known`, where that keeps it.
 pub fn apply_parts(
     records: &mut [u8],
     places: &mut [u32],
     heads: &mut [u16],
     next: &mut [u16],
     sizes: &mut [u16],
+    known: &mut [u16],
     count: usize,
     used: usize,
     parts: Numbers,
     images: &[u16],
 ) -> Parts
-    requires { ⌜ PartsAsk (now records) (now places) (now heads) (now next) (now sizes) count used parts (now images) ⌝ }
-    ensures { λ r. ⌜ PartsAre (now (records .entry)) (now (places .entry)) count used parts (now (images .entry)) (now (records .exit)) (now (places .exit)) (now (heads .exit)) (now (next .exit)) (now (sizes .exit)) r ⌝ }
+    requires { ⌜ KnownAllAsk (now records) (now places) (now heads) (now next) (now sizes) (now known) count used parts (now images) ⌝ }
+    ensures { λ r. ⌜ KnownAllAre (now (records .entry)) (now (places .entry)) count used parts (now (images .entry)) (now (records .exit)) (now (places .exit)) (now (heads .exit)) (now (next .exit)) (now (sizes .exit)) (now (known .exit)) r ⌝ }
 {
     let many = parts.count;
     let mut list = parts.list;
@@ -249,7 +293,7 @@ pub fn apply_parts(
     let mut j = 0;
     while j < many {
         let k = list[j] as usize;
-        let made = apply_sort(records, places, heads, next, sizes, n, u, k, images);
+        let made = apply_sort(records, places, heads, next, sizes, known, n, u, k, images);
         match made {
             Replaced::Is(i, m, v) => {
                 list[j] = i as u16;
@@ -292,11 +336,11 @@ pub fn apply(
     requires { ⌜ ApplyAsks (now records) (now places) (now heads) (now next) (now sizes) count used k (now images) ⌝ }
     ensures { λ r. ⌜ AppliedIs (now (records .entry)) (now (places .entry)) (now (heads .entry)) (now (next .entry)) (now (sizes .entry)) count used (answerAt (now (records .entry)) (now (places .entry)) count (now (images .entry)) k) (now (records .exit)) (now (places .exit)) (now (heads .exit)) (now (next .exit)) (now (sizes .exit)) r ⌝ }
 {
-    let size = applied_size(records, places, sizes, count, k, images);
+    let size = answer_size(records, places, sizes, count, k, images);
     if 4096 < size {
         return Applied::TooLarge;
     }
-    let made = apply_sort(records, places, heads, next, sizes, count, used, k, images);
+    let made = make_answer(records, places, heads, next, sizes, count, used, k, images);
     match made {
         Replaced::Is(i, n, u) => Applied::Is(i, n, u),
         Replaced::Stuck(n, u) => {

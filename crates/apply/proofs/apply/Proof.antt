@@ -1,4 +1,5 @@
 -- 22 by the capped size, with nothing touched; where there was no room, undoing gives back the store that it was grown from.
+use native.Mathlib.Omega.{arith}
 use borrow.Author.Needs.{needs}
 use mathlib.Core.Path.{refl, subst}
 use Rattle.record.specs.Store.{intern}
@@ -9,8 +10,8 @@ use Rattle.apply.specs.Halted.{undo-asks, undo-back}
 use Rattle.apply.proofs.apply.Statement.{statement}
 use Rattle.apply.proofs.apply.Tie as tie
 
-applied-size-requires : tie.Need-applied-size-requires
-applied-size-requires c κs =
+answer-size-requires : tie.Need-answer-size-requires
+answer-size-requires c κs =
     let s = c .before .before .before .before .before .before .before .before .before in
     let a = s .args in
     let b = a .records .now in
@@ -46,10 +47,10 @@ returns c =
     let u = a .used in
     let l = a .images .now in
     let k = a .k in
-    (apply-over b p hs ns zs n u k l (s .pre) (c .before .applied-size .result) (c .before .applied-size .ensures) (c .if1 .taken), (refl, refl, refl, refl, refl))
+    (apply-over b p hs ns zs n u k l (s .pre) (c .before .answer-size .result) (c .before .answer-size .ensures) (c .if1 .taken), (refl, refl, refl, refl, refl))
 
-apply-sort-requires : tie.Need-apply-sort-requires
-apply-sort-requires c κs =
+make-answer-requires : tie.Need-make-answer-requires
+make-answer-requires c κs =
     let s = c .before .before .before .before .before .before .before .before .before .before .before .before .before .before .before .before in
     let a = s .args in
     let b = a .records .now in
@@ -61,7 +62,7 @@ apply-sort-requires c κs =
     let u = a .used in
     let l = a .images .now in
     let k = a .k in
-    apply-asks b p hs ns zs n u k l (s .pre) (c .before .before .before .before .before .before .applied-size .result) (c .before .before .before .before .before .before .applied-size .ensures) (c .before .before .before .before .before .if1 .left)
+    apply-asks b p hs ns zs n u k l (s .pre) (c .before .before .before .before .before .before .answer-size .result) (c .before .before .before .before .before .before .answer-size .ensures) (c .before .before .before .before .before .if1 .left)
 
 enum-known-made : tie.Need-enum-known-made
 enum-known-made c = search needs
@@ -82,9 +83,9 @@ undo-requires c κs =
     let u = a .used in
     let l = a .images .now in
     let k = a .k in
-    let d = c .before .before .before .before .before .before .before .before .before .before .before .before .before .before .before .before .before .before .apply-sort .last in
+    let d = c .before .before .before .before .before .before .before .before .before .before .before .before .before .before .before .before .before .before .make-answer .last in
     let v = c .before .before .before .before .before .before .made2 .given .0 in
-    let w = subst (ReplacedIs b p n u (answerAt b p n l k) (d .0) (d .1 .0) (d .1 .1 .0) (d .1 .1 .1 .0) (d .1 .1 .1 .1 .0)) (c .before .before .before .before .before .before .made2 .given .1) (c .before .before .before .before .before .before .before .before .before .before .before .before .before .before .before .before .before .before .apply-sort .ensures) in
+    let w = subst (ReplacedIs b p n u (answerAt b p n l k) (d .0) (d .1 .0) (d .1 .1 .0) (d .1 .1 .1 .0) (d .1 .1 .1 .1 .0)) (c .before .before .before .before .before .before .made2 .given .1) (c .before .before .before .before .before .before .before .before .before .before .before .before .before .before .before .before .before .before .make-answer .ensures) in
     undo-asks b p hs ns zs n u (s .pre .ready .good) (intern (answerAt b p n l k) (storeOf b p n)) (d .0) (d .1 .0) (d .1 .1 .0) (d .1 .1 .1 .0) (d .1 .1 .1 .1 .0) (v .0) (v .1 .0) w
 
 same-length-4 : tie.Need-same-length-4
@@ -115,9 +116,9 @@ returns-2 c =
     let u = a .used in
     let l = a .images .now in
     let k = a .k in
-    let d = c .before .before .before .before .before .before .before .before .before .before .before .before .before .apply-sort .last in
-    let w = subst (ReplacedIs b p n u (answerAt b p n l k) (d .0) (d .1 .0) (d .1 .1 .0) (d .1 .1 .1 .0) (d .1 .1 .1 .1 .0)) (c .before .made .given .1) (c .before .before .before .before .before .before .before .before .before .before .before .before .before .apply-sort .ensures) in
-    record { small = apply-small b p hs ns zs n u k l (s .pre) (c .before .before .before .before .before .before .before .before .before .before .before .before .before .before .before .before .before .before .before .before .applied-size .result) (c .before .before .before .before .before .before .before .before .before .before .before .before .before .before .before .before .before .before .before .before .applied-size .ensures) (c .before .before .before .before .before .before .before .before .before .before .before .before .before .before .before .before .before .before .before .if1 .left); made = w }
+    let d = c .before .before .before .before .before .before .before .before .before .before .before .before .before .make-answer .last in
+    let w = subst (ReplacedIs b p n u (answerAt b p n l k) (d .0) (d .1 .0) (d .1 .1 .0) (d .1 .1 .1 .0) (d .1 .1 .1 .1 .0)) (c .before .made .given .1) (c .before .before .before .before .before .before .before .before .before .before .before .before .before .make-answer .ensures) in
+    record { small = apply-small b p hs ns zs n u k l (s .pre) (c .before .before .before .before .before .before .before .before .before .before .before .before .before .before .before .before .before .before .before .before .answer-size .result) (c .before .before .before .before .before .before .before .before .before .before .before .before .before .before .before .before .before .before .before .before .answer-size .ensures) (c .before .before .before .before .before .before .before .before .before .before .before .before .before .before .before .before .before .before .before .if1 .left); made = w }
 
 same-length-9 : tie.Need-same-length-9
 same-length-9 c = search needs
@@ -147,11 +148,11 @@ returns-3 c =
     let u = a .used in
     let l = a .images .now in
     let k = a .k in
-    let d = c .before .before .before .before .before .before .before .before .before .before .before .before .before .before .before .before .before .before .before .before .before .before .before .before .before .before .before .before .before .apply-sort .last in
+    let d = c .before .before .before .before .before .before .before .before .before .before .before .before .before .before .before .before .before .before .before .before .before .before .before .before .before .before .before .before .before .make-answer .last in
     let v = c .before .before .before .before .before .before .before .before .before .before .before .before .before .before .before .before .before .made2 .given .0 in
-    let w = subst (ReplacedIs b p n u (answerAt b p n l k) (d .0) (d .1 .0) (d .1 .1 .0) (d .1 .1 .1 .0) (d .1 .1 .1 .1 .0)) (c .before .before .before .before .before .before .before .before .before .before .before .before .before .before .before .before .before .made2 .given .1) (c .before .before .before .before .before .before .before .before .before .before .before .before .before .before .before .before .before .before .before .before .before .before .before .before .before .before .before .before .before .apply-sort .ensures) in
+    let w = subst (ReplacedIs b p n u (answerAt b p n l k) (d .0) (d .1 .0) (d .1 .1 .0) (d .1 .1 .1 .0) (d .1 .1 .1 .1 .0)) (c .before .before .before .before .before .before .before .before .before .before .before .before .before .before .before .before .before .made2 .given .1) (c .before .before .before .before .before .before .before .before .before .before .before .before .before .before .before .before .before .before .before .before .before .before .before .before .before .before .before .before .before .make-answer .ensures) in
     let e = c .before .before .before .before .before .before .before .before .before .before .undo .last in
-    (apply-small b p hs ns zs n u k l (s .pre) (c .before .before .before .before .before .before .before .before .before .before .before .before .before .before .before .before .before .before .before .before .before .before .before .before .before .before .before .before .before .before .before .before .before .before .before .before .applied-size .result) (c .before .before .before .before .before .before .before .before .before .before .before .before .before .before .before .before .before .before .before .before .before .before .before .before .before .before .before .before .before .before .before .before .before .before .before .before .applied-size .ensures) (c .before .before .before .before .before .before .before .before .before .before .before .before .before .before .before .before .before .before .before .before .before .before .before .before .before .before .before .before .before .before .before .before .before .before .before .if1 .left), w .full, undo-back b p hs ns zs n u (s .pre .ready .good) (intern (answerAt b p n l k) (storeOf b p n)) (d .0) (d .1 .0) (d .1 .1 .0) (d .1 .1 .1 .0) (d .1 .1 .1 .1 .0) (v .0) (v .1 .0) w (e .0) (e .1 .0) (e .1 .1 .0) (e .1 .1 .1 .0) (e .1 .1 .1 .1 .0) (c .before .before .before .before .before .before .before .before .before .before .undo .result) (c .before .before .before .before .before .before .before .before .before .before .undo .ensures))
+    (apply-small b p hs ns zs n u k l (s .pre) (c .before .before .before .before .before .before .before .before .before .before .before .before .before .before .before .before .before .before .before .before .before .before .before .before .before .before .before .before .before .before .before .before .before .before .before .before .answer-size .result) (c .before .before .before .before .before .before .before .before .before .before .before .before .before .before .before .before .before .before .before .before .before .before .before .before .before .before .before .before .before .before .before .before .before .before .before .before .answer-size .ensures) (c .before .before .before .before .before .before .before .before .before .before .before .before .before .before .before .before .before .before .before .before .before .before .before .before .before .before .before .before .before .before .before .before .before .before .before .if1 .left), w .full, undo-back b p hs ns zs n u (s .pre .ready .good) (intern (answerAt b p n l k) (storeOf b p n)) (d .0) (d .1 .0) (d .1 .1 .0) (d .1 .1 .1 .0) (d .1 .1 .1 .1 .0) (v .0) (v .1 .0) w (e .0) (e .1 .0) (e .1 .1 .0) (e .1 .1 .1 .0) (e .1 .1 .1 .1 .0) (c .before .before .before .before .before .before .before .before .before .before .undo .result) (c .before .before .before .before .before .before .before .before .before .before .undo .ensures))
 
 pub apply-spec : {M : Type 1} → statement M
-apply-spec = tie.close (tie.spec applied-size-requires same-length same-length-2 same-length-3 returns apply-sort-requires enum-known-made enum-known-made-2 undo-requires same-length-4 same-length-5 same-length-6 same-length-7 same-length-8 returns-2 same-length-9 same-length-10 same-length-11 same-length-12 same-length-13 returns-3)
+apply-spec = tie.close (tie.spec answer-size-requires same-length same-length-2 same-length-3 returns make-answer-requires enum-known-made enum-known-made-2 undo-requires same-length-4 same-length-5 same-length-6 same-length-7 same-length-8 returns-2 same-length-9 same-length-10 same-length-11 same-length-12 same-length-13 returns-3)

@@ -1,5 +1,6 @@
 -- 22 by the capped sizes of the list, with nothing touched.
 -- Where there was no room, undoing gives back the store that it was grown from.
+use native.Mathlib.Omega.{arith}
 use borrow.Author.Needs.{needs}
 use mathlib.Core.Path.{refl, subst}
 use Rattle.record.specs.Store.{intern}
@@ -10,8 +11,8 @@ use Rattle.apply.proofs.FunctionLaws.{function-sizes, function-over, fu
 use Rattle.apply.proofs.function.apply_function.Statement.{statement}
 use Rattle.apply.proofs.function.apply_function.Tie as tie
 
-applied-sizes-requires : tie.Need-applied-sizes-requires
-applied-sizes-requires c κs =
+answer-sizes-requires : tie.Need-answer-sizes-requires
+answer-sizes-requires c κs =
     let s = c .before .before .before .before .before .before .before .before .before in
     let a = s .args in
     let b = a .records .now in
@@ -49,7 +50,7 @@ returns c =
     let l = a .images .now in
     let x = a .at in
     let m = a .left in
-    (function-over b p hs ns zs n u l x m (s .pre) (c .before .applied-sizes .result) (c .before .applied-sizes .ensures) (c .if1 .taken), (refl, refl, refl, refl, refl))
+    (function-over b p hs ns zs n u l x m (s .pre) (c .before .answer-sizes .result) (c .before .answer-sizes .ensures) (c .if1 .taken), (refl, refl, refl, refl, refl))
 
 make-function-requires : tie.Need-make-function-requires
 make-function-requires c κs =
@@ -65,7 +66,7 @@ make-function-requires c κs =
     let l = a .images .now in
     let x = a .at in
     let m = a .left in
-    function-fits b p hs ns zs n u l x m (s .pre) (c .before .before .before .before .before .before .applied-sizes .result) (c .before .before .before .before .before .before .applied-sizes .ensures) (c .before .before .before .before .before .if1 .left)
+    function-fits b p hs ns zs n u l x m (s .pre) (c .before .before .before .before .before .before .answer-sizes .result) (c .before .before .before .before .before .before .answer-sizes .ensures) (c .before .before .before .before .before .if1 .left)
 
 enum-known-made : tie.Need-enum-known-made
 enum-known-made c = search needs
@@ -123,7 +124,7 @@ returns-2 c =
     let m = a .left in
     let d = c .before .before .before .before .before .before .before .before .before .before .before .before .before .make-function .last in
     let w = subst (ReplacedIs b p n u (functionAt b p n l x m) (d .0) (d .1 .0) (d .1 .1 .0) (d .1 .1 .1 .0) (d .1 .1 .1 .1 .0)) (c .before .made .given .1) (c .before .before .before .before .before .before .before .before .before .before .before .before .before .make-function .ensures) in
-    record { small = function-fits b p hs ns zs n u l x m (s .pre) (c .before .before .before .before .before .before .before .before .before .before .before .before .before .before .before .before .before .before .before .before .applied-sizes .result) (c .before .before .before .before .before .before .before .before .before .before .before .before .before .before .before .before .before .before .before .before .applied-sizes .ensures) (c .before .before .before .before .before .before .before .before .before .before .before .before .before .before .before .before .before .before .before .if1 .left) .small; made = w }
+    record { small = function-fits b p hs ns zs n u l x m (s .pre) (c .before .before .before .before .before .before .before .before .before .before .before .before .before .before .before .before .before .before .before .before .answer-sizes .result) (c .before .before .before .before .before .before .before .before .before .before .before .before .before .before .before .before .before .before .before .before .answer-sizes .ensures) (c .before .before .before .before .before .before .before .before .before .before .before .before .before .before .before .before .before .before .before .if1 .left) .small; made = w }
 
 same-length-9 : tie.Need-same-length-9
 same-length-9 c = search needs
@@ -158,7 +159,7 @@ returns-3 c =
     let w = subst (ReplacedIs b p n u (functionAt b p n l x m) (d .0) (d .1 .0) (d .1 .1 .0) (d .1 .1 .1 .0) (d .1 .1 .1 .1 .0)) (c .before .before .before .before .before .before .before .before .before .before .before .before .before .before .before .before .before .made2 .given .1) (c .before .before .before .before .before .before .before .before .before .before .before .before .before .before .before .before .before .before .before .before .before .before .before .before .before .before .before .before .before .make-function .ensures) in
     let v = c .before .before .before .before .before .before .before .before .before .before .before .before .before .before .before .before .before .made2 .given .0 in
     let e = c .before .before .before .before .before .before .before .before .before .before .undo .last in
-    (function-fits b p hs ns zs n u l x m (s .pre) (c .before .before .before .before .before .before .before .before .before .before .before .before .before .before .before .before .before .before .before .before .before .before .before .before .before .before .before .before .before .before .before .before .before .before .before .before .applied-sizes .result) (c .before .before .before .before .before .before .before .before .before .before .before .before .before .before .before .before .before .before .before .before .before .before .before .before .before .before .before .before .before .before .before .before .before .before .before .before .applied-sizes .ensures) (c .before .before .before .before .before .before .before .before .before .before .before .before .before .before .before .before .before .before .before .before .before .before .before .before .before .before .before .before .before .before .before .before .before .before .before .if1 .left) .small, w .full, undo-back b p hs ns zs n u (s .pre .ready .good) (intern (functionAt b p n l x m) (storeOf b p n)) (d .0) (d .1 .0) (d .1 .1 .0) (d .1 .1 .1 .0) (d .1 .1 .1 .1 .0) (v .0) (v .1 .0) w (e .0) (e .1 .0) (e .1 .1 .0) (e .1 .1 .1 .0) (e .1 .1 .1 .1 .0) (c .before .before .before .before .before .before .before .before .before .before .undo .result) (c .before .before .before .before .before .before .before .before .before .before .undo .ensures))
+    (function-fits b p hs ns zs n u l x m (s .pre) (c .before .before .before .before .before .before .before .before .before .before .before .before .before .before .before .before .before .before .before .before .before .before .before .before .before .before .before .before .before .before .before .before .before .before .before .before .answer-sizes .result) (c .before .before .before .before .before .before .before .before .before .before .before .before .before .before .before .before .before .before .before .before .before .before .before .before .before .before .before .before .before .before .before .before .before .before .before .before .answer-sizes .ensures) (c .before .before .before .before .before .before .before .before .before .before .before .before .before .before .before .before .before .before .before .before .before .before .before .before .before .before .before .before .before .before .before .before .before .before .before .if1 .left) .small, w .full, undo-back b p hs ns zs n u (s .pre .ready .good) (intern (functionAt b p n l x m) (storeOf b p n)) (d .0) (d .1 .0) (d .1 .1 .0) (d .1 .1 .1 .0) (d .1 .1 .1 .1 .0) (v .0) (v .1 .0) w (e .0) (e .1 .0) (e .1 .1 .0) (e .1 .1 .1 .0) (e .1 .1 .1 .1 .0) (c .before .before .before .before .before .before .before .before .before .before .undo .result) (c .before .before .before .before .before .before .before .before .before .before .undo .ensures))
 
 pub apply-function-spec : {M : Type 1} → statement M
-apply-function-spec = tie.close (tie.spec applied-sizes-requires same-length same-length-2 same-length-3 returns make-function-requires enum-known-made enum-known-made-2 undo-requires same-length-4 same-length-5 same-length-6 same-length-7 same-length-8 returns-2 same-length-9 same-length-10 same-length-11 same-length-12 same-length-13 returns-3)
+apply-function-spec = tie.close (tie.spec answer-sizes-requires same-length same-length-2 same-length-3 returns make-function-requires enum-known-made enum-known-made-2 undo-requires same-length-4 same-length-5 same-length-6 same-length-7 same-length-8 returns-2 same-length-9 same-length-10 same-length-11 same-length-12 same-length-13 returns-3)

@@ -1,0 +1,37 @@
+-- A table of zeros says nothing, so it says the truth; what it says afterwards is dropped.
+use native.Mathlib.Omega.{arith}
+use borrow.Author.Needs.{needs}
+use Rattle.apply.proofs.KnownLaws.{known-none}
+use Rattle.apply.proofs.whole.make_answers.Statement.{statement}
+use Rattle.apply.proofs.whole.make_answers.Tie as tie
+
+slice-aggregate-apply-parts : tie.Need-slice-aggregate-apply-parts
+slice-aggregate-apply-parts c = search needs
+
+apply-parts-requires : tie.Need-apply-parts-requires
+apply-parts-requires c κs =
+    let s = c .before .before .before .before .before .before .before .before .before .before .before .before in
+    let a = s .args in
+    let b = a .records .now in let p = a .places .now in let l = a .images .now in
+    record { asks = s .pre; known = known-none b p (a .count) l 4096 }
+
+same-length : tie.Need-same-length
+same-length c = search needs
+
+same-length-2 : tie.Need-same-length-2
+same-length-2 c = search needs
+
+same-length-3 : tie.Need-same-length-3
+same-length-3 c = search needs
+
+same-length-4 : tie.Need-same-length-4
+same-length-4 c = search needs
+
+same-length-5 : tie.Need-same-length-5
+same-length-5 c = search needs
+
+returns : tie.Need-returns
+returns c = c .before .before .before .before .before .before .before .before .before .before .before .apply-parts .ensures .are
+
+pub make-answers-spec : {M : Type 1} → statement M
+make-answers-spec = tie.close (tie.spec slice-aggregate-apply-parts apply-parts-requires same-length same-length-2 same-length-3 same-length-4 same-length-5 returns)
