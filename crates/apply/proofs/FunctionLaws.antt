@@ -23,14 +23,12 @@ use Rattle.record.specs.StoreLaws.{storeOf-length}
 use Rattle.record.specs.Entries.{store-ordered}
 use Rattle.store.specs.Contract.{Untouched}
 use Rattle.substitution.specs.SubstitutionLaws.{count-applied}
-use Rattle.apply.specs.declared.lists.Numbers.{Numbers}
-use Rattle.apply.specs.declared.Parts.{Parts}
-use Rattle.apply.specs.Lists.{numbersOf, Has, ReadAsks}
+use Rattle.apply.specs.Lists.{Numbers, numbersOf, Has, ReadAsks}
 use Rattle.apply.specs.Draft.{fieldsIn}
 use Rattle.apply.specs.Images.{imagesOf}
 use Rattle.apply.specs.Made.{Made, MakeAsks, intern-first}
 use Rattle.apply.specs.Halted.{Halted, made-over, halted-over}
-use Rattle.apply.specs.Contract.{answersAt, functionAt, SizesAsk, SizesAre, PartsAsk, PartsMade, PartsAre, FunctionAsks, FunctionFits}
+use Rattle.apply.specs.Contract.{answersAt, functionAt, SizesAsk, SizesAre, PartsAsk, PartsMade, FunctionAsks, FunctionFits}
 use Rattle.apply.proofs.ListLaws.{has-length, has-own}
 use Rattle.apply.proofs.SizeLaws.{capped-small, within}
 use Rattle.apply.proofs.SortForms.{sorts-back, indices-below}
@@ -111,77 +109,74 @@ module _ (b p hs ns zs : List ℕ) (n u : ℕ) (l : List ℕ) (x m : ℕ) (f : F
       subst (Starts (internAll ps (storeOf b p n))) (intern-first (function ps) (storeOf b p n) (store-ordered b p n (a .ready .good .stored)))
       (starts-intern (function ps) (internAll ps (storeOf b p n)))
 
-  module _ (c q js os xs : List ℕ) (r : Parts) (are : PartsAre b p n u o l c q js os xs r) where
-    pub function-stuck : r .ok ≡ false → Halted b p n u (intern (functionAt b p n l x m) (storeOf b p n)) c q js os xs (r .count) (r .used)
-    function-stuck e =
-        let w = are .stuck e in
+  pub function-stuck : (c q js os xs : List ℕ) (m′ v : ℕ) → Halted b p n u (internAll (answersAt b p n l (numbersOf o)) (storeOf b p n)) c q js os xs m′ v
+      → Halted b p n u (intern (functionAt b p n l x m) (storeOf b p n)) c q js os xs m′ v
+  function-stuck c q js os xs m′ v w =
+      record {
+        good = w .good;
+        starts = w .starts;
+        full =
+            room-starts (length b) (length p) (internAll ps (storeOf b p n)) (intern (function ps) (storeOf b p n)) starts-function
+            (subst (λ (ss : Sorts). room (length b) (length p) (internAll ss (storeOf b p n)) ≡ false) answers-are (w .full));
+        kept = w .kept;
+      }
+
+  module _ (c q js os xs : List ℕ) (r : Numbers) (m′ v : ℕ) (w : PartsMade b p n u (answersAt b p n l (numbersOf o)) c q js os xs r m′ v)
+      (none : Numbers) (hn : Has none []) where
+    abbrev st : List Sort
+    st = storeOf c q m′
+
+    added : st ≡ internAll ps (storeOf b p n)
+    added = w .added ∙ ap (λ (ss : Sorts). internAll ss (storeOf b p n)) answers-are
+
+    starts : Starts (storeOf b p n) st
+    starts = subst (Starts (storeOf b p n)) (sym added) (starts-intern-all ps (storeOf b p n))
+
+    there : membAll ps st ≡ true
+    there = ap (membAll ps) added ∙ memb-intern-all ps (storeOf b p n)
+
+    has : Has r (indicesOf ps st)
+    has = subst (λ (ss : Sorts). Has r (indicesOf ss st)) answers-are (w .has)
+
+    function-is : sortOf st (fieldsIn 0 0 0 r none) ≡ functionAt b p n l x m
+    function-is =
+        sort-other st (fieldsIn 0 0 0 r none) (λ e. absurd (omega arith)) (λ e. absurd (omega arith))
+        ∙ ap function (ap (sortsOf st) (has .is) ∙ sorts-back ps st there)
+
+    as-many : length (numbersOf r) ≡ m
+    as-many =
+        ap length (has .is) ∙ length-indices ps st ∙ count-applied (imagesOf (storeOf b p n) l) (sortsOf (storeOf b p n) (numbersAt b x m))
+        ∙ count-sorts (storeOf b p n) (numbersAt b x m) ∙ length-numbersAt b x m
+
+    pub function-make : MakeAsks c q js os xs m′ v (fieldsIn 0 0 0 r none) r none
+    function-make =
         record {
           good = w .good;
-          starts = w .starts;
-          full =
-              room-starts (length b) (length p) (internAll ps (storeOf b p n)) (intern (function ps) (storeOf b p n)) starts-function
-              (subst (λ (ss : Sorts). room (length b) (length p) (internAll ss (storeOf b p n)) ≡ false) answers-are (w .full));
-          kept = w .kept;
+          parts = has-own r (indicesOf ps st) has;
+          names = has-own none [] hn;
+          shape =
+              subst (λ (vs : List ℕ). Shape (fields 0 0 0 (numbersOf r) vs)) (sym (hn .is))
+              (shape-function (numbersOf r) (omega (arith, as-many, a .few)));
+          below =
+              subst (λ (vs : List ℕ). (j : ℕ) → j < length vs → getD vs j 0 < m′) (sym (has .is))
+              (λ j h. omega (arith, indices-below ps st there j h, storeOf-length c q m′));
+          small = omega (arith, ap size function-is, f .small);
         }
 
-    module _ (ok : r .ok ≡ true) (none : Numbers) (hn : Has none []) where
-      abbrev w : PartsMade b p n u (answersAt b p n l (numbersOf o)) c q js os xs r
-      w = are .done ok
+    interned : intern (functionAt b p n l x m) st ≡ intern (functionAt b p n l x m) (storeOf b p n)
+    interned =
+        ap (intern (function ps)) added ∙ intern-first (function ps) (storeOf b p n) (store-ordered b p n (a .ready .good .stored))
 
-      abbrev st : List Sort
-      st = storeOf c q (r .count)
+    pub function-made : (d t is ms ys : List ℕ) (i k v′ : ℕ)
+        → Made c q m′ v (sortOf st (fieldsIn 0 0 0 r none)) d t is ms ys i k v′
+        → Made b p n u (functionAt b p n l x m) d t is ms ys i k v′
+    function-made d t is ms ys i k v′ y =
+        made-over b p hs ns zs n u (a .ready .good) c q js os xs m′ v (w .good) starts (w .kept) (functionAt b p n l x m) interned
+        d t is ms ys i k v′ (subst (λ (s : Sort). Made c q m′ v s d t is ms ys i k v′) function-is y)
 
-      added : st ≡ internAll ps (storeOf b p n)
-      added = w .added ∙ ap (λ (ss : Sorts). internAll ss (storeOf b p n)) answers-are
-
-      starts : Starts (storeOf b p n) st
-      starts = subst (Starts (storeOf b p n)) (sym added) (starts-intern-all ps (storeOf b p n))
-
-      there : membAll ps st ≡ true
-      there = ap (membAll ps) added ∙ memb-intern-all ps (storeOf b p n)
-
-      has : Has (r .numbers) (indicesOf ps st)
-      has = subst (λ (ss : Sorts). Has (r .numbers) (indicesOf ss st)) answers-are (w .has)
-
-      function-is : sortOf st (fieldsIn 0 0 0 (r .numbers) none) ≡ functionAt b p n l x m
-      function-is =
-          sort-other st (fieldsIn 0 0 0 (r .numbers) none) (λ e. absurd (omega arith)) (λ e. absurd (omega arith))
-          ∙ ap function (ap (sortsOf st) (has .is) ∙ sorts-back ps st there)
-
-      as-many : length (numbersOf (r .numbers)) ≡ m
-      as-many =
-          ap length (has .is) ∙ length-indices ps st ∙ count-applied (imagesOf (storeOf b p n) l) (sortsOf (storeOf b p n) (numbersAt b x m))
-          ∙ count-sorts (storeOf b p n) (numbersAt b x m) ∙ length-numbersAt b x m
-
-      pub function-make : MakeAsks c q js os xs (r .count) (r .used) (fieldsIn 0 0 0 (r .numbers) none) (r .numbers) none
-      function-make =
-          record {
-            good = w .good;
-            parts = has-own (r .numbers) (indicesOf ps st) has;
-            names = has-own none [] hn;
-            shape =
-                subst (λ (vs : List ℕ). Shape (fields 0 0 0 (numbersOf (r .numbers)) vs)) (sym (hn .is))
-                (shape-function (numbersOf (r .numbers)) (omega (arith, as-many, a .few)));
-            below =
-                subst (λ (vs : List ℕ). (j : ℕ) → j < length vs → getD vs j 0 < r .count) (sym (has .is))
-                (λ j h. omega (arith, indices-below ps st there j h, storeOf-length c q (r .count)));
-            small = omega (arith, ap size function-is, f .small);
-          }
-
-      interned : intern (functionAt b p n l x m) st ≡ intern (functionAt b p n l x m) (storeOf b p n)
-      interned =
-          ap (intern (function ps)) added ∙ intern-first (function ps) (storeOf b p n) (store-ordered b p n (a .ready .good .stored))
-
-      pub function-made : (d t is ms ys : List ℕ) (i k v : ℕ)
-          → Made c q (r .count) (r .used) (sortOf st (fieldsIn 0 0 0 (r .numbers) none)) d t is ms ys i k v
-          → Made b p n u (functionAt b p n l x m) d t is ms ys i k v
-      function-made d t is ms ys i k v y =
-          made-over b p hs ns zs n u (a .ready .good) c q js os xs (r .count) (r .used) (w .good) starts (w .kept) (functionAt b p n l x m) interned
-          d t is ms ys i k v (subst (λ (s : Sort). Made c q (r .count) (r .used) s d t is ms ys i k v) function-is y)
-
-      pub function-full : (d t is ms ys : List ℕ)
-          → (room (length c) (length q) (intern (sortOf st (fieldsIn 0 0 0 (r .numbers) none)) st) ≡ false) × Untouched c q js os xs d t is ms ys
-          → Halted b p n u (intern (functionAt b p n l x m) (storeOf b p n)) d t is ms ys (r .count) (r .used)
-      function-full d t is ms ys y =
-          halted-over b p hs ns zs n u (a .ready .good) c q js os xs (r .count) (r .used) (w .good) starts (w .kept) (functionAt b p n l x m) interned
-          d t is ms ys (sym (ap (λ (s : Sort). room (length c) (length q) (intern s st)) function-is) ∙ y .0, y .1)
+    pub function-full : (d t is ms ys : List ℕ)
+        → (room (length c) (length q) (intern (sortOf st (fieldsIn 0 0 0 r none)) st) ≡ false) × Untouched c q js os xs d t is ms ys
+        → Halted b p n u (intern (functionAt b p n l x m) (storeOf b p n)) d t is ms ys m′ v
+    function-full d t is ms ys y =
+        halted-over b p hs ns zs n u (a .ready .good) c q js os xs m′ v (w .good) starts (w .kept) (functionAt b p n l x m) interned
+        d t is ms ys (sym (ap (λ (s : Sort). room (length c) (length q) (intern s st)) function-is) ∙ y .0, y .1)

@@ -4,7 +4,7 @@ use Prim.Native.Nat.{ℕ, zero, suc, _+_, _-_, _≤_, _<_}
 use mathlib.Core.Path.{_≡_, refl, sym, ap, ap₂, subst, _∙_}
 use mathlib.Core.List.{List, [], _∷_}
 use native.Mathlib.Omega.{arith}
-use lib.ListN.{length, getD, set, replicate}
+use lib.ListN.{getD, set, replicate}
 use Rattle.record.specs.Sort.{Sort}
 use Rattle.record.specs.Decode.{storeOf, sortAt}
 use Rattle.record.specs.SortLists.{Starts, starts-at, starts-count}
@@ -15,8 +15,11 @@ use Rattle.apply.specs.Images.{imagesOf, Table, table-starts, images-sam
 use Rattle.apply.specs.Made.{Made, made-starts, made-more, made-known, made-here, made-known-sort}
 use Rattle.apply.specs.declared.Replaced.{Replaced}
 use Rattle.apply.specs.declared.Replaced.the-variants.{Is as Found, Stuck}
-use Rattle.apply.specs.Contract.{answerAt, SizeIs, ReplacedIs}
-use Rattle.apply.specs.Known.{Says, Known, Weighs, Weighed, KnownIs}
+use Rattle.apply.specs.declared.Parts.{Parts}
+use Rattle.apply.specs.declared.Parts.the-variants.{Are, Stuck as Short}
+use Rattle.apply.specs.Lists.{Numbers}
+use Rattle.apply.specs.Contract.{answerAt, SizeIs, ReplacedIs, PartsAre}
+use Rattle.apply.specs.Known.{Says, Known, Weighs, Weighed, KnownIs, KnownAllAre}
 use Rattle.apply.proofs.ListLaws.{zeros-are}
 
 -- In a store that has grown, an old sort and its answer are as they were.
@@ -91,6 +94,11 @@ pub known-replaced : (b p : List ℕ) (n u k : ℕ) (l c q hs′ ns′ zs′ ws�
     → ReplacedIs b p n u (answerAt b p n l k) c q hs′ ns′ zs′ r
 known-replaced b p n u k l c q hs′ ns′ zs′ ws′ (Found i m v) w = w .made
 known-replaced b p n u k l c q hs′ ns′ zs′ ws′ (Stuck m v) w = w
+
+pub known-parts : (b p : List ℕ) (n u : ℕ) (parts : Numbers) (l c q hs′ ns′ zs′ ws′ : List ℕ) (o : Numbers) (r : Parts)
+    → KnownAllAre b p n u parts l c q hs′ ns′ zs′ ws′ o r → PartsAre b p n u parts l c q hs′ ns′ zs′ o r
+known-parts b p n u parts l c q hs′ ns′ zs′ ws′ o (Are m v) w = w .made
+known-parts b p n u parts l c q hs′ ns′ zs′ ws′ o (Short m v) w = w
 
 -- THE SIZES.
 pub weighed-none : (b p : List ℕ) (n : ℕ) (l : List ℕ) (m : ℕ) → Weighed b p n l (replicate m 0)

@@ -17,7 +17,7 @@ use Rattle.store.specs.Entry.{TreeAsks, TreeHas}
 use Rattle.store.specs.Walk.{tree-asks}
 use Rattle.store.specs.declared.Interned.{Interned}
 use Rattle.store.specs.declared.Interned.the-variants.{Is, NoRoom}
-use Rattle.apply.specs.declared.lists.Numbers.{Numbers}
+use Rattle.apply.specs.Lists.{Numbers}
 use Rattle.apply.specs.Made.{MakeAsks, MadeIs}
 
 module _ (b p hs ns zs : List ℕ) (n u : ℕ) (f : Fields) (ps ms : Numbers) (a : MakeAsks b p hs ns zs n u f ps ms) (r : List ℕ) (e : r ≡ recordBytes f) where

@@ -2,7 +2,7 @@
 -- left; and a whole sort after its parts.
 use Prim.Native.Nat.{ℕ, zero, suc, _+_, _*_, _≤_, _<_}
 use mathlib.Core.Path.{_≡_, refl, sym, ap, ap₂, subst, _∙_}
-use mathlib.Core.Bool.{true, false, true≢false, false≢true}
+use mathlib.Core.Bool.{true, false}
 use mathlib.Core.List.{List, [], _∷_}
 use native.Mathlib.Omega.{arith}
 use native.Mathlib.Numerals.{add-one}
@@ -13,8 +13,7 @@ use Rattle.record.specs.Sort.{Sort, Sorts, count, size, sizes, kindOf, partsOf}
 use Rattle.record.specs.Record.{Fields, leaf, sortsOf}
 use Rattle.record.specs.Store.{memb, intern, internAll, indexOf, indicesOf, room}
 use Rattle.record.specs.Decode.{Below, storeOf, sortAt}
-use Rattle.record.specs.SortLists.{below-suc, membAll, memb-starts, index-starts, memb-intern-all, Starts, starts-self, starts-trans, starts-at, starts-count, starts-intern-all, room-starts}
-use Rattle.record.specs.StoreLaws.{storeOf-length}
+use Rattle.record.specs.SortLists.{below-suc, membAll, memb-starts, index-starts, memb-intern-all, Starts, starts-self, starts-trans, starts-intern-all, room-starts}
 use Rattle.record.specs.Entries.{store-ordered}
 use Rattle.record.specs.Whole.{store-once}
 use Rattle.record.specs.declared.SortRecord.{SortRecord}
@@ -22,15 +21,13 @@ use Rattle.store.specs.Good.{Good, Kept}
 use Rattle.store.specs.Contract.{Untouched}
 use Rattle.store.specs.Entry.{EntryIs}
 use Rattle.substitution.specs.Substitution.{Map, apply, applyAll}
-use Rattle.apply.specs.declared.lists.Numbers.{Numbers}
-use Rattle.apply.specs.declared.Parts.{Parts}
-use Rattle.apply.specs.Lists.{numbersOf, unbound, Has, ReadAsks}
-use Rattle.apply.specs.Images.{imageNumber, imagesOf, Table, table-starts, images-same}
+use Rattle.apply.specs.Lists.{Numbers, numbersOf, unbound, Has, ReadAsks}
+use Rattle.apply.specs.Images.{imageNumber, imagesOf}
 use Rattle.apply.specs.Made.{Made, made-starts, made-there, made-known, made-known-sort, kept-self, kept-trans, grown-count, grown-used}
 use Rattle.apply.specs.Halted.{Halted, made-over, halted-over}
-use Rattle.apply.specs.Contract.{answerAt, answersAt, SortAsks, PartsAsk, PartsMade, PartsAre, RebuildAsks}
+use Rattle.apply.specs.Contract.{answerAt, answersAt, SortAsks, PartsAsk, PartsMade, RebuildAsks}
 use Rattle.apply.specs.Known.{Known}
-use Rattle.apply.proofs.ListLaws.{has-length, has-own, set-small}
+use Rattle.apply.proofs.ListLaws.{has-length, has-own}
 use Rattle.apply.proofs.SortForms.{rebuilt, image-is, image-known, answer-rebuilt, answer-leaf, parts-one, intern-rebuilt, starts-rebuilt, sizes-within, size-refs}
 use Rattle.apply.proofs.KnownLaws.{map-same, sort-same, answer-same, table-same, known-added}
 
@@ -64,7 +61,6 @@ pub record PartsInv (b p : List ℕ) (n u : ℕ) (parts : Numbers) (l c q hs ns 
   pub starts : Starts (storeOf b p n) (storeOf c q m)
   pub kept : Kept b p n u c q
   pub long : length list ≡ 64
-  pub small : (i : ℕ) → getD list i 0 < 65536
   pub rest : (i : ℕ) → j ≤ i → getD list i 0 ≡ getD (parts .list) i 0
   pub there : (i : ℕ) → i < j → memb (answerAt b p n l (getD (parts .list) i 0)) (storeOf c q m) ≡ true
   pub number : (i : ℕ) → i < j → getD list i 0 ≡ indexOf (answerAt b p n l (getD (parts .list) i 0)) (storeOf c q m)
@@ -85,7 +81,6 @@ parts-start b p hs ns zs n u parts l a =
       starts = starts-self (storeOf b p n);
       kept = kept-self b p n u;
       long = a .has .long;
-      small = a .has .small;
       rest = λ i h. refl;
       there = λ i h. absurd (omega arith);
       number = λ i h. absurd (omega arith);
@@ -147,28 +142,24 @@ module _ (b p hs ns zs : List ℕ) (n u : ℕ) (parts : Numbers) (l : List ℕ) 
 
     pub parts-halted : (d r js os xs : List ℕ) (m′ v′ : ℕ)
         → Halted c q m v (intern (answerAt c q m l (getD list j 0)) (storeOf c q m)) d r js os xs m′ v′
-        → PartsAre b p n u parts l d r js os xs (record { ok = false; count = m′; used = v′; numbers = parts })
+        → Halted b p n u (internAll (answersAt b p n l (numbersOf parts)) (storeOf b p n)) d r js os xs m′ v′
     parts-halted d r js os xs m′ v′ w =
         record {
-          done = λ e. absurd (false≢true e);
-          stuck = λ e.
-              record {
-                good = w .good;
-                starts = starts-trans (storeOf b p n) (storeOf c q m) (storeOf d r m′) (i .starts) (w .starts);
-                full =
-                    let s = answerAt b p n l (getD (parts .list) j 0) in
-                    let f : room (length b) (length p) (intern s (storeOf c q m)) ≡ false =
-                    sym (ap₂ (λ (x y : ℕ). room x y (intern s (storeOf c q m))) (i .kept .long) (i .kept .wide))
-                    ∙ ap (λ (t : Sort). room (length c) (length q) (intern t (storeOf c q m))) (sym answer-here) ∙ w .full in
-                    subst (λ (x : List Sort). room (length b) (length p) x ≡ false) (sym step ∙ i .total)
-                    (room-starts (length b) (length p) (intern s (storeOf c q m))
-                    (internAll (answersAt b p n l (drop (suc j) (numbersOf parts))) (intern s (storeOf c q m)))
-                    (starts-intern-all (answersAt b p n l (drop (suc j) (numbersOf parts))) (intern s (storeOf c q m))) f);
-                kept =
-                    kept-trans b p n u c q m v d r
-                    (grown-count b p hs ns zs n u (a .ready .good) c q is ms ys m v (i .good) (i .starts))
-                    (grown-used b p hs ns zs n u (a .ready .good) c q is ms ys m v (i .good) (i .starts)) (i .kept) (w .kept);
-              };
+          good = w .good;
+          starts = starts-trans (storeOf b p n) (storeOf c q m) (storeOf d r m′) (i .starts) (w .starts);
+          full =
+              let s = answerAt b p n l (getD (parts .list) j 0) in
+              let f : room (length b) (length p) (intern s (storeOf c q m)) ≡ false =
+              sym (ap₂ (λ (x y : ℕ). room x y (intern s (storeOf c q m))) (i .kept .long) (i .kept .wide))
+              ∙ ap (λ (t : Sort). room (length c) (length q) (intern t (storeOf c q m))) (sym answer-here) ∙ w .full in
+              subst (λ (x : List Sort). room (length b) (length p) x ≡ false) (sym step ∙ i .total)
+              (room-starts (length b) (length p) (intern s (storeOf c q m))
+              (internAll (answersAt b p n l (drop (suc j) (numbersOf parts))) (intern s (storeOf c q m)))
+              (starts-intern-all (answersAt b p n l (drop (suc j) (numbersOf parts))) (intern s (storeOf c q m))) f);
+          kept =
+              kept-trans b p n u c q m v d r
+              (grown-count b p hs ns zs n u (a .ready .good) c q is ms ys m v (i .good) (i .starts))
+              (grown-used b p hs ns zs n u (a .ready .good) c q is ms ys m v (i .good) (i .starts)) (i .kept) (w .kept);
         }
 
     module _ (d r js os xs : List ℕ) (k m′ v′ : ℕ) (w : Made c q m v (answerAt c q m l (getD list j 0)) d r js os xs k m′ v′) where
@@ -204,7 +195,6 @@ module _ (b p hs ns zs : List ℕ) (n u : ℕ) (parts : Numbers) (l : List ℕ) 
                 (grown-count b p hs ns zs n u (a .ready .good) c q is ms ys m v (i .good) (i .starts))
                 (grown-used b p hs ns zs n u (a .ready .good) c q is ms ys m v (i .good) (i .starts)) (i .kept) (w .kept);
             long = length-set list j k ∙ i .long;
-            small = set-small list j k parts-number (i .small);
             rest = λ x o. getD-set-other list j x k 0 (λ z. omega arith) ∙ i .rest x (omega arith);
             there = λ x o. now-there x (omega arith);
             number = λ x o. now-number x (omega arith);
@@ -215,34 +205,29 @@ module _ (b p hs ns zs : List ℕ) (n u : ℕ) (parts : Numbers) (l : List ℕ) 
                 ∙ sym step ∙ i .total;
           }
 
-  pub parts-done : parts .count ≤ j → PartsAre b p n u parts l c q is ms ys (record { ok = true; count = m; used = v; numbers = record { list = list; count = parts .count } })
+  pub parts-done : parts .count ≤ j → PartsMade b p n u (answersAt b p n l (numbersOf parts)) c q is ms ys (record { list = list; count = parts .count }) m v
   unfolding sortsOf applyAll internAll sortAt
   parts-done h =
       record {
-        done = λ e.
+        good = i .good;
+        added =
+            sym (ap (λ (x : List ℕ). internAll (answersAt b p n l x) (storeOf c q m)) (drop-of-length-le (numbersOf parts) {i = j} (omega (arith, many))))
+            ∙ i .total;
+        has =
             record {
-              good = i .good;
-              added =
-                  sym (ap (λ (x : List ℕ). internAll (answersAt b p n l x) (storeOf c q m)) (drop-of-length-le (numbersOf parts) {i = j} (omega (arith, many))))
-                  ∙ i .total;
-              has =
-                  record {
-                    long = i .long;
-                    few = a .has .few;
-                    small = i .small;
-                    is =
-                        ap (λ (x : ℕ). take x list) (sym many)
-                        ∙ indices-each (imagesOf (storeOf b p n) l) (storeOf b p n) (storeOf c q m) (numbersOf parts) list
-                        (omega (arith, many, i .long, a .has .few))
-                        (λ x o.
-                        let less : x < parts .count = omega (arith, many) in
-                        i .number x (omega arith)
-                        ∙ ap (λ (k : ℕ). indexOf (apply (imagesOf (storeOf b p n) l) (getD (storeOf b p n) k leaf)) (storeOf c q m))
-                        (sym (getD-take (parts .count) (parts .list) x 0 less)));
-                  };
-              kept = i .kept;
+              long = i .long;
+              few = a .has .few;
+              is =
+                  ap (λ (x : ℕ). take x list) (sym many)
+                  ∙ indices-each (imagesOf (storeOf b p n) l) (storeOf b p n) (storeOf c q m) (numbersOf parts) list
+                  (omega (arith, many, i .long, a .has .few))
+                  (λ x o.
+                  let less : x < parts .count = omega (arith, many) in
+                  i .number x (omega arith)
+                  ∙ ap (λ (k : ℕ). indexOf (apply (imagesOf (storeOf b p n) l) (getD (storeOf b p n) k leaf)) (storeOf c q m))
+                  (sym (getD-take (parts .count) (parts .list) x 0 less)));
             };
-        stuck = λ e. absurd (true≢false e);
+        kept = i .kept;
       }
 
 -- A WHOLE SORT.
@@ -306,76 +291,72 @@ module _ (b p hs ns zs : List ℕ) (n u k : ℕ) (l : List ℕ) (a : SortAsks b 
               omega (arith, ap sizes answers-are, ap size answer-is, a .small, sizes-within (e .kind) (e .name) (e .number) names ps other one);
         }
 
-    module _ (c q js os xs : List ℕ) (r : Parts) (are : PartsAre b p n u o l c q js os xs r) where
-      pub sort-stuck : r .ok ≡ false → Halted b p n u (intern (answerAt b p n l k) (storeOf b p n)) c q js os xs (r .count) (r .used)
-      sort-stuck f =
-          let w = are .stuck f in
+    pub sort-stuck : (c q js os xs : List ℕ) (m v : ℕ) → Halted b p n u (internAll (answersAt b p n l (numbersOf o)) (storeOf b p n)) c q js os xs m v
+        → Halted b p n u (intern (answerAt b p n l k) (storeOf b p n)) c q js os xs m v
+    sort-stuck c q js os xs m v w =
+        record {
+          good = w .good;
+          starts = w .starts;
+          full =
+              room-starts (length b) (length p) (internAll ps (storeOf b p n)) (intern (answerAt b p n l k) (storeOf b p n))
+              (subst (λ (s : Sort). Starts (internAll ps (storeOf b p n)) (intern s (storeOf b p n))) (sym answer-is)
+              (starts-rebuilt (e .kind) (e .name) (e .number) names ps (storeOf b p n) (store-ordered b p n (a .ready .good .stored)) other one))
+              (subst (λ (ss : Sorts). room (length b) (length p) (internAll ss (storeOf b p n)) ≡ false) answers-are (w .full));
+          kept = w .kept;
+        }
+
+    module _ (c q js os xs : List ℕ) (r : Numbers) (m v : ℕ) (w : PartsMade b p n u (answersAt b p n l (numbersOf o)) c q js os xs r m v) where
+      added : storeOf c q m ≡ internAll ps (storeOf b p n)
+      added = w .added ∙ ap (λ (ss : Sorts). internAll ss (storeOf b p n)) answers-are
+
+      starts : Starts (storeOf b p n) (storeOf c q m)
+      starts = subst (Starts (storeOf b p n)) (sym added) (starts-intern-all ps (storeOf b p n))
+
+      ps-same : applyAll (imagesOf (storeOf c q m) l) (partsOf (sortAt c q m k)) ≡ ps
+      ps-same =
+          ap₂ (λ (θ : Map) (s : Sort). applyAll θ (partsOf s)) (map-same b p c q n m l starts (a .ready .table))
+          (sort-same b p c q n m l starts (a .ready .table) k (a .known))
+
+      ans-same : answerAt c q m l k ≡ answerAt b p n l k
+      ans-same = answer-same b p c q n m l starts (a .ready .table) k (a .known)
+
+      pub sort-rebuild : RebuildAsks c q js os xs m v k r l
+      sort-rebuild =
           record {
-            good = w .good;
-            starts = w .starts;
-            full =
-                room-starts (length b) (length p) (internAll ps (storeOf b p n)) (intern (answerAt b p n l k) (storeOf b p n))
-                (subst (λ (s : Sort). Starts (internAll ps (storeOf b p n)) (intern s (storeOf b p n))) (sym answer-is)
-                (starts-rebuilt (e .kind) (e .name) (e .number) names ps (storeOf b p n) (store-ordered b p n (a .ready .good .stored)) other one))
-                (subst (λ (ss : Sorts). room (length b) (length p) (internAll ss (storeOf b p n)) ≡ false) answers-are (w .full));
-            kept = w .kept;
+            ready = record { good = w .good; table = table-same b p c q n m l starts (a .ready .table) };
+            known = omega (arith, a .known, grown-count b p hs ns zs n u (a .ready .good) c q js os xs m v (w .good) starts);
+            other = λ z.
+                other (is .kind ∙ sym (ap kindOf (sort-same b p c q n m l starts (a .ready .table) k (a .known))) ∙ z);
+            there =
+                subst (λ (ss : Sorts). membAll ss (storeOf c q m) ≡ true) (sym ps-same)
+                (subst (λ (st : List Sort). membAll ps st ≡ true) (sym added) (memb-intern-all ps (storeOf b p n)));
+            has =
+                subst (λ (ss : Sorts). Has r (indicesOf ss (storeOf c q m))) (answers-are ∙ sym ps-same) (w .has);
+            small = omega (arith, ap size ans-same, a .small);
           }
 
-      module _ (ok : r .ok ≡ true) where
-        abbrev w : PartsMade b p n u (answersAt b p n l (numbersOf o)) c q js os xs r
-        w = are .done ok
+      interned : intern (answerAt b p n l k) (storeOf c q m) ≡ intern (answerAt b p n l k) (storeOf b p n)
+      interned =
+          ap₂ intern answer-is added
+          ∙ intern-rebuilt (e .kind) (e .name) (e .number) names ps (storeOf b p n) (store-ordered b p n (a .ready .good .stored)) other one
+          ∙ sym (ap (λ (s : Sort). intern s (storeOf b p n)) answer-is)
 
-        added : storeOf c q (r .count) ≡ internAll ps (storeOf b p n)
-        added = w .added ∙ ap (λ (ss : Sorts). internAll ss (storeOf b p n)) answers-are
+      pub sort-made : (d t is′ ms′ ys′ : List ℕ) (i m′ v′ : ℕ) → Made c q m v (answerAt c q m l k) d t is′ ms′ ys′ i m′ v′
+          → Made b p n u (answerAt b p n l k) d t is′ ms′ ys′ i m′ v′
+      sort-made d t is′ ms′ ys′ i m′ v′ y =
+          made-over b p hs ns zs n u (a .ready .good) c q js os xs m v (w .good) starts (w .kept) (answerAt b p n l k) interned
+          d t is′ ms′ ys′ i m′ v′ (subst (λ (s : Sort). Made c q m v s d t is′ ms′ ys′ i m′ v′) ans-same y)
 
-        starts : Starts (storeOf b p n) (storeOf c q (r .count))
-        starts = subst (Starts (storeOf b p n)) (sym added) (starts-intern-all ps (storeOf b p n))
+      -- The table has it too.
+      pub sort-known : (d t is′ ms′ ys′ : List ℕ) (i m′ v′ : ℕ) → Made c q m v (answerAt c q m l k) d t is′ ms′ ys′ i m′ v′
+          → (ws : List ℕ) → Known c q m l ws → Known d t m′ l (set ws k (i + 1))
+      sort-known d t is′ ms′ ys′ i m′ v′ y ws h =
+          known-added c q m v k l d t is′ ms′ ys′ i m′ v′ y (sort-rebuild .ready .table) (sort-rebuild .known) ws h
 
-        ps-same : applyAll (imagesOf (storeOf c q (r .count)) l) (partsOf (sortAt c q (r .count) k)) ≡ ps
-        ps-same =
-            ap₂ (λ (θ : Map) (s : Sort). applyAll θ (partsOf s)) (map-same b p c q n (r .count) l starts (a .ready .table))
-            (sort-same b p c q n (r .count) l starts (a .ready .table) k (a .known))
-
-        ans-same : answerAt c q (r .count) l k ≡ answerAt b p n l k
-        ans-same = answer-same b p c q n (r .count) l starts (a .ready .table) k (a .known)
-
-        pub sort-rebuild : RebuildAsks c q js os xs (r .count) (r .used) k (r .numbers) l
-        sort-rebuild =
-            record {
-              ready = record { good = w .good; table = table-same b p c q n (r .count) l starts (a .ready .table) };
-              known = omega (arith, a .known, grown-count b p hs ns zs n u (a .ready .good) c q js os xs (r .count) (r .used) (w .good) starts);
-              other = λ z.
-                  other (is .kind ∙ sym (ap kindOf (sort-same b p c q n (r .count) l starts (a .ready .table) k (a .known))) ∙ z);
-              there =
-                  subst (λ (ss : Sorts). membAll ss (storeOf c q (r .count)) ≡ true) (sym ps-same)
-                  (subst (λ (st : List Sort). membAll ps st ≡ true) (sym added) (memb-intern-all ps (storeOf b p n)));
-              has =
-                  subst (λ (ss : Sorts). Has (r .numbers) (indicesOf ss (storeOf c q (r .count)))) (answers-are ∙ sym ps-same) (w .has);
-              small = omega (arith, ap size ans-same, a .small);
-            }
-
-        interned : intern (answerAt b p n l k) (storeOf c q (r .count)) ≡ intern (answerAt b p n l k) (storeOf b p n)
-        interned =
-            ap₂ intern answer-is added
-            ∙ intern-rebuilt (e .kind) (e .name) (e .number) names ps (storeOf b p n) (store-ordered b p n (a .ready .good .stored)) other one
-            ∙ sym (ap (λ (s : Sort). intern s (storeOf b p n)) answer-is)
-
-        pub sort-made : (d t is′ ms′ ys′ : List ℕ) (i m v : ℕ) → Made c q (r .count) (r .used) (answerAt c q (r .count) l k) d t is′ ms′ ys′ i m v
-            → Made b p n u (answerAt b p n l k) d t is′ ms′ ys′ i m v
-        sort-made d t is′ ms′ ys′ i m v y =
-            made-over b p hs ns zs n u (a .ready .good) c q js os xs (r .count) (r .used) (w .good) starts (w .kept) (answerAt b p n l k) interned
-            d t is′ ms′ ys′ i m v (subst (λ (s : Sort). Made c q (r .count) (r .used) s d t is′ ms′ ys′ i m v) ans-same y)
-
-        -- The table has it too.
-        pub sort-known : (d t is′ ms′ ys′ : List ℕ) (i m v : ℕ) → Made c q (r .count) (r .used) (answerAt c q (r .count) l k) d t is′ ms′ ys′ i m v
-            → (ws : List ℕ) → Known c q (r .count) l ws → Known d t m l (set ws k (i + 1))
-        sort-known d t is′ ms′ ys′ i m v y ws h =
-            known-added c q (r .count) (r .used) k l d t is′ ms′ ys′ i m v y (sort-rebuild .ready .table) (sort-rebuild .known) ws h
-
-        pub sort-full : (d t is′ ms′ ys′ : List ℕ)
-            → (room (length c) (length q) (intern (answerAt c q (r .count) l k) (storeOf c q (r .count))) ≡ false) × Untouched c q js os xs d t is′ ms′ ys′
-            → Halted b p n u (intern (answerAt b p n l k) (storeOf b p n)) d t is′ ms′ ys′ (r .count) (r .used)
-        sort-full d t is′ ms′ ys′ y =
-            halted-over b p hs ns zs n u (a .ready .good) c q js os xs (r .count) (r .used) (w .good) starts (w .kept) (answerAt b p n l k) interned
-            d t is′ ms′ ys′
-            (sym (ap (λ (s : Sort). room (length c) (length q) (intern s (storeOf c q (r .count)))) ans-same) ∙ y .0, y .1)
+      pub sort-full : (d t is′ ms′ ys′ : List ℕ)
+          → (room (length c) (length q) (intern (answerAt c q m l k) (storeOf c q m)) ≡ false) × Untouched c q js os xs d t is′ ms′ ys′
+          → Halted b p n u (intern (answerAt b p n l k) (storeOf b p n)) d t is′ ms′ ys′ m v
+      sort-full d t is′ ms′ ys′ y =
+          halted-over b p hs ns zs n u (a .ready .good) c q js os xs m v (w .good) starts (w .kept) (answerAt b p n l k) interned
+          d t is′ ms′ ys′
+          (sym (ap (λ (s : Sort). room (length c) (length q) (intern s (storeOf c q m))) ans-same) ∙ y .0, y .1)

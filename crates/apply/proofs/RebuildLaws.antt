@@ -22,8 +22,7 @@ use Rattle.store.specs.Entry.{EntryIs}
 use Rattle.store.specs.declared.Interned.{Interned}
 use Rattle.substitution.specs.Substitution.{applyAll}
 use Rattle.substitution.specs.SubstitutionLaws.{count-applied}
-use Rattle.apply.specs.declared.lists.Numbers.{Numbers}
-use Rattle.apply.specs.Lists.{numbersOf, unbound, Has, SameAsks}
+use Rattle.apply.specs.Lists.{Numbers, numbersOf, unbound, Has, SameAsks}
 use Rattle.apply.specs.Draft.{fieldsIn}
 use Rattle.apply.specs.Images.{imagesOf, unbound-left}
 use Rattle.apply.specs.Made.{Made, MadeIs, MakeAsks, kept-self, made-known-sort}

@@ -15,12 +15,10 @@ use Rattle.record.specs.StoreLaws.{parts-end, parts-more}
 use Rattle.record.specs.declared.SortRecord.{SortRecord}
 use Rattle.store.specs.Entry.{EntryIs, EntryHas, SizeHas}
 use Rattle.substitution.specs.Substitution.{applyAll}
-use Rattle.apply.specs.declared.lists.Numbers.{Numbers}
-use Rattle.apply.specs.Lists.{unbound, Has, NamesAsk}
+use Rattle.apply.specs.Lists.{unbound, NamesAsk}
 use Rattle.apply.specs.Images.{imageNumber, imagesOf}
 use Rattle.apply.specs.Contract.{capped, goes, answerAt, answersAt, SizeAsks, SizesAsk, SizeIs, SizesAre}
 use Rattle.apply.specs.Known.{Weighed}
-use Rattle.apply.proofs.ListLaws.{has-length}
 use Rattle.apply.proofs.SortForms.{rebuilt, image-is, image-known, answer-rebuilt, answer-leaf, parts-one, size-gone, size-stays, size-refs}
 
 pub over : (v : ℕ) → 4096 < v → 4097 ≡ capped v
@@ -119,7 +117,7 @@ module _ (b p zs : List ℕ) (n k : ℕ) (l : List ℕ) (a : SizeAsks b p zs n k
   pub names-ask : NamesAsk b (r .names) (r .named) l
   names-ask = record { read = record { within = is .place .names; few = is .named }; table = a .reading .table .long }
 
-  module _ (other : r .kind ≡ 2 → ⊥) (o : Numbers) (ho : Has o (unbound l (numbersAt b (r .names) (r .named)))) (sum : ℕ)
+  module _ (other : r .kind ≡ 2 → ⊥) (kept : ℕ) (hk : kept ≡ length (unbound l (numbersAt b (r .names) (r .named)))) (sum : ℕ)
       (es : SizesAre b p n (r .list) (r .count) l sum) where
     abbrev parts : Sorts
     parts = applyAll (imagesOf (storeOf b p n) l) (partsOf (sortAt b p n k))
@@ -130,23 +128,23 @@ module _ (b p zs : List ℕ) (n k : ℕ) (l : List ℕ) (a : SizeAsks b p zs n k
     sum-is : sum ≡ capped (sizes parts)
     sum-is = es ∙ ap (λ (ss : Sorts). capped (sizes (applyAll (imagesOf (storeOf b p n) l) ss))) (is .parts)
 
-    goes-at : (t : Bool) → goes (r .kind) (o .count) ≡ t → goes (r .kind) (length (unbound l (numbersAt b (r .names) (r .named)))) ≡ t
-    goes-at t g = ap (goes (r .kind)) (has-length o (unbound l (numbersAt b (r .names) (r .named))) ho) ∙ g
+    goes-at : (t : Bool) → goes (r .kind) kept ≡ t → goes (r .kind) (length (unbound l (numbersAt b (r .names) (r .named)))) ≡ t
+    goes-at t g = ap (goes (r .kind)) (sym hk) ∙ g
 
-    size-of-gone : goes (r .kind) (o .count) ≡ true → SizeIs b p n k l sum
+    size-of-gone : goes (r .kind) kept ≡ true → SizeIs b p n k l sum
     size-of-gone g =
         sum-is
         ∙ ap capped (sym (ap size answer-is ∙ size-gone (r .kind) (r .name) (r .number) (unbound l (numbersAt b (r .names) (r .named))) parts
         (parts-one b p n l (a .reading .stored) (a .reading .table) k (a .known) r is) (goes-at true g)))
 
-    size-of-rest : goes (r .kind) (o .count) ≡ false → (v : ℕ) → v ≡ capped (1 + sum) → SizeIs b p n k l v
+    size-of-rest : goes (r .kind) kept ≡ false → (v : ℕ) → v ≡ capped (1 + sum) → SizeIs b p n k l v
     size-of-rest g v e =
         e ∙ capped-next (sizes parts) sum sum-is
         ∙ ap capped (sym (ap size answer-is ∙ size-stays (r .kind) (r .name) (r .number) (unbound l (numbersAt b (r .names) (r .named))) parts other
         (parts-one b p n l (a .reading .stored) (a .reading .table) k (a .known) r is) (goes-at false g)))
 
     -- By the test of the code.
-    pub size-whole : (t : Bool) → goes (r .kind) (o .count) ≡ t → (v : ℕ) → v ≡ cond t sum (capped (1 + sum)) → SizeIs b p n k l v
+    pub size-whole : (t : Bool) → goes (r .kind) kept ≡ t → (v : ℕ) → v ≡ cond t sum (capped (1 + sum)) → SizeIs b p n k l v
     size-whole true g v e = e ∙ size-of-gone g
     size-whole false g v e = size-of-rest g v e
 

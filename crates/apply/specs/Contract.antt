@@ -15,13 +15,13 @@ use Rattle.record.specs.SortLists.{membAll}
 use Rattle.store.specs.Good.{Good, Sized, Kept}
 use Rattle.store.specs.Contract.{Untouched}
 use Rattle.substitution.specs.Substitution.{apply, applyAll}
-use Rattle.apply.specs.declared.lists.Numbers.{Numbers}
 use Rattle.apply.specs.declared.Parts.{Parts}
+use Rattle.apply.specs.declared.Parts.the-variants.{Are, Stuck as Short}
 use Rattle.apply.specs.declared.Replaced.{Replaced}
 use Rattle.apply.specs.declared.Replaced.the-variants.{Is as Found, Stuck}
 use Rattle.apply.specs.declared.Applied.{Applied}
 use Rattle.apply.specs.declared.Applied.the-variants.{Is, TooLarge, NoRoom}
-use Rattle.apply.specs.Lists.{numbersOf, Has}
+use Rattle.apply.specs.Lists.{Numbers, numbersOf, Has}
 use Rattle.apply.specs.Images.{imagesOf, Table}
 use Rattle.apply.specs.Made.{Made}
 use Rattle.apply.specs.Halted.{Halted}
@@ -93,16 +93,16 @@ pub record PartsAsk (b p hs ns zs : List ℕ) (n u : ℕ) (parts : Numbers) (l :
   pub small : sizes (answersAt b p n l (numbersOf parts)) ≤ 4096
 
 -- The store after making the sorts ss, and their numbers in it.
-pub record PartsMade (b p : List ℕ) (n u : ℕ) (ss : Sorts) (c q hs′ ns′ zs′ : List ℕ) (r : Parts) : Type 0 where
-  pub good : Good c q hs′ ns′ zs′ (r .count) (r .used)
-  pub added : storeOf c q (r .count) ≡ internAll ss (storeOf b p n)
-  pub has : Has (r .numbers) (indicesOf ss (storeOf c q (r .count)))
+pub record PartsMade (b p : List ℕ) (n u : ℕ) (ss : Sorts) (c q hs′ ns′ zs′ : List ℕ) (o : Numbers) (m v : ℕ) : Type 0 where
+  pub good : Good c q hs′ ns′ zs′ m v
+  pub added : storeOf c q m ≡ internAll ss (storeOf b p n)
+  pub has : Has o (indicesOf ss (storeOf c q m))
   pub kept : Kept b p n u c q
 
-pub record PartsAre (b p : List ℕ) (n u : ℕ) (parts : Numbers) (l c q hs′ ns′ zs′ : List ℕ) (r : Parts) : Type 0 where
-  pub done : r .ok ≡ true → PartsMade b p n u (answersAt b p n l (numbersOf parts)) c q hs′ ns′ zs′ r
-  pub stuck : r .ok ≡ false
-      → Halted b p n u (internAll (answersAt b p n l (numbersOf parts)) (storeOf b p n)) c q hs′ ns′ zs′ (r .count) (r .used)
+abbrev pub PartsAre : List ℕ → List ℕ → ℕ → ℕ → Numbers → List ℕ → List ℕ → List ℕ → List ℕ → List ℕ → List ℕ → Numbers → Parts → Type 0
+PartsAre b p n u parts l c q hs′ ns′ zs′ o (Are m v) = PartsMade b p n u (answersAt b p n l (numbersOf parts)) c q hs′ ns′ zs′ o m v
+PartsAre b p n u parts l c q hs′ ns′ zs′ o (Short m v) =
+    Halted b p n u (internAll (answersAt b p n l (numbersOf parts)) (storeOf b p n)) c q hs′ ns′ zs′ m v
 
 pub record ApplyAsks (b p hs ns zs : List ℕ) (n u k : ℕ) (l : List ℕ) : Type 0 where
   pub ready : Ready b p hs ns zs n u l

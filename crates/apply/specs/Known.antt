@@ -1,20 +1,17 @@
 -- What one substitution knows already, in tables by store number: the answers that it has made, and their sizes. A table has
 -- any length; an entry of 0, and one past the end, says nothing.
-use Prim.Native.Nat.{ℕ, suc, _≤_, _<_}
+use Prim.Native.Nat.{ℕ, suc, _<_}
 use mathlib.Core.Path.{_≡_}
-use mathlib.Core.Bool.{true}
 use mathlib.Core.List.{List}
 use lib.ListN.{getD}
 use Rattle.record.specs.Sort.{size}
-use Rattle.record.specs.Store.{internAll}
-use Rattle.record.specs.Decode.{storeOf, sortAt}
-use Rattle.apply.specs.declared.lists.Numbers.{Numbers}
+use Rattle.record.specs.Decode.{sortAt}
 use Rattle.apply.specs.declared.Parts.{Parts}
+use Rattle.apply.specs.declared.Parts.the-variants.{Are, Stuck as Short}
 use Rattle.apply.specs.declared.Replaced.{Replaced}
 use Rattle.apply.specs.declared.Replaced.the-variants.{Is as Found, Stuck}
-use Rattle.apply.specs.Lists.{numbersOf}
+use Rattle.apply.specs.Lists.{Numbers, numbersOf}
 use Rattle.apply.specs.Made.{Made}
-use Rattle.apply.specs.Halted.{Halted}
 use Rattle.apply.specs.Contract.{capped, answerAt, answersAt, SizeAsks, SizesAsk, SizeIs, SizesAre, SortAsks, ReplacedIs, PartsAsk, PartsMade, PartsAre}
 
 -- What an entry x for the sort k says of the answers made: x is 0, or one more than the number of the answer.
@@ -68,6 +65,10 @@ pub record KnownAllAsk (b p hs ns zs ws : List ℕ) (n u : ℕ) (parts : Numbers
   pub asks : PartsAsk b p hs ns zs n u parts l
   pub known : Known b p n l ws
 
-pub record KnownAllAre (b p : List ℕ) (n u : ℕ) (parts : Numbers) (l c q hs′ ns′ zs′ ws′ : List ℕ) (r : Parts) : Type 0 where
-  pub are : PartsAre b p n u parts l c q hs′ ns′ zs′ r
-  pub known : r .ok ≡ true → Known c q (r .count) l ws′
+pub record KnownAllMade (b p : List ℕ) (n u : ℕ) (parts : Numbers) (l c q hs′ ns′ zs′ ws′ : List ℕ) (o : Numbers) (m v : ℕ) : Type 0 where
+  pub made : PartsMade b p n u (answersAt b p n l (numbersOf parts)) c q hs′ ns′ zs′ o m v
+  pub known : Known c q m l ws′
+
+abbrev pub KnownAllAre : List ℕ → List ℕ → ℕ → ℕ → Numbers → List ℕ → List ℕ → List ℕ → List ℕ → List ℕ → List ℕ → List ℕ → Numbers → Parts → Type 0
+KnownAllAre b p n u parts l c q hs′ ns′ zs′ ws′ o (Are m v) = KnownAllMade b p n u parts l c q hs′ ns′ zs′ ws′ o m v
+KnownAllAre b p n u parts l c q hs′ ns′ zs′ ws′ o (Short m v) = PartsAre b p n u parts l c q hs′ ns′ zs′ o (Short m v)

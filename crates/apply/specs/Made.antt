@@ -19,8 +19,7 @@ use Rattle.store.specs.Good.{Good, Kept, good-room}
 use Rattle.store.specs.Contract.{Untouched}
 use Rattle.store.specs.declared.Interned.{Interned}
 use Rattle.store.specs.declared.Interned.the-variants.{Is, NoRoom}
-use Rattle.apply.specs.declared.lists.Numbers.{Numbers}
-use Rattle.apply.specs.Lists.{numbersOf, Has}
+use Rattle.apply.specs.Lists.{Numbers, numbersOf, Has}
 
 -- THE STORE AFTER MAKING THE SORT s: its parts and itself are interned, i is its number, and the old records stay.
 pub record Made (b p : List ℕ) (n u : ℕ) (s : Sort) (b′ p′ hs′ ns′ zs′ : List ℕ) (i n′ u′ : ℕ) : Type 0 where

@@ -1,5 +1,4 @@
 // A sort made from its fields: the record's bytes, put together from left to right, and interned.
-use super::lists::Numbers;
 use store::Interned;
 use store::entries::tree_size;
 use store::intern;
@@ -11,15 +10,9 @@ ghost use Rattle.record.specs.Number.{u16Bytes};
 ghost use Rattle.record.specs.Record.{mapOf, nameBytes, numberBytes, listBytes, recordBytes, sortOf};
 ghost use Rattle.record.specs.Decode.{storeOf};
 ghost use Rattle.store.specs.Entry.{isOne};
-ghost use Rattle.apply.specs.Lists.{numbersOf};
-ghost use Rattle.apply.specs.Draft.{Room, Put, ByteAsks, WordAsks, WidthAsks, ListAsks, DraftAsks, Drafted, fieldsIn};
+ghost use Rattle.apply.specs.Lists.{numbersOf, held};
+ghost use Rattle.apply.specs.Draft.{draft, Put, ByteAsks, WordAsks, WidthAsks, ListAsks, DraftAsks, Drafted, fieldsIn};
 ghost use Rattle.apply.specs.Made.{MakeAsks, MadeIs};
-
-// The bytes of a record that is being put together.
-pub struct Draft {
-    pub bytes: [u8; 266],
-    pub len: usize,
-}
 
 const MAPS: [usize; 16] = [17, 19, 3, 1, 1, 1, 1, 1, 17, 5, 1, 19, 81, 1, 17, 17];
 
@@ -33,83 +26,86 @@ pub fn map_of(kind: usize) -> usize
     0
 }
 
-// One byte more.
-pub fn put_byte(draft: Draft, v: usize) -> Draft
-    requires { ⌜ ByteAsks draft v ⌝ }
-    ensures { λ r. ⌜ Put draft 1 (v ∷ []) r ⌝ }
+// One byte more behind the first `len`; how many there are then, as of each below.
+pub fn put_byte(bytes: &mut [u8], len: usize, v: usize) -> usize
+    requires { ⌜ ByteAsks (draft (now bytes) len) v ⌝ }
+    ensures { λ r. ⌜ Put (draft (now (bytes .entry)) len) 1 (v ∷ []) (draft (now (bytes .exit)) r) ⌝ }
 {
-    let mut bytes = draft.bytes;
-    let at = draft.len;
-    bytes[at] = v as u8;
-    Draft { bytes, len: at + 1 }
+    bytes[len] = v as u8;
+    len + 1
 }
 
 // A number of two bytes more, low byte first.
-pub fn put_word(draft: Draft, v: usize) -> Draft
-    requires { ⌜ WordAsks draft v ⌝ }
-    ensures { λ r. ⌜ Put draft 2 (u16Bytes v) r ⌝ }
+pub fn put_word(bytes: &mut [u8], len: usize, v: usize) -> usize
+    requires { ⌜ WordAsks (draft (now bytes) len) v ⌝ }
+    ensures { λ r. ⌜ Put (draft (now (bytes .entry)) len) 2 (u16Bytes v) (draft (now (bytes .exit)) r) ⌝ }
 {
-    let low = put_byte(draft, v % 256);
-    put_byte(low, v / 256)
+    let low = put_byte(bytes, len, v % 256);
+    put_byte(bytes, low, v / 256)
 }
 
 // A name more, where its bit is 1; else nothing more.
-pub fn put_name(draft: Draft, bit: usize, v: usize) -> Draft
-    requires { ⌜ WordAsks draft v ⌝ }
-    ensures { λ r. ⌜ Put draft 2 (nameBytes (isOne bit) v) r ⌝ }
+pub fn put_name(bytes: &mut [u8], len: usize, bit: usize, v: usize) -> usize
+    requires { ⌜ WordAsks (draft (now bytes) len) v ⌝ }
+    ensures { λ r. ⌜ Put (draft (now (bytes .entry)) len) 2 (nameBytes (isOne bit) v) (draft (now (bytes .exit)) r) ⌝ }
 {
     if bit == 1 {
-        return put_word(draft, v);
+        return put_word(bytes, len, v);
     }
-    draft
+    len
 }
 
 // A number of four bytes more, where its bit is 1; else nothing more.
-pub fn put_width(draft: Draft, bit: usize, v: usize) -> Draft
-    requires { ⌜ WidthAsks draft v ⌝ }
-    ensures { λ r. ⌜ Put draft 4 (numberBytes (isOne bit) v) r ⌝ }
+pub fn put_width(bytes: &mut [u8], len: usize, bit: usize, v: usize) -> usize
+    requires { ⌜ WidthAsks (draft (now bytes) len) v ⌝ }
+    ensures { λ r. ⌜ Put (draft (now (bytes .entry)) len) 4 (numberBytes (isOne bit) v) (draft (now (bytes .exit)) r) ⌝ }
 {
     if bit == 1 {
-        let low = put_word(draft, v);
-        return put_word(low, 0);
+        let low = put_word(bytes, len, v);
+        return put_word(bytes, low, 0);
     }
-    draft
+    len
 }
 
-// Numbers more, where their bit is 1: how many, then each in two bytes; else nothing more.
-pub fn put_list(draft: Draft, bit: usize, numbers: Numbers) -> Draft
-    requires { ⌜ ListAsks draft numbers ⌝ }
-    ensures { λ r. ⌜ Put draft 129 (listBytes (isOne bit) (numbersOf numbers)) r ⌝ }
+// The first `n` numbers of a list more, where their bit is 1: how many, then each in two bytes; else nothing more.
+pub fn put_list(bytes: &mut [u8], len: usize, bit: usize, list: &[u16], n: usize) -> usize
+    requires { ⌜ ListAsks (draft (now bytes) len) (held (now list) n) ⌝ }
+    ensures { λ r. ⌜ Put (draft (now (bytes .entry)) len) 129 (listBytes (isOne bit) (numbersOf (held (now (list .entry)) n))) (draft (now (bytes .exit)) r) ⌝ }
 {
     if bit != 1 {
-        return draft;
+        return len;
     }
-    let list = numbers.list;
-    let n = numbers.count;
-    let mut out = put_byte(draft, n);
+    let mut end = put_byte(bytes, len, n);
     let mut j = 0;
     while j < n {
         let v = list[j] as usize;
-        out = put_word(out, v);
+        end = put_word(bytes, end, v);
         j += 1;
     }
-    out
+    end
 }
 
-// The record of these fields, of which the kind's map leaves some out.
-pub fn draft_of(kind: usize, name: usize, number: usize, parts: Numbers, names: Numbers) -> Draft
-    requires { ⌜ DraftAsks kind name number parts names ⌝ }
-    ensures { λ r. ⌜ Drafted r (recordBytes (fieldsIn kind name number parts names)) ⌝ }
+// Writes the record of these fields, of which the kind's map leaves some out, to the beginning of `bytes`; how long it is.
+pub fn draft_of(
+    bytes: &mut [u8],
+    kind: usize,
+    name: usize,
+    number: usize,
+    parts: &[u16],
+    many: usize,
+    names: &[u16],
+    named: usize,
+) -> usize
+    requires { ⌜ DraftAsks (now bytes) kind name number (held (now parts) many) (held (now names) named) ⌝ }
+    ensures { λ r. ⌜ Drafted (draft (now (bytes .exit)) r) (recordBytes (fieldsIn kind name number (held (now (parts .entry)) many) (held (now (names .entry)) named))) ⌝ }
 {
     let map = map_of(kind);
-    let bytes = [0u8; 266];
-    let none = Draft { bytes, len: 0 };
-    let first = put_byte(none, map);
-    let second = put_byte(first, kind);
-    let third = put_name(second, map / 2 % 2, name);
-    let fourth = put_width(third, map / 4 % 2, number);
-    let fifth = put_list(fourth, map / 16 % 2, parts);
-    put_list(fifth, map / 64 % 2, names)
+    let first = put_byte(bytes, 0, map);
+    let second = put_byte(bytes, first, kind);
+    let third = put_name(bytes, second, map / 2 % 2, name);
+    let fourth = put_width(bytes, third, map / 4 % 2, number);
+    let fifth = put_list(bytes, fourth, map / 16 % 2, parts, many);
+    put_list(bytes, fifth, map / 64 % 2, names, named)
 }
 
 // The number of the sort of these fields in the store with that sort; `NoRoom`, with all as it was, where that store
@@ -125,15 +121,16 @@ pub fn make(
     kind: usize,
     name: usize,
     number: usize,
-    parts: Numbers,
-    names: Numbers,
+    parts: &[u16],
+    many: usize,
+    names: &[u16],
+    named: usize,
 ) -> Interned
-    requires { ⌜ MakeAsks (now records) (now places) (now heads) (now next) (now sizes) count used (fieldsIn kind name number parts names) parts names ⌝ }
-    ensures { λ r. ⌜ MadeIs (now (records .entry)) (now (places .entry)) (now (heads .entry)) (now (next .entry)) (now (sizes .entry)) count used (sortOf (storeOf (now (records .entry)) (now (places .entry)) count) (fieldsIn kind name number parts names)) (now (records .exit)) (now (places .exit)) (now (heads .exit)) (now (next .exit)) (now (sizes .exit)) r ⌝ }
+    requires { ⌜ MakeAsks (now records) (now places) (now heads) (now next) (now sizes) count used (fieldsIn kind name number (held (now parts) many) (held (now names) named)) (held (now parts) many) (held (now names) named) ⌝ }
+    ensures { λ r. ⌜ MadeIs (now (records .entry)) (now (places .entry)) (now (heads .entry)) (now (next .entry)) (now (sizes .entry)) count used (sortOf (storeOf (now (records .entry)) (now (places .entry)) count) (fieldsIn kind name number (held (now (parts .entry)) many) (held (now (names .entry)) named))) (now (records .exit)) (now (places .exit)) (now (heads .exit)) (now (next .exit)) (now (sizes .exit)) r ⌝ }
 {
-    let draft = draft_of(kind, name, number, parts, names);
-    let len = draft.len;
-    let bytes = draft.bytes;
+    let mut bytes = [0u8; 266];
+    let len = draft_of(&mut bytes, kind, name, number, parts, many, names, named);
     let weight = tree_size(sizes, &bytes[..len]);
     intern(
         records,

@@ -1,8 +1,8 @@
 // A Function of several sorts of the store with their names replaced by a table of images.
 use super::Applied;
+use super::Parts;
 use super::Replaced;
 use super::build::make;
-use super::lists::no_numbers;
 use super::lists::read_numbers;
 use super::whole::answer_sizes;
 use super::whole::make_answers;
@@ -27,42 +27,45 @@ pub fn make_function(
     requires { ⌜ FunctionFits (now records) (now places) (now heads) (now next) (now sizes) count used (now images) at left ⌝ }
     ensures { λ r. ⌜ ReplacedIs (now (records .entry)) (now (places .entry)) count used (functionAt (now (records .entry)) (now (places .entry)) count (now (images .entry)) at left) (now (records .exit)) (now (places .exit)) (now (heads .exit)) (now (next .exit)) (now (sizes .exit)) r ⌝ }
 {
-    let parts = read_numbers(records, at, left);
+    let mut parts = [0u16; 64];
+    read_numbers(records, at, left, &mut parts);
     let done = make_answers(
         records,
         places,
         heads,
         next,
         sizes,
+        &mut parts,
         count,
         used,
-        parts,
+        left,
         images,
     );
-    let n = done.count;
-    let u = done.used;
-    if !done.ok {
-        return Replaced::Stuck(n, u);
-    }
-    let list = done.numbers;
-    let none = no_numbers();
-    let made = make(
-        records,
-        places,
-        heads,
-        next,
-        sizes,
-        n,
-        u,
-        0,
-        0,
-        0,
-        list,
-        none,
-    );
-    match made {
-        Interned::Is(i, m, v) => Replaced::Is(i, m, v),
-        Interned::NoRoom => Replaced::Stuck(n, u),
+    match done {
+        Parts::Are(n, u) => {
+            let none = [0u16; 64];
+            let made = make(
+                records,
+                places,
+                heads,
+                next,
+                sizes,
+                n,
+                u,
+                0,
+                0,
+                0,
+                &parts,
+                left,
+                &none,
+                0,
+            );
+            match made {
+                Interned::Is(i, m, v) => Replaced::Is(i, m, v),
+                Interned::NoRoom => Replaced::Stuck(n, u),
+            }
+        }
+        Parts::Stuck(n, u) => Replaced::Stuck(n, u),
     }
 }
 

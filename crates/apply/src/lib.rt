@@ -6,7 +6,7 @@ pub mod tables;
 pub mod whole;
 
 use build::make;
-use lists::Numbers;
+use lists::names_kept;
 use lists::names_left;
 use lists::read_numbers;
 use lists::same_numbers;
@@ -23,6 +23,7 @@ ghost use mathlib.Core.Path.{_≡_};
 ghost use mathlib.Core.Bool.{cond};
 ghost use Prim.Native.Nat.{_+_, _≤_, _<_};
 ghost use lib.ListN.{length, getD};
+ghost use Rattle.apply.specs.Lists.{held};
 ghost use Rattle.apply.specs.Images.{imageNumber};
 ghost use Rattle.apply.specs.Contract.{capped, goes, answerAt, RebuildAsks, ApplyAsks, AppliedIs};
 ghost use Rattle.apply.specs.Known.{WeighAsks, WeighIs, WeighAllAsk, WeighAllAre, KnownAsks, KnownIs, KnownAllAsk, KnownAllAre};
@@ -44,12 +45,11 @@ pub enum Applied {
     NoRoom,
 }
 
-// The numbers of replaced parts, and the store's count and bytes in use; not `ok` where it had no room for one.
-pub struct Parts {
-    pub ok: bool,
-    pub count: usize,
-    pub used: usize,
-    pub numbers: Numbers,
+pub enum Parts {
+    // All are replaced: the store's count and bytes in use.
+    Are(usize, usize),
+    // No room: the count and the bytes in use of the store so far.
+    Stuck(usize, usize),
 }
 
 // A size, or 4,097 for each that is larger than 4,096.
@@ -131,8 +131,8 @@ pub fn applied_size(
         e.count,
         images,
     );
-    let kept = names_left(records, e.names, e.named, images);
-    let size = whole_size(e.kind, kept.count, sum);
+    let kept = names_kept(records, e.names, e.named, images);
+    let size = whole_size(e.kind, kept, sum);
     remember(weighed, k, size);
     size
 }
@@ -165,7 +165,7 @@ pub fn applied_sizes(
     sum
 }
 
-// The sort `k` replaced, from the numbers of its parts replaced: `k` itself where these and the names are its own; `NoRoom`,
+// The sort `k` replaced, from the `many` numbers of its parts replaced: `k` itself where these and the names are its own; `NoRoom`,
 // with all as it was, where the store with it would be too long.
 pub fn rebuild(
     records: &mut [u8],
@@ -176,22 +176,22 @@ pub fn rebuild(
     count: usize,
     used: usize,
     k: usize,
-    parts: Numbers,
+    parts: &[u16],
+    many: usize,
     images: &[u16],
 ) -> Interned
-    requires { ⌜ RebuildAsks (now records) (now places) (now heads) (now next) (now sizes) count used k parts (now images) ⌝ }
+    requires { ⌜ RebuildAsks (now records) (now places) (now heads) (now next) (now sizes) count used k (held (now parts) many) (now images) ⌝ }
     ensures { λ r. ⌜ MadeIs (now (records .entry)) (now (places .entry)) (now (heads .entry)) (now (next .entry)) (now (sizes .entry)) count used (answerAt (now (records .entry)) (now (places .entry)) count (now (images .entry)) k) (now (records .exit)) (now (places .exit)) (now (heads .exit)) (now (next .exit)) (now (sizes .exit)) r ⌝ }
 {
     let e = entry(records, places, k);
-    let kept = names_left(records, e.names, e.named, images);
-    if wrapper_goes(e.kind, kept.count) {
-        let list = parts.list;
-        let body = list[0] as usize;
+    let mut names = [0u16; 64];
+    let kept = names_left(records, e.names, e.named, images, &mut names);
+    if wrapper_goes(e.kind, kept) {
+        let body = parts[0] as usize;
         return Interned::Is(body, count, used);
     }
-    if kept.count == e.named {
-        let list = parts.list;
-        if same_numbers(records, e.list, &list, parts.count) {
+    if kept == e.named {
+        if same_numbers(records, e.list, parts, many) {
             return Interned::Is(k, count, used);
         }
     }
@@ -207,6 +207,8 @@ pub fn rebuild(
         e.name,
         e.number,
         parts,
+        many,
+        &names,
         kept,
     )
 }
@@ -240,7 +242,9 @@ pub fn apply_sort(
     if e.count == 0 {
         return Replaced::Is(k, count, used);
     }
-    let parts = read_numbers(records, e.list, e.count);
+    let mut parts = [0u16; 64];
+    let many = e.count;
+    read_numbers(records, e.list, many, &mut parts);
     let done = apply_parts(
         records,
         places,
@@ -248,29 +252,41 @@ pub fn apply_sort(
         next,
         sizes,
         known,
+        &mut parts,
         count,
         used,
-        parts,
+        many,
         images,
     );
-    let n = done.count;
-    let u = done.used;
-    if !done.ok {
-        return Replaced::Stuck(n, u);
-    }
-    let list = done.numbers;
-    let made = rebuild(records, places, heads, next, sizes, n, u, k, list, images);
-    match made {
-        Interned::Is(i, m, v) => {
-            remember(known, k, i + 1);
-            Replaced::Is(i, m, v)
+    match done {
+        Parts::Are(n, u) => {
+            let made = rebuild(
+                records,
+                places,
+                heads,
+                next,
+                sizes,
+                n,
+                u,
+                k,
+                &parts,
+                many,
+                images,
+            );
+            match made {
+                Interned::Is(i, m, v) => {
+                    remember(known, k, i + 1);
+                    Replaced::Is(i, m, v)
+                }
+                Interned::NoRoom => Replaced::Stuck(n, u),
+            }
         }
-        Interned::NoRoom => Replaced::Stuck(n, u),
+        Parts::Stuck(n, u) => Replaced::Stuck(n, u),
     }
 }
 
-// The sorts with these numbers replaced, from left to right, and the numbers of the answers; not `ok` where the store
-// with them would be too long. Each from the table `known`, where that keeps it.
+// Puts the number of the answer in the place of each of the first `many` numbers of `parts`, from left to right, in the
+// store with these; `Stuck` where that store would be too long. Each from the table `known`, where that keeps it.
 pub fn apply_parts(
     records: &mut [u8],
     places: &mut [u32],
@@ -278,46 +294,34 @@ pub fn apply_parts(
     next: &mut [u16],
     sizes: &mut [u16],
     known: &mut [u16],
+    parts: &mut [u16],
     count: usize,
     used: usize,
-    parts: Numbers,
+    many: usize,
     images: &[u16],
 ) -> Parts
-    requires { ⌜ KnownAllAsk (now records) (now places) (now heads) (now next) (now sizes) (now known) count used parts (now images) ⌝ }
-    ensures { λ r. ⌜ KnownAllAre (now (records .entry)) (now (places .entry)) count used parts (now (images .entry)) (now (records .exit)) (now (places .exit)) (now (heads .exit)) (now (next .exit)) (now (sizes .exit)) (now (known .exit)) r ⌝ }
+    requires { ⌜ KnownAllAsk (now records) (now places) (now heads) (now next) (now sizes) (now known) count used (held (now parts) many) (now images) ⌝ }
+    ensures { λ r. ⌜ KnownAllAre (now (records .entry)) (now (places .entry)) count used (held (now (parts .entry)) many) (now (images .entry)) (now (records .exit)) (now (places .exit)) (now (heads .exit)) (now (next .exit)) (now (sizes .exit)) (now (known .exit)) (held (now (parts .exit)) many) r ⌝ }
 {
-    let many = parts.count;
-    let mut list = parts.list;
     let mut n = count;
     let mut u = used;
     let mut j = 0;
     while j < many {
-        let k = list[j] as usize;
+        let k = parts[j] as usize;
         let made = apply_sort(records, places, heads, next, sizes, known, n, u, k, images);
         match made {
             Replaced::Is(i, m, v) => {
-                list[j] = i as u16;
+                parts[j] = i as u16;
                 n = m;
                 u = v;
             }
             Replaced::Stuck(m, v) => {
-                return Parts {
-                    ok: false,
-                    count: m,
-                    used: v,
-                    numbers: parts,
-                };
+                return Parts::Stuck(m, v);
             }
         }
         j += 1;
     }
-    let numbers = Numbers { list, count: many };
-    Parts {
-        ok: true,
-        count: n,
-        used: u,
-        numbers,
-    }
+    Parts::Are(n, u)
 }
 
 // The number of the sort `k` replaced, in the store with its sorts added; `TooLarge` if its tree is larger than 4,096,

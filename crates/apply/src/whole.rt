@@ -6,9 +6,8 @@ use super::applied_size;
 use super::applied_sizes;
 use super::apply_parts;
 use super::apply_sort;
-use super::lists::Numbers;
-use record::u16_at;
 use store::entries::size_at;
+ghost use Rattle.apply.specs.Lists.{held};
 ghost use Rattle.apply.specs.Contract.{answerAt, SizeAsks, SizeIs, SizesAsk, SizesAre, SortAsks, ReplacedIs, PartsAsk, PartsAre};
 
 // The tree size of the sort `k` replaced, or 4,097 for each that is larger than 4,096.
@@ -95,21 +94,22 @@ pub fn make_answer(
     )
 }
 
-// The sorts with these numbers replaced, from left to right, and the numbers of the answers; not `ok` where the store
-// with them would be too long.
+// Puts the number of the answer in the place of each of the first `many` numbers of `parts`, from left to right, in the
+// store with these; `Stuck` where that store would be too long.
 pub fn make_answers(
     records: &mut [u8],
     places: &mut [u32],
     heads: &mut [u16],
     next: &mut [u16],
     sizes: &mut [u16],
+    parts: &mut [u16],
     count: usize,
     used: usize,
-    parts: Numbers,
+    many: usize,
     images: &[u16],
 ) -> Parts
-    requires { ⌜ PartsAsk (now records) (now places) (now heads) (now next) (now sizes) count used parts (now images) ⌝ }
-    ensures { λ r. ⌜ PartsAre (now (records .entry)) (now (places .entry)) count used parts (now (images .entry)) (now (records .exit)) (now (places .exit)) (now (heads .exit)) (now (next .exit)) (now (sizes .exit)) r ⌝ }
+    requires { ⌜ PartsAsk (now records) (now places) (now heads) (now next) (now sizes) count used (held (now parts) many) (now images) ⌝ }
+    ensures { λ r. ⌜ PartsAre (now (records .entry)) (now (places .entry)) count used (held (now (parts .entry)) many) (now (images .entry)) (now (records .exit)) (now (places .exit)) (now (heads .exit)) (now (next .exit)) (now (sizes .exit)) (held (now (parts .exit)) many) r ⌝ }
 {
     let mut known = [0u16; 4096];
     apply_parts(
@@ -119,9 +119,10 @@ pub fn make_answers(
         next,
         sizes,
         &mut known,
+        parts,
         count,
         used,
-        parts,
+        many,
         images,
     )
 }

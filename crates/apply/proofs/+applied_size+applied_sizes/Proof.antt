@@ -24,7 +24,7 @@ use Rattle.apply.proofs.applied_sizes.Kinds as applied-sizes-kinds
 use Rattle.apply.proofs.+applied_size+applied_sizes.Lts-applied_sizes as applied-sizes-lts
 use Rattle.apply.proofs.capped_at.Reads as capped-at-reads
 use Rattle.apply.proofs.image_of.Reads as image-of-reads
-use Rattle.apply.proofs.lists.names_left.Reads as names-left-reads
+use Rattle.apply.proofs.lists.names_kept.Reads as names-kept-reads
 use Rattle.apply.proofs.whole_size.Reads as whole-size-reads
 use Rattle.apply.proofs.tables.recall.Reads as recall-reads
 use Rattle.apply.proofs.tables.remember.Reads as remember-reads
@@ -65,7 +65,7 @@ applied-sizes-below t =
     applied-sizes.Pre
 
 abbrev applied-size-env : ℕ → applied-size-lts.Claims
-applied-size-env t = (recall-reads.Asked, recall-reads.Learnt, entry-reads.Asked, entry-reads.Learnt, image-of-reads.Asked, image-of-reads.Learnt, size-at-reads.Asked, size-at-reads.Learnt, applied-sizes-below t, applied-sizes.Post, names-left-reads.Asked, names-left-reads.Learnt, whole-size-reads.Asked, whole-size-reads.Learnt, remember-reads.Asked, remember-reads.Learnt)
+applied-size-env t = (recall-reads.Asked, recall-reads.Learnt, entry-reads.Asked, entry-reads.Learnt, image-of-reads.Asked, image-of-reads.Learnt, size-at-reads.Asked, size-at-reads.Learnt, applied-sizes-below t, applied-sizes.Post, names-kept-reads.Asked, names-kept-reads.Learnt, whole-size-reads.Asked, whole-size-reads.Learnt, remember-reads.Asked, remember-reads.Learnt)
 
 abbrev applied-sizes-env : ℕ → applied-sizes-lts.Claims
 applied-sizes-env t = (u16-at-reads.Asked, u16-at-reads.Learnt, applied-size-below t, applied-size.Post, capped-at-reads.Asked, capped-at-reads.Learnt)
@@ -152,8 +152,8 @@ applied-size-applied-sizes-requires t c κs =
     let e = c .before .before .before .before .before .entry .result in
     (omega (arith, s .pre .0, size-falls b p zs n (a .k) l (s .pre .1 .asks) e (c .before .before .before .before .before .entry .ensures)), record { asks = sizes-asks b p zs n (a .k) l (s .pre .1 .asks) e (c .before .before .before .before .before .entry .ensures); weighed = s .pre .1 .weighed })
 
-applied-size-names-left-requires : (t : ℕ) → applied-size-lts.Need-names-left-requires (applied-size-env t) (applied-size-at t) applied-size.Post
-applied-size-names-left-requires t c κs =
+applied-size-names-kept-requires : (t : ℕ) → applied-size-lts.Need-names-kept-requires (applied-size-env t) (applied-size-at t) applied-size.Post
+applied-size-names-kept-requires t c κs =
     let s = c .before .before .before .before .before .before .before .before .before .before .before .before .before .before .before .before .before in
     let a = s .args in
     let b = a .records .now in let p = a .places .now in let zs = a .sizes .now in
@@ -177,7 +177,7 @@ applied-size-remember-requires t c κs =
     let b = a .records .now in let p = a .places .now in let zs = a .sizes .now in
     let n = a .count in let l = a .images .now in
     let e = c .before .before .before .before .before .before .before .before .before .before .before .entry .result in
-    let is = size-whole b p zs n (a .k) l (s .pre .1 .asks) e (c .before .before .before .before .before .before .before .before .before .before .before .entry .ensures) (c .before .before .before .before .before .before .before .before .before .if2 .left) (c .before .before .names-left .result) (c .before .before .names-left .ensures) (c .before .before .before .before .before .applied-sizes .result) (c .before .before .before .before .before .applied-sizes .ensures .are) (goes (e .kind) (c .before .before .names-left .result .count)) refl (c .before .whole-size .result) (c .before .whole-size .ensures) in
+    let is = size-whole b p zs n (a .k) l (s .pre .1 .asks) e (c .before .before .before .before .before .before .before .before .before .before .before .entry .ensures) (c .before .before .before .before .before .before .before .before .before .if2 .left) (c .before .before .names-kept .result) (c .before .before .names-kept .ensures) (c .before .before .before .before .before .applied-sizes .result) (c .before .before .before .before .before .applied-sizes .ensures .are) (goes (e .kind) (c .before .before .names-kept .result)) refl (c .before .whole-size .result) (c .before .whole-size .ensures) in
     omega (arith, is, capped-most (size (answerAt b p n l (a .k))))
 
 applied-size-same-length-4 : (t : ℕ) → applied-size-lts.Need-same-length-4 (applied-size-env t) (applied-size-at t) applied-size.Post
@@ -190,7 +190,7 @@ applied-size-returns-4 t c =
     let b = a .records .now in let p = a .places .now in let zs = a .sizes .now in
     let n = a .count in let l = a .images .now in
     let e = c .before .before .before .before .before .before .before .before .before .before .before .before .before .before .entry .result in
-    let is = size-whole b p zs n (a .k) l (s .pre .1 .asks) e (c .before .before .before .before .before .before .before .before .before .before .before .before .before .before .entry .ensures) (c .before .before .before .before .before .before .before .before .before .before .before .before .if2 .left) (c .before .before .before .before .before .names-left .result) (c .before .before .before .before .before .names-left .ensures) (c .before .before .before .before .before .before .before .before .applied-sizes .result) (c .before .before .before .before .before .before .before .before .applied-sizes .ensures .are) (goes (e .kind) (c .before .before .before .before .before .names-left .result .count)) refl (c .before .before .before .before .whole-size .result) (c .before .before .before .before .whole-size .ensures) in
+    let is = size-whole b p zs n (a .k) l (s .pre .1 .asks) e (c .before .before .before .before .before .before .before .before .before .before .before .before .before .before .entry .ensures) (c .before .before .before .before .before .before .before .before .before .before .before .before .if2 .left) (c .before .before .before .before .before .names-kept .result) (c .before .before .before .before .before .names-kept .ensures) (c .before .before .before .before .before .before .before .before .applied-sizes .result) (c .before .before .before .before .before .before .before .before .applied-sizes .ensures .are) (goes (e .kind) (c .before .before .before .before .before .names-kept .result)) refl (c .before .before .before .before .whole-size .result) (c .before .before .before .before .whole-size .ensures) in
     record { is = is; weighed = subst (Weighed b p n l) (sym (c .before .before .remember .ensures)) (weighed-set b p n l (c .before .before .before .before .before .before .before .before .applied-sizes .last .1 .1 .1 .0) (a .k) (c .before .before .before .before .whole-size .result) (c .before .before .before .before .before .before .before .before .applied-sizes .ensures .weighed) is) }
 
 applied-sizes-loop-holds : (t : ℕ) → applied-sizes-lts.Need-loop-holds (applied-sizes-env t) (applied-sizes-at t) applied-sizes.Post applied-sizes-Inv-loop applied-sizes-μ-loop
@@ -268,4 +268,4 @@ applied-sizes-returns t c =
     record { are = sum-end b p zs n (a .at) (a .n) l (i .sum) (i .next) (i .left) (i .inv .sums) (c .loop-test .left); weighed = i .inv .weighed }
 
 pub +applied-size+applied-sizes-spec : {M : Type 1} → statement M
-+applied-size+applied-sizes-spec = close μ-applied-size μ-applied-sizes (λ t. applied-size-lts.spec (applied-size-env t) (applied-size-at t) applied-size.Post (applied-size-recall-requires t) (applied-size-same-length t) (applied-size-returns t) (applied-size-entry-requires t) (applied-size-image-of-requires t) (applied-size-size-at-requires t) (applied-size-same-length-2 t) (applied-size-returns-2 t) (applied-size-same-length-3 t) (applied-size-returns-3 t) (applied-size-applied-sizes-requires t) (applied-size-names-left-requires t) (applied-size-whole-size-requires t) (applied-size-remember-requires t) (applied-size-same-length-4 t) (applied-size-returns-4 t)) (λ t. applied-sizes-lts.spec (applied-sizes-env t) (applied-sizes-at t) applied-sizes.Post applied-sizes-Inv-loop applied-sizes-μ-loop (applied-sizes-loop-holds t) (applied-sizes-u16-at-requires t) (applied-sizes-applied-size-requires t) (applied-sizes-add-capped-at t) (applied-sizes-capped-at-requires t) (applied-sizes-add-next t) (applied-sizes-sub-left t) (applied-sizes-loop-less t) (applied-sizes-loop-again t) (applied-sizes-same-length t) (applied-sizes-returns t))
++applied-size+applied-sizes-spec = close μ-applied-size μ-applied-sizes (λ t. applied-size-lts.spec (applied-size-env t) (applied-size-at t) applied-size.Post (applied-size-recall-requires t) (applied-size-same-length t) (applied-size-returns t) (applied-size-entry-requires t) (applied-size-image-of-requires t) (applied-size-size-at-requires t) (applied-size-same-length-2 t) (applied-size-returns-2 t) (applied-size-same-length-3 t) (applied-size-returns-3 t) (applied-size-applied-sizes-requires t) (applied-size-names-kept-requires t) (applied-size-whole-size-requires t) (applied-size-remember-requires t) (applied-size-same-length-4 t) (applied-size-returns-4 t)) (λ t. applied-sizes-lts.spec (applied-sizes-env t) (applied-sizes-at t) applied-sizes.Post applied-sizes-Inv-loop applied-sizes-μ-loop (applied-sizes-loop-holds t) (applied-sizes-u16-at-requires t) (applied-sizes-applied-size-requires t) (applied-sizes-add-capped-at t) (applied-sizes-capped-at-requires t) (applied-sizes-add-next t) (applied-sizes-sub-left t) (applied-sizes-loop-less t) (applied-sizes-loop-again t) (applied-sizes-same-length t) (applied-sizes-returns t))

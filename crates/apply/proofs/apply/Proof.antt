@@ -1,5 +1,4 @@
 -- 22 by the capped size, with nothing touched; where there was no room, undoing gives back the store that it was grown from.
-use native.Mathlib.Omega.{arith}
 use borrow.Author.Needs.{needs}
 use mathlib.Core.Path.{refl, subst}
 use Rattle.record.specs.Store.{intern}

@@ -1,6 +1,5 @@
 -- 22 by the capped sizes of the list, with nothing touched.
 -- Where there was no room, undoing gives back the store that it was grown from.
-use native.Mathlib.Omega.{arith}
 use borrow.Author.Needs.{needs}
 use mathlib.Core.Path.{refl, subst}
 use Rattle.record.specs.Store.{intern}

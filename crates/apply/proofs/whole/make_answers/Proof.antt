@@ -1,7 +1,7 @@
 -- A table of zeros says nothing, so it says the truth; what it says afterwards is dropped.
-use native.Mathlib.Omega.{arith}
 use borrow.Author.Needs.{needs}
-use Rattle.apply.proofs.KnownLaws.{known-none}
+use Rattle.apply.specs.Lists.{held}
+use Rattle.apply.proofs.KnownLaws.{known-none, known-parts}
 use Rattle.apply.proofs.whole.make_answers.Statement.{statement}
 use Rattle.apply.proofs.whole.make_answers.Tie as tie
 
@@ -10,10 +10,9 @@ slice-aggregate-apply-parts c = search needs
 
 apply-parts-requires : tie.Need-apply-parts-requires
 apply-parts-requires c κs =
-    let s = c .before .before .before .before .before .before .before .before .before .before .before .before in
+    let s = c .before .before .before .before .before .before .before .before .before .before .before .before .before .before in
     let a = s .args in
-    let b = a .records .now in let p = a .places .now in let l = a .images .now in
-    record { asks = s .pre; known = known-none b p (a .count) l 4096 }
+    record { asks = s .pre; known = known-none (a .records .now) (a .places .now) (a .count) (a .images .now) 4096 }
 
 same-length : tie.Need-same-length
 same-length c = search needs
@@ -30,8 +29,15 @@ same-length-4 c = search needs
 same-length-5 : tie.Need-same-length-5
 same-length-5 c = search needs
 
+same-length-6 : tie.Need-same-length-6
+same-length-6 c = search needs
+
 returns : tie.Need-returns
-returns c = c .before .before .before .before .before .before .before .before .before .before .before .apply-parts .ensures .are
+returns c =
+    let s = c .before .before .before .before .before .before .before .before .before .before .before .before .before .before .before .before .before .before .before .before .before .before .before .before .before .before .before .before in
+    let a = s .args in
+    let d = c .before .before .before .before .before .before .before .before .before .before .before .before .before .apply-parts .last in
+    known-parts (a .records .now) (a .places .now) (a .count) (a .used) (held (a .parts .now) (a .many)) (a .images .now) (d .0) (d .1 .0) (d .1 .1 .0) (d .1 .1 .1 .0) (d .1 .1 .1 .1 .0) (d .1 .1 .1 .1 .1 .0) (held (d .1 .1 .1 .1 .1 .1 .0) (a .many)) (c .before .before .before .before .before .before .before .before .before .before .before .before .before .apply-parts .result) (c .before .before .before .before .before .before .before .before .before .before .before .before .before .apply-parts .ensures)
 
 pub make-answers-spec : {M : Type 1} → statement M
-make-answers-spec = tie.close (tie.spec slice-aggregate-apply-parts apply-parts-requires same-length same-length-2 same-length-3 same-length-4 same-length-5 returns)
+make-answers-spec = tie.close (tie.spec slice-aggregate-apply-parts apply-parts-requires same-length same-length-2 same-length-3 same-length-4 same-length-5 same-length-6 returns)
