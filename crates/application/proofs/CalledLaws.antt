@@ -32,7 +32,7 @@ use Rattle.instance.specs.Rest.{RestAsks, RestIs}
 use Rattle.instance.specs.Mapped.{mapped-images}
 use Rattle.application.specs.declared.called.Call.{Call}
 use Rattle.application.specs.declared.called.Call.the-variants.{Settled, Unsettled, Misfits as Fails}
-use Rattle.application.specs.Contract.{AppIs, SettledAllAsks, SettledAllIs, FitAsks, FitIs, FittedAsks, FittedIs, restAt, deliveredAt, boundIn, callOf, CalledAsks, DeliverAsks, Plain, PlainAsks, PlainIs}
+use Rattle.application.specs.Contract.{AppIs, SettledAllAsks, SettledAllIs, FitAsks, FitIs, FittedAsks, FittedIs, restAt, deliveredAt, boundIn, callOf, CalledAsks, LentAsks, DeliverAsks, Plain, PlainAsks, PlainIs}
 use Rattle.application.proofs.AppLaws.{app-refused, app-as}
 use Rattle.application.proofs.ListLaws.{count-at, firsts-at, others-at, refs-part, refs-behind}
 use Rattle.application.proofs.SettledLaws.{settled-remaining}
@@ -169,13 +169,13 @@ module _ (b p hs ns zs : List ℕ) (n u : ℕ) (prm imgs bnd : List ℕ) (x m y 
           fit =
               record {
                 usable = good-usable b p hs ns zs n u (c .good);
-                table = c .blank .table;
-                cleared = c .blank .cleared;
+                table = h .blank .table;
+                cleared = h .blank .cleared;
                 list = c .list;
                 args = c .args;
                 fewer = h .fewer;
               };
-          zeros = c .blank .zeros;
+          zeros = h .blank .zeros;
           names = c .names;
           named = c .named;
         }
@@ -207,8 +207,8 @@ module _ (b p hs ns zs : List ℕ) (n u : ℕ) (prm imgs bnd : List ℕ) (x m y 
                   judged-as (w .verdict ∙ ap (callOf (storeOf b p n) l d (restAt b p n x m k)) e)
                   (g (mapOf (storeOf b p n) l d j) (mapped-images b p n l d j (call-mapped j (ap boundIn e))));
               params = w .params;
-              images = cleared-images imgs bnd l′ d′ (h .called .blank .cleared) z;
-              bound = cleared-bound imgs bnd l′ d′ (h .called .blank .cleared) z;
+              images = cleared-images imgs bnd l′ d′ (h .blank .cleared) z;
+              bound = cleared-bound imgs bnd l′ d′ (h .blank .cleared) z;
             }
 
         delivered-refused : (o : Cause) → callOf (storeOf b p n) l d (restAt b p n x m k) c ≡ refused o → (r : Answer) → r ≡ refusing o n u
@@ -217,8 +217,8 @@ module _ (b p hs ns zs : List ℕ) (n u : ℕ) (prm imgs bnd : List ℕ) (x m y 
             record {
               answer = judged-as (w .verdict ∙ e) (answered-as g (answer-refused b p hs ns zs n u (h .called .good) o));
               params = w .params;
-              images = cleared-images imgs bnd l′ d′ (h .called .blank .cleared) z;
-              bound = cleared-bound imgs bnd l′ d′ (h .called .blank .cleared) z;
+              images = cleared-images imgs bnd l′ d′ (h .blank .cleared) z;
+              bound = cleared-bound imgs bnd l′ d′ (h .blank .cleared) z;
             }
 
         pub delivered-unsettled : (j : ℕ) → c ≡ Unsettled j → (r : Answer) → r ≡ refusing Unassigned n u → AppIs verdict b p n prm imgs bnd b p hs ns zs prm′ l′ d′ r
@@ -256,8 +256,8 @@ module _ (b p hs ns zs : List ℕ) (n u : ℕ) (prm imgs bnd : List ℕ) (x m y 
       called-plain e b′ p′ hs′ ns′ zs′ r g = record { answer = g f (plain-names q e); params = refl; images = refl; bound = refl }
 
       -- With parameters, by whether an argument is a Par.
-      pub deliver-asks : DeliverAsks b p hs ns zs n u prm imgs bnd x m y q a k
-      deliver-asks = record { called = h; fewer = omega arith }
+      pub lent-asks : LentAsks b p hs ns zs n u prm imgs bnd x m y q a k
+      lent-asks = record { called = h; fewer = omega arith }
 
       module _ (t : Bool) (v : ValuesHave b p a 5 k t) where
         by-values : verdictOf ≡ need t Misfit (deliveredAt f b p n x m a k)

@@ -25,7 +25,7 @@ use Rattle.answers.specs.declared.heads.Head.{Head}
 use Rattle.answers.specs.declared.heads.Head.the-variants.{Function, NoFunction}
 use Rattle.answers.specs.Heads.{Headed, plain, under, other, headIn, headOver, HeadAsks, FunctionIs, HeadIs, HeadHas}
 use Rattle.answers.specs.Asks.{RemainingAsks}
-use Rattle.application.specs.Contract.{AppAsks, CalledAsks, ParametricAsks, restAt, substitutedAt}
+use Rattle.application.specs.Contract.{AppAsks, CalledAsks, LentParametricAsks, restAt, substitutedAt}
 use Rattle.application.proofs.ListLaws.{count-at, firsts-at, others-at, refs-behind, refs-args}
 
 ---------------------------------------------------------------- the checked verdict by the head
@@ -177,7 +177,7 @@ module _ (b p hs ns zs : List ℕ) (n u : ℕ) (prm imgs bnd a : List ℕ) (m : 
         called-asks =
             record {
               good = h .good;
-              blank = h .blank;
+              zeroed = h .zeroed;
               list = refs;
               few = function .few;
               names = function .names;
@@ -226,10 +226,10 @@ module _ (b p hs ns zs : List ℕ) (n u : ℕ) (prm imgs bnd a : List ℕ) (m : 
               ∙ ap (λ (t : Bool). need t Panics (sort (remaining (others ss ts)))) (le-leb (m - 1) c l)
               ∙ ap (λ (o : Sorts). sort (remaining o)) (others-at (storeOf b p n) b x c a 5 (m - 1) l)
 
-          pub parametric-asks : ParametricAsks b p hs ns zs n u prm imgs bnd x c y q a (m - 1)
+          pub parametric-asks : LentParametricAsks b p hs ns zs n u prm imgs bnd x c y q a (m - 1)
           parametric-asks =
               record {
-                deliver = record { called = called-asks; fewer = l };
+                lent = record { called = called-asks; fewer = l };
                 small =
                     omega (
                       arith,

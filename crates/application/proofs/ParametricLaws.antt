@@ -90,7 +90,7 @@ module _ (b p hs ns zs : List ℕ) (n u : ℕ) (prm imgs bnd : List ℕ) (x m y 
       pub parametric-made : (j : ℕ) → c ≡ Fits j → (b′ p′ hs′ ns′ zs′ : List ℕ) (r : Answer) → RestIs b p n l (x + 2 * k) (m - k) b′ p′ hs′ ns′ zs′ r
           → AppIs verdict b p n prm imgs bnd b′ p′ hs′ ns′ zs′ prm′ l′ d′ r
       parametric-made j e b′ p′ hs′ ns′ zs′ r g =
-          let blank = h .deliver .called .blank in
+          let blank = h .deliver .blank in
           record {
             answer =
                 judged-as (by-found ∙ ap (λ (i : Matched). substituted (restAt b p n x m k) (foundBy (storeOf b p n) l d i)) e)
@@ -102,7 +102,7 @@ module _ (b p hs ns zs : List ℕ) (n u : ℕ) (prm imgs bnd : List ℕ) (x m y 
 
       pub parametric-none : (j : ℕ) → c ≡ Misfits j → (r : Answer) → r ≡ refusing Panics n u → AppIs verdict b p n prm imgs bnd b p hs ns zs prm′ l′ d′ r
       parametric-none j e r g =
-          let blank = h .deliver .called .blank in
+          let blank = h .deliver .blank in
           record {
             answer =
                 judged-as (by-found ∙ ap (λ (i : Matched). substituted (restAt b p n x m k) (foundBy (storeOf b p n) l d i)) e)

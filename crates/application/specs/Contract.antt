@@ -2,10 +2,11 @@
 -- array from byte 3 on, the head first, so that its arguments stand from byte 5 on.
 use Prim.Native.Nat.{ℕ, _+_, _*_, _-_, _≤_, _<_}
 use mathlib.Core.Path.{_≡_}
-use mathlib.Core.Bool.{Bool, false}
+use mathlib.Core.Bool.{Bool, false, _&&_}
 use mathlib.Core.List.{List}
 use mathlib.Core.Option.{some}
 use lib.ListN.{length}
+use lib.Dec.{eqb}
 use Rattle.record.specs.Number.{u16At, numbersAt}
 use Rattle.record.specs.Sort.{Sort, sizes}
 use Rattle.record.specs.Decode.{storeOf, sortAt, Zeros}
@@ -14,7 +15,7 @@ use Rattle.substitution.specs.Substitution.{Map, empty, apply}
 use Rattle.substitution.specs.Matching.{keep, matchesAll, listedIn}
 use Rattle.substitution.specs.MatchWith.{matchAllWith}
 use Rattle.matching.specs.declared.Matched.{Matched}
-use Rattle.matching.specs.Tables.{Told, mapOf, Mapped, Cleared, Blank}
+use Rattle.matching.specs.Tables.{Told, mapOf, Mapped, Cleared, Blank, Zeroed}
 use Rattle.matching.specs.Contract.{Usable, Refs, sortsAt, OneAsks, ListAsks, PairsAsk, countOf}
 use Rattle.matching.specs.Contract.{answerOf as foundBy}
 use Rattle.apply.specs.Images.{Images}
@@ -29,10 +30,10 @@ use Rattle.application.specs.declared.called.Call.{Call}
 use Rattle.application.specs.declared.called.Call.the-variants.{Settled, Unsettled, Misfits}
 
 ---------------------------------------------------------------- an App
--- A good store, blank tables of names, and m numbers of its sorts in a from byte 3 on.
+-- A good store, zeroed tables of names, and m numbers of its sorts in a from byte 3 on.
 pub record AppAsks (b p hs ns zs : List ℕ) (n u : ℕ) (prm imgs bnd a : List ℕ) (m : ℕ) : Type 0 where
   pub good : Good b p hs ns zs n u
-  pub blank : Blank prm imgs bnd
+  pub zeroed : Zeroed prm imgs bnd
   pub few : m ≤ 64
   pub room : 259 ≤ length a
   pub below : (j : ℕ) → j < m → u16At a (3 + 2 * j) < n
@@ -88,7 +89,7 @@ restAt b p n x m k = remaining (sortsAt b p n b (x + 2 * k) (m - k))
 -- A head with m sorts from x on and q names from y on, at k arguments.
 pub record CalledAsks (b p hs ns zs : List ℕ) (n u : ℕ) (prm imgs bnd : List ℕ) (x m y q : ℕ) (a : List ℕ) (k : ℕ) : Type 0 where
   pub good : Good b p hs ns zs n u
-  pub blank : Blank prm imgs bnd
+  pub zeroed : Zeroed prm imgs bnd
   pub list : Refs b x m n
   pub few : m ≤ 64
   pub names : y + 2 * q ≤ length b
@@ -96,9 +97,19 @@ pub record CalledAsks (b p hs ns zs : List ℕ) (n u : ℕ) (prm imgs bnd : List
   pub args : Refs a 5 k n
 
 -- At most as many arguments as its list has sorts.
+pub record LentAsks (b p hs ns zs : List ℕ) (n u : ℕ) (prm imgs bnd : List ℕ) (x m y q : ℕ) (a : List ℕ) (k : ℕ) : Type 0 where
+  pub called : CalledAsks b p hs ns zs n u prm imgs bnd x m y q a k
+  pub fewer : k ≤ m
+
+-- Tables of these lengths have all names.
+unfoldable pub full : ℕ → ℕ → ℕ → Bool
+full x y z = eqb x 65536 && (eqb y 65536 && eqb z 4096)
+
+-- And tables of all names.
 pub record DeliverAsks (b p hs ns zs : List ℕ) (n u : ℕ) (prm imgs bnd : List ℕ) (x m y q : ℕ) (a : List ℕ) (k : ℕ) : Type 0 where
   pub called : CalledAsks b p hs ns zs n u prm imgs bnd x m y q a k
   pub fewer : k ≤ m
+  pub blank : Blank prm imgs bnd
 
 ---------------------------------------------------------------- the checked App
 -- How many names are bound, and the verdict on what remains.
@@ -175,6 +186,11 @@ pub record PatternsAre (b p : List ℕ) (n : ℕ) (prm : List ℕ) (x y q : ℕ)
   pub result : foundBy (storeOf b p n) l d r ≡ matchAllWith (numbersAt b y q) (sortsAt b p n b x k) (sortsAt b p n a 5 k) empty
 
 -- The sorts of a Function's list are together no larger than a sort of the store.
+pub record LentParametricAsks (b p hs ns zs : List ℕ) (n u : ℕ) (prm imgs bnd : List ℕ) (x m y q : ℕ) (a : List ℕ) (k : ℕ) : Type 0 where
+  pub lent : LentAsks b p hs ns zs n u prm imgs bnd x m y q a k
+  pub small : sizes (sortsAt b p n b x m) ≤ 4096
+
+-- And tables of all names.
 pub record ParametricAsks (b p hs ns zs : List ℕ) (n u : ℕ) (prm imgs bnd : List ℕ) (x m y q : ℕ) (a : List ℕ) (k : ℕ) : Type 0 where
   pub deliver : DeliverAsks b p hs ns zs n u prm imgs bnd x m y q a k
   pub small : sizes (sortsAt b p n b x m) ≤ 4096

@@ -1,4 +1,5 @@
 // The checked sort of an App whose head is a Function or a Par of one.
+use super::lent::delivered_lent;
 use super::plain::plain;
 use super::settled::all_settled;
 use answers::Answer;
@@ -213,7 +214,7 @@ pub fn called(
         );
     }
     if all_values(records, places, args, 5, n) {
-        return delivered(
+        return delivered_lent(
             records,
             places,
             heads,

@@ -6,7 +6,7 @@ use answers::heads::head_of;
 use answers::lists::remaining;
 use answers::refuse;
 use called::called;
-use parametric::parametric;
+use lent::parametric_lent;
 use record::u16_at;
 use rows::Cause;
 ghost use Rattle.matching.specs.Contract.{sortsAt};
@@ -15,6 +15,7 @@ ghost use Rattle.checked.specs.Checked.{application};
 ghost use Rattle.application.specs.Contract.{AppAsks, AppIs};
 
 pub mod called;
+pub mod lent;
 pub mod parametric;
 pub mod plain;
 pub mod settled;
@@ -112,7 +113,7 @@ pub fn applied(
                     m - n,
                 );
             }
-            parametric(
+            parametric_lent(
                 records,
                 places,
                 heads,

@@ -40,7 +40,7 @@ pub parts-site : {b p hs ns zs : List ℕ} {n u : ℕ} {prm imgs bnd s tbl xs ro
     → SiteAsks b p hs ns zs n u prm imgs bnd s tbl xs rows r a′
 parts-site {n = n} {tbl = tbl} {xs = xs} h e on d =
     record {
-      asks = record { good = h .good; blank = h .blank; standing = h .standing; room = omega (arith, e, h .room) };
+      asks = record { good = h .good; zeroed = h .zeroed; standing = h .standing; room = omega (arith, e, h .room) };
       below = d .below on n tbl xs (h .standing);
     }
 

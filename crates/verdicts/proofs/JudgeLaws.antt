@@ -18,14 +18,14 @@ use Rattle.sheet.specs.Contract.{termAt, termsAt, questionAt, questionsAt, shee
 use Rattle.sheet.specs.Stands.{each-length, zeros-all}
 use Rattle.sheet.specs.declared.SheetCounts.{SheetCounts}
 use Rattle.store.specs.Good.{Good, good-bytes, good-places}
-use Rattle.matching.specs.Tables.{Blank}
+use Rattle.matching.specs.Tables.{Blank, Zeroed}
 use Rattle.checked.specs.Ranks.{smtLib}
 use Rattle.judged.specs.Rows.{Tabled, rowsOf}
 use Rattle.judged.specs.RowLaws.{rows-count}
 use Rattle.judged.specs.Questions.{Answered, answersOf}
 use Rattle.judged.specs.QuestionLaws.{answers-count}
 use Rattle.judged.specs.Judged.{Judgement, refused, accepted, judgedSheet, judgedBy, judged, recordsAfter, placesAfter, rowsAfter, answersAfter}
-use Rattle.questions.specs.All.{AllAsks, AllIs, stands-asks, trees-starts}
+use Rattle.questions.specs.All.{AllAsks, AllIs, stands-asks, trees-starts, answering-start, answering-end}
 use Rattle.questions.specs.declared.all.Counts.{Counts}
 use Rattle.verdicts.specs.declared.Outcome.{Outcome}
 use Rattle.verdicts.specs.declared.Outcome.the-variants.{Accepted, Refused}
@@ -60,6 +60,10 @@ blank-tables =
             bound = zeros-all 4096;
           };
     }
+
+-- And those of one entry, where no name is looked up.
+pub short-tables : Zeroed (replicate 1 0) (replicate 1 0) (replicate 1 0)
+short-tables = record { params = zeros-all 1; images = zeros-all 1; bound = zeros-all 1 }
 
 pub own-tables : ReadSheetAsks (replicate 1024 0) (replicate 8192 0) (replicate 4096 0) (replicate 2048 0) (replicate 4096 0) (replicate 1024 0) (replicate 266 0)
 own-tables =
@@ -126,12 +130,12 @@ module _ (s b p hs ns zs tbl xs ys : List ℕ) (c : SheetCounts) (rw an : List �
   abbrev questions : List QuestionFields
   questions = questionsAt s sorts ys (c .questions)
 
-  pub rows-ask : (prm imgs bnd : List ℕ) → Blank prm imgs bnd
+  pub rows-ask : (prm imgs bnd : List ℕ) → Zeroed prm imgs bnd
       → RowsAsk b p hs ns zs (c .count) (c .used) prm imgs bnd s tbl (c .sorts) xs (c .terms) rw
-  rows-ask prm imgs bnd blank =
+  rows-ask prm imgs bnd zeroed =
       record {
         good = stands .good;
-        blank = blank;
+        zeroed = zeroed;
         numbered =
             record { inside = omega (arith, a .table, a .accepted .fewSorts); known = stands .known; short = a .accepted .short };
         stands = stands .terms;
@@ -141,15 +145,20 @@ module _ (s b p hs ns zs tbl xs ys : List ℕ) (c : SheetCounts) (rw an : List �
       }
 
   -- After the rows.
-  module _ (prm imgs bnd : List ℕ) (blank : Blank prm imgs bnd) (b₁ p₁ hs₁ ns₁ zs₁ prm₁ imgs₁ bnd₁ rw₁ : List ℕ) (r : Counts)
+  module _ (prm imgs bnd b₁ p₁ hs₁ ns₁ zs₁ prm₁ imgs₁ bnd₁ rw₁ : List ℕ) (r : Counts)
       (t : RowsAre b p (c .count) prm imgs bnd s tbl (c .sorts) xs (c .terms) rw b₁ p₁ hs₁ ns₁ zs₁ prm₁ imgs₁ bnd₁ rw₁ r) where
-    pub answers-ask : AllAsks b₁ p₁ hs₁ ns₁ zs₁ (r .count) (r .used) prm₁ imgs₁ bnd₁ s tbl (c .sorts) ys (c .questions) an
-    answers-ask =
-        stands-asks s b p hs ns zs tbl xs ys c stands b₁ p₁ hs₁ ns₁ zs₁ (r .count) (r .used) (t .good) (t .starts) prm₁ imgs₁ bnd₁ an
-        (subst (λ (z : List ℕ). Blank z imgs₁ bnd₁) (sym (t .params))
-        (subst (λ (z : List ℕ). Blank prm z bnd₁) (sym (t .images)) (subst (λ (z : List ℕ). Blank prm imgs z) (sym (t .bound)) blank)))
+    -- Over any tables of all names.
+    asks-over : (g l d : List ℕ) → Blank g l d → AllAsks b₁ p₁ hs₁ ns₁ zs₁ (r .count) (r .used) g l d s tbl (c .sorts) ys (c .questions) an
+    asks-over g l d blank =
+        stands-asks s b p hs ns zs tbl xs ys c stands b₁ p₁ hs₁ ns₁ zs₁ (r .count) (r .used) (t .good) (t .starts) g l d an blank
         (omega (arith, a .table, a .accepted .fewSorts)) (omega (arith, a .questions, a .accepted .fewQuestions)) (a .accepted .lentAnswers)
         (a .accepted .fewQuestions) (a .accepted .short)
+
+    pub answers-ask : Blank prm imgs bnd → AllAsks b₁ p₁ hs₁ ns₁ zs₁ (r .count) (r .used) prm₁ imgs₁ bnd₁ s tbl (c .sorts) ys (c .questions) an
+    answers-ask blank =
+        asks-over prm₁ imgs₁ bnd₁
+        (subst (λ (z : List ℕ). Blank z imgs₁ bnd₁) (sym (t .params))
+        (subst (λ (z : List ℕ). Blank prm z bnd₁) (sym (t .images)) (subst (λ (z : List ℕ). Blank prm imgs z) (sym (t .bound)) blank)))
 
     -- The store after the rows, and the questions over it.
     abbrev tabled : Tabled
@@ -165,8 +174,8 @@ module _ (s b p hs ns zs tbl xs ys : List ℕ) (c : SheetCounts) (rw an : List �
         (λ j o. omega (arith, stands .known j o, storeOf-length b p (c .count))))
 
     -- After the answers: THE JUDGEMENT.
-    module _ (b₂ p₂ hs₂ ns₂ zs₂ prm₂ imgs₂ bnd₂ an₂ : List ℕ) (q : Counts)
-        (o : AllIs b₁ p₁ (r .count) prm₁ imgs₁ bnd₁ s tbl (c .sorts) ys (c .questions) an b₂ p₂ hs₂ ns₂ zs₂ prm₂ imgs₂ bnd₂ an₂ q) where
+    module _ (g l d b₂ p₂ hs₂ ns₂ zs₂ prm₂ imgs₂ bnd₂ an₂ : List ℕ) (q : Counts)
+        (o : AllIs b₁ p₁ (r .count) g l d s tbl (c .sorts) ys (c .questions) an b₂ p₂ hs₂ ns₂ zs₂ prm₂ imgs₂ bnd₂ an₂ q) where
       abbrev answered : Answered
       answered = answersOf lengths (tabled .store) questions
 
@@ -199,6 +208,17 @@ module _ (s b p hs ns zs tbl xs ys : List ℕ) (c : SheetCounts) (rw an : List �
           (answers-count lengths (tabled .store) questions ∙ each-length (questionAt s sorts) ys (c .questions))
           left-answers)
           (reads-good b₂ p₂ hs₂ ns₂ zs₂ (q .count) (q .used) (o .good) (answered .store) left-store)
+
+    -- Without questions the rows are all there is to write.
+    pub judge-unasked : c .questions ≡ 0 → JudgeIs s lengths b₁ p₁ rw₁ an Accepted
+    judge-unasked e =
+        let g : List ℕ = replicate 65536 0 in
+        let d : List ℕ = replicate 4096 0 in
+        let h = asks-over g g d blank-tables in
+        judge-written g g d b₁ p₁ hs₁ ns₁ zs₁ g g d an (record { count = r .count; used = r .used })
+        (answering-end b₁ p₁ hs₁ ns₁ zs₁ (r .count) (r .used) g g d s tbl (c .sorts) ys (c .questions) an h b₁ p₁ hs₁ ns₁ zs₁ g g d an (r .count) (r .used) 0
+        (answering-start b₁ p₁ hs₁ ns₁ zs₁ (r .count) (r .used) g g d s tbl (c .sorts) ys (c .questions) an h)
+        (sym e))
 
 ---------------------------------------------------------------- reading first
 -- Buffers as long as those have their lengths.

@@ -1,2 +1,3 @@
 pub mod TableLaws
 pub mod JudgeLaws
+pub mod NamedLaws

@@ -28,7 +28,7 @@ use Rattle.sheet.specs.Trees.{treesOf, trees-length}
 use Rattle.sheet.specs.Contract.{eachAt, termAt, termsAt, TermStands}
 use Rattle.sheet.specs.Stands.{Numbered, term-again, term-is}
 use Rattle.store.specs.Good.{Good}
-use Rattle.matching.specs.Tables.{Blank}
+use Rattle.matching.specs.Tables.{Zeroed}
 use Rattle.rows.specs.declared.RowVerdict.{RowVerdict}
 use Rattle.rows.specs.declared.RowVerdict.the-variants.{Sort as Number, Refused}
 use Rattle.rows.specs.Verdict.{Verdict, codeOf}
@@ -120,11 +120,11 @@ module _ (n : ℕ) (s tbl xs rows : List ℕ) (r : TermRecord) (h : Standing n s
 numbered-grown : (n n′ : ℕ) (s tbl : List ℕ) (m : ℕ) → n ≤ n′ → Numbered n s tbl m → Numbered n′ s tbl m
 numbered-grown n n′ s tbl m le h = record { inside = h .inside; known = λ j o. omega (arith, h .known j o); short = h .short }
 
--- Tables of names that are as they were are blank still.
-blank-as : (prm imgs bnd prm′ imgs′ bnd′ : List ℕ) → prm′ ≡ prm → imgs′ ≡ imgs → bnd′ ≡ bnd → Blank prm imgs bnd → Blank prm′ imgs′ bnd′
-blank-as prm imgs bnd prm′ imgs′ bnd′ ep ei eb h =
-    subst (λ (t : List ℕ). Blank t imgs′ bnd′) (sym ep)
-    (subst (λ (t : List ℕ). Blank prm t bnd′) (sym ei) (subst (λ (t : List ℕ). Blank prm imgs t) (sym eb) h))
+-- Tables of names that are as they were are zeros still.
+zeroed-as : (prm imgs bnd prm′ imgs′ bnd′ : List ℕ) → prm′ ≡ prm → imgs′ ≡ imgs → bnd′ ≡ bnd → Zeroed prm imgs bnd → Zeroed prm′ imgs′ bnd′
+zeroed-as prm imgs bnd prm′ imgs′ bnd′ ep ei eb h =
+    subst (λ (t : List ℕ). Zeroed t imgs′ bnd′) (sym ep)
+    (subst (λ (t : List ℕ). Zeroed prm t bnd′) (sym ei) (subst (λ (t : List ℕ). Zeroed prm imgs t) (sym eb) h))
 
 -- A standing record stands over a store that has grown.
 standing-grown : (n n′ : ℕ) (s tbl xs rows : List ℕ) (r : TermRecord) → n ≤ n′ → Standing n s tbl xs rows r → Standing n′ s tbl xs rows r
@@ -189,7 +189,7 @@ module _ (b p hs ns zs : List ℕ) (n u : ℕ) (prm imgs bnd s tbl xs rows : Lis
     (h : BothAsk b p hs ns zs n u prm imgs bnd s tbl xs rows r t) where
   -- What the inferred row asks, and the checked one behind it.
   pub first-asks : (a : List ℕ) → 259 ≤ length a → TermAsks b p hs ns zs n u prm imgs bnd s tbl xs rows r a
-  first-asks a o = record { good = h .good; blank = h .blank; standing = h .standing; room = o }
+  first-asks a o = record { good = h .good; zeroed = h .zeroed; standing = h .standing; room = o }
 
   module _ (c q is ms ys prm₁ imgs₁ bnd₁ : List ℕ) (v : Answer) (f : TermIs inferred 0 b p n prm imgs bnd s tbl xs rows r c q is ms ys prm₁ imgs₁ bnd₁ v) where
     more : n ≤ v .count
@@ -199,7 +199,7 @@ module _ (b p hs ns zs : List ℕ) (n u : ℕ) (prm imgs bnd s tbl xs rows : Lis
     second-asks a o =
         record {
           good = f .answer .good;
-          blank = blank-as prm imgs bnd prm₁ imgs₁ bnd₁ (f .params) (f .images) (f .bound) (h .blank);
+          zeroed = zeroed-as prm imgs bnd prm₁ imgs₁ bnd₁ (f .params) (f .images) (f .bound) (h .zeroed);
           standing = standing-grown n (v .count) s tbl xs rows r more (h .standing);
           room = o;
         }
@@ -298,7 +298,7 @@ module _ (b p hs ns zs : List ℕ) (n u : ℕ) (prm imgs bnd s tbl : List ℕ) (
 
     -- What both rows of the record that was read ask, and that they are the sheet's term's.
     pub both-asks : BothAsk b p hs ns zs n u prm imgs bnd s tbl xs rows r t
-    both-asks = record { good = h .good; blank = h .blank; standing = standing; here = refl; room = h .room; few = h .few }
+    both-asks = record { good = h .good; zeroed = h .zeroed; standing = standing; here = refl; room = h .room; few = h .few }
 
     pub turn-is : (b′ p′ hs′ ns′ zs′ prm′ imgs′ bnd′ rows′ : List ℕ) (q : Counts) → BothAre b p n prm imgs bnd s tbl xs rows r t b′ p′ hs′ ns′ zs′ prm′ imgs′ bnd′ rows′ q
         → TurnIs b p n prm imgs bnd s tbl m xs rows t b′ p′ hs′ ns′ zs′ prm′ imgs′ bnd′ rows′ q
@@ -365,7 +365,7 @@ module _ (b p hs ns zs : List ℕ) (n u : ℕ) (prm imgs bnd s tbl : List ℕ) (
     turn-asks o =
         record {
           good = a .good;
-          blank = blank-as prm imgs bnd prm′ imgs′ bnd′ (a .params) (a .images) (a .bound) (h .blank);
+          zeroed = zeroed-as prm imgs bnd prm′ imgs′ bnd′ (a .params) (a .images) (a .bound) (h .zeroed);
           numbered = numbered-grown n n′ s tbl m grown (h .numbered);
           stands = λ j z. h .stands j (omega arith);
           placed = omega (arith, h .placed);

@@ -12,7 +12,7 @@ use Rattle.sheet.specs.Trees.{treesOf}
 use Rattle.sheet.specs.Contract.{termAt, termsAt, TermStands}
 use Rattle.sheet.specs.Stands.{Numbered}
 use Rattle.store.specs.Good.{Good}
-use Rattle.matching.specs.Tables.{Blank}
+use Rattle.matching.specs.Tables.{Zeroed}
 use Rattle.checked.specs.Ranks.{smtLib}
 use Rattle.site.specs.Site.{Standing}
 use Rattle.judged.specs.Rows.{Tabled, bothRows, rowsOf}
@@ -26,10 +26,10 @@ tabled st rows = record { store = st; rows = rows }
 abbrev pub Known : List ℕ → ℕ → ℕ → Type 0
 Known rows t n = (i : ℕ) → i < 2 * t → getD rows i 0 < 65536 → getD rows i 0 < n
 
--- A good store, blank tables of names, and the record r of the term t, with room for its rows.
+-- A good store, zeroed tables of names, and the record r of the term t, with room for its rows.
 pub record BothAsk (b p hs ns zs : List ℕ) (n u : ℕ) (prm imgs bnd s tbl xs rows : List ℕ) (r : TermRecord) (t : ℕ) : Type 0 where
   pub good : Good b p hs ns zs n u
-  pub blank : Blank prm imgs bnd
+  pub zeroed : Zeroed prm imgs bnd
   pub standing : Standing n s tbl xs rows r
   pub here : standing .term ≡ t
   pub room : 2 * t + 2 ≤ length rows
@@ -53,10 +53,10 @@ pub record BothAre (b p : List ℕ) (n : ℕ) (prm imgs bnd s tbl xs rows : List
   pub images : imgs′ ≡ imgs
   pub bound : bnd′ ≡ bnd
 
--- A good store, blank tables of names, m sorts with numbers of the store, and the terms up to t at the places xs.
+-- A good store, zeroed tables of names, m sorts with numbers of the store, and the terms up to t at the places xs.
 pub record TurnAsks (b p hs ns zs : List ℕ) (n u : ℕ) (prm imgs bnd s tbl : List ℕ) (m : ℕ) (xs rows : List ℕ) (t : ℕ) : Type 0 where
   pub good : Good b p hs ns zs n u
-  pub blank : Blank prm imgs bnd
+  pub zeroed : Zeroed prm imgs bnd
   pub numbered : Numbered n s tbl m
   pub stands : (i : ℕ) → i < t + 1 → TermStands s m i (getD xs i 0)
   pub placed : t < length xs
@@ -81,10 +81,10 @@ pub record TurnIs (b p : List ℕ) (n : ℕ) (prm imgs bnd s tbl : List ℕ) (m 
   pub images : imgs′ ≡ imgs
   pub bound : bnd′ ≡ bnd
 
--- A good store, blank tables of names, m sorts with numbers of the store, and c terms at the places xs, with room for their rows.
+-- A good store, zeroed tables of names, m sorts with numbers of the store, and c terms at the places xs, with room for their rows.
 pub record RowsAsk (b p hs ns zs : List ℕ) (n u : ℕ) (prm imgs bnd s tbl : List ℕ) (m : ℕ) (xs : List ℕ) (c : ℕ) (rows : List ℕ) : Type 0 where
   pub good : Good b p hs ns zs n u
-  pub blank : Blank prm imgs bnd
+  pub zeroed : Zeroed prm imgs bnd
   pub numbered : Numbered n s tbl m
   pub stands : (i : ℕ) → i < c → TermStands s m i (getD xs i 0)
   pub placed : c ≤ length xs

@@ -1,8 +1,11 @@
 // THE ENTRY POINT: a sheet judged into four lent buffers, by the definition `judged`. Here stand the outcome, the judgement of a
-// sheet over buffers that the caller lends, and the same for callers in other languages; table.rt has the rows of all terms.
+// sheet over buffers that the caller lends, and the same for callers in other languages; named.rt has the judgement over tables
+// of all names, table.rt the rows of all terms.
+pub mod named;
 pub mod table;
 
-use questions::all::answer_all;
+use named::judge_named;
+use named::uses_names;
 use reader::Refusal;
 use sheet::SheetCounts;
 use sheet::SheetRead;
@@ -40,7 +43,8 @@ pub fn refusal_number(e: Refusal) -> u32
 }
 
 // The rows of all terms of a sheet that was read, then the answers to its questions, over its store: at exit the four buffers
-// are those of the judgement, which accepts the sheet.
+// are those of the judgement, which accepts the sheet. Where no name can be looked up, there are no questions either, and the
+// rows are written over tables of one entry.
 pub fn judge_accepted(
     sheet: &[u8],
     records: &mut [u8],
@@ -58,45 +62,43 @@ pub fn judge_accepted(
     requires { ⌜ AcceptedAsks (now sheet) (now records) (now places) (now heads) (now next) (now sizes) (now table) (now starts) (now asked) counts (now rows) (now answers) ⌝ }
     ensures { λ _. ⌜ JudgeIs (now (sheet .entry)) (lengthsOf (now (records .entry)) (now (places .entry)) (now (rows .entry)) (now (answers .entry))) (now (records .exit)) (now (places .exit)) (now (rows .exit)) (now (answers .exit)) Accepted ⌝ }
 {
-    let mut params = [0u16; 65536];
-    let mut images = [0u16; 65536];
-    let mut bound = [0u16; 4096];
-    let sorts = counts.sorts;
-    let done = rows_all(
+    let count = counts.count;
+    if uses_names(records, places, count, counts.questions) {
+        return judge_named(
+            sheet,
+            records,
+            places,
+            heads,
+            next,
+            sizes,
+            table,
+            starts,
+            asked,
+            counts,
+            rows,
+            answers,
+        );
+    }
+    let mut params = [0u16; 1];
+    let mut images = [0u16; 1];
+    let mut bound = [0u16; 1];
+    rows_all(
         records,
         places,
         heads,
         next,
         sizes,
-        counts.count,
+        count,
         counts.used,
         &mut params,
         &mut images,
         &mut bound,
         sheet,
         table,
-        sorts,
+        counts.sorts,
         starts,
         counts.terms,
         rows,
-    );
-    answer_all(
-        records,
-        places,
-        heads,
-        next,
-        sizes,
-        done.count,
-        done.used,
-        &mut params,
-        &mut images,
-        &mut bound,
-        sheet,
-        table,
-        sorts,
-        asked,
-        counts.questions,
-        answers,
     );
 }
 

@@ -47,7 +47,7 @@ returns c =
 application-requires : tie.Need-application-requires
 application-requires c κs =
     let s = c .before .before .before .before .before .before .before .before .before .before .before .before .before .before .before .before .before .before .before .before .before .before .before in
-    record { good = s .pre .site .asks .good; blank = s .pre .site .asks .blank; few = count-few (s .pre .site .asks .standing); room = s .pre .site .asks .room; below = s .pre .site .below }
+    record { good = s .pre .site .asks .good; zeroed = s .pre .site .asks .zeroed; few = count-few (s .pre .site .asks .standing); room = s .pre .site .asks .room; below = s .pre .site .below }
 
 same-length-6 : tie.Need-same-length-6
 same-length-6 c = search needs

@@ -1,7 +1,7 @@
 -- The tests of the count, of the parameters and of the arguments, in the order of the definition.
 -- What is left is what `plain` and `delivered` answer.
 use borrow.Author.Needs.{needs}
-use Rattle.application.proofs.CalledLaws.{values-ask, called-count, plain-asks, called-plain, called-misfit, deliver-asks, called-delivered}
+use Rattle.application.proofs.CalledLaws.{values-ask, called-count, plain-asks, called-plain, called-misfit, lent-asks, called-delivered}
 use Rattle.application.proofs.called.called.Statement.{statement}
 use Rattle.application.proofs.called.called.Tie as tie
 
@@ -111,8 +111,8 @@ all-values-requires c κs =
     let k = a .n in
     values-ask b p hs nx zs n u prm g o x m y q d k (s .pre)
 
-delivered-requires : tie.Need-delivered-requires
-delivered-requires c κs =
+delivered-lent-requires : tie.Need-delivered-lent-requires
+delivered-lent-requires c κs =
     let s = c .before .before .before .before .before .before .before .before .before .before .before .before .before .before .before .before .before .before .before .before .before .before .before in
     let a = s .args in
     let b = a .records .now in
@@ -131,7 +131,7 @@ delivered-requires c κs =
     let y = a .names in
     let q = a .named in
     let k = a .n in
-    deliver-asks b p hs nx zs n u prm g o x m y q d k (s .pre) (c .before .before .before .before .before .before .before .before .before .before .before .before .before .if1 .left)
+    lent-asks b p hs nx zs n u prm g o x m y q d k (s .pre) (c .before .before .before .before .before .before .before .before .before .before .before .before .before .if1 .left)
 
 same-length-6 : tie.Need-same-length-6
 same-length-6 c = search needs
@@ -177,7 +177,7 @@ returns-3 c =
     let y = a .names in
     let q = a .named in
     let k = a .n in
-    called-delivered b p hs nx zs n u prm g o x m y q d k (s .pre) (c .before .before .before .before .before .before .before .before .before .before .before .before .before .before .before .before .before .before .before .before .before .before .before .before .before .before .before .before .before .before .if1 .left) (c .before .before .before .before .before .before .before .before .before .before .before .before .before .before .before .before .before .before .before .before .before .before .before .before .before .before .all-values .result) (c .before .before .before .before .before .before .before .before .before .before .before .before .before .before .before .before .before .before .before .before .before .before .before .before .before .before .all-values .ensures) (c .before .before .before .before .before .before .before .before .before .before .before .before .before .before .before .before .before .before .before .before .before .before .before .before .before .if3 .taken) (c .before .before .before .before .before .before .before .before .before .before .before .before .before .before .before .before .delivered .last .0) (c .before .before .before .before .before .before .before .before .before .before .before .before .before .before .before .before .delivered .last .1 .0) (c .before .before .before .before .before .before .before .before .before .before .before .before .before .before .before .before .delivered .last .1 .1 .0) (c .before .before .before .before .before .before .before .before .before .before .before .before .before .before .before .before .delivered .last .1 .1 .1 .0) (c .before .before .before .before .before .before .before .before .before .before .before .before .before .before .before .before .delivered .last .1 .1 .1 .1 .0) (c .before .before .before .before .before .before .before .before .before .before .before .before .before .before .before .before .delivered .last .1 .1 .1 .1 .1 .1 .1 .0) (c .before .before .before .before .before .before .before .before .before .before .before .before .before .before .before .before .delivered .last .1 .1 .1 .1 .1 .1 .1 .1 .0) (c .before .before .before .before .before .before .before .before .before .before .before .before .before .before .before .before .delivered .last .1 .1 .1 .1 .1 .1 .1 .1 .1 .0) (c .before .before .before .before .before .before .before .before .before .before .before .before .before .before .before .before .delivered .result) (c .before .before .before .before .before .before .before .before .before .before .before .before .before .before .before .before .delivered .ensures)
+    called-delivered b p hs nx zs n u prm g o x m y q d k (s .pre) (c .before .before .before .before .before .before .before .before .before .before .before .before .before .before .before .before .before .before .before .before .before .before .before .before .before .before .before .before .before .before .if1 .left) (c .before .before .before .before .before .before .before .before .before .before .before .before .before .before .before .before .before .before .before .before .before .before .before .before .before .before .all-values .result) (c .before .before .before .before .before .before .before .before .before .before .before .before .before .before .before .before .before .before .before .before .before .before .before .before .before .before .all-values .ensures) (c .before .before .before .before .before .before .before .before .before .before .before .before .before .before .before .before .before .before .before .before .before .before .before .before .before .if3 .taken) (c .before .before .before .before .before .before .before .before .before .before .before .before .before .before .before .before .delivered-lent .last .0) (c .before .before .before .before .before .before .before .before .before .before .before .before .before .before .before .before .delivered-lent .last .1 .0) (c .before .before .before .before .before .before .before .before .before .before .before .before .before .before .before .before .delivered-lent .last .1 .1 .0) (c .before .before .before .before .before .before .before .before .before .before .before .before .before .before .before .before .delivered-lent .last .1 .1 .1 .0) (c .before .before .before .before .before .before .before .before .before .before .before .before .before .before .before .before .delivered-lent .last .1 .1 .1 .1 .0) (c .before .before .before .before .before .before .before .before .before .before .before .before .before .before .before .before .delivered-lent .last .1 .1 .1 .1 .1 .1 .1 .0) (c .before .before .before .before .before .before .before .before .before .before .before .before .before .before .before .before .delivered-lent .last .1 .1 .1 .1 .1 .1 .1 .1 .0) (c .before .before .before .before .before .before .before .before .before .before .before .before .before .before .before .before .delivered-lent .last .1 .1 .1 .1 .1 .1 .1 .1 .1 .0) (c .before .before .before .before .before .before .before .before .before .before .before .before .before .before .before .before .delivered-lent .result) (c .before .before .before .before .before .before .before .before .before .before .before .before .before .before .before .before .delivered-lent .ensures)
 
 refuse-requires-2 : tie.Need-refuse-requires-2
 refuse-requires-2 c κs = search needs
@@ -211,4 +211,4 @@ returns-4 c =
     called-misfit b p hs nx zs n u prm g o x m y q d k (s .pre) (c .before .before .before .before .before .before .if1 .left) (c .before .before .all-values .result) (c .before .before .all-values .ensures) (c .before .if3 .left) (c .refuse2 .result) (c .refuse2 .ensures)
 
 pub called-spec : {M : Type 1} → statement M
-called-spec = tie.close (tie.spec refuse-requires returns plain-requires same-length same-length-2 same-length-3 same-length-4 same-length-5 returns-2 all-values-requires delivered-requires same-length-6 same-length-7 same-length-8 same-length-9 same-length-10 same-length-11 same-length-12 same-length-13 returns-3 refuse-requires-2 same-length-14 same-length-15 returns-4)
+called-spec = tie.close (tie.spec refuse-requires returns plain-requires same-length same-length-2 same-length-3 same-length-4 same-length-5 returns-2 all-values-requires delivered-lent-requires same-length-6 same-length-7 same-length-8 same-length-9 same-length-10 same-length-11 same-length-12 same-length-13 returns-3 refuse-requires-2 same-length-14 same-length-15 returns-4)
