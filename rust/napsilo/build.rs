@@ -1,5 +1,5 @@
-//! Says where the static library of the proved code stands: `libverdicts.a` in the folder that `NAPSILO_LIB_DIR` names, else in
-//! `target/staticlib` of the repository, where `rt staticlib verdicts` writes it.
+//! Says where the static library of the proved code stands: `libexports.a` in the folder that `NAPSILO_LIB_DIR` names, else in
+//! `target/staticlib` of the repository, where `rt staticlib exports` writes it.
 
 use std::env;
 use std::path::PathBuf;
@@ -14,15 +14,15 @@ fn main() {
             PathBuf::from(own).join("../../target/staticlib")
         }
     };
-    let file = folder.join("libverdicts.a");
+    let file = folder.join("libexports.a");
     println!("cargo::rerun-if-changed={}", file.display());
     if !file.is_file() {
         println!(
-            "cargo::error=no libverdicts.a in {}: write it with `rt staticlib verdicts`, or name its folder in NAPSILO_LIB_DIR",
+            "cargo::error=no libexports.a in {}: write it with `rt staticlib exports`, or name its folder in NAPSILO_LIB_DIR",
             folder.display()
         );
         return;
     }
     println!("cargo::rustc-link-search=native={}", folder.display());
-    println!("cargo::rustc-link-lib=static=verdicts");
+    println!("cargo::rustc-link-lib=static=exports");
 }

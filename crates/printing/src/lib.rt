@@ -8,7 +8,8 @@ use printout::whole::show_lines;
 use reader::Refusal;
 use verdicts::Outcome;
 use verdicts::refusal_number;
-ghost use Rattle.printing.specs.Print.{LinesAsk, PrintAsks};
+ghost use Rattle.text.specs.Text.{PrintAsks};
+ghost use Rattle.printing.specs.Print.{LinesAsk};
 
 // A buffer of zeros that holds the longest line.
 fn line_buffer() -> [u8; 3735560] {

@@ -40,7 +40,7 @@ decimal-most (suc i) n h = go (decLt n 10) (decimal-most i (n / 10) (omega arith
           length-append (decimal (n / 10)) ((48 + n % 10) ∷ []),
         )
 
-decimal-short : (n : ℕ) → n < 65536 → length (decimal n) ≤ 5
+pub decimal-short : (n : ℕ) → n < 65536 → length (decimal n) ≤ 5
 unfolding ten
 decimal-short n h = decimal-most 4 n (omega arith)
 

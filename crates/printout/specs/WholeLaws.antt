@@ -143,7 +143,8 @@ lines-split f k (suc m) i =
     ∙ ap (λ (l : List ℕ). f k ++ l) (lines-split f (suc k) m i ∙ ap (λ (j : ℕ). linesFrom f (suc k) m ++ linesFrom f j i) e)
     ∙ sym (append-assoc (f k) (linesFrom f (suc k) m) (linesFrom f (k + suc m) i))
 
-lines-same : (f g : ℕ → List ℕ) (k m : ℕ) → ((j : ℕ) → k ≤ j → j < k + m → f j ≡ g j) → linesFrom f k m ≡ linesFrom g k m
+-- Lines that are the same one by one.
+pub lines-same : (f g : ℕ → List ℕ) (k m : ℕ) → ((j : ℕ) → k ≤ j → j < k + m → f j ≡ g j) → linesFrom f k m ≡ linesFrom g k m
 unfolding linesFrom
 lines-same f g k zero h = refl
 lines-same f g k (suc m) h = ap₂ _++_ (h k (omega arith) (omega arith)) (lines-same f g (suc k) m (λ j x y. h j (omega arith) (omega arith)))

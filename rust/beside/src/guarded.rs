@@ -1,12 +1,13 @@
 //! Small sheets with lent buffers that have guards round them, for a run under a memory checker.
 //!
 //! A checker sees what is read or written outside of an allocation; the guards show what is written between two buffers of one allocation.
-//! So each sheet is judged twice: with the sheet and each buffer in an allocation of just its length, and with guards.
+//! So each sheet is judged twice: with the sheet and each buffer in an allocation of just its length, and with guards. And a piece of its
+//! text is asked for twice in the same way.
 
 use crate::random::Random;
 use crate::{Difference, differ, lengths};
 use compare::random::{Source, lent, sheet};
-use napsilo::{Lent, Refusal, judge_on_this_stack};
+use napsilo::{Lent, Refusal, judge_on_this_stack, print_on_this_stack};
 
 /// The entries of a guard.
 const GUARD: usize = 16;
@@ -61,9 +62,35 @@ impl Buffers {
     }
 }
 
+/// The lines of a text from a number on that fit a buffer of this length, and how many they are.
+pub fn piece(lines: &[&str], from: usize, length: usize) -> (String, usize) {
+    let mut text = String::new();
+    let mut count = 0;
+    for line in lines.iter().skip(from) {
+        if text.len() + line.len() > length {
+            break;
+        }
+        text.push_str(line);
+        count += 1;
+    }
+    (text, count)
+}
+
+/// Whether a piece of a sheet's text, into a buffer with a guard, is this, and the rest of the buffer and the guard are as they were.
+fn text_holds(sheet: &[u8], from: usize, length: usize, guard: usize, expected: &str) -> bool {
+    let mut out = vec![Buffers::BYTE; length + 2 * guard].into_boxed_slice();
+    let end = print_on_this_stack(sheet, from, &mut out[guard..guard + length]);
+    let (before, rest) = out.split_at(guard);
+    end == expected.len()
+        && rest.starts_with(expected.as_bytes())
+        && before.iter().chain(&rest[end..]).all(|byte| *byte == Buffers::BYTE)
+}
+
 /// Judges so many small random sheets, each with lent lengths round what it needs; how many of them have each number.
 pub fn on_small(sheets: usize, seed: u64) -> Result<[usize; 11], Difference> {
     let (mut random, mut source) = (Random::new(seed), Source::new(seed));
+    // Numbers of its own, so that the sheets of a seed do not depend on what is asked of their texts.
+    let mut of_text = Random::new(!seed);
     let mut numbers = [0; 11];
     let mut judged = 0;
     while judged < sheets {
@@ -82,11 +109,19 @@ pub fn on_small(sheets: usize, seed: u64) -> Result<[usize; 11], Difference> {
             }
         };
         let modelled = model(lent);
+        let text = model::printout(&sheet);
+        let lines: Vec<&str> = text.split_inclusive('\n').collect();
+        let (from, length) = (of_text.under(lines.len() + 1), of_text.under(text.len() + 8));
+        let (expected, _) = piece(&lines, from, length);
         for guard in [0, GUARD] {
             let mut buffers = Buffers::new(lent, guard);
             let number = buffers.judge(&sheet);
             if number != u32::from(modelled.number) || !buffers.hold(&modelled) {
                 return Err(differ(&sheet, &format!("{lent:?}, guards of {guard}: not what the model says")));
+            }
+            if !text_holds(&sheet, from, length, guard, &expected) {
+                let how = format!("line {from} on, {length} bytes, guards of {guard}: not the model's text");
+                return Err(differ(&sheet, &how));
             }
         }
         numbers[usize::from(modelled.number)] += 1;

@@ -7,14 +7,14 @@
 //!
 //! [`Trial::sheet`] compares on one sheet. With the program's buffers and with others, short ones among them, the library's number and its
 //! four buffers, which come dirty, must be the model's over their whole length. Of an accepted sheet the inferred rows and the answers must
-//! be carcara's, and the wrapper's printout the model's.
+//! be carcara's. The library's text of every sheet must be the model's printout, whole and in pieces.
 
 pub mod guarded;
 pub mod make;
 pub mod random;
 pub mod record;
 
-use napsilo::{Answer, Judged, Lent, Refusal, Row, judge_on_this_stack, judge_with, printout};
+use napsilo::{Answer, Judged, Lent, Refusal, Row, judge_on_this_stack, judge_with, print, print_on_this_stack};
 use random::Random;
 use std::fmt::Write;
 
@@ -35,7 +35,14 @@ pub struct Trial {
     pub lent_rows: [usize; 30],
     /// Inferred rows and answers that were compared with carcara.
     pub beside_carcara: usize,
+    /// Printouts that were compared whole.
+    pub texts: usize,
+    /// Pieces of printouts that were compared; those with no line count first.
+    pub pieces: [usize; 2],
 }
+
+/// The most lines of a text that is compared in pieces to its end too: each piece judges the sheet once more.
+const FEW_LINES: usize = 24;
 
 /// What differs, with the sheet in hexadecimal.
 pub type Difference = String;
@@ -63,11 +70,9 @@ impl Trial {
     pub fn sheet(&mut self, sheet: &[u8], random: &mut Random, others: usize) -> Result<(), Difference> {
         let modelled = self.buffers(sheet, Lent::PROGRAM)?;
         self.sheets[usize::from(modelled.number)] += 1;
+        self.text(sheet, others)?;
         if modelled.number == 0 {
             let judged = judge_with(sheet, Lent::PROGRAM).map_err(|e| differ(sheet, &e.to_string()))?;
-            if printout(&judged) != model::printout(sheet) {
-                return Err(differ(sheet, "the printouts differ"));
-            }
             self.beside(sheet, &judged)?;
         } else if oracle::lines(sheet).is_some() {
             return Err(differ(sheet, "the library refuses what the oracle reads"));
@@ -111,6 +116,46 @@ impl Trial {
             Some(how) => Err(differ(sheet, &how)),
             None => Ok(modelled),
         }
+    }
+
+    /// The library's text must be the model's printout: whole; in so many pieces from any line on, into buffers of any length round that
+    /// of the lines there; and, if it has few lines, in the pieces of a buffer that just holds the longest.
+    fn text(&mut self, sheet: &[u8], others: usize) -> Result<(), Difference> {
+        let text = model::printout(sheet);
+        self.texts += 1;
+        // Numbers of its own, so that the sheets of a seed do not depend on what is asked of their texts.
+        let mut random = Random::new(u64::try_from(self.texts).expect("64 bits"));
+        if print(sheet) != text {
+            return Err(differ(sheet, "the printouts differ"));
+        }
+        let lines: Vec<&str> = text.split_inclusive('\n').collect();
+        for _ in 0..others {
+            let from = random.under(lines.len() + 2);
+            let some = random.under(4);
+            let length: usize = lines.iter().skip(from).take(some).map(|line| line.len()).sum();
+            let length = (length + random.under(4)).saturating_sub(random.under(4));
+            self.piece(sheet, &lines, from, length)?;
+        }
+        if lines.len() <= FEW_LINES {
+            let longest = lines.iter().map(|line| line.len()).max().unwrap_or(0);
+            let mut from = 0;
+            while from < lines.len() {
+                from += self.piece(sheet, &lines, from, longest)?;
+            }
+        }
+        Ok(())
+    }
+
+    /// A piece of the text must be the lines from a number on that fit, and leave the rest of the buffer as it was; their count.
+    fn piece(&mut self, sheet: &[u8], lines: &[&str], from: usize, length: usize) -> Result<usize, Difference> {
+        let mut out = vec![0xa7; length];
+        let end = print_on_this_stack(sheet, from, &mut out);
+        let (expected, count) = guarded::piece(lines, from, length);
+        self.pieces[usize::from(count != 0)] += 1;
+        if end != expected.len() || out[..end] != *expected.as_bytes() || out[end..].iter().any(|byte| *byte != 0xa7) {
+            return Err(differ(sheet, &format!("the text from line {from} on in a buffer of {length} bytes differs")));
+        }
+        Ok(count)
     }
 
     /// Inferred rows and answers must be carcara's.
@@ -177,6 +222,9 @@ impl Trial {
             summary.push_str(if separator == " (" { "\n" } else { ")\n" });
         }
         writeln!(summary, "inferred rows and answers beside carcara: {}", self.beside_carcara).expect("as above");
+        let [none, some] = self.pieces;
+        writeln!(summary, "texts: {} whole, {} pieces of them, {none} without a line", self.texts, none + some)
+            .expect("as above");
         summary
     }
 }

@@ -5,7 +5,7 @@
 //!
 //! Run it with `cargo run --example rule`.
 
-use napsilo::{Judged, Names, Operator, SheetWriter, Sort, SortRecord, TermId, TermRecord, judge, printout};
+use napsilo::{Judged, Names, Operator, SheetWriter, Sort, SortRecord, TermId, TermRecord, judge, print};
 use std::error::Error;
 
 /// May a rule go live? Only a formula that is checked may: its inferred sort alone says too little.
@@ -43,8 +43,9 @@ fn main() -> Result<(), Box<dyn Error>> {
     let not_not = sheet.add_term(TermRecord::Op(Operator::Not, &[not]))?;
     let right = sheet.add_term(TermRecord::Op(Operator::Implies, &[premise, not_not]))?;
 
-    let judged = judge(&sheet.finish())?;
-    print!("{}", printout(&judged));
+    let sheet = sheet.finish();
+    let judged = judge(&sheet)?;
+    print!("{}", print(&sheet));
 
     for (name, rule) in [("mixed up", wrong), ("as it should be", right)] {
         let inferred = judged.inferred(rule)?;

@@ -1,6 +1,6 @@
-//! The call of the proved library. All unsafe code of this crate is here.
+//! The calls of the proved library. All unsafe code of this crate is here.
 
-/// The functions of `libverdicts.a`. Each slice is a pointer and then a length.
+/// The functions of `libexports.a`. Each slice is a pointer and then a length.
 mod library {
     unsafe extern "C" {
         /// Judges a sheet into four lent buffers: 0 for an accepted sheet, else the number of the refusal.
@@ -20,6 +20,18 @@ mod library {
             answers: *mut u32,
             answers_length: usize,
         ) -> u32;
+
+        /// Writes whole lines of a sheet's printout, from the number `from` on and as many as fit, into a lent buffer: the place behind them.
+        ///
+        /// It reads the sheet and reads and writes the buffer, nothing else, and keeps no pointer. It takes every length, every number and
+        /// whatever the buffer holds. Pointers must be as for `napsilo_judge`.
+        pub fn napsilo_text(
+            sheet: *const u8,
+            sheet_length: usize,
+            from: usize,
+            out: *mut u8,
+            out_length: usize,
+        ) -> usize;
     }
 }
 
@@ -42,4 +54,12 @@ pub fn judge(sheet: &[u8], records: &mut [u8], places: &mut [u32], rows: &mut [u
             answers.len(),
         )
     }
+}
+
+/// Writes whole lines of a sheet's printout, from the number `from` on and as many as fit, into the lent buffer: the place behind them.
+pub fn text(sheet: &[u8], from: usize, out: &mut [u8]) -> usize {
+    // SAFETY: each pointer and length is a Rust slice's, so it is not null, aligned, and valid for its length: to read for the sheet, to
+    // read and write for the buffer. The buffer is borrowed exclusively, so it does not overlap the sheet, and both borrows last until
+    // the call returns. The function has no other precondition.
+    unsafe { library::napsilo_text(sheet.as_ptr(), sheet.len(), from, out.as_mut_ptr(), out.len()) }
 }

@@ -170,9 +170,17 @@ pub fn judge_into(
     rows: &mut [u32],
     answers: &mut [u32],
 ) -> Result<(), Refusal> {
+    on_large_stack(|| judge_on_this_stack(sheet, records, places, rows, answers))
+}
+
+/// Runs a function on a thread of its own with a stack of [`STACK`] bytes.
+///
+/// # Panics
+/// If no thread can be started, or if the function panics.
+pub(crate) fn on_large_stack<T: Send>(run: impl FnOnce() -> T + Send) -> T {
     std::thread::scope(|scope| {
         let builder = std::thread::Builder::new().stack_size(STACK);
-        let thread = builder.spawn_scoped(scope, || judge_on_this_stack(sheet, records, places, rows, answers));
+        let thread = builder.spawn_scoped(scope, run);
         match thread.expect("a thread can be started").join() {
             Ok(said) => said,
             Err(panic) => std::panic::resume_unwind(panic),

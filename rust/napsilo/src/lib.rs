@@ -54,16 +54,18 @@
 //!   a reference ([`WriteError`]).
 //! - [`judge`], [`judge_with`] and [`judge_into`] call the library: with the program's buffers, with buffers of other lengths, into
 //!   buffers of the caller's; on a thread with a stack that is large enough ([`STACK`]). A sheet is [`Judged`] or refused ([`Refusal`], 1 to 10); a row is a [`Sort`] or refused ([`Cause`], 20 to 29).
-//! - [`printout`] and [`print()`] give the text that the program prints.
+//! - [`print()`] gives the text that the program prints for a sheet, and [`print_into`] a piece of it; both by the library.
+//!   [`Sort`] has the same text for one sort.
 //!
 //! # The library
 //!
-//! `libverdicts.a` is written by `rt staticlib verdicts`. The build takes it from the folder that the environment variable
-//! `NAPSILO_LIB_DIR` names, else from `target/staticlib` of the repository. Nothing checks the declaration in `ffi.rs` against the
+//! `libexports.a` is written by `rt staticlib exports`. The build takes it from the folder that the environment variable
+//! `NAPSILO_LIB_DIR` names, else from `target/staticlib` of the repository. Nothing checks the declarations in `ffi.rs` against the
 //! library's source, so the tests compare results.
 //!
-//! What is proved is the library: the rows, the answers and the store that it writes, for every sheet and all lengths of buffers. This
-//! crate is not: it writes sheets, reads the store back into trees, and makes text of them.
+//! What is proved is the library: the rows, the answers, the store and the printout that it writes, for every sheet and all lengths of
+//! buffers. This crate is not: it writes sheets, reads the store back into trees, puts pieces of the printout together, and makes text of
+//! a single sort.
 
 #![deny(unsafe_code)]
 #![warn(missing_docs)]
@@ -84,7 +86,7 @@ pub use name::{Name, Names};
 pub use operators::{Binder, Operator, ParamOperator, QualifiedOperator};
 pub use refusal::{Cause, Refusal};
 pub use sort::Sort;
-pub use text::{print, printout};
+pub use text::{LINE_BUFFER, print, print_into, print_on_this_stack};
 pub use writer::{
     GREATEST_WIDTH, LONGEST_LIST, MOST_BYTES, MOST_QUESTIONS, MOST_SORTS, MOST_TERMS, QuestionId, QuestionRecord,
     SheetWriter, SortId, SortRecord, TermId, TermRecord, WriteError,

@@ -8,7 +8,7 @@ use std::sync::{Arc, LazyLock};
 
 /// A sort, in the form of carcara's `Sort`.
 ///
-/// Its [`Display`](fmt::Display) text is the printout's, and so is its debug text. A sort that comes from the library has a tree size
+/// Its [`Display`](fmt::Display) text is the printout's, and so is its debug text; it is made in Rust, from the tree. A sort that comes from the library has a tree size
 /// of at most 4,096, and may be as deep. Comparing, printing and dropping a sort need no stack for its depth.
 #[derive(Clone)]
 pub enum Sort {

@@ -1,52 +1,79 @@
-//! The printout.
+//! The printout, by the library.
 
-use crate::{Answer, Judged, Row, judge};
-use std::fmt::Write;
+use crate::ffi;
+use crate::judged::on_large_stack;
 
-/// The lines that the program prints for an accepted sheet: `Tk inferred checked` for each term, `Qk answer` for each question.
+/// The length of a buffer that holds every line of a printout: a piece for it has a line at least, if one is left.
+pub const LINE_BUFFER: usize = 3_735_560;
+
+/// The length of the first buffer that [`print`] lends. Nearly every printout fits it, and so does the line of a refused sheet.
+const FIRST_BUFFER: usize = 65_536;
+
+/// What the program prints for a sheet: for an accepted one a line `Tk inferred checked` for each term and a line `Qk answer` for each
+/// question, for a refused one the line `!n` with the number of the refusal.
 ///
-/// This text is made in Rust, from the rows and answers of the library. The proved printout of the library (`napsilo_text`) is to take
-/// its place here as soon as it is exported; nothing else in this crate writes lines.
-pub fn printout(judged: &Judged) -> String {
-    let mut text = String::new();
-    let written = write_lines(&mut text, judged);
-    written.expect("a string takes every text");
-    text
-}
-
-/// What the program prints for a sheet: the lines of an accepted one, or one line `!n` with the number of the refusal.
+/// The text is the library's, whose every byte is proved; here its pieces are put together. The library judges the sheet, with the
+/// buffers that the program lends, once for each piece. A printout of up to 65,536 bytes is one piece, of a longer one the others are of
+/// up to [`LINE_BUFFER`] bytes. There are sheets with printouts of many gigabytes; [`print_into`] gives them piece by piece.
+///
+/// # Panics
+/// If no thread can be started (see [`print_into`]), or if the library stops before the last line; it is proved not to.
 pub fn print(sheet: &[u8]) -> String {
-    match judge(sheet) {
-        Ok(judged) => printout(&judged),
-        Err(refusal) => format!("!{}\n", refusal.number()),
-    }
-}
-
-/// Writes the lines of an accepted sheet.
-fn write_lines(text: &mut String, judged: &Judged) -> std::fmt::Result {
-    for (k, (inferred, checked)) in judged.rows().enumerate() {
-        write!(text, "T{k} ")?;
-        write_row(text, inferred)?;
-        text.write_char(' ')?;
-        write_row(text, checked)?;
-        text.write_char('\n')?;
-    }
-    for (k, answer) in judged.answers().iter().enumerate() {
-        write!(text, "Q{k} ")?;
-        match answer {
-            Answer::Compatible(true) => text.write_str("yes")?,
-            Answer::Compatible(false) => text.write_str("no")?,
-            Answer::Sort(row) => write_row(text, row)?,
+    let text = on_large_stack(|| {
+        let mut text = Vec::new();
+        let mut buffer = vec![0; FIRST_BUFFER];
+        let mut line = 0;
+        loop {
+            let end = print_on_this_stack(sheet, line, &mut buffer);
+            line += lines(&buffer[..end]);
+            text.extend_from_slice(&buffer[..end]);
+            if line == all_lines(sheet, &text) {
+                return text;
+            }
+            assert!(end != 0 || buffer.len() < LINE_BUFFER, "the library stops before the last line");
+            buffer.resize(LINE_BUFFER, 0);
         }
-        text.write_char('\n')?;
-    }
-    Ok(())
+    });
+    String::from_utf8(text).expect("the library writes ASCII")
 }
 
-/// Writes a row.
-fn write_row(text: &mut String, row: &Row) -> std::fmt::Result {
-    match row {
-        Ok(sort) => write!(text, "{sort}"),
-        Err(cause) => write!(text, "!{}", cause.number()),
+/// Writes the printout of a sheet into a lent buffer of any length, whatever it holds: its whole lines from the number `from` on, as many
+/// as fit, from the start of the buffer on. Gives the place behind them; what lies there is as it was.
+///
+/// The number of the next line is `from` and as many more as newlines were written: every line has one, at its end. 0 says that there is
+/// no line `from`, or that it does not fit; in a buffer of [`LINE_BUFFER`] bytes every line fits.
+///
+/// The library judges the sheet anew at every call, with the buffers that the program lends, on a thread of its own with a stack of
+/// [`STACK`](crate::STACK) bytes. [`print_on_this_stack`] runs it here.
+///
+/// # Panics
+/// If no thread can be started.
+pub fn print_into(sheet: &[u8], from: usize, out: &mut [u8]) -> usize {
+    on_large_stack(|| print_on_this_stack(sheet, from, out))
+}
+
+/// As [`print_into`], on the stack of the caller.
+///
+/// If a sheet's sorts are nested too deeply for what is left of the stack, the process ends, as at every overflow of a stack in Rust. With
+/// [`STACK`](crate::STACK) bytes left that does not happen.
+pub fn print_on_this_stack(sheet: &[u8], from: usize, out: &mut [u8]) -> usize {
+    ffi::text(sheet, from, out)
+}
+
+/// The number of whole lines in a text: of its newlines.
+fn lines(text: &[u8]) -> usize {
+    text.iter().filter(|byte| **byte == b'\n').count()
+}
+
+/// The number of lines of a sheet's whole printout, of which this is the beginning. A refused sheet's is not empty.
+fn all_lines(sheet: &[u8], text: &[u8]) -> usize {
+    match (text.first(), sheet) {
+        (Some(b'!'), _) => 1,
+        (_, [_, _, terms_low, terms_high, questions_low, questions_high, ..]) => {
+            let [terms, questions] = [[terms_low, terms_high], [questions_low, questions_high]]
+                .map(|[low, high]| usize::from(u16::from_le_bytes([*low, *high])));
+            terms + questions
+        }
+        _ => panic!("the library accepts a sheet without a header"),
     }
 }

@@ -3,7 +3,7 @@
 mod common;
 
 use common::{bytes, hex};
-use napsilo::{Judged, Lent, Refusal, judge, judge_on_this_stack, judge_with};
+use napsilo::{Judged, Lent, Refusal, judge, judge_on_this_stack, judge_with, print, print_on_this_stack};
 use std::fmt::Debug;
 
 /// A lent buffer between guards.
@@ -149,6 +149,36 @@ fn every_small_length() {
     }
     println!("{accepted} accepted, {refused} refused");
     assert!(accepted > 100 && refused > 100);
+}
+
+/// The printout into a guarded buffer of every small length, from every line on: the whole lines that fit, and what lies behind is as
+/// it was.
+#[test]
+fn every_small_piece() {
+    let mut refused = sheets();
+    // A header that counts too many terms, and no header.
+    refused.extend(["00000110 0000", "0000"].map(bytes));
+    for sheet in refused {
+        let text = print(&sheet);
+        let lines: Vec<&str> = text.split_inclusive('\n').collect();
+        for from in (0..lines.len() + 3).chain([usize::MAX]) {
+            for length in 0..text.len() + 2 {
+                let mut out = Guarded::new(length, 0xd7, 0x5a);
+                let end = print_on_this_stack(&sheet, from, out.lend());
+                let mut expected = String::new();
+                for line in lines.iter().skip(from) {
+                    if expected.len() + line.len() > length {
+                        break;
+                    }
+                    expected.push_str(line);
+                }
+                assert_eq!(end, expected.len(), "{}", hex(&sheet));
+                let (written, behind) = out.look().split_at(end);
+                assert_eq!(written, expected.as_bytes());
+                assert!(behind.iter().all(|byte| *byte == 0x5a));
+            }
+        }
+    }
 }
 
 /// Room only takes away: with as much room as with the program's buffers, rows and answers are the same.

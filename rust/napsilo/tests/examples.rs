@@ -3,9 +3,7 @@
 mod common;
 
 use common::{bytes, hex, n};
-use napsilo::{
-    Cause, Operator, QuestionRecord, SheetWriter, SortId, SortRecord, TermId, TermRecord, judge, print, printout,
-};
+use napsilo::{Cause, Operator, QuestionRecord, SheetWriter, SortId, SortRecord, TermId, TermRecord, judge, print};
 
 /// A writer with Int, Real, Bool as its sorts 0 to 2, an integer and a real as its terms 0 and 1.
 fn start() -> SheetWriter {
@@ -34,7 +32,7 @@ fn rows(sheet: &SheetWriter, term: TermId) -> (String, String) {
     };
     let rows = (text(judged.inferred(term)), text(judged.checked(term)));
     let line = format!("T{} {} {}\n", term.number(), rows.0, rows.1);
-    assert!(printout(&judged).contains(&line));
+    assert!(print(&sheet.finish()).contains(&line));
     rows
 }
 
@@ -120,7 +118,7 @@ fn k9_k11() {
     let judged = judge(&sheet.finish()).unwrap();
     let answer = judged.answer(question).sort().unwrap().as_ref().unwrap();
     assert_eq!(answer.to_string(), "(par (n2) (-> Int 'n2))");
-    assert!(printout(&judged).ends_with("\nQ0 (par (n2) (-> Int 'n2))\n"));
+    assert!(print(&sheet.finish()).ends_with("\nQ0 (par (n2) (-> Int 'n2))\n"));
     assert_rows(sheet, TermRecord::App(head, &[SEVEN]), "'n2", "!27");
 }
 
@@ -173,7 +171,7 @@ fn questions() {
     assert_eq!(judged.answer(unfit).sort(), Some(&Err(Cause::NoAssignment)));
     assert_eq!(judged.answer(no).yes_or_no(), Some(false));
     let lines = "Q0 (Array Int Bool)\nQ1 !28\nQ2 !29\nQ3 no\n";
-    assert!(printout(&judged).ends_with(lines));
+    assert!(print(&sheet.finish()).ends_with(lines));
 }
 
 /// The rule that takes a session for its account; the same sheet as the program's example.

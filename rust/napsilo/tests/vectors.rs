@@ -5,7 +5,7 @@
 mod common;
 
 use common::{bytes, hex};
-use napsilo::{Refusal, judge_into, print};
+use napsilo::{Refusal, judge_into, print, print_into};
 use std::collections::BTreeMap;
 use std::env;
 use std::fs;
@@ -41,6 +41,7 @@ fn the_program() {
         let expected: String = block[1..].iter().map(line).collect();
         let printed = print(&sheet);
         assert_eq!(printed, expected, "{}", hex(&sheet));
+        in_pieces(&sheet, &expected);
         sheets += 1;
         lines += block.len() - 1;
         if printed.starts_with('!') {
@@ -49,6 +50,22 @@ fn the_program() {
     }
     println!("{sheets} sheets, {lines} lines; refused: {refused:?}");
     assert!(sheets > 0);
+}
+
+/// The printout in pieces, in a buffer that just holds the longest line: together they are the whole.
+fn in_pieces(sheet: &[u8], expected: &str) {
+    let longest = expected.lines().map(|line| line.len() + 1).max().unwrap_or(0);
+    let mut buffer = vec![0xa5; longest];
+    let mut text = Vec::new();
+    loop {
+        let line = text.iter().filter(|byte| **byte == b'\n').count();
+        let end = print_into(sheet, line, &mut buffer);
+        if end == 0 {
+            break;
+        }
+        text.extend_from_slice(&buffer[..end]);
+    }
+    assert_eq!(String::from_utf8(text).as_deref(), Ok(expected), "{}", hex(sheet));
 }
 
 /// The words behind a label.

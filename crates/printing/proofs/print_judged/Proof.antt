@@ -7,6 +7,7 @@ use lib.ListN.{replicate}
 use Rattle.verdicts.specs.declared.Outcome.{Outcome}
 use Rattle.printout.specs.Printed.{programLengths}
 use Rattle.verdicts.specs.Judge.{JudgeIs}
+use Rattle.text.specs.LeftLaws.{left}
 use Rattle.printing.specs.PrintLaws.{room-all, print-asks}
 use Rattle.printing.proofs.print_judged.Statement.{statement}
 use Rattle.printing.proofs.print_judged.Tie as tie
@@ -39,7 +40,10 @@ print-lines-requires c κs =
     let w = a .rows .now in
     let g = a .answers .now in
     let j = subst (λ (o : Outcome). JudgeIs x programLengths b p w g o) (c .before .before .before .before .before .before .enum-told .given .1) (s .pre) in
-    print-asks x b p w g j (replicate 1024 0) (c .before .before .before .before .question-kinds .last .1 .0) (c .before .before .before .before .question-kinds .result) (omega arith) (c .before .before .before .before .question-kinds .ensures) (c .before .before .line-buffer .result) (room-all 3735560 (c .before .before .line-buffer .result) (slice-aggregate-print-lines-2 c))
+    let k = c .before .before .before .before .question-kinds .last .1 .0 in
+    let t = c .before .before .before .before .question-kinds .result in
+    let l = left x b p w g j (replicate 1024 0) k t (omega arith) (c .before .before .before .before .question-kinds .ensures) in
+    print-asks x b p w k g t l (c .before .before .line-buffer .result) (room-all 3735560 (c .before .before .line-buffer .result) (slice-aggregate-print-lines-2 c))
 
 enum-known-outcome : tie.Need-enum-known-outcome
 enum-known-outcome c = search needs

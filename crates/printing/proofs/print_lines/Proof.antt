@@ -8,7 +8,7 @@ use lib.ListN.{length}
 use lib.Seq.{length-take-le}
 use Rattle.record.specs.Codec.{Bytes}
 use Rattle.printout.specs.Wrote.{wrote-long}
-use Rattle.printing.specs.PrintLaws.{piece-goes}
+use Rattle.text.specs.LeftLaws.{piece-goes}
 use Rattle.printing.proofs.print_lines.Statement.{statement}
 use Rattle.printing.proofs.print_lines.Tie as tie
 

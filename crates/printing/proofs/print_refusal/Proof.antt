@@ -3,11 +3,11 @@
 use native.Mathlib.Omega.{arith}
 use borrow.Author.Needs.{needs}
 use mathlib.Core.Path.{sym, subst}
-use lib.ListN.{length, replicate}
+use lib.ListN.{replicate}
 use lib.Seq.{length-take-le}
 use Rattle.printout.specs.Lines.{refusalLine}
 use Rattle.printout.specs.Wrote.{ShownIs, wrote-long}
-use Rattle.printing.specs.PrintLaws.{refusal-small}
+use Rattle.text.specs.TextLaws.{refusal-small}
 use Rattle.printing.proofs.print_refusal.Statement.{statement}
 use Rattle.printing.proofs.print_refusal.Tie as tie
 

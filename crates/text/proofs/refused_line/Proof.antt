@@ -1,0 +1,59 @@
+-- A refusal has at most two digits; its line is the whole printout of the refused sheet.
+-- It is written or does not fit, and a line behind it is not there.
+use native.Mathlib.Omega.{arith}
+use borrow.Author.Needs.{needs}
+use Prim.Native.Nat.{ℕ}
+use mathlib.Core.Path.{ap, subst}
+use lib.ListN.{length}
+use Rattle.printout.specs.Lines.{refusalLine}
+use Rattle.printout.specs.Wrote.{ShownIs, wrote-as}
+use Rattle.judged.specs.Judged.{refused}
+use Rattle.text.specs.TextLaws.{lines-none, refusal-small, refused-written, refused-full}
+use Rattle.text.proofs.refused_line.Statement.{statement}
+use Rattle.text.proofs.refused_line.Tie as tie
+
+returns : tie.Need-returns
+returns c =
+    let a = c .before .before .args in
+    lines-none (refused (a .e)) (a .from) (a .out .now) (omega (arith, c .if1 .taken))
+
+refusal-number-requires : tie.Need-refusal-number-requires
+refusal-number-requires c κs = search needs
+
+cast-number : tie.Need-cast-number
+cast-number c = search needs
+
+refusal-line-requires : tie.Need-refusal-line-requires
+refusal-line-requires c κs = (omega (arith, c .before .refusal-number .ensures, refusal-small (c .before .before .before .before .args .e)), omega arith)
+
+enum-known-shown : tie.Need-enum-known-shown
+enum-known-shown c = search needs
+
+enum-told : tie.Need-enum-told
+enum-told c = search needs
+
+same-length : tie.Need-same-length
+same-length c = search needs
+
+returns-2 : tie.Need-returns-2
+returns-2 c =
+    let a = c .before .before .before .before .before .before .before .before .before .before .args in
+    let o = a .out .now in
+    let o′ = c .before .before .before .before .before .refusal-line .last .1 .0 in
+    let w = subst (ShownIs o 0 (refusalLine (c .before .before .before .before .before .before .before .refusal-number .result)) o′) (c .before .shown .given .1) (c .before .before .before .before .before .refusal-line .ensures) in
+    refused-written (a .e) (a .from) o o′ (c .before .shown .given .0 .0) (omega (arith, c .before .before .before .before .before .before .before .before .if1 .left)) (wrote-as (ap refusalLine (c .before .before .before .before .before .before .before .refusal-number .ensures)) w)
+
+same-length-2 : tie.Need-same-length-2
+same-length-2 c = search needs
+
+returns-3 : tie.Need-returns-3
+returns-3 c =
+    let a = c .before .before .before .before .before .before .before .before .before .args in
+    let o = a .out .now in
+    let o′ = c .before .before .before .before .refusal-line .last .1 .0 in
+    let n = c .before .before .before .before .before .before .refusal-number .ensures in
+    let w = subst (ShownIs o 0 (refusalLine (c .before .before .before .before .before .before .refusal-number .result)) o′) (c .enum-told .given .1) (c .before .before .before .before .refusal-line .ensures) in
+    refused-full (a .e) (a .from) o o′ (omega (arith, c .before .before .before .before .before .before .before .if1 .left)) (w .0) (omega (arith, w .1, ap (λ (i : ℕ). length (refusalLine i)) n))
+
+pub refused-line-spec : {M : Type 1} → statement M
+refused-line-spec = tie.close (tie.spec returns refusal-number-requires cast-number refusal-line-requires enum-known-shown enum-told same-length returns-2 same-length-2 returns-3)

@@ -1,0 +1,6 @@
+pub mod Text
+pub mod Newlines
+pub mod PrintedLaws
+pub mod LeftLaws
+pub mod TextLaws
+pub mod NewlineLaws
