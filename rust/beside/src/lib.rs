@@ -42,7 +42,7 @@ pub struct Trial {
 }
 
 /// The most lines of a text that is compared in pieces to its end too: each piece judges the sheet once more.
-const FEW_LINES: usize = 24;
+const FEW_LINES: usize = 40;
 
 /// What differs, with the sheet in hexadecimal.
 pub type Difference = String;
