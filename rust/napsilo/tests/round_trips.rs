@@ -4,8 +4,8 @@ mod common;
 
 use common::{Random, n};
 use napsilo::{
-    Binder, Cause, Name, Names, Operator, ParamOperator, QualifiedOperator, QuestionRecord, Refusal, SheetWriter, Sort,
-    SortRecord, TermRecord, WriteError, judge,
+    Binder, Cause, LINE_BUFFER, Name, Names, Operator, ParamOperator, QualifiedOperator, QuestionRecord, Refusal,
+    SheetWriter, Sort, SortRecord, TermRecord, WriteError, judge, print,
 };
 use std::collections::HashSet;
 use std::sync::Arc;
@@ -278,7 +278,23 @@ fn every_kind_of_term() {
     add(TermRecord::AsOp(QualifiedOperator::Const, array, &[holds]), "(Array Int Bool) (Array Int Bool)");
     add(TermRecord::AsOp(QualifiedOperator::SetEmpty, set, &[]), "(Set Int) !24");
     let expected: String = lines.iter().enumerate().map(|(k, line)| format!("T{k} {line}\n")).collect();
-    assert_eq!(napsilo::print(&sheet.finish()), expected);
+    assert_eq!(print(&sheet.finish()), expected);
+}
+
+/// A printout that is longer than the longest buffer, so in several pieces: each term's sort is a set of the one before.
+#[test]
+fn a_long_printout() {
+    let mut sheet = SheetWriter::new();
+    let mut sort = Arc::new(Sort::Int);
+    let mut expected = String::new();
+    for k in 0..900 {
+        let id = sheet.sort(&sort).unwrap();
+        sheet.add_term(TermRecord::Var(n(1), id)).unwrap();
+        expected.push_str(&format!("T{k} {sort} {sort}\n"));
+        sort = Arc::new(Sort::Set(sort));
+    }
+    assert!(expected.len() > LINE_BUFFER);
+    assert!(print(&sheet.finish()) == expected);
 }
 
 #[test]
