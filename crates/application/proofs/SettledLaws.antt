@@ -72,6 +72,10 @@ split f θ (var v) d = absurd (d refl)
 split f θ (par us c) d = sym (and-last (settled f θ c))
 split f θ (node i c w ss) d = refl
 
+-- The answer is whatever equals it.
+pub settled-as : (b p : List ℕ) (n : ℕ) (prm imgs : List ℕ) (k : ℕ) (u v : Bool) → u ≡ v → SettledIs b p n prm imgs k u → SettledIs b p n prm imgs k v
+settled-as b p n prm imgs k u v q h f t θ i = sym q ∙ h f t θ i
+
 module _ (b p : List ℕ) (n : ℕ) (prm imgs : List ℕ) (k : ℕ) (a : SettledAsks b p n prm imgs k) (r : SortRecord) (e : EntryHas b p k r) where
   pub parts-ask : SettledAllAsks b p n prm imgs (r .list) (r .count)
   parts-ask =

@@ -2,7 +2,7 @@
 -- array from byte 3 on, the head first, so that its arguments stand from byte 5 on.
 use Prim.Native.Nat.{ℕ, _+_, _*_, _-_, _≤_, _<_}
 use mathlib.Core.Path.{_≡_}
-use mathlib.Core.Bool.{Bool, false, _&&_}
+use mathlib.Core.Bool.{Bool, true, false, _&&_}
 use mathlib.Core.List.{List}
 use mathlib.Core.Option.{some}
 use lib.ListN.{length}
@@ -64,6 +64,11 @@ SettledIs b p n prm imgs k r =
 abbrev pub SettledAllIs : List ℕ → List ℕ → ℕ → List ℕ → List ℕ → ℕ → ℕ → Bool → Type 0
 SettledAllIs b p n prm imgs x m r =
     (f : ℕ → Bool) → Told prm f → (θ : Map) → Images (storeOf b p n) imgs θ → r ≡ settledAll f θ (sortsAt b p n b x m)
+
+-- What is noted of the sort k: every listed name left in it is bound.
+abbrev pub SettledAt : List ℕ → List ℕ → ℕ → List ℕ → List ℕ → ℕ → Type 0
+SettledAt b p n prm imgs k =
+    (f : ℕ → Bool) → Told prm f → (θ : Map) → Images (storeOf b p n) imgs θ → settled f θ (sortAt b p n k) ≡ true
 
 ---------------------------------------------------------------- arguments at a head
 -- The m sorts of a head's Function in the store's own bytes from x on, k arguments, at most as many, and no name bound.

@@ -61,7 +61,8 @@ pub fn fit_listed(
     match found {
         Matched::Fits(k) => {
             let at = list + 2 * n;
-            if all_settled(records, places, count, params, images, at, m - n) {
+            let mut seen = [0u16; 64];
+            if all_settled(records, places, count, params, images, &mut seen, at, m - n) {
                 return Call::Settled(k);
             }
             Call::Unsettled(k)

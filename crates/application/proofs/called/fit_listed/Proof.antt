@@ -1,7 +1,9 @@
--- The arguments matched with the names listed, and what remains looked through.
+-- The arguments matched with the names listed, and what remains looked through, with nothing noted at first.
 -- Each way out is a case of the definition, for every test that the table stands for.
 use native.Mathlib.Omega.{arith}
 use borrow.Author.Needs.{needs}
+use Rattle.application.specs.NoteLaws.{table-none}
+use Rattle.application.specs.Contract.{SettledAt}
 use Rattle.application.proofs.CalledLaws.{matches-ask, settled-asks, fit-settled, fit-unsettled, fit-fails}
 use Rattle.application.proofs.called.fit_listed.Statement.{statement}
 use Rattle.application.proofs.called.fit_listed.Tie as tie
@@ -35,12 +37,17 @@ add-at c =
     let s = c .before .before .before .before .before .before .before .before .before .before .before .before .before .before .before .before in
     omega (arith, s .pre .list .within, s .pre .fewer, s .good)
 
+slice-aggregate-all-settled : tie.Need-slice-aggregate-all-settled
+slice-aggregate-all-settled c = search needs
+
 sub-all-settled : tie.Need-sub-all-settled
-sub-all-settled c = c .before .before .before .before .before .before .before .before .before .before .before .before .before .before .before .before .before .pre .fewer
+sub-all-settled c =
+    let s = c .before .before .before .before .before .before .before .before .before .before .before .before .before .before .before .before .before .before in
+    s .pre .fewer
 
 all-settled-requires : tie.Need-all-settled-requires
 all-settled-requires c κs =
-    let s = c .before .before .before .before .before .before .before .before .before .before .before .before .before .before .before .before .before in
+    let s = c .before .before .before .before .before .before .before .before .before .before .before .before .before .before .before .before .before .before in
     let a = s .args in
     let b = a .records .now in
     let p = a .places .now in
@@ -52,7 +59,7 @@ all-settled-requires c κs =
     let x = a .list in
     let m = a .m in
     let k = a .n in
-    settled-asks b p n prm g o x m d k (s .pre) (c .before .before .before .before .before .before .before .before .matches-all .last .1 .1 .1 .1 .0) (c .before .before .before .before .before .before .before .before .matches-all .last .1 .1 .1 .1 .1 .0) (c .before .before .before .before .before .before .before .before .matches-all .result) (c .before .before .before .before .before .before .before .before .matches-all .ensures) (c .before .before .found .given .0 .0) (c .before .before .found .given .1)
+    (settled-asks b p n prm g o x m d k (s .pre) (c .before .before .before .before .before .before .before .before .before .matches-all .last .1 .1 .1 .1 .0) (c .before .before .before .before .before .before .before .before .before .matches-all .last .1 .1 .1 .1 .1 .0) (c .before .before .before .before .before .before .before .before .before .matches-all .result) (c .before .before .before .before .before .before .before .before .before .matches-all .ensures) (c .before .before .before .found .given .0 .0) (c .before .before .before .found .given .1), table-none (SettledAt b p n prm (c .before .before .before .before .before .before .before .before .before .matches-all .last .1 .1 .1 .1 .0)))
 
 same-length : tie.Need-same-length
 same-length c = search needs
@@ -62,7 +69,7 @@ same-length-2 c = search needs
 
 returns : tie.Need-returns
 returns c =
-    let s = c .before .before .before .before .before .before .before .before .before .before .before .before .before .before .before .before .before .before .before in
+    let s = c .before .before .before .before .before .before .before .before .before .before .before .before .before .before .before .before .before .before .before .before .before in
     let a = s .args in
     let b = a .records .now in
     let p = a .places .now in
@@ -74,7 +81,7 @@ returns c =
     let x = a .list in
     let m = a .m in
     let k = a .n in
-    fit-settled b p n prm g o x m d k (s .pre) (c .before .before .before .before .before .before .before .before .before .before .matches-all .last .1 .1 .1 .1 .0) (c .before .before .before .before .before .before .before .before .before .before .matches-all .last .1 .1 .1 .1 .1 .0) (c .before .before .before .before .before .before .before .before .before .before .matches-all .result) (c .before .before .before .before .before .before .before .before .before .before .matches-all .ensures) (c .before .before .before .before .found .given .0 .0) (c .before .before .before .before .found .given .1) (c .before .all-settled .result) (c .before .all-settled .ensures) (c .if1 .taken)
+    fit-settled b p n prm g o x m d k (s .pre) (c .before .before .before .before .before .before .before .before .before .before .before .before .matches-all .last .1 .1 .1 .1 .0) (c .before .before .before .before .before .before .before .before .before .before .before .before .matches-all .last .1 .1 .1 .1 .1 .0) (c .before .before .before .before .before .before .before .before .before .before .before .before .matches-all .result) (c .before .before .before .before .before .before .before .before .before .before .before .before .matches-all .ensures) (c .before .before .before .before .before .before .found .given .0 .0) (c .before .before .before .before .before .before .found .given .1) (c .before .before .all-settled .result) (c .before .before .all-settled .ensures .0) (c .if1 .taken)
 
 enum-known-found-2 : tie.Need-enum-known-found-2
 enum-known-found-2 c = search needs
@@ -87,7 +94,7 @@ same-length-4 c = search needs
 
 returns-2 : tie.Need-returns-2
 returns-2 c =
-    let s = c .before .before .before .before .before .before .before .before .before .before .before .before .before .before .before .before .before .before .before in
+    let s = c .before .before .before .before .before .before .before .before .before .before .before .before .before .before .before .before .before .before .before .before .before in
     let a = s .args in
     let b = a .records .now in
     let p = a .places .now in
@@ -99,7 +106,7 @@ returns-2 c =
     let x = a .list in
     let m = a .m in
     let k = a .n in
-    fit-unsettled b p n prm g o x m d k (s .pre) (c .before .before .before .before .before .before .before .before .before .before .matches-all .last .1 .1 .1 .1 .0) (c .before .before .before .before .before .before .before .before .before .before .matches-all .last .1 .1 .1 .1 .1 .0) (c .before .before .before .before .before .before .before .before .before .before .matches-all .result) (c .before .before .before .before .before .before .before .before .before .before .matches-all .ensures) (c .before .before .before .before .found .given .0 .0) (c .before .before .before .before .found .given .1) (c .before .all-settled .result) (c .before .all-settled .ensures) (c .if1 .left)
+    fit-unsettled b p n prm g o x m d k (s .pre) (c .before .before .before .before .before .before .before .before .before .before .before .before .matches-all .last .1 .1 .1 .1 .0) (c .before .before .before .before .before .before .before .before .before .before .before .before .matches-all .last .1 .1 .1 .1 .1 .0) (c .before .before .before .before .before .before .before .before .before .before .before .before .matches-all .result) (c .before .before .before .before .before .before .before .before .before .before .before .before .matches-all .ensures) (c .before .before .before .before .before .before .found .given .0 .0) (c .before .before .before .before .before .before .found .given .1) (c .before .before .all-settled .result) (c .before .before .all-settled .ensures .0) (c .if1 .left)
 
 same-length-5 : tie.Need-same-length-5
 same-length-5 c = search needs
@@ -124,4 +131,4 @@ returns-3 c =
     fit-fails b p n prm g o x m d k (s .pre) (c .before .before .before .before .before .before .before .matches-all .last .1 .1 .1 .1 .0) (c .before .before .before .before .before .before .before .matches-all .last .1 .1 .1 .1 .1 .0) (c .before .before .before .before .before .before .before .matches-all .result) (c .before .before .before .before .before .before .before .matches-all .ensures) (c .before .found2 .given .0 .0) (c .before .found2 .given .1)
 
 pub fit-listed-spec : {M : Type 1} → statement M
-fit-listed-spec = tie.close (tie.spec matches-all-requires enum-known-found mul-at add-at sub-all-settled all-settled-requires same-length same-length-2 returns enum-known-found-2 same-length-3 same-length-4 returns-2 same-length-5 same-length-6 returns-3)
+fit-listed-spec = tie.close (tie.spec matches-all-requires enum-known-found mul-at add-at slice-aggregate-all-settled sub-all-settled all-settled-requires same-length same-length-2 returns enum-known-found-2 same-length-3 same-length-4 returns-2 same-length-5 same-length-6 returns-3)
