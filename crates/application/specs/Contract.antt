@@ -14,6 +14,7 @@ use Rattle.store.specs.Good.{Good, Sized}
 use Rattle.substitution.specs.Substitution.{Map, empty, apply}
 use Rattle.substitution.specs.Matching.{keep, matchesAll, listedIn}
 use Rattle.substitution.specs.MatchWith.{matchAllWith}
+use Rattle.substitution.specs.Premises.{parless}
 use Rattle.matching.specs.declared.Matched.{Matched}
 use Rattle.matching.specs.Tables.{Told, mapOf, Mapped, Cleared, Blank, Zeroed}
 use Rattle.matching.specs.Contract.{Usable, Refs, sortsAt, OneAsks, ListAsks, PairsAsk, countOf}
@@ -155,6 +156,10 @@ pub record ParlessAsks (b p zs : List ℕ) (n k : ℕ) : Type 0 where
 pub record ParlessAllAsks (b p zs : List ℕ) (n x m : ℕ) : Type 0 where
   pub list : ListAsks b p n b x m
   pub sized : Sized b p zs n
+
+-- What is noted of a sort: no Par stands in it.
+abbrev pub ParlessAt : List ℕ → List ℕ → ℕ → ℕ → Type 0
+ParlessAt b p n k = parless (sortAt b p n k) ≡ true
 
 -- k arguments, and as many sorts of a head's list.
 pub record ExactAsks (b p zs : List ℕ) (n x : ℕ) (a : List ℕ) (k : ℕ) : Type 0 where

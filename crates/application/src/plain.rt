@@ -1,8 +1,11 @@
 // The checked sort of an App whose head is a Function without parameters: an argument fits a sort of the head's list exactly
-// if it is that sort and no Par stands in it.
+// if it is that sort and no Par stands in it. The test for a Par notes in `seen` the sorts that it found free of one, and goes
+// down no sort that is noted there.
 use answers::Answer;
 use answers::lists::remaining;
 use answers::refuse;
+use matching::notes::is_noted;
+use matching::notes::note;
 use record::u16_at;
 use rows::Cause;
 use store::entries::entry;
@@ -10,21 +13,36 @@ ghost use mathlib.Core.Path.{_≡_};
 ghost use Rattle.record.specs.Decode.{sortAt};
 ghost use Rattle.substitution.specs.Premises.{parless, parlessAll};
 ghost use Rattle.matching.specs.Contract.{sortsAt};
-ghost use Rattle.application.specs.Contract.{ParlessAsks, ParlessAllAsks, ExactAsks, ExactIs, PlainAsks, PlainIs};
+ghost use Rattle.matching.specs.Notes.{Table};
+ghost use Rattle.application.specs.Contract.{ParlessAt, ParlessAsks, ParlessAllAsks, ExactAsks, ExactIs, PlainAsks, PlainIs};
 
 // Whether no Par stands in the sort `k`. A sort of tree size 1 has no parts, and is no Par.
-pub fn is_parless(records: &[u8], places: &[u32], sizes: &[u16], count: usize, k: usize) -> bool
-    requires { ⌜ ParlessAsks (now records) (now places) (now sizes) count k ⌝ }
-    ensures { λ r. ⌜ r ≡ parless (sortAt (now (records .entry)) (now (places .entry)) count k) ⌝ }
+pub fn is_parless(
+    records: &[u8],
+    places: &[u32],
+    sizes: &[u16],
+    count: usize,
+    seen: &mut [u16],
+    k: usize,
+) -> bool
+    requires { ⌜ ParlessAsks (now records) (now places) (now sizes) count k × Table (ParlessAt (now records) (now places) count) (now seen) ⌝ }
+    ensures { λ r. ⌜ (r ≡ parless (sortAt (now (records .entry)) (now (places .entry)) count k)) × Table (ParlessAt (now (records .entry)) (now (places .entry)) count) (now (seen .exit)) ⌝ }
 {
     if sizes[k] == 1 {
+        return true;
+    }
+    if is_noted(seen, k) {
         return true;
     }
     let a = entry(records, places, k);
     if a.kind == 12 {
         return false;
     }
-    all_parless(records, places, sizes, count, a.list, a.count)
+    if all_parless(records, places, sizes, count, seen, a.list, a.count) {
+        note(seen, k);
+        return true;
+    }
+    false
 }
 
 // Whether no Par stands in any of the `left` sorts that the store names from `at` on.
@@ -33,18 +51,19 @@ pub fn all_parless(
     places: &[u32],
     sizes: &[u16],
     count: usize,
+    seen: &mut [u16],
     at: usize,
     left: usize,
 ) -> bool
-    requires { ⌜ ParlessAllAsks (now records) (now places) (now sizes) count at left ⌝ }
-    ensures { λ r. ⌜ r ≡ parlessAll (sortsAt (now (records .entry)) (now (places .entry)) count (now (records .entry)) at left) ⌝ }
+    requires { ⌜ ParlessAllAsks (now records) (now places) (now sizes) count at left × Table (ParlessAt (now records) (now places) count) (now seen) ⌝ }
+    ensures { λ r. ⌜ (r ≡ parlessAll (sortsAt (now (records .entry)) (now (places .entry)) count (now (records .entry)) at left)) × Table (ParlessAt (now (records .entry)) (now (places .entry)) count) (now (seen .exit)) ⌝ }
 {
     if left == 0 {
         return true;
     }
     let k = u16_at(records, at);
-    if is_parless(records, places, sizes, count, k) {
-        return all_parless(records, places, sizes, count, at + 2, left - 1);
+    if is_parless(records, places, sizes, count, seen, k) {
+        return all_parless(records, places, sizes, count, seen, at + 2, left - 1);
     }
     false
 }
@@ -66,13 +85,14 @@ pub fn all_exact(
     let mut at = list;
     let mut to = 5;
     let mut left = n;
+    let mut seen = [0u16; 64];
     while 0 < left {
         let k = u16_at(records, at);
         let t = u16_at(args, to);
         if k != t {
             return false;
         }
-        if !is_parless(records, places, sizes, count, k) {
+        if !is_parless(records, places, sizes, count, &mut seen, k) {
             return false;
         }
         at += 2;
