@@ -12,7 +12,7 @@ use Rattle.matching.specs.Contract.{sortsAt}
 use Rattle.matching.specs.Entered.{entry-size, sizes-more}
 use Rattle.substitution.specs.Premises.{parless}
 use Rattle.store.specs.Walk.{entry-asks, size-pos}
-use Rattle.application.specs.NoteLaws.{table-put}
+use Rattle.matching.specs.NoteLaws.{table-put}
 use Rattle.application.specs.Contract.{ParlessAt}
 use Rattle.application.proofs.ExactLaws.{parless-none, first-asks, rest-asks, parless-more, parless-fails, parless-leaf, parts-ask, parless-par, parless-parts}
 use Prim.Native.Nat.{ℕ, _+_, _*_, _%_, _<_}

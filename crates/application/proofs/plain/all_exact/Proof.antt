@@ -4,7 +4,7 @@ use native.Mathlib.Omega.{arith}
 use borrow.Author.Needs.{needs}
 use Rattle.matching.specs.Notes.{Table}
 use Rattle.application.specs.Contract.{ParlessAt}
-use Rattle.application.specs.NoteLaws.{table-none}
+use Rattle.matching.specs.NoteLaws.{table-none}
 use Rattle.record.specs.Cases.{not-true, not-false}
 use Rattle.application.proofs.ExactLaws.{ExactScan, exact-start, exact-end, known-first, exact-differ, exact-par, exact-step}
 use Rattle.application.proofs.plain.all_exact.Statement.{statement}

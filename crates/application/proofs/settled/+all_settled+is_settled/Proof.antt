@@ -10,7 +10,7 @@ use Rattle.record.specs.Decode.{sortAt}
 use Rattle.record.specs.Cases.{positive}
 use Rattle.matching.specs.Contract.{sortsAt}
 use Rattle.matching.specs.Entered.{entry-size, sizes-more, entry-name}
-use Rattle.application.specs.NoteLaws.{table-put}
+use Rattle.matching.specs.NoteLaws.{table-put}
 use Rattle.store.specs.Walk.{entry-asks, size-pos}
 use Rattle.application.specs.Contract.{SettledIs, SettledAt}
 use Rattle.application.proofs.SettledLaws.{parts-ask, first-asks, rest-asks, settled-none, settled-more, settled-fails, settled-as, settled-other, settled-name, settled-parts}
