@@ -190,9 +190,8 @@ pub(crate) fn on_large_stack<T: Send>(run: impl FnOnce() -> T + Send) -> T {
 
 /// The bytes of stack on which every sheet can be judged and printed, with room to spare.
 ///
-/// What the library needs grows with the depth of the sorts that it goes through: 303 KiB and about 1 KiB for each level, and no sort is
-/// deeper than 4,096. The most that was measured is 4,060 KiB, for a head whose sort is 4,004 levels deep; the text of that sheet took
-/// 4,300 KiB. This is measured, not proved.
+/// What the library needs grows with the depth of the sorts that it goes through, and no sort is deeper than 4,096. The most that was
+/// measured is under 2,800 KiB, for a sort of 4,086 levels; the text of that sheet took under 3,000 KiB. This is measured, not proved.
 pub const STACK: usize = 16 << 20;
 
 /// As [`judge_into`], on the stack of the caller.
