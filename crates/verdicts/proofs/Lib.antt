@@ -1,3 +1,4 @@
 pub mod TableLaws
+pub mod PastRows
 pub mod JudgeLaws
 pub mod NamedLaws

@@ -67,6 +67,7 @@ fn cases() -> Vec<Case> {
         ("worst: 2,000 heads match and give 2,017 nodes", special::great_both()),
         ("worst: 2,000 heads match and give 1,953 distinct nodes", special::great_distinct()),
         ("worst: 2,000 heads match and give a chain of 1,000", special::great_chain()),
+        ("worst: 2,000 heads, no two Apps alike, match and give a chain of 500", special::great_unlike()),
         ("worst: 4,000 Bools, 1,900 sorts in one bucket", special::collisions(1_900, 4_000)),
         ("worst: 1 Bool, 2,047 sorts in one bucket", special::collisions(2_047, 1)),
         ("worst: 20 heads give 4,033 nodes, 2,000 sorts in one bucket", special::great_collisions(20)),

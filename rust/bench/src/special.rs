@@ -172,6 +172,35 @@ pub fn great_chain() -> Vec<u8> {
     applied(make, pattern, pattern, target)
 }
 
+/// 2,000 applications of four parametric heads to 500 arguments, no two alike, that match a chain of 500 sets and give it over what
+/// the argument has below.
+pub fn great_unlike() -> Vec<u8> {
+    const LEVELS: usize = 500;
+    let (mut make, variable, int) = begun();
+    let chains: Vec<SortId> = (0..2 * LEVELS)
+        .scan(int, |part, _| {
+            *part = make.sort(SortRecord::Set(*part));
+            Some(*part)
+        })
+        .collect();
+    let pattern = (0..LEVELS).fold(variable, |part, _| make.sort(SortRecord::Set(part)));
+    let function = make.sort(SortRecord::Function(&[pattern, pattern]));
+    let names = [PARAMETER, Name::new(2), Name::new(3), Name::new(4)];
+    let heads: Vec<TermId> = (1..=names.len())
+        .map(|count| {
+            let sort = make.sort(SortRecord::Par(&names[..count], function));
+            make.var(sort)
+        })
+        .collect();
+    let arguments: Vec<TermId> = chains[LEVELS..].iter().map(|sort| make.var(*sort)).collect();
+    for head in heads {
+        for argument in &arguments {
+            make.term(TermRecord::App(head, &[*argument]));
+        }
+    }
+    make.sheet.finish()
+}
+
 /// The bucket of the store's index in which a record stands: the low half of its hash decides.
 fn bucket(record: &[u8]) -> u32 {
     let last = record.last().map_or(0, |byte| u32::from(*byte));

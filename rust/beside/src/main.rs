@@ -96,10 +96,11 @@ fn guarded(arguments: &[String]) -> ExitCode {
 fn on_random(trial: &mut Trial, sheets: u64, seed: u64, others: usize) -> Result<(), Difference> {
     let mut random = Random::new(seed);
     for at in 0..sheets {
-        // One in 500 sheets fills the store, one in 50 has great sorts.
+        // One in 500 sheets fills the store, one in 50 has great sorts, one in 20 applications that were there before.
         let mut sheet = match at % 500 {
             0 => make::crowded(&mut random),
             by if by % 50 == 1 => make::large(&mut random),
+            by if by % 20 == 2 => make::repeated(&mut random),
             _ => make::sheet(&mut random),
         };
         if at % 500 != 0 && random.percent(33) {

@@ -143,6 +143,55 @@ pub fn large(random: &mut Random) -> Vec<u8> {
     sheet.finish()
 }
 
+/// A sheet of many applications of a few parametric heads to a few arguments, so that most were judged before on the same sheet: heads
+/// of up to seven parameter sorts, partly and wrongly applied too, and terms whose two rows differ or of which one is refused.
+pub fn repeated(random: &mut Random) -> Vec<u8> {
+    const FITS: &str = "under the limits";
+    let mut sheet = SheetWriter::new();
+    let names = [1, 2].map(Name::new);
+    let ground = [SortRecord::Int, SortRecord::Bool, SortRecord::BitVec(3), SortRecord::Type];
+    let ground = ground.map(|sort| sheet.add_sort(sort).expect(FITS));
+    let variables = names.map(|name| sheet.add_sort(SortRecord::Var(name)).expect(FITS));
+    let mut with_set = |sort: SortId| [sort, sheet.add_sort(SortRecord::Set(sort)).expect(FITS)];
+    // A parameter's sort by its number: a name or its Set, or Int; and what it is with images for the names.
+    let parameters = [with_set(variables[0]), with_set(variables[1]), [ground[0]; 2]];
+    let images = ground.map(&mut with_set);
+    let own = parameters.map(|sorts| sorts.map(|sort| sheet.add_term(TermRecord::Var(names[0], sort)).expect(FITS)));
+    let terms = images.map(|sorts| sorts.map(|sort| sheet.add_term(TermRecord::Var(names[1], sort)).expect(FITS)));
+    let mut others: Vec<TermId> = own.iter().chain(&terms).flatten().copied().collect();
+    let mut heads = Vec::new();
+    for _ in 0..2 + random.under(5) {
+        let list: Vec<[usize; 2]> = (0..1 + random.under(8)).map(|_| [random.under(3), random.under(2)]).collect();
+        let sorts: Vec<SortId> = list.iter().map(|[which, set]| parameters[*which][*set]).collect();
+        let function = sheet.add_sort(SortRecord::Function(&sorts)).expect(FITS);
+        let sort = SortRecord::Par(&names[..1 + random.under(2)], function);
+        let sort = sheet.add_sort(sort).expect(FITS);
+        heads.push((sheet.add_term(TermRecord::Var(names[0], sort)).expect(FITS), list));
+    }
+    for _ in 0..20 + random.under(300) {
+        if random.percent(6) {
+            // Inferred by the operator alone, and not checked.
+            let argument = *random.of(&others);
+            let operator = *random.of(&[Operator::SetSingleton, Operator::And, Operator::Not]);
+            others.push(sheet.add_term(TermRecord::Op(operator, &[argument])).expect(FITS));
+            continue;
+        }
+        let (head, list) = random.of(&heads).clone();
+        let chosen = [random.under(ground.len()), random.under(ground.len())];
+        let count = if random.percent(80) { list.len() - 1 } else { random.under(list.len() + 2) };
+        let arguments: Vec<TermId> = (0..count)
+            .map(|at| match list.get(at) {
+                Some([which, set]) if *which < 2 && !random.percent(8) => terms[chosen[*which]][*set],
+                Some([_, 0]) if !random.percent(8) => terms[0][0],
+                _ => *random.of(&others),
+            })
+            .collect();
+        let head = if random.percent(3) { *random.of(&others) } else { head };
+        others.push(sheet.add_term(TermRecord::App(head, &arguments)).expect(FITS));
+    }
+    sheet.finish()
+}
+
 /// A copy of a sheet with something changed.
 pub fn damaged(random: &mut Random, sheet: &[u8]) -> Vec<u8> {
     let mut copy = sheet.to_vec();

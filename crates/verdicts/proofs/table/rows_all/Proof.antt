@@ -1,155 +1,97 @@
--- The loop keeps: the first t terms have their rows, over a store that has grown.
--- At the end these are all rows.
+-- Tables without notes say the truth, whatever their length.
 use native.Mathlib.Omega.{arith}
-use Prim.Native.Nat.{_-_, _≤_}
-use mathlib.Core.Path.{sym, ap, _∙_}
-use lib.ListN.{length}
-use Rattle.verdicts.proofs.TableLaws.{Tabling, tabling-start, turn-asks, tabling-step, tabling-end}
+use borrow.Author.Needs.{needs}
+use Rattle.record.specs.Decode.{storeOf}
+use Rattle.repeats.specs.Past.{judgingApp}
+use Rattle.repeats.specs.PastLaws.{past-none}
 use Rattle.verdicts.proofs.table.rows_all.Statement.{statement}
 use Rattle.verdicts.proofs.table.rows_all.Tie as tie
 
-abbrev Inv-loop : tie.InvT-loop
-Inv-loop records₀ places₀ heads₀ next₀ sizes₀ count used params₀ images₀ bound₀ sheet table sorts starts terms rows₀ n₀ u₀ t₀ records places heads next sizes params images bound rows n u t = (t ≤ terms) × Tabling records₀ places₀ count params₀ images₀ bound₀ sheet table sorts starts rows₀ records places heads next sizes params images bound rows n u t
+slice-aggregate-rows-past : tie.Need-slice-aggregate-rows-past
+slice-aggregate-rows-past c = search needs
 
-abbrev μ-loop : tie.MeasureT-loop
-μ-loop records₀ places₀ heads₀ next₀ sizes₀ count used params₀ images₀ bound₀ sheet table sorts starts terms rows₀ n₀ u₀ t₀ records places heads next sizes params images bound rows n u t = terms - t
+slice-aggregate-rows-past-2 : tie.Need-slice-aggregate-rows-past-2
+slice-aggregate-rows-past-2 c = search needs
 
-loop-holds : tie.Need-loop-holds Inv-loop μ-loop
-loop-holds c =
-    let s = c .before .before .before .before .before .before .before .before .before .before .before .before in
+rows-past-requires : tie.Need-rows-past-requires
+rows-past-requires c κs =
+    let s = c .before .before .before .before .before .before .before .before .before .before .before .before .before .before .before .before .before .before .before .before .before .before .before .before in
     let a = s .args in
-    let b = a .records .now in
-    let p = a .places .now in
-    let hs = a .heads .now in
-    let ns = a .next .now in
-    let zs = a .sizes .now in
-    let n = a .count in
-    let u = a .used in
-    let m = a .params .now in
-    let g = a .images .now in
-    let o = a .bound .now in
-    let d = a .sheet .now in
-    let t = a .table .now in
-    let x = a .starts .now in
-    let w = a .rows .now in
-    let k = a .sorts in
-    let e = a .terms in
-    let h = s .pre in
-    (omega arith, tabling-start b p hs ns zs n u m g o d t k x e w h)
+    let st = storeOf (a .records .now) (a .places .now) (a .count) in
+    (s .pre, record { inferences = past-none (judgingApp 0) st 1; checks = past-none (judgingApp 1) st 1 })
 
-term-rows-requires : tie.Need-term-rows-requires Inv-loop μ-loop
-term-rows-requires c κs =
-    let s = c .before .before .before .before .before .before .before .before .before .before .before .before .before .before .before .before .before .before .before .before .before .before .before in
+same-length : tie.Need-same-length
+same-length c = search needs
+
+same-length-2 : tie.Need-same-length-2
+same-length-2 c = search needs
+
+same-length-3 : tie.Need-same-length-3
+same-length-3 c = search needs
+
+same-length-4 : tie.Need-same-length-4
+same-length-4 c = search needs
+
+same-length-5 : tie.Need-same-length-5
+same-length-5 c = search needs
+
+same-length-6 : tie.Need-same-length-6
+same-length-6 c = search needs
+
+same-length-7 : tie.Need-same-length-7
+same-length-7 c = search needs
+
+same-length-8 : tie.Need-same-length-8
+same-length-8 c = search needs
+
+same-length-9 : tie.Need-same-length-9
+same-length-9 c = search needs
+
+returns : tie.Need-returns
+returns c = c .before .before .before .before .before .before .before .before .before .before .before .before .before .before .before .before .before .before .before .before .rows-past .ensures .0
+
+slice-aggregate-rows-past-3 : tie.Need-slice-aggregate-rows-past-3
+slice-aggregate-rows-past-3 c = search needs
+
+slice-aggregate-rows-past-4 : tie.Need-slice-aggregate-rows-past-4
+slice-aggregate-rows-past-4 c = search needs
+
+rows-past-requires-2 : tie.Need-rows-past-requires-2
+rows-past-requires-2 c κs =
+    let s = c .before .before .before .before .before .before .before .before .before .before .before .before .before .before .before .before .before .before .before .before .before .before .before .before in
     let a = s .args in
-    let b = a .records .now in
-    let p = a .places .now in
-    let hs = a .heads .now in
-    let ns = a .next .now in
-    let zs = a .sizes .now in
-    let n = a .count in
-    let u = a .used in
-    let m = a .params .now in
-    let g = a .images .now in
-    let o = a .bound .now in
-    let d = a .sheet .now in
-    let t = a .table .now in
-    let x = a .starts .now in
-    let w = a .rows .now in
-    let k = a .sorts in
-    let e = a .terms in
-    let h = s .pre in
-    let l = c .before .before .before .before .before .before .before .before .before .before .loop in
-    let some = c .before .before .before .before .before .before .before .before .before .loop-test .taken in
-    turn-asks b p hs ns zs n u m g o d t k x e w h (l .records) (l .places) (l .heads) (l .next) (l .sizes) (l .params) (l .images) (l .bound) (l .rows) (l .n) (l .u) (l .t) (l .inv .1) some
+    let st = storeOf (a .records .now) (a .places .now) (a .count) in
+    (s .pre, record { inferences = past-none (judgingApp 0) st 2048; checks = past-none (judgingApp 1) st 2048 })
 
-add-t : tie.Need-add-t Inv-loop μ-loop
-add-t c =
-    let s = c .before .before .before .before .before .before .before .before .before .before .before .before .before .before .before .before .before .before .before .before .before .before .before .before .before .before .before .before .before .before .before .before .before .before .before .before .before .before .before .before .before .before in
-    let h = s .pre in
-    let some = c .before .before .before .before .before .before .before .before .before .before .before .before .before .before .before .before .before .before .before .before .before .before .before .before .before .before .before .before .loop-test .taken in
-    omega (arith, some, h .few)
+same-length-10 : tie.Need-same-length-10
+same-length-10 c = search needs
 
-loop-less : tie.Need-loop-less Inv-loop μ-loop
-loop-less c =
-    let some = c .before .before .before .before .before .before .before .before .before .before .before .before .before .before .before .before .before .before .before .before .before .before .before .before .before .before .before .before .loop-test .taken in
-    omega (arith, some)
+same-length-11 : tie.Need-same-length-11
+same-length-11 c = search needs
 
-loop-again : tie.Need-loop-again Inv-loop μ-loop
-loop-again c =
-    let s = c .before .before .before .before .before .before .before .before .before .before .before .before .before .before .before .before .before .before .before .before .before .before .before .before .before .before .before .before .before .before .before .before .before .before .before .before .before .before .before .before .before .before in
-    let a = s .args in
-    let b = a .records .now in
-    let p = a .places .now in
-    let hs = a .heads .now in
-    let ns = a .next .now in
-    let zs = a .sizes .now in
-    let n = a .count in
-    let u = a .used in
-    let m = a .params .now in
-    let g = a .images .now in
-    let o = a .bound .now in
-    let d = a .sheet .now in
-    let t = a .table .now in
-    let x = a .starts .now in
-    let w = a .rows .now in
-    let k = a .sorts in
-    let e = a .terms in
-    let h = s .pre in
-    let l = c .before .before .before .before .before .before .before .before .before .before .before .before .before .before .before .before .before .before .before .before .before .before .before .before .before .before .before .before .before .loop in
-    let some = c .before .before .before .before .before .before .before .before .before .before .before .before .before .before .before .before .before .before .before .before .before .before .before .before .before .before .before .before .loop-test .taken in
-    let r = c .before .before .before .before .before .before .before .before .before .before .before .before .before .before .before .before .before .before .term-rows .last in
-    (omega (arith, some), tabling-step b p hs ns zs n u m g o d t k x e w h (l .records) (l .places) (l .heads) (l .next) (l .sizes) (l .params) (l .images) (l .bound) (l .rows) (l .n) (l .u) (l .t) (l .inv .1) some (r .0) (r .1 .0) (r .1 .1 .0) (r .1 .1 .1 .0) (r .1 .1 .1 .1 .0) (r .1 .1 .1 .1 .1 .1 .1 .0) (r .1 .1 .1 .1 .1 .1 .1 .1 .0) (r .1 .1 .1 .1 .1 .1 .1 .1 .1 .0) (r .1 .1 .1 .1 .1 .1 .1 .1 .1 .1 .1 .1 .1 .1 .0) (c .before .before .before .before .before .before .before .before .before .before .before .before .before .before .before .before .before .before .term-rows .result) (c .before .before .before .before .before .before .before .before .before .before .before .before .before .before .before .before .before .before .term-rows .ensures))
+same-length-12 : tie.Need-same-length-12
+same-length-12 c = search needs
 
-same-length : tie.Need-same-length Inv-loop μ-loop
-same-length c = c .before .loop .inv .1 .long
+same-length-13 : tie.Need-same-length-13
+same-length-13 c = search needs
 
-same-length-2 : tie.Need-same-length-2 Inv-loop μ-loop
-same-length-2 c = c .before .loop .inv .1 .wide
+same-length-14 : tie.Need-same-length-14
+same-length-14 c = search needs
 
-same-length-3 : tie.Need-same-length-3 Inv-loop μ-loop
-same-length-3 c = let s = c .before .before .before .before .before .before .before .before .before .before .before .before .before .before in c .before .loop .inv .1 .good .indexed .heads ∙ sym (s .pre .good .indexed .heads)
+same-length-15 : tie.Need-same-length-15
+same-length-15 c = search needs
 
-same-length-4 : tie.Need-same-length-4 Inv-loop μ-loop
-same-length-4 c = let s = c .before .before .before .before .before .before .before .before .before .before .before .before .before .before in c .before .loop .inv .1 .good .indexed .next ∙ sym (s .pre .good .indexed .next)
+same-length-16 : tie.Need-same-length-16
+same-length-16 c = search needs
 
-same-length-5 : tie.Need-same-length-5 Inv-loop μ-loop
-same-length-5 c = let s = c .before .before .before .before .before .before .before .before .before .before .before .before .before .before in c .before .loop .inv .1 .good .sized .table ∙ sym (s .pre .good .sized .table)
+same-length-17 : tie.Need-same-length-17
+same-length-17 c = search needs
 
-same-length-6 : tie.Need-same-length-6 Inv-loop μ-loop
-same-length-6 c = ap length (c .before .loop .inv .1 .params)
+same-length-18 : tie.Need-same-length-18
+same-length-18 c = search needs
 
-same-length-7 : tie.Need-same-length-7 Inv-loop μ-loop
-same-length-7 c = ap length (c .before .loop .inv .1 .images)
-
-same-length-8 : tie.Need-same-length-8 Inv-loop μ-loop
-same-length-8 c = ap length (c .before .loop .inv .1 .bound)
-
-same-length-9 : tie.Need-same-length-9 Inv-loop μ-loop
-same-length-9 c = c .before .loop .inv .1 .lent
-
-returns : tie.Need-returns Inv-loop μ-loop
-returns c =
-    let s = c .before .before .before .before .before .before .before .before .before .before .before .before .before .before in
-    let a = s .args in
-    let b = a .records .now in
-    let p = a .places .now in
-    let hs = a .heads .now in
-    let ns = a .next .now in
-    let zs = a .sizes .now in
-    let n = a .count in
-    let u = a .used in
-    let m = a .params .now in
-    let g = a .images .now in
-    let o = a .bound .now in
-    let d = a .sheet .now in
-    let t = a .table .now in
-    let x = a .starts .now in
-    let w = a .rows .now in
-    let k = a .sorts in
-    let e = a .terms in
-    let h = s .pre in
-    let l = c .before .loop in
-    tabling-end b p hs ns zs n u m g o d t k x e w h (l .records) (l .places) (l .heads) (l .next) (l .sizes) (l .params) (l .images) (l .bound) (l .rows) (l .n) (l .u) (l .t) (l .inv .1) (omega (arith, l .inv .0, c .loop-test .left))
+returns-2 : tie.Need-returns-2
+returns-2 c = c .before .before .before .before .before .before .before .before .before .before .before .before .before .before .before .before .before .before .before .before .rows-past2 .ensures .0
 
 pub rows-all-spec : {M : Type 1} → statement M
-rows-all-spec = tie.close (tie.spec Inv-loop μ-loop loop-holds term-rows-requires add-t loop-less loop-again same-length same-length-2 same-length-3 same-length-4 same-length-5 same-length-6 same-length-7 same-length-8 same-length-9 returns)
+rows-all-spec = tie.close (tie.spec slice-aggregate-rows-past slice-aggregate-rows-past-2 rows-past-requires same-length same-length-2 same-length-3 same-length-4 same-length-5 same-length-6 same-length-7 same-length-8 same-length-9 returns slice-aggregate-rows-past-3 slice-aggregate-rows-past-4 rows-past-requires-2 same-length-10 same-length-11 same-length-12 same-length-13 same-length-14 same-length-15 same-length-16 same-length-17 same-length-18 returns-2)

@@ -10,13 +10,13 @@ use Rattle.verdicts.proofs.table.term_rows.Statement.{statement}
 use Rattle.verdicts.proofs.table.term_rows.Tie as tie
 
 mul-at : tie.Need-mul-at
-mul-at c = omega (arith, c .before .before .before .before .before .before .before .before .before .before .before .before .pre .few)
+mul-at c = omega (arith, c .before .before .before .before .before .before .before .before .before .before .before .before .before .before .pre .0 .few)
 
 shared-slice-read-at : tie.Need-shared-slice-read-at
-shared-slice-read-at c = omega (arith, c .before .before .before .before .before .before .before .before .before .before .before .before .before .pre .placed)
+shared-slice-read-at c = omega (arith, c .before .before .before .before .before .before .before .before .before .before .before .before .before .before .before .pre .0 .placed)
 
 cast-at : tie.Need-cast-at
-cast-at c = omega (arith, c .shared-slice-known4 .given (c .before .before .before .before .before .before .before .before .before .before .before .before .before .args .t))
+cast-at c = omega (arith, c .shared-slice-known4 .given (c .before .before .before .before .before .before .before .before .before .before .before .before .before .before .before .args .t))
 
 term-requires : tie.Need-term-requires
 term-requires c κs = search needs
@@ -26,7 +26,7 @@ enum-known-read c = search needs
 
 rows-of-requires : tie.Need-rows-of-requires
 rows-of-requires c κs =
-    let s = c .before .before .before .before .before .before .before .before .before .before .before .before .before .before .before .before .before .before .before .before .before .before .before .before .before .before in
+    let s = c .before .before .before .before .before .before .before .before .before .before .before .before .before .before .before .before .before .before .before .before .before .before .before .before .before .before .before .before .before .before in
     let a = s .args in
     let b = a .records .now in
     let p = a .places .now in
@@ -43,8 +43,8 @@ rows-of-requires c κs =
     let x = a .starts .now in
     let w = a .rows .now in
     let k = a .sorts in
-    let h = s .pre in
-    both-asks b p hs ns zs n u m g o d t k x w (a .t) h (c .before .before .before .before .before .before .before .before .before .before .read .given .0 .0) (c .before .before .before .before .before .before .before .before .before .before .read .given .0 .1 .0) (sym (c .before .before .before .before .before .before .before .before .before .before .before .before .term .ensures) ∙ c .before .before .before .before .before .before .before .before .before .before .read .given .1)
+    let h = s .pre .0 in
+    (both-asks b p hs ns zs n u m g o d t k x w (a .t) h (c .before .before .before .before .before .before .before .before .before .before .before .before .read .given .0 .0) (c .before .before .before .before .before .before .before .before .before .before .before .before .read .given .0 .1 .0) (sym (c .before .before .before .before .before .before .before .before .before .before .before .before .before .before .term .ensures) ∙ c .before .before .before .before .before .before .before .before .before .before .before .before .read .given .1), s .pre .1)
 
 enum-told : tie.Need-enum-told
 enum-told c = search needs
@@ -76,9 +76,15 @@ same-length-8 c = search needs
 same-length-9 : tie.Need-same-length-9
 same-length-9 c = search needs
 
+same-length-10 : tie.Need-same-length-10
+same-length-10 c = search needs
+
+same-length-11 : tie.Need-same-length-11
+same-length-11 c = search needs
+
 returns : tie.Need-returns
 returns c =
-    let s = c .before .before .before .before .before .before .before .before .before .before .before .before .before .before .before .before .before .before .before .before .before .before .before .before .before .before .before .before .before .before .before .before .before .before .before .before .before .before .before .before .before .before .before .before .before in
+    let s = c .before .before .before .before .before .before .before .before .before .before .before .before .before .before .before .before .before .before .before .before .before .before .before .before .before .before .before .before .before .before .before .before .before .before .before .before .before .before .before .before .before .before .before .before .before .before .before .before .before .before .before .before .before in
     let a = s .args in
     let b = a .records .now in
     let p = a .places .now in
@@ -95,13 +101,13 @@ returns c =
     let x = a .starts .now in
     let w = a .rows .now in
     let k = a .sorts in
-    let h = s .pre in
-    let i = c .before .before .before .before .before .before .before .before .before .before .before .before .before .before .before .before .before .before .rows-of .last in
-    turn-is b p hs ns zs n u m g o d t k x w (a .t) h (c .before .before .before .before .before .before .before .before .before .before .before .before .before .before .before .before .before .before .before .before .before .before .before .before .before .before .before .before .before .read .given .0 .0) (c .before .before .before .before .before .before .before .before .before .before .before .before .before .before .before .before .before .before .before .before .before .before .before .before .before .before .before .before .before .read .given .0 .1 .0) (sym (c .before .before .before .before .before .before .before .before .before .before .before .before .before .before .before .before .before .before .before .before .before .before .before .before .before .before .before .before .before .before .before .term .ensures) ∙ c .before .before .before .before .before .before .before .before .before .before .before .before .before .before .before .before .before .before .before .before .before .before .before .before .before .before .before .before .before .read .given .1) (i .0) (i .1 .0) (i .1 .1 .0) (i .1 .1 .1 .0) (i .1 .1 .1 .1 .0) (i .1 .1 .1 .1 .1 .1 .1 .0) (i .1 .1 .1 .1 .1 .1 .1 .1 .0) (i .1 .1 .1 .1 .1 .1 .1 .1 .1 .0) (i .1 .1 .1 .1 .1 .1 .1 .1 .1 .1 .1 .1 .1 .0) (c .before .before .before .before .before .before .before .before .before .before .before .before .before .before .before .before .before .before .rows-of .result) (c .before .before .before .before .before .before .before .before .before .before .before .before .before .before .before .before .before .before .rows-of .ensures)
+    let h = s .pre .0 in
+    let i = c .before .before .before .before .before .before .before .before .before .before .before .before .before .before .before .before .before .before .before .before .before .before .rows-of .last in
+    (turn-is b p hs ns zs n u m g o d t k x w (a .t) h (c .before .before .before .before .before .before .before .before .before .before .before .before .before .before .before .before .before .before .before .before .before .before .before .before .before .before .before .before .before .before .before .before .before .before .before .read .given .0 .0) (c .before .before .before .before .before .before .before .before .before .before .before .before .before .before .before .before .before .before .before .before .before .before .before .before .before .before .before .before .before .before .before .before .before .before .before .read .given .0 .1 .0) (sym (c .before .before .before .before .before .before .before .before .before .before .before .before .before .before .before .before .before .before .before .before .before .before .before .before .before .before .before .before .before .before .before .before .before .before .before .before .before .term .ensures) ∙ c .before .before .before .before .before .before .before .before .before .before .before .before .before .before .before .before .before .before .before .before .before .before .before .before .before .before .before .before .before .before .before .before .before .before .before .read .given .1) (i .0) (i .1 .0) (i .1 .1 .0) (i .1 .1 .1 .0) (i .1 .1 .1 .1 .0) (i .1 .1 .1 .1 .1 .1 .1 .0) (i .1 .1 .1 .1 .1 .1 .1 .1 .0) (i .1 .1 .1 .1 .1 .1 .1 .1 .1 .0) (i .1 .1 .1 .1 .1 .1 .1 .1 .1 .1 .1 .1 .1 .0) (c .before .before .before .before .before .before .before .before .before .before .before .before .before .before .before .before .before .before .before .before .before .before .rows-of .result) (c .before .before .before .before .before .before .before .before .before .before .before .before .before .before .before .before .before .before .before .before .before .before .rows-of .ensures .0), c .before .before .before .before .before .before .before .before .before .before .before .before .before .before .before .before .before .before .before .before .before .before .rows-of .ensures .1)
 
 returns-2 : tie.Need-returns-2
 returns-2 c =
-    let s = c .before .before .before .before .before .before .before .before .before .before .before .before .before .before .before .before in
+    let s = c .before .before .before .before .before .before .before .before .before .before .before .before .before .before .before .before .before .before in
     let a = s .args in
     let b = a .records .now in
     let p = a .places .now in
@@ -118,8 +124,8 @@ returns-2 c =
     let x = a .starts .now in
     let w = a .rows .now in
     let k = a .sorts in
-    let h = s .pre in
+    let h = s .pre .0 in
     absurd (term-never d k (a .t) (getD x (a .t) 0) (stands-here b p hs ns zs n u m g o d t k x w (a .t) h) (sym (c .before .before .term .ensures) ∙ c .enum-told .given .1))
 
 pub term-rows-spec : {M : Type 1} → statement M
-term-rows-spec = tie.close (tie.spec mul-at shared-slice-read-at cast-at term-requires enum-known-read rows-of-requires enum-told same-length same-length-2 same-length-3 same-length-4 same-length-5 same-length-6 same-length-7 same-length-8 same-length-9 returns returns-2)
+term-rows-spec = tie.close (tie.spec mul-at shared-slice-read-at cast-at term-requires enum-known-read rows-of-requires enum-told same-length same-length-2 same-length-3 same-length-4 same-length-5 same-length-6 same-length-7 same-length-8 same-length-9 same-length-10 same-length-11 returns returns-2)

@@ -1,0 +1,180 @@
+// Both rows of a term record. An App whose head is a Par is looked up first among those that were judged before: its verdict goes
+// by the sorts of its head and its arguments alone, so it is what an App of the same sorts was found to be.
+use answers::Answer;
+use answers::found;
+use checker::check;
+use inference::infer;
+use reader::TermRecord;
+use record::u16_at;
+use site::parts_judged;
+use slots::recalled;
+use slots::row_noted;
+use store::entries::kind_at;
+ghost use mathlib.Core.Path.{_≡_};
+ghost use Rattle.repeats.specs.Past.{HeadAsks, headIsPar, LookAsks, LookedIs, PastAsks, PastIs};
+
+pub mod slots;
+
+// Whether the row in a column of the term that the sheet names at `at` is a Par of the store.
+pub fn head_is_par(
+    records: &[u8],
+    places: &[u32],
+    count: usize,
+    sheet: &[u8],
+    at: usize,
+    rows: &[u32],
+    column: usize,
+) -> bool
+    requires { ⌜ HeadAsks (now records) (now places) count (now sheet) at (now rows) column ⌝ }
+    ensures { λ r. ⌜ r ≡ headIsPar (now (records .entry)) (now (places .entry)) count (now (sheet .entry)) at (now (rows .entry)) column ⌝ }
+{
+    let t = u16_at(sheet, at);
+    let k = rows[2 * t + column] as usize;
+    if 65536 <= k {
+        return false;
+    }
+    kind_at(records, places, k) == 12
+}
+
+// Looks an App of two to six terms whose head is a Par up in the table: two more than the number of its answer; 1 where the table
+// has no note of it, and the numbers of its sorts stand in `key` from byte 3 on then too; 0 for any other record, and where a
+// term that it names has a refused row.
+pub fn looked_up(
+    records: &[u8],
+    places: &[u32],
+    count: usize,
+    sheet: &[u8],
+    rows: &[u32],
+    column: usize,
+    term: TermRecord,
+    key: &mut [u8],
+    past: &[u8],
+) -> usize
+    requires { ⌜ LookAsks (now records) (now places) count (now sheet) (now rows) column term (now key) ⌝ }
+    ensures { λ r. ⌜ LookedIs (now (sheet .entry)) (now (rows .entry)) column term (now (key .exit)) (now (past .entry)) r ⌝ }
+{
+    let kind = term.kind;
+    let n = term.count;
+    let at = term.list;
+    if kind != 6 {
+        return 0;
+    }
+    if n < 2 {
+        return 0;
+    }
+    if 6 < n {
+        return 0;
+    }
+    if !head_is_par(records, places, count, sheet, at, rows, column) {
+        return 0;
+    }
+    if !parts_judged(sheet, rows, column, term, key) {
+        return 0;
+    }
+    recalled(past, key, n) + 1
+}
+
+// The inferred row of a record: what `past` has noted of it, or what `infer` answers, and then `past` has it. `args` is used up; the
+// tables of names come back as they were.
+pub fn inferred_row(
+    records: &mut [u8],
+    places: &mut [u32],
+    heads: &mut [u16],
+    next: &mut [u16],
+    sizes: &mut [u16],
+    count: usize,
+    used: usize,
+    params: &mut [u16],
+    images: &mut [u16],
+    bound: &mut [u16],
+    sheet: &[u8],
+    table: &[u16],
+    starts: &[u16],
+    rows: &[u32],
+    term: TermRecord,
+    args: &mut [u8],
+    past: &mut [u8],
+) -> Answer
+    requires { ⌜ PastAsks 0 (now records) (now places) (now heads) (now next) (now sizes) count used (now params) (now images) (now bound) (now sheet) (now table) (now starts) (now rows) term (now args) (now past) ⌝ }
+    ensures { λ r. ⌜ PastIs 0 (now (records .entry)) (now (places .entry)) count (now (params .entry)) (now (images .entry)) (now (bound .entry)) (now (sheet .entry)) (now (table .entry)) (now (starts .entry)) (now (rows .entry)) term (now (records .exit)) (now (places .exit)) (now (heads .exit)) (now (next .exit)) (now (sizes .exit)) (now (params .exit)) (now (images .exit)) (now (bound .exit)) r (now (past .exit)) ⌝ }
+{
+    let mut key = [0u8; 16];
+    let n = term.count;
+    let look = looked_up(records, places, count, sheet, rows, 0, term, &mut key, past);
+    if 1 < look {
+        return found(look - 2, count, used);
+    }
+    let made = infer(
+        records,
+        places,
+        heads,
+        next,
+        sizes,
+        count,
+        used,
+        params,
+        images,
+        bound,
+        sheet,
+        table,
+        starts,
+        rows,
+        term,
+        args,
+    );
+    let v = made.verdict;
+    row_noted(past, &key, n, look, v);
+    made
+}
+
+// The same of the checked row, which `check` answers.
+pub fn checked_row(
+    records: &mut [u8],
+    places: &mut [u32],
+    heads: &mut [u16],
+    next: &mut [u16],
+    sizes: &mut [u16],
+    count: usize,
+    used: usize,
+    params: &mut [u16],
+    images: &mut [u16],
+    bound: &mut [u16],
+    sheet: &[u8],
+    table: &[u16],
+    starts: &[u16],
+    rows: &[u32],
+    term: TermRecord,
+    args: &mut [u8],
+    past: &mut [u8],
+) -> Answer
+    requires { ⌜ PastAsks 1 (now records) (now places) (now heads) (now next) (now sizes) count used (now params) (now images) (now bound) (now sheet) (now table) (now starts) (now rows) term (now args) (now past) ⌝ }
+    ensures { λ r. ⌜ PastIs 1 (now (records .entry)) (now (places .entry)) count (now (params .entry)) (now (images .entry)) (now (bound .entry)) (now (sheet .entry)) (now (table .entry)) (now (starts .entry)) (now (rows .entry)) term (now (records .exit)) (now (places .exit)) (now (heads .exit)) (now (next .exit)) (now (sizes .exit)) (now (params .exit)) (now (images .exit)) (now (bound .exit)) r (now (past .exit)) ⌝ }
+{
+    let mut key = [0u8; 16];
+    let n = term.count;
+    let look = looked_up(records, places, count, sheet, rows, 1, term, &mut key, past);
+    if 1 < look {
+        return found(look - 2, count, used);
+    }
+    let made = check(
+        records,
+        places,
+        heads,
+        next,
+        sizes,
+        count,
+        used,
+        params,
+        images,
+        bound,
+        sheet,
+        table,
+        starts,
+        rows,
+        term,
+        args,
+    );
+    let v = made.verdict;
+    row_noted(past, &key, n, look, v);
+    made
+}

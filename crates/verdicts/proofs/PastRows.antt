@@ -1,0 +1,58 @@
+-- Both rows of a term over tables that note what Apps were found to be: what each row asks, and that the tables stay true.
+use Prim.Native.Nat.{ℕ, _+_, _*_, _≤_}
+use mathlib.Core.List.{List}
+use lib.ListN.{length, set}
+use mathlib.Core.Path.{_≡_}
+use Rattle.record.specs.Decode.{storeOf}
+use Rattle.reader.specs.declared.TermRecord.{TermRecord}
+use Rattle.rows.specs.Verdict.{codeOf}
+use Rattle.inferred.specs.Inferred.{inferred}
+use Rattle.checked.specs.Ranks.{smtLib}
+use Rattle.checked.specs.Checked.{checked}
+use Rattle.answers.specs.declared.Answer.{Answer}
+use Rattle.site.specs.Site.{TermIs}
+use Rattle.repeats.specs.Past.{judging, judgingApp, PastAsks, PastIs}
+use Rattle.repeats.specs.PastLaws.{past-grown}
+use Rattle.questions.specs.declared.all.Counts.{Counts}
+use Rattle.verdicts.specs.Table.{Pasts, BothAsk, BothAre}
+use Rattle.verdicts.proofs.TableLaws.{first-asks, second-asks, both-are}
+
+module _ (b p hs ns zs : List ℕ) (n u : ℕ) (prm imgs bnd s tbl xs rows : List ℕ) (r : TermRecord) (t : ℕ)
+    (h : BothAsk b p hs ns zs n u prm imgs bnd s tbl xs rows r t) (ws vs : List ℕ) (k : Pasts (storeOf b p n) ws vs) where
+  pub inferred-asks : (a : List ℕ) → 259 ≤ length a → PastAsks 0 b p hs ns zs n u prm imgs bnd s tbl xs rows r a ws
+  inferred-asks a o =
+      record { asks = first-asks b p hs ns zs n u prm imgs bnd s tbl xs rows r t h a o; past = k .inferences }
+
+  module _ (c q is ms ys prm₁ imgs₁ bnd₁ : List ℕ) (v : Answer) (ws′ : List ℕ)
+      (f : PastIs 0 b p n prm imgs bnd s tbl xs rows r c q is ms ys prm₁ imgs₁ bnd₁ v ws′) where
+    first-row : TermIs inferred 0 b p n prm imgs bnd s tbl xs rows r c q is ms ys prm₁ imgs₁ bnd₁ v
+    unfolding judging
+    first-row = f .row
+
+    pub checked-asks : (a : List ℕ) → 259 ≤ length a → PastAsks 1 c q is ms ys (v .count) (v .used) prm₁ imgs₁ bnd₁ s tbl xs rows r a vs
+    checked-asks a o =
+        record {
+          asks = second-asks b p hs ns zs n u prm imgs bnd s tbl xs rows r t h c q is ms ys prm₁ imgs₁ bnd₁ v first-row a o;
+          past = past-grown (judgingApp 1) (storeOf b p n) (storeOf c q (v .count)) vs (f .row .answer .starts) (k .checks);
+        }
+
+    module _ (b′ p′ hs′ ns′ zs′ prm′ imgs′ bnd′ : List ℕ) (w : Answer) (vs′ : List ℕ)
+        (g : PastIs 1 c q (v .count) prm₁ imgs₁ bnd₁ s tbl xs rows r b′ p′ hs′ ns′ zs′ prm′ imgs′ bnd′ w vs′)
+        (x y : ℕ) (ex : x ≡ codeOf (v .verdict)) (ey : y ≡ codeOf (w .verdict)) where
+      second-row : TermIs (checked smtLib) 1 c q (v .count) prm₁ imgs₁ bnd₁ s tbl xs rows r b′ p′ hs′ ns′ zs′ prm′ imgs′ bnd′ w
+      unfolding judging
+      second-row = g .row
+
+      abbrev after : Counts
+      after = record { count = w .count; used = w .used }
+
+      pub rows-written : BothAre b p n prm imgs bnd s tbl xs rows r t b′ p′ hs′ ns′ zs′ prm′ imgs′ bnd′ (set (set rows (2 * t) x) (2 * t + 1) y) after
+      rows-written =
+          both-are b p hs ns zs n u prm imgs bnd s tbl xs rows r t h c q is ms ys prm₁ imgs₁ bnd₁ v first-row b′ p′ hs′ ns′ zs′ prm′ imgs′ bnd′ w second-row x y ex ey
+
+      pub pasts-after : Pasts (storeOf b′ p′ (w .count)) ws′ vs′
+      pasts-after =
+          record {
+            inferences = past-grown (judgingApp 0) (storeOf c q (v .count)) (storeOf b′ p′ (w .count)) ws′ (g .row .answer .starts) (f .past);
+            checks = g .past;
+          }
