@@ -1,6 +1,7 @@
 // A judged sheet printed to standard output: whole lines are gathered in a buffer that holds the longest one, and written
 // piece by piece.
-use libc::STDOUT_FILENO;
+mod written;
+
 use printout::Shown;
 use printout::kinds::question_kinds;
 use printout::lines::refusal_line;
@@ -8,16 +9,24 @@ use printout::whole::show_lines;
 use reader::Refusal;
 use verdicts::Outcome;
 use verdicts::refusal_number;
+pub use written::Written;
+use written::nothing_written;
+use written::write_lines;
+use written::write_refusal;
+ghost use Rattle.judged.specs.Judged.{refused, judged};
+ghost use Rattle.printout.specs.Printed.{programLengths};
 ghost use Rattle.text.specs.Text.{PrintAsks};
-ghost use Rattle.printing.specs.Print.{LinesAsk};
+ghost use Rattle.printing.specs.Print.{LinesAsk, PrintedIs};
 
 // A buffer of zeros that holds the longest line.
 fn line_buffer() -> [u8; 3735560] {
     [0; 3735560]
 }
 
-// Writes the lines of a judged sheet by way of a buffer that holds the longest line; false where a write failed.
+// Writes the lines of an accepted sheet, judged into these buffers, by way of a buffer that holds the longest line. All lines are
+// written; or a write failed, nothing was handed over after it, and the lines before it are written.
 fn print_lines(
+    sheet: &[u8],
     records: &[u8],
     places: &[u32],
     rows: &[u32],
@@ -26,10 +35,12 @@ fn print_lines(
     terms: usize,
     questions: usize,
     out: &mut [u8],
-) -> bool
-    requires { ⌜ LinesAsk (now records) (now places) (now rows) (now kinds) (now answers) terms questions (now out) ⌝ }
+) -> Written
+    requires { ⌜ LinesAsk (now sheet) (now records) (now places) (now rows) (now kinds) (now answers) terms questions (now out) ⌝ }
+    ensures { λ r. ⌜ PrintedIs (judged (now (sheet .entry)) programLengths) r ⌝ }
 {
     let total = terms + questions;
+    let mut done = nothing_written();
     let mut k = 0;
     while k < total {
         let piece = show_lines(
@@ -44,26 +55,32 @@ fn print_lines(
             out,
         );
         let end = piece.end;
-        if !io::write_all(STDOUT_FILENO, &out[..end]) {
-            return false;
+        let next = piece.next;
+        done = write_lines(done, sheet, next, &out[..end]);
+        if done.has_failed() {
+            return done;
         }
-        k = piece.next;
+        k = next;
     }
-    true
+    done
 }
 
-// Writes the line of a sheet that is refused for this reason; false where the write failed.
-pub fn print_refusal(e: Refusal) -> bool {
+// Writes the line of a sheet that is refused for this reason. That line is written; or the write failed, and none is.
+pub fn print_refusal(e: Refusal) -> Written
+    ensures { λ r. ⌜ PrintedIs (refused e) r ⌝ }
+{
     let mut line = [0u8; 16];
     let number = refusal_number(e) as usize;
     let shown = refusal_line(number, &mut line, 0);
     match shown {
-        Shown::To(end) => io::write_all(STDOUT_FILENO, &line[..end]),
-        Shown::Full => false,
+        Shown::To(end) => write_refusal(e, &line[..end]),
+        // The line fits: this is never come to.
+        Shown::Full => nothing_written(),
     }
 }
 
-// Writes the printout of a sheet that was judged with this outcome into these buffers; false where a write failed.
+// Writes the printout of a sheet that was judged with this outcome into these buffers. All its lines are written, the
+// one of a refused sheet too; or a write failed, nothing was handed over after it, and the lines before it are written.
 pub fn print_judged(
     sheet: &[u8],
     records: &[u8],
@@ -71,8 +88,9 @@ pub fn print_judged(
     rows: &[u32],
     answers: &[u32],
     outcome: Outcome,
-) -> bool
+) -> Written
     requires { ⌜ PrintAsks (now sheet) (now records) (now places) (now rows) (now answers) outcome ⌝ }
+    ensures { λ r. ⌜ PrintedIs (judged (now (sheet .entry)) programLengths) r ⌝ }
 {
     match outcome {
         Outcome::Accepted => {
@@ -80,6 +98,7 @@ pub fn print_judged(
             let totals = question_kinds(sheet, &mut kinds);
             let mut out = line_buffer();
             print_lines(
+                sheet,
                 records,
                 places,
                 rows,

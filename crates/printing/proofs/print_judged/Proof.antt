@@ -1,14 +1,14 @@
--- What an accepted judgement left can be printed, with the kinds of its questions.
--- The buffer for the lines holds the longest one.
+-- What an accepted judgement left can be printed, with the kinds of its questions, and the buffer for the lines holds the longest one.
+-- A refused judgement has the one line of its refusal.
 use native.Mathlib.Omega.{arith}
 use borrow.Author.Needs.{needs}
-use mathlib.Core.Path.{subst}
+use mathlib.Core.Path.{sym, subst, _∙_}
 use lib.ListN.{replicate}
 use Rattle.verdicts.specs.declared.Outcome.{Outcome}
 use Rattle.printout.specs.Printed.{programLengths}
 use Rattle.verdicts.specs.Judge.{JudgeIs}
 use Rattle.text.specs.LeftLaws.{left}
-use Rattle.printing.specs.PrintLaws.{room-all, print-asks}
+use Rattle.printing.specs.PrintLaws.{room-all, print-asks, printed-refused}
 use Rattle.printing.proofs.print_judged.Statement.{statement}
 use Rattle.printing.proofs.print_judged.Tie as tie
 
@@ -55,7 +55,11 @@ returns : tie.Need-returns
 returns c = search needs
 
 returns-2 : tie.Need-returns-2
-returns-2 c = search needs
+returns-2 c =
+    let s = c .before .before .before .before .before .before .before .before .before in
+    let a = s .args in
+    let x = a .sheet .now in
+    printed-refused x programLengths (c .before .before .outcome .given .0 .0) (c .print-refusal .result) (sym (c .before .before .outcome .given .1) ∙ s .pre .outcome) (c .print-refusal .ensures)
 
 pub print-judged-spec : {M : Type 1} → statement M
 print-judged-spec = tie.close (tie.spec enum-told slice-aggregate-question-kinds question-kinds-requires line-buffer-requires slice-aggregate-print-lines slice-aggregate-print-lines-2 print-lines-requires enum-known-outcome print-refusal-requires returns returns-2)

@@ -1,13 +1,16 @@
 -- A refusal has at most two digits, so its line fits the buffer.
--- What is written is the line.
+-- What is written is that line.
 use native.Mathlib.Omega.{arith}
 use borrow.Author.Needs.{needs}
-use mathlib.Core.Path.{sym, subst}
-use lib.ListN.{replicate}
+use Prim.Native.Nat.{ℕ}
+use mathlib.Core.Path.{sym, ap, subst, _∙_}
+use lib.ListN.{length, replicate}
 use lib.Seq.{length-take-le}
 use Rattle.printout.specs.Lines.{refusalLine}
 use Rattle.printout.specs.Wrote.{ShownIs, wrote-long}
+use Rattle.text.specs.NewlineLaws.{wrote-first}
 use Rattle.text.specs.TextLaws.{refusal-small}
+use Rattle.printing.specs.PrintLaws.{refusal-fits}
 use Rattle.printing.proofs.print_refusal.Statement.{statement}
 use Rattle.printing.proofs.print_refusal.Tie as tie
 
@@ -30,27 +33,33 @@ enum-known-shown c = search needs
 
 array-share-prefix-line : tie.Need-array-share-prefix-line
 array-share-prefix-line c =
-    let s = c .before .before .before .before .before .before .before in
     let w = subst (ShownIs (replicate 16 0) 0 (refusalLine (c .before .before .before .before .before .before .refusal-number .result)) (c .before .before .before .before .refusal-line .last .1 .0)) (c .before .shown .given .1) (c .before .before .before .before .refusal-line .ensures) in
     omega (arith, w .next, w .fits)
 
-slice-aggregate-write-all : tie.Need-slice-aggregate-write-all
-slice-aggregate-write-all c =
-    let s = c .before .before .before .before .before .before .before .before in
+slice-aggregate-write-refusal : tie.Need-slice-aggregate-write-refusal
+slice-aggregate-write-refusal c =
     let w = subst (ShownIs (replicate 16 0) 0 (refusalLine (c .before .before .before .before .before .before .before .refusal-number .result)) (c .before .before .before .before .before .refusal-line .last .1 .0)) (c .before .before .shown .given .1) (c .before .before .before .before .before .refusal-line .ensures) in
     sym (length-take-le (c .before .before .shown .given .0 .0) (c .before .before .before .before .before .refusal-line .last .1 .0) (omega (arith, w .next, w .fits, wrote-long w)))
 
-write-all-requires : tie.Need-write-all-requires
-write-all-requires c κs = search needs
+write-refusal-requires : tie.Need-write-refusal-requires
+write-refusal-requires c κs =
+    let w = subst (ShownIs (replicate 16 0) 0 (refusalLine (c .before .before .before .before .before .before .before .refusal-number .result)) (c .before .before .before .before .before .refusal-line .last .1 .0)) (c .before .before .shown .given .1) (c .before .before .before .before .before .refusal-line .ensures) in
+    wrote-first (replicate 16 0) (refusalLine (c .before .before .before .before .before .before .before .refusal-number .result)) (c .before .before .before .before .before .refusal-line .last .1 .0) (c .before .before .shown .given .0 .0) w ∙ ap refusalLine (c .before .before .before .before .before .before .before .refusal-number .ensures)
 
 enum-told : tie.Need-enum-told
 enum-told c = search needs
+
+nothing-written-requires : tie.Need-nothing-written-requires
+nothing-written-requires c κs = search needs
 
 returns : tie.Need-returns
 returns c = search needs
 
 returns-2 : tie.Need-returns-2
-returns-2 c = search needs
+returns-2 c =
+    let s = c .before .before .before .before .before .before .before in
+    let w = subst (ShownIs (replicate 16 0) 0 (refusalLine (c .before .before .before .before .before .before .refusal-number .result)) (c .before .before .before .before .refusal-line .last .1 .0)) (c .before .enum-told .given .1) (c .before .before .before .before .refusal-line .ensures) in
+    absurd (refusal-fits (s .args .e) (omega (arith, w .1, ap (λ (n : ℕ). length (refusalLine n)) (c .before .before .before .before .before .before .refusal-number .ensures))))
 
 pub print-refusal-spec : {M : Type 1} → statement M
-print-refusal-spec = tie.close (tie.spec refusal-number-requires cast-number slice-aggregate-refusal-line refusal-line-requires enum-known-shown array-share-prefix-line slice-aggregate-write-all write-all-requires enum-told returns returns-2)
+print-refusal-spec = tie.close (tie.spec refusal-number-requires cast-number slice-aggregate-refusal-line refusal-line-requires enum-known-shown array-share-prefix-line slice-aggregate-write-refusal write-refusal-requires enum-told nothing-written-requires returns returns-2)

@@ -1,0 +1,28 @@
+-- The line of a refusal is the first of its printout, and the only one.
+-- So with its write all is printed, or that write failed.
+use borrow.Author.Needs.{needs}
+use mathlib.Core.Path.{sym, subst}
+use Rattle.printing.specs.declared.written.Written.{Written}
+use Rattle.printing.specs.Print.{HandAsks, WentOn}
+use Rattle.printing.specs.PrintLaws.{refusal-asks, refusal-printed}
+use Rattle.printing.proofs.written.write_refusal.Statement.{statement}
+use Rattle.printing.proofs.written.write_refusal.Tie as tie
+
+nothing-written-requires : tie.Need-nothing-written-requires
+nothing-written-requires c κs = search needs
+
+hand-requires : tie.Need-hand-requires
+hand-requires c κs =
+    let s = c .before .before in
+    let a = s .args in
+    let x = a .text .now in
+    subst (λ (w : Written). HandAsks w 1 x) (sym (c .nothing-written .ensures)) (refusal-asks (a .e) x (s .pre))
+
+returns : tie.Need-returns
+returns c =
+    let a = c .before .before .before .args in
+    let r = c .hand .result in
+    refusal-printed (a .e) r (subst (λ (w : Written). WentOn w 1 r) (c .before .nothing-written .ensures) (c .hand .ensures))
+
+pub write-refusal-spec : {M : Type 1} → statement M
+write-refusal-spec = tie.close (tie.spec nothing-written-requires hand-requires returns)
