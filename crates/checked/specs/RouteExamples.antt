@@ -1,8 +1,8 @@
--- Why each premise of the two routes is there: terms that the premise rules out, and for which the routes differ.
+-- Why each premise of the two routes on trees is there: terms that the premise rules out, and for which the routes differ.
 use mathlib.Core.Path.{_≡_, refl}
 use mathlib.Core.Bool.{false}
 use mathlib.Core.List.{[], _∷_}
-use Rattle.record.specs.Sort.{Sort, var, par, end, _then_, function, bool, int, bitvec, type}
+use Rattle.record.specs.Sort.{Sort, var, par, end, _then_, function, bool, int, bitvec, paramBitVec, type}
 use Rattle.substitution.specs.Substitution.{empty, bind}
 use Rattle.substitution.specs.Premises.{properMap}
 use Rattle.rows.specs.declared.Cause.the-variants.{Below, Misfit}
@@ -50,10 +50,14 @@ pub captured-replaced : check smtLib (replace (bind 2 (var 1) empty) captured) �
 unfolding check replace
 captured-replaced = refl
 
--- Without "replacements hold no parametric, unknown-width, zero-width or Type sort": Equals of two 'n1 is Bool; n1 to Type, or to a
--- vector of width 0, is refused with 28 at the variables, so with 20 here.
+-- Without "replacements hold no parametric, unknown-width, zero-width or Type sort": Equals of two 'n1 is Bool; n1 to Type, to a vector
+-- of width 0 or of unknown width is refused with 28 at the variables, so with 20 here; n1 to (par (n2) (-> 'n2 'n2)), which a variable
+-- may have, is refused with 26, since an argument is then a Par.
 abbrev pub equality : Term
 equality = term 7 0 7 bool (variable (var 1) also variable (var 1) also stop) [] [] stop
+
+abbrev pub parametric : Sort
+parametric = par (2 ∷ []) (function (var 2 then var 2 then end))
 
 pub equality-checked : check smtLib equality ≡ sort bool
 unfolding check smtLib
@@ -67,6 +71,14 @@ pub empty-counts : properMap (bind 1 (bitvec 0) empty) ≡ false
 unfolding properMap
 empty-counts = refl
 
+pub unknown-counts : properMap (bind 1 paramBitVec empty) ≡ false
+unfolding properMap
+unknown-counts = refl
+
+pub parametric-counts : properMap (bind 1 parametric empty) ≡ false
+unfolding properMap
+parametric-counts = refl
+
 pub equality-type : check smtLib (replace (bind 1 type empty) equality) ≡ refused Below
 unfolding check replace
 equality-type = refl
@@ -74,3 +86,11 @@ equality-type = refl
 pub equality-empty : check smtLib (replace (bind 1 (bitvec 0) empty) equality) ≡ refused Below
 unfolding check replace
 equality-empty = refl
+
+pub equality-unknown : check smtLib (replace (bind 1 paramBitVec empty) equality) ≡ refused Below
+unfolding check replace
+equality-unknown = refl
+
+pub equality-parametric : check smtLib (replace (bind 1 parametric empty) equality) ≡ refused Misfit
+unfolding check replace smtLib
+equality-parametric = refl
