@@ -29,7 +29,7 @@ use Rattle.questions.specs.All.{AllAsks, AllIs, stands-asks, trees-starts, answ
 use Rattle.questions.specs.declared.all.Counts.{Counts}
 use Rattle.verdicts.specs.declared.Outcome.{Outcome}
 use Rattle.verdicts.specs.declared.Outcome.the-variants.{Accepted, Refused}
-use Rattle.verdicts.specs.Table.{RowsAsk, RowsAre}
+use Rattle.tabling.specs.Table.{RowsAsk, RowsAre}
 use Rattle.verdicts.specs.Judge.{lengthsOf, outcomeOf, numberOf, Reads, ReadsBack, JudgeIs, NumberIs, ClearedAsks, AcceptedAsks, judge-number}
 
 ---------------------------------------------------------------- zeros

@@ -1,4 +1,2 @@
-pub mod TableLaws
-pub mod PastRows
 pub mod JudgeLaws
 pub mod NamedLaws

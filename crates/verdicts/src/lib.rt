@@ -1,8 +1,7 @@
 // THE ENTRY POINT: a sheet judged into four lent buffers, by the definition `judged`. Here stand the outcome, the judgement of a
 // sheet over buffers that the caller lends, and the same for callers in other languages; named.rt has the judgement over tables
-// of all names, table.rt the rows of all terms.
+// of all names.
 pub mod named;
-pub mod table;
 
 use named::judge_named;
 use named::uses_names;
@@ -12,7 +11,7 @@ use sheet::SheetRead;
 use sheet::read_sheet;
 use store::buffers::zero_bytes;
 use store::buffers::zero_words;
-use table::rows_all;
+use tabling::rows_all;
 ghost use mathlib.Core.Path.{_≡_};
 ghost use Rattle.reader.specs.Reader.{refusalNumber};
 ghost use Rattle.verdicts.specs.declared.Outcome.the-variants.{Accepted};

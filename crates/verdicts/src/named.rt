@@ -1,9 +1,9 @@
 // Sheets whose judgement may look up a name: those with a Par among their sorts, or with questions. Only these are judged over
 // tables of all names.
-use super::table::rows_all;
 use questions::all::answer_all;
 use sheet::SheetCounts;
 use store::entries::kind_at;
+use tabling::rows_all;
 ghost use Rattle.record.specs.Decode.{Stored};
 ghost use Rattle.verdicts.specs.declared.Outcome.the-variants.{Accepted};
 ghost use Rattle.verdicts.specs.Judge.{lengthsOf, JudgeIs, AcceptedAsks};

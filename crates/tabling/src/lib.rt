@@ -7,7 +7,7 @@ use reader::TermRecord;
 use repeats::checked_row;
 use repeats::inferred_row;
 ghost use Rattle.record.specs.Decode.{storeOf};
-ghost use Rattle.verdicts.specs.Table.{Pasts, BothAsk, BothAre, TurnAsks, TurnIs, RowsAsk, RowsAre};
+ghost use Rattle.tabling.specs.Table.{Pasts, BothAsk, BothAre, TurnAsks, TurnIs, RowsAsk, RowsAre};
 
 // Writes both rows of the term t with this record at 2 t: the inferred one, then the checked one over the store after it; the
 // store's count and bytes in use after them. `inferences` and `checks` note what Apps were found to be, as of each below.

@@ -6,9 +6,9 @@ use Prim.Native.Nat.{ℕ, _*_}
 use mathlib.Core.Path.{sym, ap, _∙_}
 use lib.ListN.{length, replicate, length-set, length-replicate}
 use Rattle.answers.specs.AnswerLaws.{answer-code}
-use Rattle.verdicts.proofs.PastRows.{inferred-asks, checked-asks, rows-written, pasts-after}
-use Rattle.verdicts.proofs.table.rows_of.Statement.{statement}
-use Rattle.verdicts.proofs.table.rows_of.Tie as tie
+use Rattle.tabling.proofs.PastRows.{inferred-asks, checked-asks, rows-written, pasts-after}
+use Rattle.tabling.proofs.rows_of.Statement.{statement}
+use Rattle.tabling.proofs.rows_of.Tie as tie
 
 slice-aggregate-inferred-row : tie.Need-slice-aggregate-inferred-row
 slice-aggregate-inferred-row c = search needs

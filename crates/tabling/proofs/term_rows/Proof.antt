@@ -5,9 +5,9 @@ use borrow.Author.Needs.{needs}
 use mathlib.Core.Path.{sym, _∙_}
 use lib.ListN.{getD}
 use Rattle.sheet.specs.Stands.{term-never}
-use Rattle.verdicts.proofs.TableLaws.{stands-here, both-asks, turn-is}
-use Rattle.verdicts.proofs.table.term_rows.Statement.{statement}
-use Rattle.verdicts.proofs.table.term_rows.Tie as tie
+use Rattle.tabling.proofs.TableLaws.{stands-here, both-asks, turn-is}
+use Rattle.tabling.proofs.term_rows.Statement.{statement}
+use Rattle.tabling.proofs.term_rows.Tie as tie
 
 mul-at : tie.Need-mul-at
 mul-at c = omega (arith, c .before .before .before .before .before .before .before .before .before .before .before .before .before .before .pre .0 .few)

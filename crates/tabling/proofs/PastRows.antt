@@ -14,8 +14,8 @@ use Rattle.site.specs.Site.{TermIs}
 use Rattle.repeats.specs.Past.{judging, judgingApp, PastAsks, PastIs}
 use Rattle.repeats.specs.PastLaws.{past-grown}
 use Rattle.questions.specs.declared.all.Counts.{Counts}
-use Rattle.verdicts.specs.Table.{Pasts, BothAsk, BothAre}
-use Rattle.verdicts.proofs.TableLaws.{first-asks, second-asks, both-are}
+use Rattle.tabling.specs.Table.{Pasts, BothAsk, BothAre}
+use Rattle.tabling.proofs.TableLaws.{first-asks, second-asks, both-are}
 
 module _ (b p hs ns zs : List ℕ) (n u : ℕ) (prm imgs bnd s tbl xs rows : List ℕ) (r : TermRecord) (t : ℕ)
     (h : BothAsk b p hs ns zs n u prm imgs bnd s tbl xs rows r t) (ws vs : List ℕ) (k : Pasts (storeOf b p n) ws vs) where

@@ -4,8 +4,8 @@ use borrow.Author.Needs.{needs}
 use Rattle.record.specs.Decode.{storeOf}
 use Rattle.repeats.specs.Past.{judgingApp}
 use Rattle.repeats.specs.PastLaws.{past-none}
-use Rattle.verdicts.proofs.table.rows_all.Statement.{statement}
-use Rattle.verdicts.proofs.table.rows_all.Tie as tie
+use Rattle.tabling.proofs.rows_all.Statement.{statement}
+use Rattle.tabling.proofs.rows_all.Tie as tie
 
 slice-aggregate-rows-past : tie.Need-slice-aggregate-rows-past
 slice-aggregate-rows-past c = search needs

@@ -47,7 +47,7 @@ use Rattle.site.specs.SiteLaws.{verdict-at}
 use Rattle.judged.specs.Rows.{Tabled, rowOf, rowsAdded, checkedAfter, bothRows, rowsOf}
 use Rattle.questions.specs.All.{trees-starts}
 use Rattle.questions.specs.declared.all.Counts.{Counts}
-use Rattle.verdicts.specs.Table.{tabled, Known, BothAsk, BothAre, TurnAsks, TurnIs, RowsAsk, RowsAre}
+use Rattle.tabling.specs.Table.{tabled, Known, BothAsk, BothAre, TurnAsks, TurnIs, RowsAsk, RowsAre}
 
 ---------------------------------------------------------------- rows that are read
 -- Only rows of terms before t are read: lists that agree there give the same sorts.
