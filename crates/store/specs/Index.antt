@@ -18,7 +18,7 @@ abbrev pub turned : ℕ → ℕ
 turned x = x / 32768 + x % 32768 * 131072
 
 abbrev pub lowProduct : ℕ → ℕ → ℕ → ℕ
-lowProduct l v w = (l + (v + w * 256)) * 1640531527 % 4294967296
+lowProduct l v w = (l + v + w * 256) * 1640531527 % 4294967296
 
 abbrev pub highProduct : ℕ → ℕ → ℕ
 highProduct h x = (h + x) * 1540483477 % 4294967296

@@ -49,7 +49,7 @@ pub fn hash(rec: &[u8]) -> usize
     while i + 1 < rec.len() {
         let v = rec[i] as usize;
         let w = rec[i + 1] as usize;
-        let x = (low + (v + w * 256)) * 1640531527 % 4294967296;
+        let x = (low + v + w * 256) * 1640531527 % 4294967296;
         let y = (high + x) * 1540483477 % 4294967296;
         low = x / 32768 + x % 32768 * 131072;
         high = y / 32768 + y % 32768 * 131072;

@@ -108,4 +108,4 @@ returns-2 c =
     sym (hash-end (c .before .before .before .before .args .rec .now) (l .low) (l .high) (l .i) (omega arith)) ∙ l .inv .3
 
 pub hash-spec : {M : Type 1} → statement M
-hash-spec = tie.close (tie.spec Inv-loop μ-loop returns sub-low shared-slice-read-low cast-low loop-holds add-loop shared-slice-read-v cast-v add-w shared-slice-read-w cast-w mul-x add-x add-x-2 mul-x-2 add-y mul-y mul-low add-low mul-high add-high add-i loop-less loop-again mul-result add-result returns-2)
+hash-spec = tie.close (tie.spec Inv-loop μ-loop returns sub-low shared-slice-read-low cast-low loop-holds add-loop shared-slice-read-v cast-v add-w shared-slice-read-w cast-w add-x mul-x add-x-2 mul-x-2 add-y mul-y mul-low add-low mul-high add-high add-i loop-less loop-again mul-result add-result returns-2)
