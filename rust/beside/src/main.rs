@@ -9,6 +9,9 @@
 //! - `beside record SHEETS SEED FILE LENT LENT_FILE` compares nothing: it writes so many random sheets with their printouts to a file, and so
 //!   many with lent lengths and the buffers at exit to another, both by the model and, where carcara has a say, by carcara.
 //!
+//! - `beside repeats SHEETS SEED` compares nothing either: it writes so many sheets of repeated applications with their printouts to
+//!   standard output, in the same way.
+//!
 //! The first difference ends a run, with the sheet in hexadecimal.
 
 use beside::random::Random;
@@ -18,7 +21,7 @@ use std::process::ExitCode;
 /// How the program is called.
 const USAGE: &str = "\
 beside random SHEETS SEED [OTHERS] | beside sweep | beside sheet HEX | beside guarded SHEETS SEED
-beside record SHEETS SEED FILE LENT LENT_FILE";
+beside record SHEETS SEED FILE LENT LENT_FILE | beside repeats SHEETS SEED";
 
 fn main() -> ExitCode {
     let arguments: Vec<String> = std::env::args().skip(1).collect();
@@ -26,6 +29,7 @@ fn main() -> ExitCode {
     match arguments.first().map_or("", String::as_str) {
         "record" => return record(&arguments[1..]),
         "guarded" => return guarded(&arguments[1..]),
+        "repeats" => return repeats(&arguments[1..]),
         _ => (),
     }
     let mut trial = Trial::default();
@@ -69,6 +73,22 @@ fn record(arguments: &[String]) -> ExitCode {
             print!("{written}");
             ExitCode::SUCCESS
         }
+        Err(difference) => {
+            println!("a difference:\n{difference}");
+            ExitCode::FAILURE
+        }
+    }
+}
+
+/// Writes sheets of repeated applications with their printouts.
+fn repeats(arguments: &[String]) -> ExitCode {
+    let number = |at: usize| arguments.get(at).and_then(|text| text.parse::<u64>().ok());
+    let (Some(Ok(sheets)), Some(seed)) = (number(0).map(usize::try_from), number(1)) else {
+        eprintln!("{USAGE}");
+        return ExitCode::FAILURE;
+    };
+    match oracle::on_stack(|| beside::record::repeated(&mut std::io::stdout(), sheets, seed)) {
+        Ok(()) => ExitCode::SUCCESS,
         Err(difference) => {
             println!("a difference:\n{difference}");
             ExitCode::FAILURE

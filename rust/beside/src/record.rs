@@ -23,6 +23,21 @@ const MOST_LENT: [usize; 4] = [400, 64, 128, 64];
 /// The program's buffers: bytes of records, places, rows, answers.
 const PROGRAM: [usize; 4] = [Lent::PROGRAM.records, Lent::PROGRAM.places, Lent::PROGRAM.rows, Lent::PROGRAM.answers];
 
+/// Writes so many sheets of repeated applications with their printouts, on each of which oracle and model agree.
+pub fn repeated(out: &mut impl Write, count: usize, seed: u64) -> io::Result<()> {
+    let mut random = Random::new(seed);
+    let mut counts = Counts::default();
+    for _ in 0..count {
+        let sheet = make::repeated(&mut random);
+        counts.compare(&sheet, None)?;
+        if let Some(difference) = counts.differences.pop() {
+            return Err(io::Error::other(difference));
+        }
+        vectors::printout(out, &sheet)?;
+    }
+    Ok(())
+}
+
 /// Makes the sheets that are written.
 pub struct Recorder {
     random: Random,
