@@ -50,7 +50,7 @@ module _ (b p c q : List ℕ) (n m : ℕ) (l : List ℕ) (starts : Starts (store
       }
 
 -- A rule for every entry of a table holds after one is written by the rule.
-table-set : (Q : ℕ → ℕ → Type 0) (ws : List ℕ) (k v : ℕ) → ((j : ℕ) → Q j (getD ws j 0)) → Q k v → (j : ℕ) → Q j (getD (set ws k v) j 0)
+pub table-set : (Q : ℕ → ℕ → Type 0) (ws : List ℕ) (k v : ℕ) → ((j : ℕ) → Q j (getD ws j 0)) → Q k v → (j : ℕ) → Q j (getD (set ws k v) j 0)
 table-set Q [] k v all one j = all j
 table-set Q (a ∷ ws) zero v all one zero = one
 table-set Q (a ∷ ws) zero v all one (suc j) = all (suc j)

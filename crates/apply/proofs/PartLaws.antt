@@ -5,15 +5,14 @@ use mathlib.Core.Path.{_≡_, refl, sym, ap, ap₂, subst, _∙_}
 use mathlib.Core.Bool.{true, false}
 use mathlib.Core.List.{List, [], _∷_}
 use native.Mathlib.Omega.{arith}
-use native.Mathlib.Numerals.{add-one}
-use lib.ListN.{length, getD, set, take, drop, length-set, drop-of-length-le}
-use lib.Seq.{getD-take, getD-set-same, getD-set-other, drop-cons}
+use lib.ListN.{length, getD, set, take, drop, length-set}
+use lib.Seq.{getD-take, getD-set-same, getD-set-other}
 use Rattle.record.specs.Number.{numbersAt}
 use Rattle.record.specs.Sort.{Sort, Sorts, count, size, sizes, kindOf, partsOf}
 use Rattle.record.specs.Record.{Fields, leaf, sortsOf}
 use Rattle.record.specs.Store.{memb, intern, internAll, indexOf, indicesOf, room}
 use Rattle.record.specs.Decode.{Below, storeOf, sortAt}
-use Rattle.record.specs.SortLists.{below-suc, membAll, memb-starts, index-starts, memb-intern-all, Starts, starts-self, starts-trans, starts-intern-all, room-starts}
+use Rattle.record.specs.SortLists.{below-suc, membAll, memb-starts, index-starts, memb-intern-all, Starts, starts-self, starts-intern-all, room-starts}
 use Rattle.record.specs.Entries.{store-ordered}
 use Rattle.record.specs.Whole.{store-once}
 use Rattle.record.specs.declared.SortRecord.{SortRecord}
@@ -23,13 +22,14 @@ use Rattle.store.specs.Entry.{EntryIs}
 use Rattle.substitution.specs.Substitution.{Map, apply, applyAll}
 use Rattle.apply.specs.Lists.{Numbers, numbersOf, unbound, Has, ReadAsks}
 use Rattle.apply.specs.Images.{imageNumber, imagesOf}
-use Rattle.apply.specs.Made.{Made, made-starts, made-there, made-known, made-known-sort, kept-self, kept-trans, grown-count, grown-used}
+use Rattle.apply.specs.Made.{Made, made-starts, made-there, made-known, made-known-sort, kept-self, grown-count}
 use Rattle.apply.specs.Halted.{Halted, made-over, halted-over}
 use Rattle.apply.specs.Contract.{answerAt, answersAt, SortAsks, PartsAsk, PartsMade, RebuildAsks}
 use Rattle.apply.specs.Known.{Known}
 use Rattle.apply.proofs.ListLaws.{has-length, has-own}
 use Rattle.apply.proofs.SortForms.{rebuilt, image-is, image-known, answer-rebuilt, answer-leaf, parts-one, intern-rebuilt, starts-rebuilt, sizes-within, size-refs}
 use Rattle.apply.proofs.KnownLaws.{map-same, sort-same, answer-same, table-same, known-added}
+use Rattle.apply.proofs.AlongLaws.{Along, along-asks, along-halted, along-more, along-done}
 
 -- One of several sorts is no larger than all, and its answer no larger than all answers.
 size-one-of : (st : List Sort) (vs : List ℕ) (j : ℕ) → j < length vs → size (getD st (getD vs j 0) leaf) ≤ sizes (sortsOf st vs)
@@ -92,6 +92,9 @@ module _ (b p hs ns zs : List ℕ) (n u : ℕ) (parts : Numbers) (l : List ℕ) 
   many : length (numbersOf parts) ≡ parts .count
   many = has-length parts (numbersOf parts) (a .has)
 
+  along : Along b p n u (numbersOf parts) l c q is ms ys m v j
+  along = record { good = i .good; starts = i .starts; kept = i .kept; total = i .total }
+
   module _ (h : j < parts .count) where
     old : getD (numbersOf parts) j 0 ≡ getD (parts .list) j 0
     old = getD-take (parts .count) (parts .list) j 0 h
@@ -102,6 +105,9 @@ module _ (b p hs ns zs : List ℕ) (n u : ℕ) (parts : Numbers) (l : List ℕ) 
     known : getD list j 0 < n
     known = omega (arith, here, a .below j h)
 
+    less : j < length (numbersOf parts)
+    less = omega (arith, many)
+
     answer-here : answerAt c q m l (getD list j 0) ≡ answerAt b p n l (getD (parts .list) j 0)
     answer-here = answer-same b p c q n m l (i .starts) (a .ready .table) (getD list j 0) known ∙ ap (answerAt b p n l) here
 
@@ -111,56 +117,25 @@ module _ (b p hs ns zs : List ℕ) (n u : ℕ) (parts : Numbers) (l : List ℕ) 
         sort-same b p c q n m l (i .starts) (a .ready .table) (getD list j 0) known
         ∙ ap (λ (k : ℕ). getD (storeOf b p n) k leaf) (here ∙ sym old)
 
-    answer-old : answerAt b p n l (getD (parts .list) j 0) ≡ apply (imagesOf (storeOf b p n) l) (getD (storeOf b p n) (getD (numbersOf parts) j 0) leaf)
-    unfolding sortAt
-    answer-old = ap (λ (k : ℕ). apply (imagesOf (storeOf b p n) l) (getD (storeOf b p n) k leaf)) (sym old)
-
     pub parts-asks : (2 * size (sortAt c q m (getD list j 0)) < 2 * sizes (sortsOf (storeOf b p n) (numbersOf parts)) + 1)
         × SortAsks c q is ms ys m v (getD list j 0) l
+    unfolding sortAt
     parts-asks = (
-      omega (arith, ap size sort-here, size-one-of (storeOf b p n) (numbersOf parts) j (omega (arith, many))),
-      record {
-        ready = record { good = i .good; table = table-same b p c q n m l (i .starts) (a .ready .table) };
-        known = omega (arith, known, grown-count b p hs ns zs n u (a .ready .good) c q is ms ys m v (i .good) (i .starts));
-        small =
-            omega (
-              arith,
-              ap size (answer-here ∙ answer-old),
-              answer-one-of (imagesOf (storeOf b p n) l) (storeOf b p n) (numbersOf parts) j (omega (arith, many)),
-              a .small,
-            );
-      },
+      omega (arith, ap size sort-here, size-one-of (storeOf b p n) (numbersOf parts) j less),
+      along-asks b p hs ns zs n u l (a .ready) (numbersOf parts) c q is ms ys m v j along (getD list j 0) known less (old ∙ sym here)
+          (omega (
+            arith,
+            ap (λ (k : ℕ). size (apply (imagesOf (storeOf b p n) l) (getD (storeOf b p n) k leaf))) (here ∙ sym old),
+            answer-one-of (imagesOf (storeOf b p n) l) (storeOf b p n) (numbersOf parts) j less,
+            a .small,
+          )),
     )
-
-    -- what is left is this answer, then the others
-    step : internAll (answersAt b p n l (drop j (numbersOf parts))) (storeOf c q m)
-        ≡ internAll (answersAt b p n l (drop (suc j) (numbersOf parts))) (intern (answerAt b p n l (getD (parts .list) j 0)) (storeOf c q m))
-    unfolding sortsOf applyAll internAll
-    step =
-        ap (λ (x : List ℕ). internAll (answersAt b p n l x) (storeOf c q m)) (drop-cons (numbersOf parts) j 0 (omega (arith, many)))
-        ∙ ap (λ (s : Sort). internAll (answersAt b p n l (drop (suc j) (numbersOf parts))) (intern s (storeOf c q m))) (sym answer-old)
 
     pub parts-halted : (d r js os xs : List ℕ) (m′ v′ : ℕ)
         → Halted c q m v (intern (answerAt c q m l (getD list j 0)) (storeOf c q m)) d r js os xs m′ v′
         → Halted b p n u (internAll (answersAt b p n l (numbersOf parts)) (storeOf b p n)) d r js os xs m′ v′
-    parts-halted d r js os xs m′ v′ w =
-        record {
-          good = w .good;
-          starts = starts-trans (storeOf b p n) (storeOf c q m) (storeOf d r m′) (i .starts) (w .starts);
-          full =
-              let s = answerAt b p n l (getD (parts .list) j 0) in
-              let f : room (length b) (length p) (intern s (storeOf c q m)) ≡ false =
-              sym (ap₂ (λ (x y : ℕ). room x y (intern s (storeOf c q m))) (i .kept .long) (i .kept .wide))
-              ∙ ap (λ (t : Sort). room (length c) (length q) (intern t (storeOf c q m))) (sym answer-here) ∙ w .full in
-              subst (λ (x : List Sort). room (length b) (length p) x ≡ false) (sym step ∙ i .total)
-              (room-starts (length b) (length p) (intern s (storeOf c q m))
-              (internAll (answersAt b p n l (drop (suc j) (numbersOf parts))) (intern s (storeOf c q m)))
-              (starts-intern-all (answersAt b p n l (drop (suc j) (numbersOf parts))) (intern s (storeOf c q m))) f);
-          kept =
-              kept-trans b p n u c q m v d r
-              (grown-count b p hs ns zs n u (a .ready .good) c q is ms ys m v (i .good) (i .starts))
-              (grown-used b p hs ns zs n u (a .ready .good) c q is ms ys m v (i .good) (i .starts)) (i .kept) (w .kept);
-        }
+    parts-halted =
+        along-halted b p hs ns zs n u l (a .ready) (numbersOf parts) c q is ms ys m v j along (getD list j 0) known less (old ∙ sym here)
 
     module _ (d r js os xs : List ℕ) (k m′ v′ : ℕ) (w : Made c q m v (answerAt c q m l (getD list j 0)) d r js os xs k m′ v′) where
       grows : Starts (storeOf c q m) (storeOf d r m′)
@@ -184,25 +159,23 @@ module _ (b p hs ns zs : List ℕ) (n u : ℕ) (parts : Numbers) (l : List ℕ) 
           (store-once d r m′ (w .good .stored) (w .good .distinct)) grows (i .there x o)))
           (getD-set-same list j k 0 (omega (arith, i .long, a .has .few)) ∙ w .number ∙ ap (λ (s : Sort). indexOf s (storeOf d r m′)) answer-here)
 
+      onward : Along b p n u (numbersOf parts) l d r js os xs m′ v′ (j + 1)
+      onward =
+          along-more b p hs ns zs n u l (a .ready) (numbersOf parts) c q is ms ys m v j along (getD list j 0) known less (old ∙ sym here)
+          d r js os xs k m′ v′ w
+
       pub parts-more : PartsInv b p n u parts l d r js os xs (set list j k) m′ v′ (j + 1)
       parts-more =
           record {
             low = omega arith;
             good = w .good;
-            starts = starts-trans (storeOf b p n) (storeOf c q m) (storeOf d r m′) (i .starts) grows;
-            kept =
-                kept-trans b p n u c q m v d r
-                (grown-count b p hs ns zs n u (a .ready .good) c q is ms ys m v (i .good) (i .starts))
-                (grown-used b p hs ns zs n u (a .ready .good) c q is ms ys m v (i .good) (i .starts)) (i .kept) (w .kept);
+            starts = onward .starts;
+            kept = onward .kept;
             long = length-set list j k ∙ i .long;
             rest = λ x o. getD-set-other list j x k 0 (λ z. omega arith) ∙ i .rest x (omega arith);
             there = λ x o. now-there x (omega arith);
             number = λ x o. now-number x (omega arith);
-            total =
-                ap (λ (y : ℕ). internAll (answersAt b p n l (drop y (numbersOf parts))) (storeOf d r m′)) (add-one j)
-                ∙ ap (internAll (answersAt b p n l (drop (suc j) (numbersOf parts))))
-                (w .added ∙ ap (λ (s : Sort). intern s (storeOf c q m)) answer-here)
-                ∙ sym step ∙ i .total;
+            total = onward .total;
           }
 
   pub parts-done : parts .count ≤ j → PartsMade b p n u (answersAt b p n l (numbersOf parts)) c q is ms ys (record { list = list; count = parts .count }) m v
@@ -210,9 +183,7 @@ module _ (b p hs ns zs : List ℕ) (n u : ℕ) (parts : Numbers) (l : List ℕ) 
   parts-done h =
       record {
         good = i .good;
-        added =
-            sym (ap (λ (x : List ℕ). internAll (answersAt b p n l x) (storeOf c q m)) (drop-of-length-le (numbersOf parts) {i = j} (omega (arith, many))))
-            ∙ i .total;
+        added = along-done b p hs ns zs n u l (a .ready) (numbersOf parts) c q is ms ys m v j along (omega (arith, many));
         has =
             record {
               long = i .long;

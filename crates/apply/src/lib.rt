@@ -1,5 +1,6 @@
 // Substitution in the store that it reads from: the sort of an entry with its names replaced by a table of images.
 pub mod build;
+pub mod deep;
 pub mod function;
 pub mod lists;
 pub mod tables;

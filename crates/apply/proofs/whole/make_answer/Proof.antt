@@ -40,11 +40,11 @@ returns c =
     let d = c .before .before .before .before .before .before .before .before .before .before .before .apply-sort .last in
     known-replaced (a .records .now) (a .places .now) (a .count) (a .used) (a .k) (a .images .now) (d .0) (d .1 .0) (d .1 .1 .0) (d .1 .1 .1 .0) (d .1 .1 .1 .1 .0) (d .1 .1 .1 .1 .1 .0) (c .before .before .before .before .before .before .before .before .before .before .before .apply-sort .result) (c .before .before .before .before .before .before .before .before .before .before .before .apply-sort .ensures)
 
-slice-aggregate-apply-sort-2 : tie.Need-slice-aggregate-apply-sort-2
-slice-aggregate-apply-sort-2 c = search needs
+slice-aggregate-apply-deep : tie.Need-slice-aggregate-apply-deep
+slice-aggregate-apply-deep c = search needs
 
-apply-sort-requires-2 : tie.Need-apply-sort-requires-2
-apply-sort-requires-2 c κs =
+apply-deep-requires : tie.Need-apply-deep-requires
+apply-deep-requires c κs =
     let s = c .before .before .before .before .before .before .before .before .before .before .before .before .before .before .before in
     let a = s .args in
     let b = a .records .now in let p = a .places .now in let l = a .images .now in
@@ -69,8 +69,8 @@ returns-2 : tie.Need-returns-2
 returns-2 c =
     let s = c .before .before .before .before .before .before .before .before .before .before .before .before .before .before .before .before .before .before .before .before .before .before .before .before .before .before .before in
     let a = s .args in
-    let d = c .before .before .before .before .before .before .before .before .before .before .before .apply-sort2 .last in
-    known-replaced (a .records .now) (a .places .now) (a .count) (a .used) (a .k) (a .images .now) (d .0) (d .1 .0) (d .1 .1 .0) (d .1 .1 .1 .0) (d .1 .1 .1 .1 .0) (d .1 .1 .1 .1 .1 .0) (c .before .before .before .before .before .before .before .before .before .before .before .apply-sort2 .result) (c .before .before .before .before .before .before .before .before .before .before .before .apply-sort2 .ensures)
+    let d = c .before .before .before .before .before .before .before .before .before .before .before .apply-deep .last in
+    known-replaced (a .records .now) (a .places .now) (a .count) (a .used) (a .k) (a .images .now) (d .0) (d .1 .0) (d .1 .1 .0) (d .1 .1 .1 .0) (d .1 .1 .1 .1 .0) (d .1 .1 .1 .1 .1 .0) (c .before .before .before .before .before .before .before .before .before .before .before .apply-deep .result) (c .before .before .before .before .before .before .before .before .before .before .before .apply-deep .ensures)
 
 pub make-answer-spec : {M : Type 1} → statement M
-make-answer-spec = tie.close (tie.spec size-at-requires slice-aggregate-apply-sort apply-sort-requires same-length same-length-2 same-length-3 same-length-4 same-length-5 returns slice-aggregate-apply-sort-2 apply-sort-requires-2 same-length-6 same-length-7 same-length-8 same-length-9 same-length-10 returns-2)
+make-answer-spec = tie.close (tie.spec size-at-requires slice-aggregate-apply-sort apply-sort-requires same-length same-length-2 same-length-3 same-length-4 same-length-5 returns slice-aggregate-apply-deep apply-deep-requires same-length-6 same-length-7 same-length-8 same-length-9 same-length-10 returns-2)
