@@ -1,4 +1,6 @@
 // The program: a sheet from standard input, judged, and its printout on standard output. No logic of its own.
+use input::Input;
+use input::read_input;
 use libc::STDIN_FILENO;
 use printing::Written;
 use printing::print_judged;
@@ -22,17 +24,48 @@ fn run(sheet: &[u8]) -> Written
     print_judged(sheet, &records, &places, &rows, &answers, outcome)
 }
 
-// Reads the sheet, and one byte more to tell a longer one, which is refused.
-fn main() {
-    let mut input = [0u8; 65536];
-    let n = io::read_full(STDIN_FILENO, &mut input);
-    if n == 65536 {
-        let mut more = [0u8; 1];
-        let left = io::read_full(STDIN_FILENO, &mut more);
-        if left != 0 {
-            print_refusal(Refusal::Length);
-            return;
-        }
+// Tells of a write that failed, in a line on standard error; nothing where none did.
+fn tell(written: Written) {
+    if written.has_failed() {
+        os::fail(b"napsilo: standard output");
     }
-    run(&input[..n]);
+}
+
+// Tells of a read that failed, in a line on standard error.
+fn tell_unread() {
+    os::fail(b"napsilo: standard input");
+}
+
+// Prints what the sheet gives that filled the buffer; where a byte more follows it is longer than any sheet, and refused. A read
+// that failed says neither: it is told, and nothing is printed.
+fn finish(sheet: &[u8]) {
+    let mut more = [0u8; 1];
+    let behind = read_input(STDIN_FILENO, &mut more);
+    match behind {
+        Input::Bytes(n) => {
+            if n == 0 {
+                tell(run(sheet));
+            } else {
+                tell(print_refusal(Refusal::Length));
+            }
+        }
+        Input::Failed => tell_unread(),
+    }
+}
+
+// Reads the sheet and prints what it gives. A read or a write that failed is told on standard error; nothing is printed of a sheet
+// that was not read to its end.
+fn main() {
+    let mut sheet = [0u8; 65536];
+    let input = read_input(STDIN_FILENO, &mut sheet);
+    match input {
+        Input::Bytes(n) => {
+            if n == 65536 {
+                finish(&sheet);
+            } else {
+                tell(run(&sheet[..n]));
+            }
+        }
+        Input::Failed => tell_unread(),
+    }
 }
