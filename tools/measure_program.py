@@ -7,36 +7,12 @@ Each sheet is made here; what it prints is thrown away after its length is count
 """
 import os
 import statistics
-import struct
 import subprocess
 import sys
 import tempfile
 import time
 
-
-def u16(v):
-    return struct.pack("<H", v)
-
-
-def items(vs):
-    return bytes([len(vs)]) + b"".join(u16(v) for v in vs)
-
-
-def sheet(sorts, terms, questions=()):
-    head = struct.pack("<3H", len(sorts), len(terms), len(questions))
-    return head + b"".join(sorts) + b"".join(terms) + b"".join(questions)
-
-
-VAR = lambda n: bytes([3, 2]) + u16(n)
-LEAF = lambda k: bytes([1, k])
-FUN = lambda *l: bytes([17, 0]) + items(l)
-PAR = lambda names, b: bytes([81, 12]) + items([b]) + items(names)
-SET = lambda r: bytes([17, 14]) + items([r])
-BV = lambda w: bytes([5, 9]) + struct.pack("<I", w)
-INTEGER = lambda v: bytes([5, 0]) + struct.pack("<I", v)
-TVAR = lambda n, s: bytes([11, 5]) + u16(n) + u16(s)
-APP = lambda *l: bytes([17, 6]) + items(l)
-OP = lambda k, *l: bytes([21, 7]) + struct.pack("<I", k) + items(l)
+from sheets import APP, BV, FUN, INTEGER, LEAF, OP, PAR, SET, TUPLE, TVAR, VAR, sheet
 
 
 def mixed(n):
@@ -104,8 +80,7 @@ def long(n):
 
 def wide(n):
     """A parametric function whose result is a tree of 4,033 nodes: each App walks it."""
-    tuple_of = lambda *l: bytes([17, 15]) + items(l)
-    sorts = [VAR(1), tuple_of(*[0] * 62), tuple_of(*[1] * 64), FUN(0, 2), PAR([1], 3)]
+    sorts = [VAR(1), TUPLE(*[0] * 62), TUPLE(*[1] * 64), FUN(0, 2), PAR([1], 3)]
     return sheet(sorts, [INTEGER(1), TVAR(2, 4)] + [APP(1, 0) for _ in range(n - 2)])
 
 

@@ -1,11 +1,11 @@
 #!/usr/bin/env python3
 """Writes the recorded sheets of crates/replay and crates/replay_lent, and what they must print, from files of vectors.
 
-usage: record_vectors.py REPOSITORY PROGRAM_VECTORS.. -- LIBRARY_VECTORS..
+usage: record_vectors.py [--more] REPOSITORY PROGRAM_VECTORS.. -- LIBRARY_VECTORS..
 
 The files have the form of program.txt and library.txt: `sheet HEX`, then the expected lines, each behind two blanks; in the
 second form `lent records R places P rows W answers A` stands before the sheet. The expected output is taken from these files
-alone, never from the programs.
+alone, never from the programs. With --more they are put behind those that are recorded already.
 """
 import struct
 import sys
@@ -41,23 +41,30 @@ def library(paths):
     return found
 
 
+def recorded(path):
+    """How many sheets stand in a file of expected output."""
+    return sum(line.startswith("# ") for line in open(path))
+
+
+def write(folder, more, sheets):
+    """Writes sheets, each with what stands before it in the file, and their expected lines behind their numbers."""
+    first = recorded(f"{folder}/stdout") if more else 0
+    with open(f"{folder}/data/sheets.bin", "ab" if more else "wb") as out:
+        for head, sheet, _ in sheets:
+            out.write(head + sheet)
+    with open(f"{folder}/stdout", "a" if more else "w") as out:
+        for k, (_, _, lines) in enumerate(sheets):
+            out.write("".join(f"{line}\n" for line in [f"# {first + k}"] + lines))
+
+
 def main():
-    repository = sys.argv[1]
-    cut = sys.argv.index("--")
-    sheets = program(sys.argv[2:cut])
-    lents = library(sys.argv[cut + 1 :])
-    with open(f"{repository}/crates/replay/data/sheets.bin", "wb") as out:
-        for sheet, _ in sheets:
-            out.write(struct.pack("<I", len(sheet)) + sheet)
-    with open(f"{repository}/crates/replay/stdout", "w") as out:
-        for k, (_, lines) in enumerate(sheets):
-            out.write("".join(f"{line}\n" for line in [f"# {k}"] + lines))
-    with open(f"{repository}/crates/replay_lent/data/sheets.bin", "wb") as out:
-        for lent, sheet, _ in lents:
-            out.write(struct.pack("<5H", *lent, len(sheet)) + sheet)
-    with open(f"{repository}/crates/replay_lent/stdout", "w") as out:
-        for k, (_, _, lines) in enumerate(lents):
-            out.write("".join(f"{line}\n" for line in [f"# {k}"] + lines))
+    more = sys.argv[1] == "--more"
+    repository, *paths = sys.argv[1 + more :]
+    cut = paths.index("--")
+    sheets = [(struct.pack("<I", len(sheet)), sheet, lines) for sheet, lines in program(paths[:cut])]
+    lents = [(struct.pack("<5H", *lent, len(sheet)), sheet, lines) for lent, sheet, lines in library(paths[cut + 1 :])]
+    write(f"{repository}/crates/replay", more, sheets)
+    write(f"{repository}/crates/replay_lent", more, lents)
     print(f"{len(sheets)} sheets, {len(lents)} with lent lengths")
 
 

@@ -26,7 +26,7 @@ use beside::Trial;
 use beside::random::Random;
 use families::FAMILIES;
 use measure::{Spread, in_turn};
-use napsilo::{Lent, judge_on_this_stack};
+use napsilo::{Lent, judge_into};
 use pool::Decoded;
 use special::Asked;
 use std::hint::black_box;
@@ -89,7 +89,7 @@ fn library(case: &Case) -> Side<'_> {
     Box::new(move || {
         let start = Instant::now();
         for sheet in &case.sheets {
-            let said = judge_on_this_stack(black_box(sheet), &mut records, &mut places, &mut rows, &mut answers);
+            let said = judge_into(black_box(sheet), &mut records, &mut places, &mut rows, &mut answers);
             assert_eq!(said, Ok(()));
             black_box((&records, &places, &rows, &answers));
         }

@@ -7,7 +7,7 @@
 use crate::random::Random;
 use crate::{Difference, differ, lengths};
 use compare::random::{Source, lent, sheet};
-use napsilo::{Lent, Refusal, judge_on_this_stack, print_on_this_stack};
+use napsilo::{Lent, Refusal, judge_into, print_into};
 
 /// The entries of a guard.
 const GUARD: usize = 16;
@@ -45,7 +45,7 @@ impl Buffers {
         }
         let guard = self.guard;
         let [places, rows, answers] = self.words.each_mut().map(|buffer| inside(buffer, guard));
-        let said = judge_on_this_stack(sheet, inside(&mut self.records, guard), places, rows, answers);
+        let said = judge_into(sheet, inside(&mut self.records, guard), places, rows, answers);
         said.err().map_or(0, Refusal::number)
     }
 
@@ -79,7 +79,7 @@ pub fn piece(lines: &[&str], from: usize, length: usize) -> (String, usize) {
 /// Whether a piece of a sheet's text, into a buffer with a guard, is this, and the rest of the buffer and the guard are as they were.
 fn text_holds(sheet: &[u8], from: usize, length: usize, guard: usize, expected: &str) -> bool {
     let mut out = vec![Buffers::BYTE; length + 2 * guard].into_boxed_slice();
-    let end = print_on_this_stack(sheet, from, &mut out[guard..guard + length]);
+    let end = print_into(sheet, from, &mut out[guard..guard + length]);
     let (before, rest) = out.split_at(guard);
     end == expected.len()
         && rest.starts_with(expected.as_bytes())

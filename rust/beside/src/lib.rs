@@ -14,7 +14,7 @@ pub mod make;
 pub mod random;
 pub mod record;
 
-use napsilo::{Answer, Judged, Lent, Refusal, Row, judge_on_this_stack, judge_with, print, print_on_this_stack};
+use napsilo::{Answer, Judged, Lent, Refusal, Row, judge_into, judge_with, print, print_into};
 use random::Random;
 use std::fmt::Write;
 
@@ -98,7 +98,7 @@ impl Trial {
         let mut records = vec![0xa7; lent.records];
         let [mut places, mut rows, mut answers] =
             [lent.places, lent.rows, lent.answers].map(|length| vec![0xa7a7_a7a7; length]);
-        let said = judge_on_this_stack(sheet, &mut records, &mut places, &mut rows, &mut answers);
+        let said = judge_into(sheet, &mut records, &mut places, &mut rows, &mut answers);
         let number = said.err().map_or(0, Refusal::number);
         if number != u32::from(modelled.number) {
             return Err(differ(sheet, &format!("{lent:?}: library {number}, model {}", modelled.number)));
@@ -149,7 +149,7 @@ impl Trial {
     /// A piece of the text must be the lines from a number on that fit, and leave the rest of the buffer as it was; their count.
     fn piece(&mut self, sheet: &[u8], lines: &[&str], from: usize, length: usize) -> Result<usize, Difference> {
         let mut out = vec![0xa7; length];
-        let end = print_on_this_stack(sheet, from, &mut out);
+        let end = print_into(sheet, from, &mut out);
         let (expected, count) = guarded::piece(lines, from, length);
         self.pieces[usize::from(count != 0)] += 1;
         if end != expected.len() || out[..end] != *expected.as_bytes() || out[end..].iter().any(|byte| *byte != 0xa7) {

@@ -158,50 +158,11 @@ pub fn judge_with(sheet: &[u8], lent: Lent) -> Result<Judged, Refusal> {
 /// with zeros behind; a row or an answer is 65,536 times the number of its cause and the store number of its sort, and the answer to a
 /// question for compatibility is 1 or 0. If it is refused, all four are zeros.
 ///
-/// The library runs on a thread of its own with a stack of [`STACK`] bytes, since sorts that are nested deeply take more than the 2 MiB
-/// of a thread of Rust's. [`judge_on_this_stack`] runs it here.
-///
-/// # Panics
-/// If no thread can be started, or if the library gives no number of a refusal; it is proved to give none such.
-pub fn judge_into(
-    sheet: &[u8],
-    records: &mut [u8],
-    places: &mut [u32],
-    rows: &mut [u32],
-    answers: &mut [u32],
-) -> Result<(), Refusal> {
-    on_large_stack(|| judge_on_this_stack(sheet, records, places, rows, answers))
-}
-
-/// Runs a function on a thread of its own with a stack of [`STACK`] bytes.
-///
-/// # Panics
-/// If no thread can be started, or if the function panics.
-pub(crate) fn on_large_stack<T: Send>(run: impl FnOnce() -> T + Send) -> T {
-    std::thread::scope(|scope| {
-        let builder = std::thread::Builder::new().stack_size(STACK);
-        let thread = builder.spawn_scoped(scope, run);
-        match thread.expect("a thread can be started").join() {
-            Ok(said) => said,
-            Err(panic) => std::panic::resume_unwind(panic),
-        }
-    })
-}
-
-/// The bytes of stack on which every sheet can be judged and printed, with room to spare.
-///
-/// What the library needs grows with the depth of the sorts that it goes through, and no sort is deeper than 4,096. The most that was
-/// measured is under 2,800 KiB, for a sort of 4,086 levels; the text of that sheet took under 3,000 KiB. This is measured, not proved.
-pub const STACK: usize = 16 << 20;
-
-/// As [`judge_into`], on the stack of the caller.
-///
-/// If a sheet's sorts are nested too deeply for what is left of the stack, the process ends, as at every overflow of a stack in Rust. With
-/// [`STACK`] bytes left that does not happen.
+/// The library runs on the stack of the caller, of which [`STACK`] bytes must be left.
 ///
 /// # Panics
 /// If the library gives no number of a refusal; it is proved to give none such.
-pub fn judge_on_this_stack(
+pub fn judge_into(
     sheet: &[u8],
     records: &mut [u8],
     places: &mut [u32],
@@ -213,6 +174,14 @@ pub fn judge_on_this_stack(
         number => Err(Refusal::from_number(number).expect("the library gives 0 or a refusal")),
     }
 }
+
+/// The bytes of stack on which every sheet can be judged and printed: a thread of Rust's has 2 MiB, and the first one mostly 8.
+///
+/// What the library needs grows with the depth of the sorts that it goes through, and no sort is deeper than 4,096. How deep each walk goes
+/// and what a level takes, as compiled, is in docs/DECISIONS.md; the most that was measured is in docs/PERFORMANCE.md, and the tests run
+/// the deepest sheets on a thread of this size. It is measured, not proved. With less stack than this left the process may end, as at
+/// every overflow of a stack in Rust.
+pub const STACK: usize = 1792 << 10;
 
 /// Reads what the library wrote for an accepted sheet; nothing if it is no store, no row or no answer.
 fn decode(sheet: &[u8], records: &[u8], places: &[u32], rows: &[u32], answers: &[u32]) -> Option<Judged> {

@@ -53,7 +53,8 @@
 //! - [`SheetWriter`] builds a sheet. It refuses exactly what the library's reader would refuse for a count, a length, a number, a name or
 //!   a reference ([`WriteError`]).
 //! - [`judge`], [`judge_with`] and [`judge_into`] call the library: with the program's buffers, with buffers of other lengths, into
-//!   buffers of the caller's; on a thread with a stack that is large enough ([`STACK`]). A sheet is [`Judged`] or refused ([`Refusal`], 1 to 10); a row is a [`Sort`] or refused ([`Cause`], 20 to 29).
+//!   buffers of the caller's. A sheet is [`Judged`] or refused ([`Refusal`], 1 to 10); a row is a [`Sort`] or refused ([`Cause`], 20 to 29).
+//!   They run on the caller's stack; [`STACK`] bytes are enough for every sheet.
 //! - [`print()`] gives the text that the program prints for a sheet, and [`print_into`] a piece of it; both by the library.
 //!   [`Sort`] has the same text for one sort.
 //!
@@ -81,12 +82,12 @@ mod sort;
 mod text;
 mod writer;
 
-pub use judged::{Answer, Judged, Lent, QuestionKind, Row, STACK, judge, judge_into, judge_on_this_stack, judge_with};
+pub use judged::{Answer, Judged, Lent, QuestionKind, Row, STACK, judge, judge_into, judge_with};
 pub use name::{Name, Names};
 pub use operators::{Binder, Operator, ParamOperator, QualifiedOperator};
 pub use refusal::{Cause, Refusal};
 pub use sort::Sort;
-pub use text::{LINE_BUFFER, print, print_into, print_on_this_stack};
+pub use text::{LINE_BUFFER, print, print_into};
 pub use writer::{
     GREATEST_WIDTH, LONGEST_LIST, MOST_BYTES, MOST_QUESTIONS, MOST_SORTS, MOST_TERMS, QuestionId, QuestionRecord,
     SheetWriter, SortId, SortRecord, TermId, TermRecord, WriteError,

@@ -1,7 +1,6 @@
 //! The printout, by the library.
 
 use crate::ffi;
-use crate::judged::on_large_stack;
 
 /// The length of a buffer that holds every line of a printout: a piece for it has a line at least, if one is left.
 pub const LINE_BUFFER: usize = 3_735_560;
@@ -17,24 +16,21 @@ const FIRST_BUFFER: usize = 65_536;
 /// up to [`LINE_BUFFER`] bytes. There are sheets with printouts of many gigabytes; [`print_into`] gives them piece by piece.
 ///
 /// # Panics
-/// If no thread can be started (see [`print_into`]), or if the library stops before the last line; it is proved not to.
+/// If the library stops before the last line; it is proved not to.
 pub fn print(sheet: &[u8]) -> String {
-    let text = on_large_stack(|| {
-        let mut text = Vec::new();
-        let mut buffer = vec![0; FIRST_BUFFER];
-        let mut line = 0;
-        loop {
-            let end = print_on_this_stack(sheet, line, &mut buffer);
-            line += lines(&buffer[..end]);
-            text.extend_from_slice(&buffer[..end]);
-            if line == all_lines(sheet, &text) {
-                return text;
-            }
-            assert!(end != 0 || buffer.len() < LINE_BUFFER, "the library stops before the last line");
-            buffer.resize(LINE_BUFFER, 0);
+    let mut text = Vec::new();
+    let mut buffer = vec![0; FIRST_BUFFER];
+    let mut line = 0;
+    loop {
+        let end = print_into(sheet, line, &mut buffer);
+        line += lines(&buffer[..end]);
+        text.extend_from_slice(&buffer[..end]);
+        if line == all_lines(sheet, &text) {
+            return String::from_utf8(text).expect("the library writes ASCII");
         }
-    });
-    String::from_utf8(text).expect("the library writes ASCII")
+        assert!(end != 0 || buffer.len() < LINE_BUFFER, "the library stops before the last line");
+        buffer.resize(LINE_BUFFER, 0);
+    }
 }
 
 /// Writes the printout of a sheet into a lent buffer of any length, whatever it holds: its whole lines from the number `from` on, as many
@@ -43,20 +39,9 @@ pub fn print(sheet: &[u8]) -> String {
 /// The number of the next line is `from` and as many more as newlines were written: every line has one, at its end. 0 says that there is
 /// no line `from`, or that it does not fit; in a buffer of [`LINE_BUFFER`] bytes every line fits.
 ///
-/// The library judges the sheet anew at every call, with the buffers that the program lends, on a thread of its own with a stack of
-/// [`STACK`](crate::STACK) bytes. [`print_on_this_stack`] runs it here.
-///
-/// # Panics
-/// If no thread can be started.
+/// The library judges the sheet anew at every call, with the buffers that the program lends, on the stack of the caller, of which
+/// [`STACK`](crate::STACK) bytes must be left.
 pub fn print_into(sheet: &[u8], from: usize, out: &mut [u8]) -> usize {
-    on_large_stack(|| print_on_this_stack(sheet, from, out))
-}
-
-/// As [`print_into`], on the stack of the caller.
-///
-/// If a sheet's sorts are nested too deeply for what is left of the stack, the process ends, as at every overflow of a stack in Rust. With
-/// [`STACK`](crate::STACK) bytes left that does not happen.
-pub fn print_on_this_stack(sheet: &[u8], from: usize, out: &mut [u8]) -> usize {
     ffi::text(sheet, from, out)
 }
 

@@ -3,7 +3,7 @@
 mod common;
 
 use common::{bytes, hex};
-use napsilo::{Judged, Lent, Refusal, judge, judge_on_this_stack, judge_with, print, print_on_this_stack};
+use napsilo::{Judged, Lent, Refusal, judge, judge_into, judge_with, print, print_into};
 use std::fmt::Debug;
 
 /// A lent buffer between guards.
@@ -62,7 +62,7 @@ fn run(sheet: &[u8], lent: Lent, dirt: u8) -> Run {
     let mut rows = Guarded::new(lent.rows, guard, word);
     let mut answers = Guarded::new(lent.answers, guard, word);
     let own = sheet.to_vec();
-    let said = judge_on_this_stack(sheet, records.lend(), places.lend(), rows.lend(), answers.lend());
+    let said = judge_into(sheet, records.lend(), places.lend(), rows.lend(), answers.lend());
     assert_eq!(own, sheet);
     Run { said, records, places, rows, answers }
 }
@@ -164,7 +164,7 @@ fn every_small_piece() {
         for from in (0..lines.len() + 3).chain([usize::MAX]) {
             for length in 0..text.len() + 2 {
                 let mut out = Guarded::new(length, 0xd7, 0x5a);
-                let end = print_on_this_stack(&sheet, from, out.lend());
+                let end = print_into(&sheet, from, out.lend());
                 let mut expected = String::new();
                 for line in lines.iter().skip(from) {
                     if expected.len() + line.len() > length {
