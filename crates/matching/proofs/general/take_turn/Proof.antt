@@ -1,0 +1,293 @@
+-- What is to be done is done as far as it can be without another pair; each answer is a law of a turn.
+use native.Mathlib.Omega.{arith}
+use borrow.Author.Needs.{needs}
+use Prim.Native.Nat.{_-_, suc}
+use mathlib.Core.Path.{_≡_}
+use Rattle.record.specs.Cases.{positive}
+use Rattle.matching.proofs.GeneralLaws.{meet-asks, names-added}
+use Rattle.matching.proofs.WayLaws.{move-met, move-holds, move-fails, move-meets, move-under, move-past, move-empty, move-parts}
+use Rattle.matching.proofs.general.take_turn.Statement.{statement}
+use Rattle.matching.proofs.general.take_turn.Tie as tie
+
+is-met-requires : tie.Need-is-met-requires
+is-met-requires c κs =
+    let s = c .before .before .before .before .before .before .before in
+    let asks = s .pre .0 in
+    let noted = s .pre .1 in
+    record { long = noted .long; small = omega (arith, asks .pair .left, asks .pair .usable .count); target = omega (arith, asks .pair .right, asks .pair .usable .count) }
+
+same-length : tie.Need-same-length
+same-length c = search needs
+
+returns : tie.Need-returns
+returns c =
+    let s = c .before .before .before .before .before .before .before .before .before in
+    let a = s .args in
+    let b = a .records .now in
+    let p = a .places .now in
+    let n = a .count in
+    let prm = a .params .now in
+    let imgs = a .images .now in
+    let bnd = a .bound .now in
+    let m = a .m in
+    let k = a .p in
+    let j = a .t in
+    let l = a .met .now in
+    let asks = s .pre .0 in
+    let noted = s .pre .1 in
+    move-met b p n prm imgs bnd m k j asks l noted (c .before .is-met .ensures (c .if1 .taken))
+
+next-turn-requires : tie.Need-next-turn-requires
+next-turn-requires c κs =
+    let s = c .before .before .before .before .before .before .before .before .before .before in
+    let asks = s .pre .0 in
+    record { pair = asks .pair; table = asks .table }
+
+enum-told : tie.Need-enum-told
+enum-told c = search needs
+
+enum-told-2 : tie.Need-enum-told-2
+enum-told-2 c = search needs
+
+enum-known-next : tie.Need-enum-known-next
+enum-known-next c = search needs
+
+meet-with-requires : tie.Need-meet-with-requires
+meet-with-requires c κs =
+    let s = c .before .before .before .before .before .before .before .before .before .before .before .before .before .before .before .before in
+    let a = s .args in
+    let b = a .records .now in
+    let p = a .places .now in
+    let n = a .count in
+    let prm = a .params .now in
+    let imgs = a .images .now in
+    let bnd = a .bound .now in
+    let m = a .m in
+    let k = a .p in
+    let j = a .t in
+    let asks = s .pre .0 in
+    let z = c .before .before .before .before .before .next-turn in
+    meet-asks b p n prm imgs bnd m k j asks (z .result) (z .ensures) (c .before .before .before .next .given .0 .0) (c .before .before .before .next .given .1)
+
+enum-known-next-2 : tie.Need-enum-known-next-2
+enum-known-next-2 c = search needs
+
+forget-requires : tie.Need-forget-requires
+forget-requires c κs =
+    let s = c .before .before .before .before .before .before .before .before .before .before .before .before .before .before .before in
+    let noted = s .pre .1 in
+    noted .long
+
+list-names-requires : tie.Need-list-names-requires
+list-names-requires c κs =
+    let s = c .before .before .before .before .before .before .before .before .before .before .before .before .before .before .before .before .before .before .before in
+    let a = s .args in
+    let b = a .records .now in
+    let p = a .places .now in
+    let n = a .count in
+    let prm = a .params .now in
+    let imgs = a .images .now in
+    let bnd = a .bound .now in
+    let m = a .m in
+    let k = a .p in
+    let j = a .t in
+    let asks = s .pre .0 in
+    let z = c .before .before .before .before .before .before .before .before .next-turn in
+    names-added b p n prm imgs bnd m k j asks (z .result) (z .ensures) (c .before .before .before .before .before .before .next2 .given .0 .0) (c .before .before .before .before .before .before .next2 .given .0 .1 .0) (c .before .before .before .before .before .before .next2 .given .0 .1 .1 .0) (c .before .before .before .before .before .before .next2 .given .1)
+
+enum-known-next-3 : tie.Need-enum-known-next-3
+enum-known-next-3 c = search needs
+
+enum-known-next-4 : tie.Need-enum-known-next-4
+enum-known-next-4 c = search needs
+
+same-length-2 : tie.Need-same-length-2
+same-length-2 c = search needs
+
+same-length-3 : tie.Need-same-length-3
+same-length-3 c = search needs
+
+returns-2 : tie.Need-returns-2
+returns-2 c =
+    let s = c .before .before .before .before .before .before .before .before .before .before .before .before .before .before .before in
+    let a = s .args in
+    let b = a .records .now in
+    let p = a .places .now in
+    let n = a .count in
+    let prm = a .params .now in
+    let imgs = a .images .now in
+    let bnd = a .bound .now in
+    let m = a .m in
+    let k = a .p in
+    let j = a .t in
+    let l = a .met .now in
+    let asks = s .pre .0 in
+    let noted = s .pre .1 in
+    let z = c .before .before .before .before .next-turn in
+    move-empty b p n prm imgs bnd m k j asks l noted (z .result) (z .ensures) (c .before .before .next4 .given .0 .0) (c .before .before .next4 .given .0 .1 .0) (c .before .before .next4 .given .0 .1 .1 .0) (c .before .before .next4 .given .1) (c .if2 .taken)
+
+sub-t41 : tie.Need-sub-t41
+sub-t41 c =
+    positive (c .before .before .next4 .given .0 .1 .1 .0) (c .if2 .left)
+
+same-length-4 : tie.Need-same-length-4
+same-length-4 c = search needs
+
+same-length-5 : tie.Need-same-length-5
+same-length-5 c = search needs
+
+returns-3 : tie.Need-returns-3
+returns-3 c =
+    let s = c .before .before .before .before .before .before .before .before .before .before .before .before .before in
+    let a = s .args in
+    let b = a .records .now in
+    let p = a .places .now in
+    let n = a .count in
+    let prm = a .params .now in
+    let imgs = a .images .now in
+    let bnd = a .bound .now in
+    let m = a .m in
+    let k = a .p in
+    let j = a .t in
+    let l = a .met .now in
+    let asks = s .pre .0 in
+    let noted = s .pre .1 in
+    let z = c .before .before .next-turn in
+    move-holds b p n prm imgs bnd m k j asks l noted (z .result) (z .ensures) (c .enum-told .given .1)
+
+same-length-6 : tie.Need-same-length-6
+same-length-6 c = search needs
+
+same-length-7 : tie.Need-same-length-7
+same-length-7 c = search needs
+
+returns-4 : tie.Need-returns-4
+returns-4 c =
+    let s = c .before .before .before .before .before .before .before .before .before .before .before .before .before in
+    let a = s .args in
+    let b = a .records .now in
+    let p = a .places .now in
+    let n = a .count in
+    let prm = a .params .now in
+    let imgs = a .images .now in
+    let bnd = a .bound .now in
+    let m = a .m in
+    let k = a .p in
+    let j = a .t in
+    let l = a .met .now in
+    let asks = s .pre .0 in
+    let noted = s .pre .1 in
+    let z = c .before .before .next-turn in
+    move-fails b p n prm imgs bnd m k j asks l noted (z .result) (z .ensures) (c .enum-told2 .given .1)
+
+same-length-8 : tie.Need-same-length-8
+same-length-8 c = search needs
+
+same-length-9 : tie.Need-same-length-9
+same-length-9 c = search needs
+
+same-length-10 : tie.Need-same-length-10
+same-length-10 c = search needs
+
+same-length-11 : tie.Need-same-length-11
+same-length-11 c = search needs
+
+returns-5 : tie.Need-returns-5
+returns-5 c =
+    let s = c .before .before .before .before .before .before .before .before .before .before .before .before .before .before .before .before .before .before .before .before .before in
+    let a = s .args in
+    let b = a .records .now in
+    let p = a .places .now in
+    let n = a .count in
+    let prm = a .params .now in
+    let imgs = a .images .now in
+    let bnd = a .bound .now in
+    let m = a .m in
+    let k = a .p in
+    let j = a .t in
+    let l = a .met .now in
+    let asks = s .pre .0 in
+    let noted = s .pre .1 in
+    let z = c .before .before .before .before .before .before .before .before .before .before .next-turn in
+    let w = c .before .before .before .before .meet-with in
+    move-meets b p n prm imgs bnd m k j asks l noted (z .result) (z .ensures) (c .before .before .before .before .before .before .before .before .next .given .0 .0) (c .before .before .before .before .before .before .before .before .next .given .1) (w .last .1 .1 .1 .0) (w .last .1 .1 .1 .1 .0) (w .result) (w .ensures)
+
+same-length-12 : tie.Need-same-length-12
+same-length-12 c = search needs
+
+same-length-13 : tie.Need-same-length-13
+same-length-13 c = search needs
+
+returns-6 : tie.Need-returns-6
+returns-6 c =
+    let s = c .before .before .before .before .before .before .before .before .before .before .before .before .before .before .before .before .before .before .before .before .before .before in
+    let a = s .args in
+    let b = a .records .now in
+    let p = a .places .now in
+    let n = a .count in
+    let prm = a .params .now in
+    let imgs = a .images .now in
+    let bnd = a .bound .now in
+    let m = a .m in
+    let k = a .p in
+    let j = a .t in
+    let l = a .met .now in
+    let asks = s .pre .0 in
+    let noted = s .pre .1 in
+    let z = c .before .before .before .before .before .before .before .before .before .before .before .next-turn in
+    move-under b p n prm imgs bnd m k j asks l noted (z .result) (z .ensures) (c .before .before .before .before .before .before .before .before .before .next2 .given .0 .0) (c .before .before .before .before .before .before .before .before .before .next2 .given .0 .1 .0) (c .before .before .before .before .before .before .before .before .before .next2 .given .0 .1 .1 .0) (c .before .before .before .before .before .before .before .before .before .next2 .given .1) (c .before .before .list-names .last .0) (c .before .before .before .before .before .before .forget .last .0) (c .before .before .list-names .ensures) (c .before .before .before .before .before .before .forget .ensures)
+
+same-length-14 : tie.Need-same-length-14
+same-length-14 c = search needs
+
+same-length-15 : tie.Need-same-length-15
+same-length-15 c = search needs
+
+returns-7 : tie.Need-returns-7
+returns-7 c =
+    let s = c .before .before .before .before .before .before .before .before .before .before .before .before .before .before in
+    let a = s .args in
+    let b = a .records .now in
+    let p = a .places .now in
+    let n = a .count in
+    let prm = a .params .now in
+    let imgs = a .images .now in
+    let bnd = a .bound .now in
+    let m = a .m in
+    let k = a .p in
+    let j = a .t in
+    let l = a .met .now in
+    let asks = s .pre .0 in
+    let noted = s .pre .1 in
+    let z = c .before .before .before .next-turn in
+    move-past b p n prm imgs bnd m k j asks l noted (z .result) (z .ensures) (c .before .next3 .given .0 .0) (c .before .next3 .given .1)
+
+same-length-16 : tie.Need-same-length-16
+same-length-16 c = search needs
+
+same-length-17 : tie.Need-same-length-17
+same-length-17 c = search needs
+
+returns-8 : tie.Need-returns-8
+returns-8 c =
+    let s = c .before .before .before .before .before .before .before .before .before .before .before .before .before .before .before in
+    let a = s .args in
+    let b = a .records .now in
+    let p = a .places .now in
+    let n = a .count in
+    let prm = a .params .now in
+    let imgs = a .images .now in
+    let bnd = a .bound .now in
+    let m = a .m in
+    let k = a .p in
+    let j = a .t in
+    let l = a .met .now in
+    let asks = s .pre .0 in
+    let noted = s .pre .1 in
+    let z = c .before .before .before .before .next-turn in
+    let some = positive (c .before .before .next4 .given .0 .1 .1 .0) (c .if2 .left) in
+    let e : c .before .before .next4 .given .0 .1 .1 .0 ≡ suc (c .before .before .next4 .given .0 .1 .1 .0 - 1) = omega (arith, some) in
+    move-parts b p n prm imgs bnd m k j asks l noted (z .result) (z .ensures) (c .before .before .next4 .given .0 .0) (c .before .before .next4 .given .0 .1 .0) (c .before .before .next4 .given .0 .1 .1 .0) (c .before .before .next4 .given .1) (c .before .before .next4 .given .0 .1 .1 .0 - 1) e
+
+pub take-turn-spec : {M : Type 1} → statement M
+take-turn-spec = tie.close (tie.spec is-met-requires same-length returns next-turn-requires enum-told enum-told-2 enum-known-next meet-with-requires enum-known-next-2 forget-requires list-names-requires enum-known-next-3 enum-known-next-4 same-length-2 same-length-3 returns-2 sub-t41 same-length-4 same-length-5 returns-3 same-length-6 same-length-7 returns-4 same-length-8 same-length-9 same-length-10 same-length-11 returns-5 same-length-12 same-length-13 returns-6 same-length-14 same-length-15 returns-7 same-length-16 same-length-17 returns-8)
