@@ -6,6 +6,7 @@ pub mod QuestionLaws
 pub mod Judged
 pub mod JudgedLaws
 pub mod KnownLaws
+pub mod CarriedLaws
 pub mod TwoRoutes
 pub mod RoutesExample
 pub mod Examples
