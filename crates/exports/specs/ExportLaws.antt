@@ -6,6 +6,7 @@ use native.Mathlib.Omega.{arith}
 use lib.ListN.{length, take}
 use Rattle.judged.specs.Judged.{judged}
 use Rattle.printout.specs.declared.whole.Piece.{Piece}
+use Rattle.printout.specs.Lines.{lineRoom}
 use Rattle.printout.specs.Printed.{printed, programLengths}
 use Rattle.text.specs.Text.{lineCount, TextIs}
 use Rattle.text.specs.TextLaws.{text-done, text-whole}
@@ -16,8 +17,8 @@ use Rattle.exports.specs.Exports.{EndIs}
 pub end-is : (s : List ℕ) (from : ℕ) (o o′ : List ℕ) (r : Piece) → TextIs s from o o′ r → EndIs s from o o′ (r .end)
 end-is s from o o′ r a = record { line = r .next; is = a; counted = lines-counted (judged s programLengths) from o o′ r a }
 
--- WITH A BUFFER OF 3,735,560 BYTES 0 is returned exactly where no line is left.
-pub end-done : (s : List ℕ) (from : ℕ) (o o′ : List ℕ) (r : ℕ) → EndIs s from o o′ r → 3735560 ≤ length o
+-- WITH A BUFFER OF `lineRoom` BYTES 0 is returned exactly where no line is left.
+pub end-done : (s : List ℕ) (from : ℕ) (o o′ : List ℕ) (r : ℕ) → EndIs s from o o′ r → lineRoom ≤ length o
     → (r ≡ 0 → lineCount (judged s programLengths) ≤ from) × (lineCount (judged s programLengths) ≤ from → r ≡ 0)
 end-done s from o o′ r a long = text-done s from o o′ (record { next = a .line; end = r }) (a .is) long
 

@@ -5,6 +5,7 @@ use mathlib.Core.Bool.{true, false}
 use mathlib.Core.List.{List}
 use lib.ListN.{length}
 use Rattle.judged.specs.Judged.{Judgement}
+use Rattle.printout.specs.Lines.{lineRoom}
 use Rattle.printout.specs.Whole.{linesFrom}
 use Rattle.text.specs.Text.{lineCount, lineOf}
 use Rattle.text.specs.LeftLaws.{Left}
@@ -13,7 +14,7 @@ use Rattle.printing.specs.declared.written.Written.{Written}
 -- The buffers are what `judge` left of the accepted sheet s, with the kinds of its questions, and the longest line fits the buffer o.
 pub record LinesAsk (s b p rows kinds answers : List ℕ) (t q : ℕ) (o : List ℕ) : Type 0 where
   pub left : Left s b p rows kinds answers (record { terms = t; questions = q })
-  pub room : 3735560 ≤ length o
+  pub room : lineRoom ≤ length o
 
 -- Nothing is written yet.
 abbrev pub none : Written

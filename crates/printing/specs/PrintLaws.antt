@@ -14,7 +14,7 @@ use Rattle.verdicts.specs.declared.Outcome.the-variants.{Refused}
 use Rattle.verdicts.specs.Judge.{outcomeOf}
 use Rattle.printout.specs.declared.kinds.Totals.{Totals}
 use Rattle.printout.specs.declared.whole.Piece.{Piece}
-use Rattle.printout.specs.Lines.{refusalLine}
+use Rattle.printout.specs.Lines.{refusalLine, lineRoom}
 use Rattle.printout.specs.LineLaws.{refusal-line-length}
 use Rattle.printout.specs.TextLaws.{decimal-short}
 use Rattle.printout.specs.Printed.{printed, programLengths}
@@ -38,7 +38,7 @@ pub room-all : (n : ℕ) (l : List ℕ) → n ≡ length l → n ≤ length l
 room-all n l e = omega (arith, e)
 
 -- What `judge` left of an accepted sheet can be printed by way of a buffer o that holds the longest line.
-pub print-asks : (s b p w k g : List ℕ) (r : Totals) → Left s b p w k g r → (o : List ℕ) → 3735560 ≤ length o
+pub print-asks : (s b p w k g : List ℕ) (r : Totals) → Left s b p w k g r → (o : List ℕ) → lineRoom ≤ length o
     → LinesAsk s b p w k g (r .terms) (r .questions) o
 print-asks s b p w k g r l o long = record { left = l; room = long }
 

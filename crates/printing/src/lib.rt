@@ -18,9 +18,12 @@ ghost use Rattle.printout.specs.Printed.{programLengths};
 ghost use Rattle.text.specs.Text.{PrintAsks};
 ghost use Rattle.printing.specs.Print.{LinesAsk, PrintedIs};
 
+// The bytes that any line of a printout fits (`lineRoom`).
+const LINE_ROOM: usize = 1937856;
+
 // A buffer of zeros that holds the longest line.
-fn line_buffer() -> [u8; 3735560] {
-    [0; 3735560]
+fn line_buffer() -> [u8; LINE_ROOM] {
+    [0; LINE_ROOM]
 }
 
 // Writes the lines of an accepted sheet, judged into these buffers, by way of a buffer that holds the longest line. All lines are

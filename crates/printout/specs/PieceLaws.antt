@@ -91,9 +91,21 @@ frame-is f l = eqb→eq (getD frames f 0) (length (wordText f) + length (closeTe
 abbrev frame-few : ℕ → ℕ → Bool
 frame-few f x = leb x 12
 
-pub frame-short : (f : ℕ) → f < 17 → getD frames f 0 ≤ 12
+frame-short : (f : ℕ) → f < 17 → getD frames f 0 ≤ 12
 unfolding frames
 frame-short f l = leb→le (getD frames f 0) 12 (at frame-few frames tt f l)
+
+-- How many bytes stand at most between the word and the parts of a form, by the table `inners`: a name 6, a number 5. Names are not counted.
+unfoldable pub innerMosts : List ℕ
+innerMosts = 0 ∷ 6 ∷ 5 ∷ 0 ∷ []
+
+-- With them word and bracket have at most 16 bytes: `(_ BitVec 65535)`.
+abbrev frame-own : ℕ → ℕ → Bool
+frame-own f x = leb (x + getD innerMosts (getD inners f 0) 0) 16
+
+pub frame-most : (f : ℕ) → f < 17 → getD frames f 0 + getD innerMosts (getD inners f 0) 0 ≤ 16
+unfolding frames inners innerMosts
+frame-most f l = leb→le (getD frames f 0 + getD innerMosts (getD inners f 0) 0) 16 (at frame-own frames tt f l)
 
 pub pieces-length : (f a w : ℕ) (ns ts : List ℕ) → f < 17 → length (piecesText f a w ns ts) ≡ getD frames f 0 + length (innerText f a w ns) + length ts
 unfolding piecesText

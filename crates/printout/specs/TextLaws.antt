@@ -1,5 +1,5 @@
--- HOW LONG TEXTS ARE AT MOST: under 456 bytes for each node of the tree, of every sort of a well-formed store. A Par of
--- 64 names is the worst node, so a buffer of 1,867,776 bytes holds any sort.
+-- HOW LONG TEXTS ARE AT MOST, of every sort of a well-formed store: 17 bytes for each node of the tree, a blank before it counted,
+-- and 439 more for each Par of 64 names. So `sortRoom` bytes hold any sort, and `checkedRoom` one that has one Par.
 use Prim.Native.Nat.{ℕ, zero, suc, _+_, _*_, _/_, _%_, _≤_, _<_}
 use mathlib.Core.Path.{_≡_, refl, sym, ap, subst, _∙_}
 use mathlib.Core.Bool.{Bool, true, false, cond}
@@ -10,7 +10,7 @@ use lib.ListN.{length, getD, length-append}
 use lib.Dec.{eqb, ltb}
 use borrow.Author.Tests.{eqb-false, ltb-true, ltb-false}
 use Rattle.record.specs.Number.{u16At, numbersAt}
-use Rattle.record.specs.Sort.{Sort, Sorts, var, par, node, count, size, sizes}
+use Rattle.record.specs.Sort.{Sort, Sorts, var, par, node, end, _then_, count, size, sizes}
 use Rattle.record.specs.Record.{Fields, bit, leaf, sortsOf}
 use Rattle.record.specs.Store.{fieldsOf}
 use Rattle.record.specs.Decode.{listOf, namesPlace, fieldsBy, fieldsAt, storeOf, sortAt, Stored}
@@ -21,10 +21,10 @@ use Rattle.record.specs.StoreLaws.{sort-node}
 use Rattle.printout.specs.Text.{ascii, decimal, nameText, moreNames, namesText, text, texts}
 use Rattle.printout.specs.DecimalLaws.{ten, decimal-one, decimal-more}
 use Rattle.printout.specs.Pieces.{formOf, inners, innerBy, innerText}
-use Rattle.printout.specs.Lines.{rowText, answerText, termLine, questionLine}
+use Rattle.printout.specs.Lines.{rowText, answerText, termLine, questionLine, sortRoom, checkedRoom, lineRoom}
 use Rattle.printout.specs.LineAsks.{Known}
 use Rattle.printout.specs.LineLaws.{sort-by, refused-by, refusal-length}
-use Rattle.printout.specs.PieceLaws.{pieces-text, pieces-length, frame-short, form-below, form-par, names-form}
+use Rattle.printout.specs.PieceLaws.{pieces-text, pieces-length, innerMosts, frame-most, form-below, form-par, names-form}
 
 decimal-most : (i n : ℕ) → n < ten (suc i) → length (decimal n) ≤ suc i
 unfolding ten
@@ -65,13 +65,42 @@ own-names [] h s = absurd (omega arith)
 own-names (n ∷ ns) h s =
     omega (arith, name-short n (h 0), length-append (nameText n) (moreNames ns), names-short ns (λ j. h (suc j)))
 
-var-short : (a : ℕ) → a < 65536 → length (text (var a)) + 1 ≤ 456 * size (var a)
-unfolding text size
+-- How many Pars a sort has.
+unfoldable mutual
+  pub pars : Sort → ℕ
+  pars (var v) = 0
+  pars (par ns b) = 1 + pars b
+  pars (node k a w ss) = parsAll ss
+
+  pub parsAll : Sorts → ℕ
+  parsAll end = 0
+  parsAll (s then ss) = pars s + parsAll ss
+
+mutual
+  unfolding pars size
+
+  pars-size : (s : Sort) → pars s ≤ size s
+  pars-size (var v) = omega arith
+  pars-size (par ns b) = omega (arith, pars-size b)
+  pars-size (node k a w ss) = omega (arith, pars-sizes ss)
+
+  pars-sizes : (ss : Sorts) → parsAll ss ≤ sizes ss
+  pars-sizes end = omega arith
+  pars-sizes (s then ss) = omega (arith, pars-size s, pars-sizes ss)
+
+-- The bound of a text; one byte is left for the blank before it.
+abbrev Fits : Sort → Type 0
+Fits s = length (text s) + 1 ≤ 17 * size s + 439 * pars s
+
+abbrev AllFit : Sorts → Type 0
+AllFit ss = length (texts ss) ≤ 17 * sizes ss + 439 * parsAll ss
+
+var-short : (a : ℕ) → a < 65536 → Fits (var a)
+unfolding text size pars
 var-short a h = omega (arith, name-short a h)
 
-par-short : (ns : List ℕ) (s : Sort) → Small ns → 1 ≤ length ns → length ns ≤ 64 → length (text s) + 1 ≤ 456 * size s
-    → length (text (par ns s)) + 1 ≤ 456 * size (par ns s)
-unfolding text size
+par-short : (ns : List ℕ) (s : Sort) → Small ns → 1 ≤ length ns → length ns ≤ 64 → Fits s → Fits (par ns s)
+unfolding text size pars
 par-short ns s h some few t =
     omega (
       arith,
@@ -80,17 +109,16 @@ par-short ns s h some few t =
       length-append (text s) (ascii ")"),
     )
 
-inner-by : (i a w : ℕ) (ns : List ℕ) → a < 65536 → w < 65536 → (i ≡ 3 → ⊥) → length (innerBy i a w ns) ≤ 6
-unfolding innerBy
+inner-by : (i a w : ℕ) (ns : List ℕ) → a < 65536 → w < 65536 → (i ≡ 3 → ⊥) → length (innerBy i a w ns) ≤ getD innerMosts i 0
+unfolding innerBy innerMosts
 inner-by zero a w ns ha hw h = omega arith
 inner-by (suc zero) a w ns ha hw h = name-short a ha
-inner-by (suc (suc zero)) a w ns ha hw h = omega (arith, decimal-short w hw)
+inner-by (suc (suc zero)) a w ns ha hw h = decimal-short w hw
 inner-by (suc (suc (suc zero))) a w ns ha hw h = absurd (h refl)
 inner-by (suc (suc (suc (suc i)))) a w ns ha hw h = omega arith
 
-node-short : (k a w : ℕ) (ss : Sorts) → Formed (node k a w ss) → length (texts ss) ≤ 456 * sizes ss
-    → length (text (node k a w ss)) + 1 ≤ 456 * size (node k a w ss)
-unfolding size fieldsOf innerText
+node-short : (k a w : ℕ) (ss : Sorts) → Formed (node k a w ss) → AllFit ss → Fits (node k a w ss)
+unfolding size pars fieldsOf innerText
 node-short k a w ss f t =
     let form = formOf k (count ss) in
     let l = form-below k (count ss) (f .shape .known) in
@@ -100,7 +128,7 @@ node-short k a w ss f t =
       arith,
       ap length (pieces-text (node k a w ss) f),
       pieces-length form a w [] (texts ss) l,
-      frame-short form l,
+      frame-most form l,
       i,
     )
 
@@ -118,18 +146,13 @@ fields-small : (b : List ℕ) (x : ℕ) → Bytes b → Small (fieldsAt b x .nam
 unfolding fieldsAt fieldsBy
 fields-small b x h j = list-small (bit 64 (getD b x 0)) b (namesPlace (getD b x 0) b x) h j
 
--- One byte is left for the blank before it.
-abbrev Fits : Sort → Type 0
-Fits s = length (text s) + 1 ≤ 456 * size s
-
 -- The sorts of a store, one after the other: each over those before it.
 module _ (b p : List ℕ) (n : ℕ) (stored : Stored b p n) (bytes : Bytes b) where
   abbrev Short : ℕ → Type 0
   Short k = Fits (sortAt b p n k)
 
-  list-short : (l : List ℕ) → ((j : ℕ) → j < length l → Short (getD l j 0))
-      → length (texts (sortsOf (storeOf b p n) l)) ≤ 456 * sizes (sortsOf (storeOf b p n) l)
-  unfolding text size sortsOf sortAt
+  list-short : (l : List ℕ) → ((j : ℕ) → j < length l → Short (getD l j 0)) → AllFit (sortsOf (storeOf b p n) l)
+  unfolding text size pars sortsOf sortAt
   list-short [] h = omega arith
   list-short (r ∷ l) h =
       omega (
@@ -166,33 +189,40 @@ module _ (b p : List ℕ) (n : ℕ) (stored : Stored b p n) (bytes : Bytes b) wh
   short-below (suc m) k h l =
       short-by k l (λ i q. short-below m i (omega arith) (omega arith)) (which (fieldsAt b (getD p k 0) .kind))
 
-  pub text-short : (k : ℕ) → k < n → length (text (sortAt b p n k)) + 1 ≤ 456 * size (sortAt b p n k)
+  text-short : (k : ℕ) → k < n → Fits (sortAt b p n k)
   text-short k l = short-below (suc k) k (omega arith) l
 
-  -- Within document 01's limit a sort's text fits 1,867,775 bytes, and so does every row;
-  pub text-fits : (k : ℕ) → k < n → size (sortAt b p n k) ≤ 4096 → length (text (sortAt b p n k)) < 1867776
-  text-fits k l small = omega (arith, text-short k l)
+  -- So a text fits within document 01's limit of a sort's tree, and so does a row.
+  pub text-fits : (k : ℕ) → k < n → size (sortAt b p n k) ≤ 4096 → length (text (sortAt b p n k)) < sortRoom
+  text-fits k l small = omega (arith, text-short k l, pars-size (sortAt b p n k))
 
-  pub row-fits : (code : ℕ) → code < 4294967296 → Known n code → (code < 65536 → size (sortAt b p n code) ≤ 4096)
-      → length (rowText (storeOf b p n) code) < 1867776
-  row-fits code u32 known small = go (ltb code 65536) refl
+  text-fits-one : (k : ℕ) → k < n → size (sortAt b p n k) ≤ 4096 → pars (sortAt b p n k) ≤ 1 → length (text (sortAt b p n k)) < checkedRoom
+  text-fits-one k l small one = omega (arith, text-short k l)
+
+  row-by : (m code : ℕ) → code < 4294967296 → 7 ≤ m → (code < 65536 → length (text (sortAt b p n code)) < m) → length (rowText (storeOf b p n) code) < m
+  row-by m code u32 some h = go (ltb code 65536) refl
     where
-      go : (t : Bool) → ltb code 65536 ≡ t → length (rowText (storeOf b p n) code) < 1867776
-      go true e =
-          let h = ltb-true code 65536 e in
-          omega (arith, ap length (sort-by b p n code h), text-fits code (known h) (small h))
+      go : (t : Bool) → ltb code 65536 ≡ t → length (rowText (storeOf b p n) code) < m
+      go true e = let o = ltb-true code 65536 e in omega (arith, ap length (sort-by b p n code o), h o)
       go false e =
-          let h = ltb-false code 65536 e in
+          let o = ltb-false code 65536 e in
           omega (
             arith,
-            ap length (refused-by (storeOf b p n) code h),
+            ap length (refused-by (storeOf b p n) code o),
             refusal-length (code / 65536),
             decimal-short (code / 65536) (omega arith),
           )
 
-  -- and so a buffer of 3,735,559 bytes holds the line of any term.
-  pub term-fits : (t i c : ℕ) → t < 65536 → length (rowText (storeOf b p n) i) < 1867776 → length (rowText (storeOf b p n) c) < 1867776
-      → length (termLine (storeOf b p n) t i c) ≤ 3735559
+  module _ (code : ℕ) (u32 : code < 4294967296) (known : Known n code) (small : code < 65536 → size (sortAt b p n code) ≤ 4096) where
+    pub row-fits : length (rowText (storeOf b p n) code) < sortRoom
+    row-fits = row-by sortRoom code u32 (omega arith) (λ h. text-fits code (known h) (small h))
+
+    pub row-fits-one : (code < 65536 → pars (sortAt b p n code) ≤ 1) → length (rowText (storeOf b p n) code) < checkedRoom
+    row-fits-one one = row-by checkedRoom code u32 (omega arith) (λ h. text-fits-one code (known h) (small h) (one h))
+
+  -- `lineRoom` bytes hold the line of a term whose checked sort has at most one Par.
+  pub term-fits : (t i c : ℕ) → t < 65536 → length (rowText (storeOf b p n) i) < sortRoom → length (rowText (storeOf b p n) c) < checkedRoom
+      → length (termLine (storeOf b p n) t i c) ≤ lineRoom
   unfolding termLine
   term-fits t i c h fi fc =
       let x = rowText (storeOf b p n) i in
@@ -206,16 +236,16 @@ module _ (b p : List ℕ) (n : ℕ) (stored : Stored b p n) (bytes : Bytes b) wh
       )
 
 -- An answer and the line of a question are shorter.
-answer-by : (s t : Bool) (x : List ℕ) → (s ≡ false → length x < 1867776) → length (cond s (cond t (ascii "no") (ascii "yes")) x) < 1867776
+answer-by : (s t : Bool) (x : List ℕ) → (s ≡ false → length x < sortRoom) → length (cond s (cond t (ascii "no") (ascii "yes")) x) < sortRoom
 answer-by true true x h = omega arith
 answer-by true false x h = omega arith
 answer-by false t x h = h refl
 
-pub answer-fits : (st : List Sort) (kind code : ℕ) → ((kind ≡ 0 → ⊥) → length (rowText st code) < 1867776) → length (answerText st kind code) < 1867776
+pub answer-fits : (st : List Sort) (kind code : ℕ) → ((kind ≡ 0 → ⊥) → length (rowText st code) < sortRoom) → length (answerText st kind code) < sortRoom
 unfolding answerText
 answer-fits st kind code h = answer-by (eqb kind 0) (eqb code 0) (rowText st code) (λ e. h (eqb-false kind 0 e))
 
-pub question-fits : (st : List Sort) (q kind code : ℕ) → q < 65536 → length (answerText st kind code) < 1867776 → length (questionLine st q kind code) ≤ 1867783
+pub question-fits : (st : List Sort) (q kind code : ℕ) → q < 65536 → length (answerText st kind code) < sortRoom → length (questionLine st q kind code) ≤ lineRoom
 unfolding questionLine
 question-fits st q kind code h f =
     let x = answerText st kind code in

@@ -52,8 +52,8 @@ pub record PieceAsks (b p rows kinds answers : List ℕ) (t q from : ℕ) : Type
   pub judged : Judged b p rows kinds answers t q many
   pub number : from ≤ t + q
 
--- A PIECE: the lines from `from` on up to another one, from the start of the buffer on. It goes on where a line is left and the
--- buffer has 3,735,559 bytes.
+-- A PIECE: the lines from `from` on up to another one, from the start of the buffer on. It goes on where a line is left that fits
+-- the buffer.
 pub record PieceIs (b p rows kinds answers : List ℕ) (t q from : ℕ) (o o′ : List ℕ) (n : ℕ) (r : Piece) : Type 0 where
   pub lines : from ≤ r .next
   pub last : r .next ≤ t + q

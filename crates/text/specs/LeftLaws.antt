@@ -1,29 +1,35 @@
 -- What `judge` leaves of an accepted sheet can be printed, its lines are those of the judgement, and every piece goes on.
 use Prim.Native.Nat.{ℕ, _+_, _*_, _-_, _≤_, _<_}
 use mathlib.Core.Path.{_≡_, refl, sym, ap, ap₂, subst, _∙_}
+use mathlib.Core.Bool.{true, false≢true}
 use mathlib.Core.List.{List, [], _∷_, _++_}
 use native.Mathlib.Omega.{arith}
 use lib.ListN.{length, getD, replicate, length-append, length-replicate, List·getD-append}
 use lib.Seq.{getD-take, getD-at}
 use lib.Dec.{eqb, ltb}
 use borrow.Author.Tests.{ne-eqb, ltb-true, ltb-false, eqb-true, eqb-false}
-use Rattle.record.specs.Sort.{Sort}
+use Rattle.record.specs.Sort.{Sort, Sorts, var, par, node, end, _then_}
+use Rattle.record.specs.Record.{leaf}
 use Rattle.record.specs.Store.{padded}
-use Rattle.record.specs.Decode.{storeOf}
+use Rattle.record.specs.Decode.{storeOf, sortAt}
 use Rattle.record.specs.Codec.{Bytes}
-use Rattle.record.specs.Cases.{byTest, below-other}
+use Rattle.record.specs.Cases.{and-left, and-right, byTest, below-other}
 use Rattle.sheet.specs.Sheet.{Sheet, Lengths, QuestionFields}
+use Rattle.substitution.specs.Premises.{usual, proper, properAll}
 use Rattle.checked.specs.Ranks.{smtLib}
+use Rattle.checked.specs.RankSound.{smtLib-sound}
+use Rattle.checked.specs.Checked.{carried}
 use Rattle.judged.specs.Judged.{Judgement, refused, accepted, judged, rowsAfter, answersAfter}
 use Rattle.judged.specs.QuestionLaws.{questionAt}
 use Rattle.judged.specs.JudgedLaws.{judged-read, judged-counts, judged-fits}
 use Rattle.judged.specs.KnownLaws.{judged-rows-known, judged-answers-known}
+use Rattle.judged.specs.CarriedLaws.{judged-carried}
 use Rattle.verdicts.specs.declared.Outcome.the-variants.{Accepted}
 use Rattle.verdicts.specs.Judge.{outcomeOf, Reads, ReadsBack, JudgeIs}
 use Rattle.printout.specs.declared.kinds.Totals.{Totals}
 use Rattle.printout.specs.declared.whole.Piece.{Piece}
-use Rattle.printout.specs.Lines.{rowText, answerText, termLine, questionLine}
-use Rattle.printout.specs.TextLaws.{row-fits, term-fits, answer-fits, question-fits}
+use Rattle.printout.specs.Lines.{rowText, answerText, termLine, questionLine, sortRoom, checkedRoom, lineRoom}
+use Rattle.printout.specs.TextLaws.{pars, parsAll, row-fits, row-fits-one, term-fits, answer-fits, question-fits}
 use Rattle.printout.specs.Printed.{kindsOf, printed, programLengths}
 use Rattle.printout.specs.Kinds.{KindsAre}
 use Rattle.printout.specs.Whole.{lineAt, linesFrom, Judged, PieceIs}
@@ -32,18 +38,31 @@ use Rattle.text.specs.Text.{lineCount, lineOf}
 use Rattle.text.specs.PrintedLaws.{kinds-count, lines-printed}
 
 ---------------------------------------------------------------- every piece goes on
-module _ (b p w d g : List ℕ) (t q n : ℕ) (j : Judged b p w d g t q n) (bytes : Bytes b)
-    (rows32 : (i : ℕ) → getD w i 0 < 4294967296) (answers32 : (i : ℕ) → getD g i 0 < 4294967296) where
-  row-short : (i : ℕ) → i < 2 * t → length (rowText (storeOf b p n) (getD w i 0)) < 1867776
-  row-short i h = row-fits b p n (j .stored) bytes (getD w i 0) (rows32 i) (j .row i h) (λ z. j .small (getD w i 0) (j .row i h z))
+-- Every checked row that is no refusal names a sort of the store that has at most one Par.
+abbrev pub OnePar : List ℕ → List ℕ → List ℕ → ℕ → ℕ → Type 0
+OnePar b p rows t n = (k : ℕ) → k < t → getD rows (2 * k + 1) 0 < 65536 → pars (sortAt b p n (getD rows (2 * k + 1) 0)) ≤ 1
 
-  answer-short : (i : ℕ) → i < q → length (answerText (storeOf b p n) (getD d i 0) (getD g i 0)) < 1867776
+module _ (b p w d g : List ℕ) (t q n : ℕ) (j : Judged b p w d g t q n) (one : OnePar b p w t n) (bytes : Bytes b)
+    (rows32 : (i : ℕ) → getD w i 0 < 4294967296) (answers32 : (i : ℕ) → getD g i 0 < 4294967296) where
+  inferred-short : (k : ℕ) → k < t → length (rowText (storeOf b p n) (getD w (2 * k) 0)) < sortRoom
+  inferred-short k h =
+      let i = 2 * k in
+      let known = j .row i (omega arith) in
+      row-fits b p n (j .stored) bytes (getD w i 0) (rows32 i) known (λ z. j .small (getD w i 0) (known z))
+
+  checked-short : (k : ℕ) → k < t → length (rowText (storeOf b p n) (getD w (2 * k + 1) 0)) < checkedRoom
+  checked-short k h =
+      let i = 2 * k + 1 in
+      let known = j .row i (omega arith) in
+      row-fits-one b p n (j .stored) bytes (getD w i 0) (rows32 i) known (λ z. j .small (getD w i 0) (known z)) (one k h)
+
+  answer-short : (i : ℕ) → i < q → length (answerText (storeOf b p n) (getD d i 0) (getD g i 0)) < sortRoom
   answer-short i h =
       answer-fits (storeOf b p n) (getD d i 0) (getD g i 0)
       (λ z. row-fits b p n (j .stored) bytes (getD g i 0) (answers32 i) (j .answer i h z) (λ y. j .small (getD g i 0) (j .answer i h z y)))
 
-  -- No line is longer than the buffer of the program.
-  line-short : (k : ℕ) → k < t + q → length (lineAt (storeOf b p n) w d g t k) ≤ 3735559
+  -- NO LINE IS LONGER than `lineRoom`.
+  line-short : (k : ℕ) → k < t + q → length (lineAt (storeOf b p n) w d g t k) ≤ lineRoom
   line-short k h =
       byTest (ltb k t)
       (λ e.
@@ -51,7 +70,7 @@ module _ (b p w d g : List ℕ) (t q n : ℕ) (j : Judged b p w d g t q n) (byte
       omega (
         arith,
         ap length (line-term (storeOf b p n) w d g t k o),
-        term-fits b p n (j .stored) bytes k (getD w (2 * k) 0) (getD w (2 * k + 1) 0) (omega (arith, j .few)) (row-short (2 * k) (omega arith)) (row-short (2 * k + 1) (omega arith)),
+        term-fits b p n (j .stored) bytes k (getD w (2 * k) 0) (getD w (2 * k + 1) 0) (omega (arith, j .few)) (inferred-short k o) (checked-short k o),
       ))
       (λ e.
       let o = ltb-false k t e in
@@ -61,8 +80,8 @@ module _ (b p w d g : List ℕ) (t q n : ℕ) (j : Judged b p w d g t q n) (byte
         question-fits (storeOf b p n) (k - t) (getD d (k - t) 0) (getD g (k - t) 0) (omega (arith, j .fewer)) (answer-short (k - t) (omega arith)),
       ))
 
-  -- A PIECE GOES ON by a line at least, in a buffer of 3,735,560 bytes.
-  pub piece-goes : (from : ℕ) (o o′ : List ℕ) (r : Piece) → PieceIs b p w d g t q from o o′ n r → from < t + q → 3735560 ≤ length o → from < r .next
+  -- A PIECE GOES ON by a line at least, in a buffer of `lineRoom` bytes.
+  pub piece-goes : (from : ℕ) (o o′ : List ℕ) (r : Piece) → PieceIs b p w d g t q from o o′ n r → from < t + q → lineRoom ≤ length o → from < r .next
   unfolding linesFrom
   piece-goes from o o′ r a h long = byTest (ltb from (r .next)) (λ e. ltb-true from (r .next) e) (λ e. absurd (stuck (ltb-false from (r .next) e)))
     where
@@ -75,6 +94,30 @@ module _ (b p w d g : List ℕ) (t q n : ℕ) (j : Judged b p w d g t q n) (byte
           omega (arith, a .text .next, z, a .full (omega arith), line-short (r .next) (omega arith))
 
 ---------------------------------------------------------------- what judging leaves
+-- A proper sort has no Par, and one that a Var may carry has at most one.
+mutual
+  unfolding proper pars
+
+  proper-pars : (s : Sort) → proper s ≡ true → pars s ≡ 0
+  proper-pars (var v) e = refl
+  proper-pars (par ns b) e = absurd (false≢true e)
+  proper-pars (node k a w ss) e = proper-parsAll ss (and-right (usual k w) (properAll ss) e)
+
+  proper-parsAll : (ss : Sorts) → properAll ss ≡ true → parsAll ss ≡ 0
+  proper-parsAll end e = refl
+  proper-parsAll (s then ss) e =
+      omega (arith, proper-pars s (and-left (proper s) (properAll ss) e), proper-parsAll ss (and-right (proper s) (properAll ss) e))
+
+carried-pars : (s : Sort) → carried s ≡ true → pars s ≤ 1
+unfolding pars
+carried-pars (var v) e = omega arith
+carried-pars (par [] b) e = absurd (false≢true e)
+carried-pars (par (n ∷ ns) (var v)) e = absurd (false≢true e)
+carried-pars (par (n ∷ ns) (par ms b)) e = absurd (false≢true e)
+carried-pars (par (n ∷ ns) (node k a w ss)) e =
+    omega (arith, proper-pars (node k a w ss) (and-right (eqb k 0) (proper (node k a w ss)) e))
+carried-pars (node k a w ss) e = omega (arith, proper-pars (node k a w ss) e)
+
 -- What stands first in a padded list.
 padded-first : (n : ℕ) (l : List ℕ) (i : ℕ) → i < length l → getD (padded n l) i 0 ≡ getD l i 0
 unfolding padded
@@ -182,12 +225,13 @@ left-line st ts w d g rows kinds answers t q e hr hk ha k h =
 pub record Left (s b p w k g : List ℕ) (r : Totals) : Type 0 where
   pub many : ℕ
   pub good : Judged b p w k g (r .terms) (r .questions) many
+  pub one : OnePar b p w (r .terms) many
   pub count : r .terms + r .questions ≡ lineCount (judged s programLengths)
   pub line : (i : ℕ) → i < r .terms + r .questions → lineAt (storeOf b p many) w k g (r .terms) i ≡ lineOf (judged s programLengths) i
 
 pub left : (s b p w g : List ℕ) → JudgeIs s programLengths b p w g Accepted → (k k′ : List ℕ) (r : Totals) → 1024 ≤ length k → KindsAre s k k′ r
     → Left s b p w k′ g r
-unfolding judged
+unfolding judged sortAt
 left s b p w g a k k′ r room kinds =
     let l = programLengths in
     let f = found s b p w g a k k′ r kinds in
@@ -220,6 +264,11 @@ left s b p w g a k k′ r room kinds =
                       (ne-eqb (questionAt (h .questions) i .kind) 0 (λ q. z (kind i o ∙ q))) (omega (arith, f .answer i o)),
                 );
           };
+      one = λ i o z.
+          let e = f .row (2 * i + 1) (omega arith) in
+          let c = judged-carried smtLib smtLib-sound s l h (j .store) (j .rows) (j .answers) (j .is) i (omega (arith, f .terms)) (omega (arith, e)) in
+          carried-pars (sortAt b p (length (j .store)) (getD w (2 * i + 1) 0))
+          (ap₂ (λ (x : List Sort) (y : ℕ). carried (getD x y leaf)) (f .reads .back) (sym e) ∙ c);
       count = omega (arith, f .terms, f .questions, ap lineCount (j .is));
       line = λ i o.
           left-line (storeOf b p (length (j .store))) (j .store) w k′ g (j .rows) (kindsOf (h .questions)) (j .answers) (r .terms) (r .questions) (f .reads .back) (f .row) (f .kind) (f .answer) i o

@@ -7,7 +7,7 @@ use Rattle.judged.specs.Judged.{Judgement, refused, accepted, judged}
 use Rattle.verdicts.specs.declared.Outcome.{Outcome}
 use Rattle.verdicts.specs.Judge.{JudgeIs}
 use Rattle.printout.specs.declared.whole.Piece.{Piece}
-use Rattle.printout.specs.Lines.{refusalLine}
+use Rattle.printout.specs.Lines.{refusalLine, lineRoom}
 use Rattle.printout.specs.Printed.{kindsOf, programLengths}
 use Rattle.printout.specs.Whole.{lineAt, linesFrom}
 use Rattle.printout.specs.Wrote.{Wrote}
@@ -25,13 +25,13 @@ lineOf (accepted h st rows answers) k = lineAt st rows (kindsOf (h .questions)) 
 
 -- THE LINES OF A JUDGEMENT from the number `from` on, in a buffer that was o: up to the line r .next they are written from its start
 -- on, up to the place r .end, and what lies behind is as it was (Wrote). Only lines of the printout are written, and as many as fit;
--- in a buffer of 3,735,560 bytes that is one at least, where one is left.
+-- in a buffer of `lineRoom` bytes that is one at least, where one is left.
 pub record LinesAre (j : Judgement) (from : ℕ) (o o′ : List ℕ) (r : Piece) : Type 0 where
   pub lines : from ≤ r .next
   pub last : from < r .next → r .next ≤ lineCount j
   pub text : Wrote o 0 (linesFrom (lineOf j) from (r .next - from)) o′ (r .end)
   pub full : r .next < lineCount j → length o < r .end + length (lineOf j (r .next))
-  pub goes : 3735560 ≤ length o → from < lineCount j → from < r .next
+  pub goes : lineRoom ≤ length o → from < lineCount j → from < r .next
 
 -- THE PROMISE OF `text`: the lines are those of the judgement of the bytes s over the program's lengths.
 abbrev pub TextIs : List ℕ → ℕ → List ℕ → List ℕ → Piece → Type 0

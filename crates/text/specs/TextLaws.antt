@@ -18,7 +18,7 @@ use Rattle.printout.specs.declared.kinds.Totals.{Totals}
 use Rattle.printout.specs.declared.whole.Piece.{Piece}
 use Rattle.printout.specs.TextLaws.{decimal-short}
 use Rattle.printout.specs.LineLaws.{refusal-line-length}
-use Rattle.printout.specs.Lines.{refusalText, refusalLine, termLine, questionLine}
+use Rattle.printout.specs.Lines.{refusalText, refusalLine, termLine, questionLine, lineRoom}
 use Rattle.printout.specs.Printed.{kindsOf, printed, programLengths}
 use Rattle.printout.specs.Whole.{lineAt, linesFrom, PieceIs}
 use Rattle.printout.specs.WholeLaws.{line-term, line-question, lines-same}
@@ -91,7 +91,7 @@ refused-full e from o o′ h s long =
 
 -- The lines over the buffers that `judge` left are those of the judgement.
 pub lines-left : (s b p w k g : List ℕ) (t : Totals) (l : Left s b p w k g t) (from : ℕ) (o o′ : List ℕ) (r : Piece)
-    → PieceIs b p w k g (t .terms) (t .questions) from o o′ (l .many) r → (3735560 ≤ length o → from < t .terms + t .questions → from < r .next)
+    → PieceIs b p w k g (t .terms) (t .questions) from o o′ (l .many) r → (lineRoom ≤ length o → from < t .terms + t .questions → from < r .next)
     → TextIs s from o o′ r
 lines-left s b p w k g t l from o o′ r a goes =
     let j = judged s programLengths in
@@ -125,7 +125,7 @@ line-some (accepted h st rows answers) k =
 
 module _ (j : Judgement) (from : ℕ) (o o′ : List ℕ) (r : Piece) (a : LinesAre j from o o′ r) where
   -- A piece with no byte has no line, and in a buffer that holds the longest line there is then none.
-  done-none : 3735560 ≤ length o → r .end ≡ 0 → lineCount j ≤ from
+  done-none : lineRoom ≤ length o → r .end ≡ 0 → lineCount j ≤ from
   unfolding linesFrom
   done-none long e =
       byTest (ltb from (lineCount j))
@@ -175,8 +175,8 @@ module _ (j : Judgement) (from : ℕ) (o o′ : List ℕ) (r : Piece) (a : Lines
       (λ x. let v = ltb-true from (r .next) x in omega (arith, a .last v))
       (λ x. let v = ltb-false from (r .next) x in omega arith)
 
--- IN A BUFFER OF 3,735,560 BYTES nothing is written exactly where no line is left.
-pub text-done : (s : List ℕ) (from : ℕ) (o o′ : List ℕ) (r : Piece) → TextIs s from o o′ r → 3735560 ≤ length o
+-- IN A BUFFER OF `lineRoom` BYTES nothing is written exactly where no line is left.
+pub text-done : (s : List ℕ) (from : ℕ) (o o′ : List ℕ) (r : Piece) → TextIs s from o o′ r → lineRoom ≤ length o
     → (r .end ≡ 0 → lineCount (judged s programLengths) ≤ from) × (lineCount (judged s programLengths) ≤ from → r .end ≡ 0)
 text-done s from o o′ r a long =
     let j = judged s programLengths in (λ e. done-none j from o o′ r a long e, λ h. done-end j from o o′ r a h)

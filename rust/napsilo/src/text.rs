@@ -3,7 +3,7 @@
 use crate::ffi;
 
 /// The length of a buffer that holds every line of a printout: a piece for it has a line at least, if one is left.
-pub const LINE_BUFFER: usize = 3_735_560;
+pub const LINE_BUFFER: usize = 1_937_856;
 
 /// The length of the first buffer that [`print`] lends. Nearly every printout fits it, and so does the line of a refused sheet.
 const FIRST_BUFFER: usize = 65_536;

@@ -5,6 +5,7 @@ use borrow.Author.Needs.{needs}
 use mathlib.Core.Path.{sym, subst, _∙_}
 use lib.ListN.{replicate}
 use Rattle.verdicts.specs.declared.Outcome.{Outcome}
+use Rattle.printout.specs.Lines.{lineRoom}
 use Rattle.printout.specs.Printed.{programLengths}
 use Rattle.verdicts.specs.Judge.{JudgeIs}
 use Rattle.text.specs.LeftLaws.{left}
@@ -43,7 +44,7 @@ print-lines-requires c κs =
     let k = c .before .before .before .before .question-kinds .last .1 .0 in
     let t = c .before .before .before .before .question-kinds .result in
     let l = left x b p w g j (replicate 1024 0) k t (omega arith) (c .before .before .before .before .question-kinds .ensures) in
-    print-asks x b p w k g t l (c .before .before .line-buffer .result) (room-all 3735560 (c .before .before .line-buffer .result) (slice-aggregate-print-lines-2 c))
+    print-asks x b p w k g t l (c .before .before .line-buffer .result) (room-all lineRoom (c .before .before .line-buffer .result) (slice-aggregate-print-lines-2 c))
 
 enum-known-outcome : tie.Need-enum-known-outcome
 enum-known-outcome c = search needs

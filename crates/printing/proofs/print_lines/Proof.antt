@@ -109,7 +109,7 @@ loop-less c =
     let l = c .before .before .before .before .before .before .before .before .before .loop in
     let r = c .before .before .before .before .before .before .show-lines .ensures (f .many) (f .good) in
     let bytes : Bytes b = λ j. omega (arith, c .before .before .before .before .before .before .before .before .before .before .before .before .before .before .before .before .shared-slice-known2 .given j) in
-    omega (arith, c .before .before .before .before .before .before .before .before .loop-test .taken, piece-goes b p w d g t q (f .many) (f .good) bytes (λ i. omega (arith, c .before .before .before .before .before .before .before .before .before .before .before .before .before .before .shared-slice-known4 .given i)) (λ i. omega (arith, c .before .before .before .before .before .before .before .before .before .before .before .before .shared-slice-known6 .given i)) (l .k) (l .out) (c .before .before .before .before .before .before .show-lines .last .1 .1 .1 .1 .1 .1 .1 .1 .0) (c .before .before .before .before .before .before .show-lines .result) r (omega (arith, c .before .before .before .before .before .before .before .before .loop-test .taken, l .inv .0)) (omega (arith, s .pre .room, l .inv .4)))
+    omega (arith, c .before .before .before .before .before .before .before .before .loop-test .taken, piece-goes b p w d g t q (f .many) (f .good) (f .one) bytes (λ i. omega (arith, c .before .before .before .before .before .before .before .before .before .before .before .before .before .before .shared-slice-known4 .given i)) (λ i. omega (arith, c .before .before .before .before .before .before .before .before .before .before .before .before .shared-slice-known6 .given i)) (l .k) (l .out) (c .before .before .before .before .before .before .show-lines .last .1 .1 .1 .1 .1 .1 .1 .1 .0) (c .before .before .before .before .before .before .show-lines .result) r (omega (arith, c .before .before .before .before .before .before .before .before .loop-test .taken, l .inv .0)) (omega (arith, s .pre .room, l .inv .4)))
 
 loop-again : tie.Need-loop-again Inv-loop μ-loop
 loop-again c =

@@ -1,5 +1,5 @@
 -- What `judge` left of an accepted sheet can be printed, with the kinds of its questions, and its lines are those of the judgement.
--- A piece of them goes on, since the longest line fits a buffer of 3,735,560 bytes.
+-- A piece of them goes on, since the longest line fits a buffer of `lineRoom` bytes.
 use native.Mathlib.Omega.{arith}
 use borrow.Author.Needs.{needs}
 use lib.ListN.{replicate}
@@ -84,7 +84,7 @@ returns-2 c =
     let bytes : Bytes b = λ i. omega (arith, c .before .before .before .before .before .before .before .before .before .before .before .before .before .shared-slice-known2 .given i) in
     lines-left x b p w k g t l (a .from) o o′ r piece
     (λ long u.
-    piece-goes b p w k g (t .terms) (t .questions) (l .many) (l .good) bytes (λ i. omega (arith, c .before .before .before .before .before .before .before .before .before .before .before .shared-slice-known4 .given i)) (λ i. omega (arith, c .before .before .before .before .before .before .before .before .before .before .shared-slice-known5 .given i)) (a .from) o o′ r piece u long)
+    piece-goes b p w k g (t .terms) (t .questions) (l .many) (l .good) (l .one) bytes (λ i. omega (arith, c .before .before .before .before .before .before .before .before .before .before .before .shared-slice-known4 .given i)) (λ i. omega (arith, c .before .before .before .before .before .before .before .before .before .before .shared-slice-known5 .given i)) (a .from) o o′ r piece u long)
 
 pub accepted-lines-spec : {M : Type 1} → statement M
 accepted-lines-spec = tie.close (tie.spec slice-aggregate-question-kinds question-kinds-requires add-if1 returns slice-aggregate-show-lines show-lines-requires same-length returns-2)
