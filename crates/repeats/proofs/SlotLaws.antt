@@ -1,22 +1,21 @@
--- The slots of the table: what is recalled there is true, and a note leaves the other slots as they were.
+-- The slots of the table: what is recalled there is said, an opened slot says nothing, and a note leaves the other slots as they were.
 use Prim.Native.Nat.{ℕ, zero, suc, _+_, _*_, _-_, _/_, _%_, _≤_, _<_}
 use mathlib.Core.Path.{_≡_, refl, sym, ap, ap₂, subst, _∙_}
 use mathlib.Core.List.{List, _∷_}
+use mathlib.Core.Logic.{inl, inr}
 use native.Mathlib.Omega.{arith}
+use native.Mathlib.Nat.{div-add-mod'}
 use lib.ListN.{length, getD, set, take, drop, length-set, length-drop}
 use lib.Seq.{getD-take, getD-drop, getD-set-same, getD-set-other, length-take-le}
 use lib.Dec.{eqb, ltb}
 use borrow.Author.Tests.{eqb-true, eqb-false, ltb-true, ltb-false}
 use Rattle.record.specs.Number.{u16At, numbersAt}
-use Rattle.record.specs.Sort.{Sort, Sorts}
-use Rattle.record.specs.Record.{leaf, sortsOf}
 use Rattle.record.specs.Decode.{written}
 use Rattle.record.specs.Append.{written-before, written-in, written-after, length-written}
 use Rattle.record.specs.Codec.{u16-read}
 use Rattle.record.specs.Cases.{byTest}
-use Rattle.rows.specs.Verdict.{Verdict, sort}
 use Rattle.answers.specs.Arguments.{putAt, put-long}
-use Rattle.repeats.specs.Past.{Says, Past, Told, RecalledIs, NotedIs}
+use Rattle.repeats.specs.Past.{codeEnd, slotSize, codeAt, Says, SlotAt, SlotAsks, RecalledIs, OpenedIs, NoteAsks, NotedIs}
 
 -- Numbers whose bytes agree.
 u16-same : (l m : List ℕ) (x y : ℕ) → getD l x 0 ≡ getD m y 0 → getD l (x + 1) 0 ≡ getD m (y + 1) 0 → u16At l x ≡ u16At m y
@@ -45,170 +44,200 @@ part-long : (l : List ℕ) (x k : ℕ) → x + k ≤ length l → length (take k
 part-long l x k o = length-take-le k (drop x l) (omega (arith, length-drop x l))
 
 -- WHAT IS RECALLED: a slot with as many terms and their numbers.
-pub recalled-is : (ws a : List ℕ) (n i at v : ℕ) → at ≡ i * 16 → 2 ≤ n → getD ws at 0 ≡ n → take (2 * n) (drop (at + 3) ws) ≡ take (2 * n) (drop 3 a) → v ≡ u16At ws (at + 1)
+pub recalled-is : (ws a : List ℕ) (n at v : ℕ) → SlotAsks ws at a n → getD ws at 0 ≡ n → take (2 * n) (drop (at + 4) ws) ≡ take (2 * n) (drop 3 a) → v ≡ codeAt ws at → v < codeEnd
     → RecalledIs ws a n (v + 1)
-recalled-is ws a n i at v ei some en key ev f st h k e =
-    let full : getD ws (i * 16) 0 ≡ n = subst (λ (x : ℕ). getD ws x 0 ≡ n) ei en in
-    let s = subst (Says f st ws) (sym ei) (h .each i (λ z. absurd (omega (arith, full, z)))) in
-    let same : (y : ℕ) → y < 2 * n → getD ws (at + 3 + y) 0 ≡ getD a (3 + y) 0 =
-    λ y o. sym (part-at ws (at + 3) (2 * n) y o) ∙ ap (λ (l : List ℕ). getD l y 0) key ∙ part-at a 3 (2 * n) y o in
-    let ek : u16At ws (at + 1) ≡ k = omega (arith, e, ev) in
+recalled-is ws a n at v h en key ev small =
+    let i = h .here .slot in
+    let ei = h .here .place in
+    let count : getD ws (i * slotSize) 0 ≡ n = subst (λ (x : ℕ). getD ws x 0 ≡ n) ei en in
+    let same : (y : ℕ) → y < 2 * n → getD a (3 + y) 0 ≡ getD ws (at + 4 + y) 0 =
+    λ y o. sym (part-at a 3 (2 * n) y o) ∙ ap (λ (l : List ℕ). getD l y 0) (sym key) ∙ part-at ws (at + 4) (2 * n) y o in
     record {
-      known = subst (λ (x : ℕ). x < length st) ek (s .answer);
-      below = λ j o.
-          let d : at + 3 + 2 * j + 1 ≡ at + 3 + (2 * j + 1) = omega arith in
-          let g : 3 + (2 * j + 1) ≡ 3 + 2 * j + 1 = omega arith in
-          let w : u16At ws (at + 3 + 2 * j) ≡ u16At a (3 + 2 * j) =
-          u16-same ws a (at + 3 + 2 * j) (3 + 2 * j) (same (2 * j) (omega arith))
-          (ap (λ (x : ℕ). getD ws x 0) d ∙ same (2 * j + 1) (omega arith) ∙ ap (λ (x : ℕ). getD a x 0) g) in
-          omega (arith, w, s .below j (omega (arith, en)));
-      is =
-          ap (λ (l : List ℕ). f (sortsOf st l)) (sym (numbers-same ws a (at + 3) 3 n same))
-          ∙ subst (λ (m : ℕ). f (sortsOf st (numbersAt ws (at + 3) m)) ≡ sort (getD st (u16At ws (at + 1)) leaf)) en (s .is)
-          ∙ ap (λ (x : ℕ). sort (getD st x leaf)) ek;
+      said = λ c e.
+          record {
+            slot = i;
+            full = λ z. absurd (omega (arith, count, z, h .key .some));
+            few = omega (arith, count, h .key .few);
+            terms = numbers-same a ws 3 (at + 4) n same ∙ ap₂ (λ (x m : ℕ). numbersAt ws (x + 4) m) ei (sym count);
+            code = (let z : c ≡ v = omega (arith, e) in z) ∙ ev ∙ ap (codeAt ws) ei;
+          };
+      small = omega arith;
     }
 
 -- A slot says what it said, where its bytes are as they were.
-says-kept : (f : Sorts → Verdict) (st : List Sort) (ws ws′ : List ℕ) (at : ℕ) → ((y : ℕ) → y < 16 → getD ws′ (at + y) 0 ≡ getD ws (at + y) 0)
-    → Says f st ws at → Says f st ws′ at
-says-kept f st ws ws′ at h s =
-    let z : at + 0 ≡ at = omega arith in
-    let en : getD ws′ at 0 ≡ getD ws at 0 = subst (λ (x : ℕ). getD ws′ x 0 ≡ getD ws x 0) z (h 0 (omega arith)) in
-    let number : (y : ℕ) → y < 15 → u16At ws′ (at + y) ≡ u16At ws (at + y) =
-    λ y o.
-    let d : at + (y + 1) ≡ at + y + 1 = omega arith in
-    u16-same ws′ ws (at + y) (at + y) (h y (omega arith)) (subst (λ (x : ℕ). getD ws′ x 0 ≡ getD ws x 0) d (h (y + 1) (omega arith))) in
-    let ea : u16At ws′ (at + 1) ≡ u16At ws (at + 1) = number 1 (omega arith) in
-    let ek : numbersAt ws′ (at + 3) (getD ws at 0) ≡ numbersAt ws (at + 3) (getD ws at 0) =
-    numbers-same ws′ ws (at + 3) (at + 3) (getD ws at 0) (λ i o.
-    let d : at + (3 + i) ≡ at + 3 + i = omega arith in
-    subst (λ (x : ℕ). getD ws′ x 0 ≡ getD ws x 0) d (h (3 + i) (omega (arith, s .few)))) in
+says-kept : (ws ws′ key : List ℕ) (c : ℕ) (s : Says ws′ key c) → ((y : ℕ) → y < slotSize → getD ws′ (s .slot * slotSize + y) 0 ≡ getD ws (s .slot * slotSize + y) 0) → Says ws key c
+says-kept ws ws′ key c s h =
+    let at = s .slot * slotSize in
+    let byte : (x y : ℕ) → y < slotSize → x ≡ at + y → getD ws′ x 0 ≡ getD ws x 0 =
+    λ x y o e. subst (λ (z : ℕ). getD ws′ z 0 ≡ getD ws z 0) (sym e) (h y o) in
+    let en : getD ws′ at 0 ≡ getD ws at 0 = byte at 0 (omega arith) (omega arith) in
     record {
+      slot = s .slot;
+      full = λ z. s .full (en ∙ z);
       few = omega (arith, en, s .few);
-      answer = omega (arith, ea, s .answer);
-      below = λ j o.
-          let l : j < getD ws at 0 = omega (arith, en) in
-          let d : at + (3 + 2 * j) ≡ at + 3 + 2 * j = omega arith in
-          let e : u16At ws′ (at + 3 + 2 * j) ≡ u16At ws (at + 3 + 2 * j) =
-          subst (λ (x : ℕ). u16At ws′ x ≡ u16At ws x) d (number (3 + 2 * j) (omega (arith, s .few))) in
-          omega (arith, e, s .below j l);
-      is =
-          ap (λ (m : ℕ). f (sortsOf st (numbersAt ws′ (at + 3) m))) en ∙ ap (λ (l : List ℕ). f (sortsOf st l)) ek ∙ s .is
-          ∙ ap (λ (x : ℕ). sort (getD st x leaf)) (sym ea);
+      terms =
+          s .terms
+          ∙ numbers-same ws′ ws (at + 4) (at + 4) (getD ws′ at 0) (λ i o. byte (at + 4 + i) (4 + i) (omega (arith, s .few)) (omega arith))
+          ∙ ap (numbersAt ws (at + 4)) en;
+      code =
+          s .code
+          ∙ ap₂ (λ (x y : ℕ). x * 65536 + y) (byte (at + 3) 3 (omega arith) (omega arith))
+          (u16-same ws′ ws (at + 1) (at + 1) (byte (at + 1) 1 (omega arith) (omega arith)) (byte (at + 1 + 1) 2 (omega arith) (omega arith)));
     }
 
--- THE SLOT at WITH A NOTE: of n terms, whose numbers stand in a from byte 3 on, and the answer k.
-module _ (ws a : List ℕ) (n k i at : ℕ) (ei : at ≡ i * 16) (some : 2 ≤ n) (most : n ≤ 6) (room : at + 16 ≤ length ws) (within : 3 + 2 * n ≤ length a) where
-  abbrev key : List ℕ
-  key = take (2 * n) (drop 3 a)
+-- THE OTHER SLOTS say what they said, where the bytes before and behind one slot are as they were.
+module _ (ws ws′ : List ℕ) (at : ℕ) (h : SlotAt ws at) (early : (y : ℕ) → y < at → getD ws′ y 0 ≡ getD ws y 0) (late : (y : ℕ) → at + slotSize ≤ y → getD ws′ y 0 ≡ getD ws y 0) where
+  other-said : (key : List ℕ) (c : ℕ) (s : Says ws′ key c) → (s .slot ≡ h .slot → ⊥) → Says ws key c
+  other-said key c s ne =
+      says-kept ws ws′ key c s (λ y o.
+      byTest (ltb (s .slot) (h .slot)) (λ q. early (s .slot * slotSize + y) (omega (arith, h .place, ltb-true (s .slot) (h .slot) q)))
+      (λ q. late (s .slot * slotSize + y) (omega (arith, h .place, ltb-false (s .slot) (h .slot) q, ne))))
 
+---------------------------------------------------------------- a slot opened
+module _ (ws : List ℕ) (at : ℕ) (a : List ℕ) (n : ℕ) (h : SlotAsks ws at a n) where
+  abbrev terms : List ℕ
+  terms = take (2 * n) (drop 3 a)
+
+  abbrev emptied : List ℕ
+  emptied = set ws at 0
+
+  abbrev filled : List ℕ
+  filled = written emptied (at + 4) terms
+
+  terms-long : length terms ≡ 2 * n
+  terms-long = part-long a 3 (2 * n) (omega (arith, h .key .within))
+
+  emptied-long : length emptied ≡ length ws
+  emptied-long = length-set ws at 0
+
+  terms-fit : at + 4 + length terms ≤ length emptied
+  terms-fit = omega (arith, terms-long, emptied-long, h .here .room, h .key .few)
+
+  filled-long : length filled ≡ length ws
+  filled-long = length-written emptied (at + 4) terms terms-fit ∙ emptied-long
+
+  filled-empty : getD filled at 0 ≡ 0
+  filled-empty =
+      sym (written-before emptied (at + 4) terms at (omega (arith, emptied-long, h .here .room)) (omega arith))
+      ∙ getD-set-same ws at 0 0 (omega (arith, h .here .room))
+
+  filled-terms : (y : ℕ) → y < 2 * n → getD filled (at + 4 + y) 0 ≡ getD a (3 + y) 0
+  filled-terms y o =
+      sym (written-in emptied (at + 4) terms y (omega (arith, emptied-long, h .here .room)) (omega (arith, terms-long))) ∙ part-at a 3 (2 * n) y o
+
+  filled-early : (y : ℕ) → y < at → getD filled y 0 ≡ getD ws y 0
+  filled-early y o =
+      sym (written-before emptied (at + 4) terms y (omega (arith, emptied-long, h .here .room)) (omega arith))
+      ∙ getD-set-other ws at y 0 0 (λ e. absurd (omega (arith, e)))
+
+  filled-late : (y : ℕ) → at + slotSize ≤ y → getD filled y 0 ≡ getD ws y 0
+  filled-late y o =
+      sym (written-after emptied (at + 4) terms y terms-fit (omega (arith, terms-long, h .key .few)))
+      ∙ getD-set-other ws at y 0 0 (λ e. absurd (omega (arith, e)))
+
+  filled-is : OpenedIs ws at a n filled
+  filled-is =
+      record {
+        ready =
+            record {
+              here = record { slot = h .here .slot; place = h .here .place; room = omega (arith, filled-long, h .here .room) };
+              some = h .key .some;
+              few = h .key .few;
+              terms = numbers-same filled a (at + 4) 3 n filled-terms;
+            };
+        less = λ key c s.
+            byTest (eqb (s .slot) (h .here .slot))
+            (λ q.
+            let e : s .slot * slotSize ≡ at = omega (arith, h .here .place, eqb-true (s .slot) (h .here .slot) q) in
+            absurd (s .full (ap (λ (x : ℕ). getD filled x 0) e ∙ filled-empty)))
+            (λ q. other-said ws filled at (h .here) filled-early filled-late key c s (eqb-false (s .slot) (h .here .slot) q));
+      }
+
+  -- The same over what the calls leave, whose bytes to copy are told by an end.
+  ended : 3 + 2 * n - 3 ≡ 2 * n
+  ended = omega arith
+
+  pub open-fits : at + 4 + length (take (3 + 2 * n - 3) (drop 3 a)) ≤ length (set ws at 0)
+  open-fits = omega (arith, ap (λ (m : ℕ). length (take m (drop 3 a))) ended, terms-fit)
+
+  module _ (y : List ℕ) (ey : y ≡ written (set ws at 0) (at + 4) (take (3 + 2 * n - 3) (drop 3 a))) where
+    is-filled : y ≡ filled
+    is-filled = ey ∙ ap (λ (m : ℕ). written emptied (at + 4) (take m (drop 3 a))) ended
+
+    pub open-long : length y ≡ length ws
+    open-long = ap length is-filled ∙ filled-long
+
+    pub open-is : OpenedIs ws at a n y
+    open-is = subst (OpenedIs ws at a n) (sym is-filled) filled-is
+
+---------------------------------------------------------------- a code noted
+module _ (ws : List ℕ) (at n c : ℕ) (h : NoteAsks ws at n c) where
   abbrev counted : List ℕ
   counted = set ws at n
 
-  abbrev answered : List ℕ
-  answered = putAt counted (at + 1) k
+  abbrev numbered : List ℕ
+  numbered = putAt counted (at + 1) (c % 65536)
 
-  abbrev slotted : List ℕ
-  slotted = written answered (at + 3) key
+  abbrev coded : List ℕ
+  coded = set numbered (at + 3) (c / 65536)
 
-  key-long : length key ≡ 2 * n
-  key-long = part-long a 3 (2 * n) (omega arith)
+  numbered-long : length numbered ≡ length ws
+  numbered-long = put-long counted (at + 1) (c % 65536) ∙ length-set ws at n
 
-  answered-long : length answered ≡ length ws
-  answered-long = put-long counted (at + 1) k ∙ length-set ws at n
+  -- Bytes apart from the first four are as they were.
+  coded-other : (y : ℕ) → (y ≡ at → ⊥) → (y ≡ at + 1 → ⊥) → (y ≡ at + 1 + 1 → ⊥) → (y ≡ at + 3 → ⊥) → getD coded y 0 ≡ getD ws y 0
+  coded-other y d₀ d₁ d₂ d₃ =
+      getD-set-other numbered (at + 3) y (c / 65536) 0 d₃
+      ∙ getD-set-other (set counted (at + 1) (c % 65536 % 256)) (at + 1 + 1) y (c % 65536 / 256) 0 d₂
+      ∙ getD-set-other counted (at + 1) y (c % 65536 % 256) 0 d₁ ∙ getD-set-other ws at y n 0 d₀
 
-  key-fits : at + 3 + length key ≤ length answered
-  key-fits = omega (arith, key-long, answered-long)
+  coded-far : (y : ℕ) → (y < at → ⊥) → at + 4 ≤ y → getD coded y 0 ≡ getD ws y 0
+  coded-far y d o =
+      coded-other y (λ e. absurd (omega (arith, e))) (λ e. absurd (omega (arith, e))) (λ e. absurd (omega (arith, e))) (λ e. absurd (omega (arith, e)))
 
-  -- What stands where.
-  slot-count : getD slotted at 0 ≡ n
-  slot-count =
-      sym (written-before answered (at + 3) key at (omega (arith, answered-long)) (omega arith))
-      ∙ getD-set-other (set counted (at + 1) (k % 256)) (at + 1 + 1) at (k / 256) 0 (λ e. absurd (omega (arith, e)))
-      ∙ getD-set-other counted (at + 1) at (k % 256) 0 (λ e. absurd (omega (arith, e)))
-      ∙ getD-set-same ws at n 0 (omega arith)
+  coded-early : (y : ℕ) → y < at → getD coded y 0 ≡ getD ws y 0
+  coded-early y o =
+      coded-other y (λ e. absurd (omega (arith, e))) (λ e. absurd (omega (arith, e))) (λ e. absurd (omega (arith, e))) (λ e. absurd (omega (arith, e)))
 
-  slot-answer : u16At slotted (at + 1) ≡ k
-  slot-answer =
-      u16-read k slotted (at + 1)
-      (sym (sym (written-before answered (at + 3) key (at + 1) (omega (arith, answered-long)) (omega arith))
-      ∙ getD-set-other (set counted (at + 1) (k % 256)) (at + 1 + 1) (at + 1) (k / 256) 0 (λ e. absurd (omega (arith, e)))
-      ∙ getD-set-same counted (at + 1) (k % 256) 0 (omega (arith, length-set ws at n))))
-      (sym (sym (written-before answered (at + 3) key (at + 1 + 1) (omega (arith, answered-long)) (omega arith))
-      ∙ getD-set-same (set counted (at + 1) (k % 256)) (at + 1 + 1) (k / 256) 0
-      (omega (arith, length-set counted (at + 1) (k % 256), length-set ws at n))))
+  coded-count : getD coded at 0 ≡ n
+  coded-count =
+      getD-set-other numbered (at + 3) at (c / 65536) 0 (λ e. absurd (omega (arith, e)))
+      ∙ getD-set-other (set counted (at + 1) (c % 65536 % 256)) (at + 1 + 1) at (c % 65536 / 256) 0 (λ e. absurd (omega (arith, e)))
+      ∙ getD-set-other counted (at + 1) at (c % 65536 % 256) 0 (λ e. absurd (omega (arith, e)))
+      ∙ getD-set-same ws at n 0 (omega (arith, h .here .room))
 
-  slot-key : (y : ℕ) → y < 2 * n → getD slotted (at + 3 + y) 0 ≡ getD a (3 + y) 0
-  slot-key y o = sym (written-in answered (at + 3) key y (omega (arith, answered-long)) (omega (arith, key-long))) ∙ part-at a 3 (2 * n) y o
+  coded-number : u16At coded (at + 1) ≡ c % 65536
+  coded-number =
+      u16-read (c % 65536) coded (at + 1)
+      (sym (getD-set-other numbered (at + 3) (at + 1) (c / 65536) 0 (λ e. absurd (omega (arith, e)))
+      ∙ getD-set-other (set counted (at + 1) (c % 65536 % 256)) (at + 1 + 1) (at + 1) (c % 65536 / 256) 0 (λ e. absurd (omega (arith, e)))
+      ∙ getD-set-same counted (at + 1) (c % 65536 % 256) 0 (omega (arith, length-set ws at n, h .here .room))))
+      (sym (getD-set-other numbered (at + 3) (at + 1 + 1) (c / 65536) 0 (λ e. absurd (omega (arith, e)))
+      ∙ getD-set-same (set counted (at + 1) (c % 65536 % 256)) (at + 1 + 1) (c % 65536 / 256) 0
+      (omega (arith, length-set counted (at + 1) (c % 65536 % 256), length-set ws at n, h .here .room))))
 
-  early : (y : ℕ) → y < at → getD slotted y 0 ≡ getD ws y 0
-  early y o =
-      sym (written-before answered (at + 3) key y (omega (arith, answered-long)) (omega arith))
-      ∙ getD-set-other (set counted (at + 1) (k % 256)) (at + 1 + 1) y (k / 256) 0 (λ e. absurd (omega (arith, e)))
-      ∙ getD-set-other counted (at + 1) y (k % 256) 0 (λ e. absurd (omega (arith, e)))
-      ∙ getD-set-other ws at y n 0 (λ e. absurd (omega (arith, e)))
+  coded-is : codeAt coded at ≡ c
+  coded-is =
+      ap₂ (λ (x y : ℕ). x * 65536 + y) (getD-set-same numbered (at + 3) (c / 65536) 0 (omega (arith, numbered-long, h .here .room))) coded-number
+      ∙ div-add-mod' c 65536
 
-  late : (y : ℕ) → at + 16 ≤ y → getD slotted y 0 ≡ getD ws y 0
-  late y o =
-      sym (written-after answered (at + 3) key y key-fits (omega (arith, key-long)))
-      ∙ getD-set-other (set counted (at + 1) (k % 256)) (at + 1 + 1) y (k / 256) 0 (λ e. absurd (omega (arith, e)))
-      ∙ getD-set-other counted (at + 1) y (k % 256) 0 (λ e. absurd (omega (arith, e)))
-      ∙ getD-set-other ws at y n 0 (λ e. absurd (omega (arith, e)))
+  noted-is : NotedIs ws at n c coded
+  noted-is key d s =
+      byTest (eqb (s .slot) (h .here .slot))
+      (λ q.
+      let e : s .slot * slotSize ≡ at = omega (arith, h .here .place, eqb-true (s .slot) (h .here .slot) q) in
+      inr (
+        s .terms ∙ ap (λ (x : ℕ). numbersAt coded (x + 4) (getD coded x 0)) e ∙ ap (numbersAt coded (at + 4)) coded-count
+            ∙ numbers-same coded ws (at + 4) (at + 4) n (λ y o. coded-far (at + 4 + y) (λ z. absurd (omega (arith, z))) (omega arith)),
+        s .code ∙ ap (codeAt coded) e ∙ coded-is,
+      ))
+      (λ q.
+      inl (other-said ws coded at (h .here) coded-early (λ y o. coded-far y (λ z. absurd (omega (arith, z))) (omega arith)) key d s (eqb-false (s .slot) (h .here .slot) q)))
 
-  -- It says what it was told.
-  slot-says : (f : Sorts → Verdict) (st : List Sort) → Told f st a n k → Says f st slotted at
-  slot-says f st t =
-      record {
-        few = omega (arith, slot-count);
-        answer = omega (arith, slot-answer, t .known);
-        below = λ j o.
-            let l : j < n = omega (arith, slot-count) in
-            let d : at + 3 + 2 * j + 1 ≡ at + 3 + (2 * j + 1) = omega arith in
-            let g : 3 + (2 * j + 1) ≡ 3 + 2 * j + 1 = omega arith in
-            let w : u16At slotted (at + 3 + 2 * j) ≡ u16At a (3 + 2 * j) =
-            u16-same slotted a (at + 3 + 2 * j) (3 + 2 * j) (slot-key (2 * j) (omega arith))
-            (ap (λ (x : ℕ). getD slotted x 0) d ∙ slot-key (2 * j + 1) (omega arith) ∙ ap (λ (x : ℕ). getD a x 0) g) in
-            omega (arith, w, t .below j l);
-        is =
-            ap (λ (m : ℕ). f (sortsOf st (numbersAt slotted (at + 3) m))) slot-count
-            ∙ ap (λ (l : List ℕ). f (sortsOf st l)) (numbers-same slotted a (at + 3) 3 n slot-key) ∙ t .is
-            ∙ ap (λ (x : ℕ). sort (getD st x leaf)) (sym slot-answer);
-      }
+  -- The same over what the calls leave.
+  module _ (x : List ℕ) (ex : x ≡ putAt (set ws at n) (at + 1) (c % 65536)) where
+    pub note-long : length x ≡ length ws
+    note-long = ap length ex ∙ numbered-long
 
-  -- THE TABLE STAYS TRUE.
-  noted-is : NotedIs ws a n k slotted
-  noted-is f st h t =
-      record {
-        each = λ j d.
-            byTest (eqb j i)
-            (λ q. let e : at ≡ j * 16 = omega (arith, ei, eqb-true j i q) in subst (Says f st slotted) e (slot-says f st t))
-            (λ q.
-            let ne : j ≡ i → ⊥ = eqb-false j i q in
-            let same : (y : ℕ) → y < 16 → getD slotted (j * 16 + y) 0 ≡ getD ws (j * 16 + y) 0 = λ y o. other j ne y o in
-            let z : j * 16 + 0 ≡ j * 16 = omega arith in
-            let e0 : getD slotted (j * 16) 0 ≡ getD ws (j * 16) 0 = subst (λ (x : ℕ). getD slotted x 0 ≡ getD ws x 0) z (same 0 (omega arith)) in
-            says-kept f st ws slotted (j * 16) same (h .each j (λ w. d (e0 ∙ w))));
-      }
-    where
-      other : (j : ℕ) → (j ≡ i → ⊥) → (y : ℕ) → y < 16 → getD slotted (j * 16 + y) 0 ≡ getD ws (j * 16 + y) 0
-      other j ne y o =
-          byTest (ltb j i) (λ q. let l = ltb-true j i q in early (j * 16 + y) (omega (arith, ei, l)))
-          (λ q. let l = ltb-false j i q in late (j * 16 + y) (omega (arith, ei, l)))
-
-  -- The same over what the calls leave, whose bytes to copy are told by an end.
-  module _ (x : List ℕ) (ex : x ≡ answered) where
-    ended : 3 + 2 * n - 3 ≡ 2 * n
-    ended = omega arith
-
-    pub note-fits : at + 3 + length (take (3 + 2 * n - 3) (drop 3 a)) ≤ length x
-    note-fits = omega (arith, ap (λ (m : ℕ). length (take m (drop 3 a))) ended, ap length ex, key-fits)
-
-    module _ (y : List ℕ) (ey : y ≡ written x (at + 3) (take (3 + 2 * n - 3) (drop 3 a))) where
-      is-slotted : y ≡ slotted
-      is-slotted = ey ∙ ap₂ (λ (l : List ℕ) (m : ℕ). written l (at + 3) (take m (drop 3 a))) ex ended
-
-      pub note-long : length y ≡ length ws
-      note-long = ap length is-slotted ∙ length-written answered (at + 3) key key-fits ∙ answered-long
-
-      pub note-is : NotedIs ws a n k y
-      note-is = subst (NotedIs ws a n k) (sym is-slotted) noted-is
+    pub note-is : NotedIs ws at n c (set x (at + 3) (c / 65536))
+    note-is = subst (λ (y : List ℕ). NotedIs ws at n c (set y (at + 3) (c / 65536))) (sym ex) noted-is

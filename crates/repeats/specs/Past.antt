@@ -1,25 +1,30 @@
 -- The lent table of Apps that were judged before, and what the functions on it and on the rows of a record ask and promise.
 -- Definitions only.
-use Prim.Native.Nat.{ℕ, zero, suc, _+_, _*_, _%_, _≤_, _<_}
+use Prim.Native.Nat.{ℕ, zero, suc, _+_, _*_, _/_, _%_, _≤_, _<_}
 use mathlib.Core.Path.{_≡_}
-use mathlib.Core.Bool.{Bool, true, cond, _&&_}
+use mathlib.Core.Bool.{Bool, true, _&&_}
 use mathlib.Core.List.{List}
+use mathlib.Core.Logic.{_⊎_}
 use lib.ListN.{length, getD}
 use lib.Dec.{eqb, ltb}
 use Rattle.record.specs.Number.{u16At, numbersAt}
 use Rattle.record.specs.Sort.{Sort, Sorts, kindOf}
-use Rattle.record.specs.Record.{leaf, sortsOf}
+use Rattle.record.specs.Record.{sortsOf}
 use Rattle.record.specs.Decode.{Stored, storeOf, sortAt}
 use Rattle.reader.specs.declared.TermRecord.{TermRecord}
+use Rattle.sheet.specs.Sheet.{Lengths}
 use Rattle.rows.specs.declared.RowVerdict.{RowVerdict}
-use Rattle.rows.specs.declared.RowVerdict.the-variants.{Sort as Number, Refused}
-use Rattle.rows.specs.Verdict.{Verdict, sort}
+use Rattle.rows.specs.declared.RowVerdict.the-variants.{Sort as Number}
+use Rattle.rows.specs.Verdict.{Verdict, codeOf}
 use Rattle.rows.specs.Term.{Site}
+use Rattle.rows.specs.Outcome.{outcome}
 use Rattle.inferred.specs.Inferred.{inferred, applied}
 use Rattle.checked.specs.Ranks.{smtLib}
 use Rattle.checked.specs.Checked.{checked, application}
 use Rattle.answers.specs.declared.Answer.{Answer}
 use Rattle.site.specs.Site.{Standing, TermAsks, TermIs, PartsAre}
+use Rattle.repeats.specs.declared.slots.Look.{Look}
+use Rattle.repeats.specs.declared.slots.Look.the-variants.{Apart, Noted, Open}
 
 ---------------------------------------------------------------- the two columns
 -- The verdict of a column of the rows: 0 the inferred one, 1 the checked one.
@@ -33,50 +38,132 @@ judgingApp zero = applied
 judgingApp (suc c) = application
 
 ---------------------------------------------------------------- the table
--- What a slot of the table ws says over the sorts st of a verdict f on Apps: it has at most six terms, their numbers and the
--- answer's are the store's, and the verdict on these terms is that answer.
-pub record Says (f : Sorts → Verdict) (st : List Sort) (ws : List ℕ) (at : ℕ) : Type 0 where
-  pub few : getD ws at 0 ≤ 6
-  pub answer : u16At ws (at + 1) < length st
-  pub below : (j : ℕ) → j < getD ws at 0 → u16At ws (at + 3 + 2 * j) < length st
-  pub is : f (sortsOf st (numbersAt ws (at + 3) (getD ws at 0))) ≡ sort (getD st (u16At ws (at + 1)) leaf)
+-- The bytes of a slot, how many slots there are, and how many terms an App has at most.
+abbrev pub slotSize : ℕ
+slotSize = 132
 
--- EVERY SLOT THAT IS NOT EMPTY SAYS THE TRUTH.
-pub record Past (f : Sorts → Verdict) (st : List Sort) (ws : List ℕ) : Type 0 where
-  pub each : (i : ℕ) → (getD ws (i * 16) 0 ≡ 0 → ⊥) → Says f st ws (i * 16)
+abbrev pub slotCount : ℕ
+slotCount = 128
 
+abbrev pub mostTerms : ℕ
+mostTerms = 64
+
+abbrev pub tableSize : ℕ
+tableSize = slotCount * slotSize
+
+-- The code that the slot at a place notes in three bytes, so below this: a number of the store, and a cause, 0 for a sort.
+abbrev pub codeEnd : ℕ
+codeEnd = 16777216
+
+abbrev pub codeAt : List ℕ → ℕ → ℕ
+codeAt ws at = getD ws (at + 3) 0 * 65536 + u16At ws (at + 1)
+
+-- WHAT THE TABLE ws SAYS: a slot that is not empty has noted the code c of an App of the terms whose sorts have the numbers key.
+pub record Says (ws key : List ℕ) (c : ℕ) : Type 0 where
+  pub slot : ℕ
+  pub full : getD ws (slot * slotSize) 0 ≡ 0 → ⊥
+  pub few : getD ws (slot * slotSize) 0 ≤ mostTerms
+  pub terms : key ≡ numbersAt ws (slot * slotSize + 4) (getD ws (slot * slotSize) 0)
+  pub code : c ≡ codeAt ws (slot * slotSize)
+
+-- What ws′ says, ws said.
+abbrev pub Less : List ℕ → List ℕ → Type 0
+Less ws ws′ = (key : List ℕ) (c : ℕ) → Says ws′ key c → Says ws key c
+
+-- The truth about an App of the terms with these numbers, by a verdict f on Apps, over the sorts st in buffers of the lengths lb
+-- and lp: its row has the code c, and nothing is added to the store.
+pub record Told (f : Sorts → Verdict) (lb lp : ℕ) (st : List Sort) (key : List ℕ) (c : ℕ) : Type 0 where
+  pub below : (j : ℕ) → j < length key → getD key j 0 < length st
+  pub is : (l : Lengths) → l .records ≡ lb → l .places ≡ lp → outcome l st (f (sortsOf st key)) ≡ record { store = st; code = c }
+
+-- WHAT THE TABLE SAYS IS TRUE.
+pub record Past (f : Sorts → Verdict) (lb lp : ℕ) (st : List Sort) (ws : List ℕ) : Type 0 where
+  pub each : (key : List ℕ) (c : ℕ) → Says ws key c → Told f lb lp st key c
+
+-- The same of a column, over the store of n sorts in b p.
+abbrev pub PastOf : ℕ → List ℕ → List ℕ → ℕ → List ℕ → Type 0
+PastOf column b p n ws = Past (judgingApp column) (length b) (length p) (storeOf b p n) ws
+
+---------------------------------------------------------------- the functions on it
 -- Where the slot of an App stands.
 abbrev pub slotOf : List ℕ → ℕ → ℕ
-slotOf a n = (u16At a 3 * 31 + u16At a 5 * 7 + u16At a (1 + 2 * n)) % 128 * 16
+slotOf a n = (u16At a 3 * 31 + u16At a 5 * 6 + u16At a (1 + 2 * n)) % slotCount * slotSize
 
--- Two to six numbers in a from byte 3 on.
+-- The numbers of an App's terms in a from byte 3 on.
 pub record KeyAsks (a : List ℕ) (n : ℕ) : Type 0 where
   pub some : 2 ≤ n
-  pub few : n ≤ 6
+  pub few : n ≤ mostTerms
   pub within : 3 + 2 * n ≤ length a
 
--- What is told of an App of the n terms in a from byte 3 on: its answer is the sort k.
-pub record Told (f : Sorts → Verdict) (st : List Sort) (a : List ℕ) (n k : ℕ) : Type 0 where
-  pub known : k < length st
-  pub below : (j : ℕ) → j < n → u16At a (3 + 2 * j) < length st
-  pub is : f (sortsOf st (numbersAt a 3 n)) ≡ sort (getD st k leaf)
+-- The place of a slot in ws.
+pub record SlotAt (ws : List ℕ) (at : ℕ) : Type 0 where
+  pub slot : ℕ
+  pub place : at ≡ slot * slotSize
+  pub room : at + slotSize ≤ length ws
 
--- WHAT IS RECALLED IS TRUE: of every verdict and all sorts of which the table says the truth.
-abbrev pub RecalledIs : List ℕ → List ℕ → ℕ → ℕ → Type 0
-RecalledIs ws a n r = (f : Sorts → Verdict) (st : List Sort) → Past f st ws → (k : ℕ) → r ≡ suc k → Told f st a n k
+pub record SlotAsks (ws : List ℕ) (at : ℕ) (a : List ℕ) (n : ℕ) : Type 0 where
+  pub key : KeyAsks a n
+  pub here : SlotAt ws at
 
--- THE TABLE STAYS TRUE where what is noted is.
-abbrev pub NotedIs : List ℕ → List ℕ → ℕ → ℕ → List ℕ → Type 0
-NotedIs ws a n k ws′ = (f : Sorts → Verdict) (st : List Sort) → Past f st ws → Told f st a n k → Past f st ws′
+-- One more than a code that the table says, or 0.
+pub record RecalledIs (ws a : List ℕ) (n r : ℕ) : Type 0 where
+  pub said : (c : ℕ) → r ≡ suc c → Says ws (numbersAt a 3 n) c
+  pub small : r ≤ codeEnd
 
--- The same of a row: only a sort is noted.
-abbrev pub RowTold : (Sorts → Verdict) → List Sort → List ℕ → ℕ → RowVerdict → Type 0
-RowTold f st a n (Number k) = Told f st a n k
-RowTold f st a n (Refused c) = Unit {0}
+-- A slot of ws that has the numbers key of n terms.
+pub record OpenAt (ws : List ℕ) (at n : ℕ) (key : List ℕ) : Type 0 where
+  pub here : SlotAt ws at
+  pub some : 2 ≤ n
+  pub few : n ≤ mostTerms
+  pub terms : numbersAt ws (at + 4) n ≡ key
 
--- What a look-up gave: 1 says that the table has no note of the App, and that its sorts stand in a.
-abbrev pub RowNotedIs : List ℕ → List ℕ → ℕ → ℕ → RowVerdict → List ℕ → Type 0
-RowNotedIs ws a n look v ws′ = (f : Sorts → Verdict) (st : List Sort) → Past f st ws → (look ≡ 1 → RowTold f st a n v) → Past f st ws′
+pub record OpenedIs (ws : List ℕ) (at : ℕ) (a : List ℕ) (n : ℕ) (ws′ : List ℕ) : Type 0 where
+  pub ready : OpenAt ws′ at n (numbersAt a 3 n)
+  pub less : Less ws ws′
+
+-- What a look-up of the terms with the numbers key found in ws, and left in ws′.
+abbrev pub Found : List ℕ → List ℕ → List ℕ → ℕ → Look → Type 0
+Found ws ws′ key n Apart = Unit {0}
+Found ws ws′ key n (Noted c) = Says ws key c
+Found ws ws′ key n (Open at) = OpenAt ws′ at n key
+
+pub record SeekIs (ws a : List ℕ) (n : ℕ) (ws′ : List ℕ) (q : Look) : Type 0 where
+  pub found : Found ws ws′ (numbersAt a 3 n) n q
+  pub less : Less ws ws′
+
+-- A slot, how many terms it has the numbers of, and a code for them.
+pub record NoteAsks (ws : List ℕ) (at n c : ℕ) : Type 0 where
+  pub here : SlotAt ws at
+  pub some : 2 ≤ n
+  pub few : n ≤ mostTerms
+  pub small : c < codeEnd
+
+-- ONLY ONE NOTE IS NEW: that code, of the terms whose numbers stand in the slot.
+abbrev pub NotedIs : List ℕ → ℕ → ℕ → ℕ → List ℕ → Type 0
+NotedIs ws at n c ws′ = (key : List ℕ) (d : ℕ) → Says ws′ key d → Says ws key d ⊎ ((key ≡ numbersAt ws (at + 4) n) × (d ≡ c))
+
+-- The same of a row, which is noted where the look-up left a slot for it.
+abbrev pub RowNoteAsks : List ℕ → ℕ → Look → RowVerdict → Type 0
+RowNoteAsks ws n Apart v = Unit {0}
+RowNoteAsks ws n (Noted c) v = Unit {0}
+RowNoteAsks ws n (Open at) v = NoteAsks ws at n (codeOf v)
+
+abbrev pub RowNotedIs : List ℕ → ℕ → Look → RowVerdict → List ℕ → Type 0
+RowNotedIs ws n Apart v ws′ = ws′ ≡ ws
+RowNotedIs ws n (Noted c) v ws′ = ws′ ≡ ws
+RowNotedIs ws n (Open at) v ws′ = NotedIs ws at n (codeOf v) ws′
+
+-- A code that is a number of a store or a cause times 65,536, and the row that it is of.
+pub record Coded (c : ℕ) : Type 0 where
+  pub low : 65536 ≤ c → 20 ≤ c / 65536
+  pub high : 65536 ≤ c → c / 65536 ≤ 29
+  pub whole : 65536 ≤ c → c / 65536 * 65536 ≡ c
+
+pub record AgainIs (c n u : ℕ) (r : Answer) : Type 0 where
+  pub code : codeOf (r .verdict) ≡ c
+  pub small : (k : ℕ) → r .verdict ≡ Number k → k < 65536
+  pub count : r .count ≡ n
+  pub used : r .used ≡ u
 
 ---------------------------------------------------------------- the rows of a record
 -- The row in a column of the term that the sheet names at a place.
@@ -94,32 +181,37 @@ pub record HeadAsks (b p : List ℕ) (n : ℕ) (s : List ℕ) (at : ℕ) (rows :
 abbrev pub headIsPar : List ℕ → List ℕ → ℕ → List ℕ → ℕ → List ℕ → ℕ → Bool
 headIsPar b p n s at rows column = ltb (headRow s at rows column) 65536 && eqb (kindOf (sortAt b p n (headRow s at rows column))) 12
 
--- A stored record in one of the two columns, with room for two to six numbers.
+-- A stored record in one of the two columns, and an array for its arguments.
 pub record LookAsks (b p : List ℕ) (n : ℕ) (s rows : List ℕ) (column : ℕ) (r : TermRecord) (a : List ℕ) : Type 0 where
   pub table : List ℕ
   pub places : List ℕ
   pub stored : Stored b p n
   pub standing : Standing n s table places rows r
   pub side : column ≤ 1
-  pub room : 15 ≤ length a
+  pub room : 259 ≤ length a
 
--- An App whose sorts stand in a, and what is recalled of them.
-pub record Looked (s rows : List ℕ) (column : ℕ) (r : TermRecord) (a ws : List ℕ) (q : ℕ) : Type 0 where
+-- An App whose sorts stand in a.
+pub record AppIs (s rows : List ℕ) (column : ℕ) (r : TermRecord) (a : List ℕ) : Type 0 where
   pub app : r .kind ≡ 6
-  pub key : KeyAsks a (r .count)
   pub parts : PartsAre s rows column r a true
-  pub recalled : RecalledIs ws a (r .count) q
 
--- 0 SAYS NOTHING; one more than what is recalled says that the record is an App.
-abbrev pub LookedIs : List ℕ → List ℕ → ℕ → TermRecord → List ℕ → List ℕ → ℕ → Type 0
-LookedIs s rows column r a ws q = (v : ℕ) → q ≡ suc v → Looked s rows column r a ws v
+-- APART SAYS NOTHING; else the record is an App, and its terms were looked up.
+abbrev pub Looked : List ℕ → List ℕ → ℕ → TermRecord → List ℕ → Look → Type 0
+Looked s rows column r a Apart = Unit {0}
+Looked s rows column r a (Noted c) = AppIs s rows column r a
+Looked s rows column r a (Open at) = AppIs s rows column r a
+
+pub record LookedIs (s rows : List ℕ) (column : ℕ) (r : TermRecord) (a ws ws′ : List ℕ) (q : Look) : Type 0 where
+  pub looked : Looked s rows column r a q
+  pub found : Found ws ws′ (numbersAt a 3 (r .count)) (r .count) q
+  pub less : Less ws ws′
 
 -- What a row asks, and a table that says the truth.
 pub record PastAsks (column : ℕ) (b p hs ns zs : List ℕ) (n u : ℕ) (prm imgs bnd s tbl xs rows : List ℕ) (r : TermRecord) (a ws : List ℕ) : Type 0 where
   pub asks : TermAsks b p hs ns zs n u prm imgs bnd s tbl xs rows r a
-  pub past : Past (judgingApp column) (storeOf b p n) ws
+  pub past : PastOf column b p n ws
 
 -- THE ROW IN A COLUMN, and a table that says the truth over the store after it.
 pub record PastIs (column : ℕ) (b p : List ℕ) (n : ℕ) (prm imgs bnd s tbl xs rows : List ℕ) (r : TermRecord) (b′ p′ hs′ ns′ zs′ prm′ imgs′ bnd′ : List ℕ) (q : Answer) (ws′ : List ℕ) : Type 0 where
   pub row : TermIs (judging column) column b p n prm imgs bnd s tbl xs rows r b′ p′ hs′ ns′ zs′ prm′ imgs′ bnd′ q
-  pub past : Past (judgingApp column) (storeOf b′ p′ (q .count)) ws′
+  pub past : PastOf column b′ p′ (q .count) ws′

@@ -1,43 +1,54 @@
 -- A table without notes says the truth, and one that does says it over a store that has grown.
-use Prim.Native.Nat.{ℕ, zero, suc, _+_, _*_, _≤_, _<_}
-use mathlib.Core.Path.{_≡_, refl, sym, ap, ap₂, subst, _∙_}
-use mathlib.Core.List.{List, []}
+use Prim.Native.Nat.{ℕ, suc, _*_, _<_}
+use mathlib.Core.Path.{_≡_, refl, ap, ap₂, _∙_}
+use mathlib.Core.Bool.{true}
+use mathlib.Core.List.{List, [], _∷_}
 use native.Mathlib.Omega.{arith}
 use lib.ListN.{length, getD, replicate}
-use Rattle.record.specs.Number.{u16At, numbersAt}
 use Rattle.record.specs.Sort.{Sort, Sorts, _then_}
-use Rattle.record.specs.Record.{leaf, sortsOf}
-use Rattle.record.specs.SortLists.{Starts, starts-at, starts-count}
+use Rattle.record.specs.Record.{sortsOf}
+use Rattle.record.specs.Store.{room}
+use Rattle.record.specs.Decode.{storeOf}
+use Rattle.record.specs.Entries.{store-ordered}
+use Rattle.record.specs.SortLists.{Once, Ordered, Starts, starts-at, starts-count}
 use Rattle.sheet.specs.Stands.{zeros-all}
-use Rattle.rows.specs.Verdict.{Verdict, sort}
-use Rattle.repeats.specs.Past.{Says, Past}
+use Rattle.store.specs.Good.{Good, good-room}
+use Rattle.rows.specs.Verdict.{Verdict}
+use Rattle.rows.specs.Outcome.{outcome}
+use Rattle.answers.specs.AnswerLaws.{good-once}
+use Rattle.repeats.specs.Past.{slotSize, judgingApp, Told, PastOf}
+use Rattle.repeats.specs.Again.{outcome-stays}
 
-pub past-none : (f : Sorts → Verdict) (st : List Sort) (n : ℕ) → Past f st (replicate n 0)
-past-none f st n = record { each = λ i d. absurd (d (zeros-all n (i * 16) (omega arith))) }
+pub past-none : (column : ℕ) (b p : List ℕ) (n m : ℕ) → PastOf column b p n (replicate m 0)
+past-none column b p n m = record { each = λ key c s. absurd (s .full (zeros-all m (s .slot * slotSize) (omega arith))) }
 
 -- The sorts of numbers that a store has are those of one that has grown from it.
-pub sorts-grown : (st st′ : List Sort) → Starts st st′ → (l : List ℕ) (x n : ℕ) → ((j : ℕ) → j < n → u16At l (x + 2 * j) < length st)
-    → sortsOf st′ (numbersAt l x n) ≡ sortsOf st (numbersAt l x n)
-unfolding numbersAt sortsOf
-sorts-grown st st′ g l x zero h = refl
-sorts-grown st st′ g l x (suc n) h =
-    let e : x + 2 * 0 ≡ x = omega arith in
-    ap₂ (λ (s : Sort) (ss : Sorts). s then ss) (starts-at st st′ g (u16At l x) (subst (λ (y : ℕ). u16At l y < length st) e (h 0 (omega arith))))
-    (sorts-grown st st′ g l (x + 2) n
-    (λ j o. let d : x + 2 * suc j ≡ x + 2 + 2 * j = omega arith in subst (λ (y : ℕ). u16At l y < length st) d (h (suc j) (omega arith))))
+pub sorts-grown : (st st′ : List Sort) → Starts st st′ → (key : List ℕ) → ((j : ℕ) → j < length key → getD key j 0 < length st) → sortsOf st′ key ≡ sortsOf st key
+unfolding sortsOf
+sorts-grown st st′ g [] h = refl
+sorts-grown st st′ g (k ∷ key) h =
+    ap₂ (λ (s : Sort) (ss : Sorts). s then ss) (starts-at st st′ g k (h 0 (omega arith))) (sorts-grown st st′ g key (λ j o. h (suc j) (omega arith)))
 
-says-grown : (f : Sorts → Verdict) (st st′ : List Sort) (ws : List ℕ) (at : ℕ) → Starts st st′ → Says f st ws at → Says f st′ ws at
-says-grown f st st′ ws at g h =
+-- THE TRUTH ABOUT AN APP STAYS TRUE over a store that has grown, of distinct sorts, parts before wholes, with room.
+told-grown : (f : Sorts → Verdict) (lb lp : ℕ) (st st′ : List Sort) (key : List ℕ) (c : ℕ) → Starts st st′ → Once st′ → Ordered st′ → room lb lp st′ ≡ true
+    → Told f lb lp st key c → Told f lb lp st′ key c
+told-grown f lb lp st st′ key c g once ordered fits h =
     let more = starts-count st st′ g in
     record {
-      few = h .few;
-      answer = omega (arith, h .answer);
       below = λ j o. omega (arith, h .below j o);
-      is =
-          ap f (sorts-grown st st′ g ws (at + 3) (getD ws at 0) (h .below)) ∙ h .is
-          ∙ ap sort (sym (starts-at st st′ g (u16At ws (at + 1)) (h .answer)));
+      is = λ l e d.
+          ap (λ (ss : Sorts). outcome l st′ (f ss)) (sorts-grown st st′ g key (h .below))
+          ∙ outcome-stays l st st′ g once ordered (ap₂ (λ (x y : ℕ). room x y st′) e d ∙ fits) c (f (sortsOf st key)) (h .is l e d);
     }
 
--- THE TABLE SAYS THE TRUTH OVER A STORE THAT HAS GROWN.
-pub past-grown : (f : Sorts → Verdict) (st st′ : List Sort) (ws : List ℕ) → Starts st st′ → Past f st ws → Past f st′ ws
-past-grown f st st′ ws g h = record { each = λ i d. says-grown f st st′ ws (i * 16) g (h .each i d) }
+-- THE TABLE OF A COLUMN SAYS THE TRUTH OVER A STORE THAT HAS GROWN, in buffers of the same lengths.
+pub past-grown : (column : ℕ) (b p : List ℕ) (n : ℕ) (b′ p′ hs′ ns′ zs′ : List ℕ) (n′ u′ : ℕ) (ws : List ℕ) → Good b′ p′ hs′ ns′ zs′ n′ u′ → length b′ ≡ length b → length p′ ≡ length p
+    → Starts (storeOf b p n) (storeOf b′ p′ n′) → PastOf column b p n ws → PastOf column b′ p′ n′ ws
+past-grown column b p n b′ p′ hs′ ns′ zs′ n′ u′ ws good long wide g h =
+    let f = judgingApp column in
+    record {
+      each = λ key c s.
+          told-grown f (length b′) (length p′) (storeOf b p n) (storeOf b′ p′ n′) key c g (good-once b′ p′ hs′ ns′ zs′ n′ u′ good)
+          (store-ordered b′ p′ n′ (good .stored)) (good-room b′ p′ hs′ ns′ zs′ n′ u′ good)
+          (let t = h .each key c s in record { below = t .below; is = λ l e d. t .is l (e ∙ long) (d ∙ wide) });
+    }

@@ -1,17 +1,23 @@
 // Both rows of a term record. An App whose head is a Par is looked up first among those that were judged before: its verdict goes
-// by the sorts of its head and its arguments alone, so it is what an App of the same sorts was found to be.
+// by the sorts of its head and its arguments alone, and what then had no room in the store has none now, since the store only grows.
+// So its row, a sort or a refusal, is what an App of the same sorts was found to be.
 use answers::Answer;
 use answers::found;
+use answers::refuse;
 use checker::check;
 use inference::infer;
 use reader::TermRecord;
 use record::u16_at;
+use rows::Cause;
 use site::parts_judged;
-use slots::recalled;
+use slots::Look;
 use slots::row_noted;
+use slots::seek;
 use store::entries::kind_at;
 ghost use mathlib.Core.Path.{_≡_};
-ghost use Rattle.repeats.specs.Past.{HeadAsks, headIsPar, LookAsks, LookedIs, PastAsks, PastIs};
+ghost use Prim.Native.Nat.{_≤_};
+ghost use Rattle.rows.specs.Verdict.{numberOf};
+ghost use Rattle.repeats.specs.Past.{Coded, AgainIs, HeadAsks, headIsPar, LookAsks, LookedIs, PastAsks, PastIs};
 
 pub mod slots;
 
@@ -36,9 +42,39 @@ pub fn head_is_par(
     kind_at(records, places, k) == 12
 }
 
-// Looks an App of two to six terms whose head is a Par up in the table: two more than the number of its answer; 1 where the table
-// has no note of it, and the numbers of its sorts stand in `key` from byte 3 on then too; 0 for any other record, and where a
-// term that it names has a refused row.
+// The cause with this number.
+pub fn cause_of(n: usize) -> Cause
+    requires { ⌜ (20 ≤ n) × (n ≤ 29) ⌝ }
+    ensures { λ r. ⌜ numberOf r ≡ n ⌝ }
+{
+    match n {
+        20 => Cause::Below,
+        21 => Cause::Panics,
+        22 => Cause::Limit,
+        23 => Cause::Full,
+        24 => Cause::NoRank,
+        25 => Cause::Count,
+        26 => Cause::Misfit,
+        27 => Cause::Unassigned,
+        28 => Cause::Barred,
+        _ => Cause::NoAssignment,
+    }
+}
+
+// The row with this code, a sort that the store has or a refusal, over a store that is as it was.
+pub fn row_again(row: usize, count: usize, used: usize) -> Answer
+    requires { ⌜ Coded row ⌝ }
+    ensures { λ r. ⌜ AgainIs row count used r ⌝ }
+{
+    if row < 65536 {
+        return found(row, count, used);
+    }
+    let c = cause_of(row / 65536);
+    refuse(c, count, used)
+}
+
+// Looks up an App of two terms or more whose head is a Par, with the numbers of its sorts in `args` from byte 3 on: the code of its
+// row, or the slot where it is to be noted; Apart for any other record, and where a term that it names has a refused row.
 pub fn looked_up(
     records: &[u8],
     places: &[u32],
@@ -47,31 +83,28 @@ pub fn looked_up(
     rows: &[u32],
     column: usize,
     term: TermRecord,
-    key: &mut [u8],
-    past: &[u8],
-) -> usize
-    requires { ⌜ LookAsks (now records) (now places) count (now sheet) (now rows) column term (now key) ⌝ }
-    ensures { λ r. ⌜ LookedIs (now (sheet .entry)) (now (rows .entry)) column term (now (key .exit)) (now (past .entry)) r ⌝ }
+    args: &mut [u8],
+    past: &mut [u8],
+) -> Look
+    requires { ⌜ LookAsks (now records) (now places) count (now sheet) (now rows) column term (now args) ⌝ }
+    ensures { λ r. ⌜ LookedIs (now (sheet .entry)) (now (rows .entry)) column term (now (args .exit)) (now (past .entry)) (now (past .exit)) r ⌝ }
 {
     let kind = term.kind;
     let n = term.count;
     let at = term.list;
     if kind != 6 {
-        return 0;
+        return Look::Apart;
     }
     if n < 2 {
-        return 0;
-    }
-    if 6 < n {
-        return 0;
+        return Look::Apart;
     }
     if !head_is_par(records, places, count, sheet, at, rows, column) {
-        return 0;
+        return Look::Apart;
     }
-    if !parts_judged(sheet, rows, column, term, key) {
-        return 0;
+    if !parts_judged(sheet, rows, column, term, args) {
+        return Look::Apart;
     }
-    recalled(past, key, n) + 1
+    seek(past, args, n)
 }
 
 // The inferred row of a record: what `past` has noted of it, or what `infer` answers, and then `past` has it. `args` is used up; the
@@ -98,11 +131,10 @@ pub fn inferred_row(
     requires { ⌜ PastAsks 0 (now records) (now places) (now heads) (now next) (now sizes) count used (now params) (now images) (now bound) (now sheet) (now table) (now starts) (now rows) term (now args) (now past) ⌝ }
     ensures { λ r. ⌜ PastIs 0 (now (records .entry)) (now (places .entry)) count (now (params .entry)) (now (images .entry)) (now (bound .entry)) (now (sheet .entry)) (now (table .entry)) (now (starts .entry)) (now (rows .entry)) term (now (records .exit)) (now (places .exit)) (now (heads .exit)) (now (next .exit)) (now (sizes .exit)) (now (params .exit)) (now (images .exit)) (now (bound .exit)) r (now (past .exit)) ⌝ }
 {
-    let mut key = [0u8; 16];
     let n = term.count;
-    let look = looked_up(records, places, count, sheet, rows, 0, term, &mut key, past);
-    if 1 < look {
-        return found(look - 2, count, used);
+    let look = looked_up(records, places, count, sheet, rows, 0, term, args, past);
+    if let Look::Noted(row) = look {
+        return row_again(row, count, used);
     }
     let made = infer(
         records,
@@ -123,7 +155,7 @@ pub fn inferred_row(
         args,
     );
     let v = made.verdict;
-    row_noted(past, &key, n, look, v);
+    row_noted(past, n, look, v);
     made
 }
 
@@ -150,11 +182,10 @@ pub fn checked_row(
     requires { ⌜ PastAsks 1 (now records) (now places) (now heads) (now next) (now sizes) count used (now params) (now images) (now bound) (now sheet) (now table) (now starts) (now rows) term (now args) (now past) ⌝ }
     ensures { λ r. ⌜ PastIs 1 (now (records .entry)) (now (places .entry)) count (now (params .entry)) (now (images .entry)) (now (bound .entry)) (now (sheet .entry)) (now (table .entry)) (now (starts .entry)) (now (rows .entry)) term (now (records .exit)) (now (places .exit)) (now (heads .exit)) (now (next .exit)) (now (sizes .exit)) (now (params .exit)) (now (images .exit)) (now (bound .exit)) r (now (past .exit)) ⌝ }
 {
-    let mut key = [0u8; 16];
     let n = term.count;
-    let look = looked_up(records, places, count, sheet, rows, 1, term, &mut key, past);
-    if 1 < look {
-        return found(look - 2, count, used);
+    let look = looked_up(records, places, count, sheet, rows, 1, term, args, past);
+    if let Look::Noted(row) = look {
+        return row_again(row, count, used);
     }
     let made = check(
         records,
@@ -175,6 +206,6 @@ pub fn checked_row(
         args,
     );
     let v = made.verdict;
-    row_noted(past, &key, n, look, v);
+    row_noted(past, n, look, v);
     made
 }

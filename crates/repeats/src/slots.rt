@@ -1,14 +1,30 @@
-// What an App was found to be, noted in a lent table by the numbers of its head and its arguments. The table has 128 slots of 16
-// bytes, or none where it is shorter: how many terms (0 in an empty slot), the number of the answer, and from byte 3 on the
-// numbers of the terms' sorts, two bytes each. A slot keeps the last App that was noted there; an App has two to six terms here.
+// What an App was found to be, noted in a lent table by the numbers of its head and its arguments. The table has 128 slots of 132
+// bytes, or fewer where it is shorter: how many terms (0 in an empty slot), the row's code in three bytes, a number of the store and
+// a cause, and from byte 4 on the numbers of the terms' sorts, two bytes each. A slot keeps the last App that was looked up there.
 use answers::arguments::put_u16;
+use answers::code;
 use check::same;
 use record::u16_at;
 use rows::RowVerdict;
 use store::buffers::copy_at;
 ghost use mathlib.Core.Path.{_≡_};
 ghost use Prim.Native.Nat.{_≤_, _<_};
-ghost use Rattle.repeats.specs.Past.{slotOf, KeyAsks, RecalledIs, NotedIs, RowNotedIs};
+ghost use Rattle.repeats.specs.Past.{slotOf, KeyAsks, SlotAsks, RecalledIs, OpenedIs, SeekIs, NoteAsks, NotedIs, RowNoteAsks, RowNotedIs};
+
+// The bytes of a slot, and of the whole table.
+pub const SLOT: usize = 132;
+
+pub const TABLE: usize = 128 * SLOT;
+
+// What a look-up gave.
+pub enum Look {
+    // Nothing: the record is none that is noted, or the table has no slot for it.
+    Apart,
+    // The code of its row.
+    Noted(usize),
+    // No note: the slot at this place is empty and has the numbers of its terms.
+    Open(usize),
+}
 
 // Where the slot of an App of these `n` terms stands: by its head, its first and its last argument.
 pub fn slot_of(args: &[u8], n: usize) -> usize
@@ -18,61 +34,75 @@ pub fn slot_of(args: &[u8], n: usize) -> usize
     let head = u16_at(args, 3);
     let first = u16_at(args, 5);
     let last = u16_at(args, 1 + 2 * n);
-    (head * 31 + first * 7 + last) % 128 * 16
+    (head * 31 + first * 6 + last) % 128 * SLOT
 }
 
-// One more than the number of the answer of an App of the `n` terms whose sorts are in `args` from byte 3 on, where one is noted;
-// else 0.
-pub fn recalled(past: &[u8], args: &[u8], n: usize) -> usize
-    requires { ⌜ KeyAsks (now args) n ⌝ }
-    ensures { λ r. ⌜ RecalledIs (now (past .entry)) (now (args .entry)) n r × (r ≤ 65536) ⌝ }
+// One more than the code in the slot at `at`, where that has noted the `n` terms whose numbers are in `args` from byte 3 on; else 0.
+pub fn recalled(past: &[u8], at: usize, args: &[u8], n: usize) -> usize
+    requires { ⌜ SlotAsks (now past) at (now args) n ⌝ }
+    ensures { λ r. ⌜ RecalledIs (now (past .entry)) (now (args .entry)) n r ⌝ }
 {
-    let at = slot_of(args, n);
-    if past.len() < at + 16 {
-        return 0;
-    }
     if past[at] as usize != n {
         return 0;
     }
-    let from = at + 3;
+    let from = at + 4;
     let to = from + 2 * n;
     let end = 3 + 2 * n;
     if same(&past[from..to], &args[3..end]) {
-        return u16_at(past, at + 1) + 1;
+        return past[at + 3] as usize * 65536 + u16_at(past, at + 1) + 1;
     }
     0
 }
 
-// Notes the answer `k` of an App of the `n` terms whose sorts are in `args` from byte 3 on, in the place of what its slot kept
-// before. The table stays as it was where it has no such slot.
-pub fn noted(past: &mut [u8], args: &[u8], n: usize, k: usize)
-    requires { ⌜ KeyAsks (now args) n × (k < 65536) ⌝ }
-    ensures { λ _. ⌜ NotedIs (now (past .entry)) (now (args .entry)) n k (now (past .exit)) ⌝ }
+// Empties the slot at `at` and writes the numbers of the `n` terms there, which are in `args` from byte 3 on.
+pub fn opened(past: &mut [u8], at: usize, args: &[u8], n: usize)
+    requires { ⌜ SlotAsks (now past) at (now args) n ⌝ }
+    ensures { λ _. ⌜ OpenedIs (now (past .entry)) at (now (args .entry)) n (now (past .exit)) ⌝ }
 {
-    let at = slot_of(args, n);
-    if past.len() < at + 16 {
-        return;
-    }
-    past[at] = n as u8;
-    put_u16(past, at + 1, k);
+    past[at] = 0;
     let end = 3 + 2 * n;
-    copy_at(past, at + 3, &args[3..end]);
+    copy_at(past, at + 4, &args[3..end]);
 }
 
-// Notes a row that is a sort, where the table was looked up and had no note (`look` is 1); else the table stays as it was.
-pub fn row_noted(past: &mut [u8], args: &[u8], n: usize, look: usize, v: RowVerdict)
-    requires { ⌜ (look ≡ 1 → KeyAsks (now args) n) ⌝ }
-    ensures { λ _. ⌜ RowNotedIs (now (past .entry)) (now (args .entry)) n look v (now (past .exit)) ⌝ }
+// Looks up an App of the `n` terms whose numbers are in `args` from byte 3 on: its code, or its slot, which is emptied and has the
+// numbers then; Apart where the table has no such slot.
+pub fn seek(past: &mut [u8], args: &[u8], n: usize) -> Look
+    requires { ⌜ KeyAsks (now args) n ⌝ }
+    ensures { λ r. ⌜ SeekIs (now (past .entry)) (now (args .entry)) n (now (past .exit)) r ⌝ }
 {
-    if look != 1 {
-        return;
+    let at = slot_of(args, n);
+    if past.len() < at + SLOT {
+        return Look::Apart;
     }
-    match v {
-        RowVerdict::Sort(k) => {
-            if k < 65536 {
-                noted(past, args, n, k);
-            }
+    let known = recalled(past, at, args, n);
+    if 0 < known {
+        return Look::Noted(known - 1);
+    }
+    opened(past, at, args, n);
+    Look::Open(at)
+}
+
+// Notes a code in the slot at `at`, which has the numbers of `n` terms.
+pub fn noted(past: &mut [u8], at: usize, n: usize, row: usize)
+    requires { ⌜ NoteAsks (now past) at n row ⌝ }
+    ensures { λ _. ⌜ NotedIs (now (past .entry)) at n row (now (past .exit)) ⌝ }
+{
+    past[at] = n as u8;
+    put_u16(past, at + 1, row % 65536);
+    past[at + 3] = (row / 65536) as u8;
+}
+
+// Notes a row of `n` terms where the look-up left a slot for it; else the table stays as it was.
+pub fn row_noted(past: &mut [u8], n: usize, look: Look, v: RowVerdict)
+    requires { ⌜ RowNoteAsks (now past) n look v ⌝ }
+    ensures { λ _. ⌜ RowNotedIs (now (past .entry)) n look v (now (past .exit)) ⌝ }
+{
+    match look {
+        Look::Open(at) => {
+            let row = code(v) as usize;
+            noted(past, at, n, row);
         }
-        RowVerdict::Refused(_) => {}
+        Look::Apart => {}
+        Look::Noted(_) => {}
     }
 }

@@ -3,7 +3,6 @@ use Prim.Native.Nat.{ℕ, _+_, _*_, _≤_}
 use mathlib.Core.List.{List}
 use lib.ListN.{length, set}
 use mathlib.Core.Path.{_≡_}
-use Rattle.record.specs.Decode.{storeOf}
 use Rattle.reader.specs.declared.TermRecord.{TermRecord}
 use Rattle.rows.specs.Verdict.{codeOf}
 use Rattle.inferred.specs.Inferred.{inferred}
@@ -11,14 +10,14 @@ use Rattle.checked.specs.Ranks.{smtLib}
 use Rattle.checked.specs.Checked.{checked}
 use Rattle.answers.specs.declared.Answer.{Answer}
 use Rattle.site.specs.Site.{TermIs}
-use Rattle.repeats.specs.Past.{judging, judgingApp, PastAsks, PastIs}
+use Rattle.repeats.specs.Past.{judging, PastAsks, PastIs}
 use Rattle.repeats.specs.PastLaws.{past-grown}
 use Rattle.questions.specs.declared.all.Counts.{Counts}
 use Rattle.tabling.specs.Table.{Pasts, BothAsk, BothAre}
 use Rattle.tabling.proofs.TableLaws.{first-asks, second-asks, both-are}
 
 module _ (b p hs ns zs : List ℕ) (n u : ℕ) (prm imgs bnd s tbl xs rows : List ℕ) (r : TermRecord) (t : ℕ)
-    (h : BothAsk b p hs ns zs n u prm imgs bnd s tbl xs rows r t) (ws vs : List ℕ) (k : Pasts (storeOf b p n) ws vs) where
+    (h : BothAsk b p hs ns zs n u prm imgs bnd s tbl xs rows r t) (ws vs : List ℕ) (k : Pasts b p n ws vs) where
   pub inferred-asks : (a : List ℕ) → 259 ≤ length a → PastAsks 0 b p hs ns zs n u prm imgs bnd s tbl xs rows r a ws
   inferred-asks a o =
       record { asks = first-asks b p hs ns zs n u prm imgs bnd s tbl xs rows r t h a o; past = k .inferences }
@@ -33,7 +32,8 @@ module _ (b p hs ns zs : List ℕ) (n u : ℕ) (prm imgs bnd s tbl xs rows : Lis
     checked-asks a o =
         record {
           asks = second-asks b p hs ns zs n u prm imgs bnd s tbl xs rows r t h c q is ms ys prm₁ imgs₁ bnd₁ v first-row a o;
-          past = past-grown (judgingApp 1) (storeOf b p n) (storeOf c q (v .count)) vs (f .row .answer .starts) (k .checks);
+          past =
+              past-grown 1 b p n c q is ms ys (v .count) (v .used) vs (f .row .answer .good) (f .row .answer .long) (f .row .answer .wide) (f .row .answer .starts) (k .checks);
         }
 
     module _ (b′ p′ hs′ ns′ zs′ prm′ imgs′ bnd′ : List ℕ) (w : Answer) (vs′ : List ℕ)
@@ -50,9 +50,10 @@ module _ (b p hs ns zs : List ℕ) (n u : ℕ) (prm imgs bnd s tbl xs rows : Lis
       rows-written =
           both-are b p hs ns zs n u prm imgs bnd s tbl xs rows r t h c q is ms ys prm₁ imgs₁ bnd₁ v first-row b′ p′ hs′ ns′ zs′ prm′ imgs′ bnd′ w second-row x y ex ey
 
-      pub pasts-after : Pasts (storeOf b′ p′ (w .count)) ws′ vs′
+      pub pasts-after : Pasts b′ p′ (w .count) ws′ vs′
       pasts-after =
           record {
-            inferences = past-grown (judgingApp 0) (storeOf c q (v .count)) (storeOf b′ p′ (w .count)) ws′ (g .row .answer .starts) (f .past);
+            inferences =
+                past-grown 0 c q (v .count) b′ p′ hs′ ns′ zs′ (w .count) (w .used) ws′ (g .row .answer .good) (g .row .answer .long) (g .row .answer .wide) (g .row .answer .starts) (f .past);
             checks = g .past;
           }

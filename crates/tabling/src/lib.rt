@@ -6,7 +6,7 @@ use reader::ReadTerm;
 use reader::TermRecord;
 use repeats::checked_row;
 use repeats::inferred_row;
-ghost use Rattle.record.specs.Decode.{storeOf};
+use repeats::slots::TABLE;
 ghost use Rattle.tabling.specs.Table.{Pasts, BothAsk, BothAre, TurnAsks, TurnIs, RowsAsk, RowsAre};
 
 // Writes both rows of the term t with this record at 2 t: the inferred one, then the checked one over the store after it; the
@@ -31,8 +31,8 @@ pub fn rows_of(
     inferences: &mut [u8],
     checks: &mut [u8],
 ) -> Counts
-    requires { ⌜ BothAsk (now records) (now places) (now heads) (now next) (now sizes) count used (now params) (now images) (now bound) (now sheet) (now table) (now starts) (now rows) term t × Pasts (storeOf (now records) (now places) count) (now inferences) (now checks) ⌝ }
-    ensures { λ r. ⌜ BothAre (now (records .entry)) (now (places .entry)) count (now (params .entry)) (now (images .entry)) (now (bound .entry)) (now (sheet .entry)) (now (table .entry)) (now (starts .entry)) (now (rows .entry)) term t (now (records .exit)) (now (places .exit)) (now (heads .exit)) (now (next .exit)) (now (sizes .exit)) (now (params .exit)) (now (images .exit)) (now (bound .exit)) (now (rows .exit)) r × Pasts (storeOf (now (records .exit)) (now (places .exit)) (r .count)) (now (inferences .exit)) (now (checks .exit)) ⌝ }
+    requires { ⌜ BothAsk (now records) (now places) (now heads) (now next) (now sizes) count used (now params) (now images) (now bound) (now sheet) (now table) (now starts) (now rows) term t × Pasts (now records) (now places) count (now inferences) (now checks) ⌝ }
+    ensures { λ r. ⌜ BothAre (now (records .entry)) (now (places .entry)) count (now (params .entry)) (now (images .entry)) (now (bound .entry)) (now (sheet .entry)) (now (table .entry)) (now (starts .entry)) (now (rows .entry)) term t (now (records .exit)) (now (places .exit)) (now (heads .exit)) (now (next .exit)) (now (sizes .exit)) (now (params .exit)) (now (images .exit)) (now (bound .exit)) (now (rows .exit)) r × Pasts (now (records .exit)) (now (places .exit)) (r .count) (now (inferences .exit)) (now (checks .exit)) ⌝ }
 {
     let mut args = [0u8; 266];
     let one = inferred_row(
@@ -106,8 +106,8 @@ pub fn term_rows(
     inferences: &mut [u8],
     checks: &mut [u8],
 ) -> Counts
-    requires { ⌜ TurnAsks (now records) (now places) (now heads) (now next) (now sizes) count used (now params) (now images) (now bound) (now sheet) (now table) sorts (now starts) (now rows) t × Pasts (storeOf (now records) (now places) count) (now inferences) (now checks) ⌝ }
-    ensures { λ r. ⌜ TurnIs (now (records .entry)) (now (places .entry)) count (now (params .entry)) (now (images .entry)) (now (bound .entry)) (now (sheet .entry)) (now (table .entry)) sorts (now (starts .entry)) (now (rows .entry)) t (now (records .exit)) (now (places .exit)) (now (heads .exit)) (now (next .exit)) (now (sizes .exit)) (now (params .exit)) (now (images .exit)) (now (bound .exit)) (now (rows .exit)) r × Pasts (storeOf (now (records .exit)) (now (places .exit)) (r .count)) (now (inferences .exit)) (now (checks .exit)) ⌝ }
+    requires { ⌜ TurnAsks (now records) (now places) (now heads) (now next) (now sizes) count used (now params) (now images) (now bound) (now sheet) (now table) sorts (now starts) (now rows) t × Pasts (now records) (now places) count (now inferences) (now checks) ⌝ }
+    ensures { λ r. ⌜ TurnIs (now (records .entry)) (now (places .entry)) count (now (params .entry)) (now (images .entry)) (now (bound .entry)) (now (sheet .entry)) (now (table .entry)) sorts (now (starts .entry)) (now (rows .entry)) t (now (records .exit)) (now (places .exit)) (now (heads .exit)) (now (next .exit)) (now (sizes .exit)) (now (params .exit)) (now (images .exit)) (now (bound .exit)) (now (rows .exit)) r × Pasts (now (records .exit)) (now (places .exit)) (r .count) (now (inferences .exit)) (now (checks .exit)) ⌝ }
 {
     let at = starts[t] as usize;
     let cursor = Cursor { at };
@@ -159,8 +159,8 @@ pub fn rows_past(
     inferences: &mut [u8],
     checks: &mut [u8],
 ) -> Counts
-    requires { ⌜ RowsAsk (now records) (now places) (now heads) (now next) (now sizes) count used (now params) (now images) (now bound) (now sheet) (now table) sorts (now starts) terms (now rows) × Pasts (storeOf (now records) (now places) count) (now inferences) (now checks) ⌝ }
-    ensures { λ r. ⌜ RowsAre (now (records .entry)) (now (places .entry)) count (now (params .entry)) (now (images .entry)) (now (bound .entry)) (now (sheet .entry)) (now (table .entry)) sorts (now (starts .entry)) terms (now (rows .entry)) (now (records .exit)) (now (places .exit)) (now (heads .exit)) (now (next .exit)) (now (sizes .exit)) (now (params .exit)) (now (images .exit)) (now (bound .exit)) (now (rows .exit)) r × Pasts (storeOf (now (records .exit)) (now (places .exit)) (r .count)) (now (inferences .exit)) (now (checks .exit)) ⌝ }
+    requires { ⌜ RowsAsk (now records) (now places) (now heads) (now next) (now sizes) count used (now params) (now images) (now bound) (now sheet) (now table) sorts (now starts) terms (now rows) × Pasts (now records) (now places) count (now inferences) (now checks) ⌝ }
+    ensures { λ r. ⌜ RowsAre (now (records .entry)) (now (places .entry)) count (now (params .entry)) (now (images .entry)) (now (bound .entry)) (now (sheet .entry)) (now (table .entry)) sorts (now (starts .entry)) terms (now (rows .entry)) (now (records .exit)) (now (places .exit)) (now (heads .exit)) (now (next .exit)) (now (sizes .exit)) (now (params .exit)) (now (images .exit)) (now (bound .exit)) (now (rows .exit)) r × Pasts (now (records .exit)) (now (places .exit)) (r .count) (now (inferences .exit)) (now (checks .exit)) ⌝ }
 {
     let mut n = count;
     let mut u = used;
@@ -240,8 +240,8 @@ pub fn rows_all(
             &mut none,
         );
     }
-    let mut inferences = [0u8; 2048];
-    let mut checks = [0u8; 2048];
+    let mut inferences = [0u8; TABLE];
+    let mut checks = [0u8; TABLE];
     rows_past(
         records,
         places,

@@ -1,8 +1,6 @@
 -- Tables without notes say the truth, whatever their length.
-use native.Mathlib.Omega.{arith}
 use borrow.Author.Needs.{needs}
-use Rattle.record.specs.Decode.{storeOf}
-use Rattle.repeats.specs.Past.{judgingApp}
+use Rattle.repeats.specs.Past.{tableSize}
 use Rattle.repeats.specs.PastLaws.{past-none}
 use Rattle.tabling.proofs.rows_all.Statement.{statement}
 use Rattle.tabling.proofs.rows_all.Tie as tie
@@ -17,8 +15,9 @@ rows-past-requires : tie.Need-rows-past-requires
 rows-past-requires c κs =
     let s = c .before .before .before .before .before .before .before .before .before .before .before .before .before .before .before .before .before .before .before .before .before .before .before .before in
     let a = s .args in
-    let st = storeOf (a .records .now) (a .places .now) (a .count) in
-    (s .pre, record { inferences = past-none (judgingApp 0) st 1; checks = past-none (judgingApp 1) st 1 })
+    let b = a .records .now in
+    let p = a .places .now in
+    (s .pre, record { inferences = past-none 0 b p (a .count) 1; checks = past-none 1 b p (a .count) 1 })
 
 same-length : tie.Need-same-length
 same-length c = search needs
@@ -60,8 +59,9 @@ rows-past-requires-2 : tie.Need-rows-past-requires-2
 rows-past-requires-2 c κs =
     let s = c .before .before .before .before .before .before .before .before .before .before .before .before .before .before .before .before .before .before .before .before .before .before .before .before in
     let a = s .args in
-    let st = storeOf (a .records .now) (a .places .now) (a .count) in
-    (s .pre, record { inferences = past-none (judgingApp 0) st 2048; checks = past-none (judgingApp 1) st 2048 })
+    let b = a .records .now in
+    let p = a .places .now in
+    (s .pre, record { inferences = past-none 0 b p (a .count) tableSize; checks = past-none 1 b p (a .count) tableSize })
 
 same-length-10 : tie.Need-same-length-10
 same-length-10 c = search needs

@@ -1,18 +1,16 @@
 -- The loop keeps: the first terms have their rows, and what was noted of Apps is true.
 -- A turn adds the rows of one term more.
 use native.Mathlib.Omega.{arith}
-use borrow.Author.Needs.{needs}
 use Prim.Native.Nat.{_-_, _≤_}
 use mathlib.Core.Path.{_≡_, refl, sym, ap, _∙_}
 use lib.ListN.{length}
-use Rattle.record.specs.Decode.{storeOf}
 use Rattle.tabling.specs.Table.{Pasts}
 use Rattle.tabling.proofs.TableLaws.{Tabling, tabling-start, turn-asks, tabling-step, tabling-end}
 use Rattle.tabling.proofs.rows_past.Statement.{statement}
 use Rattle.tabling.proofs.rows_past.Tie as tie
 
 abbrev Inv-loop : tie.InvT-loop
-Inv-loop records₀ places₀ heads₀ next₀ sizes₀ count used params₀ images₀ bound₀ sheet table sorts starts terms rows₀ inferences₀ checks₀ n₀ u₀ t₀ records places heads next sizes params images bound rows inferences checks n u t = (t ≤ terms) × Tabling records₀ places₀ count params₀ images₀ bound₀ sheet table sorts starts rows₀ records places heads next sizes params images bound rows n u t × Pasts (storeOf records places n) inferences checks × (length inferences ≡ length inferences₀) × (length checks ≡ length checks₀)
+Inv-loop records₀ places₀ heads₀ next₀ sizes₀ count used params₀ images₀ bound₀ sheet table sorts starts terms rows₀ inferences₀ checks₀ n₀ u₀ t₀ records places heads next sizes params images bound rows inferences checks n u t = (t ≤ terms) × Tabling records₀ places₀ count params₀ images₀ bound₀ sheet table sorts starts rows₀ records places heads next sizes params images bound rows n u t × Pasts records places n inferences checks × (length inferences ≡ length inferences₀) × (length checks ≡ length checks₀)
 
 abbrev μ-loop : tie.MeasureT-loop
 μ-loop records₀ places₀ heads₀ next₀ sizes₀ count used params₀ images₀ bound₀ sheet table sorts starts terms rows₀ inferences₀ checks₀ n₀ u₀ t₀ records places heads next sizes params images bound rows inferences checks n u t = terms - t

@@ -1,31 +1,23 @@
--- An answer is recalled only from a slot with as many terms and the same bytes.
+-- A code is recalled only from a slot with as many terms and the same bytes.
 -- The law on such a slot is the promise; where 0 is returned, nothing is said.
 use native.Mathlib.Omega.{arith}
 use borrow.Author.Needs.{needs}
-use Prim.Native.Nat.{_+_, _*_, _%_}
+use Prim.Native.Nat.{ℕ, _+_, _*_}
 use native.Mathlib.Nat.{add-sub-cancel-left}
-use Rattle.record.specs.Number.{u16At}
+use mathlib.Core.Path.{ap}
+use lib.ListN.{getD}
 use Rattle.repeats.proofs.SlotLaws.{recalled-is}
 use Rattle.repeats.proofs.slots.recalled.Statement.{statement}
 use Rattle.repeats.proofs.slots.recalled.Tie as tie
 
-slot-of-requires : tie.Need-slot-of-requires
-slot-of-requires c κs = c .before .before .pre
+shared-slice-read-if1 : tie.Need-shared-slice-read-if1
+shared-slice-read-if1 c = search needs
 
-add-if1 : tie.Need-add-if1
-add-if1 c = search needs
+cast-if1 : tie.Need-cast-if1
+cast-if1 c = omega (arith, c .shared-slice-known3 .given (c .before .before .before .args .at))
 
 returns : tie.Need-returns
-returns c = (λ f st h k e. absurd (omega (arith, e)), omega arith)
-
-shared-slice-read-if2 : tie.Need-shared-slice-read-if2
-shared-slice-read-if2 c = search needs
-
-cast-if2 : tie.Need-cast-if2
-cast-if2 c = omega (arith, c .shared-slice-known3 .given (c .before .before .slot-of .result))
-
-returns-2 : tie.Need-returns-2
-returns-2 c = (λ f st h k e. absurd (omega (arith, e)), omega arith)
+returns c = record { said = λ c e. absurd (omega (arith, e)); small = omega arith }
 
 add-from : tie.Need-add-from
 add-from c = search needs
@@ -63,26 +55,39 @@ part-same-end-2 c = search needs
 same-requires : tie.Need-same-requires
 same-requires c κs = search needs
 
+add-result : tie.Need-add-result
+add-result c = search needs
+
+shared-slice-read-result : tie.Need-shared-slice-read-result
+shared-slice-read-result c = search needs
+
+cast-result : tie.Need-cast-result
+cast-result c = omega (arith, c .shared-slice-known4 .given (c .before .before .before .before .before .before .before .before .before .args .at + 3))
+
+mul-result : tie.Need-mul-result
+mul-result c = omega (arith, c .shared-slice-known4 .given (c .before .before .before .before .before .before .before .before .before .args .at + 3))
+
 add-u16-at : tie.Need-add-u16-at
 add-u16-at c = search needs
 
 u16-at-requires : tie.Need-u16-at-requires
 u16-at-requires c κs = search needs
 
-add-result : tie.Need-add-result
-add-result c = search needs
+add-result-2 : tie.Need-add-result-2
+add-result-2 c = omega (arith, c .before .shared-slice-known4 .given (c .before .before .before .before .before .before .before .before .before .before .args .at + 3), c .u16-at .ensures .1)
+
+add-result-3 : tie.Need-add-result-3
+add-result-3 c = omega (arith, c .before .shared-slice-known4 .given (c .before .before .before .before .before .before .before .before .before .before .args .at + 3), c .u16-at .ensures .1)
+
+returns-2 : tie.Need-returns-2
+returns-2 c =
+    let s = c .before .before .before .before .before .before .before .before .before .before in
+    let a = s .args in
+    let key = rw (add-sub-cancel-left (a .at + 4) (2 * a .n), add-sub-cancel-left 3 (2 * a .n)) at (c .before .before .before .same .ensures .0 (c .before .before .if2 .taken)) in
+    recalled-is (a .past .now) (a .args .now) (a .n) (a .at) _ (s .pre) (c .before .before .before .before .before .before .if1 .left) key (ap (λ (x : ℕ). getD (a .past .now) (a .at + 3) 0 * 65536 + x) (c .u16-at .ensures .0)) (omega (arith, c .before .shared-slice-known4 .given (c .before .before .before .before .before .before .before .before .before .before .args .at + 3), c .u16-at .ensures .1))
 
 returns-3 : tie.Need-returns-3
-returns-3 c =
-    let s = c .before .before .before .before .before .before .before .before .before .before .before in
-    let a = s .args in
-    let l = a .args .now in
-    let at = c .before .before .before .before .before .before .before .before .slot-of .result in
-    let key = rw (add-sub-cancel-left (at + 3) (2 * a .n), add-sub-cancel-left 3 (2 * a .n)) at (c .before .before .same .ensures .0 (c .before .if3 .taken)) in
-    (recalled-is (a .past .now) l (a .n) ((u16At l 3 * 31 + u16At l 5 * 7 + u16At l (1 + 2 * a .n)) % 128) at (c .u16-at .result) (c .before .before .before .before .before .before .before .before .slot-of .ensures) (s .pre .some) (c .before .before .before .before .before .if2 .left) key (c .u16-at .ensures .0), omega (arith, c .u16-at .ensures .1))
-
-returns-4 : tie.Need-returns-4
-returns-4 c = (λ f st h k e. absurd (omega (arith, e)), omega arith)
+returns-3 c = record { said = λ c e. absurd (omega (arith, e)); small = omega arith }
 
 pub recalled-spec : {M : Type 1} → statement M
-recalled-spec = tie.close (tie.spec slot-of-requires add-if1 returns shared-slice-read-if2 cast-if2 returns-2 add-from mul-to add-to mul-end add-end sub-same part-same-start part-same-end sub-same-2 part-same-start-2 part-same-end-2 same-requires add-u16-at u16-at-requires add-result returns-3 returns-4)
+recalled-spec = tie.close (tie.spec shared-slice-read-if1 cast-if1 returns add-from mul-to add-to mul-end add-end sub-same part-same-start part-same-end sub-same-2 part-same-start-2 part-same-end-2 same-requires add-result shared-slice-read-result cast-result mul-result add-u16-at u16-at-requires add-result-2 add-result-3 returns-2 returns-3)

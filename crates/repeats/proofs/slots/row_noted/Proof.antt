@@ -1,37 +1,54 @@
--- A sort is noted by its number, where the table was looked up.
--- Any other row leaves the table as it was.
+-- A row is noted by its code where the look-up left a slot.
+-- Otherwise the table stays as it was.
 use native.Mathlib.Omega.{arith}
 use borrow.Author.Needs.{needs}
-use mathlib.Core.Path.{subst}
-use Rattle.repeats.specs.Past.{RowTold}
+use mathlib.Core.Path.{refl, sym, subst}
+use Rattle.repeats.specs.Past.{NoteAsks, NotedIs, RowNoteAsks, RowNotedIs}
 use Rattle.repeats.proofs.slots.row_noted.Statement.{statement}
 use Rattle.repeats.proofs.slots.row_noted.Tie as tie
 
-returns : tie.Need-returns
-returns c = λ f st h t. h
+enum-known-look : tie.Need-enum-known-look
+enum-known-look c = search needs
 
-enum-known-v : tie.Need-enum-known-v
-enum-known-v c = search needs
+code-requires : tie.Need-code-requires
+code-requires c κs =
+    let s = c .before .before .before .before in
+    let a = s .args in
+    omega (arith, subst (λ q. RowNoteAsks (a .past .now) (a .n) q (a .v)) (c .before .look .given .1) (s .pre) .small)
+
+cast-row : tie.Need-cast-row
+cast-row c = search needs
 
 noted-requires : tie.Need-noted-requires
-noted-requires c κs = (c .before .before .before .before .before .before .before .before .pre (c .before .before .before .before .before .if1 .left), c .before .if2 .taken)
+noted-requires c κs =
+    let s = c .before .before .before .before .before .before in
+    let a = s .args in
+    subst (NoteAsks (a .past .now) _ (a .n)) (sym (c .before .code .ensures)) (subst (λ q. RowNoteAsks (a .past .now) (a .n) q (a .v)) (c .before .before .before .look .given .1) (s .pre))
 
 enum-told : tie.Need-enum-told
 enum-told c = search needs
 
+enum-told-2 : tie.Need-enum-told-2
+enum-told-2 c = search needs
+
 same-length : tie.Need-same-length
 same-length c = search needs
 
+returns : tie.Need-returns
+returns c =
+    let s = c .before .before .before .before .before .before .before .before .before in
+    let a = s .args in
+    subst (λ q. RowNotedIs (a .past .now) (a .n) q (a .v) (c .before .before .noted .last .0)) (sym (c .before .before .before .before .before .before .look .given .1)) (subst (λ k. NotedIs (a .past .now) (c .before .before .before .before .before .before .look .given .0 .0) (a .n) k (c .before .before .noted .last .0)) (c .before .before .before .before .code .ensures) (c .before .before .noted .ensures))
+
 returns-2 : tie.Need-returns-2
 returns-2 c =
-    let a = c .before .before .before .before .before .before .before .before .before .before .before .args in
-    λ f st h t. c .before .before .noted .ensures f st h (subst (RowTold f st (a .args .now) (a .n)) (c .before .before .before .before .before .before .v .given .1) (t (c .before .before .before .before .before .before .before .before .if1 .left)))
+    let a = c .before .before .before .args in
+    subst (λ q. RowNotedIs (a .past .now) (a .n) q (a .v) (a .past .now)) (sym (c .enum-told .given .1)) refl
 
 returns-3 : tie.Need-returns-3
-returns-3 c = λ f st h t. h
-
-returns-4 : tie.Need-returns-4
-returns-4 c = λ f st h t. h
+returns-3 c =
+    let a = c .before .before .before .args in
+    subst (λ q. RowNotedIs (a .past .now) (a .n) q (a .v) (a .past .now)) (sym (c .enum-told2 .given .1)) refl
 
 pub row-noted-spec : {M : Type 1} → statement M
-row-noted-spec = tie.close (tie.spec returns enum-known-v noted-requires enum-told same-length returns-2 returns-3 returns-4)
+row-noted-spec = tie.close (tie.spec enum-known-look code-requires cast-row noted-requires enum-told enum-told-2 same-length returns returns-2 returns-3)

@@ -1,10 +1,10 @@
 -- The place is computed from the three numbers read.
 -- Each is the number that stands there.
-use native.Mathlib.Omega.{arith}
 use borrow.Author.Needs.{needs}
 use mathlib.Core.Path.{ap, ap₂, _∙_}
 use Prim.Native.Nat.{ℕ, _+_, _*_, _%_}
 use Rattle.record.specs.Number.{u16At}
+use Rattle.repeats.specs.Past.{slotSize, slotCount}
 use Rattle.repeats.proofs.slots.slot_of.Statement.{statement}
 use Rattle.repeats.proofs.slots.slot_of.Tie as tie
 
@@ -42,8 +42,8 @@ returns : tie.Need-returns
 returns c =
     let a = c .before .before .before .before .args in
     let l = a .args .now in
-    ap₂ (λ (h f : ℕ). (h * 31 + f * 7 + c .u16-at3 .result) % 128 * 16) (c .before .before .u16-at .ensures .0) (c .before .u16-at2 .ensures .0)
-    ∙ ap (λ (z : ℕ). (u16At l 3 * 31 + u16At l 5 * 7 + z) % 128 * 16) (c .u16-at3 .ensures .0)
+    ap₂ (λ (h f : ℕ). (h * 31 + f * 6 + c .u16-at3 .result) % slotCount * slotSize) (c .before .before .u16-at .ensures .0) (c .before .u16-at2 .ensures .0)
+    ∙ ap (λ (z : ℕ). (u16At l 3 * 31 + u16At l 5 * 6 + z) % slotCount * slotSize) (c .u16-at3 .ensures .0)
 
 pub slot-of-spec : {M : Type 1} → statement M
 slot-of-spec = tie.close (tie.spec u16-at-requires u16-at-requires-2 mul-u16-at add-u16-at u16-at-requires-3 mul-result mul-result-2 add-result add-result-2 mul-result-3 returns)

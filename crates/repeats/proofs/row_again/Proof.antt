@@ -1,0 +1,29 @@
+-- A small code is a number of the store.
+-- Any other has its cause in front.
+use borrow.Author.Needs.{needs}
+use Rattle.repeats.proofs.RowLaws.{again-sort, again-refused}
+use Rattle.repeats.proofs.row_again.Statement.{statement}
+use Rattle.repeats.proofs.row_again.Tie as tie
+
+found-requires : tie.Need-found-requires
+found-requires c κs = search needs
+
+returns : tie.Need-returns
+returns c =
+    let a = c .before .before .args in
+    again-sort (a .row) (a .count) (a .used) (c .found .result) (c .before .if1 .taken) (c .found .ensures)
+
+cause-of-requires : tie.Need-cause-of-requires
+cause-of-requires c κs = let s = c .before in (s .pre .low (c .if1 .left), s .pre .high (c .if1 .left))
+
+refuse-requires : tie.Need-refuse-requires
+refuse-requires c κs = search needs
+
+returns-2 : tie.Need-returns-2
+returns-2 c =
+    let s = c .before .before .before in
+    let a = s .args in
+    again-refused (a .row) (a .count) (a .used) (c .before .cause-of .result) (c .refuse .result) (s .pre) (c .before .before .if1 .left) (c .before .cause-of .ensures) (c .refuse .ensures)
+
+pub row-again-spec : {M : Type 1} → statement M
+row-again-spec = tie.close (tie.spec found-requires returns cause-of-requires refuse-requires returns-2)
