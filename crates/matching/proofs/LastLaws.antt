@@ -1,7 +1,7 @@
 -- A list of parts by all but its last and the last: the sorts, their sizes, what a walk asks, and the answers of the two
 -- definitions that go along two lists (`compatible-last`, `matches-last`).
 use Prim.Native.Nat.{ℕ, zero, suc, _+_, _*_, _-_, _<_}
-use mathlib.Core.Path.{_≡_, refl, sym, ap, _∙_}
+use mathlib.Core.Path.{_≡_, refl, sym, ap, subst, _∙_}
 use mathlib.Core.Bool.{Bool, true, false, _&&_}
 use mathlib.Core.List.{List}
 use mathlib.Core.Option.{Option, none, some}
@@ -45,7 +45,7 @@ compatible-joined (q then ps) (u then ts) p t e =
     ap (λ (z : Bool). compatible q u && z) (compatible-joined ps ts p t (omega arith))
     ∙ and-more (compatible q u) (compatibleAll ps ts) (compatible p t)
 
-and-some : (o : Option Map) → andThen o (λ m. some m) ≡ o
+pub and-some : (o : Option Map) → andThen o (λ m. some m) ≡ o
 and-some none = refl
 and-some (some m) = refl
 
@@ -72,19 +72,31 @@ parts-joined st s x (suc m) =
     ap (λ (ss : Sorts). getD st (u16At s x) leaf then ss)
     (parts-joined st s (x + 2) m ∙ ap (λ (i : ℕ). joined (sortsOf st (numbersAt s (x + 2) m)) (getD st (u16At s i) leaf)) e)
 
+module _ (b p : List ℕ) (n : ℕ) (s : List ℕ) (x c : ℕ) where
+  -- The sizes of c + 1 sorts, and what a walk asks of their numbers.
+  pub sizes-more : sizes (sortsAt b p n s x (suc c)) ≡ sizes (sortsAt b p n s x c) + size (sortAt b p n (u16At s (x + 2 * c)))
+  unfolding sortAt
+  sizes-more = ap sizes (parts-joined (storeOf b p n) s x c) ∙ sizes-joined (sortsAt b p n s x c) (sortAt b p n (u16At s (x + 2 * c)))
+
+  pub refs-less : Refs s x (suc c) n → Refs s x c n
+  refs-less r = record { within = omega (arith, r .within); below = λ j h. r .below j (omega arith) }
+
 module _ (b p : List ℕ) (n : ℕ) (s : List ℕ) (x m : ℕ) (some : 0 < m) where
+  whole : m ≡ suc (m - 1)
+  whole = omega arith
+
   sorts-last : sortsAt b p n s x m ≡ joined (sortsAt b p n s x (m - 1)) (sortAt b p n (u16At s (x + 2 * (m - 1))))
   unfolding sortAt
-  sorts-last = let e : m ≡ suc (m - 1) = omega arith in ap (sortsAt b p n s x) e ∙ parts-joined (storeOf b p n) s x (m - 1)
+  sorts-last = ap (sortsAt b p n s x) whole ∙ parts-joined (storeOf b p n) s x (m - 1)
 
   pub sizes-last : sizes (sortsAt b p n s x m) ≡ sizes (sortsAt b p n s x (m - 1)) + size (sortAt b p n (u16At s (x + 2 * (m - 1))))
-  sizes-last = ap sizes sorts-last ∙ sizes-joined (sortsAt b p n s x (m - 1)) (sortAt b p n (u16At s (x + 2 * (m - 1))))
+  sizes-last = ap (λ (k : ℕ). sizes (sortsAt b p n s x k)) whole ∙ sizes-more b p n s x (m - 1)
 
   refs-last : Refs s x m n → u16At s (x + 2 * (m - 1)) < n
   refs-last r = r .below (m - 1) (omega arith)
 
   refs-others : Refs s x m n → Refs s x (m - 1) n
-  refs-others r = record { within = omega (arith, r .within); below = λ j h. r .below j (omega arith) }
+  refs-others r = refs-less b p n s x (m - 1) (subst (λ (k : ℕ). Refs s x k n) whole r)
 
 module _ (b p : List ℕ) (n : ℕ) (s : List ℕ) (x : ℕ) (t : List ℕ) (y m : ℕ) (some : 0 < m) where
   pub pair-last : PairsAsk b p n s x t y m → PairAsks b p n (u16At s (x + 2 * (m - 1))) (u16At t (y + 2 * (m - 1)))

@@ -31,6 +31,7 @@ use Rattle.matching.specs.NoteLaws.{pairs-none}
 use Rattle.matching.specs.Way.{lastOf, wayEnd, wayNames, Deep, CloseAsks, CloseIs, Instead, Leads, Split, MoveIs, WalkIs}
 use Rattle.matching.specs.Entered.{entry-names, entry-refs}
 use Rattle.matching.proofs.WalkLaws.{count-at}
+use Rattle.matching.proofs.LastLaws.{and-some, sizes-more, refs-less}
 use Rattle.matching.proofs.WithLaws.{with-same, with-fits, with-next, with-back}
 use Rattle.matching.proofs.GeneralLaws.{under, body-asks, through, target-asks, parted, parts-ask, general-holds, general-fails, general-met, general-parts, general-none}
 
@@ -42,19 +43,6 @@ last-at b p n s x zero = let e : x ≡ x + 2 * 0 = omega arith in ap (λ (i : �
 last-at b p n s x (suc c) =
     let e : x + 2 + 2 * c ≡ x + 2 * suc c = omega arith in
     last-at b p n s (x + 2) c ∙ ap (λ (i : ℕ). getD (storeOf b p n) (u16At s i) leaf) e
-
-sizes-last : (b p : List ℕ) (n : ℕ) (s : List ℕ) (x c : ℕ)
-    → sizes (sortsAt b p n s x (suc c)) ≡ sizes (sortsAt b p n s x c) + size (sortAt b p n (u16At s (x + 2 * c)))
-unfolding size sortsOf numbersAt sortAt
-sizes-last b p n s x zero =
-    let e : x ≡ x + 2 * 0 = omega arith in omega (arith, ap (λ (i : ℕ). size (getD (storeOf b p n) (u16At s i) leaf)) e)
-sizes-last b p n s x (suc c) =
-    let e : x + 2 + 2 * c ≡ x + 2 * suc c = omega arith in
-    omega (arith, sizes-last b p n s (x + 2) c, ap (λ (i : ℕ). size (getD (storeOf b p n) (u16At s i) leaf)) e)
-
-then-some : (o : Option Map) → andThen o (λ m. some m) ≡ o
-then-some none = refl
-then-some (some m) = refl
 
 then-same : (o : Option Map) (f g : Map → Option Map) → ((m : Map) → f m ≡ g m) → andThen o f ≡ andThen o g
 then-same none f g h = refl
@@ -72,7 +60,7 @@ unfolding matchWith sortsOf numbersAt sortAt
 with-last b p n ns s t x y zero θ =
     let e : x ≡ x + 2 * 0 = omega arith in
     let f : y ≡ y + 2 * 0 = omega arith in
-    then-some (matchWith ns (getD (storeOf b p n) (u16At s x) leaf) (getD (storeOf b p n) (u16At t y) leaf) θ)
+    and-some (matchWith ns (getD (storeOf b p n) (u16At s x) leaf) (getD (storeOf b p n) (u16At t y) leaf) θ)
     ∙ ap (λ (i : ℕ). matchWith ns (getD (storeOf b p n) (u16At s i) leaf) (getD (storeOf b p n) (u16At t y) leaf) θ) e
     ∙ ap (λ (i : ℕ). matchWith ns (getD (storeOf b p n) (u16At s (x + 2 * 0)) leaf) (getD (storeOf b p n) (u16At t i) leaf) θ) f
 with-last b p n ns s t x y (suc c) θ =
@@ -87,9 +75,6 @@ with-last b p n ns s t x y (suc c) θ =
     (λ η. matchWith ns (sortAt b p n (u16At s (x + 2 + 2 * c))) (sortAt b p n (u16At t (y + 2 + 2 * c))) η)
     ∙ ap (λ (i : ℕ). andThen (matchAllWith ns (sortsAt b p n s x (suc c)) (sortsAt b p n t y (suc c)) θ) (λ η. matchWith ns (sortAt b p n (u16At s i)) (sortAt b p n (u16At t (y + 2 + 2 * c))) η)) e
     ∙ ap (λ (i : ℕ). andThen (matchAllWith ns (sortsAt b p n s x (suc c)) (sortsAt b p n t y (suc c)) θ) (λ η. matchWith ns (sortAt b p n (u16At s (x + 2 * suc c))) (sortAt b p n (u16At t i)) η)) f
-
-refs-less : (s : List ℕ) (x c n : ℕ) → Refs s x (suc c) n → Refs s x c n
-refs-less s x c n r = record { within = omega (arith, r .within); below = λ j l. r .below j (omega arith) }
 
 ---------------------------------------------------------------- tables of parameters
 added-none : (prm : List ℕ) → Added prm [] prm
@@ -171,9 +156,9 @@ module _ (b p : List ℕ) (n : ℕ) (prm imgs bnd : List ℕ) (m k j : ℕ) (a :
             params = refl;
             asks =
                 record {
-                  pairs = record { usable = o .pairs .usable; left = refs-less b x d n (o .pairs .left); right = refs-less b y d n (o .pairs .right) };
+                  pairs = record { usable = o .pairs .usable; left = refs-less b p n b x d (o .pairs .left); right = refs-less b p n b y d (o .pairs .right) };
                   table = a .table;
-                  room = λ v. omega (arith, a .room v, o .less, sizes-last b p n b x d);
+                  room = λ v. omega (arith, a .room v, o .less, sizes-more b p n b x d);
                   mapped = a .mapped;
                 };
             noted = w;
@@ -184,10 +169,10 @@ module _ (b p : List ℕ) (n : ℕ) (prm imgs bnd : List ℕ) (m k j : ℕ) (a :
                 record {
                   some = omega (arith, ap count (o .parts), count-at b p n b x (suc d));
                   last = ap lastOf (o .parts) ∙ last-at b p n b x d;
-                  less = omega (arith, o .less, sizes-last b p n b x d);
+                  less = omega (arith, o .less, sizes-more b p n b x d);
                 };
             nameless = o .names;
-            falls = omega (arith, o .falls, sizes-last b p n b x d, sizes-last b p n b y d);
+            falls = omega (arith, o .falls, sizes-more b p n b x d, sizes-more b p n b y d);
             whole = λ ns h.
                 sym (with-last b p n ns b b x y d (mapOf (storeOf b p n) imgs bnd m))
                 ∙ o .whole ns (mapOf (storeOf b p n) imgs bnd m);
