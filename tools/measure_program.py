@@ -12,7 +12,7 @@ import sys
 import tempfile
 import time
 
-from sheets import APP, BV, FUN, INTEGER, LEAF, OP, PAR, SET, TUPLE, TVAR, VAR, sheet
+from sheets import APP, ARRAY, BITS, BV, FUN, INTEGER, LEAF, OP, PAR, SET, TUPLE, TVAR, VAR, sheet
 
 
 def mixed(n):
@@ -84,6 +84,40 @@ def wide(n):
     return sheet(sorts, [INTEGER(1), TVAR(2, 4)] + [APP(1, 0) for _ in range(n - 2)])
 
 
+def chain(params, length):
+    """The sorts of a function of so many parameters whose result is a chain of Arrays over them: `length` sorts, the last its Par."""
+    sorts = [LEAF(4)] + [VAR(1 + i) for i in range(params)] + [ARRAY(1, params)]
+    while len(sorts) < length - 2:
+        sorts.append(ARRAY(len(sorts) - 1, 0))
+    names = list(range(1, params + 1))
+    return sorts + [FUN(*names, len(sorts) - 1), PAR(names, len(sorts))]
+
+
+def filled():
+    """A function of one parameter, and terms that leave too little room for its answer: an integer, and vectors, whose sorts come behind."""
+    sorts = chain(1, 2047)
+    return sorts, [TVAR(1, len(sorts) - 1), INTEGER(0)] + [BITS(1000 + i) for i in range(10)]
+
+
+def again(n):
+    """One App, again and again, whose answer has no room in the store."""
+    sorts, terms = filled()
+    return sheet(sorts, terms + [APP(0, 1)] * (n - len(terms)))
+
+
+def turns(n):
+    """Two such Apps in turn, which share a slot of the table of Apps: their arguments' store numbers are 128 apart."""
+    sorts, terms = filled()
+    return sheet(sorts, terms + [APP(0, 1 if i % 2 else 3) for i in range(n - len(terms))])
+
+
+def unlike(n):
+    """Such Apps, no two of them alike: of two arguments out of 62 each."""
+    sorts = chain(2, 2046)
+    terms = [TVAR(1, len(sorts) - 1)] + [BITS(1000 + i) for i in range(62)]
+    return sheet(sorts, terms + [APP(0, 1 + i % 62, 1 + i // 62) for i in range(min(n - 63, 62 * 62))])
+
+
 def peak(program, path):
     """The largest resident size of the program in KiB, as GNU time tells it."""
     with open(path, "rb") as stdin, open(os.devnull, "wb") as sink:
@@ -115,6 +149,17 @@ def measure(program, data, runs):
     return size, times, most
 
 
+CASES = [
+    ("mixed", mixed, (256, 512, 1024, 2048, 4096)),
+    ("deep", deep, (256, 512, 1024, 2048, 4096)),
+    ("wide", wide, (256, 1024, 4096)),
+    ("long", long, (16, 64, 256)),
+    ("again", again, (4096,)),
+    ("turns", turns, (4096,)),
+    ("unlike", unlike, (3907,)),
+]
+
+
 def main():
     program = sys.argv[1]
     runs = int(sys.argv[2]) if len(sys.argv) > 2 else 10
@@ -122,11 +167,10 @@ def main():
     print("|---|---|---|---|---|---|---|---|")
     if len(sys.argv) > 3:
         name, n = sys.argv[3].split("=")
-        size, times, most = measure(program, {"mixed": mixed, "deep": deep, "wide": wide, "long": long}[name](int(n)), runs)
+        size, times, most = measure(program, dict((name, make) for name, make, _ in CASES)[name](int(n)), runs)
         print(name, n, size, sorted(round(t * 1000, 1) for t in times), most)
         return
-    cases = [("mixed", mixed, (256, 512, 1024, 2048, 4096)), ("deep", deep, (256, 512, 1024, 2048, 4096)), ("wide", wide, (256, 1024, 4096)), ("long", long, (16, 64, 256))]
-    for name, make, counts in cases:
+    for name, make, counts in CASES:
         for n in counts:
             data = make(n)
             assert len(data) <= 65536, (name, n, len(data))

@@ -29,6 +29,7 @@ BV = lambda w: bytes([5, 9]) + struct.pack("<I", w)
 
 # terms
 INTEGER = lambda v: bytes([5, 0]) + struct.pack("<I", v)
+BITS = lambda w: bytes([5, 4]) + struct.pack("<I", w)
 TVAR = lambda n, s: bytes([11, 5]) + u16(n) + u16(s)
 APP = lambda *l: bytes([17, 6]) + items(l)
 OP = lambda k, *l: bytes([21, 7]) + struct.pack("<I", k) + items(l)
