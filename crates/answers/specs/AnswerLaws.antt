@@ -26,8 +26,8 @@ use Rattle.rows.specs.declared.Cause.the-variants.{Limit, Full}
 use Rattle.rows.specs.declared.RowVerdict.{RowVerdict}
 use Rattle.rows.specs.declared.RowVerdict.the-variants.{Sort as Number, Refused}
 use Rattle.rows.specs.Verdict.{Verdict, sort, refused, numberOf, codeOf}
-use Rattle.rows.specs.Outcome.{Outcome, refusal, outcomeBy, within, outcome}
-use Rattle.rows.specs.OutcomeLaws.{refusal-large}
+use Rattle.rows.specs.Outcome.{Outcome, refusal, within, outcome}
+use Rattle.rows.specs.OutcomeLaws.{refusal-large, answered}
 use Rattle.answers.specs.declared.Answer.{Answer}
 use Rattle.answers.specs.Answer.{Left, AnswerIs, accepting, refusing}
 use Rattle.answers.specs.Within.{within-at}
@@ -136,10 +136,6 @@ pub starts-set : (t : Sort) (st : List Sort) → Starts (intern t st) (intern (s
 starts-set t st = subst (Starts (intern t st)) (sym (intern-set t st)) (starts-add (intern t st) (set t))
 
 ---------------------------------------------------------------- what an answer tells
--- An outcome by the two tests.
-abbrev byLimits : Bool → Bool → List Sort → List Sort → ℕ → Outcome
-byLimits w t st st′ k = outcomeBy w (outcomeBy t (record { store = st′; code = k }) (refusal st Full)) (refusal st Limit)
-
 -- A code of a number says that both tests passed; another, that the same refusal holds over every store.
 record Passed (w t : Bool) (st o : List Sort) (k i : ℕ) : Type 0 where
   limit : w ≡ true
@@ -147,16 +143,17 @@ record Passed (w t : Bool) (st o : List Sort) (k i : ℕ) : Type 0 where
   sorts : st ≡ o
   number : k ≡ i
 
-by-accepted : (w t : Bool) (st st′ o : List Sort) (k i : ℕ) → byLimits w t st st′ k ≡ record { store = o; code = i } → i < 65536 → Passed w t st′ o k i
-by-accepted true true st st′ o k i e h = record { limit = refl; fits = refl; sorts = ap (λ (x : Outcome). x .store) e; number = ap (λ (x : Outcome). x .code) e }
-by-accepted true false st st′ o k i e h = absurd (omega (arith, ap (λ (x : Outcome). x .code) e))
-by-accepted false t st st′ o k i e h = absurd (omega (arith, ap (λ (x : Outcome). x .code) e))
+by-accepted : (l : Lengths) (st : List Sort) (s : Sort) (w t : Bool) (o : List Sort) (i : ℕ) → answered l st s w t ≡ record { store = o; code = i } → i < 65536
+    → Passed w t (intern s st) o (indexOf s (intern s st)) i
+by-accepted l st s true true o i e h = record { limit = refl; fits = refl; sorts = ap (λ (x : Outcome). x .store) e; number = ap (λ (x : Outcome). x .code) e }
+by-accepted l st s true false o i e h = absurd (omega (arith, ap (λ (x : Outcome). x .code) e))
+by-accepted l st s false t o i e h = absurd (omega (arith, ap (λ (x : Outcome). x .code) e))
 
-by-refused : (w t : Bool) (st st′ o : List Sort) (k : ℕ) (c : Cause) → byLimits w t st st′ k ≡ record { store = o; code = numberOf c * 65536 } → (t ≡ true → k < 65536)
-    → (x : List Sort) → byLimits w t x st′ k ≡ refusal x c
-by-refused true true st st′ o k c e h x = absurd (omega (arith, ap (λ (x : Outcome). x .code) e, h refl, refusal-large c))
-by-refused true false st st′ o k c e h x = ap (λ (i : ℕ). record { store = x; code = i }) (ap (λ (x : Outcome). x .code) e)
-by-refused false t st st′ o k c e h x = ap (λ (i : ℕ). record { store = x; code = i }) (ap (λ (x : Outcome). x .code) e)
+by-refused : (l : Lengths) (st : List Sort) (s : Sort) (w t : Bool) (o : List Sort) (c : Cause) → answered l st s w t ≡ record { store = o; code = numberOf c * 65536 }
+    → (t ≡ true → indexOf s (intern s st) < 65536) → (x : List Sort) → answered l x s w t ≡ refusal x c
+by-refused l st s true true o c e h x = absurd (omega (arith, ap (λ (x : Outcome). x .code) e, h refl, refusal-large c))
+by-refused l st s true false o c e h x = ap (λ (i : ℕ). record { store = x; code = i }) (ap (λ (x : Outcome). x .code) e)
+by-refused l st s false t o c e h x = ap (λ (i : ℕ). record { store = x; code = i }) (ap (λ (x : Outcome). x .code) e)
 
 -- A number of a store with room is small.
 index-small : (records places : ℕ) (s : Sort) (st : List Sort) → room records places (intern s st) ≡ true → indexOf s (intern s st) < 65536
@@ -223,7 +220,7 @@ module _ (b p : List ℕ) (n : ℕ) (s : Sort) (b′ p′ hs′ ns′ zs′ : Li
   unfolding outcome
   passed k e =
       let st = storeOf b p n in
-      by-accepted (within s) (room (length b) (length p) (intern s st)) st (intern s st) (storeOf b′ p′ (r .count)) (indexOf s (intern s st)) k
+      by-accepted (lent b p) st s (within s) (room (length b) (length p) (intern s st)) (storeOf b′ p′ (r .count)) k
       (a .is (lent b p) refl refl ∙ ap (λ (v : RowVerdict). record { store = storeOf b′ p′ (r .count); code = codeOf v }) e)
       (omega (arith, answer-number b p n (sort s) b′ p′ hs′ ns′ zs′ r a k e .1))
 
@@ -242,8 +239,7 @@ module _ (b p : List ℕ) (n : ℕ) (c q : List ℕ) (m : ℕ) (s : Sort) (same 
         long = a .long ∙ long;
         wide = a .wide ∙ wide;
         is = λ l x y.
-            ap (λ (t : Bool). byLimits t (room (l .records) (l .places) (intern s (storeOf b p n))) (storeOf b p n) (intern s (storeOf b p n)) (indexOf s (intern s (storeOf b p n)))) (t .limit)
-            ∙ ap (λ (t : Bool). byLimits true t (storeOf b p n) (intern s (storeOf b p n)) (indexOf s (intern s (storeOf b p n)))) (room-of l b p (intern s (storeOf b p n)) x y ∙ fits)
+            ap₂ (λ (w t : Bool). answered l (storeOf b p n) s w t) (t .limit) (room-of l b p (intern s (storeOf b p n)) x y ∙ fits)
             ∙ ap₂ (λ (x : List Sort) (i : ℕ). record { store = x; code = i }) (same ∙ t .sorts)
             (ap (indexOf s) same ∙ t .number ∙ sym (ap codeOf e));
         starts = starts-trans (storeOf b p n) (storeOf c q m) (storeOf b′ p′ (r .count)) starts (a .starts);
@@ -257,8 +253,8 @@ module _ (b p : List ℕ) (n : ℕ) (c q : List ℕ) (m : ℕ) (s : Sort) (same 
   unfolding outcome
   grown-refused x e hs ns zs u g =
       same-answer b p hs ns zs n u g (sort s) x (λ l y z.
-      ap (λ (st : List Sort). byLimits (within s) (room (l .records) (l .places) st) (storeOf b p n) st (indexOf s st)) same
-      ∙ by-refused (within s) (room (l .records) (l .places) (intern s (storeOf c q m))) (storeOf c q m) (intern s (storeOf c q m)) (storeOf b′ p′ (r .count)) (indexOf s (intern s (storeOf c q m))) x
+      ap (λ (st : List Sort). answered l (storeOf b p n) s (within s) (room (l .records) (l .places) st)) same
+      ∙ by-refused l (storeOf c q m) s (within s) (room (l .records) (l .places) (intern s (storeOf c q m))) (storeOf b′ p′ (r .count)) x
       (a .is l (y ∙ sym long) (z ∙ sym wide) ∙ ap (λ (v : RowVerdict). record { store = storeOf b′ p′ (r .count); code = codeOf v }) e)
       (index-small (l .records) (l .places) s (storeOf c q m)) (storeOf b p n))
 

@@ -15,69 +15,69 @@ use Rattle.judged.specs.Questions.{matchAnswer, applyAnswer}
 use Rattle.judged.specs.Judged.{judged, outcomeNumber}
 
 ---------------------------------------------------------------- terms by their kinds
-abbrev integer : ℕ → Term
+abbrev pub integer : ℕ → Term
 integer n = term 0 0 n bool stop [] [] stop
 
-abbrev decimal : Term
+abbrev pub decimal : Term
 decimal = term 1 0 0 bool stop [] [] stop
 
-abbrev text : Term
+abbrev pub text : Term
 text = term 2 0 0 bool stop [] [] stop
 
-abbrev language : Term
+abbrev pub language : Term
 language = term 3 0 0 bool stop [] [] stop
 
-abbrev vector : ℕ → Term
+abbrev pub vector : ℕ → Term
 vector w = term 4 0 w bool stop [] [] stop
 
-abbrev variable : Sort → Term
+abbrev pub variable : Sort → Term
 variable s = term 5 5 0 s stop [] [] stop
 
-abbrev app : Terms → Term
+abbrev pub app : Terms → Term
 app ts = term 6 0 0 bool ts [] [] stop
 
-abbrev op : ℕ → Terms → Term
+abbrev pub op : ℕ → Terms → Term
 op n ts = term 7 0 n bool ts [] [] stop
 
-abbrev binder : ℕ → List Binding → Term → Term
+abbrev pub binder : ℕ → List Binding → Term → Term
 binder n bs t = term 8 0 n bool (t also stop) bs [] stop
 
-abbrev letting : Term → Term → Term
+abbrev pub letting : Term → Term → Term
 letting v t = term 9 0 0 bool (v also t also stop) [] (5 ∷ []) stop
 
-abbrev matching : Terms → Term
+abbrev pub matching : Terms → Term
 matching ts = term 10 0 0 bool ts [] [] stop
 
-abbrev indexed : ℕ → Terms → Terms → Term
+abbrev pub indexed : ℕ → Terms → Terms → Term
 indexed n is ts = term 11 0 n bool ts [] [] is
 
-abbrev qualified : ℕ → Sort → Terms → Term
+abbrev pub qualified : ℕ → Sort → Terms → Term
 qualified n s ts = term 12 0 n s ts [] [] stop
 
 -- The inferred and the checked verdict of each term, one after the other.
-unfoldable verdicts : Terms → List Verdict
+unfoldable pub verdicts : Terms → List Verdict
 unfolding infer check smtLib
 verdicts stop = []
 verdicts (t also ts) = infer t ∷ check smtLib t ∷ verdicts ts
 
 ---------------------------------------------------------------- document 01's table
 -- (-> Int Real Bool)
-abbrev curried : Term
+abbrev pub curried : Term
 curried = variable (function (int then real then bool then end))
 
 -- (par (n1) (-> 'n1 'n1 (Set 'n1)))
-abbrev paired : Term
+abbrev pub paired : Term
 paired = variable (par (1 ∷ []) (function (var 1 then var 1 then set (var 1) then end)))
 
 -- (par (n1 n2) (-> 'n1 'n2))
-abbrev opened : Sort
+abbrev pub opened : Sort
 opened = par (1 ∷ 2 ∷ []) (function (var 1 then var 2 then end))
 
-abbrev relation : Sorts → Term
+abbrev pub relation : Sorts → Term
 relation ss = variable (set (tuple ss))
 
 -- K2 to K10, a line each (K7 has two), then K11.
-kTerms : Terms
+unfoldable pub kTerms : Terms
 kTerms =
     op 83 stop
     also op 90 stop
@@ -91,7 +91,7 @@ kTerms =
     also op 133 (relation end also relation (int then real then end) also stop)
     also stop
 
-kTable : (verdicts kTerms
+pub kTable : (verdicts kTerms
     ≡ sort paramBitVec ∷ refused Count
     ∷ sort (bitvec 0) ∷ refused Count
     ∷ sort (bitvec 8) ∷ refused Misfit
@@ -108,11 +108,11 @@ unfolding kTerms verdicts applyAnswer
 kTable = (refl, refl)
 
 ---------------------------------------------------------------- the other term kinds and causes
-abbrev bindings : Sort → List Binding
+abbrev pub bindings : Sort → List Binding
 bindings s = record { name = 1; sort = s } ∷ []
 
 -- Strings and regular languages; a quantifier; Choice over Type; Lambda; Let; Match; Extract; (as const); Not of a refused term.
-kindTerms : Terms
+unfoldable pub kindTerms : Terms
 kindTerms =
     op 65 (text also language also stop)
     also binder 0 (bindings int) (op 0 stop)
@@ -125,7 +125,7 @@ kindTerms =
     also op 2 (op 42 stop also stop)
     also stop
 
-kindTable : (verdicts kindTerms
+pub kindTable : (verdicts kindTerms
     ≡ sort bool ∷ sort bool
     ∷ sort bool ∷ sort bool
     ∷ sort type ∷ refused Barred
@@ -142,19 +142,19 @@ kindTable = (refl, refl)
 
 ---------------------------------------------------------------- refused sheets
 -- Buffers as the program lends them, with fewer places or rows.
-abbrev lent : ℕ → ℕ → Lengths
+abbrev pub lent : ℕ → ℕ → Lengths
 lent p r = record { records = 65536; places = p; rows = r; answers = 1024 }
 
-abbrev outcomeOf : List ℕ → Lengths → ℕ
+abbrev pub outcomeOf : List ℕ → Lengths → ℕ
 outcomeOf s l = outcomeNumber (judged s l)
 
 -- An Array of the sort before it, twice, doubles the tree.
-abbrev doubling : ℕ → List ℕ → List ℕ
+abbrev pub doubling : ℕ → List ℕ → List ℕ
 doubling k s = 17 ∷ 8 ∷ 2 ∷ k ∷ 0 ∷ k ∷ 0 ∷ s
 
 -- 1: five bytes. 2: 2,049 sorts. 3: a record is missing. 4: a bit map without bit 1. 5: a width of 65,536. 6: a Set of itself.
 -- 7: a byte behind the last record. 8: one row lent for one term. 9: Int doubled twelve times, a tree of 8,191. 10: no place lent.
-refusalTable :
+pub refusalTable :
     outcomeOf (0 ∷ 0 ∷ 0 ∷ 0 ∷ 0 ∷ []) (lent 4096 8192)
     ∷ outcomeOf (1 ∷ 8 ∷ 0 ∷ 0 ∷ 0 ∷ 0 ∷ []) (lent 4096 8192)
     ∷ outcomeOf (1 ∷ 0 ∷ 0 ∷ 0 ∷ 0 ∷ 0 ∷ []) (lent 4096 8192)

@@ -1,22 +1,21 @@
 -- Every row that names a sort names one of the store that is left, and so does every answer to a match or an apply.
 use Prim.Native.Nat.{ℕ, zero, suc, _+_, _*_, _-_, _<_}
-use mathlib.Core.Path.{_≡_, refl, sym, ap, subst}
+use mathlib.Core.Path.{_≡_, sym, ap, subst}
 use mathlib.Core.Bool.{false}
 use mathlib.Core.List.{List, [], _∷_}
 use native.Mathlib.Omega.{arith}
 use lib.ListN.{length, getD}
 use lib.Dec.{eqb, ltb}
-use borrow.Author.Tests.{ne-eqb, ltb-true, ltb-false}
+use borrow.Author.Tests.{ltb-true, ltb-false}
 use Rattle.record.specs.Sort.{Sort}
 use Rattle.record.specs.SortLists.{starts-count}
 use Rattle.record.specs.Cases.{byTest}
 use Rattle.sheet.specs.Sheet.{Lengths, Sheet, TermFields}
-use Rattle.rows.specs.declared.Cause.the-variants.{Limit, Full}
-use Rattle.rows.specs.Verdict.{Verdict, sort, refused, numberOf}
+use Rattle.rows.specs.Verdict.{Verdict, sort, refused}
 use Rattle.rows.specs.Term.{Site, verdictAt}
 use Rattle.rows.specs.Outcome.{Outcome, outcome, rowSort}
-use Rattle.rows.specs.Meaning.{Means, limited}
-use Rattle.rows.specs.OutcomeLaws.{refusal-large, outcome-means}
+use Rattle.rows.specs.Meaning.{Means}
+use Rattle.rows.specs.OutcomeLaws.{refusal-large, outcome-means, not-limited}
 use Rattle.inferred.specs.Inferred.{inferred}
 use Rattle.checked.specs.Rank.{Rank}
 use Rattle.checked.specs.Checked.{checked}
@@ -26,10 +25,6 @@ use Rattle.judged.specs.Judged.{accepted, judgedBy}
 use Rattle.judged.specs.RowLaws.{row-grown, rows-more, rows-new, rows-old, turn-grown}
 use Rattle.judged.specs.QuestionLaws.{questionAt, answerVerdict, answers-grown}
 use Rattle.judged.specs.JudgedLaws.{told, judged-answer}
-
--- A code that names a sort is no limit.
-not-limited : (c : ℕ) → c < 65536 → limited c ≡ false
-not-limited c h = rw (ne-eqb c (numberOf Limit * 65536) (λ e. absurd (omega arith)), ne-eqb c (numberOf Full * 65536) (λ e. absurd (omega arith))) refl
 
 -- A code that means a verdict and names a sort names one of the store.
 means-known : (st : List Sort) (c : ℕ) (v : Verdict) → Means st c v → c < 65536 → c < length st

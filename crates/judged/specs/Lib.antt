@@ -1,5 +1,6 @@
 pub mod Rows
 pub mod RowLaws
+pub mod GivenLaws
 pub mod PlainLaws
 pub mod Questions
 pub mod QuestionLaws
@@ -8,5 +9,6 @@ pub mod JudgedLaws
 pub mod KnownLaws
 pub mod CarriedLaws
 pub mod TwoRoutes
+pub mod RowExactly
 pub mod RoutesExample
 pub mod Examples

@@ -8,62 +8,63 @@ use Rattle.sheet.specs.Sheet.{Lengths, TermFields, Sheet}
 use Rattle.substitution.specs.Substitution.{empty, bind, apply}
 use Rattle.substitution.specs.Premises.{properMap}
 use Rattle.rows.specs.Term.{termAt}
-use Rattle.rows.specs.Meaning.{free}
+use Rattle.rows.specs.Meaning.{without}
 use Rattle.checked.specs.Routes.{replace, clearTerm}
 use Rattle.judged.specs.Judged.{accepted, judged}
-use Rattle.judged.specs.TwoRoutes.{Gives, two-routes}
+use Rattle.judged.specs.RowExactly.{Gives}
+use Rattle.judged.specs.TwoRoutes.{two-routes}
 
-lent : Lengths
+abbrev pub lent : Lengths
 lent = record { records = 64; places = 8; rows = 6; answers = 0 }
 
-abbrev callee : Sort
+abbrev pub callee : Sort
 callee = par (2 ∷ []) (function (var 2 then var 2 then end))
 
-abbrev variable : ℕ → Sort → TermFields
+abbrev pub variable : ℕ → Sort → TermFields
 variable a s = record { kind = 5; name = a; number = 0; own = s; list = []; bindings = []; names = []; second = [] }
 
-abbrev call : ℕ → ℕ → TermFields
+abbrev pub call : ℕ → ℕ → TermFields
 call f x = record { kind = 6; name = 0; number = 0; own = bool; list = f ∷ x ∷ []; bindings = []; names = []; second = [] }
 
 -- n5 of the sort (par (n2) (-> 'n2 'n2)), n6 of the sort 'n1, and n5 at n6.
-abbrev first : List ℕ
+abbrev pub first : List ℕ
 first =
     4 ∷ 0 ∷ 3 ∷ 0 ∷ 0 ∷ 0
     ∷ 3 ∷ 2 ∷ 1 ∷ 0 ∷ 3 ∷ 2 ∷ 2 ∷ 0 ∷ 17 ∷ 0 ∷ 2 ∷ 1 ∷ 0 ∷ 1 ∷ 0 ∷ 81 ∷ 12 ∷ 1 ∷ 2 ∷ 0 ∷ 1 ∷ 2 ∷ 0
     ∷ 11 ∷ 5 ∷ 5 ∷ 0 ∷ 3 ∷ 0 ∷ 11 ∷ 5 ∷ 6 ∷ 0 ∷ 0 ∷ 0 ∷ 17 ∷ 6 ∷ 2 ∷ 0 ∷ 0 ∷ 1 ∷ 0 ∷ []
 
-abbrev firstSorts : List Sort
+abbrev pub firstSorts : List Sort
 firstSorts = var 1 ∷ var 2 ∷ function (var 2 then var 2 then end) ∷ callee ∷ []
 
-abbrev firstSheet : Sheet
+abbrev pub firstSheet : Sheet
 firstSheet =
     record { sorts = firstSorts; store = firstSorts; terms = call 0 1 ∷ variable 6 (var 1) ∷ variable 5 callee ∷ []; questions = [] }
 
-first-judged : judged first lent ≡ accepted firstSheet firstSorts (3 ∷ 3 ∷ 0 ∷ 0 ∷ 0 ∷ 0 ∷ []) []
-unfolding judged lent
+pub first-judged : judged first lent ≡ accepted firstSheet firstSorts (3 ∷ 3 ∷ 0 ∷ 0 ∷ 0 ∷ 0 ∷ []) []
+unfolding judged
 first-judged = refl
 
 -- The same with Int for 'n1, and other numbers for its sorts and terms.
-abbrev replaced : List ℕ
+abbrev pub replaced : List ℕ
 replaced =
     4 ∷ 0 ∷ 3 ∷ 0 ∷ 0 ∷ 0
     ∷ 3 ∷ 2 ∷ 2 ∷ 0 ∷ 17 ∷ 0 ∷ 2 ∷ 0 ∷ 0 ∷ 0 ∷ 0 ∷ 81 ∷ 12 ∷ 1 ∷ 1 ∷ 0 ∷ 1 ∷ 2 ∷ 0 ∷ 1 ∷ 4
     ∷ 11 ∷ 5 ∷ 6 ∷ 0 ∷ 3 ∷ 0 ∷ 11 ∷ 5 ∷ 5 ∷ 0 ∷ 2 ∷ 0 ∷ 17 ∷ 6 ∷ 2 ∷ 1 ∷ 0 ∷ 0 ∷ 0 ∷ []
 
-abbrev replacedSorts : List Sort
+abbrev pub replacedSorts : List Sort
 replacedSorts = var 2 ∷ function (var 2 then var 2 then end) ∷ callee ∷ int ∷ []
 
-abbrev replacedSheet : Sheet
+abbrev pub replacedSheet : Sheet
 replacedSheet =
     record { sorts = replacedSorts; store = replacedSorts; terms = call 1 0 ∷ variable 5 callee ∷ variable 6 int ∷ []; questions = [] }
 
-replaced-judged : judged replaced lent ≡ accepted replacedSheet replacedSorts (3 ∷ 3 ∷ 2 ∷ 2 ∷ 3 ∷ 3 ∷ []) []
-unfolding judged lent
+pub replaced-judged : judged replaced lent ≡ accepted replacedSheet replacedSorts (3 ∷ 3 ∷ 2 ∷ 2 ∷ 3 ∷ 3 ∷ []) []
+unfolding judged
 replaced-judged = refl
 
 -- The checked row of the first call gives 'n1, so that of the second gives Int.
-example-routes : Gives replacedSorts (3 ∷ 3 ∷ 2 ∷ 2 ∷ 3 ∷ 3 ∷ []) 2 int
-unfolding termAt replace clearTerm properMap free apply
+pub example-routes : Gives replacedSorts (3 ∷ 3 ∷ 2 ∷ 2 ∷ 3 ∷ 3 ∷ []) 2 int
+unfolding termAt replace clearTerm properMap without apply
 example-routes =
     two-routes first replaced lent lent firstSheet replacedSheet firstSorts replacedSorts (3 ∷ 3 ∷ 0 ∷ 0 ∷ 0 ∷ 0 ∷ []) (3 ∷ 3 ∷ 2 ∷ 2 ∷ 3 ∷ 3 ∷ []) [] []
-    first-judged replaced-judged 2 2 (omega arith) (omega arith) (bind 1 int empty) refl refl refl refl refl (var 1) (omega arith, refl) .1
+    first-judged replaced-judged 2 2 (omega arith) (omega arith) (bind 1 int empty) refl refl refl refl (var 1) (omega arith, refl) .1

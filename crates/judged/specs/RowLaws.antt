@@ -19,7 +19,7 @@ use Rattle.sheet.specs.SheetLaws.{referring}
 use Rattle.rows.specs.Verdict.{Verdict, sort}
 use Rattle.rows.specs.Term.{Site, Term, treeOf, termAt, verdictOf, verdictAt}
 use Rattle.rows.specs.Outcome.{Outcome, outcome, rowSort}
-use Rattle.rows.specs.Meaning.{Means, limited, allOf, free}
+use Rattle.rows.specs.Meaning.{Means, limited, allOf, without, free}
 use Rattle.rows.specs.OutcomeLaws.{Accepted, any-accepted, Grown, grown-self, grown-trans, outcome-grown, outcome-means, outcome-refused, means-stays, room-few}
 use Rattle.rows.specs.TermLaws.{verdict-is}
 use Rattle.inferred.specs.Inferred.{inferred, infer}
@@ -161,7 +161,7 @@ module _ (R : ℕ → List Rank) (l : Lengths) (st : List Sort) where
       → ((i : ℕ) → i < 2 * length rs → getD rows i 0 ≡ getD (tabled rs .rows) i 0)
       → (column n : ℕ) → column < 2 → n < length rs → free rows column rs n ≡ true
       → Means (tabled rs .store) (getD (tabled rs .rows) (2 * n + column) 0) (verdictOf (judging R column) (termAt rs n))
-  unfolding rowsOf free termAt referring
+  unfolding rowsOf without termAt referring
   rows-mean rows roomy [] refs agree column n col low f = absurd (not-suc-le-zero low)
   rows-mean rows roomy (r ∷ rs) refs agree column n col low f =
       let earlier = three-right (allBelow (length rs) (r .list)) (allBelow (length rs) (r .second)) (referring rs) refs .2 in

@@ -1,5 +1,5 @@
--- `free` says what it is read as: no limit is met at a term or below it exactly when no row of a term that is reached from it
--- through the lists of records is 22 or 23. By the rule that each record names only earlier terms.
+-- `without` says what it is read as: no row at a term or below it has such a code exactly when no row of a term that is reached from
+-- it through the lists of records has one. By the rule that each record names only earlier terms.
 use Prim.Native.Nat.{ℕ, zero, suc, _+_, _*_, _<_}
 use mathlib.Core.Path.{_≡_, refl, sym, ap₂, subst, _∙_}
 use mathlib.Core.Bool.{Bool, true, false, not, cond, _&&_, _||_, false≢true}
@@ -16,7 +16,7 @@ use Rattle.record.specs.Cases.{and-left, and-right, not-true, byTest, eqb-self,
 use Rattle.reader.specs.Reader.{allBelow}
 use Rattle.sheet.specs.Sheet.{TermFields}
 use Rattle.sheet.specs.SheetLaws.{referring}
-use Rattle.rows.specs.Meaning.{limited, allOf, free}
+use Rattle.rows.specs.Meaning.{limited, allOf, without, free}
 
 -- The record with the number n; what stands for one that is not there names nothing.
 unfoldable pub recordAt : List TermFields → ℕ → TermFields
@@ -70,55 +70,56 @@ named-below (r ∷ rs) refs t low j m =
     (λ q.
     named-below rs earlier t (below-other t (length rs) low (eqb-false t (length rs) q)) j (rw q at m))
 
-module _ (rows : List ℕ) (column : ℕ) where
+-- Over any test of codes.
+module _ (test : ℕ → Bool) (rows : List ℕ) (column : ℕ) where
   -- An earlier term is judged by the earlier records.
-  free-earlier : (r : TermFields) (rs : List TermFields) (j : ℕ) → j < length rs → free rows column (r ∷ rs) j ≡ free rows column rs j
-  unfolding free
-  free-earlier r rs j h = rw (ne-eqb j (length rs) (apart j (length rs) h)) refl
+  without-earlier : (r : TermFields) (rs : List TermFields) (j : ℕ) → j < length rs → without test rows column (r ∷ rs) j ≡ without test rows column rs j
+  unfolding without
+  without-earlier r rs j h = rw (ne-eqb j (length rs) (apart j (length rs) h)) refl
     where
       apart : (a b : ℕ) → a < b → a ≡ b → ⊥
       apart a b h e = omega arith
 
-  -- No limit at a term that is free.
-  free-here : (terms : List TermFields) (t : ℕ) → t < length terms → free rows column terms t ≡ true → limited (getD rows (2 * t + column) 0) ≡ false
-  unfolding free
-  free-here [] t low f = absurd (not-suc-le-zero low)
-  free-here (r ∷ rs) t low f =
+  -- The row of the term itself.
+  without-here : (terms : List TermFields) (t : ℕ) → t < length terms → without test rows column terms t ≡ true → test (getD rows (2 * t + column) 0) ≡ false
+  unfolding without
+  without-here [] t low f = absurd (not-suc-le-zero low)
+  without-here (r ∷ rs) t low f =
       byTest (eqb t (length rs))
-      (λ q. not-true (limited (getD rows (2 * t + column) 0)) (and-left (not (limited (getD rows (2 * t + column) 0))) _ (rw q at f)))
-      (λ q. free-here rs t (below-other t (length rs) low (eqb-false t (length rs) q)) (rw q at f))
+      (λ q. not-true (test (getD rows (2 * t + column) 0)) (and-left (not (test (getD rows (2 * t + column) 0))) _ (rw q at f)))
+      (λ q. without-here rs t (below-other t (length rs) low (eqb-false t (length rs) q)) (rw q at f))
 
-  -- What a free term names is free.
-  free-down : (terms : List TermFields) → referring terms ≡ true → (t : ℕ) → t < length terms → free rows column terms t ≡ true
-      → (j : ℕ) → named (recordAt terms t) j ≡ true → free rows column terms j ≡ true
-  unfolding free recordAt named referring
-  free-down [] refs t low f j m = absurd (not-suc-le-zero low)
-  free-down (r ∷ rs) refs t low f j m =
-      let ok : ℕ → Bool = λ j. free rows column rs j in
+  -- What holds of a term holds of those that it names.
+  without-down : (terms : List TermFields) → referring terms ≡ true → (t : ℕ) → t < length terms → without test rows column terms t ≡ true
+      → (j : ℕ) → named (recordAt terms t) j ≡ true → without test rows column terms j ≡ true
+  unfolding without recordAt named referring
+  without-down [] refs t low f j m = absurd (not-suc-le-zero low)
+  without-down (r ∷ rs) refs t low f j m =
+      let ok : ℕ → Bool = λ j. without test rows column rs j in
       let earlier = three-right (allBelow (length rs) (r .list)) (allBelow (length rs) (r .second)) (referring rs) refs .2 in
       let early = named-below (r ∷ rs) refs t low j m in
       let h : j < length rs = omega arith in
       byTest (eqb t (length rs))
       (λ q.
-      let two = three-right (not (limited (getD rows (2 * t + column) 0))) (allOf ok (r .list)) (allOf ok (r .second)) (rw q at f) in
-      free-earlier r rs j h
+      let two = three-right (not (test (getD rows (2 * t + column) 0))) (allOf ok (r .list)) (allOf ok (r .second)) (rw q at f) in
+      without-earlier r rs j h
       ∙ or-cases (member j (r .list)) (member j (r .second)) (rw q at m)
       (λ o. all-at ok (r .list) j (two .1) o)
       (λ o. all-at ok (r .second) j (two .2) o))
       (λ q.
-      free-earlier r rs j h
-      ∙ free-down rs earlier t (below-other t (length rs) low (eqb-false t (length rs) q)) (rw q at f) j (rw q at m))
+      without-earlier r rs j h
+      ∙ without-down rs earlier t (below-other t (length rs) low (eqb-false t (length rs) q)) (rw q at f) j (rw q at m))
 
-  -- A term without a limit whose named terms are free is free.
-  free-up : (terms : List TermFields) → referring terms ≡ true → (t : ℕ) → t < length terms → limited (getD rows (2 * t + column) 0) ≡ false
-      → ((j : ℕ) → named (recordAt terms t) j ≡ true → free rows column terms j ≡ true) → free rows column terms t ≡ true
-  unfolding free recordAt named referring
-  free-up [] refs t low f down = absurd (not-suc-le-zero low)
-  free-up (r ∷ rs) refs t low f down =
-      let ok : ℕ → Bool = λ j. free rows column rs j in
+  -- What holds of the row of a term, and of all terms that it names, holds of the term.
+  without-up : (terms : List TermFields) → referring terms ≡ true → (t : ℕ) → t < length terms → test (getD rows (2 * t + column) 0) ≡ false
+      → ((j : ℕ) → named (recordAt terms t) j ≡ true → without test rows column terms j ≡ true) → without test rows column terms t ≡ true
+  unfolding without recordAt named referring
+  without-up [] refs t low f down = absurd (not-suc-le-zero low)
+  without-up (r ∷ rs) refs t low f down =
+      let ok : ℕ → Bool = λ j. without test rows column rs j in
       let earlier = three-right (allBelow (length rs) (r .list)) (allBelow (length rs) (r .second)) (referring rs) refs .2 in
-      let early : (j : ℕ) → named (recordAt (r ∷ rs) t) j ≡ true → free rows column rs j ≡ true =
-      λ j m. let o = named-below (r ∷ rs) refs t low j m in sym (free-earlier r rs j (omega arith)) ∙ down j m in
+      let early : (j : ℕ) → named (recordAt (r ∷ rs) t) j ≡ true → without test rows column rs j ≡ true =
+      λ j m. let o = named-below (r ∷ rs) refs t low j m in sym (without-earlier r rs j (omega arith)) ∙ down j m in
       byTest (eqb t (length rs))
       (λ q.
       rw (q, f)
@@ -127,27 +128,45 @@ module _ (rows : List ℕ) (column : ℕ) where
       (all-each ok (r .second) (λ j m. early j (rw q (or-second (member j (r .list)) (member j (r .second)) m))))))
       (λ q.
       rw q
-      (free-up rs earlier t (below-other t (length rs) low (eqb-false t (length rs) q)) f
+      (without-up rs earlier t (below-other t (length rs) low (eqb-false t (length rs) q)) f
       (λ j m. early j (rw q m))))
 
-  free-reached : (terms : List TermFields) → referring terms ≡ true → (t u : ℕ) → t < length terms → free rows column terms t ≡ true → AtOrBelow terms t u
-      → limited (getD rows (2 * u + column) 0) ≡ false
-  free-reached terms refs t u low f itself = free-here terms t low f
-  free-reached terms refs t u low f (below j m b) =
+  without-reached : (terms : List TermFields) → referring terms ≡ true → (t u : ℕ) → t < length terms → without test rows column terms t ≡ true → AtOrBelow terms t u
+      → test (getD rows (2 * u + column) 0) ≡ false
+  without-reached terms refs t u low f itself = without-here terms t low f
+  without-reached terms refs t u low f (below j m b) =
       let early = named-below terms refs t low j m in
-      free-reached terms refs j u (omega arith) (free-down terms refs t low f j m) b
+      without-reached terms refs j u (omega arith) (without-down terms refs t low f j m) b
 
   -- By induction on a bound of the term's number, which falls.
-  reached-free : (terms : List TermFields) → referring terms ≡ true → (n t : ℕ) → t < n → t < length terms
-      → ((u : ℕ) → AtOrBelow terms t u → limited (getD rows (2 * u + column) 0) ≡ false) → free rows column terms t ≡ true
-  reached-free terms refs zero t h low all = absurd (not-suc-le-zero h)
-  reached-free terms refs (suc n) t h low all =
-      free-up terms refs t low (all t itself)
+  reached-without : (terms : List TermFields) → referring terms ≡ true → (n t : ℕ) → t < n → t < length terms
+      → ((u : ℕ) → AtOrBelow terms t u → test (getD rows (2 * u + column) 0) ≡ false) → without test rows column terms t ≡ true
+  reached-without terms refs zero t h low all = absurd (not-suc-le-zero h)
+  reached-without terms refs (suc n) t h low all =
+      without-up terms refs t low (all t itself)
       (λ j m.
       let early = named-below terms refs t low j m in
-      reached-free terms refs n j (omega arith) (omega arith) (λ u b. all u (below j m b)))
+      reached-without terms refs n j (omega arith) (omega arith) (λ u b. all u (below j m b)))
 
-  -- NO LIMIT IS MET AT A TERM OR BELOW IT exactly when no row of a term that is reached from it is 22 or 23.
-  pub free-exactly : (terms : List TermFields) → referring terms ≡ true → (t : ℕ) → t < length terms
-      → (free rows column terms t ≡ true) ↔ ((u : ℕ) → AtOrBelow terms t u → limited (getD rows (2 * u + column) 0) ≡ false)
-  free-exactly terms refs t low = (λ f u b. free-reached terms refs t u low f b, λ all. reached-free terms refs (suc t) t (omega arith) low all)
+  -- NO ROW AT A TERM OR BELOW IT HAS SUCH A CODE exactly when no row of a term that is reached from it has one.
+  pub without-exactly : (terms : List TermFields) → referring terms ≡ true → (t : ℕ) → t < length terms
+      → (without test rows column terms t ≡ true) ↔ ((u : ℕ) → AtOrBelow terms t u → test (getD rows (2 * u + column) 0) ≡ false)
+  without-exactly terms refs t low = (λ f u b. without-reached terms refs t u low f b, λ all. reached-without terms refs (suc t) t (omega arith) low all)
+
+-- NO LIMIT IS MET AT A TERM OR BELOW IT exactly when no row of a term that is reached from it is 22 or 23.
+pub free-exactly : (rows : List ℕ) (column : ℕ) (terms : List TermFields) → referring terms ≡ true → (t : ℕ) → t < length terms
+    → (free rows column terms t ≡ true) ↔ ((u : ℕ) → AtOrBelow terms t u → limited (getD rows (2 * u + column) 0) ≡ false)
+free-exactly rows column = without-exactly (λ c. limited c) rows column
+
+-- A term that is reached is one of the terms; so only the codes of their rows count.
+reached-low : (terms : List TermFields) → referring terms ≡ true → (t u : ℕ) → t < length terms → AtOrBelow terms t u → u < length terms
+reached-low terms refs t u low itself = low
+reached-low terms refs t u low (below j m b) =
+    let early = named-below terms refs t low j m in reached-low terms refs j u (omega arith) b
+
+pub free-same : (rows rows′ : List ℕ) (column : ℕ) → column < 2 → (terms : List TermFields) → referring terms ≡ true
+    → ((i : ℕ) → i < 2 * length terms → getD rows i 0 ≡ getD rows′ i 0) → (t : ℕ) → t < length terms → free rows column terms t ≡ true → free rows′ column terms t ≡ true
+free-same rows rows′ column col terms refs same t low f =
+    free-exactly rows′ column terms refs t low .1 (λ u b.
+    let o = reached-low terms refs t u low b in
+    subst (λ (code : ℕ). limited code ≡ false) (same (2 * u + column) (omega arith)) (free-exactly rows column terms refs t low .0 f u b))

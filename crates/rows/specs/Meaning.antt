@@ -24,13 +24,17 @@ unfoldable pub allOf : (ℕ → Bool) → List ℕ → Bool
 allOf f [] = true
 allOf f (i ∷ is) = f i && allOf f is
 
--- NO LIMIT IS MET in a column of the rows (0 inferred, 1 checked) at the term n or at one below it: neither row code stands at
--- the term, at the terms of its list or its second list, or below those (`free-exactly` of FreeLaws).
-unfoldable pub free : List ℕ → ℕ → List TermFields → ℕ → Bool
+-- NO ROW AT THE TERM n OR BELOW IT HAS SUCH A CODE, by a test of codes, in a column of the rows (0 inferred, 1 checked): not that of
+-- the term, of the terms of its list or its second list, or of those below them (`without-exactly` of FreeLaws).
+unfoldable pub without : (ℕ → Bool) → List ℕ → ℕ → List TermFields → ℕ → Bool
 unfolding allOf
-free rows column [] n = true
-free rows column (r ∷ rs) n =
+without test rows column [] n = true
+without test rows column (r ∷ rs) n =
     cond (eqb n (length rs))
-    (not (limited (getD rows (2 * n + column) 0))
-    && (allOf (λ j. free rows column rs j) (r .list) && allOf (λ j. free rows column rs j) (r .second)))
-    (free rows column rs n)
+    (not (test (getD rows (2 * n + column) 0))
+    && (allOf (λ j. without test rows column rs j) (r .list) && allOf (λ j. without test rows column rs j) (r .second)))
+    (without test rows column rs n)
+
+-- NO LIMIT IS MET at the term n or at one below it: no 22 and no 23.
+abbrev pub free : List ℕ → ℕ → List TermFields → ℕ → Bool
+free rows column rs n = without (λ c. limited c) rows column rs n

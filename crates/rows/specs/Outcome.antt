@@ -1,6 +1,6 @@
 -- A verdict meets the limits: 22 by the answer, 23 by the store; the row is coded, and an accepted answer is interned.
 use Prim.Native.Nat.{ℕ, _+_, _*_}
-use mathlib.Core.Bool.{Bool, true, false, cond, _&&_}
+use mathlib.Core.Bool.{Bool, true, cond, _&&_}
 use mathlib.Core.List.{List}
 use mathlib.Core.Option.{Option, none, some}
 use lib.ListN.{length, getD}
@@ -11,7 +11,7 @@ use Rattle.record.specs.Store.{intern, indexOf, room}
 use Rattle.sheet.specs.Sheet.{Lengths}
 use Rattle.rows.specs.declared.Cause.{Cause}
 use Rattle.rows.specs.declared.Cause.the-variants.{Limit, Full}
-use Rattle.rows.specs.Verdict.{Verdict, sort, refused, numberOf}
+use Rattle.rows.specs.Verdict.{Verdict, sort, refused, need, numberOf}
 
 -- Every width is at most 65,535 and every list at most 64 long, at every depth.
 unfoldable mutual
@@ -26,10 +26,20 @@ unfoldable mutual
   shallowAll end = true
   shallowAll (s then ss) = shallow s && shallowAll ss
 
--- An answer within the limits of its width, its lists and its tree, 4,096; else 22.
+-- An answer within the limits of its width, its lists and its tree, 4,096.
 unfoldable pub within : Sort → Bool
 unfolding shallow size
 within s = shallow s && leb (size s) 4096
+
+-- THE LIMITS OF THE ANSWER: "answer's width, list or tree over its limit", 22. A refusal passes none.
+abbrev pub inLimits : Verdict → Bool
+inLimits (refused c) = true
+inLimits (sort s) = within s
+
+-- ROOM FOR THE ANSWER in the lent lengths: "store can't hold the answer's sorts", 23. A refusal needs none.
+abbrev pub hasRoom : Lengths → List Sort → Verdict → Bool
+hasRoom l st (refused c) = true
+hasRoom l st (sort s) = room (l .records) (l .places) (intern s st)
 
 -- The store after a row or an answer, and its code.
 pub record Outcome : Type 0 where
@@ -40,20 +50,15 @@ pub record Outcome : Type 0 where
 abbrev pub refusal : List Sort → Cause → Outcome
 refusal st c = record { store = st; code = numberOf c * 65536 }
 
-abbrev pub outcomeBy : Bool → Outcome → Outcome → Outcome
-outcomeBy true a b = a
-outcomeBy false a b = b
+-- THE NUMBER OF THE ANSWER: "An answer adds only the sorts inside it", and its code is its number in the store after that.
+abbrev pub numbered : List Sort → Verdict → Outcome
+numbered st (refused c) = refusal st c
+numbered st (sort s) = record { store = intern s st; code = indexOf s (intern s st) }
 
--- THE OUTCOME OF A VERDICT over a store: "An answer adds only the sorts inside it."
+-- THE OUTCOME OF A VERDICT over a store: 22 by the answer, then 23 by the store, then its number.
 unfoldable pub outcome : Lengths → List Sort → Verdict → Outcome
 unfolding within room intern indexOf
-outcome l st (refused c) = refusal st c
-outcome l st (sort s) =
-    outcomeBy (within s)
-    (outcomeBy (room (l .records) (l .places) (intern s st))
-    (record { store = intern s st; code = indexOf s (intern s st) })
-    (refusal st Full))
-    (refusal st Limit)
+outcome l st v = numbered st (need (inLimits v) Limit (need (hasRoom l st v) Full v))
 
 -- The sort of the term i in a column of the rows, 0 the inferred, 1 the checked one; none where that row is refused.
 unfoldable pub rowSort : List Sort → List ℕ → ℕ → ℕ → Option Sort

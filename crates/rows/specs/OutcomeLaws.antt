@@ -8,7 +8,7 @@ use mathlib.Core.Logic.{_↔_}
 use native.Mathlib.Omega.{arith}
 use lib.ListN.{length, getD}
 use lib.Dec.{eqb, leb}
-use borrow.Author.Tests.{leb-true, eq-eqb}
+use borrow.Author.Tests.{leb-true, eq-eqb, ne-eqb}
 use Rattle.record.specs.Sort.{Sort}
 use Rattle.record.specs.Record.{leaf}
 use Rattle.record.specs.Store.{memb, intern, indexOf, bytesOf, room}
@@ -18,8 +18,8 @@ use Rattle.record.specs.StoreTheorems.{inside, intern-holds}
 use Rattle.sheet.specs.Sheet.{Lengths}
 use Rattle.rows.specs.declared.Cause.{Cause}
 use Rattle.rows.specs.declared.Cause.the-variants.{Below, Panics, Limit, Full, NoRank, Count, Misfit, Unassigned, Barred, NoAssignment}
-use Rattle.rows.specs.Verdict.{Verdict, sort, refused, numberOf}
-use Rattle.rows.specs.Outcome.{within, Outcome, refusal, outcomeBy, outcome}
+use Rattle.rows.specs.Verdict.{Verdict, sort, refused, need, numberOf}
+use Rattle.rows.specs.Outcome.{within, Outcome, numbered, outcome}
 use Rattle.rows.specs.Meaning.{Means, limited}
 
 -- Every refusal is coded by 65,536 or more, every number of a store with room by less than 4,096.
@@ -61,7 +61,7 @@ outcome-refused l st (sort s) h =
 ---------------------------------------------------------------- the three ways
 -- The outcome of an answer, by the two tests: within its limits, and room for the store after interning it.
 abbrev pub answered : Lengths → List Sort → Sort → Bool → Bool → Outcome
-answered l st s w r = outcomeBy w (outcomeBy r (record { store = intern s st; code = indexOf s (intern s st) }) (refusal st Full)) (refusal st Limit)
+answered l st s w r = numbered st (need w Limit (need r Full (sort s)))
 
 pub outcome-is : (l : Lengths) (st : List Sort) (s : Sort) → outcome l st (sort s) ≡ answered l st s (within s) (room (l .records) (l .places) (intern s st))
 unfolding outcome
@@ -242,3 +242,7 @@ pub outcome-means : (l : Lengths) (st : List Sort) (v : Verdict) → limited (ou
 unfolding outcome
 outcome-means l st (refused c) f = refl
 outcome-means l st (sort s) f = means-by l st s (within s) (room (l .records) (l .places) (intern s st)) f
+
+-- A code that names a sort is no limit.
+pub not-limited : (code : ℕ) → code < 65536 → limited code ≡ false
+not-limited code h = rw (ne-eqb code (numberOf Limit * 65536) (λ e. absurd (omega arith)), ne-eqb code (numberOf Full * 65536) (λ e. absurd (omega arith))) refl

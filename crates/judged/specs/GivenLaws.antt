@@ -1,0 +1,120 @@
+-- A row that gives a sort stands over rows that give sorts: a record gets a verdict of its own only where each term that it names has a
+-- sort in the same column, and else 20. So no limit is met at such a term or below it.
+use Prim.Native.Nat.{ℕ, zero, suc, _+_, _*_, _<_}
+use mathlib.Core.Path.{_≡_, refl, sym, subst}
+use mathlib.Core.Bool.{true, false≢true}
+use mathlib.Core.List.{List, [], _∷_}
+use mathlib.Core.Option.{Option, none, some}
+use native.Mathlib.Omega.{arith}
+use native.Mathlib.Nat.{not-suc-le-zero}
+use lib.ListN.{length, getD}
+use lib.Dec.{eqb, ltb}
+use borrow.Author.Tests.{eqb-true, eqb-false, ltb-true}
+use Rattle.record.specs.Sort.{Sort, Sorts}
+use Rattle.record.specs.Names.{member}
+use Rattle.record.specs.Cases.{three-right, or-cases, byTest, none-some, below-other}
+use Rattle.reader.specs.Reader.{allBelow}
+use Rattle.sheet.specs.Sheet.{Lengths, Sheet, TermFields}
+use Rattle.sheet.specs.SheetLaws.{referring}
+use Rattle.rows.specs.Verdict.{Verdict}
+use Rattle.rows.specs.Term.{Site, constantsAt, consed, sortsAt, verdictAt}
+use Rattle.rows.specs.Outcome.{rowSort}
+use Rattle.rows.specs.Meaning.{free}
+use Rattle.rows.specs.FreeLaws.{recordAt, named, AtOrBelow, itself, below, named-below, free-exactly}
+use Rattle.rows.specs.OutcomeLaws.{not-limited}
+use Rattle.inferred.specs.Inferred.{inferred}
+use Rattle.checked.specs.Rank.{Rank}
+use Rattle.checked.specs.Checked.{checked}
+use Rattle.checked.specs.RouteLaws.{parts}
+use Rattle.judged.specs.Rows.{Tabled, rowOf, rowsOf}
+use Rattle.judged.specs.Judged.{accepted, judgedBy}
+use Rattle.judged.specs.RowLaws.{row-accepted, rows-new, rows-old}
+use Rattle.judged.specs.JudgedLaws.{told}
+
+---------------------------------------------------------------- one row
+-- Where a row has a sort, it is no refusal; and where all terms of a list have one, each has.
+row-low : (st : List Sort) (rows : List ℕ) (column i : ℕ) (s : Sort) → rowSort st rows column i ≡ some s → getD rows (2 * i + column) 0 < 65536
+unfolding rowSort
+row-low st rows column i s e =
+    byTest (ltb (getD rows (2 * i + column) 0) 65536) (λ q. ltb-true (getD rows (2 * i + column) 0) 65536 q) (λ q. none-some (rw q at e))
+
+consed-some : (o : Option Sort) (p : Option Sorts) (ss : Sorts) → consed o p ≡ some ss → (s : Sort) × (ts : Sorts) × (o ≡ some s) × (p ≡ some ts)
+consed-some none p ss e = none-some e
+consed-some (some s) none ss e = none-some e
+consed-some (some s) (some ts) ss e = (s, ts, refl, refl)
+
+sorts-member : (row : ℕ → Option Sort) (is : List ℕ) (ss : Sorts) → sortsAt row is ≡ some ss → (j : ℕ) → member j is ≡ true → (s : Sort) × (row j ≡ some s)
+unfolding sortsAt member
+sorts-member row [] ss e j m = absurd (false≢true m)
+sorts-member row (i ∷ is) ss e j m =
+    let (s, ts, p, q) = consed-some (row i) (sortsAt row is) ss e in
+    byTest (eqb i j)
+    (λ k. (s, subst (λ (x : ℕ). row x ≡ some s) (eqb-true i j k) p))
+    (λ k. sorts-member row is ts q j (rw k at m))
+
+-- An accepted row's record names terms of accepted rows.
+module _ (J : Site → Verdict) (column : ℕ) (l : Lengths) (rs : List TermFields) (r : TermFields) (rows : List ℕ) (now : List Sort) where
+  named-low : rowOf J column l rs r rows now .code < 65536 → (j : ℕ) → named r j ≡ true → getD rows (2 * j + column) 0 < 65536
+  unfolding verdictAt named
+  named-low low j m =
+      let row : ℕ → Option Sort = λ i. rowSort now rows column i in
+      let (s, v, a) = row-accepted J column l rs r rows now low in
+      let (ts, js, p, q, z) = parts J (r .kind) (r .number) (r .own) (r .bindings) (constantsAt rs (r .list)) (constantsAt rs (r .second)) (sortsAt row (r .list)) (sortsAt row (r .second)) s v in
+      or-cases (member j (r .list)) (member j (r .second)) m
+      (λ o. let (x, e) = sorts-member row (r .list) ts p j o in row-low now rows column j x e)
+      (λ o. let (x, e) = sorts-member row (r .second) js q j o in row-low now rows column j x e)
+
+---------------------------------------------------------------- all rows
+module _ (R : ℕ → List Rank) (l : Lengths) (st : List Sort) where
+  abbrev tabled : List TermFields → Tabled
+  tabled rs = rowsOf R l st rs
+
+  abbrev code : List TermFields → ℕ → ℕ → ℕ
+  code rs column i = getD (tabled rs .rows) (2 * i + column) 0
+
+  new-low : (rs : List TermFields) (r : TermFields) (column : ℕ) → column < 2 → code (r ∷ rs) column (length rs) < 65536
+      → (j : ℕ) → named r j ≡ true → code rs column j < 65536
+  new-low rs r zero col h = named-low inferred 0 l rs r (tabled rs .rows) (tabled rs .store) (rw (rows-new R l st rs r 0) at h)
+  new-low rs r (suc zero) col h =
+      named-low (checked R) 1 l rs r (tabled rs .rows) (rowOf inferred 0 l rs r (tabled rs .rows) (tabled rs .store) .store) (rw (rows-new R l st rs r 1) at h)
+  new-low rs r (suc (suc column)) col h = absurd (omega arith)
+
+  one-low : (rs : List TermFields) → referring rs ≡ true → (column n j : ℕ) → column < 2 → n < length rs → named (recordAt rs n) j ≡ true
+      → code rs column n < 65536 → code rs column j < 65536
+  unfolding recordAt referring
+  one-low [] refs column n j col low m h = absurd (not-suc-le-zero low)
+  one-low (r ∷ rs) refs column n j col low m h =
+      let earlier = three-right (allBelow (length rs) (r .list)) (allBelow (length rs) (r .second)) (referring rs) refs .2 in
+      let early = named-below (r ∷ rs) refs n low j m in
+      rw (rows-old R l st rs r (2 * j + column) (omega arith))
+      (byTest (eqb n (length rs))
+      (λ q. new-low rs r column col (subst (λ (k : ℕ). code (r ∷ rs) column k < 65536) (eqb-true n (length rs) q) h) j (rw q at m))
+      (λ q.
+      let o : n < length rs = below-other n (length rs) low (eqb-false n (length rs) q) in
+      one-low rs earlier column n j col o (rw q at m) (rw (rows-old R l st rs r (2 * n + column) (omega arith)) at h)))
+
+  -- WHERE A ROW GIVES A SORT, so does every row at its term or below it, in the same column.
+  pub given-below : (rs : List TermFields) → referring rs ≡ true → (column n u : ℕ) → column < 2 → n < length rs → AtOrBelow rs n u
+      → code rs column n < 65536 → code rs column u < 65536
+  given-below rs refs column n u col low itself h = h
+  given-below rs refs column n u col low (below j m b) h =
+      let early = named-below rs refs n low j m in
+      given-below rs refs column j u col (omega arith) b (one-low rs refs column n j col low m h)
+
+  -- A ROW THAT GIVES A SORT HAS MET NO LIMIT at its term or below it.
+  pub given-free : (rs : List TermFields) → referring rs ≡ true → (column n : ℕ) → column < 2 → n < length rs
+      → code rs column n < 65536 → free (tabled rs .rows) column rs n ≡ true
+  given-free rs refs column n col low h =
+      free-exactly (tabled rs .rows) column rs refs n low .1
+      (λ u b. not-limited (code rs column u) (given-below rs refs column n u col low b h))
+
+---------------------------------------------------------------- an accepted sheet
+-- The same of the rows of an accepted sheet.
+pub judged-given : (R : ℕ → List Rank) (s : List ℕ) (l : Lengths) (h : Sheet) (st : List Sort) (rows answers : List ℕ)
+    → judgedBy R s l ≡ accepted h st rows answers → (column t : ℕ) → column < 2 → t < length (h .terms)
+    → getD rows (2 * t + column) 0 < 65536 → free rows column (h .terms) t ≡ true
+judged-given R s l h st rows answers e column t col low g =
+    let k = told R s l h st rows answers e in
+    subst (λ (z : List ℕ). free z column (h .terms) t ≡ true) (k .rows-are)
+    (given-free R l (h .store) (h .terms) (k .sheet .terms-are .below) column t col low
+    (subst (λ (z : List ℕ). getD z (2 * t + column) 0 < 65536) (sym (k .rows-are)) g))
