@@ -5,6 +5,8 @@ pub mod Routes
 pub mod CheckedExamples
 pub mod AppExamples
 pub mod RouteExamples
+pub mod Parts
+pub mod PartTheorems
 pub mod Fits
 pub mod Rules
 pub mod RankLaws
