@@ -21,3 +21,5 @@ pub mod AppTheorems
 pub mod Renaming
 pub mod Widths
 pub mod RuleTheorems
+pub mod Refusals
+pub mod RefusalTheorems
