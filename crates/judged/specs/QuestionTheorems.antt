@@ -5,7 +5,7 @@ use mathlib.Core.Path.{_≡_, refl, sym, ap, subst, _∙_}
 use mathlib.Core.Bool.{Bool, true, false, not, _&&_, false≢true, true≢false}
 use mathlib.Core.List.{List, [], _∷_}
 use mathlib.Core.Option.{Option, none, some}
-use mathlib.Core.Logic.{_↔_}
+use mathlib.Core.Logic.{_↔_, Iff·trans}
 use native.Mathlib.Omega.{arith}
 use lib.ListN.{getD}
 use lib.Dec.{eqb}
@@ -23,9 +23,9 @@ use Rattle.substitution.specs.MatchingLaws.{known-parless, unlisted-free, free-
 use Rattle.rows.specs.declared.Cause.{Cause}
 use Rattle.rows.specs.declared.Cause.the-variants.{Below, Panics, Limit, Full, NoRank, Count, Misfit, Unassigned, Barred, NoAssignment}
 use Rattle.rows.specs.Verdict.{Verdict, sort, refused, need, numberOf}
-use Rattle.rows.specs.Outcome.{within, outcome}
+use Rattle.rows.specs.Outcome.{within, Outcome, outcome}
 use Rattle.rows.specs.Meaning.{limited}
-use Rattle.rows.specs.OutcomeLaws.{plain, answered, outcome-is, interned-at, room-few, refused-sort, sort-inj}
+use Rattle.rows.specs.OutcomeLaws.{plain, answered, outcome-is, interned-at, room-few, refusal-large, refused-sort, sort-inj}
 use Rattle.checked.specs.Parts.{In, first, later, PartOf, whole, inBody, inList}
 use Rattle.checked.specs.FitLaws.{sort-refused, other-cause}
 use Rattle.judged.specs.Questions.{firstOf, restOf, assigned, matchAnswer, answerOf}
@@ -194,3 +194,61 @@ match-answered ns p t r s = (
         (λ b. byTest (bound m v)
         (λ c. let (l, x) = M .only m f v c in match-exact ns p t m θ e f (T .within) (T .turns) v l x)
         (λ c. not-bound m v c ∙ sym (not-bound θ v b)))
+
+---------------------------------------------------------------- the answer's code
+-- A cause's number says the cause.
+abbrev causeOf : ℕ → Cause
+causeOf n = getD (Below ∷ Panics ∷ Limit ∷ Full ∷ NoRank ∷ Count ∷ Misfit ∷ Unassigned ∷ Barred ∷ NoAssignment ∷ []) (n - 20) Below
+
+cause-back : (c : Cause) → causeOf (numberOf c) ≡ c
+cause-back Below = refl
+cause-back Panics = refl
+cause-back Limit = refl
+cause-back Full = refl
+cause-back NoRank = refl
+cause-back Count = refl
+cause-back Misfit = refl
+cause-back Unassigned = refl
+cause-back Barred = refl
+cause-back NoAssignment = refl
+
+one-cause : (c d : Cause) → numberOf c * 65536 ≡ numberOf d * 65536 → c ≡ d
+one-cause c d h = let e : numberOf c ≡ numberOf d = omega arith in sym (cause-back c) ∙ ap causeOf e ∙ cause-back d
+
+-- A CODE STANDS FOR A CAUSE other than 22 and 23 exactly where the verdict is refused for it: so of every row, too.
+pub code-cause : (l : Lengths) (st : List Sort) (v : Verdict) (c : Cause) → plain (refused c) ≡ true
+    → outcome l st v .code ≡ numberOf c * 65536 ↔ v ≡ refused c
+unfolding outcome plain
+code-cause l st (refused d) c p = (λ h. ap refused (one-cause d c h), λ h. let e : d ≡ c = cc in ap (λ (x : Cause). numberOf x * 65536) e)
+code-cause l st (sort s) c p = (
+  λ h. absurd (by (within s) (room (l .records) (l .places) (intern s st)) refl (sym (ap (λ (o : Outcome). o .code) (outcome-is l st s)) ∙ h)),
+  λ h. sort-refused h,
+)
+  where
+    by : (w r : Bool) → room (l .records) (l .places) (intern s st) ≡ r → answered l st s w r .code ≡ numberOf c * 65536 → ⊥
+    by true true e h = omega (arith, interned-at s st .0, room-few (l .records) (l .places) (intern s st) e, refusal-large c)
+    by true false e h = let q = one-cause Full c h in let z : false ≡ true = rw (← q) at p in false≢true z
+    by false r e h = let q = one-cause Limit c h in let z : false ≡ true = rw (← q) at p in false≢true z
+
+-- The pattern, the target and the result of a question 1.
+abbrev pub patternIn : QuestionFields → Sort
+patternIn q = firstOf (q .sorts)
+
+abbrev pub targetIn : QuestionFields → Sort
+targetIn q = firstOf (restOf (q .sorts))
+
+-- SO THE ANSWER TO A QUESTION 1 IS CODED 28 exactly outside the premise, and 29 exactly on it without an assignment.
+pub answer-barred : (l : Lengths) (q : QuestionFields) (st : List Sort) → q .kind ≡ 1
+    → answerOf l q st .code ≡ numberOf Barred * 65536 ↔ (Premise (q .names) (patternIn q) (targetIn q) → ⊥)
+unfolding answerVerdict plain
+answer-barred l q st k =
+    rw (answer-is l q st (rw k refl))
+    (Iff·trans (code-cause l st (answerVerdict q) Barred refl) (rw k (match-barred (q .names) (patternIn q) (targetIn q) (firstOf (restOf (restOf (q .sorts)))))))
+
+pub answer-unassigned : (l : Lengths) (q : QuestionFields) (st : List Sort) → q .kind ≡ 1
+    → answerOf l q st .code ≡ numberOf NoAssignment * 65536
+    ↔ Premise (q .names) (patternIn q) (targetIn q) × ((θ : Map) → Turns (q .names) (patternIn q) (targetIn q) θ → ⊥)
+unfolding answerVerdict plain
+answer-unassigned l q st k =
+    rw (answer-is l q st (rw k refl))
+    (Iff·trans (code-cause l st (answerVerdict q) NoAssignment refl) (rw k (match-unassigned (q .names) (patternIn q) (targetIn q) (firstOf (restOf (restOf (q .sorts)))))))
