@@ -1,3 +1,4 @@
 pub mod Family
 pub mod Inferred
 pub mod Facts
+pub mod PanicTheorems
