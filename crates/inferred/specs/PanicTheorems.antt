@@ -8,11 +8,11 @@ use mathlib.Core.List.{List, [], _∷_}
 use mathlib.Core.Option.{Option, none, some}
 use native.Mathlib.Omega.{arith}
 use native.Mathlib.Nat.{zero-add, add-zero}
-use lib.ListN.{length}
+use lib.ListN.{length, getD}
 use lib.Dec.{eqb, leb}
 use borrow.Author.Tests.{eqb-true, eqb-false, eq-eqb, ne-eqb, leb-true, leb-false}
 use Rattle.record.specs.Sort.{Sort, Sorts, var, par, node, end, _then_, bitvec, paramBitVec, set, tuple, kindOf, numberIn, count}
-use Rattle.record.specs.Cases.{byTest, byOption, clash, not-true-false}
+use Rattle.record.specs.Cases.{byTest, byOption, none-some, some-inj}
 use Rattle.substitution.specs.MatchWith.{isParamBitVec, isBitVec}
 use Rattle.rows.specs.declared.Cause.the-variants.{Panics}
 use Rattle.rows.specs.Verdict.{Verdict, sort, refused, need}
@@ -20,7 +20,7 @@ use Rattle.rows.specs.OutcomeLaws.{refused-sort, sort-inj}
 use Rattle.inferred.specs.declared.Family.{Family}
 use Rattle.inferred.specs.declared.Family.the-variants.{Truth, Integer, Decimal, Text, Regular, Vector, OneBit, Bits, Constant, Concat, First, Second, Last, Sum, Element, RareList, Singleton, Tuple, UnitTuple, Transpose, Join, Product}
 use Rattle.inferred.specs.Family.{familyOf}
-use Rattle.inferred.specs.Inferred.{hasWidth, firstVector, concatUnknown, concatFrom, constantWidth, operatedBy}
+use Rattle.inferred.specs.Inferred.{hasWidth, firstVector, concatUnknown, concatFrom, constantWidth, operatedBy, resized, widthOf, extracted, indexed}
 
 ---------------------------------------------------------------- what is said
 -- Where a verdict is 21, and that it is a sort elsewhere.
@@ -193,3 +193,100 @@ pub bits-exactly : (n : ℕ) (ss : Sorts) (cs : List (Option ℕ)) → 110 ≤ n
 unfolding operatedBy
 bits-exactly n ss cs a b = byTest (eqb n 110) (λ q. rw (eqb-true n 110 q) (unfold familyOf in refl)) (λ q. let d = eqb-false n 110 q in let e : n ≡ 111 = omega arith in rw e (unfold familyOf in refl))
 
+
+-- The number of an integer constant; 0 where it is none.
+abbrev pub orZero : Option ℕ → ℕ
+orZero none = 0
+orZero (some w) = w
+
+const-way : (cs : List (Option ℕ)) → Width (constantWidth cs) (length cs < 2) (getD cs 1 none ≡ none) (bitvec (orZero (getD cs 1 none)))
+const-way [] = bad refl (omega arith)
+const-way (c ∷ []) = bad refl (omega arith)
+const-way (c ∷ (none ∷ cs)) = unclear refl (λ h. omega arith) refl
+const-way (c ∷ (some w ∷ cs)) = wide refl (λ h. omega arith) (λ e. none-some (sym e))
+
+-- BVCONST (112) panics exactly with fewer than two arguments; else its width is unknown exactly where the second is no integer constant,
+-- and elsewhere that number.
+pub const-exactly : (ss : Sorts) (cs : List (Option ℕ))
+    → WidthWhen (operatedBy Constant ss cs) (length cs < 2) (getD cs 1 none ≡ none) (bitvec (orZero (getD cs 1 none)))
+unfolding operatedBy
+const-exactly ss cs = widthWhen refl (const-way cs)
+
+---------------------------------------------------------------- indexed operators
+-- The first argument.
+abbrev pub firstIn : Sorts → Sort
+firstIn end = bitvec 0
+firstIn (s then ss) = s
+
+-- There is no argument, or the first is no vector.
+abbrev pub NoVector : Sorts → Type 0
+NoVector ss = (count ss ≡ 0) ⊎ Other (firstIn ss)
+
+-- No index; or the first is an integer constant and there is no vector.
+abbrev pub Unsized : List (Option ℕ) → Sorts → Type 0
+Unsized is ss = (length is ≡ 0) ⊎ (((i : ℕ) × (getD is 0 none ≡ some i)) × NoVector ss)
+
+resized-way : (f : ℕ → ℕ → ℕ) (is : List (Option ℕ)) (ss : Sorts)
+    → Width (resized f is ss) (Unsized is ss) ((getD is 0 none ≡ none) ⊎ Unknown (firstIn ss)) (bitvec (f (orZero (getD is 0 none)) (numberIn (firstIn ss))))
+unfolding count
+resized-way f [] ss = bad refl (inl refl)
+resized-way f (none ∷ is) ss = unclear refl (⊎-elim (λ h. omega arith) (λ h. let (i, e) = h .0 in none-some e)) (inl refl)
+resized-way f (some i ∷ is) end = bad refl (inr ((i, refl), inl refl))
+resized-way f (some i ∷ is) (s then ss) =
+    byWidth s
+    (λ q k. wide (rw q refl) (⊎-elim (λ h. omega arith) (λ h. ⊎-elim (λ z. omega arith) (λ o. o .0 k) (h .1)))
+    (⊎-elim (λ e. none-some (sym e)) (λ z. omega arith)))
+    (λ q u b k. unclear (rw (q, u) refl) (⊎-elim (λ h. omega arith) (λ h. ⊎-elim (λ z. omega arith) (λ o. o .1 k) (h .1))) (inr k))
+    (λ q u b o. bad (rw (q, u) refl) (inr ((i, refl), inr o)))
+
+-- ZEROEXTEND AND SIGNEXTEND (3, 4) panic exactly without an index, or with an integer constant for index and no vector as first argument;
+-- else the width is unknown exactly where the index is no integer constant or the vector's width is unknown, and elsewhere the sum.
+pub extend-exactly : (n : ℕ) (is : List (Option ℕ)) (ss : Sorts) → ((n ≡ 3) ⊎ (n ≡ 4))
+    → WidthWhen (indexed n is ss) (Unsized is ss) ((getD is 0 none ≡ none) ⊎ Unknown (firstIn ss)) (bitvec (orZero (getD is 0 none) + numberIn (firstIn ss)))
+unfolding indexed
+extend-exactly n is ss (inl e) = rw e (widthWhen refl (resized-way (λ i w. i + w) is ss))
+extend-exactly n is ss (inr e) = rw e (widthWhen refl (resized-way (λ i w. i + w) is ss))
+
+-- REPEAT (7) the same, with the product.
+pub repeat-exactly : (is : List (Option ℕ)) (ss : Sorts)
+    → WidthWhen (indexed 7 is ss) (Unsized is ss) ((getD is 0 none ≡ none) ⊎ Unknown (firstIn ss)) (bitvec (orZero (getD is 0 none) * numberIn (firstIn ss)))
+unfolding indexed
+repeat-exactly is ss = widthWhen refl (resized-way (λ i w. i * w) is ss)
+
+-- INTTOBV (9) panics exactly without an index; else its width is unknown exactly where the index is no integer constant, and elsewhere
+-- that number.
+pub convert-exactly : (is : List (Option ℕ)) (ss : Sorts) → WidthWhen (indexed 9 is ss) (length is ≡ 0) (getD is 0 none ≡ none) (bitvec (orZero (getD is 0 none)))
+unfolding indexed
+convert-exactly is ss = widthWhen refl (way is)
+  where
+    way : (is : List (Option ℕ)) → Width (widthOf is) (length is ≡ 0) (getD is 0 none ≡ none) (bitvec (orZero (getD is 0 none)))
+    way [] = bad refl refl
+    way (none ∷ is) = unclear refl (λ h. omega arith) refl
+    way (some w ∷ is) = wide refl (λ h. omega arith) (λ e. none-some (sym e))
+
+-- No index; or the first is an integer constant i and there is no second, or the second is one that is larger.
+abbrev pub Unspanned : List (Option ℕ) → Type 0
+Unspanned is = (length is ≡ 0) ⊎ ((i : ℕ) × (getD is 0 none ≡ some i) × ((length is ≡ 1) ⊎ ((j : ℕ) × (getD is 1 none ≡ some j) × (i < j))))
+
+extract-way : (is : List (Option ℕ))
+    → Width (extracted is) (Unspanned is) ((getD is 0 none ≡ none) ⊎ (getD is 1 none ≡ none)) (bitvec (suc (orZero (getD is 0 none) - orZero (getD is 1 none))))
+extract-way [] = bad refl (inl refl)
+extract-way (none ∷ is) = unclear refl (⊎-elim (λ h. omega arith) (λ h. let (i, e, x) = h in none-some e)) (inl refl)
+extract-way (some i ∷ []) = bad refl (inr (i, refl, inl refl))
+extract-way (some i ∷ (none ∷ is)) =
+    unclear refl (⊎-elim (λ h. omega arith) (λ h. let (k, e, x) = h in ⊎-elim (λ z. omega arith) (λ y. let (j, f, l) = y in none-some f) x)) (inr refl)
+extract-way (some i ∷ (some j ∷ is)) =
+    byTest (leb j i)
+    (λ q. let a = leb-true j i q in
+    wide (rw q refl)
+    (⊎-elim (λ h. omega arith) (λ h. let (k, e, x) = h in ⊎-elim (λ z. omega arith)
+    (λ y. let (m, f, l) = y in let u = some-inj e in let v = some-inj f in omega arith) x))
+    (⊎-elim (λ e. none-some (sym e)) (λ e. none-some (sym e))))
+    (λ q. let a = leb-false j i q in bad (rw q refl) (inr (i, refl, inr (j, refl, omega arith))))
+
+-- EXTRACT i, j (0) panics exactly without an index, without a second one behind an integer constant, or where j is larger than i; else its
+-- width is unknown exactly where one of the two is no integer constant, and elsewhere i - j + 1. The argument is not looked at.
+pub extract-exactly : (is : List (Option ℕ)) (ss : Sorts)
+    → WidthWhen (indexed 0 is ss) (Unspanned is) ((getD is 0 none ≡ none) ⊎ (getD is 1 none ≡ none)) (bitvec (suc (orZero (getD is 0 none) - orZero (getD is 1 none))))
+unfolding indexed
+extract-exactly is ss = widthWhen refl (extract-way is)
