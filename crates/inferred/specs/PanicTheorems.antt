@@ -11,16 +11,20 @@ use native.Mathlib.Nat.{zero-add, add-zero}
 use lib.ListN.{length, getD}
 use lib.Dec.{eqb, leb}
 use borrow.Author.Tests.{eqb-true, eqb-false, eq-eqb, ne-eqb, leb-true, leb-false}
-use Rattle.record.specs.Sort.{Sort, Sorts, var, par, node, end, _then_, bitvec, paramBitVec, set, tuple, kindOf, numberIn, count}
+use Rattle.record.specs.Sort.{Sort, Sorts, var, par, node, end, _then_, bool, int, real, string, reglan, bitvec, paramBitVec, set, tuple, function, kindOf, numberIn, count}
 use Rattle.record.specs.Cases.{byTest, byOption, none-some, some-inj}
-use Rattle.substitution.specs.MatchWith.{isParamBitVec, isBitVec}
+use Rattle.substitution.specs.Substitution.{Map, empty, apply}
+use Rattle.sheet.specs.Sheet.{Binding}
+use Rattle.substitution.specs.MatchWith.{isParamBitVec, isBitVec, matchAllWith}
 use Rattle.rows.specs.declared.Cause.the-variants.{Panics}
 use Rattle.rows.specs.Verdict.{Verdict, sort, refused, need}
+use Rattle.rows.specs.Lists.{firsts, others, remaining, lastOf, joined, appended, bindingSorts}
+use Rattle.rows.specs.Term.{Site}
 use Rattle.rows.specs.OutcomeLaws.{refused-sort, sort-inj}
 use Rattle.inferred.specs.declared.Family.{Family}
 use Rattle.inferred.specs.declared.Family.the-variants.{Truth, Integer, Decimal, Text, Regular, Vector, OneBit, Bits, Constant, Concat, First, Second, Last, Sum, Element, RareList, Singleton, Tuple, UnitTuple, Transpose, Join, Product}
 use Rattle.inferred.specs.Family.{familyOf}
-use Rattle.inferred.specs.Inferred.{hasWidth, firstVector, concatUnknown, concatFrom, constantWidth, operatedBy, resized, widthOf, extracted, indexed}
+use Rattle.inferred.specs.Inferred.{hasWidth, firstVector, concatUnknown, concatFrom, firstOf, secondOf, finalOf, constantWidth, someReal, sumOf, elementOf, selected, rareOf, singletonOf, columns, relation, backwards, allButLast, joinOf, productOf, overColumns, overBoth, transposeOf, operatedBy, resized, widthOf, extracted, indexed, plainApp, parametricApp, headApp, applied, chosen, lambda, bound, matched, inferred}
 
 ---------------------------------------------------------------- what is said
 -- Where a verdict is 21, and that it is a sort elsewhere.
@@ -290,3 +294,331 @@ pub extract-exactly : (is : List (Option ℕ)) (ss : Sorts)
     → WidthWhen (indexed 0 is ss) (Unspanned is) ((getD is 0 none ≡ none) ⊎ (getD is 1 none ≡ none)) (bitvec (suc (orZero (getD is 0 none) - orZero (getD is 1 none))))
 unfolding indexed
 extract-exactly is ss = widthWhen refl (extract-way is)
+
+first-way : (ss : Sorts) → Way (firstOf ss) (count ss ≡ 0)
+unfolding count
+first-way end = bad refl refl
+first-way (s then ss) = good s refl (λ h. omega arith)
+
+-- THE ROTATIONS (5, 6) panic exactly without an argument, BVCONST as a ParamOp (8) always, and 1 BvBitOf, 2 BvIntOf, 10 RePower and
+-- 11 ReLoop never.
+pub rotate-panics : (n : ℕ) (is : List (Option ℕ)) (ss : Sorts) → ((n ≡ 5) ⊎ (n ≡ 6)) → PanicsWhen (indexed n is ss) (count ss ≡ 0)
+unfolding indexed
+rotate-panics n is ss (inl e) = rw e (panicsWhen (first-way ss))
+rotate-panics n is ss (inr e) = rw e (panicsWhen (first-way ss))
+
+pub always-panics : (is : List (Option ℕ)) (ss : Sorts) → indexed 8 is ss ≡ refused Panics
+unfolding indexed
+always-panics is ss = refl
+
+pub never-panics : (n : ℕ) (is : List (Option ℕ)) (ss : Sorts) → ((n ≡ 1) ⊎ ((n ≡ 2) ⊎ ((n ≡ 10) ⊎ (n ≡ 11)))) → PanicsWhen (indexed n is ss) ⊥
+unfolding indexed
+never-panics n is ss (inl e) = rw e (panicsWhen (good bool refl (λ h. h)))
+never-panics n is ss (inr (inl e)) = rw e (panicsWhen (good int refl (λ h. h)))
+never-panics n is ss (inr (inr (inl e))) = rw e (panicsWhen (good reglan refl (λ h. h)))
+never-panics n is ss (inr (inr (inr e))) = rw e (panicsWhen (good reglan refl (λ h. h)))
+
+---------------------------------------------------------------- families of operators
+-- An Array, and a relation with the columns cs: a Set of a Tuple.
+abbrev pub Array : Sort → Type 0
+Array s = (a : ℕ) × (w : ℕ) × (x : Sort) × (y : Sort) × (rs : Sorts) × (s ≡ node 8 a w (x then y then rs))
+
+abbrev pub Relation : Sort → Sorts → Type 0
+Relation s cs = (a : ℕ) × (w : ℕ) × (b : ℕ) × (x : ℕ) × (rs : Sorts) × (s ≡ node 14 a w (node 15 b x cs then rs))
+
+-- Two arguments or more, of which the first two are relations with these columns.
+abbrev pub Relations : Sorts → Sorts → Sorts → Type 0
+Relations ss xs ys = (l : Sort) × (r : Sort) × (ts : Sorts) × (ss ≡ l then r then ts) × Relation l xs × Relation r ys
+
+-- WHERE EACH FAMILY PANICS, from the sorts of its arguments and the integer constants among them.
+abbrev pub Panicking : Family → Sorts → List (Option ℕ) → Type 0
+Panicking Truth ss cs = ⊥
+Panicking Integer ss cs = ⊥
+Panicking Decimal ss cs = ⊥
+Panicking Text ss cs = ⊥
+Panicking Regular ss cs = ⊥
+Panicking Vector ss cs = Behind Unknown Other ss
+Panicking OneBit ss cs = ⊥
+Panicking Bits ss cs = ⊥
+Panicking Constant ss cs = length cs < 2
+Panicking Concat ss cs = Some Other ss
+Panicking First ss cs = count ss ≡ 0
+Panicking Second ss cs = count ss < 2
+Panicking Last ss cs = count ss ≡ 0
+Panicking Sum ss cs = ⊥
+Panicking Element ss cs = (s : Sort) (ts : Sorts) → ss ≡ s then ts → Array s → ⊥
+Panicking RareList ss cs = ⊥
+Panicking Singleton ss cs = count ss ≡ 0
+Panicking Tuple ss cs = ⊥
+Panicking UnitTuple ss cs = ⊥
+Panicking Transpose ss cs = (s : Sort) (ts xs : Sorts) → ss ≡ s then ts → Relation s xs → ⊥
+Panicking Join ss cs = (xs ys : Sorts) (y : Sort) → Relations ss xs (y then ys) → ⊥
+Panicking Product ss cs = (xs ys : Sorts) → Relations ss xs ys → ⊥
+
+-- A vector that is wide or of unknown width is a sort.
+width-way : {v : Verdict} {P U : Type 0} {r : Sort} → Width v P U r → Way v P
+width-way (bad e p) = bad e p
+width-way (unclear e n u) = good paramBitVec e n
+width-way {v} {P} {U} {r} (wide e n u) = good r e n
+
+second-way : (ss : Sorts) → Way (secondOf ss) (count ss < 2)
+unfolding count
+second-way end = bad refl (omega arith)
+second-way (s then end) = bad refl (omega arith)
+second-way (s then (t then ss)) = good t refl (λ h. omega arith)
+
+last-way : (ss : Sorts) → Way (finalOf ss) (count ss ≡ 0)
+unfolding count
+last-way end = bad refl refl
+last-way (s then ss) = good (lastOf s ss) refl (λ h. omega arith)
+
+singleton-way : (ss : Sorts) → Way (singletonOf ss) (count ss ≡ 0)
+unfolding count
+singleton-way end = bad refl refl
+singleton-way (s then ss) = good (set s) refl (λ h. omega arith)
+
+sum-way : (b : Bool) → Way (sumOf b) ⊥
+sum-way true = good real refl (λ h. h)
+sum-way false = good int refl (λ h. h)
+
+rare-way : (ss : Sorts) → Way (rareOf ss) ⊥
+rare-way end = good (var 0) refl (λ h. h)
+rare-way (s then ss) = good s refl (λ h. h)
+
+-- An argument's sort: an Array, or none; a relation, or none.
+array-way : (s : Sort) → Way (elementOf s) (Array s → ⊥)
+array-way (var v) = bad refl (λ h. let (a, w, x, y, rs, e) = h in let z : true ≡ false = cc in true≢false z)
+array-way (par ns b) = bad refl (λ h. let (a, w, x, y, rs, e) = h in let z : true ≡ false = cc in true≢false z)
+array-way (node k a w end) = bad refl (λ h. let (b, v, x, y, rs, e) = h in let z : true ≡ false = cc in true≢false z)
+array-way (node k a w (r then end)) = bad refl (λ h. let (b, v, x, y, rs, e) = h in let z : true ≡ false = cc in true≢false z)
+array-way (node k a w (r then (t then ts))) =
+    byTest (eqb k 8)
+    (λ q. good t (rw q refl) (λ n. n (a, w, r, t, ts, rw (eqb-true k 8 q) refl)))
+    (λ q. bad (rw q refl) (λ h. let (b, v, x, y, rs, e) = h in let z : k ≡ 8 = cc in eqb-false k 8 q z))
+
+selected-way : (ss : Sorts) → Way (selected ss) ((s : Sort) (ts : Sorts) → ss ≡ s then ts → Array s → ⊥)
+selected-way end = bad refl (λ s ts e h. let z : true ≡ false = cc in true≢false z)
+selected-way (a then ss) = one (array-way a)
+  where
+    one : Way (elementOf a) (Array a → ⊥) → Way (elementOf a) ((s : Sort) (ts : Sorts) → a then ss ≡ s then ts → Array s → ⊥)
+    one (bad e n) = bad e (λ s ts q h. let z : s ≡ a = cc in n (rw z at h))
+    one (good s e n) = good s e (λ h. n (h a ss refl))
+
+columns-of : (s : Sort) → ((cs : Sorts) × (columns s ≡ some cs) × Relation s cs) ⊎ ((columns s ≡ none) × ((cs : Sorts) → Relation s cs → ⊥))
+columns-of (var v) = inr (refl, λ cs h. let (a, w, b, x, rs, e) = h in let z : true ≡ false = cc in true≢false z)
+columns-of (par ns t) = inr (refl, λ cs h. let (a, w, b, x, rs, e) = h in let z : true ≡ false = cc in true≢false z)
+columns-of (node k i j end) = inr (refl, λ cs h. let (a, w, b, x, rs, e) = h in let z : true ≡ false = cc in true≢false z)
+columns-of (node k i j (var v then ss)) = inr (refl, λ cs h. let (a, w, b, x, rs, e) = h in let z : true ≡ false = cc in true≢false z)
+columns-of (node k i j (par ns t then ss)) = inr (refl, λ cs h. let (a, w, b, x, rs, e) = h in let z : true ≡ false = cc in true≢false z)
+columns-of (node k i j (node l c m ts then ss)) =
+    byTest (eqb k 14)
+    (λ q. byTest (eqb l 15)
+    (λ r. inl (ts, rw (q, r) refl, (i, j, c, m, ss, rw (eqb-true k 14 q, eqb-true l 15 r) refl)))
+    (λ r. inr (rw (q, r) refl, λ cs h. let (a, w, b, x, rs, e) = h in let z : l ≡ 15 = cc in eqb-false l 15 r z)))
+    (λ q. inr (rw q refl, λ cs h. let (a, w, b, x, rs, e) = h in let z : k ≡ 14 = cc in eqb-false k 14 q z))
+
+relation-columns : {s : Sort} {cs : Sorts} → Relation s cs → columns s ≡ some cs
+relation-columns h = let (a, w, b, x, rs, e) = h in rw e refl
+
+transpose-way : (ss : Sorts) → Way (transposeOf ss) ((s : Sort) (ts xs : Sorts) → ss ≡ s then ts → Relation s xs → ⊥)
+transpose-way end = bad refl (λ s ts xs e h. let z : true ≡ false = cc in true≢false z)
+transpose-way (a then ss) =
+    ⊎-elim
+    (λ c. let (xs, e, R) = c in good (set (tuple (backwards xs end))) (rw e refl) (λ n. n a ss xs refl R))
+    (λ c. bad (rw (c .0) refl) (λ s ts xs e h. let z : s ≡ a = cc in c .1 xs (rw z at h)))
+    (columns-of a)
+
+few : {C : Type 0} {ss xs ys : Sorts} → count ss < 2 → Relations ss xs ys → C
+unfolding count
+few {C} {ss} h R = let (l, r, ts, e, p, q) = R in let z = ap count e in absurd (omega arith)
+
+-- The columns that two relations have are those that are looked at.
+looked : {a b : Sort} {ts xs ys : Sorts} → Relations (a then b then ts) xs ys → (columns a ≡ some xs) × (columns b ≡ some ys)
+looked {a} {b} R =
+    let (l, r, us, e, p, q) = R in
+    let x : a ≡ l = cc in
+    let y : b ≡ r = cc in
+    (ap columns x ∙ relation-columns p, ap columns y ∙ relation-columns q)
+
+product-way : (ss : Sorts) → Way (overBoth productOf ss) ((xs ys : Sorts) → Relations ss xs ys → ⊥)
+unfolding count
+product-way end = bad refl (λ xs ys R. few (omega arith) R)
+product-way (a then end) = bad refl (λ xs ys R. few (omega arith) R)
+product-way (a then (b then ts)) =
+    ⊎-elim
+    (λ c. let (xs, e, R) = c in
+    ⊎-elim
+    (λ d. let (ys, f, S) = d in good (set (tuple (appended xs ys))) (rw (e, f) refl) (λ n. n xs ys (a, b, ts, refl, R, S)))
+    (λ d. bad (rw (e, d .0) refl) (λ us ys T. none-some (sym (d .0) ∙ looked T .1))) (columns-of b))
+    (λ c. bad (rw (c .0) refl) (λ us ys T. none-some (sym (c .0) ∙ looked T .0))) (columns-of a)
+
+join-way : (ss : Sorts) → Way (overBoth joinOf ss) ((xs ys : Sorts) (y : Sort) → Relations ss xs (y then ys) → ⊥)
+unfolding count
+join-way end = bad refl (λ xs ys y R. few (omega arith) R)
+join-way (a then end) = bad refl (λ xs ys y R. few (omega arith) R)
+join-way (a then (b then ts)) =
+    ⊎-elim
+    (λ c. let (xs, e, R) = c in
+    ⊎-elim
+    (λ d. let (ys, f, S) = d in right xs ys e f R S)
+    (λ d. bad (rw (e, d .0) refl) (λ us ys y T. none-some (sym (d .0) ∙ looked T .1))) (columns-of b))
+    (λ c. bad (rw (c .0) refl) (λ us ys y T. none-some (sym (c .0) ∙ looked T .0))) (columns-of a)
+  where
+    right : (xs ys : Sorts) → columns a ≡ some xs → columns b ≡ some ys → Relation a xs → Relation b ys
+        → Way (overBoth joinOf (a then b then ts)) ((us vs : Sorts) (y : Sort) → Relations (a then b then ts) us (y then vs) → ⊥)
+    right xs end e f R S = bad (rw (e, f) refl) (λ us vs y T. let g = some-inj (sym f ∙ looked T .1) in let z : true ≡ false = cc in true≢false z)
+    right xs (y then ys) e f R S = good (set (tuple (appended (allButLast xs) ys))) (rw (e, f) refl) (λ n. n xs ys y (a, b, ts, refl, R, S))
+
+-- 21 OF AN OPERATOR, exactly where its family panics; elsewhere it has a sort.
+family-way : (f : Family) (ss : Sorts) (cs : List (Option ℕ)) → Way (operatedBy f ss cs) (Panicking f ss cs)
+unfolding operatedBy
+family-way Truth ss cs = good bool refl (λ h. h)
+family-way Integer ss cs = good int refl (λ h. h)
+family-way Decimal ss cs = good real refl (λ h. h)
+family-way Text ss cs = good string refl (λ h. h)
+family-way Regular ss cs = good reglan refl (λ h. h)
+family-way Vector ss cs = width-way (nineteen-way ss)
+family-way OneBit ss cs = good (bitvec 1) refl (λ h. h)
+family-way Bits ss cs = good (bitvec (count ss)) refl (λ h. h)
+family-way Constant ss cs = width-way (const-way cs)
+family-way Concat ss cs = width-way (concat-way 0 ss)
+family-way First ss cs = first-way ss
+family-way Second ss cs = second-way ss
+family-way Last ss cs = last-way ss
+family-way Sum ss cs = sum-way (someReal ss)
+family-way Element ss cs = selected-way ss
+family-way RareList ss cs = rare-way ss
+family-way Singleton ss cs = singleton-way ss
+family-way Tuple ss cs = good (tuple ss) refl (λ h. h)
+family-way UnitTuple ss cs = good (tuple end) refl (λ h. h)
+family-way Transpose ss cs = transpose-way ss
+family-way Join ss cs = join-way ss
+family-way Product ss cs = product-way ss
+
+pub operator-panics : (z : Site) → z .kind ≡ 7 → PanicsWhen (inferred z) (Panicking (familyOf (z .number)) (z .args) (z .constants))
+unfolding inferred
+operator-panics z k = rw k (panicsWhen (family-way (familyOf (z .number)) (z .args) (z .constants)))
+
+---------------------------------------------------------------- the other kinds
+-- A CONSTANT, A VAR AND AN ASOP never panic.
+pub own-panics : (z : Site) → ((z .kind ≤ 5) ⊎ (z .kind ≡ 12)) → PanicsWhen (inferred z) ⊥
+unfolding inferred
+own-panics z k =
+    byTest (eqb (z .kind) 0) (λ q. panicsWhen (good int (rw q refl) (λ h. h)))
+    (λ q0. byTest (eqb (z .kind) 1) (λ q. panicsWhen (good real (rw (q0, q) refl) (λ h. h)))
+    (λ q1. byTest (eqb (z .kind) 2) (λ q. panicsWhen (good string (rw (q0, q1, q) refl) (λ h. h)))
+    (λ q2. byTest (eqb (z .kind) 3) (λ q. panicsWhen (good reglan (rw (q0, q1, q2, q) refl) (λ h. h)))
+    (λ q3. byTest (eqb (z .kind) 4) (λ q. panicsWhen (good (bitvec (z .number)) (rw (q0, q1, q2, q3, q) refl) (λ h. h)))
+    (λ q4. byTest (eqb (z .kind) 5) (λ q. panicsWhen (good (z .own) (rw (q0, q1, q2, q3, q4, q) refl) (λ h. h)))
+    (λ q5. let e : z .kind ≡ 12 = last (z .kind) k q0 q1 q2 q3 q4 q5 in panicsWhen (good (z .own) (rw e refl) (λ h. h))))))))
+  where
+    last : (k : ℕ) → ((k ≤ 5) ⊎ (k ≡ 12)) → eqb k 0 ≡ false → eqb k 1 ≡ false → eqb k 2 ≡ false → eqb k 3 ≡ false → eqb k 4 ≡ false → eqb k 5 ≡ false → k ≡ 12
+    last k (inr e) a b c d f g = e
+    last k (inl e) a b c d f g =
+        let u = eqb-false k 0 a in
+        let v = eqb-false k 1 b in
+        let w = eqb-false k 2 c in
+        let x = eqb-false k 3 d in
+        let y = eqb-false k 4 f in
+        let o = eqb-false k 5 g in absurd (omega arith)
+
+-- A BINDER panics exactly where a Choice (2) has no binding or a Lambda (3) no body.
+pub binder-panics : (z : Site) → z .kind ≡ 8
+    → PanicsWhen (inferred z) (((z .number ≡ 2) × (length (z .bindings) ≡ 0)) ⊎ ((z .number ≡ 3) × (count (z .args) ≡ 0)))
+unfolding inferred bound
+binder-panics z k = rw k (panicsWhen (
+  byTest (eqb (z .number) 3)
+  (λ q. let e = eqb-true (z .number) 3 q in rw q (body (z .args) e))
+  (λ q. let d = eqb-false (z .number) 3 q in
+  byTest (eqb (z .number) 2)
+  (λ r. let e = eqb-true (z .number) 2 r in rw (q, r) (binding (z .bindings) e d))
+  (λ r. let f = eqb-false (z .number) 2 r in good bool (rw (q, r) refl) (⊎-elim (λ h. f (h .0)) (λ h. d (h .0)))))
+))
+  where
+    body : (ss : Sorts) → z .number ≡ 3 → Way (lambda (z .bindings) ss) (((z .number ≡ 2) × (length (z .bindings) ≡ 0)) ⊎ ((z .number ≡ 3) × (count ss ≡ 0)))
+    body end e = bad refl (inr (e, refl))
+    body (s then ss) e = good (function (joined (bindingSorts (z .bindings)) s)) refl (⊎-elim (λ h. let y = h .0 in omega arith) (λ h. let y = h .1 in omega arith))
+
+    binding : (bs : List Binding) → z .number ≡ 2 → (z .number ≡ 3 → ⊥) → Way (chosen bs) (((z .number ≡ 2) × (length bs ≡ 0)) ⊎ ((z .number ≡ 3) × (count (z .args) ≡ 0)))
+    binding [] e d = bad refl (inl (e, refl))
+    binding (b ∷ bs) e d = good (b .sort) refl (⊎-elim (λ h. let y = h .1 in omega arith) (λ h. d (h .0)))
+
+-- A LET panics exactly where it has no inner term,
+pub let-panics : (z : Site) → z .kind ≡ 9 → PanicsWhen (inferred z) (count (z .args) ≡ 0)
+unfolding inferred
+let-panics z k = rw k (panicsWhen (last-way (z .args)))
+
+-- and a MATCH where it has no body.
+pub match-panics : (z : Site) → z .kind ≡ 10 → PanicsWhen (inferred z) (count (z .args) < 2)
+unfolding inferred count
+match-panics z k = rw k (panicsWhen (way (z .args)))
+  where
+    way : (ss : Sorts) → Way (matched ss) (count ss < 2)
+    way end = bad refl (omega arith)
+    way (s then end) = bad refl (omega arith)
+    way (s then (t then ts)) = good (lastOf t ts) refl (λ h. omega arith)
+
+-- A PARAMOP is judged by its number, indices and arguments: so the laws of the indexed operators above are those of its row.
+pub index-inferred : (z : Site) → z .kind ≡ 11 → inferred z ≡ indexed (z .number) (z .indices) (z .args)
+unfolding inferred
+index-inferred z k = rw k refl
+
+---------------------------------------------------------------- App
+-- The head is a Function with the list ss, by itself or under a Par with the names ns.
+abbrev pub Function : Sort → List ℕ → Sorts → Type 0
+Function h ns ss = (a : ℕ) × (w : ℕ) × ((h ≡ node 0 a w ss) ⊎ (h ≡ par ns (node 0 a w ss)))
+
+-- It is none; or it has fewer entries than there are arguments; or match_with finds no map under its Par.
+pub data Misapplied (h : Sort) (ts : Sorts) : Type 0 where
+  noFunction : ((ns : List ℕ) (ss : Sorts) → Function h ns ss → ⊥) → Misapplied h ts
+  tooMany : (ns : List ℕ) (ss : Sorts) → Function h ns ss → count ss < count ts → Misapplied h ts
+  unmatched : (ns : List ℕ) (a w : ℕ) (ss : Sorts) → h ≡ par ns (node 0 a w ss) → matchAllWith ns (firsts ss ts) ts empty ≡ none → Misapplied h ts
+
+not-var : (v : ℕ) (ns : List ℕ) (ss : Sorts) → Function (var v) ns ss → ⊥
+not-var v ns ss F = let (a, w, e) = F in ⊎-elim (λ q. let z : true ≡ false = cc in true≢false z) (λ q. let z : true ≡ false = cc in true≢false z) e
+
+bare-list : {k a w : ℕ} {rs ss : Sorts} {ns : List ℕ} → Function (node k a w rs) ns ss → (k ≡ 0) × (rs ≡ ss)
+bare-list F = let (a, w, e) = F in ⊎-elim (λ q. (cc, cc)) (λ q. let z : true ≡ false = cc in absurd (true≢false z)) e
+
+under-list : {us : List ℕ} {b : Sort} {ss : Sorts} {ns : List ℕ} → Function (par us b) ns ss → (us ≡ ns) × ((a : ℕ) × (w : ℕ) × (b ≡ node 0 a w ss))
+under-list F = let (a, w, e) = F in ⊎-elim (λ q. let z : true ≡ false = cc in absurd (true≢false z)) (λ q. (cc, (a, w, cc))) e
+
+app-way : (h : Sort) (ts : Sorts) → Way (headApp h ts) (Misapplied h ts)
+unfolding plainApp parametricApp
+app-way (var v) ts = bad refl (noFunction (not-var v))
+app-way (par ns (var v)) ts = bad refl (noFunction (λ ms ss F. let (e, (a, w, q)) = under-list F in let z : true ≡ false = cc in true≢false z))
+app-way (par ns (par ms b)) ts = bad refl (noFunction (λ us ss F. let (e, (a, w, q)) = under-list F in let z : true ≡ false = cc in true≢false z))
+app-way (par ns (node k a w ss)) ts =
+    byTest (eqb k 0)
+    (λ q. let e = eqb-true k 0 q in
+    byTest (leb (count ts) (count ss))
+    (λ l. let c = leb-true (count ts) (count ss) l in
+    byOption (matchAllWith ns (firsts ss ts) ts empty)
+    (λ f. bad (rw (q, l, f) refl) (unmatched ns a w ss (rw e refl) f))
+    (λ m f. good (apply m (remaining (others ss ts))) (rw (q, l, f) refl) (fits e c m f)))
+    (λ l. let c = leb-false (count ts) (count ss) l in bad (rw (q, l) refl) (tooMany ns ss (a, w, inr (rw e refl)) (omega arith))))
+    (λ q. bad (rw q refl) (noFunction (λ ms rs F. let (e, (b, x, g)) = under-list F in let z : k ≡ 0 = cc in eqb-false k 0 q z)))
+  where
+    fits : k ≡ 0 → count ts ≤ count ss → (m : Map) → matchAllWith ns (firsts ss ts) ts empty ≡ some m → Misapplied (par ns (node k a w ss)) ts → ⊥
+    fits e c m f (noFunction n) = n ns ss (a, w, inr (rw e refl))
+    fits e c m f (tooMany ms rs F l) = let (d, (b, x, g)) = under-list F in let z : rs ≡ ss = cc in let y = ap count z in omega arith
+    fits e c m f (unmatched ms b x rs g n) =
+        let y : ms ≡ ns = cc in
+        let z : rs ≡ ss = cc in none-some (sym (rw (y, z) at n) ∙ f)
+app-way (node k a w ss) ts =
+    byTest (eqb k 0)
+    (λ q. let e = eqb-true k 0 q in
+    byTest (leb (count ts) (count ss))
+    (λ l. let c = leb-true (count ts) (count ss) l in good (remaining (others ss ts)) (rw (q, l) refl) (fits e c))
+    (λ l. let c = leb-false (count ts) (count ss) l in bad (rw (q, l) refl) (tooMany [] ss (a, w, inl (rw e refl)) (omega arith))))
+    (λ q. bad (rw q refl) (noFunction (λ ms rs F. eqb-false k 0 q (bare-list F .0))))
+  where
+    fits : k ≡ 0 → count ts ≤ count ss → Misapplied (node k a w ss) ts → ⊥
+    fits e c (noFunction n) = n [] ss (a, w, inl (rw e refl))
+    fits e c (tooMany ms rs F l) = let z = bare-list F .1 in let y = ap count z in omega arith
+    fits e c (unmatched ms b x rs g n) = let z : true ≡ false = cc in true≢false z
+
+-- AN APP panics exactly where the head is no Function, has fewer entries than there are arguments, or match_with finds no map.
+pub app-panics : (z : Site) (h : Sort) (ts : Sorts) → z .kind ≡ 6 → z .args ≡ h then ts → PanicsWhen (inferred z) (Misapplied h ts)
+unfolding inferred
+app-panics z h ts k e = rw (k, e) (panicsWhen (app-way h ts))
