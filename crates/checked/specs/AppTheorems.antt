@@ -21,6 +21,7 @@ use Rattle.rows.specs.declared.Cause.the-variants.{Count, Misfit, Unassigned}
 use Rattle.rows.specs.Verdict.{sort, refused}
 use Rattle.rows.specs.Lists.{firsts, others}
 use Rattle.rows.specs.OutcomeLaws.{refused-sort, sort-inj}
+use Rattle.checked.specs.PartTheorems.{eachValue-exactly}
 use Rattle.checked.specs.Fits.{Assigned, rest, Fixed, Applies, Unfixed, oneOf}
 use Rattle.checked.specs.Checked.{carried, values, listOf, settled, settledAll, called, application}
 use Rattle.checked.specs.StepsKept.{others-proper, remaining-proper}
@@ -135,14 +136,14 @@ module _ (l : ℕ → Bool) (ss ts : Sorts) (p : properAll ss ≡ true) where
         (λ m a b f c e. record {
           any = any;
           few = a;
-          given = b;
+          given = eachValue-exactly ts .0 b;
           assigned = found-assigned m f;
           fixed = settled-fixed m f c;
           result = sort-inj (sym e ∙ h);
         }),
     λ A. byCalled
         (λ a e. absurd (a (A .few)))
-        (λ a b e. clash (A .given) b)
+        (λ a b e. clash (eachValue-exactly ts .1 (A .given)) b)
         (λ a b f e. absurd (matchingFirsts .refusal f (A .assigned .assignment) (A .assigned .within) (A .assigned .turns)))
         (λ m a b f c e. let (v, i, o, q) = unsettled-unfixed m f c in clash (A .fixed v i o) q)
         (λ m a b f c e. e ∙ ap sort (sym (one-rest m f (A .fixed) (A .assigned)) ∙ A .result)),
@@ -157,7 +158,7 @@ module _ (l : ℕ → Bool) (ss ts : Sorts) (p : properAll ss ≡ true) where
         (λ m a b f c e. let (v, i, o, q) = unsettled-unfixed m f c in record {
           any = any;
           few = a;
-          given = b;
+          given = eachValue-exactly ts .0 b;
           assigned = found-assigned m f;
           parameter = v;
           isListed = i;
@@ -167,7 +168,7 @@ module _ (l : ℕ → Bool) (ss ts : Sorts) (p : properAll ss ≡ true) where
         (λ m a b f c e. sort-refused (sym e ∙ h)),
     λ U. byCalled
         (λ a e. absurd (a (U .few)))
-        (λ a b e. clash (U .given) b)
+        (λ a b e. clash (eachValue-exactly ts .1 (U .given)) b)
         (λ a b f e. absurd (matchingFirsts .refusal f (U .assigned .assignment) (U .assigned .within) (U .assigned .turns)))
         (λ m a b f c e. e)
         (λ m a b f c e. clash (settled-fixed m f c (U .parameter) (U .isListed) (U .stands)) (U .unassigned)),
@@ -268,7 +269,7 @@ called-plain ss ts s p one =
       λ h. let A = f h in (
         A .any,
         A .few,
-        A .given,
+        eachValue-exactly ts .1 (A .given),
         sym (unlisted-stillAll (A .assigned .assignment) (firsts ss ts) (A .assigned .within) q) ∙ A .assigned .turns,
         sym (unlisted-still (A .assigned .assignment) (rest ss ts) (A .assigned .within) r) ∙ A .result,
       ),
@@ -276,7 +277,7 @@ called-plain ss ts s p one =
           g (record {
             any = any;
             few = few;
-            given = given;
+            given = eachValue-exactly ts .0 given;
             assigned = record { assignment = empty; within = still; turns = unlisted-stillAll empty (firsts ss ts) still q ∙ turns };
             fixed = λ v i o. absurd (false≢true i);
             result = unlisted-still empty (rest ss ts) still r ∙ result;

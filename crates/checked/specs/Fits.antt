@@ -11,7 +11,7 @@ use Rattle.substitution.specs.Substitution.{Map, apply, applyAll, occurs, occur
 use Rattle.substitution.specs.Matching.{Within}
 use Rattle.rows.specs.Lists.{firsts, others, remaining}
 use Rattle.checked.specs.Rank.{Rank, rank, patterns}
-use Rattle.checked.specs.Checked.{values}
+use Rattle.checked.specs.Parts.{EachValue}
 
 ---------------------------------------------------------------- ranks
 -- The argument sorts of a rank: its last one as often as the actual arguments ask, and as they are printed; whether its variables
@@ -69,7 +69,7 @@ Fixed listed ss ts = (v : ℕ) → listed v ≡ true → occurs v (rest ss ts) �
 pub record Applies (listed : ℕ → Bool) (ss ts : Sorts) (s : Sort) : Type 0 where
   pub any : 0 < count ts
   pub few : count ts < count ss
-  pub given : values ts ≡ true
+  pub given : EachValue ts
   pub assigned : Assigned listed ss ts
   pub fixed : Fixed listed ss ts
   pub result : apply (assigned .assignment) (rest ss ts) ≡ s
@@ -78,7 +78,7 @@ pub record Applies (listed : ℕ → Bool) (ss ts : Sorts) (s : Sort) : Type 0 w
 pub record Unfixed (listed : ℕ → Bool) (ss ts : Sorts) : Type 0 where
   pub any : 0 < count ts
   pub few : count ts < count ss
-  pub given : values ts ≡ true
+  pub given : EachValue ts
   pub assigned : Assigned listed ss ts
   pub parameter : ℕ
   pub isListed : listed parameter ≡ true

@@ -30,6 +30,7 @@ use Rattle.checked.specs.Checked.{carried, value, values, called, applic
 use Rattle.checked.specs.Routes.{clearBindings, clearTerm, clearTerms}
 use Rattle.checked.specs.Kept.{carriedAll}
 use Rattle.checked.specs.RouteLaws.{verdicts-kept, parts, besides-parts}
+use Rattle.checked.specs.PartTheorems.{proper-exactly, eachProper-exactly, carried-exactly, value-exactly, eachValue-exactly}
 use Rattle.checked.specs.Fits.{oneOf}
 use Rattle.checked.specs.RankTheorems.{accepted, concat-accepted}
 use Rattle.checked.specs.AppTheorems.{called-accepted, called-plain}
@@ -63,7 +64,7 @@ applied-only (node k a w ss then (t then ts)) s c h =
     byTest (eqb k 0)
     (λ q. let p : properAll ss ≡ true = search conj in
     let (any, few, given, turns, result) = (called-plain ss (t then ts) s p (omega arith)) .0 (rw q at h) in
-    plain a w ss (t then ts) (rw (eqb-true k 0 q) refl) any few given turns result)
+    plain a w ss (t then ts) (rw (eqb-true k 0 q) refl) any few (eachValue-exactly (t then ts) .0 given) turns result)
     (λ q. refused-sort (rw q at h))
 
 pub par-list : (ns : List ℕ) (a w : ℕ) (ss : Sorts) → carried (par ns (node 0 a w ss)) ≡ true → properAll ss ≡ true
@@ -82,17 +83,17 @@ applied-when ts s c (plain a w ss end e any few given turns result) = absurd (om
 applied-when ts s c (plain a w ss (t then rs) e any few given turns result) =
     let d : carriedAll (node 0 a w ss then t then rs) ≡ true = rw e at c in
     let p : properAll ss ≡ true = and-left (carried (node 0 a w ss)) (carriedAll (t then rs)) d in
-    rw e ((called-plain ss (t then rs) s p (omega arith)) .1 (any, few, given, turns, result))
+    rw e ((called-plain ss (t then rs) s p (omega arith)) .1 (any, few, eachValue-exactly (t then rs) .1 given, turns, result))
 
 ---------------------------------------------------------------- Op
 pub operated-only : (R : ℕ → List Rank) (n : ℕ) (ts : Sorts) (s : Sort) → Sound (R n) → operated R n ts ≡ sort s → Operated R n ts s
 operated-only R n ts s S h =
     byTest (eqb n 90)
     (λ q. let z = eqb-true n 90 q in let (i, j, e, f) = (concat-accepted R ts s) .0 (rw z at h) in concat i j z e f)
-    (λ q. let d = eqb-false n 90 q in let (v, F) = (accepted R n S d ts s) .0 h in byRank d v F)
+    (λ q. let d = eqb-false n 90 q in let (v, F) = (accepted R n S d ts s) .0 h in byRank d (eachValue-exactly ts .0 v) F)
 
 pub operated-when : (R : ℕ → List Rank) (n : ℕ) (ts : Sorts) (s : Sort) → Sound (R n) → Operated R n ts s → operated R n ts ≡ sort s
-operated-when R n ts s S (byRank d v F) = (accepted R n S d ts s) .1 (v, F)
+operated-when R n ts s S (byRank d v F) = (accepted R n S d ts s) .1 (eachValue-exactly ts .1 v, F)
 operated-when R n ts s S (concat i j z e f) = rw z ((concat-accepted R ts s) .1 (i, j, e, f))
 
 ---------------------------------------------------------------- Binder
@@ -112,18 +113,18 @@ body-only n bs (b then end) s p h =
     (λ q. let g : need (ltb 0 (count bs)) Count (need (value b) Misfit (sort (function (joined bs b)))) ≡ sort s = rw q at h in
     let (x, g1) = need-sort (ltb 0 (count bs)) Count (need (value b) Misfit (sort (function (joined bs b)))) s g in
     let (y, g2) = need-sort (value b) Misfit (sort (function (joined bs b))) s g1 in
-    lambda b (eqb-true n 3 q) p (ltb-true 0 (count bs) x) refl y (sym (sort-inj g2)))
+    lambda b (eqb-true n 3 q) (eachProper-exactly bs .0 p) (ltb-true 0 (count bs) x) refl (value-exactly b .0 y) (sym (sort-inj g2)))
     (λ q. byTest (eqb n 2)
     (λ r. let g : need (eqb (count bs) 1) Count (need (same b bool) Misfit (sort (onlyOf bs))) ≡ sort s = rw (q, r) at h in
     let (x, g1) = need-sort (eqb (count bs) 1) Count (need (same b bool) Misfit (sort (onlyOf bs))) s g in
     let (y, g2) = need-sort (same b bool) Misfit (sort (onlyOf bs)) s g1 in
     let e = only-one bs x in
     let pb : properAll (onlyOf bs then end) ≡ true = rw e at p in
-    choice (onlyOf bs) (eqb-true n 2 r) e (and-left (proper (onlyOf bs)) true pb) (rw (same-sound b bool y) refl) (sym (sort-inj g2)))
+    choice (onlyOf bs) (eqb-true n 2 r) e (proper-exactly (onlyOf bs) .0 (and-left (proper (onlyOf bs)) true pb)) (rw (same-sound b bool y) refl) (sym (sort-inj g2)))
     (λ r. let g : need (ltb 0 (count bs)) Count (need (same b bool) Misfit (sort bool)) ≡ sort s = rw (q, r) at h in
     let (x, g1) = need-sort (ltb 0 (count bs)) Count (need (same b bool) Misfit (sort bool)) s g in
     let (y, g2) = need-sort (same b bool) Misfit (sort bool) s g1 in
-    quantifier (eqb-false n 2 r) (eqb-false n 3 q) p (ltb-true 0 (count bs) x) (rw (same-sound b bool y) refl) (sym (sort-inj g2))))
+    quantifier (eqb-false n 2 r) (eqb-false n 3 q) (eachProper-exactly bs .0 p) (ltb-true 0 (count bs) x) (rw (same-sound b bool y) refl) (sym (sort-inj g2))))
 
 pub binder-only : (n : ℕ) (bs ts : Sorts) (s : Sort) → binder n bs ts ≡ sort s → Binds n bs ts s
 unfolding binder
@@ -131,9 +132,9 @@ binder-only n bs ts s h = let (p, g) = need-sort (properAll bs) Barred (boundBod
 
 pub binder-when : (n : ℕ) (bs ts : Sorts) (s : Sort) → Binds n bs ts s → binder n bs ts ≡ sort s
 unfolding binder count proper
-binder-when n bs ts s (quantifier d e p x t r) = rw (t, r, p, ne-eqb n 3 e, ne-eqb n 2 d, lt-ltb 0 (count bs) x) refl
-binder-when n bs ts s (choice b e f p t r) = rw (e, f, t, r, p) refl
-binder-when n bs ts s (lambda b e p x t v r) = rw (e, t, r, p, lt-ltb 0 (count bs) x, v) refl
+binder-when n bs ts s (quantifier d e p x t r) = rw (t, r, eachProper-exactly bs .1 p, ne-eqb n 3 e, ne-eqb n 2 d, lt-ltb 0 (count bs) x) refl
+binder-when n bs ts s (choice b e f p t r) = rw (e, f, t, r, proper-exactly b .1 p) refl
+binder-when n bs ts s (lambda b e p x t v r) = rw (e, t, r, eachProper-exactly bs .1 p, lt-ltb 0 (count bs) x, value-exactly b .1 v) refl
 
 ---------------------------------------------------------------- Let
 pub letting-only : (ts : Sorts) (s : Sort) → letting ts ≡ sort s → (r : Sort) × (rs : Sorts) × (ts ≡ r then rs) × (0 < count rs) × (values (r then rs) ≡ true) × (s ≡ lastOf r rs)
@@ -250,7 +251,7 @@ rule-only R S z s c h =
     vectorConstant (eqb-true (z .kind) 4 q) (positive (z .number) d) (sym (sort-inj g)))
     (λ q4. byTest (eqb (z .kind) 5)
     (λ q. let (x, g) = need-sort (carried (z .own)) Barred (sort (z .own)) s (rw (q0, q1, q2, q3, q4, q) at h) in
-    variable (eqb-true (z .kind) 5 q) x (sym (sort-inj g)))
+    variable (eqb-true (z .kind) 5 q) (carried-exactly (z .own) .0 x) (sym (sort-inj g)))
     (λ q5. byTest (eqb (z .kind) 6)
     (λ q. byApp (eqb-true (z .kind) 6 q) (applied-only (z .args) s c (rw (q0, q1, q2, q3, q4, q5, q) at h)))
     (λ q6. byTest (eqb (z .kind) 7)
@@ -258,14 +259,14 @@ rule-only R S z s c h =
     (λ q7. byTest (eqb (z .kind) 8)
     (λ q. byBinder (eqb-true (z .kind) 8 q) (binder-only (z .number) (bindingSorts (z .bindings)) (z .args) s (rw (q0, q1, q2, q3, q4, q5, q6, q7, q) at h)))
     (λ q8. byTest (eqb (z .kind) 9)
-    (λ q. let (r, rs, e, x, y, g) = letting-only (z .args) s (rw (q0, q1, q2, q3, q4, q5, q6, q7, q8, q) at h) in byLet r rs (eqb-true (z .kind) 9 q) e x y g)
+    (λ q. let (r, rs, e, x, y, g) = letting-only (z .args) s (rw (q0, q1, q2, q3, q4, q5, q6, q7, q8, q) at h) in byLet r rs (eqb-true (z .kind) 9 q) e x (eachValue-exactly (r then rs) .0 y) g)
     (λ q9. byTest (eqb (z .kind) 11)
     (λ q. byIndex (eqb-true (z .kind) 11 q) (indexing-only (z .number) (z .indices) (z .args) s (rw (q0, q1, q2, q3, q4, q5, q6, q7, q8, q9, q) at h)))
     (λ q11. byTest (eqb (z .kind) 12)
     (λ q. let (x, g) = need-sort (eqb (z .number) 0) NoRank (need (proper (z .own)) Barred (constantArray (z .own) (z .args))) s (rw (q0, q1, q2, q3, q4, q5, q6, q7, q8, q9, q11, q) at h) in
     let (y, k) = need-sort (proper (z .own)) Barred (constantArray (z .own) (z .args)) s g in
     let (i, e, a, b, d) = const-only (z .own) (z .args) s k in
-    byConst i e (eqb-true (z .kind) 12 q) (eqb-true (z .number) 0 x) a y b d)
+    byConst i e (eqb-true (z .kind) 12 q) (eqb-true (z .number) 0 x) a (proper-exactly (z .own) .0 y) b d)
     (λ q12. refused-sort (rw (q0, q1, q2, q3, q4, q5, q6, q7, q8, q9, q11, q12) at h)))))))))))))
 
 pub rule-when : (R : ℕ → List Rank) → ((n : ℕ) → Sound (R n)) → (z : Site) (s : Sort) → carriedAll (z .args) ≡ true → Rule R z s → checked R z ≡ sort s
@@ -275,13 +276,13 @@ rule-when R S z s c (realConstant k r) = rw (k, r) refl
 rule-when R S z s c (stringConstant k r) = rw (k, r) refl
 rule-when R S z s c (reglanConstant k r) = rw (k, r) refl
 rule-when R S z s c (vectorConstant k x r) = rw (k, r, ne-eqb (z .number) 0 (λ q. omega arith)) refl
-rule-when R S z s c (variable k x r) = rw (k, r, x) refl
+rule-when R S z s c (variable k x r) = rw (k, r, carried-exactly (z .own) .1 x) refl
 rule-when R S z s c (byApp k a) = rw k (applied-when (z .args) s c a)
 rule-when R S z s c (byOp k a) = rw k (operated-when R (z .number) (z .args) s (S (z .number)) a)
 rule-when R S z s c (byBinder k a) = rw k (binder-when (z .number) (bindingSorts (z .bindings)) (z .args) s a)
-rule-when R S z s c (byLet t ts k e x y r) = rw (k, e) (letting-when t ts s x y r)
+rule-when R S z s c (byLet t ts k e x y r) = rw (k, e) (letting-when t ts s x (eachValue-exactly (t then ts) .1 y) r)
 rule-when R S z s c (byIndex k a) = rw k (indexing-when (z .number) (z .indices) (z .args) s a)
-rule-when R S z s c (byConst i e k n o p a r) = rw (k, n, p, r, o, a, same-refl (array i e), same-refl e) refl
+rule-when R S z s c (byConst i e k n o p a r) = rw (k, n, proper-exactly (z .own) .1 p, r, o, a, same-refl (array i e), same-refl e) refl
 
 ---------------------------------------------------------------- terms
 -- The empty map touches nothing.

@@ -4,15 +4,13 @@
 use Prim.Native.Nat.{ℕ, _+_, _*_, _-_, _≤_, _<_}
 use mathlib.Core.Path.{_≡_}
 use mathlib.Core.Logic.{_⊎_}
-use mathlib.Core.Bool.{true}
 use mathlib.Core.List.{List, [], _∷_}
 use mathlib.Core.Option.{Option, some}
 use Rattle.record.specs.Sort.{Sort, Sorts, par, node, end, _then_, function, bool, int, real, string, reglan, array, bitvec, count}
-use Rattle.substitution.specs.Premises.{proper, properAll}
 use Rattle.rows.specs.Lists.{firsts, lastOf, joined, bindingSorts}
 use Rattle.rows.specs.Term.{Site, Term, Terms, term, stop, _also_, constantsOf}
 use Rattle.checked.specs.Rank.{Rank}
-use Rattle.checked.specs.Checked.{carried, value, values}
+use Rattle.checked.specs.Parts.{Proper, Carried, Value, EachProper, EachValue}
 use Rattle.checked.specs.Fits.{SomeFits, rest, Applies, oneOf}
 
 ---------------------------------------------------------------- App: the head's sort, then the arguments'
@@ -21,24 +19,24 @@ pub data Applied (ts : Sorts) (s : Sort) : Type 0 where
   -- result. (A Function's name and number, a and w, are 0 on every sheet.)
   parametric : (ns : List ℕ) (a w : ℕ) (ss rs : Sorts) → ts ≡ par ns (node 0 a w ss) then rs → Applies (oneOf ns) ss rs s → Applied ts s
   -- A plain function: the arguments are the declared sorts.
-  plain : (a w : ℕ) (ss rs : Sorts) → ts ≡ node 0 a w ss then rs → 0 < count rs → count rs < count ss → values rs ≡ true
+  plain : (a w : ℕ) (ss rs : Sorts) → ts ≡ node 0 a w ss then rs → 0 < count rs → count rs < count ss → EachValue rs
       → firsts ss rs ≡ rs → rest ss rs ≡ s → Applied ts s
 
 ---------------------------------------------------------------- Op
 pub data Operated (R : ℕ → List Rank) (n : ℕ) (ts : Sorts) (s : Sort) : Type 0 where
   -- Some rank of the operator fits.
-  byRank : (n ≡ 90 → ⊥) → values ts ≡ true → SomeFits (R n) ts s → Operated R n ts s
+  byRank : (n ≡ 90 → ⊥) → EachValue ts → SomeFits (R n) ts s → Operated R n ts s
   -- BvConcat joins two vectors.
   concat : (i j : ℕ) → n ≡ 90 → ts ≡ bitvec i then bitvec j then end → s ≡ bitvec (i + j) → Operated R n ts s
 
 ---------------------------------------------------------------- Binder: the bindings' sorts bs, the body's sort
 pub data Binds (n : ℕ) (bs ts : Sorts) (s : Sort) : Type 0 where
   -- Forall and Exists: one binding or more, a Bool body.
-  quantifier : (n ≡ 2 → ⊥) → (n ≡ 3 → ⊥) → properAll bs ≡ true → 0 < count bs → ts ≡ bool then end → s ≡ bool → Binds n bs ts s
+  quantifier : (n ≡ 2 → ⊥) → (n ≡ 3 → ⊥) → EachProper bs → 0 < count bs → ts ≡ bool then end → s ≡ bool → Binds n bs ts s
   -- Choice: one binding, a Bool body; the binding's sort.
-  choice : (b : Sort) → n ≡ 2 → bs ≡ b then end → proper b ≡ true → ts ≡ bool then end → s ≡ b → Binds n bs ts s
+  choice : (b : Sort) → n ≡ 2 → bs ≡ b then end → Proper b → ts ≡ bool then end → s ≡ b → Binds n bs ts s
   -- Lambda: one binding or more; the bindings' sorts, then the body's as one entry.
-  lambda : (b : Sort) → n ≡ 3 → properAll bs ≡ true → 0 < count bs → ts ≡ b then end → value b ≡ true → s ≡ function (joined bs b) → Binds n bs ts s
+  lambda : (b : Sort) → n ≡ 3 → EachProper bs → 0 < count bs → ts ≡ b then end → Value b → s ≡ function (joined bs b) → Binds n bs ts s
 
 ---------------------------------------------------------------- ParamOp: integer constants as indices, one argument
 pub data Indexes (n : ℕ) (is : List (Option ℕ)) (ts : Sorts) (s : Sort) : Type 0 where
@@ -57,15 +55,15 @@ pub data Rule (R : ℕ → List Rank) (z : Site) (s : Sort) : Type 0 where
   stringConstant : z .kind ≡ 2 → s ≡ string → Rule R z s
   reglanConstant : z .kind ≡ 3 → s ≡ reglan → Rule R z s
   vectorConstant : z .kind ≡ 4 → 0 < z .number → s ≡ bitvec (z .number) → Rule R z s
-  variable : z .kind ≡ 5 → carried (z .own) ≡ true → s ≡ z .own → Rule R z s
+  variable : z .kind ≡ 5 → Carried (z .own) → s ≡ z .own → Rule R z s
   byApp : z .kind ≡ 6 → Applied (z .args) s → Rule R z s
   byOp : z .kind ≡ 7 → Operated R (z .number) (z .args) s → Rule R z s
   byBinder : z .kind ≡ 8 → Binds (z .number) (bindingSorts (z .bindings)) (z .args) s → Rule R z s
   -- Let: one value or more, then the inner term, whose sort it has.
-  byLet : (t : Sort) (ts : Sorts) → z .kind ≡ 9 → z .args ≡ t then ts → 0 < count ts → values (t then ts) ≡ true → s ≡ lastOf t ts → Rule R z s
+  byLet : (t : Sort) (ts : Sorts) → z .kind ≡ 9 → z .args ≡ t then ts → 0 < count ts → EachValue (t then ts) → s ≡ lastOf t ts → Rule R z s
   byIndex : z .kind ≡ 11 → Indexes (z .number) (z .indices) (z .args) s → Rule R z s
   -- (as const): sort Array, one argument of its element sort.
-  byConst : (i e : Sort) → z .kind ≡ 12 → z .number ≡ 0 → z .own ≡ array i e → proper (z .own) ≡ true → z .args ≡ e then end → s ≡ z .own → Rule R z s
+  byConst : (i e : Sort) → z .kind ≡ 12 → z .number ≡ 0 → z .own ≡ array i e → Proper (z .own) → z .args ≡ e then end → s ≡ z .own → Rule R z s
 
 ---------------------------------------------------------------- terms
 -- A TERM HAS A SORT: every part of it has one, and a rule gives it one.
