@@ -22,4 +22,7 @@ pub mod Renaming
 pub mod Widths
 pub mod RuleTheorems
 pub mod Refusals
+pub mod RefusalLaws
 pub mod RefusalTheorems
+pub mod IndexRefusals
+pub mod AppRefusals

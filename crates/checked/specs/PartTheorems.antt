@@ -1,15 +1,15 @@
 -- THE TESTS `proper`, `carried` AND `value` SAY WHAT THEY SHOULD: each holds exactly of the sorts that Parts describes by their
 -- parts, and fails exactly where such a part can be shown.
-use Prim.Native.Nat.{ℕ, zero, suc, _+_, _≤_, _<_}
+use Prim.Native.Nat.{ℕ, _≤_}
 use mathlib.Core.Path.{_≡_, refl, sym, ap, _∙_}
 use mathlib.Core.Logic.{_↔_}
-use mathlib.Core.Bool.{Bool, true, false, not, _&&_, false≢true, true≢false}
+use mathlib.Core.Bool.{true, false, false≢true, true≢false}
 use mathlib.Core.List.{List, [], _∷_}
 use native.Mathlib.Omega.{arith}
 use lib.Dec.{eqb}
-use borrow.Author.Tests.{eqb-true, eqb-false, eq-eqb, ne-eqb}
-use Rattle.record.specs.Sort.{Sort, Sorts, var, par, node, end, _then_, kindOf, numberIn, size, sizes}
-use Rattle.record.specs.Cases.{and-left, and-right, conj, and-true, byTest, clash, not-true, not-true-false}
+use borrow.Author.Tests.{eqb-true, eq-eqb}
+use Rattle.record.specs.Sort.{Sort, Sorts, var, par, node, end, _then_, kindOf, size, sizes}
+use Rattle.record.specs.Cases.{and-left, and-right, and-true, byTest, clash, not-true-false}
 use Rattle.substitution.specs.Premises.{usual, proper, properAll}
 use Rattle.checked.specs.Checked.{carried, value, values}
 use Rattle.checked.specs.Parts.{In, first, later, PartOf, whole, inBody, inList, Bars, aType, unknownWidth, zeroWidth, aPar, Proper, Improper, Allowed, Carried, Value, EachProper, SomeImproper, EachValue, SomePar}

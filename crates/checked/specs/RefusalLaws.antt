@@ -1,0 +1,88 @@
+-- How the theorems on refusals are proved: a verdict is gone through once, each way out says which of the five conditions fails, and one
+-- way makes all six equivalences.
+use Prim.Native.Nat.{ℕ}
+use mathlib.Core.Path.{_≡_, refl, sym, _∙_}
+use mathlib.Core.Logic.{_↔_}
+use mathlib.Core.Bool.{Bool, true, false, false≢true}
+use lib.Dec.{eqb}
+use borrow.Author.Tests.{eqb-true, eqb-false}
+use Rattle.record.specs.Sort.{Sort}
+use Rattle.record.specs.Cases.{byTest}
+use Rattle.rows.specs.declared.Cause.the-variants.{NoRank, Count, Misfit, Unassigned, Barred}
+use Rattle.rows.specs.Verdict.{Verdict, sort, refused, need}
+use Rattle.rows.specs.OutcomeLaws.{refused-sort}
+use Rattle.checked.specs.Fits.{Fixed}
+use Rattle.checked.specs.FitLaws.{sort-refused, other-cause}
+use Rattle.checked.specs.Refusals.{Exactly}
+
+---------------------------------------------------------------- the ways out
+-- What a verdict says, with the conditions that hold or fail there.
+pub data Way (v : Verdict) (Ranked Clean Counted Fitting Fixed : Type 0) : Type 0 where
+  unranked : v ≡ refused NoRank → (Ranked → ⊥) → Way v Ranked Clean Counted Fitting Fixed
+  barred : v ≡ refused Barred → Ranked → (Clean → ⊥) → Way v Ranked Clean Counted Fitting Fixed
+  miscounted : v ≡ refused Count → Ranked → Clean → (Counted → ⊥) → Way v Ranked Clean Counted Fitting Fixed
+  misfit : v ≡ refused Misfit → Ranked → Clean → Counted → (Fitting → ⊥) → Way v Ranked Clean Counted Fitting Fixed
+  unassigned : v ≡ refused Unassigned → Ranked → Clean → Counted → Fitting → (Fixed → ⊥) → Way v Ranked Clean Counted Fitting Fixed
+  accepted : (s : Sort) → v ≡ sort s → Ranked → Clean → Counted → Fitting → Fixed → Way v Ranked Clean Counted Fitting Fixed
+
+-- One of them makes all equivalences: two causes are never one, and a condition does not hold and fail.
+pub exactly : {v : Verdict} {A P C F X : Type 0} → Way v A P C F X → Exactly v A P C F X
+exactly (unranked e a) = record {
+  unranked = (λ h. a, λ h. e);
+  barred = (λ h. other-cause refl (sym e ∙ h), λ h. absurd (a (h .0)));
+  miscounted = (λ h. other-cause refl (sym e ∙ h), λ h. absurd (a (h .0)));
+  misfit = (λ h. other-cause refl (sym e ∙ h), λ h. absurd (a (h .0)));
+  unassigned = (λ h. other-cause refl (sym e ∙ h), λ h. absurd (a (h .0)));
+  accepted = (λ h. refused-sort (sym e ∙ h .1), λ h. absurd (a (h .0)));
+}
+exactly (barred e a p) = record {
+  unranked = (λ h. other-cause refl (sym e ∙ h), λ h. absurd (h a));
+  barred = (λ h. (a, p), λ h. e);
+  miscounted = (λ h. other-cause refl (sym e ∙ h), λ h. absurd (p (h .1)));
+  misfit = (λ h. other-cause refl (sym e ∙ h), λ h. absurd (p (h .1)));
+  unassigned = (λ h. other-cause refl (sym e ∙ h), λ h. absurd (p (h .1)));
+  accepted = (λ h. refused-sort (sym e ∙ h .1), λ h. absurd (p (h .1)));
+}
+exactly (miscounted e a p c) = record {
+  unranked = (λ h. other-cause refl (sym e ∙ h), λ h. absurd (h a));
+  barred = (λ h. other-cause refl (sym e ∙ h), λ h. absurd (h .1 p));
+  miscounted = (λ h. (a, p, c), λ h. e);
+  misfit = (λ h. other-cause refl (sym e ∙ h), λ h. absurd (c (h .2)));
+  unassigned = (λ h. other-cause refl (sym e ∙ h), λ h. absurd (c (h .2)));
+  accepted = (λ h. refused-sort (sym e ∙ h .1), λ h. absurd (c (h .2)));
+}
+exactly (misfit e a p c f) = record {
+  unranked = (λ h. other-cause refl (sym e ∙ h), λ h. absurd (h a));
+  barred = (λ h. other-cause refl (sym e ∙ h), λ h. absurd (h .1 p));
+  miscounted = (λ h. other-cause refl (sym e ∙ h), λ h. absurd (h .2 c));
+  misfit = (λ h. (a, p, c, f), λ h. e);
+  unassigned = (λ h. other-cause refl (sym e ∙ h), λ h. absurd (f (h .3)));
+  accepted = (λ h. refused-sort (sym e ∙ h .1), λ h. absurd (f (h .3)));
+}
+exactly (unassigned e a p c f x) = record {
+  unranked = (λ h. other-cause refl (sym e ∙ h), λ h. absurd (h a));
+  barred = (λ h. other-cause refl (sym e ∙ h), λ h. absurd (h .1 p));
+  miscounted = (λ h. other-cause refl (sym e ∙ h), λ h. absurd (h .2 c));
+  misfit = (λ h. other-cause refl (sym e ∙ h), λ h. absurd (h .3 f));
+  unassigned = (λ h. (a, p, c, f, x), λ h. e);
+  accepted = (λ h. refused-sort (sym e ∙ h .1), λ h. absurd (x (h .4)));
+}
+exactly (accepted s e a p c f x) = record {
+  unranked = (λ h. sort-refused (sym e ∙ h), λ h. absurd (h a));
+  barred = (λ h. sort-refused (sym e ∙ h), λ h. absurd (h .1 p));
+  miscounted = (λ h. sort-refused (sym e ∙ h), λ h. absurd (h .2 c));
+  misfit = (λ h. sort-refused (sym e ∙ h), λ h. absurd (h .3 f));
+  unassigned = (λ h. sort-refused (sym e ∙ h), λ h. absurd (h .4 x));
+  accepted = (λ h. (a, p, c, f, x), λ h. (s, e));
+}
+
+-- A test of counts, then one of sorts, each of which says its condition.
+pub tests : (q r : Bool) (s : Sort) {v : Verdict} {A P C F : Type 0} → v ≡ need q Count (need r Misfit (sort s)) → A → P
+    → (q ≡ true ↔ C) → (r ≡ true ↔ F) → Way v A P C F Unit
+tests true true s e a p c f = accepted s e a p (c .0 refl) (f .0 refl) _
+tests true false s e a p c f = misfit e a p (c .0 refl) (λ h. false≢true (f .1 h))
+tests false r s e a p c f = miscounted e a p (λ h. false≢true (c .1 h))
+
+-- By whether a number is another one.
+pub byNumber : {C : Type 0} (n k : ℕ) → (eqb n k ≡ true → n ≡ k → C) → (eqb n k ≡ false → (n ≡ k → ⊥) → C) → C
+byNumber n k f g = byTest (eqb n k) (λ q. f q (eqb-true n k q)) (λ q. g q (eqb-false n k q))
