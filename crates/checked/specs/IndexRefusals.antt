@@ -183,8 +183,8 @@ pub index-refusals : (R : ℕ → List Rank) (z : Site) → z .kind ≡ 11
     → Exactly (checked R z) (Indexed (z .number)) Unit (Indices (z .number) (z .indices) (z .args) × (count (z .args) ≡ 1)) (Argument (z .number) (z .args)) Unit
 unfolding checked indexing
 index-refusals R z k = rw k (
-  byNumber (z .number) 1 (λ q e. exactly (unranked (rw q refl) (λ h. h .0 e)))
-  (λ q1 d1. byNumber (z .number) 2 (λ q e. exactly (unranked (rw (q1, q) refl) (λ h. h .1 e)))
-  (λ q2 d2. byNumber (z .number) 8 (λ q e. exactly (unranked (rw (q1, q2, q) refl) (λ h. h .2 e)))
-  (λ q8 d8. exactly (rw (q1, q2, q8) (index-way (z .number) (d1, d2, d8) (z .indices) (z .args))))))
-)
+    byNumber (z .number) 1 (λ q e. exactly (unranked (rw q refl) (λ h. h .0 e)))
+    (λ q1 d1. byNumber (z .number) 2 (λ q e. exactly (unranked (rw (q1, q) refl) (λ h. h .1 e)))
+    (λ q2 d2. byNumber (z .number) 8 (λ q e. exactly (unranked (rw (q1, q2, q) refl) (λ h. h .2 e)))
+    (λ q8 d8. exactly (rw (q1, q2, q8) (index-way (z .number) (d1, d2, d8) (z .indices) (z .args))))))
+    )

@@ -160,12 +160,12 @@ pub as-refusals : (R : ℕ → List Rank) (z : Site) → z .kind ≡ 12
     → Exactly (checked R z) (z .number ≡ 0) (Proper (z .own)) (count (z .args) ≡ 1) (Filled (z .own) (z .args)) Unit
 unfolding checked qualified
 as-refusals R z k = rw k (
-  byNumber (z .number) 0
-  (λ q e. byTest (proper (z .own))
-  (λ p. exactly (rw (q, p) (const-way e (z .own) (z .args) (proper-exactly (z .own) .0 p))))
-  (λ p. exactly (barred (rw (q, p) refl) e (λ P. clash (proper-exactly (z .own) .1 P) p))))
-  (λ q d. exactly (unranked (rw q refl) d))
-)
+    byNumber (z .number) 0
+    (λ q e. byTest (proper (z .own))
+    (λ p. exactly (rw (q, p) (const-way e (z .own) (z .args) (proper-exactly (z .own) .0 p))))
+    (λ p. exactly (barred (rw (q, p) refl) e (λ P. clash (proper-exactly (z .own) .1 P) p))))
+    (λ q d. exactly (unranked (rw q refl) d))
+    )
 
 ---------------------------------------------------------------- Op
 op-way : (R : ℕ → List Rank) (n : ℕ) (ts : Sorts) → Sound (R n) → (n ≡ 90 → ⊥)

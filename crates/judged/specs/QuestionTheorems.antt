@@ -1,19 +1,19 @@
 -- QUESTION 1 EXACTLY: 28 outside matching's premise, 29 without an assignment, else the result after Substitution by the assignment. The
 -- premise is said of the parts of pattern and target, free of any test, and proved to be the test `premise`.
-use Prim.Native.Nat.{ℕ, _*_, _-_, _<_}
-use mathlib.Core.Path.{_≡_, refl, sym, ap, subst, _∙_}
-use mathlib.Core.Bool.{Bool, true, false, not, _&&_, false≢true, true≢false}
+use Prim.Native.Nat.{ℕ, _*_, _-_}
+use mathlib.Core.Path.{_≡_, refl, sym, ap, _∙_}
+use mathlib.Core.Bool.{Bool, true, false, not, _&&_, false≢true}
 use mathlib.Core.List.{List, [], _∷_}
-use mathlib.Core.Option.{Option, none, some}
+use mathlib.Core.Option.{none, some}
 use mathlib.Core.Logic.{_↔_, Iff·trans}
 use native.Mathlib.Omega.{arith}
 use lib.ListN.{getD}
 use lib.Dec.{eqb}
-use borrow.Author.Tests.{eqb-true, eq-eqb}
+use borrow.Author.Tests.{eqb-true}
 use Rattle.record.specs.Names.{member}
 use Rattle.record.specs.Sort.{Sort, Sorts, var, par, node, end, _then_, kindOf}
 use Rattle.record.specs.Store.{intern, room}
-use Rattle.record.specs.Cases.{and-left, and-right, and-true, three, or-first, or-second, eqb-self, byTest, byOption, none-some, some-inj, clash, not-false, not-true-false}
+use Rattle.record.specs.Cases.{and-left, and-right, and-true, three, or-first, or-second, eqb-self, byTest, byOption, clash, not-true-false}
 use Rattle.sheet.specs.Sheet.{Lengths, QuestionFields}
 use Rattle.substitution.specs.Substitution.{Map, empty, find, isSome, bound, apply, occurs, occursAny}
 use Rattle.substitution.specs.SubstitutionLaws.{apply-agree}
@@ -22,13 +22,12 @@ use Rattle.substitution.specs.Matching.{matches, Within, listedIn, known, known
 use Rattle.substitution.specs.MatchingLaws.{known-parless, unlisted-free, free-unlisted, matching-premise, match-exact}
 use Rattle.rows.specs.declared.Cause.{Cause}
 use Rattle.rows.specs.declared.Cause.the-variants.{Below, Panics, Limit, Full, NoRank, Count, Misfit, Unassigned, Barred, NoAssignment}
-use Rattle.rows.specs.Verdict.{Verdict, sort, refused, need, numberOf}
+use Rattle.rows.specs.Verdict.{Verdict, sort, refused, numberOf}
 use Rattle.rows.specs.Outcome.{within, Outcome, outcome}
-use Rattle.rows.specs.Meaning.{limited}
 use Rattle.rows.specs.OutcomeLaws.{plain, answered, outcome-is, interned-at, room-few, refusal-large, refused-sort, sort-inj}
 use Rattle.checked.specs.Parts.{In, first, later, PartOf, whole, inBody, inList}
 use Rattle.checked.specs.FitLaws.{sort-refused, other-cause}
-use Rattle.judged.specs.Questions.{firstOf, restOf, assigned, matchAnswer, answerOf}
+use Rattle.judged.specs.Questions.{firstOf, restOf, matchAnswer, answerOf}
 use Rattle.judged.specs.QuestionLaws.{answerVerdict, answer-is}
 
 ---------------------------------------------------------------- the premise

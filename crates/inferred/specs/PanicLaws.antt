@@ -1,0 +1,98 @@
+-- What is said of 21 and of inferred widths, and how it is proved: a verdict is gone through once, each way out says what holds there, and one
+-- way makes all equivalences.
+use mathlib.Core.Path.{_≡_, refl, sym, ap, _∙_}
+use mathlib.Core.Logic.{_↔_, _⊎_, inl, inr}
+use mathlib.Core.Bool.{true, false}
+use native.Mathlib.Omega.{arith}
+use lib.Dec.{eqb}
+use borrow.Author.Tests.{eqb-true, eqb-false}
+use Rattle.record.specs.Sort.{Sort, Sorts, var, par, node, end, _then_, paramBitVec, kindOf}
+use Rattle.record.specs.Cases.{byTest}
+use Rattle.substitution.specs.MatchWith.{isParamBitVec, isBitVec}
+use Rattle.rows.specs.declared.Cause.the-variants.{Panics}
+use Rattle.rows.specs.Verdict.{Verdict, sort, refused}
+use Rattle.rows.specs.OutcomeLaws.{refused-sort, sort-inj}
+use Rattle.inferred.specs.Inferred.{hasWidth}
+
+---------------------------------------------------------------- what is said
+-- Where a verdict is 21, and that it is a sort elsewhere.
+pub record PanicsWhen (v : Verdict) (Panic : Type 0) : Type 0 where
+  pub panics : v ≡ refused Panics ↔ Panic
+  pub otherwise : ((s : Sort) × (v ≡ sort s)) ↔ (Panic → ⊥)
+
+-- Where a vector's sort is 21, where of unknown width, and that elsewhere it is r.
+pub record WidthWhen (v : Verdict) (Panic Unknown : Type 0) (r : Sort) : Type 0 where
+  pub panics : v ≡ refused Panics ↔ Panic
+  pub unknown : v ≡ sort paramBitVec ↔ (Panic → ⊥) × Unknown
+  pub known : v ≡ sort r ↔ (Panic → ⊥) × (Unknown → ⊥)
+  pub nothing-else : (s : Sort) → v ≡ sort s → (s ≡ paramBitVec) ⊎ (s ≡ r)
+
+-- A sort of the list is such, and those before it are so.
+abbrev pub Behind : (Sort → Type 0) → (Sort → Type 0) → Sorts → Type 0
+Behind Q P end = ⊥
+Behind Q P (s then ss) = P s ⊎ (Q s × Behind Q P ss)
+
+abbrev pub Some : (Sort → Type 0) → Sorts → Type 0
+Some P ss = Behind (λ s. Unit) P ss
+
+-- A vector of known width, one of unknown width, and no vector.
+abbrev pub Known : Sort → Type 0
+Known s = kindOf s ≡ 9
+
+abbrev pub Unknown : Sort → Type 0
+Unknown s = kindOf s ≡ 10
+
+abbrev pub Other : Sort → Type 0
+Other s = (kindOf s ≡ 9 → ⊥) × (kindOf s ≡ 10 → ⊥)
+
+---------------------------------------------------------------- the ways out
+pub sort-panics : {C : Type 0} {s : Sort} → sort s ≡ refused Panics → C
+sort-panics {C} {s} e = refused-sort (sym e)
+
+pub data Way (v : Verdict) (Panic : Type 0) : Type 0 where
+  bad : v ≡ refused Panics → Panic → Way v Panic
+  good : (s : Sort) → v ≡ sort s → (Panic → ⊥) → Way v Panic
+
+pub panicsWhen : {v : Verdict} {P : Type 0} → Way v P → PanicsWhen v P
+panicsWhen (bad e p) = record { panics = (λ h. p, λ h. e); otherwise = (λ h. refused-sort (sym e ∙ h .1), λ h. absurd (h p)) }
+panicsWhen (good s e n) = record { panics = (λ h. sort-panics (sym e ∙ h), λ h. absurd (n h)); otherwise = (λ h. n, λ h. (s, e)) }
+
+pub data Width (v : Verdict) (Panic Unclear : Type 0) (r : Sort) : Type 0 where
+  bad : v ≡ refused Panics → Panic → Width v Panic Unclear r
+  unclear : v ≡ sort paramBitVec → (Panic → ⊥) → Unclear → Width v Panic Unclear r
+  wide : v ≡ sort r → (Panic → ⊥) → (Unclear → ⊥) → Width v Panic Unclear r
+
+pub widthWhen : {v : Verdict} {P U : Type 0} {r : Sort} → kindOf r ≡ 9 → Width v P U r → WidthWhen v P U r
+widthWhen k (bad e p) = record {
+  panics = (λ h. p, λ h. e);
+  unknown = (λ h. refused-sort (sym e ∙ h), λ h. absurd (h .0 p));
+  known = (λ h. refused-sort (sym e ∙ h), λ h. absurd (h .0 p));
+  nothing-else = λ s h. refused-sort (sym e ∙ h);
+}
+widthWhen {v} {P} {U} {r} k (unclear e n u) = record {
+  panics = (λ h. sort-panics (sym e ∙ h), λ h. absurd (n h));
+  unknown = (λ h. (n, u), λ h. e);
+  known = (λ h. let z = ap kindOf (sort-inj (sym e ∙ h)) in absurd (omega arith), λ h. absurd (h .1 u));
+  nothing-else = λ s h. inl (sym (sort-inj (sym e ∙ h)));
+}
+widthWhen {v} {P} {U} {r} k (wide e n u) = record {
+  panics = (λ h. sort-panics (sym e ∙ h), λ h. absurd (n h));
+  unknown = (λ h. let z = ap kindOf (sort-inj (sym e ∙ h)) in absurd (omega arith), λ h. absurd (u (h .1)));
+  known = (λ h. (n, u), λ h. e);
+  nothing-else = λ s h. inr (sym (sort-inj (sym e ∙ h)));
+}
+
+-- By the kind of a sort: known, unknown, other.
+pub byWidth : {C : Type 0} (s : Sort) → (hasWidth s ≡ true → Known s → C) → (hasWidth s ≡ false → isParamBitVec s ≡ true → isBitVec s ≡ true → Unknown s → C)
+    → (hasWidth s ≡ false → isParamBitVec s ≡ false → isBitVec s ≡ false → Other s → C) → C
+byWidth (var v) f g h = h refl refl refl (λ e. omega arith, λ e. omega arith)
+byWidth (par ns b) f g h = h refl refl refl (λ e. omega arith, λ e. omega arith)
+byWidth (node k a w ss) f g h =
+    byTest (eqb k 9)
+    (λ q. f q (eqb-true k 9 q))
+    (λ q. byTest (eqb k 10) (λ r. g q r (rw (q, r) refl) (eqb-true k 10 r)) (λ r. h q r (rw (q, r) refl) (eqb-false k 9 q, eqb-false k 10 r)))
+
+pub known-bitvec : (s : Sort) → Known s → isBitVec s ≡ true
+known-bitvec (var v) e = absurd (omega arith)
+known-bitvec (par ns b) e = absurd (omega arith)
+known-bitvec (node k a w ss) e = rw e refl
