@@ -4,6 +4,7 @@ pub mod GivenLaws
 pub mod PlainLaws
 pub mod Questions
 pub mod QuestionLaws
+pub mod CauseTheorems
 pub mod QuestionTheorems
 pub mod Judged
 pub mod JudgedLaws

@@ -1,18 +1,16 @@
 -- QUESTION 1 EXACTLY: 28 outside matching's premise, 29 without an assignment, else the result after Substitution by the assignment. The
 -- premise is said of the parts of pattern and target, free of any test, and proved to be the test `premise`.
-use Prim.Native.Nat.{ℕ, _*_, _-_}
+use Prim.Native.Nat.{ℕ, _*_}
 use mathlib.Core.Path.{_≡_, refl, sym, ap, _∙_}
-use mathlib.Core.Bool.{Bool, true, false, not, _&&_, false≢true}
-use mathlib.Core.List.{List, [], _∷_}
+use mathlib.Core.Bool.{true, false, not, _&&_, false≢true}
+use mathlib.Core.List.{List}
 use mathlib.Core.Option.{none, some}
 use mathlib.Core.Logic.{_↔_, Iff·trans}
 use native.Mathlib.Omega.{arith}
-use lib.ListN.{getD}
 use lib.Dec.{eqb}
 use borrow.Author.Tests.{eqb-true}
 use Rattle.record.specs.Names.{member}
 use Rattle.record.specs.Sort.{Sort, Sorts, var, par, node, end, _then_, kindOf}
-use Rattle.record.specs.Store.{intern, room}
 use Rattle.record.specs.Cases.{and-left, and-right, and-true, three, or-first, or-second, eqb-self, byTest, byOption, clash, not-true-false}
 use Rattle.sheet.specs.Sheet.{Lengths, QuestionFields}
 use Rattle.substitution.specs.Substitution.{Map, empty, find, isSome, bound, apply, occurs, occursAny}
@@ -20,13 +18,13 @@ use Rattle.substitution.specs.SubstitutionLaws.{apply-agree}
 use Rattle.substitution.specs.Premises.{parless, parlessAll}
 use Rattle.substitution.specs.Matching.{matches, Within, listedIn, known, knownAll, unlisted, premise}
 use Rattle.substitution.specs.MatchingLaws.{known-parless, unlisted-free, free-unlisted, matching-premise, match-exact}
-use Rattle.rows.specs.declared.Cause.{Cause}
-use Rattle.rows.specs.declared.Cause.the-variants.{Below, Panics, Limit, Full, NoRank, Count, Misfit, Unassigned, Barred, NoAssignment}
-use Rattle.rows.specs.Verdict.{Verdict, sort, refused, numberOf}
-use Rattle.rows.specs.Outcome.{within, Outcome, outcome}
-use Rattle.rows.specs.OutcomeLaws.{plain, answered, outcome-is, interned-at, room-few, refusal-large, refused-sort, sort-inj}
+use Rattle.rows.specs.declared.Cause.the-variants.{Barred, NoAssignment}
+use Rattle.rows.specs.Verdict.{sort, refused, numberOf}
+use Rattle.rows.specs.Outcome.{within}
+use Rattle.rows.specs.OutcomeLaws.{plain, refused-sort, sort-inj}
 use Rattle.checked.specs.Parts.{In, first, later, PartOf, whole, inBody, inList}
 use Rattle.checked.specs.FitLaws.{sort-refused, other-cause}
+use Rattle.judged.specs.CauseTheorems.{code-cause}
 use Rattle.judged.specs.Questions.{firstOf, restOf, matchAnswer, answerOf}
 use Rattle.judged.specs.QuestionLaws.{answerVerdict, answer-is}
 
@@ -195,40 +193,6 @@ match-answered ns p t r s = (
         (λ c. not-bound m v c ∙ sym (not-bound θ v b)))
 
 ---------------------------------------------------------------- the answer's code
--- A cause's number says the cause.
-abbrev causeOf : ℕ → Cause
-causeOf n = getD (Below ∷ Panics ∷ Limit ∷ Full ∷ NoRank ∷ Count ∷ Misfit ∷ Unassigned ∷ Barred ∷ NoAssignment ∷ []) (n - 20) Below
-
-cause-back : (c : Cause) → causeOf (numberOf c) ≡ c
-cause-back Below = refl
-cause-back Panics = refl
-cause-back Limit = refl
-cause-back Full = refl
-cause-back NoRank = refl
-cause-back Count = refl
-cause-back Misfit = refl
-cause-back Unassigned = refl
-cause-back Barred = refl
-cause-back NoAssignment = refl
-
-one-cause : (c d : Cause) → numberOf c * 65536 ≡ numberOf d * 65536 → c ≡ d
-one-cause c d h = let e : numberOf c ≡ numberOf d = omega arith in sym (cause-back c) ∙ ap causeOf e ∙ cause-back d
-
--- A CODE STANDS FOR A CAUSE other than 22 and 23 exactly where the verdict is refused for it: so of every row, too.
-pub code-cause : (l : Lengths) (st : List Sort) (v : Verdict) (c : Cause) → plain (refused c) ≡ true
-    → outcome l st v .code ≡ numberOf c * 65536 ↔ v ≡ refused c
-unfolding outcome plain
-code-cause l st (refused d) c p = (λ h. ap refused (one-cause d c h), λ h. let e : d ≡ c = cc in ap (λ (x : Cause). numberOf x * 65536) e)
-code-cause l st (sort s) c p = (
-  λ h. absurd (by (within s) (room (l .records) (l .places) (intern s st)) refl (sym (ap (λ (o : Outcome). o .code) (outcome-is l st s)) ∙ h)),
-  λ h. sort-refused h,
-)
-  where
-    by : (w r : Bool) → room (l .records) (l .places) (intern s st) ≡ r → answered l st s w r .code ≡ numberOf c * 65536 → ⊥
-    by true true e h = omega (arith, interned-at s st .0, room-few (l .records) (l .places) (intern s st) e, refusal-large c)
-    by true false e h = let q = one-cause Full c h in let z : false ≡ true = rw (← q) at p in false≢true z
-    by false r e h = let q = one-cause Limit c h in let z : false ≡ true = rw (← q) at p in false≢true z
-
 -- The pattern, the target and the result of a question 1.
 abbrev pub patternIn : QuestionFields → Sort
 patternIn q = firstOf (q .sorts)
