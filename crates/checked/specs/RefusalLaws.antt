@@ -1,17 +1,22 @@
 -- How the theorems on refusals are proved: a verdict is gone through once, each way out says which of the five conditions fails, and one
 -- way makes all six equivalences.
-use Prim.Native.Nat.{ℕ}
+use Prim.Native.Nat.{ℕ, _≤_}
 use mathlib.Core.Path.{_≡_, refl, sym, _∙_}
 use mathlib.Core.Logic.{_↔_}
 use mathlib.Core.Bool.{Bool, true, false, false≢true}
+use mathlib.Core.List.{List}
+use mathlib.Core.Option.{Option, none, some}
+use native.Mathlib.Omega.{arith}
 use lib.Dec.{eqb}
 use borrow.Author.Tests.{eqb-true, eqb-false}
-use Rattle.record.specs.Sort.{Sort}
-use Rattle.record.specs.Cases.{byTest}
-use Rattle.rows.specs.declared.Cause.the-variants.{NoRank, Count, Misfit, Unassigned, Barred}
-use Rattle.rows.specs.Verdict.{Verdict, sort, refused, need}
+use Rattle.record.specs.Sort.{Sort, Sorts}
+use Rattle.record.specs.Cases.{byTest, none-some, some-inj}
+use Rattle.sheet.specs.Sheet.{Binding}
+use Rattle.rows.specs.declared.Cause.{Cause}
+use Rattle.rows.specs.declared.Cause.the-variants.{Below, NoRank, Count, Misfit, Unassigned, Barred}
+use Rattle.rows.specs.Verdict.{Verdict, sort, refused, need, numberOf}
+use Rattle.rows.specs.Term.{Site, overParts}
 use Rattle.rows.specs.OutcomeLaws.{refused-sort}
-use Rattle.checked.specs.Fits.{Fixed}
 use Rattle.checked.specs.FitLaws.{sort-refused, other-cause}
 use Rattle.checked.specs.Refusals.{Exactly}
 
@@ -25,6 +30,13 @@ pub data Way (v : Verdict) (Ranked Clean Counted Fitting Fixed : Type 0) : Type 
   unassigned : v ≡ refused Unassigned → Ranked → Clean → Counted → Fitting → (Fixed → ⊥) → Way v Ranked Clean Counted Fitting Fixed
   accepted : (s : Sort) → v ≡ sort s → Ranked → Clean → Counted → Fitting → Fixed → Way v Ranked Clean Counted Fitting Fixed
 
+-- The cause is one of the five.
+refused-inj : {c d : Cause} → refused c ≡ refused d → c ≡ d
+refused-inj e = cc
+
+told : {v : Verdict} {c d : Cause} → v ≡ refused c → (24 ≤ numberOf c) × (numberOf c ≤ 28) → v ≡ refused d → (24 ≤ numberOf d) × (numberOf d ≤ 28)
+told e b h = let q = refused-inj (sym e ∙ h) in rw q at b
+
 -- One of them makes all equivalences: two causes are never one, and a condition does not hold and fail.
 pub exactly : {v : Verdict} {A P C F X : Type 0} → Way v A P C F X → Exactly v A P C F X
 exactly (unranked e a) = record {
@@ -33,6 +45,7 @@ exactly (unranked e a) = record {
   miscounted = (λ h. other-cause refl (sym e ∙ h), λ h. absurd (a (h .0)));
   misfit = (λ h. other-cause refl (sym e ∙ h), λ h. absurd (a (h .0)));
   unassigned = (λ h. other-cause refl (sym e ∙ h), λ h. absurd (a (h .0)));
+  nothing-else = λ c h. told e (omega arith, omega arith) h;
   accepted = (λ h. refused-sort (sym e ∙ h .1), λ h. absurd (a (h .0)));
 }
 exactly (barred e a p) = record {
@@ -41,6 +54,7 @@ exactly (barred e a p) = record {
   miscounted = (λ h. other-cause refl (sym e ∙ h), λ h. absurd (p (h .1)));
   misfit = (λ h. other-cause refl (sym e ∙ h), λ h. absurd (p (h .1)));
   unassigned = (λ h. other-cause refl (sym e ∙ h), λ h. absurd (p (h .1)));
+  nothing-else = λ c h. told e (omega arith, omega arith) h;
   accepted = (λ h. refused-sort (sym e ∙ h .1), λ h. absurd (p (h .1)));
 }
 exactly (miscounted e a p c) = record {
@@ -49,6 +63,7 @@ exactly (miscounted e a p c) = record {
   miscounted = (λ h. (a, p, c), λ h. e);
   misfit = (λ h. other-cause refl (sym e ∙ h), λ h. absurd (c (h .2)));
   unassigned = (λ h. other-cause refl (sym e ∙ h), λ h. absurd (c (h .2)));
+  nothing-else = λ c h. told e (omega arith, omega arith) h;
   accepted = (λ h. refused-sort (sym e ∙ h .1), λ h. absurd (c (h .2)));
 }
 exactly (misfit e a p c f) = record {
@@ -57,6 +72,7 @@ exactly (misfit e a p c f) = record {
   miscounted = (λ h. other-cause refl (sym e ∙ h), λ h. absurd (h .2 c));
   misfit = (λ h. (a, p, c, f), λ h. e);
   unassigned = (λ h. other-cause refl (sym e ∙ h), λ h. absurd (f (h .3)));
+  nothing-else = λ c h. told e (omega arith, omega arith) h;
   accepted = (λ h. refused-sort (sym e ∙ h .1), λ h. absurd (f (h .3)));
 }
 exactly (unassigned e a p c f x) = record {
@@ -65,6 +81,7 @@ exactly (unassigned e a p c f x) = record {
   miscounted = (λ h. other-cause refl (sym e ∙ h), λ h. absurd (h .2 c));
   misfit = (λ h. other-cause refl (sym e ∙ h), λ h. absurd (h .3 f));
   unassigned = (λ h. (a, p, c, f, x), λ h. e);
+  nothing-else = λ c h. told e (omega arith, omega arith) h;
   accepted = (λ h. refused-sort (sym e ∙ h .1), λ h. absurd (x (h .4)));
 }
 exactly (accepted s e a p c f x) = record {
@@ -74,6 +91,7 @@ exactly (accepted s e a p c f x) = record {
   misfit = (λ h. sort-refused (sym e ∙ h), λ h. absurd (h .3 f));
   unassigned = (λ h. sort-refused (sym e ∙ h), λ h. absurd (h .4 x));
   accepted = (λ h. (a, p, c, f, x), λ h. (s, e));
+  nothing-else = λ c h. sort-refused (sym e ∙ h);
 }
 
 -- A test of counts, then one of sorts, each of which says its condition.
@@ -86,3 +104,15 @@ tests false r s e a p c f = miscounted e a p (λ h. false≢true (c .1 h))
 -- By whether a number is another one.
 pub byNumber : {C : Type 0} (n k : ℕ) → (eqb n k ≡ true → n ≡ k → C) → (eqb n k ≡ false → (n ≡ k → ⊥) → C) → C
 byNumber n k f g = byTest (eqb n k) (λ q. f q (eqb-true n k q)) (λ q. g q (eqb-false n k q))
+
+-- The verdict over the parts of a record is a cause other than 20 exactly where all parts have sorts and the record is refused for it.
+pub parts-cause : (J : Site → Verdict) (k n : ℕ) (o : Sort) (bs : List Binding) (cs is : List (Option ℕ)) (a b : Option Sorts) (c : Cause) → (c ≡ Below → ⊥)
+    → overParts J k n o bs cs is a b ≡ refused c
+    ↔ ((ts : Sorts) × (js : Sorts) × (a ≡ some ts) × (b ≡ some js)
+    × (J (record { kind = k; number = n; own = o; args = ts; bindings = bs; constants = cs; indices = is }) ≡ refused c))
+parts-cause J k n o bs cs is none b c d = (λ h. absurd (d (sym (refused-inj h))), λ g. let (ts, js, p, q, h) = g in none-some p)
+parts-cause J k n o bs cs is (some ts) none c d = (λ h. absurd (d (sym (refused-inj h))), λ g. let (us, js, p, q, h) = g in none-some q)
+parts-cause J k n o bs cs is (some ts) (some js) c d = (
+  λ h. (ts, js, refl, refl, h),
+  λ g. let (us, vs, p, q, h) = g in rw (some-inj p) h,
+)

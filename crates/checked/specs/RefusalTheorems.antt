@@ -3,29 +3,35 @@
 use Prim.Native.Nat.{ℕ, suc, _+_, _≤_, _<_}
 use mathlib.Core.Path.{_≡_, refl, sym, ap, _∙_}
 use mathlib.Core.Logic.{_↔_}
-use mathlib.Core.Bool.{true, false, _&&_, true≢false}
+use mathlib.Core.Bool.{Bool, true, false, _&&_, false≢true, true≢false}
 use mathlib.Core.List.{List, [], _∷_}
+use mathlib.Core.Option.{some}
 use native.Mathlib.Omega.{arith}
 use lib.Dec.{eqb, ltb}
 use borrow.Author.Tests.{eqb-true, eq-eqb, ltb-true, lt-ltb}
 use Rattle.record.specs.Sort.{Sort, Sorts, var, par, node, end, _then_, function, bool, int, real, string, reglan, array, bitvec, numberIn, count, same}
 use Rattle.record.specs.SortLaws.{same-sound, same-complete, same-refl}
 use Rattle.record.specs.Cases.{and-left, and-right, and-true, byTest, none-some, clash, positive}
+use Rattle.sheet.specs.Sheet.{Binding}
 use Rattle.substitution.specs.Premises.{proper, properAll}
-use Rattle.rows.specs.declared.Cause.the-variants.{Barred}
-use Rattle.rows.specs.Verdict.{need}
+use Rattle.rows.specs.declared.Cause.{Cause}
+use Rattle.rows.specs.declared.Cause.the-variants.{Below, Barred}
+use Rattle.rows.specs.Verdict.{refused, need}
 use Rattle.rows.specs.Lists.{lastOf, joined, bindingSorts}
-use Rattle.rows.specs.Term.{Site}
-use Rattle.checked.specs.Rank.{Rank, vector as isVector, someCounts}
+use Rattle.rows.specs.Term.{Site, Terms, term, constantsOf, verdictOf, verdictsOf}
+use Rattle.checked.specs.Rank.{Rank, rank, stretched, counts, vector as isVector, someCounts}
 use Rattle.checked.specs.RankLaws.{vector-is}
 use Rattle.checked.specs.RankSound.{Sound}
-use Rattle.checked.specs.Fits.{SomeFits}
-use Rattle.checked.specs.Checked.{carried, value, values, onlyOf, boundBody, binder, letting, constantArray, qualified, concatenation, nonempty, operated, checked}
+use Rattle.checked.specs.Fits.{rankAt, SomeFits}
+use Rattle.checked.specs.Checked.{carried, value, values, onlyOf, boundBody, binder, letting, constantArray, qualified, concatenation, nonempty, operated, checked, check}
 use Rattle.checked.specs.FitLaws.{someCounts-nonempty, firstFit-some, some-firstFit, someCounts-when, fit-counts, some-fit, operated-ranked, byRanked}
 use Rattle.checked.specs.Parts.{first, Proper, Carried, EachProper, EachValue}
 use Rattle.checked.specs.PartTheorems.{proper-exactly, carried-exactly, value-exactly, eachProper-exactly, eachValue-exactly}
 use Rattle.checked.specs.Refusals.{Exactly}
-use Rattle.checked.specs.RefusalLaws.{Way, unranked, barred, miscounted, misfit, accepted, exactly, tests, byNumber}
+use Rattle.checked.specs.Rules.{HaveSorts}
+use Rattle.checked.specs.RankTheorems.{sameCount-number, counts-more}
+use Rattle.checked.specs.RuleTheorems.{have-only, have-when}
+use Rattle.checked.specs.RefusalLaws.{Way, unranked, barred, miscounted, misfit, accepted, exactly, tests, byNumber, parts-cause}
 
 ---------------------------------------------------------------- constants, Var, Match
 -- An INTEGER, REAL, STRING OR REGLAN CONSTANT is never refused.
@@ -168,29 +174,68 @@ as-refusals R z k = rw k (
     )
 
 ---------------------------------------------------------------- Op
+-- A RANK TAKES k ARGUMENTS: as many as it prints, or more where it has a last one that repeats; and some rank of a list does.
+pub data Takes (k : ℕ) : Rank → Type 0 where
+  exact : {rep vs : Bool} {ps : Sorts} {r : Sort} → count ps ≡ k → Takes k (rank rep vs ps r)
+  more : {vs : Bool} {p : Sort} {ps : Sorts} {r : Sort} → count (p then ps) ≤ k → Takes k (rank true vs (p then ps) r)
+
+pub record SomeTakes (rs : List Rank) (k : ℕ) : Type 0 where
+  pub place : ℕ
+  pub chosen : Rank
+  pub listed : rankAt rs place ≡ some chosen
+  pub takes : Takes k chosen
+
+counts-takes : (r : Rank) (ts : Sorts) → counts r ts ≡ true → Takes (count ts) r
+unfolding counts stretched
+counts-takes (rank false vs ps r) ts e = exact (sameCount-number ps ts .0 e)
+counts-takes (rank true vs end r) ts e = exact (sameCount-number end ts .0 e)
+counts-takes (rank true vs (p then ps) r) ts e = more (counts-more vs p ps r ts .0 e)
+
+takes-counts : {r : Rank} (ts : Sorts) → Takes (count ts) r → counts r ts ≡ true
+unfolding counts stretched count
+takes-counts ts (more {vs} {p} {ps} {r} l) = counts-more vs p ps r ts .1 l
+takes-counts ts (exact {rep} {vs} {ps} {r} e) = alike rep ps e
+  where
+    alike : (rep : Bool) (ps : Sorts) → count ps ≡ count ts → counts (rank rep vs ps r) ts ≡ true
+    alike false ps e = sameCount-number ps ts .1 e
+    alike true end e = sameCount-number end ts .1 e
+    alike true (p then ps) e = counts-more vs p ps r ts .1 (omega arith)
+
+-- The test of counts says this.
+someTakes-exactly : (rs : List Rank) (ts : Sorts) → someCounts rs ts ≡ true ↔ SomeTakes rs (count ts)
+unfolding someCounts rankAt
+someTakes-exactly rs ts = (there rs, λ T. someCounts-when rs (T .place) (T .chosen) ts (T .listed) (takes-counts ts (T .takes)))
+  where
+    there : (rs : List Rank) → someCounts rs ts ≡ true → SomeTakes rs (count ts)
+    there [] e = absurd (false≢true e)
+    there (r ∷ rs) e =
+        byTest (counts r ts)
+        (λ q. record { place = 0; chosen = r; listed = refl; takes = counts-takes r ts q })
+        (λ q. let T = there rs (rw q at e) in record { place = suc (T .place); chosen = T .chosen; listed = T .listed; takes = T .takes })
+
 op-way : (R : ℕ → List Rank) (n : ℕ) (ts : Sorts) → Sound (R n) → (n ≡ 90 → ⊥)
-    → Way (operated R n ts) (R n ≡ [] → ⊥) Unit (someCounts (R n) ts ≡ true) (EachValue ts × ((s : Sort) × SomeFits (R n) ts s)) Unit
+    → Way (operated R n ts) (R n ≡ [] → ⊥) Unit (SomeTakes (R n) (count ts)) (EachValue ts × ((s : Sort) × SomeFits (R n) ts s)) Unit
 op-way R n ts S d =
     let o = operated-ranked R n ts d in
     let any : nonempty (R n) ≡ true → R n ≡ [] → ⊥ = λ a e. true≢false (sym a ∙ ap nonempty e) in
     byRanked (R n) ts
     (λ a e. unranked (o ∙ e) (λ h. h (none-there (R n) a)))
-    (λ a b e. miscounted (o ∙ e) (any a) _ (λ h. clash h b))
-    (λ b c e. misfit (o ∙ e) (any (someCounts-nonempty (R n) ts b)) _ b (λ h. clash (eachValue-exactly ts .1 (h .0)) c))
-    (λ b c f e. misfit (o ∙ e) (any (someCounts-nonempty (R n) ts b)) _ b (λ h. let (s, F) = h .1 in none-some (sym f ∙ some-firstFit (R n) ts s S F)))
+    (λ a b e. miscounted (o ∙ e) (any a) _ (λ h. clash (someTakes-exactly (R n) ts .1 h) b))
+    (λ b c e. misfit (o ∙ e) (any (someCounts-nonempty (R n) ts b)) _ (someTakes-exactly (R n) ts .0 b) (λ h. clash (eachValue-exactly ts .1 (h .0)) c))
+    (λ b c f e. misfit (o ∙ e) (any (someCounts-nonempty (R n) ts b)) _ (someTakes-exactly (R n) ts .0 b) (λ h. let (s, F) = h .1 in none-some (sym f ∙ some-firstFit (R n) ts s S F)))
     (λ s c f e.
     let F = firstFit-some (R n) ts s S f in
     let b = someCounts-when (R n) (F .place) (F .chosen) ts (F .listed) (fit-counts (F .chosen) ts s (some-fit (R n) ts s S F)) in
-    accepted s (o ∙ e) (any (someCounts-nonempty (R n) ts b)) _ b (eachValue-exactly ts .0 c, (s, F)) _)
+    accepted s (o ∙ e) (any (someCounts-nonempty (R n) ts b)) _ (someTakes-exactly (R n) ts .0 b) (eachValue-exactly ts .0 c, (s, F)) _)
   where
     none-there : (rs : List Rank) → nonempty rs ≡ false → rs ≡ []
     none-there [] e = refl
     none-there (r ∷ rs) e = absurd (true≢false e)
 
--- AN OP, but 90 BvConcat: 24 exactly where the operator has no rank; else 25 exactly where none has this count of arguments (`counts-exact`,
--- `counts-more`); else 26 exactly where an argument is a Par or no rank fits. Never 28 or 27.
+-- AN OP, but 90 BvConcat: 24 exactly where the operator has no rank; else 25 exactly where none takes this count of arguments;
+-- else 26 exactly where an argument is a Par or no rank fits. Never 28 or 27.
 pub op-refusals : (R : ℕ → List Rank) (z : Site) → Sound (R (z .number)) → z .kind ≡ 7 → (z .number ≡ 90 → ⊥)
-    → Exactly (checked R z) (R (z .number) ≡ [] → ⊥) Unit (someCounts (R (z .number)) (z .args) ≡ true)
+    → Exactly (checked R z) (R (z .number) ≡ [] → ⊥) Unit (SomeTakes (R (z .number)) (count (z .args)))
     (EachValue (z .args) × ((s : Sort) × SomeFits (R (z .number)) (z .args) s)) Unit
 unfolding checked
 op-refusals R z S k d = rw k (exactly (op-way R (z .number) (z .args) S d))
@@ -214,3 +259,16 @@ concat-refusals R z k n = rw (k, n) (exactly (way (z .args)))
               rw (f, g) (and-true (isVector (bitvec i)) (isVector (bitvec j)) (same-refl (bitvec i)) (same-refl (bitvec j))),
         )
     way (a then (b then (c then ss))) = miscounted refl _ _ (λ h. omega arith)
+
+---------------------------------------------------------------- terms
+-- A TERM IS REFUSED for a cause other than 20 exactly where its parts have sorts by the rules and the record with these is refused for it.
+pub term-cause : (R : ℕ → List Rank) → ((n : ℕ) → Sound (R n)) → (k a n : ℕ) (o : Sort) (ts : Terms) (bs : List Binding) (ns : List ℕ) (is : Terms) (c : Cause) → (c ≡ Below → ⊥)
+    → check R (term k a n o ts bs ns is) ≡ refused c
+    ↔ ((ss : Sorts) × (js : Sorts) × HaveSorts R ts ss × HaveSorts R is js
+    × (checked R (record { kind = k; number = n; own = o; args = ss; bindings = bs; constants = constantsOf ts; indices = constantsOf is }) ≡ refused c))
+unfolding check verdictOf
+term-cause R S k a n o ts bs ns is c d =
+    let (f, g) = parts-cause (checked R) k n o bs (constantsOf ts) (constantsOf is) (verdictsOf (checked R) ts) (verdictsOf (checked R) is) c d in (
+      λ h. let (ss, js, p, q, e) = f h in (ss, js, have-only R S ts ss p, have-only R S is js q, e),
+      λ h. let (ss, js, p, q, e) = h in g (ss, js, have-when R S ts ss p, have-when R S is js q, e),
+    )

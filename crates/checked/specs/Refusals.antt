@@ -7,8 +7,9 @@ use mathlib.Core.Logic.{_↔_, _⊎_}
 use mathlib.Core.List.{List, [], _∷_}
 use mathlib.Core.Option.{Option, some}
 use Rattle.record.specs.Sort.{Sort, Sorts, end, _then_, int, reglan, bitvec}
+use Rattle.rows.specs.declared.Cause.{Cause}
 use Rattle.rows.specs.declared.Cause.the-variants.{NoRank, Count, Misfit, Unassigned, Barred}
-use Rattle.rows.specs.Verdict.{Verdict, sort, refused}
+use Rattle.rows.specs.Verdict.{Verdict, sort, refused, numberOf}
 
 pub record Exactly (v : Verdict) (Ranked Clean Counted Fitting Fixed : Type 0) : Type 0 where
   pub unranked : v ≡ refused NoRank ↔ (Ranked → ⊥)
@@ -17,6 +18,7 @@ pub record Exactly (v : Verdict) (Ranked Clean Counted Fitting Fixed : Type 0) :
   pub misfit : v ≡ refused Misfit ↔ Ranked × Clean × Counted × (Fitting → ⊥)
   pub unassigned : v ≡ refused Unassigned ↔ Ranked × Clean × Counted × Fitting × (Fixed → ⊥)
   pub accepted : ((s : Sort) × (v ≡ sort s)) ↔ Ranked × Clean × Counted × Fitting × Fixed
+  pub nothing-else : (c : Cause) → v ≡ refused c → (24 ≤ numberOf c) × (numberOf c ≤ 28)
 
 -- The indices that a ParamOp takes: one from 3 ZeroExtend to 10 RePower, at least 1 for 7 Repeat and 9 IntToBv; two for 11 ReLoop;
 -- for 0 Extract i, j with j ≤ i, and i below the width where the argument is a vector.

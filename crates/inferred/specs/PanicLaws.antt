@@ -19,13 +19,14 @@ use Rattle.inferred.specs.Inferred.{hasWidth}
 pub record PanicsWhen (v : Verdict) (Panic : Type 0) : Type 0 where
   pub panics : v ≡ refused Panics ↔ Panic
   pub otherwise : ((s : Sort) × (v ≡ sort s)) ↔ (Panic → ⊥)
+  pub nothing-else : (v ≡ refused Panics) ⊎ ((s : Sort) × (v ≡ sort s))
 
 -- Where a vector's sort is 21, where of unknown width, and that elsewhere it is r.
 pub record WidthWhen (v : Verdict) (Panic Unknown : Type 0) (r : Sort) : Type 0 where
   pub panics : v ≡ refused Panics ↔ Panic
   pub unknown : v ≡ sort paramBitVec ↔ (Panic → ⊥) × Unknown
   pub known : v ≡ sort r ↔ (Panic → ⊥) × (Unknown → ⊥)
-  pub nothing-else : (s : Sort) → v ≡ sort s → (s ≡ paramBitVec) ⊎ (s ≡ r)
+  pub nothing-else : (v ≡ refused Panics) ⊎ ((v ≡ sort paramBitVec) ⊎ (v ≡ sort r))
 
 -- A sort of the list is such, and those before it are so.
 abbrev pub Behind : (Sort → Type 0) → (Sort → Type 0) → Sorts → Type 0
@@ -54,8 +55,8 @@ pub data Way (v : Verdict) (Panic : Type 0) : Type 0 where
   good : (s : Sort) → v ≡ sort s → (Panic → ⊥) → Way v Panic
 
 pub panicsWhen : {v : Verdict} {P : Type 0} → Way v P → PanicsWhen v P
-panicsWhen (bad e p) = record { panics = (λ h. p, λ h. e); otherwise = (λ h. refused-sort (sym e ∙ h .1), λ h. absurd (h p)) }
-panicsWhen (good s e n) = record { panics = (λ h. sort-panics (sym e ∙ h), λ h. absurd (n h)); otherwise = (λ h. n, λ h. (s, e)) }
+panicsWhen (bad e p) = record { panics = (λ h. p, λ h. e); otherwise = (λ h. refused-sort (sym e ∙ h .1), λ h. absurd (h p)); nothing-else = inl e }
+panicsWhen (good s e n) = record { panics = (λ h. sort-panics (sym e ∙ h), λ h. absurd (n h)); otherwise = (λ h. n, λ h. (s, e)); nothing-else = inr (s, e) }
 
 pub data Width (v : Verdict) (Panic Unclear : Type 0) (r : Sort) : Type 0 where
   bad : v ≡ refused Panics → Panic → Width v Panic Unclear r
@@ -67,19 +68,19 @@ widthWhen k (bad e p) = record {
   panics = (λ h. p, λ h. e);
   unknown = (λ h. refused-sort (sym e ∙ h), λ h. absurd (h .0 p));
   known = (λ h. refused-sort (sym e ∙ h), λ h. absurd (h .0 p));
-  nothing-else = λ s h. refused-sort (sym e ∙ h);
+  nothing-else = inl e;
 }
 widthWhen {v} {P} {U} {r} k (unclear e n u) = record {
   panics = (λ h. sort-panics (sym e ∙ h), λ h. absurd (n h));
   unknown = (λ h. (n, u), λ h. e);
   known = (λ h. let z = ap kindOf (sort-inj (sym e ∙ h)) in absurd (omega arith), λ h. absurd (h .1 u));
-  nothing-else = λ s h. inl (sym (sort-inj (sym e ∙ h)));
+  nothing-else = inr (inl e);
 }
 widthWhen {v} {P} {U} {r} k (wide e n u) = record {
   panics = (λ h. sort-panics (sym e ∙ h), λ h. absurd (n h));
   unknown = (λ h. let z = ap kindOf (sort-inj (sym e ∙ h)) in absurd (omega arith), λ h. absurd (u (h .1)));
   known = (λ h. (n, u), λ h. e);
-  nothing-else = λ s h. inr (sym (sort-inj (sym e ∙ h)));
+  nothing-else = inr (inr e);
 }
 
 -- By the kind of a sort: known, unknown, other.

@@ -4,21 +4,21 @@ use Prim.Native.Nat.{ℕ, _*_, _-_}
 use mathlib.Core.Path.{_≡_, refl, sym, ap, _∙_}
 use mathlib.Core.Bool.{Bool, true, false, false≢true}
 use mathlib.Core.List.{List, [], _∷_}
-use mathlib.Core.Option.{Option, none, some}
+use mathlib.Core.Option.{Option, some}
 use mathlib.Core.Logic.{_↔_, Iff·trans}
 use native.Mathlib.Omega.{arith}
 use lib.ListN.{getD}
 use Rattle.record.specs.Sort.{Sort, Sorts}
 use Rattle.record.specs.Store.{intern, room}
-use Rattle.record.specs.Cases.{none-some, some-inj}
-use Rattle.sheet.specs.Sheet.{Lengths, TermFields, Binding}
+use Rattle.sheet.specs.Sheet.{Lengths, TermFields}
 use Rattle.rows.specs.declared.Cause.{Cause}
 use Rattle.rows.specs.declared.Cause.the-variants.{Below, Panics, Limit, Full, NoRank, Count, Misfit, Unassigned, Barred, NoAssignment}
 use Rattle.rows.specs.Verdict.{Verdict, sort, refused, numberOf}
-use Rattle.rows.specs.Term.{Site, overParts, constantsAt, sortsAt, verdictAt}
+use Rattle.rows.specs.Term.{Site, constantsAt, sortsAt, verdictAt}
 use Rattle.rows.specs.Outcome.{within, Outcome, outcome, rowSort}
 use Rattle.rows.specs.OutcomeLaws.{plain, answered, outcome-is, interned-at, room-few, refusal-large}
 use Rattle.checked.specs.FitLaws.{sort-refused}
+use Rattle.checked.specs.RefusalLaws.{parts-cause}
 use Rattle.judged.specs.Rows.{rowOf}
 
 -- A cause's number says the cause.
@@ -56,18 +56,6 @@ code-cause l st (sort s) c p = (
     by false r e h = let q = one-cause Limit c h in let z : false ≡ true = rw (← q) at p in false≢true z
 
 ---------------------------------------------------------------- rows
--- The verdict over the parts of a record is a cause other than 20 exactly where all parts have sorts and the record is refused for it.
-parts-cause : (J : Site → Verdict) (k n : ℕ) (o : Sort) (bs : List Binding) (cs is : List (Option ℕ)) (a b : Option Sorts) (c : Cause) → (c ≡ Below → ⊥)
-    → overParts J k n o bs cs is a b ≡ refused c
-    ↔ ((ts : Sorts) × (js : Sorts) × (a ≡ some ts) × (b ≡ some js)
-    × (J (record { kind = k; number = n; own = o; args = ts; bindings = bs; constants = cs; indices = is }) ≡ refused c))
-parts-cause J k n o bs cs is none b c d = (λ h. let e : c ≡ Below = cc in absurd (d e), λ g. let (ts, js, p, q, h) = g in none-some p)
-parts-cause J k n o bs cs is (some ts) none c d = (λ h. let e : c ≡ Below = cc in absurd (d e), λ g. let (us, js, p, q, h) = g in none-some q)
-parts-cause J k n o bs cs is (some ts) (some js) c d = (
-  λ h. (ts, js, refl, refl, h),
-  λ g. let (us, vs, p, q, h) = g in rw (some-inj p) h,
-)
-
 -- A ROW IS CODED BY A CAUSE of its column, 21 or 24 to 28, exactly where the rows of all terms that the record names have sorts in that
 -- column and the record with these sorts is refused for that cause.
 pub row-cause : (J : Site → Verdict) (column : ℕ) (l : Lengths) (rs : List TermFields) (r : TermFields) (rows : List ℕ) (now : List Sort) (c : Cause)
