@@ -26,3 +26,4 @@ pub mod RefusalLaws
 pub mod RefusalTheorems
 pub mod IndexRefusals
 pub mod AppRefusals
+pub mod CheckedCauses

@@ -31,7 +31,7 @@ pub data Way (v : Verdict) (Ranked Clean Counted Fitting Fixed : Type 0) : Type 
   accepted : (s : Sort) → v ≡ sort s → Ranked → Clean → Counted → Fitting → Fixed → Way v Ranked Clean Counted Fitting Fixed
 
 -- The cause is one of the five.
-refused-inj : {c d : Cause} → refused c ≡ refused d → c ≡ d
+pub refused-inj : {c d : Cause} → refused c ≡ refused d → c ≡ d
 refused-inj e = cc
 
 told : {v : Verdict} {c d : Cause} → v ≡ refused c → (24 ≤ numberOf c) × (numberOf c ≤ 28) → v ≡ refused d → (24 ≤ numberOf d) × (numberOf d ≤ 28)

@@ -9,22 +9,24 @@ use mathlib.Core.Option.{Option, none, some}
 use native.Mathlib.Omega.{arith}
 use lib.ListN.{length}
 use lib.Dec.{eqb, leb}
-use borrow.Author.Tests.{eqb-true, eqb-false, leb-true, leb-false}
+use borrow.Author.Tests.{eqb-true, eqb-false, ne-eqb, leb-true, leb-false}
 use Rattle.record.specs.Sort.{Sort, Sorts, var, par, node, end, _then_, bool, int, real, string, reglan, bitvec, paramBitVec, set, tuple, function, count}
 use Rattle.record.specs.Cases.{byTest, byOption, none-some, some-inj}
 use Rattle.substitution.specs.Substitution.{Map, empty, apply}
 use Rattle.sheet.specs.Sheet.{Binding}
 use Rattle.substitution.specs.MatchWith.{matchAllWith}
+use Rattle.rows.specs.declared.Cause.{Cause}
 use Rattle.rows.specs.declared.Cause.the-variants.{Panics}
 use Rattle.rows.specs.Verdict.{Verdict, sort, refused}
 use Rattle.rows.specs.Lists.{firsts, others, remaining, lastOf, joined, appended, bindingSorts}
 use Rattle.rows.specs.Term.{Site}
+use Rattle.rows.specs.OutcomeLaws.{refused-sort}
 use Rattle.inferred.specs.declared.Family.{Family}
 use Rattle.inferred.specs.declared.Family.the-variants.{Truth, Integer, Decimal, Text, Regular, Vector, OneBit, Bits, Constant, Concat, First, Second, Last, Sum, Element, RareList, Singleton, Tuple, UnitTuple, Transpose, Join, Product}
 use Rattle.inferred.specs.Family.{familyOf}
 use Rattle.inferred.specs.Inferred.{firstOf, secondOf, finalOf, someReal, sumOf, elementOf, selected, rareOf, singletonOf, columns, backwards, allButLast, joinOf, productOf, overBoth, transposeOf, operatedBy, indexed, plainApp, parametricApp, headApp, chosen, lambda, bound, matched, inferred}
-use Rattle.inferred.specs.PanicLaws.{PanicsWhen, Behind, Some, Unknown, Other, Way, good, panicsWhen, Width, bad, unclear, wide}
-use Rattle.inferred.specs.WidthTheorems.{nineteen-way, concat-way, const-way}
+use Rattle.inferred.specs.PanicLaws.{PanicsWhen, WidthWhen, Behind, Some, Unknown, Other, Way, good, panicsWhen, Width, bad, unclear, wide}
+use Rattle.inferred.specs.WidthTheorems.{nineteen-way, concat-way, const-way, extract-exactly, extend-exactly, repeat-exactly, convert-exactly}
 
 ---------------------------------------------------------------- indexed operators
 first-way : (ss : Sorts) → Way (firstOf ss) (count ss ≡ 0)
@@ -354,3 +356,52 @@ app-way (node k a w ss) ts =
 pub app-panics : (z : Site) (h : Sort) (ts : Sorts) → z .kind ≡ 6 → z .args ≡ h then ts → PanicsWhen (inferred z) (Misapplied h ts)
 unfolding inferred
 app-panics z h ts k e = rw (k, e) (panicsWhen (app-way h ts))
+
+---------------------------------------------------------------- every kind
+-- A verdict that is 21 or a sort is refused for nothing else.
+panics-only : {v : Verdict} {c : Cause} → (v ≡ refused Panics) ⊎ ((s : Sort) × (v ≡ sort s)) → v ≡ refused c → c ≡ Panics
+panics-only (inl e) h = cc
+panics-only (inr x) h = refused-sort (sym h ∙ x .1)
+
+width-only : {v : Verdict} {P U : Type 0} {r : Sort} {c : Cause} → WidthWhen v P U r → v ≡ refused c → c ≡ Panics
+width-only {v} {P} {U} {r} W h = panics-only (⊎-elim (λ e. inl e) (⊎-elim (λ e. inr (paramBitVec, e)) (λ e. inr (r, e))) (W .nothing-else)) h
+
+byNumber : {C : Type 0} (n k : ℕ) → (n ≡ k → C) → (eqb n k ≡ false → C) → C
+byNumber n k f g = byTest (eqb n k) (λ q. f (eqb-true n k q)) g
+
+index-only : (n : ℕ) (is : List (Option ℕ)) (ss : Sorts) (c : Cause) → indexed n is ss ≡ refused c → c ≡ Panics
+unfolding indexed
+index-only n is ss c h =
+    byNumber n 0 (λ e. width-only (extract-exactly is ss) (rw e at h))
+    (λ q0. byNumber n 1 (λ e. panics-only (never-panics n is ss (inl e) .nothing-else) h)
+    (λ q1. byNumber n 2 (λ e. panics-only (never-panics n is ss (inr (inl e)) .nothing-else) h)
+    (λ q2. byNumber n 3 (λ e. width-only (extend-exactly n is ss (inl e)) h)
+    (λ q3. byNumber n 4 (λ e. width-only (extend-exactly n is ss (inr e)) h)
+    (λ q4. byNumber n 5 (λ e. panics-only (rotate-panics n is ss (inl e) .nothing-else) h)
+    (λ q5. byNumber n 6 (λ e. panics-only (rotate-panics n is ss (inr e) .nothing-else) h)
+    (λ q6. byNumber n 7 (λ e. width-only (repeat-exactly is ss) (rw e at h))
+    (λ q7. byNumber n 9 (λ e. width-only (convert-exactly is ss) (rw e at h))
+    (λ q9. byNumber n 10 (λ e. panics-only (never-panics n is ss (inr (inr (inl e))) .nothing-else) h)
+    (λ q10. byNumber n 11 (λ e. panics-only (never-panics n is ss (inr (inr (inr e))) .nothing-else) h)
+    (λ q11. panics-only (inl (rw (q0, q1, q2, q3, q4, q5, q6, q7, q9, q10, q11) refl)) h)))))))))))
+
+-- NO INFERRED VERDICT ON A RECORD is refused for another cause than 21.
+pub inferred-causes : (z : Site) (c : Cause) → inferred z ≡ refused c → c ≡ Panics
+unfolding inferred
+inferred-causes z c h =
+    byTest (leb (z .kind) 5) (λ q. panics-only (own-panics z (inl (leb-true (z .kind) 5 q)) .nothing-else) h)
+    (λ q. let l = leb-false (z .kind) 5 q in
+    byNumber (z .kind) 6 (λ e. app (z .args) refl e)
+    (λ q6. byNumber (z .kind) 7 (λ e. panics-only (operator-panics z e .nothing-else) h)
+    (λ q7. byNumber (z .kind) 8 (λ e. panics-only (binder-panics z e .nothing-else) h)
+    (λ q8. byNumber (z .kind) 9 (λ e. panics-only (let-panics z e .nothing-else) h)
+    (λ q9. byNumber (z .kind) 10 (λ e. panics-only (match-panics z e .nothing-else) h)
+    (λ q10. byNumber (z .kind) 11 (λ e. index-only (z .number) (z .indices) (z .args) c (rw e at h))
+    (λ q11. panics-only (inr (z .own, rw (beyond 0 l (omega arith), beyond 1 l (omega arith), beyond 2 l (omega arith), beyond 3 l (omega arith), beyond 4 l (omega arith), beyond 5 l (omega arith), q6, q7, q8, q9, q10, q11) refl)) h)))))))
+  where
+    beyond : (k : ℕ) → 5 < z .kind → k ≤ 5 → eqb (z .kind) k ≡ false
+    beyond k l m = ne-eqb (z .kind) k (λ e. omega arith)
+
+    app : (ts : Sorts) → z .args ≡ ts → z .kind ≡ 6 → c ≡ Panics
+    app end a e = panics-only (inl (rw (e, a) refl)) h
+    app (g then ts) a e = panics-only (app-panics z g ts e a .nothing-else) h
