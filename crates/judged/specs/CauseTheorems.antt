@@ -1,15 +1,21 @@
--- WHAT A CODED CAUSE SAYS: a row or an answer is coded by a cause other than 22 and 23 exactly where its verdict is refused for it; a row by a
--- cause other than 20 exactly where every term that it names has a sort and the verdict on the record itself is refused for it.
-use Prim.Native.Nat.{ℕ, _*_, _-_}
+-- WHAT A CODED CAUSE SAYS: a row or an answer is coded by a cause other than 22 and 23 exactly where its verdict is refused for it; a row by 20
+-- exactly where a term that it names has no sort in its column, by any other exactly where all have one and the verdict on the record
+-- itself is refused for it.
+use Prim.Native.Nat.{ℕ, _+_, _*_, _-_, _≤_}
 use mathlib.Core.Path.{_≡_, refl, sym, ap, _∙_}
 use mathlib.Core.Bool.{Bool, true, false, false≢true}
 use mathlib.Core.List.{List, [], _∷_}
-use mathlib.Core.Option.{Option, some}
-use mathlib.Core.Logic.{_↔_, Iff·trans}
+use mathlib.Core.Option.{Option, none, some}
+use mathlib.Core.Logic.{_↔_, Iff·trans, _⊎_, inl, inr, ⊎-elim}
 use native.Mathlib.Omega.{arith}
 use lib.ListN.{getD}
-use Rattle.record.specs.Sort.{Sort, Sorts}
+use lib.Dec.{eqb, ltb}
+use borrow.Author.Tests.{eqb-true, ltb-true, ltb-false}
+use Rattle.record.specs.Names.{member}
+use Rattle.record.specs.Sort.{Sort, Sorts, _then_}
+use Rattle.record.specs.Record.{leaf}
 use Rattle.record.specs.Store.{intern, room}
+use Rattle.record.specs.Cases.{or-first, or-second, eqb-self, byTest, byOption, none-some}
 use Rattle.sheet.specs.Sheet.{Lengths, TermFields}
 use Rattle.rows.specs.declared.Cause.{Cause}
 use Rattle.rows.specs.declared.Cause.the-variants.{Below, Panics, Limit, Full, NoRank, Count, Misfit, Unassigned, Barred, NoAssignment}
@@ -17,8 +23,13 @@ use Rattle.rows.specs.Verdict.{Verdict, sort, refused, numberOf}
 use Rattle.rows.specs.Term.{Site, constantsAt, sortsAt, verdictAt}
 use Rattle.rows.specs.Outcome.{within, Outcome, outcome, rowSort}
 use Rattle.rows.specs.OutcomeLaws.{plain, answered, outcome-is, interned-at, room-few, refusal-large}
+use Rattle.inferred.specs.Inferred.{inferred}
+use Rattle.inferred.specs.PanicTheorems.{inferred-causes}
+use Rattle.checked.specs.Rank.{Rank}
+use Rattle.checked.specs.Checked.{checked}
 use Rattle.checked.specs.FitLaws.{sort-refused}
 use Rattle.checked.specs.RefusalLaws.{parts-cause}
+use Rattle.checked.specs.CheckedCauses.{checked-causes}
 use Rattle.judged.specs.Rows.{rowOf}
 
 -- A cause's number says the cause.
@@ -76,3 +87,63 @@ row-cause J column l rs r rows now c p d =
     let row : ℕ → Option Sort = λ i. rowSort now rows column i in
     Iff·trans (code-cause l now (verdictAt J row rs r) c p)
     (parts-cause J (r .kind) (r .number) (r .own) (r .bindings) (constantsAt rs (r .list)) (constantsAt rs (r .second)) (sortsAt row (r .list)) (sortsAt row (r .second)) c d)
+
+---------------------------------------------------------------- 20
+-- A term of the list has no sort by its row.
+abbrev pub Missing : (ℕ → Option Sort) → List ℕ → Type 0
+Missing row is = (i : ℕ) × (member i is ≡ true) × (row i ≡ none)
+
+none-missing : (row : ℕ → Option Sort) (is : List ℕ) → sortsAt row is ≡ none → Missing row is
+unfolding sortsAt member
+none-missing row [] e = none-some (sym e)
+none-missing row (i ∷ is) e =
+    byOption (row i)
+    (λ q. (i, or-first (eqb i i) (member i is) (eqb-self i), q))
+    (λ s q. byOption (sortsAt row is)
+    (λ f. let (j, m, n) = none-missing row is f in (j, or-second (eqb i j) (member j is) m, n))
+    (λ ss f. let g : some (s then ss) ≡ none = rw (q, f) at e in none-some (sym g)))
+
+missing-none : (row : ℕ → Option Sort) (is : List ℕ) → Missing row is → sortsAt row is ≡ none
+unfolding sortsAt member
+missing-none row [] h = let (j, m, n) = h in absurd (false≢true m)
+missing-none row (i ∷ is) h =
+    let (j, m, n) = h in
+    byTest (eqb i j)
+    (λ q. let z : row i ≡ none = rw (eqb-true i j q) n in rw z refl)
+    (λ q. let z = missing-none row is (j, rw q at m, n) in byOption (row i) (λ f. rw f refl) (λ s f. rw (f, z) refl))
+
+-- A ROW IS CODED 20 exactly where the row of a term that the record names is refused in its column.
+module _ (J : Site → Verdict) (never : (z : Site) → J z ≡ refused Below → ⊥) (column : ℕ) (l : Lengths) (rs : List TermFields) (r : TermFields) (rows : List ℕ) (now : List Sort) where
+  abbrev row : ℕ → Option Sort
+  row i = rowSort now rows column i
+
+  pub row-below : rowOf J column l rs r rows now .code ≡ numberOf Below * 65536 ↔ Missing row (r .list) ⊎ Missing row (r .second)
+  unfolding rowOf verdictAt plain
+  row-below =
+      Iff·trans (code-cause l now (verdictAt J row rs r) Below refl) (
+        λ h. byOption (sortsAt row (r .list))
+            (λ p. inl (none-missing row (r .list) p))
+            (λ ts p. byOption (sortsAt row (r .second))
+            (λ q. inr (none-missing row (r .second) q))
+            (λ js q. absurd (never _ (rw (p, q) at h)))),
+        λ h. ⊎-elim
+            (λ m. rw (missing-none row (r .list) m) refl)
+            (λ m. let q = missing-none row (r .second) m in byOption (sortsAt row (r .list)) (λ p. rw p refl) (λ ts p. rw (p, q) refl)) h,
+      )
+
+-- So of both columns: neither verdict on a record is 20 by itself.
+pub inferred-never : (z : Site) → inferred z ≡ refused Below → ⊥
+inferred-never z h = let e = ap numberOf (inferred-causes z Below h) in omega arith
+
+pub checked-never : (R : ℕ → List Rank) (z : Site) → checked R z ≡ refused Below → ⊥
+checked-never R z h = let e = checked-causes R z Below h in omega arith
+
+-- A row has no sort exactly where its code is a refusal.
+pub row-missing : (st : List Sort) (rows : List ℕ) (column i : ℕ) → rowSort st rows column i ≡ none ↔ 65536 ≤ getD rows (2 * i + column) 0
+unfolding rowSort
+row-missing st rows column i =
+    let code = getD rows (2 * i + column) 0 in
+    byTest (ltb code 65536)
+    (λ q. let low = ltb-true code 65536 q in
+    (λ e. let g : some (getD st code leaf) ≡ none = rw q at e in none-some (sym g), λ h. absurd (omega arith)))
+    (λ q. let high = ltb-false code 65536 q in (λ e. omega arith, λ h. rw q refl))
