@@ -30,10 +30,11 @@ pub data Way (v : Verdict) (Ranked Clean Counted Fitting Fixed : Type 0) : Type 
   unassigned : v ≡ refused Unassigned → Ranked → Clean → Counted → Fitting → (Fixed → ⊥) → Way v Ranked Clean Counted Fitting Fixed
   accepted : (s : Sort) → v ≡ sort s → Ranked → Clean → Counted → Fitting → Fixed → Way v Ranked Clean Counted Fitting Fixed
 
--- The cause is one of the five.
+-- A refusal tells its cause.
 pub refused-inj : {c d : Cause} → refused c ≡ refused d → c ≡ d
 refused-inj e = cc
 
+-- The cause is one of the five.
 told : {v : Verdict} {c d : Cause} → v ≡ refused c → (24 ≤ numberOf c) × (numberOf c ≤ 28) → v ≡ refused d → (24 ≤ numberOf d) × (numberOf d ≤ 28)
 told e b h = let q = refused-inj (sym e ∙ h) in rw q at b
 

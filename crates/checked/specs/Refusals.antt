@@ -1,6 +1,6 @@
 -- WHEN EACH CAUSE OF A CHECKED ROW IS GIVEN. A record is ranked, its own sorts are clean, its counts right, its arguments fitting and
 -- its result fixed; the cause is that of the first of these that fails, in document 01's order 24, 28, 25, 26, 27. Definitions only;
--- RefusalTheorems says for every kind of term what the five are.
+-- RefusalTheorems, IndexRefusals and AppRefusals say for every kind of term what the five are.
 use Prim.Native.Nat.{ℕ, _≤_, _<_}
 use mathlib.Core.Path.{_≡_}
 use mathlib.Core.Logic.{_↔_, _⊎_}
@@ -11,6 +11,7 @@ use Rattle.rows.specs.declared.Cause.{Cause}
 use Rattle.rows.specs.declared.Cause.the-variants.{NoRank, Count, Misfit, Unassigned, Barred}
 use Rattle.rows.specs.Verdict.{Verdict, sort, refused, numberOf}
 
+-- THE VERDICT v IS REFUSED EXACTLY by these five conditions, and for nothing else.
 pub record Exactly (v : Verdict) (Ranked Clean Counted Fitting Fixed : Type 0) : Type 0 where
   pub unranked : v ≡ refused NoRank ↔ (Ranked → ⊥)
   pub barred : v ≡ refused Barred ↔ Ranked × (Clean → ⊥)

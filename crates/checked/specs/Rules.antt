@@ -1,6 +1,6 @@
 -- THE CHECKED SORT AS RULES, one for each sentence of document 01 under "Checked", free of tests and of their order: a term has a
--- sort when its parts have sorts and a rule gives it one. Definitions only; RuleTheorems proves that the checked verdict is a sort
--- exactly by these rules.
+-- sort when its parts have sorts and a rule gives it one. What a sort may hold is said of its parts (Parts). Definitions only;
+-- RuleTheorems proves that the checked verdict is a sort exactly by these rules.
 use Prim.Native.Nat.{ℕ, _+_, _*_, _-_, _≤_, _<_}
 use mathlib.Core.Path.{_≡_}
 use mathlib.Core.Logic.{_⊎_}
