@@ -15,7 +15,7 @@ use Rattle.store.specs.Entry.{EntryHas}
 use Rattle.substitution.specs.Substitution.{Map, isSome, bound}
 use Rattle.matching.specs.TableLaws.{listed-some, listed-none}
 use Rattle.matching.specs.Entered.{refs-first, refs-rest, sorts-end, sorts-more, entry-var, entry-refs}
-use Rattle.apply.specs.Images.{imageAt, Images}
+use Rattle.replacing.specs.Images.{imageAt, Images}
 use Rattle.rows.specs.Lists.{remaining}
 use Rattle.checked.specs.Checked.{settled, settledAll}
 use Rattle.application.specs.Contract.{SettledAsks, SettledAllAsks, SettledIs, SettledAllIs}

@@ -19,7 +19,7 @@ use Rattle.matching.specs.declared.Matched.{Matched}
 use Rattle.matching.specs.Tables.{Told, mapOf, Mapped, Cleared, Blank, Zeroed}
 use Rattle.matching.specs.Contract.{Usable, Refs, sortsAt, OneAsks, ListAsks, PairsAsk, countOf}
 use Rattle.matching.specs.Contract.{answerOf as foundBy}
-use Rattle.apply.specs.Images.{Images}
+use Rattle.replacing.specs.Images.{Images}
 use Rattle.rows.specs.declared.Cause.the-variants.{Misfit, Unassigned}
 use Rattle.rows.specs.Verdict.{Verdict, sort, refused}
 use Rattle.rows.specs.Lists.{remaining}

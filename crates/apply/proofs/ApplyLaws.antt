@@ -2,8 +2,9 @@
 use Prim.Native.Nat.{ℕ, _≤_, _<_}
 use mathlib.Core.List.{List}
 use Rattle.record.specs.Sort.{size}
-use Rattle.apply.specs.Contract.{answerAt, SizeAsks, SizeIs, SortAsks, ApplyAsks}
-use Rattle.apply.proofs.SizeLaws.{capped-over, capped-small}
+use Rattle.replacing.specs.Contract.{answerAt, SizeAsks, SizeIs, SortAsks}
+use Rattle.replacing.specs.CapLaws.{capped-over, capped-small}
+use Rattle.apply.specs.Contract.{ApplyAsks}
 
 module _ (b p hs ns zs : List ℕ) (n u k : ℕ) (l : List ℕ) (a : ApplyAsks b p hs ns zs n u k l) where
   pub apply-size : SizeAsks b p zs n k l

@@ -23,15 +23,16 @@ use Rattle.record.specs.StoreLaws.{storeOf-length}
 use Rattle.record.specs.Entries.{store-ordered}
 use Rattle.store.specs.Contract.{Untouched}
 use Rattle.substitution.specs.SubstitutionLaws.{count-applied}
-use Rattle.apply.specs.Lists.{Numbers, numbersOf, Has, ReadAsks}
-use Rattle.apply.specs.Draft.{fieldsIn}
-use Rattle.apply.specs.Images.{imagesOf}
-use Rattle.apply.specs.Made.{Made, MakeAsks, intern-first}
-use Rattle.apply.specs.Halted.{Halted, made-over, halted-over}
-use Rattle.apply.specs.Contract.{answersAt, functionAt, SizesAsk, SizesAre, PartsAsk, PartsMade, FunctionAsks, FunctionFits}
-use Rattle.apply.proofs.ListLaws.{has-length, has-own}
-use Rattle.apply.proofs.SizeLaws.{capped-small, within}
-use Rattle.apply.proofs.SortForms.{sorts-back, indices-below}
+use Rattle.replacing.specs.Lists.{Numbers, numbersOf, Has, ReadAsks}
+use Rattle.replacing.specs.Draft.{fieldsIn}
+use Rattle.replacing.specs.Images.{imagesOf}
+use Rattle.replacing.specs.Made.{Made, MakeAsks, intern-first}
+use Rattle.replacing.specs.Halted.{Halted, made-over, halted-over}
+use Rattle.replacing.specs.Contract.{answersAt, SizesAsk, SizesAre, PartsAsk, PartsMade}
+use Rattle.replacing.specs.HeldLaws.{has-length, has-own}
+use Rattle.replacing.specs.CapLaws.{capped-small, within}
+use Rattle.replacing.specs.InternLaws.{sorts-back, indices-below}
+use Rattle.apply.specs.Contract.{functionAt, FunctionAsks, FunctionFits}
 
 -- The Function itself counts as one.
 size-function : (ss : Sorts) → size (function ss) ≡ 1 + sizes ss

@@ -23,19 +23,19 @@ use Rattle.record.specs.declared.SortRecord.{SortRecord}
 use Rattle.store.specs.Entry.{EntryIs}
 use Rattle.substitution.specs.Substitution.{Map, left, under, apply, applyAll}
 use Rattle.substitution.specs.SubstitutionLaws.{apply-var, apply-var-free}
-use Rattle.apply.specs.declared.Replaced.{Replaced}
-use Rattle.apply.specs.declared.Replaced.the-variants.{Is as Found, Stuck}
-use Rattle.apply.specs.Lists.{Numbers, numbersOf, held}
-use Rattle.apply.specs.Images.{imageAt, imagesOf, Table, find-images}
-use Rattle.apply.specs.Made.{Made, intern-first}
-use Rattle.apply.specs.Halted.{Halted, made-over}
-use Rattle.apply.specs.Contract.{answerAt, answersAt, SortAsks}
-use Rattle.apply.specs.Known.{Known, KnownAsks, KnownIs}
+use Rattle.replacing.specs.declared.Replaced.{Replaced}
+use Rattle.replacing.specs.declared.Replaced.the-variants.{Is as Found, Stuck}
+use Rattle.replacing.specs.Lists.{Numbers, numbersOf, held}
+use Rattle.replacing.specs.Images.{imageAt, imagesOf, Table, find-images}
+use Rattle.replacing.specs.Made.{Made, intern-first}
+use Rattle.replacing.specs.Halted.{Halted, made-over}
+use Rattle.replacing.specs.Contract.{answerAt, answersAt, SortAsks}
+use Rattle.replacing.specs.Known.{Known, KnownAsks, KnownIs}
+use Rattle.replacing.specs.HeldLaws.{zeros-are}
+use Rattle.replacing.specs.InternLaws.{intern-under}
+use Rattle.replacing.specs.KnownLaws.{table-set}
+use Rattle.replacing.specs.AlongLaws.{Along, along-start, along-same, along-asks, along-halted, along-more, along-done}
 use Rattle.apply.specs.Order.{answer, listed, Base, Covers, Within, zeros, OrderAsks, OrderIs, InOrderAsk, InOrderMade}
-use Rattle.apply.proofs.ListLaws.{zeros-are}
-use Rattle.apply.proofs.SortForms.{intern-under}
-use Rattle.apply.proofs.KnownLaws.{table-set}
-use Rattle.apply.proofs.AlongLaws.{Along, along-start, along-same, along-asks, along-halted, along-more, along-done}
 
 -- INTERNING AN ANSWER AFTER THOSE OF THE PARTS is interning it.
 intern-after : (θ : Map) (s : Sort) (st : List Sort) → Ordered st → intern (apply θ s) (internAll (applyAll θ (partsOf s)) st) ≡ intern (apply θ s) st

@@ -13,13 +13,13 @@ use Rattle.record.specs.Decode.{storeOf, Stored}
 use Rattle.record.specs.SortLists.{Ordered}
 use Rattle.store.specs.Good.{Good, Kept}
 use Rattle.substitution.specs.Substitution.{Map, apply, applyAll}
-use Rattle.apply.specs.declared.Parts.{Parts}
-use Rattle.apply.specs.declared.Parts.the-variants.{Are, Stuck as Short}
-use Rattle.apply.specs.Lists.{Numbers, numbersOf}
-use Rattle.apply.specs.Images.{imagesOf}
-use Rattle.apply.specs.Halted.{Halted}
-use Rattle.apply.specs.Contract.{answersAt, Ready}
-use Rattle.apply.specs.Known.{Known}
+use Rattle.replacing.specs.declared.Parts.{Parts}
+use Rattle.replacing.specs.declared.Parts.the-variants.{Are, Stuck as Short}
+use Rattle.replacing.specs.Lists.{Numbers, numbersOf}
+use Rattle.replacing.specs.Images.{imagesOf}
+use Rattle.replacing.specs.Halted.{Halted}
+use Rattle.replacing.specs.Contract.{answersAt, Ready}
+use Rattle.replacing.specs.Known.{Known}
 
 -- The answer of the sort k of S.
 abbrev pub answer : Map → List Sort → ℕ → Sort

@@ -1,13 +1,13 @@
 // Substitution in a deep sort with little stack: its sorts with parts are put in order first, parts before what they stand in,
 // so that the walk that makes the answers finds those of the parts in its table.
-use super::Parts;
-use super::Replaced;
-use super::apply_sort;
 use record::u16_at;
+use replacing::Parts;
+use replacing::Replaced;
+use replacing::apply_sort;
 use store::entries::entry;
 use store::entries::size_at;
-ghost use Rattle.apply.specs.Lists.{held};
-ghost use Rattle.apply.specs.Known.{KnownAsks, KnownIs, KnownAllAsk, KnownAllAre};
+ghost use Rattle.replacing.specs.Lists.{held};
+ghost use Rattle.replacing.specs.Known.{KnownAsks, KnownIs, KnownAllAsk, KnownAllAre};
 ghost use Rattle.apply.specs.Order.{OrderAsks, OrderIs, InOrderAsk, InOrderAre};
 
 // The largest tree that is walked without an order: up to it the stack that an order saves is not worth its time.

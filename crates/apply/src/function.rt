@@ -1,14 +1,15 @@
 // A Function of several sorts of the store with their names replaced by a table of images.
 use super::Applied;
-use super::Parts;
-use super::Replaced;
-use super::build::make;
-use super::lists::read_numbers;
 use super::whole::answer_sizes;
 use super::whole::make_answers;
+use replacing::Parts;
+use replacing::Replaced;
+use replacing::build::make;
+use replacing::lists::read_numbers;
 use store::Interned;
 use store::undo;
-ghost use Rattle.apply.specs.Contract.{functionAt, FunctionAsks, FunctionFits, ReplacedIs, AppliedIs};
+ghost use Rattle.replacing.specs.Contract.{ReplacedIs};
+ghost use Rattle.apply.specs.Contract.{functionAt, FunctionAsks, FunctionFits, AppliedIs};
 
 // The number of the Function of the `left` sorts replaced whose numbers stand from `at` on, in the store with its sorts
 // added, parts first from left to right; `Stuck` where that store would be too long.

@@ -17,10 +17,11 @@ use Rattle.record.specs.StoreLaws.{storeOf-length}
 use Rattle.store.specs.Good.{Good}
 use Rattle.substitution.specs.Substitution.{Map, find, orElse, left, under, apply, applyAll}
 use Rattle.substitution.specs.SubstitutionLaws.{count-applied, left-few}
+use Rattle.replacing.specs.Images.{imageAt, Images, images-apply}
+use Rattle.replacing.specs.Contract.{answerAt}
 use Rattle.apply.specs.declared.Applied.{Applied}
 use Rattle.apply.specs.declared.Applied.the-variants.{Is, TooLarge, NoRoom}
-use Rattle.apply.specs.Images.{imageAt, Images, images-apply}
-use Rattle.apply.specs.Contract.{answerAt, ApplyAsks, AppliedIs}
+use Rattle.apply.specs.Contract.{ApplyAsks, AppliedIs}
 use Rattle.rows.specs.declared.Cause.the-variants.{Limit, Full}
 use Rattle.rows.specs.Verdict.{sort}
 use Rattle.rows.specs.Outcome.{shallow, shallowAll, within}

@@ -15,8 +15,8 @@ use Rattle.record.specs.Sizes.{count-sorts}
 use Rattle.store.specs.Good.{Good}
 use Rattle.substitution.specs.Substitution.{Map, apply, applyAll}
 use Rattle.substitution.specs.SubstitutionLaws.{count-applied}
+use Rattle.replacing.specs.Images.{Images, images-applyAll}
 use Rattle.apply.specs.declared.Applied.{Applied}
-use Rattle.apply.specs.Images.{Images, images-applyAll}
 use Rattle.apply.specs.Contract.{functionAt, ApplyAsks, FunctionAsks, AppliedIs}
 use Rattle.rows.specs.Verdict.{sort}
 use Rattle.rows.specs.Outcome.{shallow, shallowAll, within}

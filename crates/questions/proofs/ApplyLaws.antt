@@ -13,7 +13,7 @@ use Rattle.record.specs.StoreLaws.{storeOf-length}
 use Rattle.reader.specs.declared.QuestionRecord.{QuestionRecord}
 use Rattle.sheet.specs.Trees.{mapped}
 use Rattle.substitution.specs.Substitution.{apply}
-use Rattle.apply.specs.Images.{Images}
+use Rattle.replacing.specs.Images.{Images}
 use Rattle.apply.specs.Contract.{ApplyAsks as ReplaceAsks}
 use Rattle.rows.specs.Verdict.{sort}
 use Rattle.answers.specs.declared.Answer.{Answer}

@@ -20,7 +20,7 @@ use Rattle.record.specs.Codec.{numbers-more}
 use Rattle.sheet.specs.Trees.{mapped}
 use Rattle.substitution.specs.Substitution.{find}
 use Rattle.matching.specs.TableLaws.{numbers-none}
-use Rattle.apply.specs.Images.{imageAt, Images}
+use Rattle.replacing.specs.Images.{imageAt, Images}
 use Rattle.judged.specs.Questions.{imagesOf}
 
 -- The table l with each name bound to the sort with its number, and with these names unbound; the last name first.

@@ -3,9 +3,9 @@ use borrow.Author.Needs.{needs}
 use mathlib.Core.Path.{refl, subst}
 use Rattle.record.specs.Store.{intern}
 use Rattle.record.specs.Decode.{storeOf}
-use Rattle.apply.specs.Contract.{answerAt, ReplacedIs}
+use Rattle.replacing.specs.Contract.{answerAt, ReplacedIs}
 use Rattle.apply.proofs.ApplyLaws.{apply-size, apply-over, apply-small, apply-asks}
-use Rattle.apply.specs.Halted.{undo-asks, undo-back}
+use Rattle.apply.proofs.UndoLaws.{undo-asks, undo-back}
 use Rattle.apply.proofs.apply.Statement.{statement}
 use Rattle.apply.proofs.apply.Tie as tie
 

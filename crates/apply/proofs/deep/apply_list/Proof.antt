@@ -5,9 +5,9 @@ use borrow.Author.Needs.{needs}
 use Prim.Native.Nat.{_-_}
 use mathlib.Core.Path.{refl, sym, subst, _∙_}
 use lib.ListN.{getD}
-use Rattle.apply.specs.Lists.{held}
-use Rattle.apply.specs.Known.{KnownIs}
-use Rattle.apply.proofs.PartLaws.{KnownInv, parts-start, parts-asks, parts-number, parts-halted, parts-more, parts-done}
+use Rattle.replacing.specs.Lists.{held}
+use Rattle.replacing.specs.Known.{KnownIs}
+use Rattle.replacing.specs.PartLaws.{KnownInv, parts-start, parts-asks, parts-number, parts-halted, parts-more, parts-done}
 use Rattle.apply.proofs.deep.apply_list.Statement.{statement}
 use Rattle.apply.proofs.deep.apply_list.Tie as tie
 

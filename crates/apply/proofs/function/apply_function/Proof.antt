@@ -4,8 +4,9 @@ use borrow.Author.Needs.{needs}
 use mathlib.Core.Path.{refl, subst}
 use Rattle.record.specs.Store.{intern}
 use Rattle.record.specs.Decode.{storeOf}
-use Rattle.apply.specs.Contract.{functionAt, ReplacedIs}
-use Rattle.apply.specs.Halted.{undo-asks, undo-back}
+use Rattle.replacing.specs.Contract.{ReplacedIs}
+use Rattle.apply.specs.Contract.{functionAt}
+use Rattle.apply.proofs.UndoLaws.{undo-asks, undo-back}
 use Rattle.apply.proofs.FunctionLaws.{function-sizes, function-over, function-fits}
 use Rattle.apply.proofs.function.apply_function.Statement.{statement}
 use Rattle.apply.proofs.function.apply_function.Tie as tie

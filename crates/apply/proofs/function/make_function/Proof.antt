@@ -6,11 +6,11 @@ use mathlib.Core.Path.{sym, subst, _∙_}
 use lib.ListN.{replicate, length-replicate}
 use Rattle.record.specs.Record.{sortOf}
 use Rattle.record.specs.Decode.{storeOf}
-use Rattle.apply.specs.Lists.{held}
-use Rattle.apply.specs.Draft.{fieldsIn}
-use Rattle.apply.specs.Made.{MadeIs}
-use Rattle.apply.specs.Contract.{PartsAre}
-use Rattle.apply.proofs.ListLaws.{none-has}
+use Rattle.replacing.specs.Lists.{held}
+use Rattle.replacing.specs.Draft.{fieldsIn}
+use Rattle.replacing.specs.Made.{MadeIs}
+use Rattle.replacing.specs.Contract.{PartsAre}
+use Rattle.replacing.specs.HeldLaws.{none-has}
 use Rattle.apply.proofs.FunctionLaws.{function-read, function-parts, function-stuck, function-make, function-made, function-full}
 use Rattle.apply.proofs.function.make_function.Statement.{statement}
 use Rattle.apply.proofs.function.make_function.Tie as tie

@@ -1,7 +1,7 @@
 -- A table of zeros says nothing, so it says the truth.
 use native.Mathlib.Omega.{arith}
 use borrow.Author.Needs.{needs}
-use Rattle.apply.proofs.KnownLaws.{weighed-none}
+use Rattle.replacing.specs.KnownLaws.{weighed-none}
 use Rattle.apply.proofs.whole.answer_size.Statement.{statement}
 use Rattle.apply.proofs.whole.answer_size.Tie as tie
 

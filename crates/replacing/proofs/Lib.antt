@@ -1,0 +1,7 @@
+mod ListLaws
+mod DraftLaws
+mod MakeLaws
+mod SortForms
+mod SizeLaws
+mod RebuildLaws
+mod SortLaws

@@ -1,0 +1,29 @@
+-- The byte is written behind those that are there.
+use native.Mathlib.Omega.{arith}
+use borrow.Author.Needs.{needs}
+use Rattle.replacing.specs.Draft.{draft}
+use Rattle.replacing.proofs.DraftLaws.{byte-put}
+use Rattle.replacing.proofs.build.put_byte.Statement.{statement}
+use Rattle.replacing.proofs.build.put_byte.Tie as tie
+
+cast-bytes : tie.Need-cast-bytes
+cast-bytes c = omega (arith, c .pre .small)
+
+slice-write-bytes : tie.Need-slice-write-bytes
+slice-write-bytes c = omega (arith, c .pre .room .room, c .pre .room .long)
+
+add-result : tie.Need-add-result
+add-result c = omega (arith, c .pre .room .room)
+
+same-length : tie.Need-same-length
+same-length c = search needs
+
+returns : tie.Need-returns
+returns c =
+    let s = c in
+    let a = s .args in
+    let d = draft (a .bytes .now) (a .len) in
+    byte-put d (a .v) (s .pre)
+
+pub put-byte-spec : {M : Type 1} → statement M
+put-byte-spec = tie.close (tie.spec cast-bytes slice-write-bytes add-result same-length returns)

@@ -1,0 +1,29 @@
+-- The bit decides.
+use borrow.Author.Needs.{needs}
+use Rattle.replacing.specs.Draft.{draft}
+use Rattle.replacing.proofs.DraftLaws.{put-name-on, put-name-off}
+use Rattle.replacing.proofs.build.put_name.Statement.{statement}
+use Rattle.replacing.proofs.build.put_name.Tie as tie
+
+put-word-requires : tie.Need-put-word-requires
+put-word-requires c κs = c .before .before .before .pre
+
+same-length : tie.Need-same-length
+same-length c = search needs
+
+returns : tie.Need-returns
+returns c =
+    let s = c .before .before .before .before .before .before in
+    let a = s .args in
+    let d = draft (a .bytes .now) (a .len) in
+    put-name-on d (a .bit) (a .v) (draft (c .before .before .put-word .last .0) (c .before .before .put-word .result)) (c .before .before .before .before .if1 .taken) (c .before .before .put-word .ensures)
+
+returns-2 : tie.Need-returns-2
+returns-2 c =
+    let s = c .before .before in
+    let a = s .args in
+    let d = draft (a .bytes .now) (a .len) in
+    put-name-off d (a .bit) (a .v) (c .if1 .left) (s .pre .room)
+
+pub put-name-spec : {M : Type 1} → statement M
+put-name-spec = tie.close (tie.spec put-word-requires same-length returns returns-2)

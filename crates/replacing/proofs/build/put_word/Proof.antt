@@ -1,0 +1,30 @@
+-- Low byte, then high byte.
+use native.Mathlib.Omega.{arith}
+use borrow.Author.Needs.{needs}
+use Rattle.replacing.specs.Draft.{draft}
+use Rattle.replacing.proofs.DraftLaws.{put-room, put-trans}
+use Rattle.replacing.proofs.build.put_word.Statement.{statement}
+use Rattle.replacing.proofs.build.put_word.Tie as tie
+
+put-byte-requires : tie.Need-put-byte-requires
+put-byte-requires c κs = record { room = record { long = c .before .before .pre .room .long; room = omega (arith, c .before .before .pre .room .room) }; small = omega arith }
+
+put-byte-requires-2 : tie.Need-put-byte-requires-2
+put-byte-requires-2 c κs =
+    let s = c .before .before .before .before .before .before in
+    let a = s .args in
+    let d = draft (a .bytes .now) (a .len) in
+    record { room = put-room d 2 1 _ (draft (c .before .before .before .put-byte .last .0) (c .before .before .before .put-byte .result)) 1 (s .pre .room) (omega arith) (c .before .before .before .put-byte .ensures); small = omega (arith, s .pre .small) }
+
+same-length : tie.Need-same-length
+same-length c = search needs
+
+returns : tie.Need-returns
+returns c =
+    let s = c .before .before .before .before .before .before .before .before .before in
+    let a = s .args in
+    let d = draft (a .bytes .now) (a .len) in
+    put-trans d 1 _ (draft (c .before .before .before .before .before .before .put-byte .last .0) (c .before .before .before .before .before .before .put-byte .result)) 1 _ (draft (c .before .before .put-byte2 .last .0) (c .before .before .put-byte2 .result)) (c .before .before .before .before .before .before .put-byte .ensures) (c .before .before .put-byte2 .ensures)
+
+pub put-word-spec : {M : Type 1} → statement M
+put-word-spec = tie.close (tie.spec put-byte-requires put-byte-requires-2 same-length returns)

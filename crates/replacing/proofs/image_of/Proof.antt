@@ -1,0 +1,38 @@
+-- An entry of 0 is no image.
+use native.Mathlib.Omega.{arith}
+use borrow.Author.Needs.{needs}
+use lib.ListN.{getD}
+use Rattle.record.specs.Cases.{positive}
+use Rattle.replacing.proofs.SortForms.{number-none, number-some}
+use Rattle.replacing.proofs.image_of.Statement.{statement}
+use Rattle.replacing.proofs.image_of.Tie as tie
+
+mul-seen : tie.Need-mul-seen
+mul-seen c = search needs
+
+shared-slice-read-seen : tie.Need-shared-slice-read-seen
+shared-slice-read-seen c = search needs
+
+cast-seen : tie.Need-cast-seen
+cast-seen c = omega (arith, c .shared-slice-known .given (c .before .args .name))
+
+returns : tie.Need-returns
+returns c =
+    let s = c .before .before in
+    let a = s .args in
+    number-none (getD (a .images .now) (a .name) 0) (a .k) (c .if1 .taken)
+
+sub-result : tie.Need-sub-result
+sub-result c =
+    let s = c .before .before in
+    let a = s .args in
+    positive (getD (a .images .now) (a .name) 0) (c .if1 .left)
+
+returns-2 : tie.Need-returns-2
+returns-2 c =
+    let s = c .before .before in
+    let a = s .args in
+    number-some (getD (a .images .now) (a .name) 0) (a .k) (c .if1 .left)
+
+pub image-of-spec : {M : Type 1} → statement M
+image-of-spec = tie.close (tie.spec mul-seen shared-slice-read-seen cast-seen returns sub-result returns-2)

@@ -1,0 +1,161 @@
+-- The body of a Par without names left is there, and so is a sort whose parts and names stay; any other is made over the
+-- parts.
+use native.Mathlib.Omega.{arith}
+use borrow.Author.Needs.{needs}
+use Prim.Native.Nat.{ℕ}
+use lib.ListN.{length-replicate}
+use mathlib.Core.Path.{sym, _∙_}
+use Rattle.replacing.specs.Lists.{held}
+use Rattle.replacing.proofs.RebuildLaws.{rebuild-gone, rebuild-same-asks, rebuild-same, rebuild-asks, rebuild-made}
+use Rattle.replacing.proofs.rebuild.Statement.{statement}
+use Rattle.replacing.proofs.rebuild.Tie as tie
+
+entry-requires : tie.Need-entry-requires
+entry-requires c κs =
+    let s = c .before .before .before .before .before .before .before .before .before in
+    let a = s .args in
+    record { placed = omega (arith, s .pre .known, s .pre .ready .good .stored .placed); held = s .pre .ready .good .stored .each (a .k) (s .pre .known) }
+
+slice-aggregate-names-left : tie.Need-slice-aggregate-names-left
+slice-aggregate-names-left c = search needs
+
+names-left-requires : tie.Need-names-left-requires
+names-left-requires c κs =
+    let s = c .before .before .before .before .before .before .before .before .before .before .before .before in
+    let a = s .args in
+    let n = a .count in
+    let is = c .before .before .entry .ensures n (s .pre .ready .good .stored) (s .pre .known) in
+    (record { read = record { within = is .place .names; few = is .named }; table = s .pre .ready .table .long }, length-replicate {A = ℕ} 64 0)
+
+wrapper-goes-requires : tie.Need-wrapper-goes-requires
+wrapper-goes-requires c κs = search needs
+
+shared-slice-read-body : tie.Need-shared-slice-read-body
+shared-slice-read-body c = omega (arith, c .before .before .before .before .before .before .before .before .before .before .before .before .before .before .before .before .before .pre .has .long)
+
+cast-body : tie.Need-cast-body
+cast-body c = omega (arith, c .shared-slice-known3 .given 0)
+
+same-length : tie.Need-same-length
+same-length c = search needs
+
+same-length-2 : tie.Need-same-length-2
+same-length-2 c = search needs
+
+returns : tie.Need-returns
+returns c =
+    let s = c .before .before .before .before .before .before .before .before .before .before .before .before .before .before .before .before .before in
+    let a = s .args in
+    let b = a .records .now in
+    let p = a .places .now in
+    let hs = a .heads .now in
+    let ns = a .next .now in
+    let zs = a .sizes .now in
+    let n = a .count in
+    let u = a .used in
+    let l = a .images .now in
+    let k = a .k in
+    let e = c .before .before .before .before .before .before .before .entry .result in
+    let is = c .before .before .before .before .before .before .before .entry .ensures n (s .pre .ready .good .stored) (s .pre .known) in
+    let o = held (c .before .before .before .before .names-left .last .1 .1 .1 .1 .0) (c .before .before .before .before .names-left .result) in
+    rebuild-gone b p hs ns zs n u k (held (a .parts .now) (a .many)) l (s .pre) e is o (c .before .before .before .before .names-left .ensures) (sym (c .before .before .wrapper-goes .ensures) ∙ c .before .if1 .taken)
+
+same-numbers-requires : tie.Need-same-numbers-requires
+same-numbers-requires c κs =
+    let s = c .before .before .before .before .before .before .before .before .before .before .before .before .before .before .before .before .before .before .before in
+    let a = s .args in
+    let b = a .records .now in
+    let p = a .places .now in
+    let hs = a .heads .now in
+    let ns = a .next .now in
+    let zs = a .sizes .now in
+    let n = a .count in
+    let u = a .used in
+    let l = a .images .now in
+    let k = a .k in
+    let e = c .before .before .before .before .before .before .before .before .before .entry .result in
+    let is = c .before .before .before .before .before .before .before .before .before .entry .ensures n (s .pre .ready .good .stored) (s .pre .known) in
+    let o = held (c .before .before .before .before .before .before .names-left .last .1 .1 .1 .1 .0) (c .before .before .before .before .before .before .names-left .result) in
+    rebuild-same-asks b p hs ns zs n u k (held (a .parts .now) (a .many)) l (s .pre) e is o (c .before .before .before .before .before .before .names-left .ensures)
+
+same-length-3 : tie.Need-same-length-3
+same-length-3 c = search needs
+
+same-length-4 : tie.Need-same-length-4
+same-length-4 c = search needs
+
+returns-2 : tie.Need-returns-2
+returns-2 c =
+    let s = c .before .before .before .before .before .before .before .before .before .before .before .before .before .before .before .before .before .before .before .before .before in
+    let a = s .args in
+    let b = a .records .now in
+    let p = a .places .now in
+    let hs = a .heads .now in
+    let ns = a .next .now in
+    let zs = a .sizes .now in
+    let n = a .count in
+    let u = a .used in
+    let l = a .images .now in
+    let k = a .k in
+    let e = c .before .before .before .before .before .before .before .before .before .before .before .entry .result in
+    let is = c .before .before .before .before .before .before .before .before .before .before .before .entry .ensures n (s .pre .ready .good .stored) (s .pre .known) in
+    let o = held (c .before .before .before .before .before .before .before .before .names-left .last .1 .1 .1 .1 .0) (c .before .before .before .before .before .before .before .before .names-left .result) in
+    rebuild-same b p hs ns zs n u k (held (a .parts .now) (a .many)) l (s .pre) e is o (c .before .before .before .before .before .before .before .before .names-left .ensures) (sym (c .before .before .before .before .before .before .wrapper-goes .ensures) ∙ c .before .before .before .before .before .if1 .left) (c .before .before .before .if2 .taken) (c .before .same-numbers .ensures (c .if3 .taken))
+
+slice-aggregate-make : tie.Need-slice-aggregate-make
+slice-aggregate-make c = sym (c .before .before .before .before .before .before .before .before .before .before .before .names-left .ensures .long)
+
+make-requires : tie.Need-make-requires
+make-requires c κs =
+    let s = c .before .before .before .before .before .before .before .before .before .before .before .before .before .before .before .before .before .before .before .before .before .before .before .before in
+    let a = s .args in
+    let b = a .records .now in
+    let p = a .places .now in
+    let hs = a .heads .now in
+    let ns = a .next .now in
+    let zs = a .sizes .now in
+    let n = a .count in
+    let u = a .used in
+    let l = a .images .now in
+    let k = a .k in
+    let e = c .before .before .before .before .before .before .before .before .before .before .before .before .before .before .entry .result in
+    let is = c .before .before .before .before .before .before .before .before .before .before .before .before .before .before .entry .ensures n (s .pre .ready .good .stored) (s .pre .known) in
+    let o = held (c .before .before .before .before .before .before .before .before .before .before .before .names-left .last .1 .1 .1 .1 .0) (c .before .before .before .before .before .before .before .before .before .before .before .names-left .result) in
+    rebuild-asks b p hs ns zs n u k (held (a .parts .now) (a .many)) l (s .pre) e is o (c .before .before .before .before .before .before .before .before .before .before .before .names-left .ensures) (sym (c .before .before .before .before .before .before .before .before .before .wrapper-goes .ensures) ∙ c .before .before .before .before .before .before .before .before .if1 .left)
+
+same-length-5 : tie.Need-same-length-5
+same-length-5 c = search needs
+
+same-length-6 : tie.Need-same-length-6
+same-length-6 c = search needs
+
+same-length-7 : tie.Need-same-length-7
+same-length-7 c = search needs
+
+same-length-8 : tie.Need-same-length-8
+same-length-8 c = search needs
+
+same-length-9 : tie.Need-same-length-9
+same-length-9 c = search needs
+
+returns-3 : tie.Need-returns-3
+returns-3 c =
+    let s = c .before .before .before .before .before .before .before .before .before .before .before .before .before .before .before .before .before .before .before .before .before .before .before .before .before .before .before .before .before .before .before .before .before .before .before in
+    let a = s .args in
+    let b = a .records .now in
+    let p = a .places .now in
+    let hs = a .heads .now in
+    let ns = a .next .now in
+    let zs = a .sizes .now in
+    let n = a .count in
+    let u = a .used in
+    let l = a .images .now in
+    let k = a .k in
+    let e = c .before .before .before .before .before .before .before .before .before .before .before .before .before .before .before .before .before .before .before .before .before .before .before .before .before .entry .result in
+    let is = c .before .before .before .before .before .before .before .before .before .before .before .before .before .before .before .before .before .before .before .before .before .before .before .before .before .entry .ensures n (s .pre .ready .good .stored) (s .pre .known) in
+    let o = held (c .before .before .before .before .before .before .before .before .before .before .before .before .before .before .before .before .before .before .before .before .before .before .names-left .last .1 .1 .1 .1 .0) (c .before .before .before .before .before .before .before .before .before .before .before .before .before .before .before .before .before .before .before .before .before .before .names-left .result) in
+    let d = c .before .before .before .before .before .before .before .before .before .before .make .last in
+    rebuild-made b p hs ns zs n u k (held (a .parts .now) (a .many)) l (s .pre) e is o (c .before .before .before .before .before .before .before .before .before .before .before .before .before .before .before .before .before .before .before .before .before .before .names-left .ensures) (sym (c .before .before .before .before .before .before .before .before .before .before .before .before .before .before .before .before .before .before .before .before .wrapper-goes .ensures) ∙ c .before .before .before .before .before .before .before .before .before .before .before .before .before .before .before .before .before .before .before .if1 .left) (d .0) (d .1 .0) (d .1 .1 .0) (d .1 .1 .1 .0) (d .1 .1 .1 .1 .0) (c .before .before .before .before .before .before .before .before .before .before .make .result) (c .before .before .before .before .before .before .before .before .before .before .make .ensures)
+
+pub rebuild-spec : {M : Type 1} → statement M
+rebuild-spec = tie.close (tie.spec entry-requires slice-aggregate-names-left names-left-requires wrapper-goes-requires shared-slice-read-body cast-body same-length same-length-2 returns same-numbers-requires same-length-3 same-length-4 returns-2 slice-aggregate-make make-requires same-length-5 same-length-6 same-length-7 same-length-8 same-length-9 returns-3)

@@ -1,0 +1,13 @@
+pub mod Lists
+pub mod HeldLaws
+pub mod Draft
+pub mod Images
+pub mod Made
+pub mod Halted
+pub mod InternLaws
+pub mod Contract
+pub mod CapLaws
+pub mod Known
+pub mod KnownLaws
+pub mod AlongLaws
+pub mod PartLaws
