@@ -1,6 +1,6 @@
 -- What a judged sheet leaves can be printed in pieces, each the next lines; and what the count of written lines says of the bytes that
 -- were handed over: they grow by the text of each write, and all of them are the printout.
-use Prim.Native.Nat.{ℕ, _+_, _-_, _≤_, _<_}
+use Prim.Native.Nat.{ℕ, _+_, _-_, _<_}
 use mathlib.Core.Path.{_≡_, refl, sym, ap, subst, _∙_}
 use mathlib.Core.Bool.{Bool, true, false}
 use mathlib.Core.List.{List, [], _++_, append-nil}
@@ -14,7 +14,7 @@ use Rattle.verdicts.specs.declared.Outcome.the-variants.{Refused}
 use Rattle.verdicts.specs.Judge.{outcomeOf}
 use Rattle.printout.specs.declared.kinds.Totals.{Totals}
 use Rattle.printout.specs.declared.whole.Piece.{Piece}
-use Rattle.printout.specs.Lines.{refusalLine, lineRoom}
+use Rattle.printout.specs.Lines.{refusalLine}
 use Rattle.printout.specs.LineLaws.{refusal-line-length}
 use Rattle.printout.specs.TextLaws.{decimal-short}
 use Rattle.printout.specs.Printed.{printed, programLengths}
@@ -27,21 +27,12 @@ use Rattle.text.specs.PrintedLaws.{lines-printed, piece-then}
 use Rattle.text.specs.TextLaws.{refusal-small, refused-as}
 use Rattle.text.specs.LeftLaws.{Left}
 use Rattle.printing.specs.declared.written.Written.{Written}
-use Rattle.printing.specs.Print.{LinesAsk, none, handed, NextLines, HandAsks, WentOn, PrintedIs}
+use Rattle.printing.specs.Print.{none, handed, NextLines, HandAsks, WentOn, PrintedIs}
 
 not-both : (b : Bool) → b ≡ false → b ≡ true → ⊥
 not-both b f t = let z : _≡_ {A = ℕ} 0 1 = cc in omega arith
 
 ---------------------------------------------------------------- what is asked
--- As long as it is.
-pub room-all : (n : ℕ) (l : List ℕ) → n ≡ length l → n ≤ length l
-room-all n l e = omega (arith, e)
-
--- What `judge` left of an accepted sheet can be printed by way of a buffer o that holds the longest line.
-pub print-asks : (s b p w k g : List ℕ) (r : Totals) → Left s b p w k g r → (o : List ℕ) → lineRoom ≤ length o
-    → LinesAsk s b p w k g (r .terms) (r .questions) o
-print-asks s b p w k g r l o long = record { left = l; room = long }
-
 -- A piece of the lines over what `judge` left is the next lines of the judgement, where just those before it are written.
 pub piece-next : (s b p w k g : List ℕ) (t : Totals) (l : Left s b p w k g t) (d : Written) (from : ℕ) (o o′ : List ℕ) (r : Piece)
     → d .failed ≡ false → d .lines ≡ from → PieceIs b p w k g (t .terms) (t .questions) from o o′ (l .many) r

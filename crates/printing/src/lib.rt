@@ -3,6 +3,7 @@
 mod written;
 
 use printout::Shown;
+use printout::kinds::Totals;
 use printout::kinds::question_kinds;
 use printout::lines::refusal_line;
 use printout::whole::show_lines;
@@ -14,12 +15,17 @@ use written::nothing_written;
 use written::write_lines;
 use written::write_refusal;
 ghost use Rattle.judged.specs.Judged.{refused, judged};
+ghost use Rattle.verdicts.specs.declared.Outcome.the-variants.{Accepted};
 ghost use Rattle.printout.specs.Printed.{programLengths};
 ghost use Rattle.text.specs.Text.{PrintAsks};
+ghost use Rattle.text.specs.LeftLaws.{Left};
 ghost use Rattle.printing.specs.Print.{LinesAsk, PrintedIs};
 
 // The bytes that any line of a printout fits (`lineRoom`).
 const LINE_ROOM: usize = 1937856;
+
+// The most questions of a sheet.
+const QUESTIONS: usize = 1024;
 
 // A buffer of zeros that holds the longest line.
 fn line_buffer() -> [u8; LINE_ROOM] {
@@ -68,6 +74,57 @@ fn print_lines(
     done
 }
 
+// Writes the lines of an accepted sheet, judged into these buffers, by way of a buffer of its own. All lines are written; or a write
+// failed, nothing was handed over after it, and the lines before it are written.
+fn print_all(
+    sheet: &[u8],
+    records: &[u8],
+    places: &[u32],
+    rows: &[u32],
+    kinds: &[u8],
+    answers: &[u32],
+    totals: Totals,
+) -> Written
+    requires { ⌜ Left (now sheet) (now records) (now places) (now rows) (now kinds) (now answers) totals ⌝ }
+    ensures { λ r. ⌜ PrintedIs (judged (now (sheet .entry)) programLengths) r ⌝ }
+{
+    let mut out = line_buffer();
+    print_lines(
+        sheet,
+        records,
+        places,
+        rows,
+        kinds,
+        answers,
+        totals.terms,
+        totals.questions,
+        &mut out,
+    )
+}
+
+// Writes the lines of an accepted sheet, judged into these buffers, with the kinds of its questions in the lent table; where that
+// is too short for 1,024, what this function writes with a table of its own. All lines are written; or a write failed, nothing
+// was handed over after it, and the lines before it are written. It calls itself so that the large buffer of `print_all` is on the
+// stack only while lines are printed: the compiler puts no large frame into a function that calls itself, nor that into another.
+fn print_accepted(
+    sheet: &[u8],
+    records: &[u8],
+    places: &[u32],
+    rows: &[u32],
+    answers: &[u32],
+    kinds: &mut [u8],
+) -> Written
+    requires { ⌜ PrintAsks (now sheet) (now records) (now places) (now rows) (now answers) Accepted ⌝ }
+    ensures { λ r. ⌜ PrintedIs (judged (now (sheet .entry)) programLengths) r ⌝ }
+{
+    if kinds.len() < QUESTIONS {
+        let mut own = [0u8; QUESTIONS];
+        return print_accepted(sheet, records, places, rows, answers, &mut own);
+    }
+    let totals = question_kinds(sheet, kinds);
+    print_all(sheet, records, places, rows, kinds, answers, totals)
+}
+
 // Writes the line of a sheet that is refused for this reason. That line is written; or the write failed, and none is.
 pub fn print_refusal(e: Refusal) -> Written
     ensures { λ r. ⌜ PrintedIs (refused e) r ⌝ }
@@ -97,20 +154,8 @@ pub fn print_judged(
 {
     match outcome {
         Outcome::Accepted => {
-            let mut kinds = [0u8; 1024];
-            let totals = question_kinds(sheet, &mut kinds);
-            let mut out = line_buffer();
-            print_lines(
-                sheet,
-                records,
-                places,
-                rows,
-                &kinds,
-                answers,
-                totals.terms,
-                totals.questions,
-                &mut out,
-            )
+            let mut kinds = [0u8; 1];
+            print_accepted(sheet, records, places, rows, answers, &mut kinds)
         }
         Outcome::Refused(e) => print_refusal(e),
     }
