@@ -59,11 +59,12 @@ impl Base {
 
     /// A chain of so many periods over the first variable.
     fn chain(&mut self, period: &[Layer], count: usize) -> Result<SortId, WriteError> {
+        let names = [self.third];
         let mut sort = self.first.1;
         for layer in period.iter().rev().cycle().take(count * period.len()) {
             sort = self.sheet.add_sort(match layer {
                 Set => SortRecord::Set(sort),
-                Par => SortRecord::Par(&[self.third], sort),
+                Par => SortRecord::Par(&names, sort),
                 First => SortRecord::Array(sort, self.int),
                 Last => SortRecord::Array(self.int, sort),
             })?;
