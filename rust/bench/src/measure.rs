@@ -1,5 +1,6 @@
 //! Times: runs of both sides in turn, and how they spread.
 
+use std::hint::black_box;
 use std::time::Duration;
 
 /// How the times of some runs spread, in microseconds.
@@ -29,6 +30,29 @@ fn run(work: &mut dyn FnMut() -> Duration) -> f64 {
     sum.as_secs_f64() * 1e6 / f64::from(times)
 }
 
+/// Runs a work so many bytes further down the stack.
+fn lower<const BYTES: usize>(work: &mut dyn FnMut() -> Duration) -> f64 {
+    let below = black_box([0_u8; BYTES]);
+    let time = run(work);
+    black_box(&below);
+    time
+}
+
+/// One run at one of eight places of the stack, an eighth of a page apart: what stands across the end of a page there takes much longer, and
+/// which array that is changes with every frame of the library.
+fn run_at(place: usize, work: &mut dyn FnMut() -> Duration) -> f64 {
+    match place % 8 {
+        0 => run(work),
+        1 => lower::<512>(work),
+        2 => lower::<1024>(work),
+        3 => lower::<1536>(work),
+        4 => lower::<2048>(work),
+        5 => lower::<2560>(work),
+        6 => lower::<3072>(work),
+        _ => lower::<3584>(work),
+    }
+}
+
 /// The spread of some times.
 fn spread(mut times: Vec<f64>) -> Spread {
     times.sort_by(f64::total_cmp);
@@ -42,7 +66,7 @@ fn spread(mut times: Vec<f64>) -> Spread {
     Spread { least: times[0], first: at(1), median: at(2), third: at(3) }
 }
 
-/// Runs two works in turn, each so many times after one time that does not count.
+/// Runs two works in turn, each so many times after one time that does not count, at eight places of the stack.
 pub fn in_turn(
     runs: usize,
     one: &mut dyn FnMut() -> Duration,
@@ -51,9 +75,9 @@ pub fn in_turn(
     one();
     other();
     let mut times = (Vec::new(), Vec::new());
-    for _ in 0..runs {
-        times.0.push(run(one));
-        times.1.push(run(other));
+    for place in 0..runs {
+        times.0.push(run_at(place, one));
+        times.1.push(run_at(place, other));
     }
     (spread(times.0), spread(times.1))
 }
