@@ -33,20 +33,18 @@ use Rattle.answers.specs.Answer.{Left, AnswerIs, accepting, refusing}
 use Rattle.answers.specs.Within.{within-at}
 
 -- An equal verdict, an equal answer, equal buffers.
-pub judged-as : {b p : List ℕ} {n : ℕ} {v w : Verdict} {b′ p′ hs′ ns′ zs′ : List ℕ} {r : Answer} → v ≡ w → AnswerIs b p n w b′ p′ hs′ ns′ zs′ r → AnswerIs b p n v b′ p′ hs′ ns′ zs′ r
-judged-as {b} {p} {n} {v} {w} {b′} {p′} {hs′} {ns′} {zs′} {r} e h = subst (λ (x : Verdict). AnswerIs b p n x b′ p′ hs′ ns′ zs′ r) (sym e) h
+pub judged-as : {b p : List ℕ} {n : ℕ} {v w : Verdict} {b′ p′ ix′ : List ℕ} {r : Answer} → v ≡ w → AnswerIs b p n w b′ p′ ix′ r → AnswerIs b p n v b′ p′ ix′ r
+judged-as {b} {p} {n} {v} {w} {b′} {p′} {ix′} {r} e h = subst (λ (x : Verdict). AnswerIs b p n x b′ p′ ix′ r) (sym e) h
 
-pub answered-as : {b p : List ℕ} {n : ℕ} {v : Verdict} {b′ p′ hs′ ns′ zs′ : List ℕ} {r q : Answer} → r ≡ q → AnswerIs b p n v b′ p′ hs′ ns′ zs′ q → AnswerIs b p n v b′ p′ hs′ ns′ zs′ r
-answered-as {b} {p} {n} {v} {b′} {p′} {hs′} {ns′} {zs′} {r} {q} e h = subst (λ (x : Answer). AnswerIs b p n v b′ p′ hs′ ns′ zs′ x) (sym e) h
+pub answered-as : {b p : List ℕ} {n : ℕ} {v : Verdict} {b′ p′ ix′ : List ℕ} {r q : Answer} → r ≡ q → AnswerIs b p n v b′ p′ ix′ q → AnswerIs b p n v b′ p′ ix′ r
+answered-as {b} {p} {n} {v} {b′} {p′} {ix′} {r} {q} e h = subst (λ (x : Answer). AnswerIs b p n v b′ p′ ix′ x) (sym e) h
 
-pub untouched-as : {b p : List ℕ} {n : ℕ} {v : Verdict} {r : Answer} {c q hs ns zs b′ p′ hs′ ns′ zs′ : List ℕ} → Untouched c q hs ns zs b′ p′ hs′ ns′ zs′
-    → AnswerIs b p n v c q hs ns zs r → AnswerIs b p n v b′ p′ hs′ ns′ zs′ r
-untouched-as {b} {p} {n} {v} {r} {c} {q} {hs} {ns} {zs} {b′} {p′} {hs′} {ns′} {zs′} e h =
-    subst (λ (x : List ℕ). AnswerIs b p n v x p′ hs′ ns′ zs′ r) (sym (e .0))
-    (subst (λ (x : List ℕ). AnswerIs b p n v c x hs′ ns′ zs′ r) (sym (e .1))
-    (subst (λ (x : List ℕ). AnswerIs b p n v c q x ns′ zs′ r) (sym (e .2))
-    (subst (λ (x : List ℕ). AnswerIs b p n v c q hs x zs′ r) (sym (e .3))
-    (subst (λ (x : List ℕ). AnswerIs b p n v c q hs ns x r) (sym (e .4)) h))))
+pub untouched-as : {b p : List ℕ} {n : ℕ} {v : Verdict} {r : Answer} {c q ix b′ p′ ix′ : List ℕ} → Untouched c q ix b′ p′ ix′
+    → AnswerIs b p n v c q ix r → AnswerIs b p n v b′ p′ ix′ r
+untouched-as {b} {p} {n} {v} {r} {c} {q} {ix} {b′} {p′} {ix′} e h =
+    subst (λ (x : List ℕ). AnswerIs b p n v x p′ ix′ r) (sym (e .0))
+    (subst (λ (x : List ℕ). AnswerIs b p n v c x ix′ r) (sym (e .1))
+    (subst (λ (x : List ℕ). AnswerIs b p n v c q x r) (sym (e .2)) h))
 
 -- Lengths of the two lent buffers that a store is in.
 abbrev lent : List ℕ → List ℕ → Lengths
@@ -56,36 +54,36 @@ room-of : (l : Lengths) (b p : List ℕ) (st : List Sort) → l .records ≡ len
 room-of l b p st e f = ap₂ (λ (x y : ℕ). room x y st) e f
 
 -- The sorts of a good store are distinct.
-pub good-once : (b p hs ns zs : List ℕ) (n u : ℕ) → Good b p hs ns zs n u → Once (storeOf b p n)
+pub good-once : (b p ix : List ℕ) (n u : ℕ) → Good b p ix n u → Once (storeOf b p n)
 unfolding Once sortAt
-good-once b p hs ns zs n u g i j hi hj e =
+good-once b p ix n u g i j hi hj e =
     sorts-one b p n (g .stored) (g .distinct) i j (omega (arith, storeOf-length b p n)) (omega (arith, storeOf-length b p n)) e
 
 -- THE FIVE WAYS, over a good store.
-module _ (b p hs ns zs : List ℕ) (n u : ℕ) (g : Good b p hs ns zs n u) where
+module _ (b p ix : List ℕ) (n u : ℕ) (g : Good b p ix n u) where
   same-answer : (v : Verdict) (c : Cause) → ((l : Lengths) → l .records ≡ length b → l .places ≡ length p → outcome l (storeOf b p n) v ≡ refusal (storeOf b p n) c)
-      → AnswerIs b p n v b p hs ns zs (refusing c n u)
+      → AnswerIs b p n v b p ix (refusing c n u)
   same-answer v c e = record { good = g; long = refl; wide = refl; is = e; starts = starts-self (storeOf b p n); left = refl }
 
-  pub answer-refused : (c : Cause) → AnswerIs b p n (refused c) b p hs ns zs (refusing c n u)
+  pub answer-refused : (c : Cause) → AnswerIs b p n (refused c) b p ix (refusing c n u)
   unfolding outcome
   answer-refused c = same-answer (refused c) c (λ l e f. refl)
 
-  pub answer-limit : (s : Sort) → within s ≡ false → AnswerIs b p n (sort s) b p hs ns zs (refusing Limit n u)
+  pub answer-limit : (s : Sort) → within s ≡ false → AnswerIs b p n (sort s) b p ix (refusing Limit n u)
   unfolding outcome
   answer-limit s w = same-answer (sort s) Limit (λ l e f. simp w)
 
-  pub answer-full : (s : Sort) → within s ≡ true → room (length b) (length p) (intern s (storeOf b p n)) ≡ false → AnswerIs b p n (sort s) b p hs ns zs (refusing Full n u)
+  pub answer-full : (s : Sort) → within s ≡ true → room (length b) (length p) (intern s (storeOf b p n)) ≡ false → AnswerIs b p n (sort s) b p ix (refusing Full n u)
   unfolding outcome
   answer-full s w q = same-answer (sort s) Full (λ l e f. simp (w, room-of l b p (intern s (storeOf b p n)) e f ∙ q))
 
-  pub answer-made : (s : Sort) (b′ p′ hs′ ns′ zs′ : List ℕ) (k n′ u′ : ℕ) → within s ≡ true → Good b′ p′ hs′ ns′ zs′ n′ u′ → length b′ ≡ length b → length p′ ≡ length p
-      → storeOf b′ p′ n′ ≡ intern s (storeOf b p n) → k ≡ indexOf s (storeOf b′ p′ n′) → AnswerIs b p n (sort s) b′ p′ hs′ ns′ zs′ (accepting k n′ u′)
+  pub answer-made : (s : Sort) (b′ p′ ix′ : List ℕ) (k n′ u′ : ℕ) → within s ≡ true → Good b′ p′ ix′ n′ u′ → length b′ ≡ length b → length p′ ≡ length p
+      → storeOf b′ p′ n′ ≡ intern s (storeOf b p n) → k ≡ indexOf s (storeOf b′ p′ n′) → AnswerIs b p n (sort s) b′ p′ ix′ (accepting k n′ u′)
   unfolding outcome
-  answer-made s b′ p′ hs′ ns′ zs′ k n′ u′ w g′ long wide made number =
+  answer-made s b′ p′ ix′ k n′ u′ w g′ long wide made number =
       let st = storeOf b p n in
       let fits : room (length b) (length p) (intern s st) ≡ true =
-      sym (ap₂ (λ (x y : ℕ). room x y (intern s st)) long wide) ∙ ap (room (length b′) (length p′)) (sym made) ∙ good-room b′ p′ hs′ ns′ zs′ n′ u′ g′ in
+      sym (ap₂ (λ (x y : ℕ). room x y (intern s st)) long wide) ∙ ap (room (length b′) (length p′)) (sym made) ∙ good-room b′ p′ ix′ n′ u′ g′ in
       let here : k ≡ indexOf s (intern s st) = number ∙ ap (indexOf s) made in
       record {
         good = g′;
@@ -96,14 +94,14 @@ module _ (b p hs ns zs : List ℕ) (n u : ℕ) (g : Good b p hs ns zs n u) where
         left = omega (arith, here, index-found (intern s st) s (memb-intern s st) .0, ap length made);
       }
 
-  pub answer-known : (k : ℕ) → k < n → AnswerIs b p n (sort (sortAt b p n k)) b p hs ns zs (accepting k n u)
+  pub answer-known : (k : ℕ) → k < n → AnswerIs b p n (sort (sortAt b p n k)) b p ix (accepting k n u)
   unfolding sortAt
   answer-known k l =
       let st = storeOf b p n in
       let o : k < length st = omega (arith, storeOf-length b p n) in
-      answer-made (sortAt b p n k) b p hs ns zs k n u (within-at b p hs ns zs n u g k l) g refl refl
+      answer-made (sortAt b p n k) b p ix k n u (within-at b p ix n u g k l) g refl refl
       (sym (intern-known (sortAt b p n k) st (store-ordered b p n (g .stored)) (memb-at st leaf k o)))
-      (sym (index-at st (good-once b p hs ns zs n u g) k o))
+      (sym (index-at st (good-once b p ix n u g) k o))
 
   -- A RECORD'S SORT, interned or without room.
   module _ (r : List ℕ) (fresh : Fresh r n) where
@@ -114,15 +112,15 @@ module _ (b p hs ns zs : List ℕ) (n u : ℕ) (g : Good b p hs ns zs n u) where
         intern-parts (sortOf st f) st (store-ordered b p n (g .stored))
         (sort-parts st f (fresh .shape) (λ j l. omega (arith, fresh .below j l, storeOf-length b p n)))
 
-    pub record-made : (b′ p′ hs′ ns′ zs′ : List ℕ) (k n′ u′ : ℕ) → within (sortOf (storeOf b p n) (fieldsAt r 0)) ≡ true → Holds b p n u r b′ p′ hs′ ns′ zs′ k n′ u′
-        → AnswerIs b p n (sort (sortOf (storeOf b p n) (fieldsAt r 0))) b′ p′ hs′ ns′ zs′ (accepting k n′ u′)
-    record-made b′ p′ hs′ ns′ zs′ k n′ u′ w h =
-        answer-made (sortOf (storeOf b p n) (fieldsAt r 0)) b′ p′ hs′ ns′ zs′ k n′ u′ w (h .good) (h .kept .long) (h .kept .wide)
-        (holds-intern b p n u r b′ p′ hs′ ns′ zs′ k n′ u′ h (g .stored) fresh) (h .number)
+    pub record-made : (b′ p′ ix′ : List ℕ) (k n′ u′ : ℕ) → within (sortOf (storeOf b p n) (fieldsAt r 0)) ≡ true → Holds b p n u r b′ p′ ix′ k n′ u′
+        → AnswerIs b p n (sort (sortOf (storeOf b p n) (fieldsAt r 0))) b′ p′ ix′ (accepting k n′ u′)
+    record-made b′ p′ ix′ k n′ u′ w h =
+        answer-made (sortOf (storeOf b p n) (fieldsAt r 0)) b′ p′ ix′ k n′ u′ w (h .good) (h .kept .long) (h .kept .wide)
+        (holds-intern b p n u r b′ p′ ix′ k n′ u′ h (g .stored) fresh) (h .number)
 
     -- No room for a record's sort is no room for a sort that is made of it.
     pub record-full : (s : Sort) → Starts (intern (sortOf (storeOf b p n) (fieldsAt r 0)) (storeOf b p n)) (intern s (storeOf b p n)) → within s ≡ true
-        → room (length b) (length p) (addOnce (storeOf b p n) (sortOf (storeOf b p n) (fieldsAt r 0))) ≡ false → AnswerIs b p n (sort s) b p hs ns zs (refusing Full n u)
+        → room (length b) (length p) (addOnce (storeOf b p n) (sortOf (storeOf b p n) (fieldsAt r 0))) ≡ false → AnswerIs b p n (sort s) b p ix (refusing Full n u)
     record-full s h w q =
         let t = sortOf (storeOf b p n) (fieldsAt r 0) in
         answer-full s w (room-starts (length b) (length p) (intern t (storeOf b p n)) (intern s (storeOf b p n)) h (ap (room (length b) (length p)) record-intern ∙ q))
@@ -167,21 +165,21 @@ index-small records places s st e =
     )
 
 -- A REFUSED ANSWER LEFT ALL FIVE BUFFERS as they were, whole.
-pub record Back (b p hs ns zs : List ℕ) (n u : ℕ) (b′ p′ hs′ ns′ zs′ : List ℕ) (r : Answer) : Type 0 where
-  pub same : Untouched b p hs ns zs b′ p′ hs′ ns′ zs′
+pub record Back (b p ix : List ℕ) (n u : ℕ) (b′ p′ ix′ : List ℕ) (r : Answer) : Type 0 where
+  pub same : Untouched b p ix b′ p′ ix′
   pub count : r .count ≡ n
   pub used : r .used ≡ u
 
-module _ (b p : List ℕ) (n : ℕ) (v : Verdict) (b′ p′ hs′ ns′ zs′ : List ℕ) (r : Answer) (a : AnswerIs b p n v b′ p′ hs′ ns′ zs′ r) where
-  pub answer-back : (hs ns zs : List ℕ) (u : ℕ) → Good b p hs ns zs n u → (c : Cause) → r .verdict ≡ Refused c → Back b p hs ns zs n u b′ p′ hs′ ns′ zs′ r
-  answer-back hs ns zs u g c e =
+module _ (b p : List ℕ) (n : ℕ) (v : Verdict) (b′ p′ ix′ : List ℕ) (r : Answer) (a : AnswerIs b p n v b′ p′ ix′ r) where
+  pub answer-back : (ix : List ℕ) (u : ℕ) → Good b p ix n u → (c : Cause) → r .verdict ≡ Refused c → Back b p ix n u b′ p′ ix′ r
+  answer-back ix u g c e =
       let st = storeOf b p n in
       let kept : storeOf b′ p′ (r .count) ≡ st = subst (Left st (storeOf b′ p′ (r .count))) e (a .left) in
       let q : r .count ≡ n = sym (storeOf-length b′ p′ (r .count)) ∙ ap length kept ∙ storeOf-length b p n in
       let one =
-      good-one b′ p′ hs′ ns′ zs′ b p hs ns zs n (r .used) u (subst (λ (m : ℕ). Good b′ p′ hs′ ns′ zs′ m (r .used)) q (a .good)) g
+      good-one b′ p′ ix′ b p ix n (r .used) u (subst (λ (m : ℕ). Good b′ p′ ix′ m (r .used)) q (a .good)) g
       (subst (λ (m : ℕ). storeOf b′ p′ m ≡ st) q kept) (a .long) (a .wide) in
-      record { same = (one .0, one .1, one .2, one .3, one .4); count = q; used = one .5 }
+      record { same = (one .0, one .1, one .2); count = q; used = one .3 }
 
   -- No sort is lost.
   pub answer-more : n ≤ r .count
@@ -214,7 +212,7 @@ module _ (b p : List ℕ) (n : ℕ) (v : Verdict) (b′ p′ hs′ ns′ zs′ :
       go (Refused c) e = small c
 
 -- AN ACCEPTED ANSWER passed both tests.
-module _ (b p : List ℕ) (n : ℕ) (s : Sort) (b′ p′ hs′ ns′ zs′ : List ℕ) (r : Answer) (a : AnswerIs b p n (sort s) b′ p′ hs′ ns′ zs′ r) where
+module _ (b p : List ℕ) (n : ℕ) (s : Sort) (b′ p′ ix′ : List ℕ) (r : Answer) (a : AnswerIs b p n (sort s) b′ p′ ix′ r) where
   passed : (k : ℕ) → r .verdict ≡ Number k
       → Passed (within s) (room (length b) (length p) (intern s (storeOf b p n))) (intern s (storeOf b p n)) (storeOf b′ p′ (r .count)) (indexOf s (intern s (storeOf b p n))) k
   unfolding outcome
@@ -222,16 +220,16 @@ module _ (b p : List ℕ) (n : ℕ) (s : Sort) (b′ p′ hs′ ns′ zs′ : Li
       let st = storeOf b p n in
       by-accepted (lent b p) st s (within s) (room (length b) (length p) (intern s st)) (storeOf b′ p′ (r .count)) k
       (a .is (lent b p) refl refl ∙ ap (λ (v : RowVerdict). record { store = storeOf b′ p′ (r .count); code = codeOf v }) e)
-      (omega (arith, answer-number b p n (sort s) b′ p′ hs′ ns′ zs′ r a k e .1))
+      (omega (arith, answer-number b p n (sort s) b′ p′ ix′ r a k e .1))
 
 ---------------------------------------------------------------- over a store that was grown on the way to the answer
 module _ (b p : List ℕ) (n : ℕ) (c q : List ℕ) (m : ℕ) (s : Sort) (same : intern s (storeOf b p n) ≡ intern s (storeOf c q m)) (starts : Starts (storeOf b p n) (storeOf c q m))
-    (long : length c ≡ length b) (wide : length q ≡ length p) (b′ p′ hs′ ns′ zs′ : List ℕ) (r : Answer) (a : AnswerIs c q m (sort s) b′ p′ hs′ ns′ zs′ r) where
+    (long : length c ≡ length b) (wide : length q ≡ length p) (b′ p′ ix′ : List ℕ) (r : Answer) (a : AnswerIs c q m (sort s) b′ p′ ix′ r) where
   -- Accepted there, it is accepted from the first store on.
-  pub grown-accepted : (k : ℕ) → r .verdict ≡ Number k → AnswerIs b p n (sort s) b′ p′ hs′ ns′ zs′ r
+  pub grown-accepted : (k : ℕ) → r .verdict ≡ Number k → AnswerIs b p n (sort s) b′ p′ ix′ r
   unfolding outcome
   grown-accepted k e =
-      let t = passed c q m s b′ p′ hs′ ns′ zs′ r a k e in
+      let t = passed c q m s b′ p′ ix′ r a k e in
       let fits : room (length b) (length p) (intern s (storeOf b p n)) ≡ true =
       ap (room (length b) (length p)) same ∙ sym (ap₂ (λ (x y : ℕ). room x y (intern s (storeOf c q m))) long wide) ∙ t .fits in
       record {
@@ -249,19 +247,19 @@ module _ (b p : List ℕ) (n : ℕ) (c q : List ℕ) (m : ℕ) (s : Sort) (same 
       }
 
   -- Refused there, it is refused from the first store on.
-  pub grown-refused : (x : Cause) → r .verdict ≡ Refused x → (hs ns zs : List ℕ) (u : ℕ) → Good b p hs ns zs n u → AnswerIs b p n (sort s) b p hs ns zs (refusing x n u)
+  pub grown-refused : (x : Cause) → r .verdict ≡ Refused x → (ix : List ℕ) (u : ℕ) → Good b p ix n u → AnswerIs b p n (sort s) b p ix (refusing x n u)
   unfolding outcome
-  grown-refused x e hs ns zs u g =
-      same-answer b p hs ns zs n u g (sort s) x (λ l y z.
+  grown-refused x e ix u g =
+      same-answer b p ix n u g (sort s) x (λ l y z.
       ap (λ (st : List Sort). answered l (storeOf b p n) s (within s) (room (l .records) (l .places) st)) same
       ∙ by-refused l (storeOf c q m) s (within s) (room (l .records) (l .places) (intern s (storeOf c q m))) (storeOf b′ p′ (r .count)) x
       (a .is l (y ∙ sym long) (z ∙ sym wide) ∙ ap (λ (v : RowVerdict). record { store = storeOf b′ p′ (r .count); code = codeOf v }) e)
       (index-small (l .records) (l .places) s (storeOf c q m)) (storeOf b p n))
 
 -- UNDOING gives back the store that the present one was grown from, whole.
-pub undone : (b p hs ns zs : List ℕ) (n u : ℕ) → Good b p hs ns zs n u → (c q : List ℕ) (m : ℕ) → Starts (storeOf b p n) (storeOf c q m) → length c ≡ length b → length q ≡ length p
-    → (b′ p′ hs′ ns′ zs′ : List ℕ) (u′ : ℕ) → UndoIs c q m b′ p′ hs′ ns′ zs′ n u′ → Untouched b p hs ns zs b′ p′ hs′ ns′ zs′
-undone b p hs ns zs n u g c q m starts long wide b′ p′ hs′ ns′ zs′ u′ h =
+pub undone : (b p ix : List ℕ) (n u : ℕ) → Good b p ix n u → (c q : List ℕ) (m : ℕ) → Starts (storeOf b p n) (storeOf c q m) → length c ≡ length b → length q ≡ length p
+    → (b′ p′ ix′ : List ℕ) (u′ : ℕ) → UndoIs c q m b′ p′ ix′ n u′ → Untouched b p ix b′ p′ ix′
+undone b p ix n u g c q m starts long wide b′ p′ ix′ u′ h =
     let e =
-    h .same b p hs ns zs u g (sym (ap (take n) (starts .1) ∙ take-at (storeOf b p n) (starts .0) n (storeOf-length b p n))) (sym long) (sym wide) in
-    (e .0, e .1, e .2, e .3, e .4)
+    h .same b p ix u g (sym (ap (take n) (starts .1) ∙ take-at (storeOf b p n) (starts .0) n (storeOf-length b p n))) (sym long) (sym wide) in
+    (e .0, e .1, e .2)

@@ -10,11 +10,11 @@ use Rattle.answers.specs.Answer.{refusing}
 use Rattle.answers.specs.AnswerLaws.{judged-as, answered-as, answer-refused}
 use Rattle.application.specs.Contract.{AppIs}
 
-pub app-refused : (b p hs ns zs : List ℕ) (n u : ℕ) (prm imgs bnd : List ℕ) → Good b p hs ns zs n u → (v : Verdict) (o : Cause) → v ≡ refused o → (r : Answer) → r ≡ refusing o n u
-    → AppIs v b p n prm imgs bnd b p hs ns zs prm imgs bnd r
-app-refused b p hs ns zs n u prm imgs bnd good v o e r g =
-    record { answer = judged-as e (answered-as g (answer-refused b p hs ns zs n u good o)); params = refl; images = refl; bound = refl }
+pub app-refused : (b p ix : List ℕ) (n u : ℕ) (prm imgs bnd : List ℕ) → Good b p ix n u → (v : Verdict) (o : Cause) → v ≡ refused o → (r : Answer) → r ≡ refusing o n u
+    → AppIs v b p n prm imgs bnd b p ix prm imgs bnd r
+app-refused b p ix n u prm imgs bnd good v o e r g =
+    record { answer = judged-as e (answered-as g (answer-refused b p ix n u good o)); params = refl; images = refl; bound = refl }
 
-pub app-as : {b p : List ℕ} {n : ℕ} {prm imgs bnd b′ p′ hs′ ns′ zs′ prm′ imgs′ bnd′ : List ℕ} {r : Answer} {v w : Verdict} → v ≡ w
-    → AppIs w b p n prm imgs bnd b′ p′ hs′ ns′ zs′ prm′ imgs′ bnd′ r → AppIs v b p n prm imgs bnd b′ p′ hs′ ns′ zs′ prm′ imgs′ bnd′ r
+pub app-as : {b p : List ℕ} {n : ℕ} {prm imgs bnd b′ p′ ix′ prm′ imgs′ bnd′ : List ℕ} {r : Answer} {v w : Verdict} → v ≡ w
+    → AppIs w b p n prm imgs bnd b′ p′ ix′ prm′ imgs′ bnd′ r → AppIs v b p n prm imgs bnd b′ p′ ix′ prm′ imgs′ bnd′ r
 app-as e g = record { answer = judged-as e (g .answer); params = g .params; images = g .images; bound = g .bound }

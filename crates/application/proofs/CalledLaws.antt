@@ -160,15 +160,15 @@ module _ (b p : List ℕ) (n : ℕ) (prm imgs bnd : List ℕ) (x m y q : ℕ) (a
         }
 
 ---------------------------------------------------------------- what remains, delivered
-module _ (b p hs ns zs : List ℕ) (n u : ℕ) (prm imgs bnd : List ℕ) (x m y q : ℕ) (a : List ℕ) (k : ℕ) where
-  module _ (h : DeliverAsks b p hs ns zs n u prm imgs bnd x m y q a k) where
+module _ (b p ix : List ℕ) (n u : ℕ) (prm imgs bnd : List ℕ) (x m y q : ℕ) (a : List ℕ) (k : ℕ) where
+  module _ (h : DeliverAsks b p ix n u prm imgs bnd x m y q a k) where
     pub fitted-asks : FittedAsks b p n prm imgs bnd x m y q a k
     fitted-asks =
         let c = h .called in
         record {
           fit =
               record {
-                usable = good-usable b p hs ns zs n u (c .good);
+                usable = good-usable b p ix n u (c .good);
                 table = h .blank .table;
                 cleared = h .blank .cleared;
                 list = c .list;
@@ -181,7 +181,7 @@ module _ (b p hs ns zs : List ℕ) (n u : ℕ) (prm imgs bnd : List ℕ) (x m y 
         }
 
     -- Over tables that bind some names.
-    pub rest-asks : (l d : List ℕ) (c : ℕ) → Mapped b p n l d c → RestAsks b p hs ns zs n u l (x + 2 * k) (m - k)
+    pub rest-asks : (l d : List ℕ) (c : ℕ) → Mapped b p n l d c → RestAsks b p ix n u l (x + 2 * k) (m - k)
     rest-asks l d c w =
         let r = refs-behind b x m n k (h .called .list) (h .fewer) in
         record {
@@ -199,9 +199,9 @@ module _ (b p hs ns zs : List ℕ) (n u : ℕ) (prm imgs bnd : List ℕ) (x m y 
       verdict = deliveredAt (listedIn (numbersAt b y q)) b p n x m a k
 
       module _ (l′ d′ : List ℕ) (z : Cleared l′ d′) where
-        pub delivered-made : (j : ℕ) → c ≡ Settled j → (b′ p′ hs′ ns′ zs′ : List ℕ) (r : Answer) → RestIs b p n l (x + 2 * k) (m - k) b′ p′ hs′ ns′ zs′ r
-            → AppIs verdict b p n prm imgs bnd b′ p′ hs′ ns′ zs′ prm′ l′ d′ r
-        delivered-made j e b′ p′ hs′ ns′ zs′ r g =
+        pub delivered-made : (j : ℕ) → c ≡ Settled j → (b′ p′ ix′ : List ℕ) (r : Answer) → RestIs b p n l (x + 2 * k) (m - k) b′ p′ ix′ r
+            → AppIs verdict b p n prm imgs bnd b′ p′ ix′ prm′ l′ d′ r
+        delivered-made j e b′ p′ ix′ r g =
             record {
               answer =
                   judged-as (w .verdict ∙ ap (callOf (storeOf b p n) l d (restAt b p n x m k)) e)
@@ -212,23 +212,23 @@ module _ (b p hs ns zs : List ℕ) (n u : ℕ) (prm imgs bnd : List ℕ) (x m y 
             }
 
         delivered-refused : (o : Cause) → callOf (storeOf b p n) l d (restAt b p n x m k) c ≡ refused o → (r : Answer) → r ≡ refusing o n u
-            → AppIs verdict b p n prm imgs bnd b p hs ns zs prm′ l′ d′ r
+            → AppIs verdict b p n prm imgs bnd b p ix prm′ l′ d′ r
         delivered-refused o e r g =
             record {
-              answer = judged-as (w .verdict ∙ e) (answered-as g (answer-refused b p hs ns zs n u (h .called .good) o));
+              answer = judged-as (w .verdict ∙ e) (answered-as g (answer-refused b p ix n u (h .called .good) o));
               params = w .params;
               images = cleared-images imgs bnd l′ d′ (h .blank .cleared) z;
               bound = cleared-bound imgs bnd l′ d′ (h .blank .cleared) z;
             }
 
-        pub delivered-unsettled : (j : ℕ) → c ≡ Unsettled j → (r : Answer) → r ≡ refusing Unassigned n u → AppIs verdict b p n prm imgs bnd b p hs ns zs prm′ l′ d′ r
+        pub delivered-unsettled : (j : ℕ) → c ≡ Unsettled j → (r : Answer) → r ≡ refusing Unassigned n u → AppIs verdict b p n prm imgs bnd b p ix prm′ l′ d′ r
         delivered-unsettled j e = delivered-refused Unassigned (ap (callOf (storeOf b p n) l d (restAt b p n x m k)) e)
 
-        pub delivered-fails : (j : ℕ) → c ≡ Fails j → (r : Answer) → r ≡ refusing Misfit n u → AppIs verdict b p n prm imgs bnd b p hs ns zs prm′ l′ d′ r
+        pub delivered-fails : (j : ℕ) → c ≡ Fails j → (r : Answer) → r ≡ refusing Misfit n u → AppIs verdict b p n prm imgs bnd b p ix prm′ l′ d′ r
         delivered-fails j e = delivered-refused Misfit (ap (callOf (storeOf b p n) l d (restAt b p n x m k)) e)
 
   ---------------------------------------------------------------- a head at its arguments
-  module _ (h : CalledAsks b p hs ns zs n u prm imgs bnd x m y q a k) where
+  module _ (h : CalledAsks b p ix n u prm imgs bnd x m y q a k) where
     pub values-ask : ValuesAsk b p a 5 k
     values-ask = record { many = n; stored = h .good .stored; refs = h .args }
 
@@ -238,12 +238,12 @@ module _ (b p hs ns zs : List ℕ) (n u : ℕ) (prm imgs bnd : List ℕ) (x m y 
     abbrev verdictOf : Verdict
     verdictOf = called f (some (sortsAt b p n b x m)) (sortsAt b p n a 5 k)
 
-    pub called-count : m ≤ k → (r : Answer) → r ≡ refusing Count n u → AppIs verdictOf b p n prm imgs bnd b p hs ns zs prm imgs bnd r
-    called-count l = app-refused b p hs ns zs n u prm imgs bnd (h .good) verdictOf Count (called-over b p n x m a k f l)
+    pub called-count : m ≤ k → (r : Answer) → r ≡ refusing Count n u → AppIs verdictOf b p n prm imgs bnd b p ix prm imgs bnd r
+    called-count l = app-refused b p ix n u prm imgs bnd (h .good) verdictOf Count (called-over b p n x m a k f l)
 
     module _ (l : k < m) where
       -- Without parameters.
-      pub plain-asks : PlainAsks b p hs ns zs n u x m a k
+      pub plain-asks : PlainAsks b p ix n u x m a k
       plain-asks = record { good = h .good; list = h .list; few = h .few; args = h .args; fewer = l }
 
       plain-names : (i : ℕ) → i ≡ 0 → Plain (listedIn (numbersAt b y i))
@@ -251,12 +251,12 @@ module _ (b p hs ns zs : List ℕ) (n u : ℕ) (prm imgs bnd : List ℕ) (x m y 
       plain-names zero e v = refl
       plain-names (suc i) e v = absurd (omega arith)
 
-      pub called-plain : q ≡ 0 → (b′ p′ hs′ ns′ zs′ : List ℕ) (r : Answer) → PlainIs b p n x m a k b′ p′ hs′ ns′ zs′ r
-          → AppIs verdictOf b p n prm imgs bnd b′ p′ hs′ ns′ zs′ prm imgs bnd r
-      called-plain e b′ p′ hs′ ns′ zs′ r g = record { answer = g f (plain-names q e); params = refl; images = refl; bound = refl }
+      pub called-plain : q ≡ 0 → (b′ p′ ix′ : List ℕ) (r : Answer) → PlainIs b p n x m a k b′ p′ ix′ r
+          → AppIs verdictOf b p n prm imgs bnd b′ p′ ix′ prm imgs bnd r
+      called-plain e b′ p′ ix′ r g = record { answer = g f (plain-names q e); params = refl; images = refl; bound = refl }
 
       -- With parameters, by whether an argument is a Par.
-      pub lent-asks : LentAsks b p hs ns zs n u prm imgs bnd x m y q a k
+      pub lent-asks : LentAsks b p ix n u prm imgs bnd x m y q a k
       lent-asks = record { called = h; fewer = omega arith }
 
       module _ (t : Bool) (v : ValuesHave b p a 5 k t) where
@@ -264,13 +264,13 @@ module _ (b p hs ns zs : List ℕ) (n u : ℕ) (prm imgs bnd : List ℕ) (x m y 
         by-values =
             called-under b p n x m a k f l ∙ ap (λ (z : Bool). need z Misfit (deliveredAt f b p n x m a k)) (sym (v n (h .good .stored) (h .args)))
 
-        pub called-misfit : t ≡ false → (r : Answer) → r ≡ refusing Misfit n u → AppIs verdictOf b p n prm imgs bnd b p hs ns zs prm imgs bnd r
+        pub called-misfit : t ≡ false → (r : Answer) → r ≡ refusing Misfit n u → AppIs verdictOf b p n prm imgs bnd b p ix prm imgs bnd r
         called-misfit e =
-            app-refused b p hs ns zs n u prm imgs bnd (h .good) verdictOf Misfit
+            app-refused b p ix n u prm imgs bnd (h .good) verdictOf Misfit
             (by-values ∙ ap (λ (z : Bool). need z Misfit (deliveredAt f b p n x m a k)) e)
 
-        pub called-delivered : t ≡ true → (b′ p′ hs′ ns′ zs′ prm′ l′ d′ : List ℕ) (r : Answer)
-            → AppIs (deliveredAt f b p n x m a k) b p n prm imgs bnd b′ p′ hs′ ns′ zs′ prm′ l′ d′ r
-            → AppIs verdictOf b p n prm imgs bnd b′ p′ hs′ ns′ zs′ prm′ l′ d′ r
-        called-delivered e b′ p′ hs′ ns′ zs′ prm′ l′ d′ r g =
+        pub called-delivered : t ≡ true → (b′ p′ ix′ prm′ l′ d′ : List ℕ) (r : Answer)
+            → AppIs (deliveredAt f b p n x m a k) b p n prm imgs bnd b′ p′ ix′ prm′ l′ d′ r
+            → AppIs verdictOf b p n prm imgs bnd b′ p′ ix′ prm′ l′ d′ r
+        called-delivered e b′ p′ ix′ prm′ l′ d′ r g =
             app-as (by-values ∙ ap (λ (z : Bool). need z Misfit (deliveredAt f b p n x m a k)) e) g

@@ -16,7 +16,7 @@ use Rattle.record.specs.Forms.{Which, isVar, isPar, isNode, which, sort-var, so
 use Rattle.record.specs.Cases.{and-left}
 use Rattle.record.specs.StoreLaws.{sort-node, sorts-one}
 use Rattle.record.specs.declared.SortRecord.{SortRecord}
-use Rattle.store.specs.Entry.{EntryHas}
+use Rattle.store.specs.Entry.{EntryHas, SizeHas}
 use Rattle.store.specs.Walk.{size-pos}
 use Rattle.substitution.specs.Substitution.{Map, empty}
 use Rattle.substitution.specs.SubstitutionLaws.{apply-empty}
@@ -38,17 +38,17 @@ use Rattle.application.proofs.PlainLaws.{fits-itself, fits-other, fits-
 use Rattle.application.proofs.CalledLaws.{called-under}
 
 ---------------------------------------------------------------- no Par along a list
-module _ (b p zs : List ℕ) (n x m : ℕ) where
+module _ (b p ix : List ℕ) (n x m : ℕ) where
   pub parless-none : m ≡ 0 → true ≡ parlessAll (sortsAt b p n b x m)
   unfolding parless
   parless-none e = sym (ap parlessAll (sorts-end b p n b x m e))
 
-  module _ (a : ParlessAllAsks b p zs n x m) (more : 0 < m) where
-    pub first-asks : ParlessAsks b p zs n (u16At b x)
-    first-asks = record { one = record { usable = a .list .usable; known = refs-first b x m n more (a .list .refs) }; sized = a .sized }
+  module _ (a : ParlessAllAsks b p ix n x m) (more : 0 < m) where
+    pub first-asks : ParlessAsks b p ix n (u16At b x)
+    first-asks = record { one = record { usable = a .list .usable; known = refs-first b x m n more (a .list .refs) }; sized = a .sized; index = a .index }
 
-    pub rest-asks : ParlessAllAsks b p zs n (x + 2) (m - 1)
-    rest-asks = record { list = record { usable = a .list .usable; refs = refs-rest b x m n more (a .list .refs) }; sized = a .sized }
+    pub rest-asks : ParlessAllAsks b p ix n (x + 2) (m - 1)
+    rest-asks = record { list = record { usable = a .list .usable; refs = refs-rest b x m n more (a .list .refs) }; sized = a .sized; index = a .index }
 
   module _ (more : 0 < m) (k : ℕ) (e : k ≡ u16At b x) (s : Bool) (h : s ≡ parless (sortAt b p n k)) where
     pub parless-more : s ≡ true → (r : Bool) → r ≡ parlessAll (sortsAt b p n b (x + 2) (m - 1)) → r ≡ parlessAll (sortsAt b p n b x m)
@@ -74,16 +74,17 @@ split (var v) d = refl
 split (par us c) d = absurd (d refl)
 split (node i c w ss) d = refl
 
-module _ (b p zs : List ℕ) (n k : ℕ) (a : ParlessAsks b p zs n k) where
-  pub parless-leaf : getD zs k 0 ≡ 1 → true ≡ parless (sortAt b p n k)
-  parless-leaf e = small-parless (sortAt b p n k) (sym (a .sized .each k (a .one .known)) ∙ e)
+module _ (b p ix : List ℕ) (n k : ℕ) (a : ParlessAsks b p ix n k) where
+  pub parless-leaf : (v : ℕ) → SizeHas ix k v → v ≡ 1 → true ≡ parless (sortAt b p n k)
+  parless-leaf v h e = small-parless (sortAt b p n k) (sym (h b p n (a .sized) (a .one .known)) ∙ e)
 
   module _ (r : SortRecord) (e : EntryHas b p k r) where
-    pub parts-ask : ParlessAllAsks b p zs n (r .list) (r .count)
+    pub parts-ask : ParlessAllAsks b p ix n (r .list) (r .count)
     parts-ask =
         record {
           list = record { usable = a .one .usable; refs = entry-refs b p n k (a .one .usable) (a .one .known) r e };
           sized = a .sized;
+          index = a .index;
         }
 
     pub parless-par : r .kind ≡ 12 → false ≡ parless (sortAt b p n k)
@@ -102,8 +103,8 @@ pub record ExactScan (b p : List ℕ) (n x : ℕ) (a : List ℕ) (k y w j : ℕ)
   pub rest : (f : ℕ → Bool) → Plain f
       → matchesAll f (sortsAt b p n b y j) (sortsAt b p n a w j) empty ≡ matchesAll f (sortsAt b p n b x k) (sortsAt b p n a 5 k) empty
 
-pub exact-start : (b p zs : List ℕ) (n x : ℕ) (a : List ℕ) (k : ℕ) → ExactAsks b p zs n x a k → ExactScan b p n x a k x 5 k
-exact-start b p zs n x a k h = record { pairs = h .pairs; rest = λ f q. refl }
+pub exact-start : (b p ix : List ℕ) (n x : ℕ) (a : List ℕ) (k : ℕ) → ExactAsks b p ix n x a k → ExactScan b p n x a k x 5 k
+exact-start b p ix n x a k h = record { pairs = h .pairs; rest = λ f q. refl }
 
 module _ (b p : List ℕ) (n x : ℕ) (a : List ℕ) (k y w j : ℕ) (h : ExactScan b p n x a k y w j) where
   pub exact-end : j ≤ 0 → ExactIs b p n x a k true
@@ -200,20 +201,21 @@ misfit-either : (t : Bool) → need t Misfit (refused Misfit) ≡ refused Misfit
 misfit-either true = refl
 misfit-either false = refl
 
-module _ (b p hs ns zs : List ℕ) (n u x m : ℕ) (a : List ℕ) (k : ℕ) (h : PlainAsks b p hs ns zs n u x m a k) where
-  pub exact-asks : ExactAsks b p zs n x a k
+module _ (b p ix : List ℕ) (n u x m : ℕ) (a : List ℕ) (k : ℕ) (h : PlainAsks b p ix n u x m a k) where
+  pub exact-asks : ExactAsks b p ix n x a k
   exact-asks =
       record {
         pairs =
             record {
-              usable = good-usable b p hs ns zs n u (h .good);
+              usable = good-usable b p ix n u (h .good);
               left = refs-part b x m n k (h .list) (omega (arith, h .fewer));
               right = h .args;
             };
         sized = h .good .sized;
+        index = h .good .indexed .table;
       }
 
-  pub remaining-asks : (rec : List ℕ) → length rec ≡ 131 → RemainingAsks b p hs ns zs n u rec (x + 2 * k) (m - k)
+  pub remaining-asks : (rec : List ℕ) → length rec ≡ 131 → RemainingAsks b p ix n u rec (x + 2 * k) (m - k)
   remaining-asks rec e =
       let r = refs-behind b x m n k (h .list) (omega (arith, h .fewer)) in
       record { good = h .good; room = omega arith; within = r .within; below = r .below; few = omega (arith, h .few) }
@@ -242,10 +244,10 @@ module _ (b p hs ns zs : List ℕ) (n u x m : ℕ) (a : List ℕ) (k : ℕ) (h :
         ∙ ap (λ (v : Verdict). need (values ts) Misfit v) (ap (delivered f (restAt b p n x m k)) (e f q)) ∙ misfit-either (values ts)
 
   module _ (t : Bool) (e : ExactIs b p n x a k t) where
-    pub plain-made : t ≡ true → (b′ p′ hs′ ns′ zs′ : List ℕ) (r : Answer) → AnswerIs b p n (sort (restAt b p n x m k)) b′ p′ hs′ ns′ zs′ r
-        → PlainIs b p n x m a k b′ p′ hs′ ns′ zs′ r
-    plain-made z b′ p′ hs′ ns′ zs′ r g f q = judged-as (called-exact f q (subst (ExactIs b p n x a k) z e)) g
+    pub plain-made : t ≡ true → (b′ p′ ix′ : List ℕ) (r : Answer) → AnswerIs b p n (sort (restAt b p n x m k)) b′ p′ ix′ r
+        → PlainIs b p n x m a k b′ p′ ix′ r
+    plain-made z b′ p′ ix′ r g f q = judged-as (called-exact f q (subst (ExactIs b p n x a k) z e)) g
 
-    pub plain-refused : t ≡ false → (r : Answer) → r ≡ refusing Misfit n u → PlainIs b p n x m a k b p hs ns zs r
+    pub plain-refused : t ≡ false → (r : Answer) → r ≡ refusing Misfit n u → PlainIs b p n x m a k b p ix r
     plain-refused z r g f q =
-        judged-as (called-other f q (subst (ExactIs b p n x a k) z e)) (answered-as g (answer-refused b p hs ns zs n u (h .good) Misfit))
+        judged-as (called-other f q (subst (ExactIs b p n x a k) z e)) (answered-as g (answer-refused b p ix n u (h .good) Misfit))

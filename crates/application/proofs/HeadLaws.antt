@@ -115,7 +115,7 @@ over-sizes [] ss = refl
 over-sizes (v ∷ vs) ss = refl
 
 ---------------------------------------------------------------- an App
-module _ (b p hs ns zs : List ℕ) (n u : ℕ) (prm imgs bnd a : List ℕ) (m : ℕ) (h : AppAsks b p hs ns zs n u prm imgs bnd a m) where
+module _ (b p ix : List ℕ) (n u : ℕ) (prm imgs bnd a : List ℕ) (m : ℕ) (h : AppAsks b p ix n u prm imgs bnd a m) where
   pub app-count : m < 2 → application (sortsAt b p n a 3 m) ≡ refused Count
   unfolding application
   app-count l = go m l
@@ -173,7 +173,7 @@ module _ (b p hs ns zs : List ℕ) (n u : ℕ) (prm imgs bnd a : List ℕ) (m : 
         refs : Refs b x c n
         refs = record { within = function .list; below = λ j l. omega (arith, function .below j l, known) }
 
-        pub called-asks : CalledAsks b p hs ns zs n u prm imgs bnd x c y q a (m - 1)
+        pub called-asks : CalledAsks b p ix n u prm imgs bnd x c y q a (m - 1)
         called-asks =
             record {
               good = h .good;
@@ -208,7 +208,7 @@ module _ (b p hs ns zs : List ℕ) (n u : ℕ) (prm imgs bnd a : List ℕ) (m : 
         applied-many l = by-head ∙ over-many (numbersAt b y q) l
 
         module _ (l : m - 1 ≤ c) where
-          pub remaining-asks : RemainingAsks b p hs ns zs n u a (x + 2 * (m - 1)) (c - (m - 1))
+          pub remaining-asks : RemainingAsks b p ix n u a (x + 2 * (m - 1)) (c - (m - 1))
           remaining-asks =
               let behind = refs-behind b x c n (m - 1) refs l in
               record {
@@ -226,7 +226,7 @@ module _ (b p hs ns zs : List ℕ) (n u : ℕ) (prm imgs bnd a : List ℕ) (m : 
               ∙ ap (λ (t : Bool). need t Panics (sort (remaining (others ss ts)))) (le-leb (m - 1) c l)
               ∙ ap (λ (o : Sorts). sort (remaining o)) (others-at (storeOf b p n) b x c a 5 (m - 1) l)
 
-          pub parametric-asks : LentParametricAsks b p hs ns zs n u prm imgs bnd x c y q a (m - 1)
+          pub parametric-asks : LentParametricAsks b p ix n u prm imgs bnd x c y q a (m - 1)
           parametric-asks =
               record {
                 lent = record { called = called-asks; fewer = l };

@@ -67,27 +67,27 @@ pub turns-less : (x y z t : ℕ) → turns (full x y z) ≡ t → full x y z ≡
 turns-less x y z t e f = omega (arith, sym e ∙ ap turns f, ap turns own-full)
 
 ---------------------------------------------------------------- what is asked
-module _ (b p hs ns zs : List ℕ) (n u : ℕ) (prm imgs bnd : List ℕ) (x m y q : ℕ) (a : List ℕ) (k : ℕ) where
-  called-over : CalledAsks b p hs ns zs n u prm imgs bnd x m y q a k → (prm′ imgs′ bnd′ : List ℕ) → Zeroed prm′ imgs′ bnd′
-      → CalledAsks b p hs ns zs n u prm′ imgs′ bnd′ x m y q a k
+module _ (b p ix : List ℕ) (n u : ℕ) (prm imgs bnd : List ℕ) (x m y q : ℕ) (a : List ℕ) (k : ℕ) where
+  called-over : CalledAsks b p ix n u prm imgs bnd x m y q a k → (prm′ imgs′ bnd′ : List ℕ) → Zeroed prm′ imgs′ bnd′
+      → CalledAsks b p ix n u prm′ imgs′ bnd′ x m y q a k
   called-over h prm′ imgs′ bnd′ z =
       record { good = h .good; zeroed = z; list = h .list; few = h .few; names = h .names; named = h .named; args = h .args }
 
-  module _ (h : LentAsks b p hs ns zs n u prm imgs bnd x m y q a k) where
-    pub deliver-asks : full (length prm) (length imgs) (length bnd) ≡ true → DeliverAsks b p hs ns zs n u prm imgs bnd x m y q a k
+  module _ (h : LentAsks b p ix n u prm imgs bnd x m y q a k) where
+    pub deliver-asks : full (length prm) (length imgs) (length bnd) ≡ true → DeliverAsks b p ix n u prm imgs bnd x m y q a k
     deliver-asks e = record { called = h .called; fewer = h .fewer; blank = full-blank prm imgs bnd (h .called .zeroed) e }
 
-    pub lent-own : LentAsks b p hs ns zs n u own-names own-names own-bound x m y q a k
+    pub lent-own : LentAsks b p ix n u own-names own-names own-bound x m y q a k
     lent-own = record { called = called-over (h .called) own-names own-names own-bound own-zeroed; fewer = h .fewer }
 
-  module _ (h : LentParametricAsks b p hs ns zs n u prm imgs bnd x m y q a k) where
-    pub parametric-full : full (length prm) (length imgs) (length bnd) ≡ true → ParametricAsks b p hs ns zs n u prm imgs bnd x m y q a k
+  module _ (h : LentParametricAsks b p ix n u prm imgs bnd x m y q a k) where
+    pub parametric-full : full (length prm) (length imgs) (length bnd) ≡ true → ParametricAsks b p ix n u prm imgs bnd x m y q a k
     parametric-full e = record { deliver = deliver-asks (h .lent) e; small = h .small }
 
-    pub parametric-own : LentParametricAsks b p hs ns zs n u own-names own-names own-bound x m y q a k
+    pub parametric-own : LentParametricAsks b p ix n u own-names own-names own-bound x m y q a k
     parametric-own = record { lent = lent-own (h .lent); small = h .small }
 
 -- AN ANSWER OVER OTHER TABLES is one over these, which stay as they were.
-pub app-own : {v : Verdict} {b p : List ℕ} {n : ℕ} {prm imgs bnd prm₁ imgs₁ bnd₁ b′ p′ hs′ ns′ zs′ prm₂ imgs₂ bnd₂ : List ℕ} {r : Answer}
-    → AppIs v b p n prm₁ imgs₁ bnd₁ b′ p′ hs′ ns′ zs′ prm₂ imgs₂ bnd₂ r → AppIs v b p n prm imgs bnd b′ p′ hs′ ns′ zs′ prm imgs bnd r
+pub app-own : {v : Verdict} {b p : List ℕ} {n : ℕ} {prm imgs bnd prm₁ imgs₁ bnd₁ b′ p′ ix′ prm₂ imgs₂ bnd₂ : List ℕ} {r : Answer}
+    → AppIs v b p n prm₁ imgs₁ bnd₁ b′ p′ ix′ prm₂ imgs₂ bnd₂ r → AppIs v b p n prm imgs bnd b′ p′ ix′ prm imgs bnd r
 app-own a = record { answer = a .answer; params = refl; images = refl; bound = refl }

@@ -68,11 +68,11 @@ module _ (b p : List ℕ) (n : ℕ) (prm imgs bnd : List ℕ) (x m y q : ℕ) (a
           }
 
 ---------------------------------------------------------------- what remains, with the map applied
-module _ (b p hs ns zs : List ℕ) (n u : ℕ) (prm imgs bnd : List ℕ) (x m y q : ℕ) (a : List ℕ) (k : ℕ) (h : ParametricAsks b p hs ns zs n u prm imgs bnd x m y q a k) where
+module _ (b p ix : List ℕ) (n u : ℕ) (prm imgs bnd : List ℕ) (x m y q : ℕ) (a : List ℕ) (k : ℕ) (h : ParametricAsks b p ix n u prm imgs bnd x m y q a k) where
   pub patterns-ask : PatternsAsk b p n prm imgs bnd x m y q a k
   patterns-ask =
       record {
-        fitted = fitted-asks b p hs ns zs n u prm imgs bnd x m y q a k (h .deliver);
+        fitted = fitted-asks b p ix n u prm imgs bnd x m y q a k (h .deliver);
         small = omega (arith, sizes-first (storeOf b p n) b x m k (h .deliver .fewer), h .small);
       }
 
@@ -87,9 +87,9 @@ module _ (b p hs ns zs : List ℕ) (n u : ℕ) (prm imgs bnd : List ℕ) (x m y 
     by-found = sym (ap (λ (o : Option Map). substituted (restAt b p n x m k) o) (w .result))
 
     module _ (l′ d′ : List ℕ) (z : Cleared l′ d′) where
-      pub parametric-made : (j : ℕ) → c ≡ Fits j → (b′ p′ hs′ ns′ zs′ : List ℕ) (r : Answer) → RestIs b p n l (x + 2 * k) (m - k) b′ p′ hs′ ns′ zs′ r
-          → AppIs verdict b p n prm imgs bnd b′ p′ hs′ ns′ zs′ prm′ l′ d′ r
-      parametric-made j e b′ p′ hs′ ns′ zs′ r g =
+      pub parametric-made : (j : ℕ) → c ≡ Fits j → (b′ p′ ix′ : List ℕ) (r : Answer) → RestIs b p n l (x + 2 * k) (m - k) b′ p′ ix′ r
+          → AppIs verdict b p n prm imgs bnd b′ p′ ix′ prm′ l′ d′ r
+      parametric-made j e b′ p′ ix′ r g =
           let blank = h .deliver .blank in
           record {
             answer =
@@ -100,13 +100,13 @@ module _ (b p hs ns zs : List ℕ) (n u : ℕ) (prm imgs bnd : List ℕ) (x m y 
             bound = cleared-bound imgs bnd l′ d′ (blank .cleared) z;
           }
 
-      pub parametric-none : (j : ℕ) → c ≡ Misfits j → (r : Answer) → r ≡ refusing Panics n u → AppIs verdict b p n prm imgs bnd b p hs ns zs prm′ l′ d′ r
+      pub parametric-none : (j : ℕ) → c ≡ Misfits j → (r : Answer) → r ≡ refusing Panics n u → AppIs verdict b p n prm imgs bnd b p ix prm′ l′ d′ r
       parametric-none j e r g =
           let blank = h .deliver .blank in
           record {
             answer =
                 judged-as (by-found ∙ ap (λ (i : Matched). substituted (restAt b p n x m k) (foundBy (storeOf b p n) l d i)) e)
-                (answered-as g (answer-refused b p hs ns zs n u (h .deliver .called .good) Panics));
+                (answered-as g (answer-refused b p ix n u (h .deliver .called .good) Panics));
             params = w .params;
             images = cleared-images imgs bnd l′ d′ (blank .cleared) z;
             bound = cleared-bound imgs bnd l′ d′ (blank .cleared) z;

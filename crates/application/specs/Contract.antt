@@ -32,16 +32,16 @@ use Rattle.application.specs.declared.called.Call.the-variants.{Settled,
 
 ---------------------------------------------------------------- an App
 -- A good store, zeroed tables of names, and m numbers of its sorts in a from byte 3 on.
-pub record AppAsks (b p hs ns zs : List ℕ) (n u : ℕ) (prm imgs bnd a : List ℕ) (m : ℕ) : Type 0 where
-  pub good : Good b p hs ns zs n u
+pub record AppAsks (b p ix : List ℕ) (n u : ℕ) (prm imgs bnd a : List ℕ) (m : ℕ) : Type 0 where
+  pub good : Good b p ix n u
   pub zeroed : Zeroed prm imgs bnd
   pub few : m ≤ 64
   pub room : 259 ≤ length a
   pub below : (j : ℕ) → j < m → u16At a (3 + 2 * j) < n
 
 -- THE ANSWER TO THE VERDICT v; the tables of names are as they were, whole.
-pub record AppIs (v : Verdict) (b p : List ℕ) (n : ℕ) (prm imgs bnd b′ p′ hs′ ns′ zs′ prm′ imgs′ bnd′ : List ℕ) (r : Answer) : Type 0 where
-  pub answer : AnswerIs b p n v b′ p′ hs′ ns′ zs′ r
+pub record AppIs (v : Verdict) (b p : List ℕ) (n : ℕ) (prm imgs bnd b′ p′ ix′ prm′ imgs′ bnd′ : List ℕ) (r : Answer) : Type 0 where
+  pub answer : AnswerIs b p n v b′ p′ ix′ r
   pub params : prm′ ≡ prm
   pub images : imgs′ ≡ imgs
   pub bound : bnd′ ≡ bnd
@@ -93,8 +93,8 @@ abbrev pub restAt : List ℕ → List ℕ → ℕ → ℕ → ℕ → ℕ → So
 restAt b p n x m k = remaining (sortsAt b p n b (x + 2 * k) (m - k))
 
 -- A head with m sorts from x on and q names from y on, at k arguments.
-pub record CalledAsks (b p hs ns zs : List ℕ) (n u : ℕ) (prm imgs bnd : List ℕ) (x m y q : ℕ) (a : List ℕ) (k : ℕ) : Type 0 where
-  pub good : Good b p hs ns zs n u
+pub record CalledAsks (b p ix : List ℕ) (n u : ℕ) (prm imgs bnd : List ℕ) (x m y q : ℕ) (a : List ℕ) (k : ℕ) : Type 0 where
+  pub good : Good b p ix n u
   pub zeroed : Zeroed prm imgs bnd
   pub list : Refs b x m n
   pub few : m ≤ 64
@@ -103,8 +103,8 @@ pub record CalledAsks (b p hs ns zs : List ℕ) (n u : ℕ) (prm imgs bnd : List
   pub args : Refs a 5 k n
 
 -- At most as many arguments as its list has sorts.
-pub record LentAsks (b p hs ns zs : List ℕ) (n u : ℕ) (prm imgs bnd : List ℕ) (x m y q : ℕ) (a : List ℕ) (k : ℕ) : Type 0 where
-  pub called : CalledAsks b p hs ns zs n u prm imgs bnd x m y q a k
+pub record LentAsks (b p ix : List ℕ) (n u : ℕ) (prm imgs bnd : List ℕ) (x m y q : ℕ) (a : List ℕ) (k : ℕ) : Type 0 where
+  pub called : CalledAsks b p ix n u prm imgs bnd x m y q a k
   pub fewer : k ≤ m
 
 -- Tables of these lengths have all names.
@@ -112,8 +112,8 @@ unfoldable pub full : ℕ → ℕ → ℕ → Bool
 full x y z = eqb x 65536 && (eqb y 65536 && eqb z 4096)
 
 -- And tables of all names.
-pub record DeliverAsks (b p hs ns zs : List ℕ) (n u : ℕ) (prm imgs bnd : List ℕ) (x m y q : ℕ) (a : List ℕ) (k : ℕ) : Type 0 where
-  pub called : CalledAsks b p hs ns zs n u prm imgs bnd x m y q a k
+pub record DeliverAsks (b p ix : List ℕ) (n u : ℕ) (prm imgs bnd : List ℕ) (x m y q : ℕ) (a : List ℕ) (k : ℕ) : Type 0 where
+  pub called : CalledAsks b p ix n u prm imgs bnd x m y q a k
   pub fewer : k ≤ m
   pub blank : Blank prm imgs bnd
 
@@ -149,39 +149,42 @@ abbrev pub Plain : (ℕ → Bool) → Type 0
 Plain f = (v : ℕ) → f v ≡ false
 
 -- A sort of a store whose tree sizes the table has; m of them, in the store's own bytes from x on.
-pub record ParlessAsks (b p zs : List ℕ) (n k : ℕ) : Type 0 where
+pub record ParlessAsks (b p ix : List ℕ) (n k : ℕ) : Type 0 where
   pub one : OneAsks b p n k
-  pub sized : Sized b p zs n
+  pub sized : Sized b p ix n
+  pub index : length ix ≡ 13312
 
-pub record ParlessAllAsks (b p zs : List ℕ) (n x m : ℕ) : Type 0 where
+pub record ParlessAllAsks (b p ix : List ℕ) (n x m : ℕ) : Type 0 where
   pub list : ListAsks b p n b x m
-  pub sized : Sized b p zs n
+  pub sized : Sized b p ix n
+  pub index : length ix ≡ 13312
 
 -- What is noted of a sort: no Par stands in it.
 abbrev pub ParlessAt : List ℕ → List ℕ → ℕ → ℕ → Type 0
 ParlessAt b p n k = parless (sortAt b p n k) ≡ true
 
 -- k arguments, and as many sorts of a head's list.
-pub record ExactAsks (b p zs : List ℕ) (n x : ℕ) (a : List ℕ) (k : ℕ) : Type 0 where
+pub record ExactAsks (b p ix : List ℕ) (n x : ℕ) (a : List ℕ) (k : ℕ) : Type 0 where
   pub pairs : PairsAsk b p n b x a 5 k
-  pub sized : Sized b p zs n
+  pub sized : Sized b p ix n
+  pub index : length ix ≡ 13312
 
 -- THE ARGUMENTS FIT, AND NOTHING IS BOUND, or they do not.
 abbrev pub ExactIs : List ℕ → List ℕ → ℕ → ℕ → List ℕ → ℕ → Bool → Type 0
 ExactIs b p n x a k r = (f : ℕ → Bool) → Plain f → matchesAll f (sortsAt b p n b x k) (sortsAt b p n a 5 k) empty ≡ keep r (some empty)
 
 -- A head with m sorts from x on, at k arguments, fewer than its sorts.
-pub record PlainAsks (b p hs ns zs : List ℕ) (n u x m : ℕ) (a : List ℕ) (k : ℕ) : Type 0 where
-  pub good : Good b p hs ns zs n u
+pub record PlainAsks (b p ix : List ℕ) (n u x m : ℕ) (a : List ℕ) (k : ℕ) : Type 0 where
+  pub good : Good b p ix n u
   pub list : Refs b x m n
   pub few : m ≤ 64
   pub args : Refs a 5 k n
   pub fewer : k < m
 
 -- THE ANSWER TO THE CHECKED VERDICT.
-abbrev pub PlainIs : List ℕ → List ℕ → ℕ → ℕ → ℕ → List ℕ → ℕ → List ℕ → List ℕ → List ℕ → List ℕ → List ℕ → Answer → Type 0
-PlainIs b p n x m a k b′ p′ hs′ ns′ zs′ r =
-    (f : ℕ → Bool) → Plain f → AnswerIs b p n (called f (some (sortsAt b p n b x m)) (sortsAt b p n a 5 k)) b′ p′ hs′ ns′ zs′ r
+abbrev pub PlainIs : List ℕ → List ℕ → ℕ → ℕ → ℕ → List ℕ → ℕ → List ℕ → List ℕ → List ℕ → Answer → Type 0
+PlainIs b p n x m a k b′ p′ ix′ r =
+    (f : ℕ → Bool) → Plain f → AnswerIs b p n (called f (some (sortsAt b p n b x m)) (sortsAt b p n a 5 k)) b′ p′ ix′ r
 
 ---------------------------------------------------------------- the inferred App
 -- The sorts that are matched are together no larger than a sort of the store.
@@ -196,13 +199,13 @@ pub record PatternsAre (b p : List ℕ) (n : ℕ) (prm : List ℕ) (x y q : ℕ)
   pub result : foundBy (storeOf b p n) l d r ≡ matchAllWith (numbersAt b y q) (sortsAt b p n b x k) (sortsAt b p n a 5 k) empty
 
 -- The sorts of a Function's list are together no larger than a sort of the store.
-pub record LentParametricAsks (b p hs ns zs : List ℕ) (n u : ℕ) (prm imgs bnd : List ℕ) (x m y q : ℕ) (a : List ℕ) (k : ℕ) : Type 0 where
-  pub lent : LentAsks b p hs ns zs n u prm imgs bnd x m y q a k
+pub record LentParametricAsks (b p ix : List ℕ) (n u : ℕ) (prm imgs bnd : List ℕ) (x m y q : ℕ) (a : List ℕ) (k : ℕ) : Type 0 where
+  pub lent : LentAsks b p ix n u prm imgs bnd x m y q a k
   pub small : sizes (sortsAt b p n b x m) ≤ 4096
 
 -- And tables of all names.
-pub record ParametricAsks (b p hs ns zs : List ℕ) (n u : ℕ) (prm imgs bnd : List ℕ) (x m y q : ℕ) (a : List ℕ) (k : ℕ) : Type 0 where
-  pub deliver : DeliverAsks b p hs ns zs n u prm imgs bnd x m y q a k
+pub record ParametricAsks (b p ix : List ℕ) (n u : ℕ) (prm imgs bnd : List ℕ) (x m y q : ℕ) (a : List ℕ) (k : ℕ) : Type 0 where
+  pub deliver : DeliverAsks b p ix n u prm imgs bnd x m y q a k
   pub small : sizes (sortsAt b p n b x m) ≤ 4096
 
 -- THE VERDICT on what remains, by the map found.

@@ -112,9 +112,7 @@ pub fn fit_arguments(
 pub fn delivered(
     records: &mut [u8],
     places: &mut [u32],
-    heads: &mut [u16],
-    next: &mut [u16],
-    sizes: &mut [u16],
+    index: &mut [u16],
     count: usize,
     used: usize,
     params: &mut [u16],
@@ -127,8 +125,8 @@ pub fn delivered(
     args: &[u8],
     n: usize,
 ) -> Answer
-    requires { ⌜ DeliverAsks (now records) (now places) (now heads) (now next) (now sizes) count used (now params) (now images) (now bound) list m names named (now args) n ⌝ }
-    ensures { λ r. ⌜ AppIs (deliveredAt (listedIn (numbersAt (now (records .entry)) names named)) (now (records .entry)) (now (places .entry)) count list m (now (args .entry)) n) (now (records .entry)) (now (places .entry)) count (now (params .entry)) (now (images .entry)) (now (bound .entry)) (now (records .exit)) (now (places .exit)) (now (heads .exit)) (now (next .exit)) (now (sizes .exit)) (now (params .exit)) (now (images .exit)) (now (bound .exit)) r ⌝ }
+    requires { ⌜ DeliverAsks (now records) (now places) (now index) count used (now params) (now images) (now bound) list m names named (now args) n ⌝ }
+    ensures { λ r. ⌜ AppIs (deliveredAt (listedIn (numbersAt (now (records .entry)) names named)) (now (records .entry)) (now (places .entry)) count list m (now (args .entry)) n) (now (records .entry)) (now (places .entry)) count (now (params .entry)) (now (images .entry)) (now (bound .entry)) (now (records .exit)) (now (places .exit)) (now (index .exit)) (now (params .exit)) (now (images .exit)) (now (bound .exit)) r ⌝ }
 {
     let call = fit_arguments(
         records,
@@ -147,18 +145,7 @@ pub fn delivered(
     match call {
         Call::Settled(k) => {
             let at = list + 2 * n;
-            let made = rest(
-                records,
-                places,
-                heads,
-                next,
-                sizes,
-                count,
-                used,
-                images,
-                at,
-                m - n,
-            );
+            let made = rest(records, places, index, count, used, images, at, m - n);
             clear(images, bound, k);
             made
         }
@@ -178,9 +165,7 @@ pub fn delivered(
 pub fn called(
     records: &mut [u8],
     places: &mut [u32],
-    heads: &mut [u16],
-    next: &mut [u16],
-    sizes: &mut [u16],
+    index: &mut [u16],
     count: usize,
     used: usize,
     params: &mut [u16],
@@ -193,34 +178,20 @@ pub fn called(
     args: &[u8],
     n: usize,
 ) -> Answer
-    requires { ⌜ CalledAsks (now records) (now places) (now heads) (now next) (now sizes) count used (now params) (now images) (now bound) list m names named (now args) n ⌝ }
-    ensures { λ r. ⌜ AppIs (called (listedIn (numbersAt (now (records .entry)) names named)) (some (sortsAt (now (records .entry)) (now (places .entry)) count (now (records .entry)) list m)) (sortsAt (now (records .entry)) (now (places .entry)) count (now (args .entry)) 5 n)) (now (records .entry)) (now (places .entry)) count (now (params .entry)) (now (images .entry)) (now (bound .entry)) (now (records .exit)) (now (places .exit)) (now (heads .exit)) (now (next .exit)) (now (sizes .exit)) (now (params .exit)) (now (images .exit)) (now (bound .exit)) r ⌝ }
+    requires { ⌜ CalledAsks (now records) (now places) (now index) count used (now params) (now images) (now bound) list m names named (now args) n ⌝ }
+    ensures { λ r. ⌜ AppIs (called (listedIn (numbersAt (now (records .entry)) names named)) (some (sortsAt (now (records .entry)) (now (places .entry)) count (now (records .entry)) list m)) (sortsAt (now (records .entry)) (now (places .entry)) count (now (args .entry)) 5 n)) (now (records .entry)) (now (places .entry)) count (now (params .entry)) (now (images .entry)) (now (bound .entry)) (now (records .exit)) (now (places .exit)) (now (index .exit)) (now (params .exit)) (now (images .exit)) (now (bound .exit)) r ⌝ }
 {
     if m <= n {
         return refuse(Cause::Count, count, used);
     }
     if named == 0 {
-        return plain(
-            records,
-            places,
-            heads,
-            next,
-            sizes,
-            count,
-            used,
-            list,
-            m,
-            args,
-            n,
-        );
+        return plain(records, places, index, count, used, list, m, args, n);
     }
     if all_values(records, places, args, 5, n) {
         return delivered_lent(
             records,
             places,
-            heads,
-            next,
-            sizes,
+            index,
             count,
             used,
             params,

@@ -27,9 +27,7 @@ pub fn are_full(params: usize, images: usize, bound: usize) -> bool
 pub fn delivered_over(
     records: &mut [u8],
     places: &mut [u32],
-    heads: &mut [u16],
-    next: &mut [u16],
-    sizes: &mut [u16],
+    index: &mut [u16],
     count: usize,
     used: usize,
     params: &mut [u16],
@@ -42,16 +40,14 @@ pub fn delivered_over(
     args: &[u8],
     n: usize,
 ) -> Answer
-    requires { ⌜ LentAsks (now records) (now places) (now heads) (now next) (now sizes) count used (now params) (now images) (now bound) list m names named (now args) n ⌝ }
-    ensures { λ r. ⌜ AppIs (deliveredAt (listedIn (numbersAt (now (records .entry)) names named)) (now (records .entry)) (now (places .entry)) count list m (now (args .entry)) n) (now (records .entry)) (now (places .entry)) count (now (params .entry)) (now (images .entry)) (now (bound .entry)) (now (records .exit)) (now (places .exit)) (now (heads .exit)) (now (next .exit)) (now (sizes .exit)) (now (params .exit)) (now (images .exit)) (now (bound .exit)) r ⌝ }
+    requires { ⌜ LentAsks (now records) (now places) (now index) count used (now params) (now images) (now bound) list m names named (now args) n ⌝ }
+    ensures { λ r. ⌜ AppIs (deliveredAt (listedIn (numbersAt (now (records .entry)) names named)) (now (records .entry)) (now (places .entry)) count list m (now (args .entry)) n) (now (records .entry)) (now (places .entry)) count (now (params .entry)) (now (images .entry)) (now (bound .entry)) (now (records .exit)) (now (places .exit)) (now (index .exit)) (now (params .exit)) (now (images .exit)) (now (bound .exit)) r ⌝ }
 {
     if are_full(params.len(), images.len(), bound.len()) {
         return delivered(
             records,
             places,
-            heads,
-            next,
-            sizes,
+            index,
             count,
             used,
             params,
@@ -71,9 +67,7 @@ pub fn delivered_over(
     delivered_over(
         records,
         places,
-        heads,
-        next,
-        sizes,
+        index,
         count,
         used,
         &mut own_params,
@@ -92,9 +86,7 @@ pub fn delivered_over(
 pub fn delivered_lent(
     records: &mut [u8],
     places: &mut [u32],
-    heads: &mut [u16],
-    next: &mut [u16],
-    sizes: &mut [u16],
+    index: &mut [u16],
     count: usize,
     used: usize,
     params: &mut [u16],
@@ -107,16 +99,14 @@ pub fn delivered_lent(
     args: &[u8],
     n: usize,
 ) -> Answer
-    requires { ⌜ LentAsks (now records) (now places) (now heads) (now next) (now sizes) count used (now params) (now images) (now bound) list m names named (now args) n ⌝ }
-    ensures { λ r. ⌜ AppIs (deliveredAt (listedIn (numbersAt (now (records .entry)) names named)) (now (records .entry)) (now (places .entry)) count list m (now (args .entry)) n) (now (records .entry)) (now (places .entry)) count (now (params .entry)) (now (images .entry)) (now (bound .entry)) (now (records .exit)) (now (places .exit)) (now (heads .exit)) (now (next .exit)) (now (sizes .exit)) (now (params .exit)) (now (images .exit)) (now (bound .exit)) r ⌝ }
+    requires { ⌜ LentAsks (now records) (now places) (now index) count used (now params) (now images) (now bound) list m names named (now args) n ⌝ }
+    ensures { λ r. ⌜ AppIs (deliveredAt (listedIn (numbersAt (now (records .entry)) names named)) (now (records .entry)) (now (places .entry)) count list m (now (args .entry)) n) (now (records .entry)) (now (places .entry)) count (now (params .entry)) (now (images .entry)) (now (bound .entry)) (now (records .exit)) (now (places .exit)) (now (index .exit)) (now (params .exit)) (now (images .exit)) (now (bound .exit)) r ⌝ }
 {
     if are_full(params.len(), images.len(), bound.len()) {
         return delivered(
             records,
             places,
-            heads,
-            next,
-            sizes,
+            index,
             count,
             used,
             params,
@@ -133,9 +123,7 @@ pub fn delivered_lent(
     delivered_over(
         records,
         places,
-        heads,
-        next,
-        sizes,
+        index,
         count,
         used,
         params,
@@ -155,9 +143,7 @@ pub fn delivered_lent(
 pub fn parametric_over(
     records: &mut [u8],
     places: &mut [u32],
-    heads: &mut [u16],
-    next: &mut [u16],
-    sizes: &mut [u16],
+    index: &mut [u16],
     count: usize,
     used: usize,
     params: &mut [u16],
@@ -170,16 +156,14 @@ pub fn parametric_over(
     args: &[u8],
     n: usize,
 ) -> Answer
-    requires { ⌜ LentParametricAsks (now records) (now places) (now heads) (now next) (now sizes) count used (now params) (now images) (now bound) list m names named (now args) n ⌝ }
-    ensures { λ r. ⌜ AppIs (substitutedAt (now (records .entry)) (now (places .entry)) count list m names named (now (args .entry)) n) (now (records .entry)) (now (places .entry)) count (now (params .entry)) (now (images .entry)) (now (bound .entry)) (now (records .exit)) (now (places .exit)) (now (heads .exit)) (now (next .exit)) (now (sizes .exit)) (now (params .exit)) (now (images .exit)) (now (bound .exit)) r ⌝ }
+    requires { ⌜ LentParametricAsks (now records) (now places) (now index) count used (now params) (now images) (now bound) list m names named (now args) n ⌝ }
+    ensures { λ r. ⌜ AppIs (substitutedAt (now (records .entry)) (now (places .entry)) count list m names named (now (args .entry)) n) (now (records .entry)) (now (places .entry)) count (now (params .entry)) (now (images .entry)) (now (bound .entry)) (now (records .exit)) (now (places .exit)) (now (index .exit)) (now (params .exit)) (now (images .exit)) (now (bound .exit)) r ⌝ }
 {
     if are_full(params.len(), images.len(), bound.len()) {
         return parametric(
             records,
             places,
-            heads,
-            next,
-            sizes,
+            index,
             count,
             used,
             params,
@@ -199,9 +183,7 @@ pub fn parametric_over(
     parametric_over(
         records,
         places,
-        heads,
-        next,
-        sizes,
+        index,
         count,
         used,
         &mut own_params,
@@ -220,9 +202,7 @@ pub fn parametric_over(
 pub fn parametric_lent(
     records: &mut [u8],
     places: &mut [u32],
-    heads: &mut [u16],
-    next: &mut [u16],
-    sizes: &mut [u16],
+    index: &mut [u16],
     count: usize,
     used: usize,
     params: &mut [u16],
@@ -235,16 +215,14 @@ pub fn parametric_lent(
     args: &[u8],
     n: usize,
 ) -> Answer
-    requires { ⌜ LentParametricAsks (now records) (now places) (now heads) (now next) (now sizes) count used (now params) (now images) (now bound) list m names named (now args) n ⌝ }
-    ensures { λ r. ⌜ AppIs (substitutedAt (now (records .entry)) (now (places .entry)) count list m names named (now (args .entry)) n) (now (records .entry)) (now (places .entry)) count (now (params .entry)) (now (images .entry)) (now (bound .entry)) (now (records .exit)) (now (places .exit)) (now (heads .exit)) (now (next .exit)) (now (sizes .exit)) (now (params .exit)) (now (images .exit)) (now (bound .exit)) r ⌝ }
+    requires { ⌜ LentParametricAsks (now records) (now places) (now index) count used (now params) (now images) (now bound) list m names named (now args) n ⌝ }
+    ensures { λ r. ⌜ AppIs (substitutedAt (now (records .entry)) (now (places .entry)) count list m names named (now (args .entry)) n) (now (records .entry)) (now (places .entry)) count (now (params .entry)) (now (images .entry)) (now (bound .entry)) (now (records .exit)) (now (places .exit)) (now (index .exit)) (now (params .exit)) (now (images .exit)) (now (bound .exit)) r ⌝ }
 {
     if are_full(params.len(), images.len(), bound.len()) {
         return parametric(
             records,
             places,
-            heads,
-            next,
-            sizes,
+            index,
             count,
             used,
             params,
@@ -261,9 +239,7 @@ pub fn parametric_lent(
     parametric_over(
         records,
         places,
-        heads,
-        next,
-        sizes,
+        index,
         count,
         used,
         params,

@@ -25,9 +25,7 @@ pub mod settled;
 pub fn application(
     records: &mut [u8],
     places: &mut [u32],
-    heads: &mut [u16],
-    next: &mut [u16],
-    sizes: &mut [u16],
+    index: &mut [u16],
     count: usize,
     used: usize,
     params: &mut [u16],
@@ -36,8 +34,8 @@ pub fn application(
     args: &[u8],
     total: usize,
 ) -> Answer
-    requires { ⌜ AppAsks (now records) (now places) (now heads) (now next) (now sizes) count used (now params) (now images) (now bound) (now args) total ⌝ }
-    ensures { λ r. ⌜ AppIs (application (sortsAt (now (records .entry)) (now (places .entry)) count (now (args .entry)) 3 total)) (now (records .entry)) (now (places .entry)) count (now (params .entry)) (now (images .entry)) (now (bound .entry)) (now (records .exit)) (now (places .exit)) (now (heads .exit)) (now (next .exit)) (now (sizes .exit)) (now (params .exit)) (now (images .exit)) (now (bound .exit)) r ⌝ }
+    requires { ⌜ AppAsks (now records) (now places) (now index) count used (now params) (now images) (now bound) (now args) total ⌝ }
+    ensures { λ r. ⌜ AppIs (application (sortsAt (now (records .entry)) (now (places .entry)) count (now (args .entry)) 3 total)) (now (records .entry)) (now (places .entry)) count (now (params .entry)) (now (images .entry)) (now (bound .entry)) (now (records .exit)) (now (places .exit)) (now (index .exit)) (now (params .exit)) (now (images .exit)) (now (bound .exit)) r ⌝ }
 {
     if total < 2 {
         return refuse(Cause::Count, count, used);
@@ -48,9 +46,7 @@ pub fn application(
         Head::Function(list, m, names, named) => called(
             records,
             places,
-            heads,
-            next,
-            sizes,
+            index,
             count,
             used,
             params,
@@ -73,9 +69,7 @@ pub fn application(
 pub fn applied(
     records: &mut [u8],
     places: &mut [u32],
-    heads: &mut [u16],
-    next: &mut [u16],
-    sizes: &mut [u16],
+    index: &mut [u16],
     count: usize,
     used: usize,
     params: &mut [u16],
@@ -84,8 +78,8 @@ pub fn applied(
     args: &mut [u8],
     total: usize,
 ) -> Answer
-    requires { ⌜ AppAsks (now records) (now places) (now heads) (now next) (now sizes) count used (now params) (now images) (now bound) (now args) total ⌝ }
-    ensures { λ r. ⌜ AppIs (applied (sortsAt (now (records .entry)) (now (places .entry)) count (now (args .entry)) 3 total)) (now (records .entry)) (now (places .entry)) count (now (params .entry)) (now (images .entry)) (now (bound .entry)) (now (records .exit)) (now (places .exit)) (now (heads .exit)) (now (next .exit)) (now (sizes .exit)) (now (params .exit)) (now (images .exit)) (now (bound .exit)) r ⌝ }
+    requires { ⌜ AppAsks (now records) (now places) (now index) count used (now params) (now images) (now bound) (now args) total ⌝ }
+    ensures { λ r. ⌜ AppIs (applied (sortsAt (now (records .entry)) (now (places .entry)) count (now (args .entry)) 3 total)) (now (records .entry)) (now (places .entry)) count (now (params .entry)) (now (images .entry)) (now (bound .entry)) (now (records .exit)) (now (places .exit)) (now (index .exit)) (now (params .exit)) (now (images .exit)) (now (bound .exit)) r ⌝ }
 {
     if total == 0 {
         return refuse(Cause::Panics, count, used);
@@ -100,25 +94,12 @@ pub fn applied(
             }
             if named == 0 {
                 let at = list + 2 * n;
-                return remaining(
-                    records,
-                    places,
-                    heads,
-                    next,
-                    sizes,
-                    count,
-                    used,
-                    args,
-                    at,
-                    m - n,
-                );
+                return remaining(records, places, index, count, used, args, at, m - n);
             }
             parametric_lent(
                 records,
                 places,
-                heads,
-                next,
-                sizes,
+                index,
                 count,
                 used,
                 params,

@@ -54,9 +54,7 @@ pub fn match_arguments(
 pub fn parametric(
     records: &mut [u8],
     places: &mut [u32],
-    heads: &mut [u16],
-    next: &mut [u16],
-    sizes: &mut [u16],
+    index: &mut [u16],
     count: usize,
     used: usize,
     params: &mut [u16],
@@ -69,8 +67,8 @@ pub fn parametric(
     args: &[u8],
     n: usize,
 ) -> Answer
-    requires { ⌜ ParametricAsks (now records) (now places) (now heads) (now next) (now sizes) count used (now params) (now images) (now bound) list m names named (now args) n ⌝ }
-    ensures { λ r. ⌜ AppIs (substitutedAt (now (records .entry)) (now (places .entry)) count list m names named (now (args .entry)) n) (now (records .entry)) (now (places .entry)) count (now (params .entry)) (now (images .entry)) (now (bound .entry)) (now (records .exit)) (now (places .exit)) (now (heads .exit)) (now (next .exit)) (now (sizes .exit)) (now (params .exit)) (now (images .exit)) (now (bound .exit)) r ⌝ }
+    requires { ⌜ ParametricAsks (now records) (now places) (now index) count used (now params) (now images) (now bound) list m names named (now args) n ⌝ }
+    ensures { λ r. ⌜ AppIs (substitutedAt (now (records .entry)) (now (places .entry)) count list m names named (now (args .entry)) n) (now (records .entry)) (now (places .entry)) count (now (params .entry)) (now (images .entry)) (now (bound .entry)) (now (records .exit)) (now (places .exit)) (now (index .exit)) (now (params .exit)) (now (images .exit)) (now (bound .exit)) r ⌝ }
 {
     let found = match_arguments(
         records,
@@ -89,18 +87,7 @@ pub fn parametric(
     match found {
         Matched::Fits(k) => {
             let at = list + 2 * n;
-            let made = rest(
-                records,
-                places,
-                heads,
-                next,
-                sizes,
-                count,
-                used,
-                images,
-                at,
-                m - n,
-            );
+            let made = rest(records, places, index, count, used, images, at, m - n);
             clear(images, bound, k);
             made
         }

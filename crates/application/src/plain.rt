@@ -9,6 +9,7 @@ use matching::notes::note;
 use record::u16_at;
 use rows::Cause;
 use store::entries::entry;
+use store::entries::size_at;
 ghost use mathlib.Core.Path.{_≡_};
 ghost use Rattle.record.specs.Decode.{sortAt};
 ghost use Rattle.substitution.specs.Premises.{parless, parlessAll};
@@ -20,15 +21,15 @@ ghost use Rattle.application.specs.Contract.{ParlessAt, ParlessAsks, Par
 pub fn is_parless(
     records: &[u8],
     places: &[u32],
-    sizes: &[u16],
+    index: &[u16],
     count: usize,
     seen: &mut [u16],
     k: usize,
 ) -> bool
-    requires { ⌜ ParlessAsks (now records) (now places) (now sizes) count k × Table (ParlessAt (now records) (now places) count) (now seen) ⌝ }
+    requires { ⌜ ParlessAsks (now records) (now places) (now index) count k × Table (ParlessAt (now records) (now places) count) (now seen) ⌝ }
     ensures { λ r. ⌜ (r ≡ parless (sortAt (now (records .entry)) (now (places .entry)) count k)) × Table (ParlessAt (now (records .entry)) (now (places .entry)) count) (now (seen .exit)) ⌝ }
 {
-    if sizes[k] == 1 {
+    if size_at(index, k) == 1 {
         return true;
     }
     if is_noted(seen, k) {
@@ -38,7 +39,7 @@ pub fn is_parless(
     if a.kind == 12 {
         return false;
     }
-    if all_parless(records, places, sizes, count, seen, a.list, a.count) {
+    if all_parless(records, places, index, count, seen, a.list, a.count) {
         note(seen, k);
         return true;
     }
@@ -49,21 +50,21 @@ pub fn is_parless(
 pub fn all_parless(
     records: &[u8],
     places: &[u32],
-    sizes: &[u16],
+    index: &[u16],
     count: usize,
     seen: &mut [u16],
     at: usize,
     left: usize,
 ) -> bool
-    requires { ⌜ ParlessAllAsks (now records) (now places) (now sizes) count at left × Table (ParlessAt (now records) (now places) count) (now seen) ⌝ }
+    requires { ⌜ ParlessAllAsks (now records) (now places) (now index) count at left × Table (ParlessAt (now records) (now places) count) (now seen) ⌝ }
     ensures { λ r. ⌜ (r ≡ parlessAll (sortsAt (now (records .entry)) (now (places .entry)) count (now (records .entry)) at left)) × Table (ParlessAt (now (records .entry)) (now (places .entry)) count) (now (seen .exit)) ⌝ }
 {
     if left == 0 {
         return true;
     }
     let k = u16_at(records, at);
-    if is_parless(records, places, sizes, count, seen, k) {
-        return all_parless(records, places, sizes, count, seen, at + 2, left - 1);
+    if is_parless(records, places, index, count, seen, k) {
+        return all_parless(records, places, index, count, seen, at + 2, left - 1);
     }
     false
 }
@@ -73,13 +74,13 @@ pub fn all_parless(
 pub fn all_exact(
     records: &[u8],
     places: &[u32],
-    sizes: &[u16],
+    index: &[u16],
     count: usize,
     list: usize,
     args: &[u8],
     n: usize,
 ) -> bool
-    requires { ⌜ ExactAsks (now records) (now places) (now sizes) count list (now args) n ⌝ }
+    requires { ⌜ ExactAsks (now records) (now places) (now index) count list (now args) n ⌝ }
     ensures { λ r. ⌜ ExactIs (now (records .entry)) (now (places .entry)) count list (now (args .entry)) n r ⌝ }
 {
     let mut at = list;
@@ -92,7 +93,7 @@ pub fn all_exact(
         if k != t {
             return false;
         }
-        if !is_parless(records, places, sizes, count, &mut seen, k) {
+        if !is_parless(records, places, index, count, &mut seen, k) {
             return false;
         }
         at += 2;
@@ -107,9 +108,7 @@ pub fn all_exact(
 pub fn plain(
     records: &mut [u8],
     places: &mut [u32],
-    heads: &mut [u16],
-    next: &mut [u16],
-    sizes: &mut [u16],
+    index: &mut [u16],
     count: usize,
     used: usize,
     list: usize,
@@ -117,24 +116,13 @@ pub fn plain(
     args: &[u8],
     n: usize,
 ) -> Answer
-    requires { ⌜ PlainAsks (now records) (now places) (now heads) (now next) (now sizes) count used list m (now args) n ⌝ }
-    ensures { λ r. ⌜ PlainIs (now (records .entry)) (now (places .entry)) count list m (now (args .entry)) n (now (records .exit)) (now (places .exit)) (now (heads .exit)) (now (next .exit)) (now (sizes .exit)) r ⌝ }
+    requires { ⌜ PlainAsks (now records) (now places) (now index) count used list m (now args) n ⌝ }
+    ensures { λ r. ⌜ PlainIs (now (records .entry)) (now (places .entry)) count list m (now (args .entry)) n (now (records .exit)) (now (places .exit)) (now (index .exit)) r ⌝ }
 {
-    if all_exact(records, places, sizes, count, list, args, n) {
+    if all_exact(records, places, index, count, list, args, n) {
         let at = list + 2 * n;
         let mut rec = [0u8; 131];
-        return remaining(
-            records,
-            places,
-            heads,
-            next,
-            sizes,
-            count,
-            used,
-            &mut rec,
-            at,
-            m - n,
-        );
+        return remaining(records, places, index, count, used, &mut rec, at, m - n);
     }
     refuse(Cause::Misfit, count, used)
 }

@@ -55,11 +55,11 @@ shape-function vs h =
       once = refl;
     }
 
-module _ (b p hs ns zs : List ℕ) (n u : ℕ) (l : List ℕ) (x m : ℕ) (a : FunctionAsks b p hs ns zs n u l x m) where
-  pub function-sizes : SizesAsk b p zs n x m l
+module _ (b p ix : List ℕ) (n u : ℕ) (l : List ℕ) (x m : ℕ) (a : FunctionAsks b p ix n u l x m) where
+  pub function-sizes : SizesAsk b p ix n x m l
   function-sizes =
       record {
-        reading = record { stored = a .ready .good .stored; sized = a .ready .good .sized; count = a .ready .good .indexed .count; table = a .ready .table };
+        reading = record { stored = a .ready .good .stored; sized = a .ready .good .sized; index = a .ready .good .indexed .table; count = a .ready .good .indexed .count; table = a .ready .table };
         within = a .within;
         below = a .below;
       }
@@ -74,7 +74,7 @@ module _ (b p hs ns zs : List ℕ) (n u : ℕ) (l : List ℕ) (x m : ℕ) (a : F
       go true q = omega (arith, e, within (sizes answers) (leb-true (sizes answers) 4096 q), size-function answers)
       go false q = omega (arith, leb-false (sizes answers) 4096 q, size-function answers)
 
-  pub function-fits : (v : ℕ) → SizesAre b p n x m l v → v ≤ 4095 → FunctionFits b p hs ns zs n u l x m
+  pub function-fits : (v : ℕ) → SizesAre b p n x m l v → v ≤ 4095 → FunctionFits b p ix n u l x m
   function-fits v e h =
       let s = capped-small (sizes answers) v e (omega arith) in
       record { asks = a; small = omega (arith, e, within (sizes answers) s, size-function answers) }
@@ -83,8 +83,8 @@ module _ (b p hs ns zs : List ℕ) (n u : ℕ) (l : List ℕ) (x m : ℕ) (a : F
   function-read = record { within = a .within; few = a .few }
 
 -- THE FUNCTION AFTER ITS LIST.
-module _ (b p hs ns zs : List ℕ) (n u : ℕ) (l : List ℕ) (x m : ℕ) (f : FunctionFits b p hs ns zs n u l x m) (o : Numbers) (ho : Has o (numbersAt b x m)) where
-  abbrev a : FunctionAsks b p hs ns zs n u l x m
+module _ (b p ix : List ℕ) (n u : ℕ) (l : List ℕ) (x m : ℕ) (f : FunctionFits b p ix n u l x m) (o : Numbers) (ho : Has o (numbersAt b x m)) where
+  abbrev a : FunctionAsks b p ix n u l x m
   a = f .asks
 
   abbrev ps : Sorts
@@ -93,7 +93,7 @@ module _ (b p hs ns zs : List ℕ) (n u : ℕ) (l : List ℕ) (x m : ℕ) (f : F
   answers-are : answersAt b p n l (numbersOf o) ≡ ps
   answers-are = ap (answersAt b p n l) (ho .is)
 
-  pub function-parts : PartsAsk b p hs ns zs n u o l
+  pub function-parts : PartsAsk b p ix n u o l
   function-parts =
       record {
         ready = a .ready;
@@ -110,9 +110,9 @@ module _ (b p hs ns zs : List ℕ) (n u : ℕ) (l : List ℕ) (x m : ℕ) (f : F
       subst (Starts (internAll ps (storeOf b p n))) (intern-first (function ps) (storeOf b p n) (store-ordered b p n (a .ready .good .stored)))
       (starts-intern (function ps) (internAll ps (storeOf b p n)))
 
-  pub function-stuck : (c q js os xs : List ℕ) (m′ v : ℕ) → Halted b p n u (internAll (answersAt b p n l (numbersOf o)) (storeOf b p n)) c q js os xs m′ v
-      → Halted b p n u (intern (functionAt b p n l x m) (storeOf b p n)) c q js os xs m′ v
-  function-stuck c q js os xs m′ v w =
+  pub function-stuck : (c q kx : List ℕ) (m′ v : ℕ) → Halted b p n u (internAll (answersAt b p n l (numbersOf o)) (storeOf b p n)) c q kx m′ v
+      → Halted b p n u (intern (functionAt b p n l x m) (storeOf b p n)) c q kx m′ v
+  function-stuck c q kx m′ v w =
       record {
         good = w .good;
         starts = w .starts;
@@ -122,7 +122,7 @@ module _ (b p hs ns zs : List ℕ) (n u : ℕ) (l : List ℕ) (x m : ℕ) (f : F
         kept = w .kept;
       }
 
-  module _ (c q js os xs : List ℕ) (r : Numbers) (m′ v : ℕ) (w : PartsMade b p n u (answersAt b p n l (numbersOf o)) c q js os xs r m′ v)
+  module _ (c q kx : List ℕ) (r : Numbers) (m′ v : ℕ) (w : PartsMade b p n u (answersAt b p n l (numbersOf o)) c q kx r m′ v)
       (none : Numbers) (hn : Has none []) where
     abbrev st : List Sort
     st = storeOf c q m′
@@ -149,7 +149,7 @@ module _ (b p hs ns zs : List ℕ) (n u : ℕ) (l : List ℕ) (x m : ℕ) (f : F
         ap length (has .is) ∙ length-indices ps st ∙ count-applied (imagesOf (storeOf b p n) l) (sortsOf (storeOf b p n) (numbersAt b x m))
         ∙ count-sorts (storeOf b p n) (numbersAt b x m) ∙ length-numbersAt b x m
 
-    pub function-make : MakeAsks c q js os xs m′ v (fieldsIn 0 0 0 r none) r none
+    pub function-make : MakeAsks c q kx m′ v (fieldsIn 0 0 0 r none) r none
     function-make =
         record {
           good = w .good;
@@ -168,16 +168,16 @@ module _ (b p hs ns zs : List ℕ) (n u : ℕ) (l : List ℕ) (x m : ℕ) (f : F
     interned =
         ap (intern (function ps)) added ∙ intern-first (function ps) (storeOf b p n) (store-ordered b p n (a .ready .good .stored))
 
-    pub function-made : (d t is ms ys : List ℕ) (i k v′ : ℕ)
-        → Made c q m′ v (sortOf st (fieldsIn 0 0 0 r none)) d t is ms ys i k v′
-        → Made b p n u (functionAt b p n l x m) d t is ms ys i k v′
-    function-made d t is ms ys i k v′ y =
-        made-over b p hs ns zs n u (a .ready .good) c q js os xs m′ v (w .good) starts (w .kept) (functionAt b p n l x m) interned
-        d t is ms ys i k v′ (subst (λ (s : Sort). Made c q m′ v s d t is ms ys i k v′) function-is y)
+    pub function-made : (d t jx : List ℕ) (i k v′ : ℕ)
+        → Made c q m′ v (sortOf st (fieldsIn 0 0 0 r none)) d t jx i k v′
+        → Made b p n u (functionAt b p n l x m) d t jx i k v′
+    function-made d t jx i k v′ y =
+        made-over b p ix n u (a .ready .good) c q kx m′ v (w .good) starts (w .kept) (functionAt b p n l x m) interned
+        d t jx i k v′ (subst (λ (s : Sort). Made c q m′ v s d t jx i k v′) function-is y)
 
-    pub function-full : (d t is ms ys : List ℕ)
-        → (room (length c) (length q) (intern (sortOf st (fieldsIn 0 0 0 r none)) st) ≡ false) × Untouched c q js os xs d t is ms ys
-        → Halted b p n u (intern (functionAt b p n l x m) (storeOf b p n)) d t is ms ys m′ v
-    function-full d t is ms ys y =
-        halted-over b p hs ns zs n u (a .ready .good) c q js os xs m′ v (w .good) starts (w .kept) (functionAt b p n l x m) interned
-        d t is ms ys (sym (ap (λ (s : Sort). room (length c) (length q) (intern s st)) function-is) ∙ y .0, y .1)
+    pub function-full : (d t jx : List ℕ)
+        → (room (length c) (length q) (intern (sortOf st (fieldsIn 0 0 0 r none)) st) ≡ false) × Untouched c q kx d t jx
+        → Halted b p n u (intern (functionAt b p n l x m) (storeOf b p n)) d t jx m′ v
+    function-full d t jx y =
+        halted-over b p ix n u (a .ready .good) c q kx m′ v (w .good) starts (w .kept) (functionAt b p n l x m) interned
+        d t jx (sym (ap (λ (s : Sort). room (length c) (length q) (intern s st)) function-is) ∙ y .0, y .1)

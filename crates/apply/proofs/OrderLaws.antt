@@ -272,26 +272,26 @@ base-self b p n l s t =
     }
 
 -- IN ORDER: the answers of the first j are made, and the table of answers stays true and as long as it was.
-pub record InOrderInv (b p : List ℕ) (n u : ℕ) (o : Numbers) (l ws₀ c q hs ns zs ws : List ℕ) (m v j : ℕ) : Type 0 where
+pub record InOrderInv (b p : List ℕ) (n u : ℕ) (o : Numbers) (l ws₀ c q ix ws : List ℕ) (m v j : ℕ) : Type 0 where
   pub low : j ≤ o .count
-  pub along : Along b p n u (numbersOf o) l c q hs ns zs m v j
+  pub along : Along b p n u (numbersOf o) l c q ix m v j
   pub known : Known c q m l ws
   pub lasts : length ws ≡ length ws₀
 
-module _ (b p hs ns zs ws : List ℕ) (n u : ℕ) (o : Numbers) (l : List ℕ) (a : InOrderAsk b p hs ns zs ws n u o l) where
-  pub in-order-start : InOrderInv b p n u o l ws b p hs ns zs ws n u 0
+module _ (b p ix ws : List ℕ) (n u : ℕ) (o : Numbers) (l : List ℕ) (a : InOrderAsk b p ix ws n u o l) where
+  pub in-order-start : InOrderInv b p n u o l ws b p ix ws n u 0
   in-order-start =
-      record { low = omega arith; along = along-start b p hs ns zs n u (numbersOf o) l (a .ready .good); known = a .known; lasts = refl }
+      record { low = omega arith; along = along-start b p ix n u (numbersOf o) l (a .ready .good); known = a .known; lasts = refl }
 
   all : length (numbersOf o) ≡ o .count
   all = length-take-le (o .count) (o .list) (a .many)
 
-  module _ (c q is ms ys vs : List ℕ) (m v j : ℕ) (i : InOrderInv b p n u o l ws c q is ms ys vs m v j) where
-    pub in-order-done : o .count ≤ j → InOrderMade b p n u o l c q is ms ys vs m v
+  module _ (c q jx vs : List ℕ) (m v j : ℕ) (i : InOrderInv b p n u o l ws c q jx vs m v j) where
+    pub in-order-done : o .count ≤ j → InOrderMade b p n u o l c q jx vs m v
     in-order-done h =
         record {
           good = i .along .good;
-          added = along-done b p hs ns zs n u l (a .ready) (numbersOf o) c q is ms ys m v j (i .along) (omega (arith, all));
+          added = along-done b p ix n u l (a .ready) (numbersOf o) c q jx m v j (i .along) (omega (arith, all));
           kept = i .along .kept;
           known = i .known;
         }
@@ -307,34 +307,34 @@ module _ (b p hs ns zs ws : List ℕ) (n u : ℕ) (o : Numbers) (l : List ℕ) (
       here : getD (numbersOf o) j 0 ≡ k
       here = getD-take (o .count) (o .list) j 0 h
 
-      pub in-order-asks : KnownAsks c q is ms ys vs m v k l
+      pub in-order-asks : KnownAsks c q jx vs m v k l
       in-order-asks =
           record {
             asks =
-                along-asks b p hs ns zs n u l (a .ready) (numbersOf o) c q is ms ys m v j (i .along) k (fit .0) (omega (arith, all)) here (fit .1);
+                along-asks b p ix n u l (a .ready) (numbersOf o) c q jx m v j (i .along) k (fit .0) (omega (arith, all)) here (fit .1);
             known = i .known;
           }
 
-      pub in-order-halted : (d r js os xs : List ℕ) (m′ v′ : ℕ) → Halted c q m v (intern (answerAt c q m l k) (storeOf c q m)) d r js os xs m′ v′
-          → Halted b p n u (internAll (answersAt b p n l (numbersOf o)) (storeOf b p n)) d r js os xs m′ v′
-      in-order-halted d r js os xs m′ v′ w =
-          along-halted b p hs ns zs n u l (a .ready) (numbersOf o) c q is ms ys m v j (i .along) k (fit .0) (omega (arith, all)) here
-          d r js os xs m′ v′ w
+      pub in-order-halted : (d r kx : List ℕ) (m′ v′ : ℕ) → Halted c q m v (intern (answerAt c q m l k) (storeOf c q m)) d r kx m′ v′
+          → Halted b p n u (internAll (answersAt b p n l (numbersOf o)) (storeOf b p n)) d r kx m′ v′
+      in-order-halted d r kx m′ v′ w =
+          along-halted b p ix n u l (a .ready) (numbersOf o) c q jx m v j (i .along) k (fit .0) (omega (arith, all)) here
+          d r kx m′ v′ w
 
-      pub in-order-more : (d r js os xs ys′ : List ℕ) (x m′ v′ : ℕ) → Made c q m v (answerAt c q m l k) d r js os xs x m′ v′
-          → Known d r m′ l ys′ → length ys′ ≡ length vs → InOrderInv b p n u o l ws d r js os xs ys′ m′ v′ (j + 1)
-      in-order-more d r js os xs ys′ x m′ v′ w t e =
+      pub in-order-more : (d r kx ys′ : List ℕ) (x m′ v′ : ℕ) → Made c q m v (answerAt c q m l k) d r kx x m′ v′
+          → Known d r m′ l ys′ → length ys′ ≡ length vs → InOrderInv b p n u o l ws d r kx ys′ m′ v′ (j + 1)
+      in-order-more d r kx ys′ x m′ v′ w t e =
           record {
             low = omega arith;
             along =
-                along-more b p hs ns zs n u l (a .ready) (numbersOf o) c q is ms ys m v j (i .along) k (fit .0) (omega (arith, all)) here
-                d r js os xs x m′ v′ w;
+                along-more b p ix n u l (a .ready) (numbersOf o) c q jx m v j (i .along) k (fit .0) (omega (arith, all)) here
+                d r kx x m′ v′ w;
             known = t;
             lasts = e ∙ i .lasts;
           }
 
 -- A DEEP SORT.
-module _ (b p hs ns zs : List ℕ) (n u k : ℕ) (l : List ℕ) (a : SortAsks b p hs ns zs n u k l) where
+module _ (b p ix : List ℕ) (n u k : ℕ) (l : List ℕ) (a : SortAsks b p ix n u k l) where
   abbrev blank : Numbers
   blank = held (replicate 4096 0) 0
 
@@ -350,7 +350,7 @@ module _ (b p hs ns zs : List ℕ) (n u k : ℕ) (l : List ℕ) (a : SortAsks b 
       }
 
   module _ (seen′ : List ℕ) (o : Numbers) (w : OrderIs b p (replicate 4096 0) blank n k seen′ o) where
-    pub deep-asks : (ws : List ℕ) → Known b p n l ws → InOrderAsk b p hs ns zs ws n u o l
+    pub deep-asks : (ws : List ℕ) → Known b p n l ws → InOrderAsk b p ix ws n u o l
     unfolding sortAt
     deep-asks ws t =
         record {
@@ -364,11 +364,11 @@ module _ (b p hs ns zs : List ℕ) (n u k : ℕ) (l : List ℕ) (a : SortAsks b 
     unfolding sortAt sortsOf applyAll internAll
     whole = w .adds (imagesOf (storeOf b p n) l) (storeOf b p n) (base-self b p n l (a .ready .good .stored) (a .ready .table))
 
-    pub deep-stuck : (c q is ms ys : List ℕ) (m v : ℕ) → Halted b p n u (internAll (answersAt b p n l (numbersOf o)) (storeOf b p n)) c q is ms ys m v
-        → Halted b p n u (intern (answerAt b p n l k) (storeOf b p n)) c q is ms ys m v
-    deep-stuck c q is ms ys m v h = subst (λ (st : List Sort). Halted b p n u st c q is ms ys m v) whole h
+    pub deep-stuck : (c q jx : List ℕ) (m v : ℕ) → Halted b p n u (internAll (answersAt b p n l (numbersOf o)) (storeOf b p n)) c q jx m v
+        → Halted b p n u (intern (answerAt b p n l k) (storeOf b p n)) c q jx m v
+    deep-stuck c q jx m v h = subst (λ (st : List Sort). Halted b p n u st c q jx m v) whole h
 
-    module _ (c q is ms ys ws : List ℕ) (m v : ℕ) (y : InOrderMade b p n u o l c q is ms ys ws m v) where
+    module _ (c q jx ws : List ℕ) (m v : ℕ) (y : InOrderMade b p n u o l c q jx ws m v) where
       made : storeOf c q m ≡ intern (answerAt b p n l k) (storeOf b p n)
       made = y .added ∙ whole
 
@@ -381,26 +381,26 @@ module _ (b p hs ns zs : List ℕ) (n u k : ℕ) (l : List ℕ) (a : SortAsks b 
       grows : Starts (storeOf b p n) (storeOf c q m)
       grows = subst (Starts (storeOf b p n)) (sym made) (starts-intern (answerAt b p n l k) (storeOf b p n))
 
-      along : Along b p n u (k ∷ []) l c q is ms ys m v 0
+      along : Along b p n u (k ∷ []) l c q jx m v 0
       unfolding sortAt sortsOf applyAll internAll
       along = record { good = y .good; starts = grows; kept = y .kept; total = again }
 
-      pub deep-last : KnownAsks c q is ms ys ws m v k l
+      pub deep-last : KnownAsks c q jx ws m v k l
       deep-last =
           record {
-            asks = along-asks b p hs ns zs n u l (a .ready) (k ∷ []) c q is ms ys m v 0 along k (a .known) (omega arith) refl (a .small);
+            asks = along-asks b p ix n u l (a .ready) (k ∷ []) c q jx m v 0 along k (a .known) (omega arith) refl (a .small);
             known = y .known;
           }
 
-      pub deep-is : (d r js os xs vs : List ℕ) (t : Replaced) → KnownIs c q m v k l d r js os xs vs t → KnownIs b p n u k l d r js os xs vs t
+      pub deep-is : (d r kx vs : List ℕ) (t : Replaced) → KnownIs c q m v k l d r kx vs t → KnownIs b p n u k l d r kx vs t
       unfolding sortAt sortsOf applyAll internAll
-      deep-is d r js os xs vs (Found i m′ v′) z =
+      deep-is d r kx vs (Found i m′ v′) z =
           record {
             made =
-                made-over b p hs ns zs n u (a .ready .good) c q is ms ys m v (y .good) grows (y .kept) (answerAt b p n l k) again d r js os xs i m′ v′
-                (subst (λ (s : Sort). Made c q m v s d r js os xs i m′ v′)
-                (along-same b p hs ns zs n u l (a .ready) (k ∷ []) c q is ms ys m v 0 along k (a .known) (omega arith) refl) (z .made));
+                made-over b p ix n u (a .ready .good) c q jx m v (y .good) grows (y .kept) (answerAt b p n l k) again d r kx i m′ v′
+                (subst (λ (s : Sort). Made c q m v s d r kx i m′ v′)
+                (along-same b p ix n u l (a .ready) (k ∷ []) c q jx m v 0 along k (a .known) (omega arith) refl) (z .made));
             known = z .known;
           }
-      deep-is d r js os xs vs (Stuck m′ v′) z =
-          along-halted b p hs ns zs n u l (a .ready) (k ∷ []) c q is ms ys m v 0 along k (a .known) (omega arith) refl d r js os xs m′ v′ z
+      deep-is d r kx vs (Stuck m′ v′) z =
+          along-halted b p ix n u l (a .ready) (k ∷ []) c q jx m v 0 along k (a .known) (omega arith) refl d r kx m′ v′ z

@@ -15,8 +15,8 @@ use Rattle.replacing.specs.Contract.{answersAt, Ready}
 use Rattle.apply.specs.declared.Applied.{Applied}
 use Rattle.apply.specs.declared.Applied.the-variants.{Is, TooLarge, NoRoom}
 
-pub record ApplyAsks (b p hs ns zs : List ℕ) (n u k : ℕ) (l : List ℕ) : Type 0 where
-  pub ready : Ready b p hs ns zs n u l
+pub record ApplyAsks (b p ix : List ℕ) (n u k : ℕ) (l : List ℕ) : Type 0 where
+  pub ready : Ready b p ix n u l
   pub known : k < n
 
 -- THE FUNCTION of the sorts replaced whose m numbers stand from x on.
@@ -24,25 +24,25 @@ abbrev pub functionAt : List ℕ → List ℕ → ℕ → List ℕ → ℕ → �
 functionAt b p n l x m = function (answersAt b p n l (numbersAt b x m))
 
 -- At most 64 numbers of sorts, two bytes each from x on.
-pub record FunctionAsks (b p hs ns zs : List ℕ) (n u : ℕ) (l : List ℕ) (x m : ℕ) : Type 0 where
-  pub ready : Ready b p hs ns zs n u l
+pub record FunctionAsks (b p ix : List ℕ) (n u : ℕ) (l : List ℕ) (x m : ℕ) : Type 0 where
+  pub ready : Ready b p ix n u l
   pub within : x + 2 * m ≤ length b
   pub below : (j : ℕ) → j < m → u16At b (x + 2 * j) < n
   pub few : m ≤ 64
 
-pub record FunctionFits (b p hs ns zs : List ℕ) (n u : ℕ) (l : List ℕ) (x m : ℕ) : Type 0 where
-  pub asks : FunctionAsks b p hs ns zs n u l x m
+pub record FunctionFits (b p ix : List ℕ) (n u : ℕ) (l : List ℕ) (x m : ℕ) : Type 0 where
+  pub asks : FunctionAsks b p ix n u l x m
   pub small : size (functionAt b p n l x m) ≤ 4096
 
 -- An answer whose tree is at most 4,096 is made.
-pub record Answered (b p : List ℕ) (n u : ℕ) (s : Sort) (b′ p′ hs′ ns′ zs′ : List ℕ) (i n′ u′ : ℕ) : Type 0 where
+pub record Answered (b p : List ℕ) (n u : ℕ) (s : Sort) (b′ p′ ix′ : List ℕ) (i n′ u′ : ℕ) : Type 0 where
   pub small : size s ≤ 4096
-  pub made : Made b p n u s b′ p′ hs′ ns′ zs′ i n′ u′
+  pub made : Made b p n u s b′ p′ ix′ i n′ u′
 
 -- THE OUTCOME OF AN ANSWER s over a store: 22 exactly if its tree is larger than 4,096; 23 exactly if it is not and the
 -- store after interning it has no room; both leave all five buffers as they were.
-abbrev pub AppliedIs : List ℕ → List ℕ → List ℕ → List ℕ → List ℕ → ℕ → ℕ → Sort → List ℕ → List ℕ → List ℕ → List ℕ → List ℕ → Applied → Type 0
-AppliedIs b p hs ns zs n u s b′ p′ hs′ ns′ zs′ (Is i n′ u′) = Answered b p n u s b′ p′ hs′ ns′ zs′ i n′ u′
-AppliedIs b p hs ns zs n u s b′ p′ hs′ ns′ zs′ TooLarge = (4096 < size s) × Untouched b p hs ns zs b′ p′ hs′ ns′ zs′
-AppliedIs b p hs ns zs n u s b′ p′ hs′ ns′ zs′ NoRoom =
-    (size s ≤ 4096) × (room (length b) (length p) (intern s (storeOf b p n)) ≡ false) × Untouched b p hs ns zs b′ p′ hs′ ns′ zs′
+abbrev pub AppliedIs : List ℕ → List ℕ → List ℕ → ℕ → ℕ → Sort → List ℕ → List ℕ → List ℕ → Applied → Type 0
+AppliedIs b p ix n u s b′ p′ ix′ (Is i n′ u′) = Answered b p n u s b′ p′ ix′ i n′ u′
+AppliedIs b p ix n u s b′ p′ ix′ TooLarge = (4096 < size s) × Untouched b p ix b′ p′ ix′
+AppliedIs b p ix n u s b′ p′ ix′ NoRoom =
+    (size s ≤ 4096) × (room (length b) (length p) (intern s (storeOf b p n)) ≡ false) × Untouched b p ix b′ p′ ix′

@@ -68,20 +68,20 @@ pub record OrderIs (b p seen : List ℕ) (o : Numbers) (n k : ℕ) (seen′ : Li
   pub within : (θ : Map) (z : ℕ) → size (answer θ (storeOf b p n) k) ≤ z → Within θ (storeOf b p n) z o → Within θ (storeOf b p n) z o′
 
 -- A list of sorts whose answers are to be made, and a table of answers that says the truth.
-pub record InOrderAsk (b p hs ns zs ws : List ℕ) (n u : ℕ) (o : Numbers) (l : List ℕ) : Type 0 where
-  pub ready : Ready b p hs ns zs n u l
+pub record InOrderAsk (b p ix ws : List ℕ) (n u : ℕ) (o : Numbers) (l : List ℕ) : Type 0 where
+  pub ready : Ready b p ix n u l
   pub known : Known b p n l ws
   pub many : o .count ≤ length (o .list)
   pub within : Within (imagesOf (storeOf b p n) l) (storeOf b p n) 4096 o
 
 -- THE STORE WITH THEIR ANSWERS, of which the table says the truth; or there is no room for that store.
-pub record InOrderMade (b p : List ℕ) (n u : ℕ) (o : Numbers) (l c q hs′ ns′ zs′ ws′ : List ℕ) (m v : ℕ) : Type 0 where
-  pub good : Good c q hs′ ns′ zs′ m v
+pub record InOrderMade (b p : List ℕ) (n u : ℕ) (o : Numbers) (l c q ix′ ws′ : List ℕ) (m v : ℕ) : Type 0 where
+  pub good : Good c q ix′ m v
   pub added : storeOf c q m ≡ internAll (answersAt b p n l (numbersOf o)) (storeOf b p n)
   pub kept : Kept b p n u c q
   pub known : Known c q m l ws′
 
-abbrev pub InOrderAre : List ℕ → List ℕ → ℕ → ℕ → Numbers → List ℕ → List ℕ → List ℕ → List ℕ → List ℕ → List ℕ → List ℕ → Parts → Type 0
-InOrderAre b p n u o l c q hs′ ns′ zs′ ws′ (Are m v) = InOrderMade b p n u o l c q hs′ ns′ zs′ ws′ m v
-InOrderAre b p n u o l c q hs′ ns′ zs′ ws′ (Short m v) =
-    Halted b p n u (internAll (answersAt b p n l (numbersOf o)) (storeOf b p n)) c q hs′ ns′ zs′ m v
+abbrev pub InOrderAre : List ℕ → List ℕ → ℕ → ℕ → Numbers → List ℕ → List ℕ → List ℕ → List ℕ → List ℕ → Parts → Type 0
+InOrderAre b p n u o l c q ix′ ws′ (Are m v) = InOrderMade b p n u o l c q ix′ ws′ m v
+InOrderAre b p n u o l c q ix′ ws′ (Short m v) =
+    Halted b p n u (internAll (answersAt b p n l (numbersOf o)) (storeOf b p n)) c q ix′ m v

@@ -53,9 +53,7 @@ pub fn order_of(
 pub fn apply_order(
     records: &mut [u8],
     places: &mut [u32],
-    heads: &mut [u16],
-    next: &mut [u16],
-    sizes: &mut [u16],
+    index: &mut [u16],
     known: &mut [u16],
     count: usize,
     used: usize,
@@ -63,15 +61,15 @@ pub fn apply_order(
     many: usize,
     images: &[u16],
 ) -> Parts
-    requires { ⌜ InOrderAsk (now records) (now places) (now heads) (now next) (now sizes) (now known) count used (held (now order) many) (now images) ⌝ }
-    ensures { λ r. ⌜ InOrderAre (now (records .entry)) (now (places .entry)) count used (held (now (order .entry)) many) (now (images .entry)) (now (records .exit)) (now (places .exit)) (now (heads .exit)) (now (next .exit)) (now (sizes .exit)) (now (known .exit)) r ⌝ }
+    requires { ⌜ InOrderAsk (now records) (now places) (now index) (now known) count used (held (now order) many) (now images) ⌝ }
+    ensures { λ r. ⌜ InOrderAre (now (records .entry)) (now (places .entry)) count used (held (now (order .entry)) many) (now (images .entry)) (now (records .exit)) (now (places .exit)) (now (index .exit)) (now (known .exit)) r ⌝ }
 {
     let mut n = count;
     let mut u = used;
     let mut j = 0;
     while j < many {
         let k = order[j] as usize;
-        let made = apply_sort(records, places, heads, next, sizes, known, n, u, k, images);
+        let made = apply_sort(records, places, index, known, n, u, k, images);
         match made {
             Replaced::Is(_, m, v) => {
                 n = m;
@@ -90,31 +88,18 @@ pub fn apply_order(
 pub fn apply_deep(
     records: &mut [u8],
     places: &mut [u32],
-    heads: &mut [u16],
-    next: &mut [u16],
-    sizes: &mut [u16],
+    index: &mut [u16],
     known: &mut [u16],
     count: usize,
     used: usize,
     k: usize,
     images: &[u16],
 ) -> Replaced
-    requires { ⌜ KnownAsks (now records) (now places) (now heads) (now next) (now sizes) (now known) count used k (now images) ⌝ }
-    ensures { λ r. ⌜ KnownIs (now (records .entry)) (now (places .entry)) count used k (now (images .entry)) (now (records .exit)) (now (places .exit)) (now (heads .exit)) (now (next .exit)) (now (sizes .exit)) (now (known .exit)) r ⌝ }
+    requires { ⌜ KnownAsks (now records) (now places) (now index) (now known) count used k (now images) ⌝ }
+    ensures { λ r. ⌜ KnownIs (now (records .entry)) (now (places .entry)) count used k (now (images .entry)) (now (records .exit)) (now (places .exit)) (now (index .exit)) (now (known .exit)) r ⌝ }
 {
-    if size_at(sizes, k) <= SHALLOW {
-        return apply_sort(
-            records,
-            places,
-            heads,
-            next,
-            sizes,
-            known,
-            count,
-            used,
-            k,
-            images,
-        );
+    if size_at(index, k) <= SHALLOW {
+        return apply_sort(records, places, index, known, count, used, k, images);
     }
     let mut seen = [0u8; 4096];
     let mut order = [0u16; 4096];
@@ -122,9 +107,7 @@ pub fn apply_deep(
     let done = apply_order(
         records,
         places,
-        heads,
-        next,
-        sizes,
+        index,
         known,
         count,
         used,
@@ -133,7 +116,7 @@ pub fn apply_deep(
         images,
     );
     match done {
-        Parts::Are(n, u) => apply_sort(records, places, heads, next, sizes, known, n, u, k, images),
+        Parts::Are(n, u) => apply_sort(records, places, index, known, n, u, k, images),
         Parts::Stuck(n, u) => Replaced::Stuck(n, u),
     }
 }
@@ -142,9 +125,7 @@ pub fn apply_deep(
 pub fn apply_list(
     records: &mut [u8],
     places: &mut [u32],
-    heads: &mut [u16],
-    next: &mut [u16],
-    sizes: &mut [u16],
+    index: &mut [u16],
     known: &mut [u16],
     parts: &mut [u16],
     count: usize,
@@ -152,15 +133,15 @@ pub fn apply_list(
     many: usize,
     images: &[u16],
 ) -> Parts
-    requires { ⌜ KnownAllAsk (now records) (now places) (now heads) (now next) (now sizes) (now known) count used (held (now parts) many) (now images) ⌝ }
-    ensures { λ r. ⌜ KnownAllAre (now (records .entry)) (now (places .entry)) count used (held (now (parts .entry)) many) (now (images .entry)) (now (records .exit)) (now (places .exit)) (now (heads .exit)) (now (next .exit)) (now (sizes .exit)) (now (known .exit)) (held (now (parts .exit)) many) r ⌝ }
+    requires { ⌜ KnownAllAsk (now records) (now places) (now index) (now known) count used (held (now parts) many) (now images) ⌝ }
+    ensures { λ r. ⌜ KnownAllAre (now (records .entry)) (now (places .entry)) count used (held (now (parts .entry)) many) (now (images .entry)) (now (records .exit)) (now (places .exit)) (now (index .exit)) (now (known .exit)) (held (now (parts .exit)) many) r ⌝ }
 {
     let mut n = count;
     let mut u = used;
     let mut j = 0;
     while j < many {
         let k = parts[j] as usize;
-        let made = apply_deep(records, places, heads, next, sizes, known, n, u, k, images);
+        let made = apply_deep(records, places, index, known, n, u, k, images);
         match made {
             Replaced::Is(i, m, v) => {
                 parts[j] = i as u16;

@@ -16,26 +16,22 @@ ghost use Rattle.apply.specs.Contract.{functionAt, FunctionAsks, Functio
 pub fn make_function(
     records: &mut [u8],
     places: &mut [u32],
-    heads: &mut [u16],
-    next: &mut [u16],
-    sizes: &mut [u16],
+    index: &mut [u16],
     count: usize,
     used: usize,
     at: usize,
     left: usize,
     images: &[u16],
 ) -> Replaced
-    requires { ⌜ FunctionFits (now records) (now places) (now heads) (now next) (now sizes) count used (now images) at left ⌝ }
-    ensures { λ r. ⌜ ReplacedIs (now (records .entry)) (now (places .entry)) count used (functionAt (now (records .entry)) (now (places .entry)) count (now (images .entry)) at left) (now (records .exit)) (now (places .exit)) (now (heads .exit)) (now (next .exit)) (now (sizes .exit)) r ⌝ }
+    requires { ⌜ FunctionFits (now records) (now places) (now index) count used (now images) at left ⌝ }
+    ensures { λ r. ⌜ ReplacedIs (now (records .entry)) (now (places .entry)) count used (functionAt (now (records .entry)) (now (places .entry)) count (now (images .entry)) at left) (now (records .exit)) (now (places .exit)) (now (index .exit)) r ⌝ }
 {
     let mut parts = [0u16; 64];
     read_numbers(records, at, left, &mut parts);
     let done = make_answers(
         records,
         places,
-        heads,
-        next,
-        sizes,
+        index,
         &mut parts,
         count,
         used,
@@ -48,9 +44,7 @@ pub fn make_function(
             let made = make(
                 records,
                 places,
-                heads,
-                next,
-                sizes,
+                index,
                 n,
                 u,
                 0,
@@ -76,39 +70,26 @@ pub fn make_function(
 pub fn apply_function(
     records: &mut [u8],
     places: &mut [u32],
-    heads: &mut [u16],
-    next: &mut [u16],
-    sizes: &mut [u16],
+    index: &mut [u16],
     count: usize,
     used: usize,
     at: usize,
     left: usize,
     images: &[u16],
 ) -> Applied
-    requires { ⌜ FunctionAsks (now records) (now places) (now heads) (now next) (now sizes) count used (now images) at left ⌝ }
-    ensures { λ r. ⌜ AppliedIs (now (records .entry)) (now (places .entry)) (now (heads .entry)) (now (next .entry)) (now (sizes .entry)) count used (functionAt (now (records .entry)) (now (places .entry)) count (now (images .entry)) at left) (now (records .exit)) (now (places .exit)) (now (heads .exit)) (now (next .exit)) (now (sizes .exit)) r ⌝ }
+    requires { ⌜ FunctionAsks (now records) (now places) (now index) count used (now images) at left ⌝ }
+    ensures { λ r. ⌜ AppliedIs (now (records .entry)) (now (places .entry)) (now (index .entry)) count used (functionAt (now (records .entry)) (now (places .entry)) count (now (images .entry)) at left) (now (records .exit)) (now (places .exit)) (now (index .exit)) r ⌝ }
 {
-    let sum = answer_sizes(records, places, sizes, count, at, left, images);
+    let sum = answer_sizes(records, places, index, count, at, left, images);
     // The Function itself counts as one.
     if 4095 < sum {
         return Applied::TooLarge;
     }
-    let made = make_function(
-        records,
-        places,
-        heads,
-        next,
-        sizes,
-        count,
-        used,
-        at,
-        left,
-        images,
-    );
+    let made = make_function(records, places, index, count, used, at, left, images);
     match made {
         Replaced::Is(i, n, u) => Applied::Is(i, n, u),
         Replaced::Stuck(n, u) => {
-            undo(records, places, heads, next, sizes, n, u, count);
+            undo(records, places, index, n, u, count);
             Applied::NoRoom
         }
     }

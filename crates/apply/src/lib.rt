@@ -24,26 +24,24 @@ pub enum Applied {
 pub fn apply(
     records: &mut [u8],
     places: &mut [u32],
-    heads: &mut [u16],
-    next: &mut [u16],
-    sizes: &mut [u16],
+    index: &mut [u16],
     count: usize,
     used: usize,
     k: usize,
     images: &[u16],
 ) -> Applied
-    requires { ⌜ ApplyAsks (now records) (now places) (now heads) (now next) (now sizes) count used k (now images) ⌝ }
-    ensures { λ r. ⌜ AppliedIs (now (records .entry)) (now (places .entry)) (now (heads .entry)) (now (next .entry)) (now (sizes .entry)) count used (answerAt (now (records .entry)) (now (places .entry)) count (now (images .entry)) k) (now (records .exit)) (now (places .exit)) (now (heads .exit)) (now (next .exit)) (now (sizes .exit)) r ⌝ }
+    requires { ⌜ ApplyAsks (now records) (now places) (now index) count used k (now images) ⌝ }
+    ensures { λ r. ⌜ AppliedIs (now (records .entry)) (now (places .entry)) (now (index .entry)) count used (answerAt (now (records .entry)) (now (places .entry)) count (now (images .entry)) k) (now (records .exit)) (now (places .exit)) (now (index .exit)) r ⌝ }
 {
-    let size = answer_size(records, places, sizes, count, k, images);
+    let size = answer_size(records, places, index, count, k, images);
     if 4096 < size {
         return Applied::TooLarge;
     }
-    let made = make_answer(records, places, heads, next, sizes, count, used, k, images);
+    let made = make_answer(records, places, index, count, used, k, images);
     match made {
         Replaced::Is(i, n, u) => Applied::Is(i, n, u),
         Replaced::Stuck(n, u) => {
-            undo(records, places, heads, next, sizes, n, u, count);
+            undo(records, places, index, n, u, count);
             Applied::NoRoom
         }
     }

@@ -206,9 +206,9 @@ module _ (b p : List ℕ) (n : ℕ) (s tbl : List ℕ) (x m : ℕ) (f : PairsAsk
       ∙ ap (λ (c : Bool). need c Count (need (same (sortAt b p n body) bool) Misfit (sort (onlyOf (pairSorts (storeOf b p n) tbl s x m)))))
       (ap (λ (i : ℕ). eqb i 1) (pair-count (storeOf b p n) tbl s x m) ∙ ne-eqb m 1 d)
 
-pub lambda-asks : (b p hs ns zs : List ℕ) (n u : ℕ) (s tbl : List ℕ) (x m : ℕ) (a : List ℕ) (body : ℕ) → BodyAsks b p hs ns zs n u s tbl x m a body
-    → LambdaAsks b p hs ns zs n u s x m tbl a body
-lambda-asks b p hs ns zs n u s tbl x m a body f =
+pub lambda-asks : (b p ix : List ℕ) (n u : ℕ) (s tbl : List ℕ) (x m : ℕ) (a : List ℕ) (body : ℕ) → BodyAsks b p ix n u s tbl x m a body
+    → LambdaAsks b p ix n u s x m tbl a body
+lambda-asks b p ix n u s tbl x m a body f =
     record {
       good = f .good;
       within = f .bound .within;
@@ -220,14 +220,14 @@ lambda-asks b p hs ns zs n u s tbl x m a body f =
     }
 
 ---------------------------------------------------------------- the binder
-module _ (b p hs ns zs : List ℕ) (n u : ℕ) (s tbl : List ℕ) (x m : ℕ) (a : List ℕ) (f : BinderAsks b p hs ns zs n u s tbl x m a) (k : ℕ)
+module _ (b p ix : List ℕ) (n u : ℕ) (s tbl : List ℕ) (x m : ℕ) (a : List ℕ) (f : BinderAsks b p ix n u s tbl x m a) (k : ℕ)
     (t : Bool) (h : t ≡ properAll (pairSorts (storeOf b p n) tbl s x m)) where
   pub binder-barred : t ≡ false → binder k (pairSorts (storeOf b p n) tbl s x m) (argsOf b p n a 1) ≡ refused Barred
   unfolding binder
   binder-barred e = ap (λ (c : Bool). need c Barred (boundBody k (pairSorts (storeOf b p n) tbl s x m) (argsOf b p n a 1))) (sym h ∙ e)
 
   module _ (e : t ≡ true) (body : ℕ) (q : body ≡ u16At a 3) where
-    pub body-asks : BodyAsks b p hs ns zs n u s tbl x m a body
+    pub body-asks : BodyAsks b p ix n u s tbl x m a body
     body-asks = record { good = f .good; bound = f .bound; few = f .few; room = f .room; known = subst (λ (i : ℕ). i < n) (sym q) (f .known) }
 
     pub binder-is : binder k (pairSorts (storeOf b p n) tbl s x m) (argsOf b p n a 1) ≡ boundBody k (pairSorts (storeOf b p n) tbl s x m) (sortAt b p n body then end)

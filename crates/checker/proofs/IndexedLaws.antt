@@ -122,18 +122,18 @@ one-other op i s (inl l) x y z =
 one-other op i s (inr l) x y z =
     rw (ne-eqb op 3 (λ e. absurd (omega arith)), ne-eqb op 4 (λ e. absurd (omega arith)), ne-eqb op 5 (λ e. absurd (omega arith)), ne-eqb op 6 (λ e. absurd (omega arith)), ne-eqb op 7 x, ne-eqb op 9 y, ne-eqb op 10 z) refl
 
-module _ (b p hs ns zs : List ℕ) (n u a : ℕ) (f : KnownAsks b p hs ns zs n u a) where
+module _ (b p ix : List ℕ) (n u a : ℕ) (f : KnownAsks b p ix n u a) where
   pub argument-entry : EntryAsks b p a
   argument-entry = entry-asks b p n a (f .good .stored) (f .known)
 
   -- The argument itself where its kind is the one wanted.
   kept-answer : (k w : ℕ) (v : Verdict) → (k ≡ w → v ≡ sort (sortAt b p n a)) → ((k ≡ w → ⊥) → v ≡ refused Misfit)
-      → AnswerIs b p n v b p hs ns zs (keptAs n u a k w)
+      → AnswerIs b p n v b p ix (keptAs n u a k w)
   kept-answer k w v x y = go (eqb k w) refl
     where
-      go : (t : Bool) → eqb k w ≡ t → AnswerIs b p n v b p hs ns zs (cond t (accepting a n u) (refusing Misfit n u))
-      go true e = judged-as (x (eqb-true k w e)) (answer-known b p hs ns zs n u (f .good) a (f .known))
-      go false e = judged-as (y (eqb-false k w e)) (answer-refused b p hs ns zs n u (f .good) Misfit)
+      go : (t : Bool) → eqb k w ≡ t → AnswerIs b p n v b p ix (cond t (accepting a n u) (refusing Misfit n u))
+      go true e = judged-as (x (eqb-true k w e)) (answer-known b p ix n u (f .good) a (f .known))
+      go false e = judged-as (y (eqb-false k w e)) (answer-refused b p ix n u (f .good) Misfit)
 
   module _ (r : SortRecord) (h : EntryHas b p a r) where
     read : EntryIs b p n a r
@@ -163,7 +163,7 @@ module _ (b p hs ns zs : List ℕ) (n u a : ℕ) (f : KnownAsks b p hs ns zs n u
         one-extend op i (sortAt b p n a) l o
         ∙ ap₂ (λ (t : Bool) (w : ℕ). need t Misfit (sort (bitvec (w + i)))) vector-by (sym (read .number))
 
-    pub rotate-is : (op i : ℕ) → 5 ≤ op → op < 7 → AnswerIs b p n (indexed₁ op i (sortAt b p n a)) b p hs ns zs (keptAs n u a (r .kind) 9)
+    pub rotate-is : (op i : ℕ) → 5 ≤ op → op < 7 → AnswerIs b p n (indexed₁ op i (sortAt b p n a)) b p ix (keptAs n u a (r .kind) 9)
     rotate-is op i l o =
         let S = sortAt b p n a in
         judged-as (one-rotate op i S l o)
@@ -192,7 +192,7 @@ module _ (b p hs ns zs : List ℕ) (n u a : ℕ) (f : KnownAsks b p hs ns zs n u
         ∙ ap₂ (λ (t v : Bool). need t Count (need v Misfit (sort (bitvec i)))) (lt-ltb 0 i (omega (arith, z))) (plain-by 4 refl)
 
     -- RePower and ReLoop keep RegLan.
-    text-kept : AnswerIs b p n (need (same (sortAt b p n a) reglan) Misfit (sort reglan)) b p hs ns zs (keptAs n u a (r .kind) 7)
+    text-kept : AnswerIs b p n (need (same (sortAt b p n a) reglan) Misfit (sort reglan)) b p ix (keptAs n u a (r .kind) 7)
     unfolding mapOf maps
     text-kept =
         let S = sortAt b p n a in
@@ -202,10 +202,10 @@ module _ (b p hs ns zs : List ℕ) (n u a : ℕ) (f : KnownAsks b p hs ns zs n u
         ap (λ (t : Bool). need t Misfit (sort reglan)) v ∙ ap sort (sym (same-sound S reglan v)))
         (λ d. ap (λ (t : Bool). need t Misfit (sort reglan)) (plain-by 7 refl ∙ ne-eqb (r .kind) 7 d))
 
-    pub power-is : (op i : ℕ) → op ≡ 10 → AnswerIs b p n (indexed₁ op i (sortAt b p n a)) b p hs ns zs (keptAs n u a (r .kind) 7)
+    pub power-is : (op i : ℕ) → op ≡ 10 → AnswerIs b p n (indexed₁ op i (sortAt b p n a)) b p ix (keptAs n u a (r .kind) 7)
     power-is op i e = judged-as (ap (λ (k : ℕ). indexed₁ k i (sortAt b p n a)) e) text-kept
 
-    pub loop-is : (op i j : ℕ) → op ≡ 11 → AnswerIs b p n (indexed₂ op i j (sortAt b p n a)) b p hs ns zs (keptAs n u a (r .kind) 7)
+    pub loop-is : (op i j : ℕ) → op ≡ 11 → AnswerIs b p n (indexed₂ op i j (sortAt b p n a)) b p ix (keptAs n u a (r .kind) 7)
     loop-is op i j e = judged-as (ap (λ (k : ℕ). indexed₂ k i j (sortAt b p n a)) e) text-kept
 
   module _ (i j : ℕ) where
@@ -276,14 +276,14 @@ module _ (op : ℕ) (is : List (Option ℕ)) (ts : Sorts) where
     unfolding indexing
     indexed-on z = rw (ne-eqb op 1 x, ne-eqb op 2 y, ne-eqb op 8 z) refl
 
-module _ (b p hs ns zs : List ℕ) (n u : ℕ) (s xs : List ℕ) (x y : ℕ) (a : List ℕ) (m : ℕ) (f : IndexingAsks b p hs ns zs n u s xs x y a m)
+module _ (b p ix : List ℕ) (n u : ℕ) (s xs : List ℕ) (x y : ℕ) (a : List ℕ) (m : ℕ) (f : IndexingAsks b p ix n u s xs x y a m)
     (op : ℕ) (h1 : op ≡ 1 → ⊥) (h2 : op ≡ 2 → ⊥) (h8 : op ≡ 8 → ⊥) where
   pub indexing-count : (m ≡ 1 → ⊥) → indexing op (constantsIn s xs x y) (argsOf b p n a m) ≡ refused Count
   indexing-count d =
       indexed-on op (constantsIn s xs x y) (argsOf b p n a m) h1 h2 h8 ∙ indexed-count op (constantsIn s xs x y) (storeOf b p n) a m d
 
   module _ (e : m ≡ 1) (r : Indices) (g : IndicesAre s xs x y r) (k : ℕ) (ek : k ≡ u16At a 3) where
-    pub indexed-asks : IndexedAsks b p hs ns zs n u r k
+    pub indexed-asks : IndexedAsks b p ix n u r k
     indexed-asks = record { good = f .good; known = subst (λ (i : ℕ). i < n) (sym ek) (f .below 0 (omega arith)); small = g .small }
 
     pub indexing-is : indexing op (constantsIn s xs x y) (argsOf b p n a m) ≡ indexedWith op r (sortAt b p n k)

@@ -115,26 +115,26 @@ module _ (b p : List ℕ) (n : ℕ) (tbl : List ℕ) (r : TermRecord) (a : List 
       ∙ ap (λ (t : Sort). qualified (r .number) t (argsOf b p n a (r .count))) (f .typed e .is)
 
 ---------------------------------------------------------------- sorts that are made
-module _ (b p hs ns zs : List ℕ) (n u : ℕ) (s tbl xs : List ℕ) (r : TermRecord) (a : List ℕ) (f : ComposedAsks b p hs ns zs n u s tbl xs r a) where
+module _ (b p ix : List ℕ) (n u : ℕ) (s tbl xs : List ℕ) (r : TermRecord) (a : List ℕ) (f : ComposedAsks b p ix n u s tbl xs r a) where
   few : r .count ≤ 64
   few = count-few (f .standing)
 
   within : 3 + 2 * r .count ≤ length a
   within = omega (arith, few, f .room)
 
-  pub op-asks : r .kind ≡ 7 → OperatedAsks b p hs ns zs n u (r .number) a (r .count)
+  pub op-asks : r .kind ≡ 7 → OperatedAsks b p ix n u (r .number) a (r .count)
   op-asks e = record { good = f .good; few = op-number (f .standing) e; within = within; below = f .below }
 
   pub op-is : r .kind ≡ 7 → checked smtLib (siteOver (storeOf b p n) s tbl xs a r) ≡ operated smtLib (r .number) (argsOf b p n a (r .count))
   op-is e = checked-op (siteOver (storeOf b p n) s tbl xs a r) e
 
-  pub binder-asks : r .kind ≡ 8 → BinderAsks b p hs ns zs n u s tbl (r .pairs) (r .paired) a
+  pub binder-asks : r .kind ≡ 8 → BinderAsks b p ix n u s tbl (r .pairs) (r .paired) a
   binder-asks e =
       let h = bindings-bound (f .standing) in
       let one = binder-one (f .standing) e in
       record {
         good = f .good;
-        bound = record { usable = good-usable b p hs ns zs n u (f .good); within = h .within; each = h .each; below = h .below };
+        bound = record { usable = good-usable b p ix n u (f .good); within = h .within; each = h .each; below = h .below };
         few = h .few;
         room = omega (arith, f .room);
         known = f .below 0 (omega (arith, one));
@@ -146,7 +146,7 @@ module _ (b p hs ns zs : List ℕ) (n u : ℕ) (s tbl xs : List ℕ) (r : TermRe
       checked-binder (siteOver (storeOf b p n) s tbl xs a r) e
       ∙ ap₂ (λ (bs : Sorts) (m : ℕ). binder (r .number) bs (argsOf b p n a m)) (bindings-sorts (storeOf b p n) tbl s r) (binder-one (f .standing) e)
 
-  pub index-asks : r .kind ≡ 11 → IndexingAsks b p hs ns zs n u s xs (r .second) (r .seconds) a (r .count)
+  pub index-asks : r .kind ≡ 11 → IndexingAsks b p ix n u s xs (r .second) (r .seconds) a (r .count)
   index-asks e = record { good = f .good; constants = index-constants (f .standing) e; within = within; below = f .below }
 
   pub index-kind : r .kind ≡ 11 → checked smtLib (siteOver (storeOf b p n) s tbl xs a r)
@@ -158,7 +158,7 @@ module _ (b p hs ns zs : List ℕ) (n u : ℕ) (s tbl xs : List ℕ) (r : TermRe
   pub known-asks : KnownAsks b p n tbl r a
   known-asks =
       record {
-        usable = good-usable b p hs ns zs n u (f .good);
+        usable = good-usable b p ix n u (f .good);
         variable = λ e. var-own (f .standing) b p e;
         typed = λ e. as-own (f .standing) b p e;
         args = record { within = within; over = record { stored = f .good .stored; distinct = f .good .distinct; below = f .below } };

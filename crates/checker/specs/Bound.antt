@@ -23,16 +23,16 @@ pub record QuantifiedAsks (b p : List ℕ) (n : ℕ) (s tbl : List ℕ) (x m num
   pub other : number ≡ 3 → ⊥
 
 -- At most 64 pairs and a body, over a good store; a is long enough for a list of 65.
-pub record BodyAsks (b p hs ns zs : List ℕ) (n u : ℕ) (s tbl : List ℕ) (x m : ℕ) (a : List ℕ) (body : ℕ) : Type 0 where
-  pub good : Good b p hs ns zs n u
+pub record BodyAsks (b p ix : List ℕ) (n u : ℕ) (s tbl : List ℕ) (x m : ℕ) (a : List ℕ) (body : ℕ) : Type 0 where
+  pub good : Good b p ix n u
   pub bound : PairsAsk b p n s tbl x m
   pub few : m ≤ 64
   pub room : 133 ≤ length a
   pub known : body < n
 
 -- The same with the number of the body in a from byte 3 on.
-pub record BinderAsks (b p hs ns zs : List ℕ) (n u : ℕ) (s tbl : List ℕ) (x m : ℕ) (a : List ℕ) : Type 0 where
-  pub good : Good b p hs ns zs n u
+pub record BinderAsks (b p ix : List ℕ) (n u : ℕ) (s tbl : List ℕ) (x m : ℕ) (a : List ℕ) : Type 0 where
+  pub good : Good b p ix n u
   pub bound : PairsAsk b p n s tbl x m
   pub few : m ≤ 64
   pub room : 133 ≤ length a

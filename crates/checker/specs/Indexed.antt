@@ -48,13 +48,13 @@ abbrev pub widenedVerdict : ℕ → ℕ → ℕ → Verdict
 widenedVerdict kind wanted w = need (eqb kind wanted) Misfit (sort (bitvec w))
 
 -- An index of four bytes, and an argument that is a number of a good store.
-pub record OneIndexAsks (b p hs ns zs : List ℕ) (n u i a : ℕ) : Type 0 where
-  pub good : Good b p hs ns zs n u
+pub record OneIndexAsks (b p ix : List ℕ) (n u i a : ℕ) : Type 0 where
+  pub good : Good b p ix n u
   pub known : a < n
   pub small : i < 4294967296
 
-pub record IndexedAsks (b p hs ns zs : List ℕ) (n u : ℕ) (is : Indices) (a : ℕ) : Type 0 where
-  pub good : Good b p hs ns zs n u
+pub record IndexedAsks (b p ix : List ℕ) (n u : ℕ) (is : Indices) (a : ℕ) : Type 0 where
+  pub good : Good b p ix n u
   pub known : a < n
   pub small : SmallOne is
 
@@ -65,8 +65,8 @@ indexedWith op (Two i j) a = indexed₂ op i j a
 indexedWith op Wrong a = refused Count
 
 -- The index terms that the sheet names, and m arguments that are numbers of a good store.
-pub record IndexingAsks (b p hs ns zs : List ℕ) (n u : ℕ) (s xs : List ℕ) (x y : ℕ) (a : List ℕ) (m : ℕ) : Type 0 where
-  pub good : Good b p hs ns zs n u
+pub record IndexingAsks (b p ix : List ℕ) (n u : ℕ) (s xs : List ℕ) (x y : ℕ) (a : List ℕ) (m : ℕ) : Type 0 where
+  pub good : Good b p ix n u
   pub constants : ConstantsAsk s xs x y
   pub within : 3 + 2 * m ≤ length a
   pub below : (j : ℕ) → j < m → argAt a j < n

@@ -33,8 +33,8 @@ pub record KnownAsks (b p : List ℕ) (n : ℕ) (tbl : List ℕ) (r : TermRecord
   pub args : OverAsks b p n a (r .count)
 
 -- A record that stands, whatever the rows are; neither a constant nor an App.
-pub record ComposedAsks (b p hs ns zs : List ℕ) (n u : ℕ) (s tbl xs : List ℕ) (r : TermRecord) (a : List ℕ) : Type 0 where
-  pub good : Good b p hs ns zs n u
+pub record ComposedAsks (b p ix : List ℕ) (n u : ℕ) (s tbl xs : List ℕ) (r : TermRecord) (a : List ℕ) : Type 0 where
+  pub good : Good b p ix n u
   pub rows : List ℕ
   pub standing : Standing n s tbl xs rows r
   pub room : 259 ≤ length a
@@ -43,6 +43,6 @@ pub record ComposedAsks (b p hs ns zs : List ℕ) (n u : ℕ) (s tbl xs : List �
   pub other : r .kind ≡ 6 → ⊥
 
 -- The same for every kind, with the tables of names.
-pub record GatheredAsks (b p hs ns zs : List ℕ) (n u : ℕ) (prm imgs bnd s tbl xs : List ℕ) (r : TermRecord) (a : List ℕ) : Type 0 where
+pub record GatheredAsks (b p ix : List ℕ) (n u : ℕ) (prm imgs bnd s tbl xs : List ℕ) (r : TermRecord) (a : List ℕ) : Type 0 where
   pub rows : List ℕ
-  pub site : SiteAsks b p hs ns zs n u prm imgs bnd s tbl xs rows r a
+  pub site : SiteAsks b p ix n u prm imgs bnd s tbl xs rows r a

@@ -88,9 +88,7 @@ pub fn quantified(
 pub fn bound_body(
     records: &mut [u8],
     places: &mut [u32],
-    heads: &mut [u16],
-    next: &mut [u16],
-    sizes: &mut [u16],
+    index: &mut [u16],
     count: usize,
     used: usize,
     sheet: &[u8],
@@ -101,8 +99,8 @@ pub fn bound_body(
     args: &mut [u8],
     body: usize,
 ) -> Answer
-    requires { ⌜ BodyAsks (now records) (now places) (now heads) (now next) (now sizes) count used (now sheet) (now table) pairs n (now args) body ⌝ }
-    ensures { λ r. ⌜ AnswerIs (now (records .entry)) (now (places .entry)) count (boundBody number (sortsOf (storeOf (now (records .entry)) (now (places .entry)) count) (boundNumbers (now (table .entry)) (now (sheet .entry)) pairs n)) (sortAt (now (records .entry)) (now (places .entry)) count body then end)) (now (records .exit)) (now (places .exit)) (now (heads .exit)) (now (next .exit)) (now (sizes .exit)) r ⌝ }
+    requires { ⌜ BodyAsks (now records) (now places) (now index) count used (now sheet) (now table) pairs n (now args) body ⌝ }
+    ensures { λ r. ⌜ AnswerIs (now (records .entry)) (now (places .entry)) count (boundBody number (sortsOf (storeOf (now (records .entry)) (now (places .entry)) count) (boundNumbers (now (table .entry)) (now (sheet .entry)) pairs n)) (sortAt (now (records .entry)) (now (places .entry)) count body then end)) (now (records .exit)) (now (places .exit)) (now (index .exit)) r ⌝ }
 {
     if number != 3 {
         return quantified(
@@ -127,9 +125,7 @@ pub fn bound_body(
     lambda(
         records,
         places,
-        heads,
-        next,
-        sizes,
+        index,
         count,
         used,
         sheet,
@@ -145,9 +141,7 @@ pub fn bound_body(
 pub fn binder(
     records: &mut [u8],
     places: &mut [u32],
-    heads: &mut [u16],
-    next: &mut [u16],
-    sizes: &mut [u16],
+    index: &mut [u16],
     count: usize,
     used: usize,
     sheet: &[u8],
@@ -157,17 +151,15 @@ pub fn binder(
     number: usize,
     args: &mut [u8],
 ) -> Answer
-    requires { ⌜ BinderAsks (now records) (now places) (now heads) (now next) (now sizes) count used (now sheet) (now table) pairs n (now args) ⌝ }
-    ensures { λ r. ⌜ AnswerIs (now (records .entry)) (now (places .entry)) count (binder number (sortsOf (storeOf (now (records .entry)) (now (places .entry)) count) (boundNumbers (now (table .entry)) (now (sheet .entry)) pairs n)) (argsOf (now (records .entry)) (now (places .entry)) count (now (args .entry)) 1)) (now (records .exit)) (now (places .exit)) (now (heads .exit)) (now (next .exit)) (now (sizes .exit)) r ⌝ }
+    requires { ⌜ BinderAsks (now records) (now places) (now index) count used (now sheet) (now table) pairs n (now args) ⌝ }
+    ensures { λ r. ⌜ AnswerIs (now (records .entry)) (now (places .entry)) count (binder number (sortsOf (storeOf (now (records .entry)) (now (places .entry)) count) (boundNumbers (now (table .entry)) (now (sheet .entry)) pairs n)) (argsOf (now (records .entry)) (now (places .entry)) count (now (args .entry)) 1)) (now (records .exit)) (now (places .exit)) (now (index .exit)) r ⌝ }
 {
     if all_proper(records, places, count, sheet, table, pairs, n) {
         let body = u16_at(args, 3);
         return bound_body(
             records,
             places,
-            heads,
-            next,
-            sizes,
+            index,
             count,
             used,
             sheet,

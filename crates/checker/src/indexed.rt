@@ -67,20 +67,18 @@ pub fn kept(count: usize, used: usize, a: usize, kind: usize, wanted: usize) -> 
 pub fn widened(
     records: &mut [u8],
     places: &mut [u32],
-    heads: &mut [u16],
-    next: &mut [u16],
-    sizes: &mut [u16],
+    index: &mut [u16],
     count: usize,
     used: usize,
     kind: usize,
     wanted: usize,
     width: usize,
 ) -> Answer
-    requires { ⌜ Good (now records) (now places) (now heads) (now next) (now sizes) count used ⌝ }
-    ensures { λ r. ⌜ AnswerIs (now (records .entry)) (now (places .entry)) count (widenedVerdict kind wanted width) (now (records .exit)) (now (places .exit)) (now (heads .exit)) (now (next .exit)) (now (sizes .exit)) r ⌝ }
+    requires { ⌜ Good (now records) (now places) (now index) count used ⌝ }
+    ensures { λ r. ⌜ AnswerIs (now (records .entry)) (now (places .entry)) count (widenedVerdict kind wanted width) (now (records .exit)) (now (places .exit)) (now (index .exit)) r ⌝ }
 {
     if kind == wanted {
-        return bit_vector(records, places, heads, next, sizes, count, used, width);
+        return bit_vector(records, places, index, count, used, width);
     }
     refuse(Cause::Misfit, count, used)
 }
@@ -90,57 +88,33 @@ pub fn widened(
 pub fn with_one(
     records: &mut [u8],
     places: &mut [u32],
-    heads: &mut [u16],
-    next: &mut [u16],
-    sizes: &mut [u16],
+    index: &mut [u16],
     count: usize,
     used: usize,
     op: usize,
     i: usize,
     a: usize,
 ) -> Answer
-    requires { ⌜ OneIndexAsks (now records) (now places) (now heads) (now next) (now sizes) count used i a ⌝ }
-    ensures { λ r. ⌜ AnswerIs (now (records .entry)) (now (places .entry)) count (indexed₁ op i (sortAt (now (records .entry)) (now (places .entry)) count a)) (now (records .exit)) (now (places .exit)) (now (heads .exit)) (now (next .exit)) (now (sizes .exit)) r ⌝ }
+    requires { ⌜ OneIndexAsks (now records) (now places) (now index) count used i a ⌝ }
+    ensures { λ r. ⌜ AnswerIs (now (records .entry)) (now (places .entry)) count (indexed₁ op i (sortAt (now (records .entry)) (now (places .entry)) count a)) (now (records .exit)) (now (places .exit)) (now (index .exit)) r ⌝ }
 {
     let e = entry(records, places, a);
     let kind = e.kind;
     let w = e.number;
     match op {
-        3 | 4 => widened(
-            records,
-            places,
-            heads,
-            next,
-            sizes,
-            count,
-            used,
-            kind,
-            9,
-            w + i,
-        ),
+        3 | 4 => widened(records, places, index, count, used, kind, 9, w + i),
         5 | 6 => kept(count, used, a, kind, 9),
         7 => {
             if i == 0 {
                 return refuse(Cause::Count, count, used);
             }
-            widened(
-                records,
-                places,
-                heads,
-                next,
-                sizes,
-                count,
-                used,
-                kind,
-                9,
-                i * w,
-            )
+            widened(records, places, index, count, used, kind, 9, i * w)
         }
         9 => {
             if i == 0 {
                 return refuse(Cause::Count, count, used);
             }
-            widened(records, places, heads, next, sizes, count, used, kind, 4, i)
+            widened(records, places, index, count, used, kind, 4, i)
         }
         10 => kept(count, used, a, kind, 7),
         _ => refuse(Cause::Count, count, used),
@@ -151,17 +125,15 @@ pub fn with_one(
 pub fn extracted(
     records: &mut [u8],
     places: &mut [u32],
-    heads: &mut [u16],
-    next: &mut [u16],
-    sizes: &mut [u16],
+    index: &mut [u16],
     count: usize,
     used: usize,
     i: usize,
     j: usize,
     a: usize,
 ) -> Answer
-    requires { ⌜ KnownAsks (now records) (now places) (now heads) (now next) (now sizes) count used a ⌝ }
-    ensures { λ r. ⌜ AnswerIs (now (records .entry)) (now (places .entry)) count (indexed₂ 0 i j (sortAt (now (records .entry)) (now (places .entry)) count a)) (now (records .exit)) (now (places .exit)) (now (heads .exit)) (now (next .exit)) (now (sizes .exit)) r ⌝ }
+    requires { ⌜ KnownAsks (now records) (now places) (now index) count used a ⌝ }
+    ensures { λ r. ⌜ AnswerIs (now (records .entry)) (now (places .entry)) count (indexed₂ 0 i j (sortAt (now (records .entry)) (now (places .entry)) count a)) (now (records .exit)) (now (places .exit)) (now (index .exit)) r ⌝ }
 {
     let e = entry(records, places, a);
     if i < j {
@@ -173,16 +145,14 @@ pub fn extracted(
     if e.number <= i {
         return refuse(Cause::Count, count, used);
     }
-    bit_vector(records, places, heads, next, sizes, count, used, i - j + 1)
+    bit_vector(records, places, index, count, used, i - j + 1)
 }
 
 // Two indices i, j at the argument a: 0 Extract, 11 ReLoop; Count for another operator.
 pub fn with_two(
     records: &mut [u8],
     places: &mut [u32],
-    heads: &mut [u16],
-    next: &mut [u16],
-    sizes: &mut [u16],
+    index: &mut [u16],
     count: usize,
     used: usize,
     op: usize,
@@ -190,11 +160,11 @@ pub fn with_two(
     j: usize,
     a: usize,
 ) -> Answer
-    requires { ⌜ KnownAsks (now records) (now places) (now heads) (now next) (now sizes) count used a ⌝ }
-    ensures { λ r. ⌜ AnswerIs (now (records .entry)) (now (places .entry)) count (indexed₂ op i j (sortAt (now (records .entry)) (now (places .entry)) count a)) (now (records .exit)) (now (places .exit)) (now (heads .exit)) (now (next .exit)) (now (sizes .exit)) r ⌝ }
+    requires { ⌜ KnownAsks (now records) (now places) (now index) count used a ⌝ }
+    ensures { λ r. ⌜ AnswerIs (now (records .entry)) (now (places .entry)) count (indexed₂ op i j (sortAt (now (records .entry)) (now (places .entry)) count a)) (now (records .exit)) (now (places .exit)) (now (index .exit)) r ⌝ }
 {
     if op == 0 {
-        return extracted(records, places, heads, next, sizes, count, used, i, j, a);
+        return extracted(records, places, index, count, used, i, j, a);
     }
     if op == 11 {
         let e = entry(records, places, a);
@@ -207,33 +177,19 @@ pub fn with_two(
 pub fn indexed_by(
     records: &mut [u8],
     places: &mut [u32],
-    heads: &mut [u16],
-    next: &mut [u16],
-    sizes: &mut [u16],
+    index: &mut [u16],
     count: usize,
     used: usize,
     op: usize,
     indices: Indices,
     a: usize,
 ) -> Answer
-    requires { ⌜ IndexedAsks (now records) (now places) (now heads) (now next) (now sizes) count used indices a ⌝ }
-    ensures { λ r. ⌜ AnswerIs (now (records .entry)) (now (places .entry)) count (indexedWith op indices (sortAt (now (records .entry)) (now (places .entry)) count a)) (now (records .exit)) (now (places .exit)) (now (heads .exit)) (now (next .exit)) (now (sizes .exit)) r ⌝ }
+    requires { ⌜ IndexedAsks (now records) (now places) (now index) count used indices a ⌝ }
+    ensures { λ r. ⌜ AnswerIs (now (records .entry)) (now (places .entry)) count (indexedWith op indices (sortAt (now (records .entry)) (now (places .entry)) count a)) (now (records .exit)) (now (places .exit)) (now (index .exit)) r ⌝ }
 {
     match indices {
-        Indices::One(i) => with_one(records, places, heads, next, sizes, count, used, op, i, a),
-        Indices::Two(i, j) => with_two(
-            records,
-            places,
-            heads,
-            next,
-            sizes,
-            count,
-            used,
-            op,
-            i,
-            j,
-            a,
-        ),
+        Indices::One(i) => with_one(records, places, index, count, used, op, i, a),
+        Indices::Two(i, j) => with_two(records, places, index, count, used, op, i, j, a),
         Indices::Wrong => refuse(Cause::Count, count, used),
     }
 }
@@ -242,9 +198,7 @@ pub fn indexed_by(
 pub fn indexing(
     records: &mut [u8],
     places: &mut [u32],
-    heads: &mut [u16],
-    next: &mut [u16],
-    sizes: &mut [u16],
+    index: &mut [u16],
     count: usize,
     used: usize,
     sheet: &[u8],
@@ -255,8 +209,8 @@ pub fn indexing(
     args: &[u8],
     n: usize,
 ) -> Answer
-    requires { ⌜ IndexingAsks (now records) (now places) (now heads) (now next) (now sizes) count used (now sheet) (now starts) second seconds (now args) n ⌝ }
-    ensures { λ r. ⌜ AnswerIs (now (records .entry)) (now (places .entry)) count (indexing op (constantsIn (now (sheet .entry)) (now (starts .entry)) second seconds) (argsOf (now (records .entry)) (now (places .entry)) count (now (args .entry)) n)) (now (records .exit)) (now (places .exit)) (now (heads .exit)) (now (next .exit)) (now (sizes .exit)) r ⌝ }
+    requires { ⌜ IndexingAsks (now records) (now places) (now index) count used (now sheet) (now starts) second seconds (now args) n ⌝ }
+    ensures { λ r. ⌜ AnswerIs (now (records .entry)) (now (places .entry)) count (indexing op (constantsIn (now (sheet .entry)) (now (starts .entry)) second seconds) (argsOf (now (records .entry)) (now (places .entry)) count (now (args .entry)) n)) (now (records .exit)) (now (places .exit)) (now (index .exit)) r ⌝ }
 {
     if op == 1 {
         return refuse(Cause::NoRank, count, used);
@@ -272,16 +226,5 @@ pub fn indexing(
     }
     let indices = indices_of(sheet, starts, second, seconds);
     let a = u16_at(args, 3);
-    indexed_by(
-        records,
-        places,
-        heads,
-        next,
-        sizes,
-        count,
-        used,
-        op,
-        indices,
-        a,
-    )
+    indexed_by(records, places, index, count, used, op, indices, a)
 }

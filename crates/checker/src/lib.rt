@@ -60,9 +60,7 @@ pub fn known_site(
 pub fn composed_site(
     records: &mut [u8],
     places: &mut [u32],
-    heads: &mut [u16],
-    next: &mut [u16],
-    sizes: &mut [u16],
+    index: &mut [u16],
     count: usize,
     used: usize,
     sheet: &[u8],
@@ -71,25 +69,14 @@ pub fn composed_site(
     term: TermRecord,
     args: &mut [u8],
 ) -> Answer
-    requires { ⌜ ComposedAsks (now records) (now places) (now heads) (now next) (now sizes) count used (now sheet) (now table) (now starts) term (now args) ⌝ }
-    ensures { λ r. ⌜ AnswerIs (now (records .entry)) (now (places .entry)) count (checked smtLib (siteOver (storeOf (now (records .entry)) (now (places .entry)) count) (now (sheet .entry)) (now (table .entry)) (now (starts .entry)) (now (args .entry)) term)) (now (records .exit)) (now (places .exit)) (now (heads .exit)) (now (next .exit)) (now (sizes .exit)) r ⌝ }
+    requires { ⌜ ComposedAsks (now records) (now places) (now index) count used (now sheet) (now table) (now starts) term (now args) ⌝ }
+    ensures { λ r. ⌜ AnswerIs (now (records .entry)) (now (places .entry)) count (checked smtLib (siteOver (storeOf (now (records .entry)) (now (places .entry)) count) (now (sheet .entry)) (now (table .entry)) (now (starts .entry)) (now (args .entry)) term)) (now (records .exit)) (now (places .exit)) (now (index .exit)) r ⌝ }
 {
     let kind = term.kind;
     let number = term.number;
     let n = term.count;
     if kind == 7 {
-        return operated(
-            records,
-            places,
-            heads,
-            next,
-            sizes,
-            count,
-            used,
-            number,
-            args,
-            n,
-        );
+        return operated(records, places, index, count, used, number, args, n);
     }
     if kind == 8 {
         let pairs = term.pairs;
@@ -97,9 +84,7 @@ pub fn composed_site(
         return binder(
             records,
             places,
-            heads,
-            next,
-            sizes,
+            index,
             count,
             used,
             sheet,
@@ -116,9 +101,7 @@ pub fn composed_site(
         return indexing(
             records,
             places,
-            heads,
-            next,
-            sizes,
+            index,
             count,
             used,
             sheet,
@@ -137,9 +120,7 @@ pub fn composed_site(
 pub fn gathered_site(
     records: &mut [u8],
     places: &mut [u32],
-    heads: &mut [u16],
-    next: &mut [u16],
-    sizes: &mut [u16],
+    index: &mut [u16],
     count: usize,
     used: usize,
     params: &mut [u16],
@@ -151,32 +132,20 @@ pub fn gathered_site(
     term: TermRecord,
     args: &mut [u8],
 ) -> Answer
-    requires { ⌜ GatheredAsks (now records) (now places) (now heads) (now next) (now sizes) count used (now params) (now images) (now bound) (now sheet) (now table) (now starts) term (now args) ⌝ }
-    ensures { λ r. ⌜ SiteIs (checked smtLib) (now (records .entry)) (now (places .entry)) count (now (params .entry)) (now (images .entry)) (now (bound .entry)) (now (sheet .entry)) (now (table .entry)) (now (starts .entry)) term (now (args .entry)) (now (records .exit)) (now (places .exit)) (now (heads .exit)) (now (next .exit)) (now (sizes .exit)) (now (params .exit)) (now (images .exit)) (now (bound .exit)) r ⌝ }
+    requires { ⌜ GatheredAsks (now records) (now places) (now index) count used (now params) (now images) (now bound) (now sheet) (now table) (now starts) term (now args) ⌝ }
+    ensures { λ r. ⌜ SiteIs (checked smtLib) (now (records .entry)) (now (places .entry)) count (now (params .entry)) (now (images .entry)) (now (bound .entry)) (now (sheet .entry)) (now (table .entry)) (now (starts .entry)) term (now (args .entry)) (now (records .exit)) (now (places .exit)) (now (index .exit)) (now (params .exit)) (now (images .exit)) (now (bound .exit)) r ⌝ }
 {
     let kind = term.kind;
     if kind < 5 {
         let number = term.number;
-        return constant(
-            records,
-            places,
-            heads,
-            next,
-            sizes,
-            count,
-            used,
-            kind,
-            number,
-        );
+        return constant(records, places, index, count, used, kind, number);
     }
     if kind == 6 {
         let n = term.count;
         return application(
             records,
             places,
-            heads,
-            next,
-            sizes,
+            index,
             count,
             used,
             params,
@@ -189,9 +158,7 @@ pub fn gathered_site(
     composed_site(
         records,
         places,
-        heads,
-        next,
-        sizes,
+        index,
         count,
         used,
         sheet,
@@ -207,9 +174,7 @@ pub fn gathered_site(
 pub fn check(
     records: &mut [u8],
     places: &mut [u32],
-    heads: &mut [u16],
-    next: &mut [u16],
-    sizes: &mut [u16],
+    index: &mut [u16],
     count: usize,
     used: usize,
     params: &mut [u16],
@@ -222,16 +187,14 @@ pub fn check(
     term: TermRecord,
     args: &mut [u8],
 ) -> Answer
-    requires { ⌜ TermAsks (now records) (now places) (now heads) (now next) (now sizes) count used (now params) (now images) (now bound) (now sheet) (now table) (now starts) (now rows) term (now args) ⌝ }
-    ensures { λ r. ⌜ TermIs (checked smtLib) 1 (now (records .entry)) (now (places .entry)) count (now (params .entry)) (now (images .entry)) (now (bound .entry)) (now (sheet .entry)) (now (table .entry)) (now (starts .entry)) (now (rows .entry)) term (now (records .exit)) (now (places .exit)) (now (heads .exit)) (now (next .exit)) (now (sizes .exit)) (now (params .exit)) (now (images .exit)) (now (bound .exit)) r ⌝ }
+    requires { ⌜ TermAsks (now records) (now places) (now index) count used (now params) (now images) (now bound) (now sheet) (now table) (now starts) (now rows) term (now args) ⌝ }
+    ensures { λ r. ⌜ TermIs (checked smtLib) 1 (now (records .entry)) (now (places .entry)) count (now (params .entry)) (now (images .entry)) (now (bound .entry)) (now (sheet .entry)) (now (table .entry)) (now (starts .entry)) (now (rows .entry)) term (now (records .exit)) (now (places .exit)) (now (index .exit)) (now (params .exit)) (now (images .exit)) (now (bound .exit)) r ⌝ }
 {
     if parts_judged(sheet, rows, 1, term, args) {
         return gathered_site(
             records,
             places,
-            heads,
-            next,
-            sizes,
+            index,
             count,
             used,
             params,

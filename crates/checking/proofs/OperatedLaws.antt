@@ -226,7 +226,7 @@ plain-small k e = go (decLt k 16)
     go (yes t) = t
     go (no t) = let z : _≡_ {A = ℕ} 0 1 = sym (List·getD-eq-default maps 0 {n = k} (omega arith)) ∙ e in absurd (omega arith)
 
-module _ (b p hs ns zs : List ℕ) (n u op : ℕ) (a : List ℕ) (m : ℕ) (f : OperatedAsks b p hs ns zs n u op a m) where
+module _ (b p ix : List ℕ) (n u op : ℕ) (a : List ℕ) (m : ℕ) (f : OperatedAsks b p ix n u op a m) where
   pub args-over : Over b p n a m
   args-over = record { stored = f .good .stored; distinct = f .good .distinct; below = f .below }
 

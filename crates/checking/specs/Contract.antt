@@ -97,13 +97,13 @@ abbrev pub ArrayHas : List ℕ → List ℕ → List ℕ → ℕ → Fit → Typ
 ArrayHas b p a m r = (n : ℕ) → Over b p n a m → ArrayIs n (storeOf b p n) (argsOf b p n a m) m r
 
 ---------------------------------------------------------------- answers
-pub record DeliverAsks (b p hs ns zs : List ℕ) (n u : ℕ) (r : Fit) : Type 0 where
-  pub good : Good b p hs ns zs n u
+pub record DeliverAsks (b p ix : List ℕ) (n u : ℕ) (r : Fit) : Type 0 where
+  pub good : Good b p ix n u
   pub ok : FitOk n r
 
 -- An operator of enum Operator, and m arguments that are numbers of a good store.
-pub record OperatedAsks (b p hs ns zs : List ℕ) (n u op : ℕ) (a : List ℕ) (m : ℕ) : Type 0 where
-  pub good : Good b p hs ns zs n u
+pub record OperatedAsks (b p ix : List ℕ) (n u op : ℕ) (a : List ℕ) (m : ℕ) : Type 0 where
+  pub good : Good b p ix n u
   pub few : op ≤ 134
   pub within : 3 + 2 * m ≤ length a
   pub below : (j : ℕ) → j < m → argAt a j < n

@@ -16,10 +16,10 @@ use Rattle.checking.specs.Contract.{Over}
 
 -- An answer that changes nothing, whatever index and sizes the good store has.
 abbrev pub ReadIs : List ℕ → List ℕ → ℕ → ℕ → Verdict → Answer → Type 0
-ReadIs b p n u v r = (hs ns zs : List ℕ) → Good b p hs ns zs n u → AnswerIs b p n v b p hs ns zs r
+ReadIs b p n u v r = (ix : List ℕ) → Good b p ix n u → AnswerIs b p n v b p ix r
 
-abbrev pub ConstantAsks : List ℕ → List ℕ → List ℕ → List ℕ → List ℕ → ℕ → ℕ → Type 0
-ConstantAsks b p hs ns zs n u = Good b p hs ns zs n u
+abbrev pub ConstantAsks : List ℕ → List ℕ → List ℕ → ℕ → ℕ → Type 0
+ConstantAsks b p ix n u = Good b p ix n u
 
 -- The kinds 0 to 4 of `checked`.
 abbrev pub constantVerdict : ℕ → ℕ → Verdict

@@ -250,20 +250,18 @@ pub fn fit_rule(records: &[u8], places: &[u32], rule: Rule, args: &[u8], n: usiz
 pub fn delivered(
     records: &mut [u8],
     places: &mut [u32],
-    heads: &mut [u16],
-    next: &mut [u16],
-    sizes: &mut [u16],
+    index: &mut [u16],
     count: usize,
     used: usize,
     made: Fit,
 ) -> Answer
-    requires { ⌜ DeliverAsks (now records) (now places) (now heads) (now next) (now sizes) count used made ⌝ }
-    ensures { λ r. ⌜ AnswerIs (now (records .entry)) (now (places .entry)) count (fitVerdict (storeOf (now (records .entry)) (now (places .entry)) count) made) (now (records .exit)) (now (places .exit)) (now (heads .exit)) (now (next .exit)) (now (sizes .exit)) r ⌝ }
+    requires { ⌜ DeliverAsks (now records) (now places) (now index) count used made ⌝ }
+    ensures { λ r. ⌜ AnswerIs (now (records .entry)) (now (places .entry)) count (fitVerdict (storeOf (now (records .entry)) (now (places .entry)) count) made) (now (records .exit)) (now (places .exit)) (now (index .exit)) r ⌝ }
 {
     match made {
         Fit::Known(k) => found(k, count, used),
-        Fit::Plain(kind) => leaf(records, places, heads, next, sizes, count, used, kind as u8),
-        Fit::Width(w) => bit_vector(records, places, heads, next, sizes, count, used, w),
+        Fit::Plain(kind) => leaf(records, places, index, count, used, kind as u8),
+        Fit::Width(w) => bit_vector(records, places, index, count, used, w),
         Fit::Nothing => refuse(Cause::Misfit, count, used),
     }
 }
@@ -273,17 +271,15 @@ pub fn delivered(
 pub fn operated(
     records: &mut [u8],
     places: &mut [u32],
-    heads: &mut [u16],
-    next: &mut [u16],
-    sizes: &mut [u16],
+    index: &mut [u16],
     count: usize,
     used: usize,
     op: usize,
     args: &[u8],
     n: usize,
 ) -> Answer
-    requires { ⌜ OperatedAsks (now records) (now places) (now heads) (now next) (now sizes) count used op (now args) n ⌝ }
-    ensures { λ r. ⌜ AnswerIs (now (records .entry)) (now (places .entry)) count (operated smtLib op (argsOf (now (records .entry)) (now (places .entry)) count (now (args .entry)) n)) (now (records .exit)) (now (places .exit)) (now (heads .exit)) (now (next .exit)) (now (sizes .exit)) r ⌝ }
+    requires { ⌜ OperatedAsks (now records) (now places) (now index) count used op (now args) n ⌝ }
+    ensures { λ r. ⌜ AnswerIs (now (records .entry)) (now (places .entry)) count (operated smtLib op (argsOf (now (records .entry)) (now (places .entry)) count (now (args .entry)) n)) (now (records .exit)) (now (places .exit)) (now (index .exit)) r ⌝ }
 {
     let rule = rule_of(op);
     if !is_ranked(rule) {
@@ -296,5 +292,5 @@ pub fn operated(
         return refuse(Cause::Misfit, count, used);
     }
     let made = fit_rule(records, places, rule, args, n);
-    delivered(records, places, heads, next, sizes, count, used, made)
+    delivered(records, places, index, count, used, made)
 }

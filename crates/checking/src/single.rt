@@ -22,33 +22,22 @@ ghost use Rattle.checking.specs.Single.{ReadIs, ConstantAsks, constantVe
 pub fn constant(
     records: &mut [u8],
     places: &mut [u32],
-    heads: &mut [u16],
-    next: &mut [u16],
-    sizes: &mut [u16],
+    index: &mut [u16],
     count: usize,
     used: usize,
     kind: usize,
     number: usize,
 ) -> Answer
-    requires { ⌜ ConstantAsks (now records) (now places) (now heads) (now next) (now sizes) count used ⌝ }
-    ensures { λ r. ⌜ AnswerIs (now (records .entry)) (now (places .entry)) count (constantVerdict kind number) (now (records .exit)) (now (places .exit)) (now (heads .exit)) (now (next .exit)) (now (sizes .exit)) r ⌝ }
+    requires { ⌜ ConstantAsks (now records) (now places) (now index) count used ⌝ }
+    ensures { λ r. ⌜ AnswerIs (now (records .entry)) (now (places .entry)) count (constantVerdict kind number) (now (records .exit)) (now (places .exit)) (now (index .exit)) r ⌝ }
 {
     if kind < 4 {
-        return leaf(
-            records,
-            places,
-            heads,
-            next,
-            sizes,
-            count,
-            used,
-            (kind + 4) as u8,
-        );
+        return leaf(records, places, index, count, used, (kind + 4) as u8);
     }
     if number == 0 {
         return refuse(Cause::Barred, count, used);
     }
-    bit_vector(records, places, heads, next, sizes, count, used, number)
+    bit_vector(records, places, index, count, used, number)
 }
 
 // Whether the sort k may be a Var's: no Type, ParamBitVec or BitVec 0 inside, and a Par only outermost, over a Function.

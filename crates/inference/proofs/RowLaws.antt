@@ -19,13 +19,13 @@ use Rattle.inference.specs.Terms.{constant, variable, qualified, PlainAs
 use Rattle.inference.proofs.IndexedLaws.{after}
 use Rattle.inference.proofs.TermLaws.{site-app}
 
-module _ {b p hs ns zs : List ℕ} {n u : ℕ} {prm imgs bnd s tbl xs rows : List ℕ} {r : TermRecord} {a : List ℕ} (h : SiteAsks b p hs ns zs n u prm imgs bnd s tbl xs rows r a) where
-  pub app-asks : AppAsks b p hs ns zs n u prm imgs bnd a (r .count)
+module _ {b p ix : List ℕ} {n u : ℕ} {prm imgs bnd s tbl xs rows : List ℕ} {r : TermRecord} {a : List ℕ} (h : SiteAsks b p ix n u prm imgs bnd s tbl xs rows r a) where
+  pub app-asks : AppAsks b p ix n u prm imgs bnd a (r .count)
   app-asks =
       record { good = h .asks .good; zeroed = h .asks .zeroed; few = count-few (h .asks .standing); room = h .asks .room; below = h .below }
 
   -- Kinds from 6 on and below 12, but for 6.
-  pub composed-asks : (r .kind ≡ 6 → ⊥) → 6 ≤ r .kind → r .kind < 12 → ComposedAsks b p hs ns zs n u s tbl xs r a
+  pub composed-asks : (r .kind ≡ 6 → ⊥) → 6 ≤ r .kind → r .kind < 12 → ComposedAsks b p ix n u s tbl xs r a
   composed-asks d l o =
       let t = h .asks .standing in
       record {
@@ -39,7 +39,7 @@ module _ {b p hs ns zs : List ℕ} {n u : ℕ} {prm imgs bnd s tbl xs rows : Lis
       }
 
   -- Kinds below 6, and the last.
-  pub plain-low : r .kind < 6 → PlainAsks b p hs ns zs n u tbl r
+  pub plain-low : r .kind < 6 → PlainAsks b p ix n u tbl r
   plain-low l =
       let t = h .asks .standing in
       let o : r .kind ≤ 5 = omega arith in
@@ -48,21 +48,21 @@ module _ {b p hs ns zs : List ℕ} {n u : ℕ} {prm imgs bnd s tbl xs rows : Lis
         plain = ⊎-elim (λ (e : r .kind ≡ 5). variable e (var-own t b p e)) (λ (k : r .kind < 5). constant k) (eq-or-lt-of-le o);
       }
 
-  pub plain-high : 12 ≤ r .kind → PlainAsks b p hs ns zs n u tbl r
+  pub plain-high : 12 ≤ r .kind → PlainAsks b p ix n u tbl r
   plain-high l =
       let t = h .asks .standing in
       let e : r .kind ≡ 12 = omega (arith, kind-known t) in
       record { good = h .asks .good; plain = qualified e (as-own t b p e) }
 
 -- An answer that is the verdict on the site, with the tables of names as they were.
-pub site-is : {b p : List ℕ} {n : ℕ} {prm imgs bnd s tbl xs : List ℕ} {r : TermRecord} {a b′ p′ hs′ ns′ zs′ : List ℕ} {q : Answer}
-    → AnswerIs b p n (inferred (siteOver (storeOf b p n) s tbl xs a r)) b′ p′ hs′ ns′ zs′ q
-    → SiteIs inferred b p n prm imgs bnd s tbl xs r a b′ p′ hs′ ns′ zs′ prm imgs bnd q
+pub site-is : {b p : List ℕ} {n : ℕ} {prm imgs bnd s tbl xs : List ℕ} {r : TermRecord} {a b′ p′ ix′ : List ℕ} {q : Answer}
+    → AnswerIs b p n (inferred (siteOver (storeOf b p n) s tbl xs a r)) b′ p′ ix′ q
+    → SiteIs inferred b p n prm imgs bnd s tbl xs r a b′ p′ ix′ prm imgs bnd q
 site-is h = record { answer = h; params = refl; images = refl; bound = refl }
 
-pub app-is : {b p : List ℕ} {n : ℕ} {prm imgs bnd s tbl xs : List ℕ} {r : TermRecord} {a b′ p′ hs′ ns′ zs′ prm′ imgs′ bnd′ : List ℕ} {q : Answer} → r .kind ≡ 6
-    → AppIs (applied (sortsAt b p n a 3 (r .count))) b p n prm imgs bnd b′ p′ hs′ ns′ zs′ prm′ imgs′ bnd′ q
-    → SiteIs inferred b p n prm imgs bnd s tbl xs r a b′ p′ hs′ ns′ zs′ prm′ imgs′ bnd′ q
+pub app-is : {b p : List ℕ} {n : ℕ} {prm imgs bnd s tbl xs : List ℕ} {r : TermRecord} {a b′ p′ ix′ prm′ imgs′ bnd′ : List ℕ} {q : Answer} → r .kind ≡ 6
+    → AppIs (applied (sortsAt b p n a 3 (r .count))) b p n prm imgs bnd b′ p′ ix′ prm′ imgs′ bnd′ q
+    → SiteIs inferred b p n prm imgs bnd s tbl xs r a b′ p′ ix′ prm′ imgs′ bnd′ q
 app-is {b} {p} {n} {s = s} {tbl = tbl} {xs = xs} {r = r} {a = a} e h =
     record {
       answer = judged-as (site-app (siteOver (storeOf b p n) s tbl xs a r) e) (h .answer);

@@ -22,26 +22,26 @@ pub data Indexing (op : ℕ) : Type 0 where
   converts : op ≡ 9 → Indexing op
 
 -- A good store, index terms, and the first index.
-pub record ExtractAsks (b p hs ns zs : List ℕ) (n u : ℕ) (s xs : List ℕ) (x q i : ℕ) : Type 0 where
-  pub good : Good b p hs ns zs n u
+pub record ExtractAsks (b p ix : List ℕ) (n u : ℕ) (s xs : List ℕ) (x q i : ℕ) : Type 0 where
+  pub good : Good b p ix n u
   pub terms : ConstantsAsk s xs x q
   pub small : i < 4294967296
 
 -- Arguments, and the first index.
-pub record ResizeAsks (b p hs ns zs : List ℕ) (n u : ℕ) (a : List ℕ) (m i : ℕ) : Type 0 where
-  pub args : ArgsAsks b p hs ns zs n u a m
+pub record ResizeAsks (b p ix : List ℕ) (n u : ℕ) (a : List ℕ) (m i : ℕ) : Type 0 where
+  pub args : ArgsAsks b p ix n u a m
   pub small : i < 4294967296
 
 -- Arguments and index terms.
-pub record IndexedAsks (b p hs ns zs : List ℕ) (n u : ℕ) (s xs : List ℕ) (x q : ℕ) (a : List ℕ) (m : ℕ) : Type 0 where
-  pub args : ArgsAsks b p hs ns zs n u a m
+pub record IndexedAsks (b p ix : List ℕ) (n u : ℕ) (s xs : List ℕ) (x q : ℕ) (a : List ℕ) (m : ℕ) : Type 0 where
+  pub args : ArgsAsks b p ix n u a m
   pub terms : ConstantsAsk s xs x q
 
 -- And an operator that looks at the first index; and that index.
-pub record FirstAsks (b p hs ns zs : List ℕ) (n u : ℕ) (s xs : List ℕ) (x q op : ℕ) (a : List ℕ) (m : ℕ) : Type 0 where
-  pub asks : IndexedAsks b p hs ns zs n u s xs x q a m
+pub record FirstAsks (b p ix : List ℕ) (n u : ℕ) (s xs : List ℕ) (x q op : ℕ) (a : List ℕ) (m : ℕ) : Type 0 where
+  pub asks : IndexedAsks b p ix n u s xs x q a m
   pub looks : Indexing op
 
-pub record GivenAsks (b p hs ns zs : List ℕ) (n u : ℕ) (s xs : List ℕ) (x q op : ℕ) (a : List ℕ) (m i : ℕ) : Type 0 where
-  pub first : FirstAsks b p hs ns zs n u s xs x q op a m
+pub record GivenAsks (b p ix : List ℕ) (n u : ℕ) (s xs : List ℕ) (x q op : ℕ) (a : List ℕ) (m i : ℕ) : Type 0 where
+  pub first : FirstAsks b p ix n u s xs x q op a m
   pub small : i < 4294967296

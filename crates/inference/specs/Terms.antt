@@ -20,23 +20,23 @@ pub data Plain (b p : List ℕ) (n : ℕ) (tbl : List ℕ) (r : TermRecord) : Ty
   qualified : r .kind ≡ 12 → OwnIs b p n tbl r → Plain b p n tbl r
 
 -- A good store, and such a record.
-pub record PlainAsks (b p hs ns zs : List ℕ) (n u : ℕ) (tbl : List ℕ) (r : TermRecord) : Type 0 where
-  pub good : Good b p hs ns zs n u
+pub record PlainAsks (b p ix : List ℕ) (n u : ℕ) (tbl : List ℕ) (r : TermRecord) : Type 0 where
+  pub good : Good b p ix n u
   pub plain : Plain b p n tbl r
 
 -- Its verdict, whatever the sheet, the places of terms, and the arguments.
-abbrev pub PlainIs : List ℕ → List ℕ → ℕ → List ℕ → TermRecord → List ℕ → List ℕ → List ℕ → List ℕ → List ℕ → Answer → Type 0
-PlainIs b p n tbl r b′ p′ hs′ ns′ zs′ q = (s xs a : List ℕ) → AnswerIs b p n (inferred (siteOver (storeOf b p n) s tbl xs a r)) b′ p′ hs′ ns′ zs′ q
+abbrev pub PlainIs : List ℕ → List ℕ → ℕ → List ℕ → TermRecord → List ℕ → List ℕ → List ℕ → Answer → Type 0
+PlainIs b p n tbl r b′ p′ ix′ q = (s xs a : List ℕ) → AnswerIs b p n (inferred (siteOver (storeOf b p n) s tbl xs a r)) b′ p′ ix′ q
 
 -- A good store, a Binder's body in a, and its pairs.
-pub record BoundAsks (b p hs ns zs : List ℕ) (n u : ℕ) (s tbl : List ℕ) (r : TermRecord) (a : List ℕ) : Type 0 where
-  pub args : ArgsAsks b p hs ns zs n u a (r .count)
+pub record BoundAsks (b p ix : List ℕ) (n u : ℕ) (s tbl : List ℕ) (r : TermRecord) (a : List ℕ) : Type 0 where
+  pub args : ArgsAsks b p ix n u a (r .count)
   pub body : 0 < r .count
   pub pairs : Bound n s tbl r
 
 -- A good store, the arguments of a record of a kind from 7 to 11, and what its kind has besides.
-pub record ComposedAsks (b p hs ns zs : List ℕ) (n u : ℕ) (s tbl xs : List ℕ) (r : TermRecord) (a : List ℕ) : Type 0 where
-  pub args : ArgsAsks b p hs ns zs n u a (r .count)
+pub record ComposedAsks (b p ix : List ℕ) (n u : ℕ) (s tbl xs : List ℕ) (r : TermRecord) (a : List ℕ) : Type 0 where
+  pub args : ArgsAsks b p ix n u a (r .count)
   pub low : 7 ≤ r .kind
   pub high : r .kind ≤ 11
   pub terms : ConstantsAsk s xs (r .list) (r .count)

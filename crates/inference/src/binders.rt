@@ -19,9 +19,7 @@ ghost use Rattle.inference.specs.Terms.{BoundAsks};
 pub fn bound(
     records: &mut [u8],
     places: &mut [u32],
-    heads: &mut [u16],
-    next: &mut [u16],
-    sizes: &mut [u16],
+    index: &mut [u16],
     count: usize,
     used: usize,
     sheet: &[u8],
@@ -29,8 +27,8 @@ pub fn bound(
     term: TermRecord,
     args: &mut [u8],
 ) -> Answer
-    requires { ⌜ BoundAsks (now records) (now places) (now heads) (now next) (now sizes) count used (now sheet) (now table) term (now args) ⌝ }
-    ensures { λ r. ⌜ AnswerIs (now (records .entry)) (now (places .entry)) count (bound (term .number) (bindingsOver (storeOf (now (records .entry)) (now (places .entry)) count) (now (table .entry)) (now (sheet .entry)) term) (sortsIn (now (records .entry)) (now (places .entry)) count (now (args .entry)) 3 (term .count))) (now (records .exit)) (now (places .exit)) (now (heads .exit)) (now (next .exit)) (now (sizes .exit)) r ⌝ }
+    requires { ⌜ BoundAsks (now records) (now places) (now index) count used (now sheet) (now table) term (now args) ⌝ }
+    ensures { λ r. ⌜ AnswerIs (now (records .entry)) (now (places .entry)) count (bound (term .number) (bindingsOver (storeOf (now (records .entry)) (now (places .entry)) count) (now (table .entry)) (now (sheet .entry)) term) (sortsIn (now (records .entry)) (now (places .entry)) count (now (args .entry)) 3 (term .count))) (now (records .exit)) (now (places .exit)) (now (index .exit)) r ⌝ }
 {
     let number = term.number;
     let pairs = term.pairs;
@@ -40,9 +38,7 @@ pub fn bound(
         return lambda(
             records,
             places,
-            heads,
-            next,
-            sizes,
+            index,
             count,
             used,
             sheet,
@@ -54,7 +50,7 @@ pub fn bound(
         );
     }
     if number != 2 {
-        return leaf(records, places, heads, next, sizes, count, used, 3);
+        return leaf(records, places, index, count, used, 3);
     }
     if paired == 0 {
         return refuse(Cause::Panics, count, used);

@@ -24,9 +24,7 @@ ghost use Rattle.inference.specs.Indexed.{ExtractAsks, ResizeAsks, resiz
 pub fn extracted(
     records: &mut [u8],
     places: &mut [u32],
-    heads: &mut [u16],
-    next: &mut [u16],
-    sizes: &mut [u16],
+    index: &mut [u16],
     count: usize,
     used: usize,
     sheet: &[u8],
@@ -35,8 +33,8 @@ pub fn extracted(
     seconds: usize,
     i: usize,
 ) -> Answer
-    requires { ⌜ ExtractAsks (now records) (now places) (now heads) (now next) (now sizes) count used (now sheet) (now starts) second seconds i ⌝ }
-    ensures { λ r. ⌜ AnswerIs (now (records .entry)) (now (places .entry)) count (extracted (some i ∷ constantsIn (now (sheet .entry)) (now (starts .entry)) (second + 2) (seconds - 1))) (now (records .exit)) (now (places .exit)) (now (heads .exit)) (now (next .exit)) (now (sizes .exit)) r ⌝ }
+    requires { ⌜ ExtractAsks (now records) (now places) (now index) count used (now sheet) (now starts) second seconds i ⌝ }
+    ensures { λ r. ⌜ AnswerIs (now (records .entry)) (now (places .entry)) count (extracted (some i ∷ constantsIn (now (sheet .entry)) (now (starts .entry)) (second + 2) (seconds - 1))) (now (records .exit)) (now (places .exit)) (now (index .exit)) r ⌝ }
 {
     if seconds < 2 {
         return refuse(Cause::Panics, count, used);
@@ -47,9 +45,9 @@ pub fn extracted(
             if i < j {
                 return refuse(Cause::Panics, count, used);
             }
-            bit_vector(records, places, heads, next, sizes, count, used, i - j + 1)
+            bit_vector(records, places, index, count, used, i - j + 1)
         }
-        Constant::Other => leaf(records, places, heads, next, sizes, count, used, 10),
+        Constant::Other => leaf(records, places, index, count, used, 10),
     }
 }
 
@@ -58,9 +56,7 @@ pub fn extracted(
 pub fn resized(
     records: &mut [u8],
     places: &mut [u32],
-    heads: &mut [u16],
-    next: &mut [u16],
-    sizes: &mut [u16],
+    index: &mut [u16],
     count: usize,
     used: usize,
     args: &[u8],
@@ -68,8 +64,8 @@ pub fn resized(
     i: usize,
     adds: bool,
 ) -> Answer
-    requires { ⌜ ResizeAsks (now records) (now places) (now heads) (now next) (now sizes) count used (now args) n i ⌝ }
-    ensures { λ r. ⌜ AnswerIs (now (records .entry)) (now (places .entry)) count (resizedOf (resizing adds i) (sortsIn (now (records .entry)) (now (places .entry)) count (now (args .entry)) 3 n)) (now (records .exit)) (now (places .exit)) (now (heads .exit)) (now (next .exit)) (now (sizes .exit)) r ⌝ }
+    requires { ⌜ ResizeAsks (now records) (now places) (now index) count used (now args) n i ⌝ }
+    ensures { λ r. ⌜ AnswerIs (now (records .entry)) (now (places .entry)) count (resizedOf (resizing adds i) (sortsIn (now (records .entry)) (now (places .entry)) count (now (args .entry)) 3 n)) (now (records .exit)) (now (places .exit)) (now (index .exit)) r ⌝ }
 {
     if n == 0 {
         return refuse(Cause::Panics, count, used);
@@ -79,24 +75,22 @@ pub fn resized(
     let kind = a.kind;
     let width = a.number;
     if kind == 10 {
-        return leaf(records, places, heads, next, sizes, count, used, 10);
+        return leaf(records, places, index, count, used, 10);
     }
     if kind != 9 {
         return refuse(Cause::Panics, count, used);
     }
     if adds {
-        return bit_vector(records, places, heads, next, sizes, count, used, i + width);
+        return bit_vector(records, places, index, count, used, i + width);
     }
-    bit_vector(records, places, heads, next, sizes, count, used, i * width)
+    bit_vector(records, places, index, count, used, i * width)
 }
 
 // The operators that look at their first index, i: 0 BvExtract, 3 ZeroExtend, 4 SignExtend, 7 Repeat, 9 IntToBv.
 pub fn by_index(
     records: &mut [u8],
     places: &mut [u32],
-    heads: &mut [u16],
-    next: &mut [u16],
-    sizes: &mut [u16],
+    index: &mut [u16],
     count: usize,
     used: usize,
     sheet: &[u8],
@@ -108,16 +102,14 @@ pub fn by_index(
     n: usize,
     i: usize,
 ) -> Answer
-    requires { ⌜ GivenAsks (now records) (now places) (now heads) (now next) (now sizes) count used (now sheet) (now starts) second seconds op (now args) n i ⌝ }
-    ensures { λ r. ⌜ AnswerIs (now (records .entry)) (now (places .entry)) count (indexed op (some i ∷ constantsIn (now (sheet .entry)) (now (starts .entry)) (second + 2) (seconds - 1)) (sortsIn (now (records .entry)) (now (places .entry)) count (now (args .entry)) 3 n)) (now (records .exit)) (now (places .exit)) (now (heads .exit)) (now (next .exit)) (now (sizes .exit)) r ⌝ }
+    requires { ⌜ GivenAsks (now records) (now places) (now index) count used (now sheet) (now starts) second seconds op (now args) n i ⌝ }
+    ensures { λ r. ⌜ AnswerIs (now (records .entry)) (now (places .entry)) count (indexed op (some i ∷ constantsIn (now (sheet .entry)) (now (starts .entry)) (second + 2) (seconds - 1)) (sortsIn (now (records .entry)) (now (places .entry)) count (now (args .entry)) 3 n)) (now (records .exit)) (now (places .exit)) (now (index .exit)) r ⌝ }
 {
     match op {
         0 => extracted(
             records,
             places,
-            heads,
-            next,
-            sizes,
+            index,
             count,
             used,
             sheet,
@@ -126,33 +118,9 @@ pub fn by_index(
             seconds,
             i,
         ),
-        3 | 4 => resized(
-            records,
-            places,
-            heads,
-            next,
-            sizes,
-            count,
-            used,
-            args,
-            n,
-            i,
-            true,
-        ),
-        7 => resized(
-            records,
-            places,
-            heads,
-            next,
-            sizes,
-            count,
-            used,
-            args,
-            n,
-            i,
-            false,
-        ),
-        _ => bit_vector(records, places, heads, next, sizes, count, used, i),
+        3 | 4 => resized(records, places, index, count, used, args, n, i, true),
+        7 => resized(records, places, index, count, used, args, n, i, false),
+        _ => bit_vector(records, places, index, count, used, i),
     }
 }
 
@@ -160,9 +128,7 @@ pub fn by_index(
 pub fn first_index(
     records: &mut [u8],
     places: &mut [u32],
-    heads: &mut [u16],
-    next: &mut [u16],
-    sizes: &mut [u16],
+    index: &mut [u16],
     count: usize,
     used: usize,
     sheet: &[u8],
@@ -173,8 +139,8 @@ pub fn first_index(
     args: &[u8],
     n: usize,
 ) -> Answer
-    requires { ⌜ FirstAsks (now records) (now places) (now heads) (now next) (now sizes) count used (now sheet) (now starts) second seconds op (now args) n ⌝ }
-    ensures { λ r. ⌜ AnswerIs (now (records .entry)) (now (places .entry)) count (indexed op (constantsIn (now (sheet .entry)) (now (starts .entry)) second seconds) (sortsIn (now (records .entry)) (now (places .entry)) count (now (args .entry)) 3 n)) (now (records .exit)) (now (places .exit)) (now (heads .exit)) (now (next .exit)) (now (sizes .exit)) r ⌝ }
+    requires { ⌜ FirstAsks (now records) (now places) (now index) count used (now sheet) (now starts) second seconds op (now args) n ⌝ }
+    ensures { λ r. ⌜ AnswerIs (now (records .entry)) (now (places .entry)) count (indexed op (constantsIn (now (sheet .entry)) (now (starts .entry)) second seconds) (sortsIn (now (records .entry)) (now (places .entry)) count (now (args .entry)) 3 n)) (now (records .exit)) (now (places .exit)) (now (index .exit)) r ⌝ }
 {
     if seconds == 0 {
         return refuse(Cause::Panics, count, used);
@@ -184,9 +150,7 @@ pub fn first_index(
         Constant::Integer(i) => by_index(
             records,
             places,
-            heads,
-            next,
-            sizes,
+            index,
             count,
             used,
             sheet,
@@ -198,7 +162,7 @@ pub fn first_index(
             n,
             i,
         ),
-        Constant::Other => leaf(records, places, heads, next, sizes, count, used, 10),
+        Constant::Other => leaf(records, places, index, count, used, 10),
     }
 }
 
@@ -207,9 +171,7 @@ pub fn first_index(
 pub fn indexed(
     records: &mut [u8],
     places: &mut [u32],
-    heads: &mut [u16],
-    next: &mut [u16],
-    sizes: &mut [u16],
+    index: &mut [u16],
     count: usize,
     used: usize,
     sheet: &[u8],
@@ -220,16 +182,14 @@ pub fn indexed(
     args: &[u8],
     n: usize,
 ) -> Answer
-    requires { ⌜ IndexedAsks (now records) (now places) (now heads) (now next) (now sizes) count used (now sheet) (now starts) second seconds (now args) n ⌝ }
-    ensures { λ r. ⌜ AnswerIs (now (records .entry)) (now (places .entry)) count (indexed op (constantsIn (now (sheet .entry)) (now (starts .entry)) second seconds) (sortsIn (now (records .entry)) (now (places .entry)) count (now (args .entry)) 3 n)) (now (records .exit)) (now (places .exit)) (now (heads .exit)) (now (next .exit)) (now (sizes .exit)) r ⌝ }
+    requires { ⌜ IndexedAsks (now records) (now places) (now index) count used (now sheet) (now starts) second seconds (now args) n ⌝ }
+    ensures { λ r. ⌜ AnswerIs (now (records .entry)) (now (places .entry)) count (indexed op (constantsIn (now (sheet .entry)) (now (starts .entry)) second seconds) (sortsIn (now (records .entry)) (now (places .entry)) count (now (args .entry)) 3 n)) (now (records .exit)) (now (places .exit)) (now (index .exit)) r ⌝ }
 {
     match op {
         0 | 3 | 4 | 7 | 9 => first_index(
             records,
             places,
-            heads,
-            next,
-            sizes,
+            index,
             count,
             used,
             sheet,
@@ -240,10 +200,10 @@ pub fn indexed(
             args,
             n,
         ),
-        1 => leaf(records, places, heads, next, sizes, count, used, 3),
-        2 => leaf(records, places, heads, next, sizes, count, used, 4),
+        1 => leaf(records, places, index, count, used, 3),
+        2 => leaf(records, places, index, count, used, 4),
         5 | 6 => argument(count, used, args, n, 0),
-        10 | 11 => leaf(records, places, heads, next, sizes, count, used, 7),
+        10 | 11 => leaf(records, places, index, count, used, 7),
         _ => refuse(Cause::Panics, count, used),
     }
 }

@@ -27,26 +27,24 @@ ghost use Rattle.inference.specs.Terms.{PlainAsks, PlainIs, ComposedAsks
 pub fn plain(
     records: &mut [u8],
     places: &mut [u32],
-    heads: &mut [u16],
-    next: &mut [u16],
-    sizes: &mut [u16],
+    index: &mut [u16],
     count: usize,
     used: usize,
     table: &[u16],
     term: TermRecord,
 ) -> Answer
-    requires { ⌜ PlainAsks (now records) (now places) (now heads) (now next) (now sizes) count used (now table) term ⌝ }
-    ensures { λ r. ⌜ PlainIs (now (records .entry)) (now (places .entry)) count (now (table .entry)) term (now (records .exit)) (now (places .exit)) (now (heads .exit)) (now (next .exit)) (now (sizes .exit)) r ⌝ }
+    requires { ⌜ PlainAsks (now records) (now places) (now index) count used (now table) term ⌝ }
+    ensures { λ r. ⌜ PlainIs (now (records .entry)) (now (places .entry)) count (now (table .entry)) term (now (records .exit)) (now (places .exit)) (now (index .exit)) r ⌝ }
 {
     let kind = term.kind;
     let number = term.number;
     let sort = term.sort;
     match kind {
-        0 => leaf(records, places, heads, next, sizes, count, used, 4),
-        1 => leaf(records, places, heads, next, sizes, count, used, 5),
-        2 => leaf(records, places, heads, next, sizes, count, used, 6),
-        3 => leaf(records, places, heads, next, sizes, count, used, 7),
-        4 => bit_vector(records, places, heads, next, sizes, count, used, number),
+        0 => leaf(records, places, index, count, used, 4),
+        1 => leaf(records, places, index, count, used, 5),
+        2 => leaf(records, places, index, count, used, 6),
+        3 => leaf(records, places, index, count, used, 7),
+        4 => bit_vector(records, places, index, count, used, number),
         _ => {
             let k = table[sort] as usize;
             found(k, count, used)
@@ -59,9 +57,7 @@ pub fn plain(
 pub fn composed(
     records: &mut [u8],
     places: &mut [u32],
-    heads: &mut [u16],
-    next: &mut [u16],
-    sizes: &mut [u16],
+    index: &mut [u16],
     count: usize,
     used: usize,
     sheet: &[u8],
@@ -70,8 +66,8 @@ pub fn composed(
     term: TermRecord,
     args: &mut [u8],
 ) -> Answer
-    requires { ⌜ ComposedAsks (now records) (now places) (now heads) (now next) (now sizes) count used (now sheet) (now table) (now starts) term (now args) ⌝ }
-    ensures { λ r. ⌜ AnswerIs (now (records .entry)) (now (places .entry)) count (inferred (siteOver (storeOf (now (records .entry)) (now (places .entry)) count) (now (sheet .entry)) (now (table .entry)) (now (starts .entry)) (now (args .entry)) term)) (now (records .exit)) (now (places .exit)) (now (heads .exit)) (now (next .exit)) (now (sizes .exit)) r ⌝ }
+    requires { ⌜ ComposedAsks (now records) (now places) (now index) count used (now sheet) (now table) (now starts) term (now args) ⌝ }
+    ensures { λ r. ⌜ AnswerIs (now (records .entry)) (now (places .entry)) count (inferred (siteOver (storeOf (now (records .entry)) (now (places .entry)) count) (now (sheet .entry)) (now (table .entry)) (now (starts .entry)) (now (args .entry)) term)) (now (records .exit)) (now (places .exit)) (now (index .exit)) r ⌝ }
 {
     let kind = term.kind;
     let number = term.number;
@@ -83,9 +79,7 @@ pub fn composed(
         7 => operated(
             records,
             places,
-            heads,
-            next,
-            sizes,
+            index,
             count,
             used,
             sheet,
@@ -98,9 +92,7 @@ pub fn composed(
         8 => bound(
             records,
             places,
-            heads,
-            next,
-            sizes,
+            index,
             count,
             used,
             sheet,
@@ -113,9 +105,7 @@ pub fn composed(
         _ => indexed(
             records,
             places,
-            heads,
-            next,
-            sizes,
+            index,
             count,
             used,
             sheet,
@@ -135,9 +125,7 @@ pub fn composed(
 pub fn infer(
     records: &mut [u8],
     places: &mut [u32],
-    heads: &mut [u16],
-    next: &mut [u16],
-    sizes: &mut [u16],
+    index: &mut [u16],
     count: usize,
     used: usize,
     params: &mut [u16],
@@ -150,8 +138,8 @@ pub fn infer(
     term: TermRecord,
     args: &mut [u8],
 ) -> Answer
-    requires { ⌜ TermAsks (now records) (now places) (now heads) (now next) (now sizes) count used (now params) (now images) (now bound) (now sheet) (now table) (now starts) (now rows) term (now args) ⌝ }
-    ensures { λ r. ⌜ TermIs inferred 0 (now (records .entry)) (now (places .entry)) count (now (params .entry)) (now (images .entry)) (now (bound .entry)) (now (sheet .entry)) (now (table .entry)) (now (starts .entry)) (now (rows .entry)) term (now (records .exit)) (now (places .exit)) (now (heads .exit)) (now (next .exit)) (now (sizes .exit)) (now (params .exit)) (now (images .exit)) (now (bound .exit)) r ⌝ }
+    requires { ⌜ TermAsks (now records) (now places) (now index) count used (now params) (now images) (now bound) (now sheet) (now table) (now starts) (now rows) term (now args) ⌝ }
+    ensures { λ r. ⌜ TermIs inferred 0 (now (records .entry)) (now (places .entry)) count (now (params .entry)) (now (images .entry)) (now (bound .entry)) (now (sheet .entry)) (now (table .entry)) (now (starts .entry)) (now (rows .entry)) term (now (records .exit)) (now (places .exit)) (now (index .exit)) (now (params .exit)) (now (images .exit)) (now (bound .exit)) r ⌝ }
 {
     if !parts_judged(sheet, rows, 0, term, args) {
         return refuse(Cause::Below, count, used);
@@ -162,9 +150,7 @@ pub fn infer(
         6 => applied(
             records,
             places,
-            heads,
-            next,
-            sizes,
+            index,
             count,
             used,
             params,
@@ -176,9 +162,7 @@ pub fn infer(
         7..=11 => composed(
             records,
             places,
-            heads,
-            next,
-            sizes,
+            index,
             count,
             used,
             sheet,
@@ -187,16 +171,6 @@ pub fn infer(
             term,
             args,
         ),
-        _ => plain(
-            records,
-            places,
-            heads,
-            next,
-            sizes,
-            count,
-            used,
-            table,
-            term,
-        ),
+        _ => plain(records, places, index, count, used, table, term),
     }
 }

@@ -169,8 +169,8 @@ put-more b x m a i c v room z h f g e =
     (filled-more c f (i + m) v room (z ∙ e m (omega arith)) (h f g (λ j l. e j (omega arith))))
 
 ---------------------------------------------------------------- the columns backwards
-module _ (b p hs ns zs : List ℕ) (n u : ℕ) (x m : ℕ) (st : Standing b n x m) (c : List ℕ) (h : BackwardsIs b x m c) where
-  pub backwards-asks : Good b p hs ns zs n u → 131 ≤ length c → ListAsks b p hs ns zs n u c m
+module _ (b p ix : List ℕ) (n u : ℕ) (x m : ℕ) (st : Standing b n x m) (c : List ℕ) (h : BackwardsIs b x m c) where
+  pub backwards-asks : Good b p ix n u → 131 ≤ length c → ListAsks b p ix n u c m
   backwards-asks g room = record { good = g; room = room; below = λ j l. omega (arith, h j l, st .below (m - 1 - j) (omega arith)) }
 
   pub backwards-is : sortsIn b p n c 3 m ≡ backwards (sortsIn b p n b x m) end
@@ -204,7 +204,7 @@ side-high b x m y j =
     let e : m + j - m ≡ j = omega arith in
     rw (lt-leb (suc (m + j)) m (omega arith)) (ap (λ (i : ℕ). u16At b (y + 2 * i)) e)
 
-module _ (b p hs ns zs : List ℕ) (n u : ℕ) (a : List ℕ) (x m y q : ℕ) (asks : SideAsks b p hs ns zs n u a x m y q) where
+module _ (b p ix : List ℕ) (n u : ℕ) (a : List ℕ) (x m y q : ℕ) (asks : SideAsks b p ix n u a x m y q) where
   pub side-first : PutAsks b x m a 0
   side-first = record { within = asks .left .within; room = omega (arith, asks .left .few, asks .room); low = omega arith; few = asks .left .few }
 
@@ -228,7 +228,7 @@ module _ (b p hs ns zs : List ℕ) (n u : ℕ) (a : List ℕ) (x m y q : ℕ) (a
     high-is : (j : ℕ) → j < q → u16At d (3 + 2 * (m + j)) ≡ u16At b (y + 2 * j)
     high-is j l = filled (m + j) (omega arith) ∙ side-high b x m y j
 
-    pub side-asks : length d ≡ length a → ListAsks b p hs ns zs n u d (m + q)
+    pub side-asks : length d ≡ length a → ListAsks b p ix n u d (m + q)
     side-asks e = record { good = asks .good; room = omega (arith, asks .room); below = λ j l. go j l (decLt j m) }
       where
         go : (j : ℕ) → j < m + q → Dec (j < m) → u16At d (3 + 2 * j) < n
@@ -260,7 +260,7 @@ module _ (b p hs ns zs : List ℕ) (n u : ℕ) (a : List ℕ) (x m y q : ℕ) (a
         ap (joinOf (sortsIn b p n b x m)) (parts-more (storeOf b p n) b y q more)
         ∙ ap (λ (i : Sorts). sort (set (tuple (appended i (sortsIn b p n b (y + 2) (q - 1)))))) e
 
-    pub empty-asks : SideAsks b p hs ns zs n u a x 0 (y + 2) (q - 1)
+    pub empty-asks : SideAsks b p ix n u a x 0 (y + 2) (q - 1)
     empty-asks =
         record {
           good = asks .good;
@@ -273,7 +273,7 @@ module _ (b p hs ns zs : List ℕ) (n u : ℕ) (a : List ℕ) (x m y q : ℕ) (a
     unfolding allButLast sortsOf numbersAt
     join-empty z = without end (ap (λ (i : ℕ). allButLast (sortsIn b p n b x i)) z)
 
-    pub less-asks : SideAsks b p hs ns zs n u a x (m - 1) (y + 2) (q - 1)
+    pub less-asks : SideAsks b p ix n u a x (m - 1) (y + 2) (q - 1)
     less-asks =
         record {
           good = asks .good;
@@ -352,8 +352,8 @@ module _ (b p a : List ℕ) (m : ℕ) where
               right = two .1;
             }
 
-pub side-of : (b p hs ns zs : List ℕ) (n u : ℕ) (a : List ℕ) (m : ℕ) → ArgsAsks b p hs ns zs n u a m → (x c y d : ℕ) → Having b p n (sortsIn b p n a 3 m) x c y d → SideAsks b p hs ns zs n u a x c y d
-side-of b p hs ns zs n u a m h x c y d e = record { good = h .good; room = h .room; left = e .left; right = e .right }
+pub side-of : (b p ix : List ℕ) (n u : ℕ) (a : List ℕ) (m : ℕ) → ArgsAsks b p ix n u a m → (x c y d : ℕ) → Having b p n (sortsIn b p n a 3 m) x c y d → SideAsks b p ix n u a x c y d
+side-of b p ix n u a m h x c y d e = record { good = h .good; room = h .room; left = e .left; right = e .right }
 
 pub known-entry : {b p : List ℕ} {k : ℕ} → HeadAsks b p k → EntryAsks b p k
 known-entry {b} {p} {k} (n, h) = entry-asks b p n k (h .stored) (h .known)

@@ -26,14 +26,14 @@ abbrev pub ReadAsks : List ℕ → List ℕ → List ℕ → ℕ → ℕ → Typ
 ReadAsks b p a x m = (n : ℕ) × Referring b p n a x m
 
 -- A good store, and m arguments of it in a from byte 3 on, at most 64; a is long enough for two lists of 64.
-pub record ArgsAsks (b p hs ns zs : List ℕ) (n u : ℕ) (a : List ℕ) (m : ℕ) : Type 0 where
-  pub good : Good b p hs ns zs n u
+pub record ArgsAsks (b p ix : List ℕ) (n u : ℕ) (a : List ℕ) (m : ℕ) : Type 0 where
+  pub good : Good b p ix n u
   pub few : m ≤ 64
   pub room : 259 ≤ length a
   pub below : (j : ℕ) → j < m → u16At a (3 + 2 * j) < n
 
-pub args-refer : (b p hs ns zs : List ℕ) (n u : ℕ) (a : List ℕ) (m : ℕ) → ArgsAsks b p hs ns zs n u a m → Referring b p n a 3 m
-args-refer b p hs ns zs n u a m h = record { stored = h .good .stored; within = omega (arith, h .few, h .room); below = h .below }
+pub args-refer : (b p ix : List ℕ) (n u : ℕ) (a : List ℕ) (m : ℕ) → ArgsAsks b p ix n u a m → Referring b p n a 3 m
+args-refer b p ix n u a m h = record { stored = h .good .stored; within = omega (arith, h .few, h .room); below = h .below }
 
 -- THE FIRST OF SOME NUMBERS, and the rest.
 module _ (b p : List ℕ) (n : ℕ) (a : List ℕ) (x m : ℕ) (h : Referring b p n a x m) (some : 0 < m) where

@@ -75,15 +75,15 @@ PlainIs f m Written = f ≡ Constant
 PlainIs f m Other = looks f ≡ true
 
 -- Arguments, and a family of the group.
-pub record MadeAsks (b p hs ns zs : List ℕ) (n u : ℕ) (f : Family) (a : List ℕ) (m : ℕ) : Type 0 where
-  pub args : ArgsAsks b p hs ns zs n u a m
+pub record MadeAsks (b p ix : List ℕ) (n u : ℕ) (f : Family) (a : List ℕ) (m : ℕ) : Type 0 where
+  pub args : ArgsAsks b p ix n u a m
   pub made : makes f ≡ true
 
-pub record LookedAsks (b p hs ns zs : List ℕ) (n u : ℕ) (f : Family) (a : List ℕ) (m : ℕ) : Type 0 where
-  pub args : ArgsAsks b p hs ns zs n u a m
+pub record LookedAsks (b p ix : List ℕ) (n u : ℕ) (f : Family) (a : List ℕ) (m : ℕ) : Type 0 where
+  pub args : ArgsAsks b p ix n u a m
   pub look : looks f ≡ true
 
 -- Arguments, and the terms that the sheet names for them.
-pub record OperatedAsks (b p hs ns zs : List ℕ) (n u : ℕ) (sheet starts : List ℕ) (x : ℕ) (a : List ℕ) (m : ℕ) : Type 0 where
-  pub args : ArgsAsks b p hs ns zs n u a m
+pub record OperatedAsks (b p ix : List ℕ) (n u : ℕ) (sheet starts : List ℕ) (x : ℕ) (a : List ℕ) (m : ℕ) : Type 0 where
+  pub args : ArgsAsks b p ix n u a m
   pub terms : ConstantsAsk sheet starts x m

@@ -62,8 +62,8 @@ abbrev pub BackwardsIs : List ℕ → ℕ → ℕ → List ℕ → Type 0
 BackwardsIs b x m c = Filled c (backAt b x m) m
 
 -- A good store, and two lists of its numbers in its own bytes; a is long enough for both.
-pub record SideAsks (b p hs ns zs : List ℕ) (n u : ℕ) (a : List ℕ) (x m y q : ℕ) : Type 0 where
-  pub good : Good b p hs ns zs n u
+pub record SideAsks (b p ix : List ℕ) (n u : ℕ) (a : List ℕ) (x m y q : ℕ) : Type 0 where
+  pub good : Good b p ix n u
   pub room : 259 ≤ length a
   pub left : Standing b n x m
   pub right : Standing b n y q

@@ -53,10 +53,10 @@ last-body (s then ss) = refl
 
 -- Whatever good store the arguments are of.
 abbrev pub ArgumentHas : ℕ → ℕ → List ℕ → ℕ → ℕ → Answer → Type 0
-ArgumentHas n u a m i r = (b p hs ns zs : List ℕ) → ArgsAsks b p hs ns zs n u a m → AnswerIs b p n (nthOf i (sortsIn b p n a 3 m)) b p hs ns zs r
+ArgumentHas n u a m i r = (b p ix : List ℕ) → ArgsAsks b p ix n u a m → AnswerIs b p n (nthOf i (sortsIn b p n a 3 m)) b p ix r
 
 abbrev pub LastHas : ℕ → ℕ → List ℕ → ℕ → ℕ → Answer → Type 0
-LastHas n u a m i r = (b p hs ns zs : List ℕ) → ArgsAsks b p hs ns zs n u a m → AnswerIs b p n (lastFrom i (sortsIn b p n a 3 m)) b p hs ns zs r
+LastHas n u a m i r = (b p ix : List ℕ) → ArgsAsks b p ix n u a m → AnswerIs b p n (lastFrom i (sortsIn b p n a 3 m)) b p ix r
 
 abbrev pub RealHas : List ℕ → List ℕ → List ℕ → ℕ → Bool → Type 0
 RealHas b p a m r = (n : ℕ) → Referring b p n a 3 m → someReal (sortsIn b p n a 3 m) ≡ r
@@ -66,9 +66,9 @@ abbrev pub ElementAsks : List ℕ → List ℕ → ℕ → List ℕ → ℕ → 
 ElementAsks b p n a m = Referring b p n a 3 m
 
 abbrev pub ElementHas : List ℕ → List ℕ → ℕ → ℕ → List ℕ → ℕ → Answer → Type 0
-ElementHas b p n u a m r = (hs ns zs : List ℕ) → ArgsAsks b p hs ns zs n u a m → AnswerIs b p n (selected (sortsIn b p n a 3 m)) b p hs ns zs r
+ElementHas b p n u a m r = (ix : List ℕ) → ArgsAsks b p ix n u a m → AnswerIs b p n (selected (sortsIn b p n a 3 m)) b p ix r
 
 -- A good store, and terms of a sheet.
-pub record WrittenAsks (b p hs ns zs : List ℕ) (n u : ℕ) (sheet starts : List ℕ) (x m : ℕ) : Type 0 where
-  pub good : Good b p hs ns zs n u
+pub record WrittenAsks (b p ix : List ℕ) (n u : ℕ) (sheet starts : List ℕ) (x m : ℕ) : Type 0 where
+  pub good : Good b p ix n u
   pub terms : ConstantsAsk sheet starts x m

@@ -30,47 +30,23 @@ ghost use Rattle.inferring.specs.Operators.{noConstants, MadeAsks, Looke
 pub fn gathered(
     records: &mut [u8],
     places: &mut [u32],
-    heads: &mut [u16],
-    next: &mut [u16],
-    sizes: &mut [u16],
+    index: &mut [u16],
     count: usize,
     used: usize,
     family: Family,
     args: &mut [u8],
     n: usize,
 ) -> Answer
-    requires { ⌜ MadeAsks (now records) (now places) (now heads) (now next) (now sizes) count used family (now args) n ⌝ }
-    ensures { λ r. ⌜ AnswerIs (now (records .entry)) (now (places .entry)) count (operatedBy family (sortsIn (now (records .entry)) (now (places .entry)) count (now (args .entry)) 3 n) noConstants) (now (records .exit)) (now (places .exit)) (now (heads .exit)) (now (next .exit)) (now (sizes .exit)) r ⌝ }
+    requires { ⌜ MadeAsks (now records) (now places) (now index) count used family (now args) n ⌝ }
+    ensures { λ r. ⌜ AnswerIs (now (records .entry)) (now (places .entry)) count (operatedBy family (sortsIn (now (records .entry)) (now (places .entry)) count (now (args .entry)) 3 n) noConstants) (now (records .exit)) (now (places .exit)) (now (index .exit)) r ⌝ }
 {
     match family {
-        Family::Singleton => singleton(records, places, heads, next, sizes, count, used, args, n),
-        Family::Tuple => listed(
-            records,
-            places,
-            heads,
-            next,
-            sizes,
-            count,
-            used,
-            15,
-            args,
-            n,
-        ),
-        Family::UnitTuple => listed(
-            records,
-            places,
-            heads,
-            next,
-            sizes,
-            count,
-            used,
-            15,
-            args,
-            0,
-        ),
-        Family::Transpose => transpose(records, places, heads, next, sizes, count, used, args, n),
-        Family::Join => join(records, places, heads, next, sizes, count, used, args, n),
-        _ => product(records, places, heads, next, sizes, count, used, args, n),
+        Family::Singleton => singleton(records, places, index, count, used, args, n),
+        Family::Tuple => listed(records, places, index, count, used, 15, args, n),
+        Family::UnitTuple => listed(records, places, index, count, used, 15, args, 0),
+        Family::Transpose => transpose(records, places, index, count, used, args, n),
+        Family::Join => join(records, places, index, count, used, args, n),
+        _ => product(records, places, index, count, used, args, n),
     }
 }
 
@@ -78,39 +54,26 @@ pub fn gathered(
 pub fn looked(
     records: &mut [u8],
     places: &mut [u32],
-    heads: &mut [u16],
-    next: &mut [u16],
-    sizes: &mut [u16],
+    index: &mut [u16],
     count: usize,
     used: usize,
     family: Family,
     args: &mut [u8],
     n: usize,
 ) -> Answer
-    requires { ⌜ LookedAsks (now records) (now places) (now heads) (now next) (now sizes) count used family (now args) n ⌝ }
-    ensures { λ r. ⌜ AnswerIs (now (records .entry)) (now (places .entry)) count (operatedBy family (sortsIn (now (records .entry)) (now (places .entry)) count (now (args .entry)) 3 n) noConstants) (now (records .exit)) (now (places .exit)) (now (heads .exit)) (now (next .exit)) (now (sizes .exit)) r ⌝ }
+    requires { ⌜ LookedAsks (now records) (now places) (now index) count used family (now args) n ⌝ }
+    ensures { λ r. ⌜ AnswerIs (now (records .entry)) (now (places .entry)) count (operatedBy family (sortsIn (now (records .entry)) (now (places .entry)) count (now (args .entry)) 3 n) noConstants) (now (records .exit)) (now (places .exit)) (now (index .exit)) r ⌝ }
 {
     match family {
-        Family::Vector => first_vector(records, places, heads, next, sizes, count, used, args, n),
-        Family::Concat => concat(records, places, heads, next, sizes, count, used, args, n),
+        Family::Vector => first_vector(records, places, index, count, used, args, n),
+        Family::Concat => concat(records, places, index, count, used, args, n),
         Family::First => argument(count, used, args, n, 0),
         Family::Second => argument(count, used, args, n, 1),
         Family::Last => last_of(count, used, args, n, 0),
-        Family::Sum => sum(records, places, heads, next, sizes, count, used, args, n),
+        Family::Sum => sum(records, places, index, count, used, args, n),
         Family::Element => element(records, places, count, used, args, n),
-        Family::RareList => rare_list(records, places, heads, next, sizes, count, used, args, n),
-        _ => gathered(
-            records,
-            places,
-            heads,
-            next,
-            sizes,
-            count,
-            used,
-            family,
-            args,
-            n,
-        ),
+        Family::RareList => rare_list(records, places, index, count, used, args, n),
+        _ => gathered(records, places, index, count, used, family, args, n),
     }
 }
 
@@ -119,9 +82,7 @@ pub fn looked(
 pub fn operated(
     records: &mut [u8],
     places: &mut [u32],
-    heads: &mut [u16],
-    next: &mut [u16],
-    sizes: &mut [u16],
+    index: &mut [u16],
     count: usize,
     used: usize,
     sheet: &[u8],
@@ -131,20 +92,18 @@ pub fn operated(
     args: &mut [u8],
     n: usize,
 ) -> Answer
-    requires { ⌜ OperatedAsks (now records) (now places) (now heads) (now next) (now sizes) count used (now sheet) (now starts) list (now args) n ⌝ }
-    ensures { λ r. ⌜ AnswerIs (now (records .entry)) (now (places .entry)) count (operatedBy (familyOf op) (sortsIn (now (records .entry)) (now (places .entry)) count (now (args .entry)) 3 n) (constantsIn (now (sheet .entry)) (now (starts .entry)) list n)) (now (records .exit)) (now (places .exit)) (now (heads .exit)) (now (next .exit)) (now (sizes .exit)) r ⌝ }
+    requires { ⌜ OperatedAsks (now records) (now places) (now index) count used (now sheet) (now starts) list (now args) n ⌝ }
+    ensures { λ r. ⌜ AnswerIs (now (records .entry)) (now (places .entry)) count (operatedBy (familyOf op) (sortsIn (now (records .entry)) (now (places .entry)) count (now (args .entry)) 3 n) (constantsIn (now (sheet .entry)) (now (starts .entry)) list n)) (now (records .exit)) (now (places .exit)) (now (index .exit)) r ⌝ }
 {
     let family = family_of(op);
     let plain = plain_of(family, n);
     match plain {
-        Plain::Kind(k) => leaf(records, places, heads, next, sizes, count, used, k),
-        Plain::Width(w) => bit_vector(records, places, heads, next, sizes, count, used, w),
+        Plain::Kind(k) => leaf(records, places, index, count, used, k),
+        Plain::Width(w) => bit_vector(records, places, index, count, used, w),
         Plain::Written => constant_width(
             records,
             places,
-            heads,
-            next,
-            sizes,
+            index,
             count,
             used,
             sheet,
@@ -152,17 +111,6 @@ pub fn operated(
             list,
             n,
         ),
-        Plain::Other => looked(
-            records,
-            places,
-            heads,
-            next,
-            sizes,
-            count,
-            used,
-            family,
-            args,
-            n,
-        ),
+        Plain::Other => looked(records, places, index, count, used, family, args, n),
     }
 }

@@ -75,16 +75,14 @@ pub fn put_backwards(records: &[u8], at: usize, n: usize, args: &mut [u8])
 pub fn transpose(
     records: &mut [u8],
     places: &mut [u32],
-    heads: &mut [u16],
-    next: &mut [u16],
-    sizes: &mut [u16],
+    index: &mut [u16],
     count: usize,
     used: usize,
     args: &mut [u8],
     n: usize,
 ) -> Answer
-    requires { ⌜ ArgsAsks (now records) (now places) (now heads) (now next) (now sizes) count used (now args) n ⌝ }
-    ensures { λ r. ⌜ AnswerIs (now (records .entry)) (now (places .entry)) count (transposeOf (sortsIn (now (records .entry)) (now (places .entry)) count (now (args .entry)) 3 n)) (now (records .exit)) (now (places .exit)) (now (heads .exit)) (now (next .exit)) (now (sizes .exit)) r ⌝ }
+    requires { ⌜ ArgsAsks (now records) (now places) (now index) count used (now args) n ⌝ }
+    ensures { λ r. ⌜ AnswerIs (now (records .entry)) (now (places .entry)) count (transposeOf (sortsIn (now (records .entry)) (now (places .entry)) count (now (args .entry)) 3 n)) (now (records .exit)) (now (places .exit)) (now (index .exit)) r ⌝ }
 {
     if n == 0 {
         return refuse(Cause::Panics, count, used);
@@ -94,7 +92,7 @@ pub fn transpose(
     match left {
         Columns::Are(at, m) => {
             put_backwards(records, at, m, args);
-            relation(records, places, heads, next, sizes, count, used, args, m)
+            relation(records, places, index, count, used, args, m)
         }
         Columns::NoColumns => refuse(Cause::Panics, count, used),
     }
@@ -104,9 +102,7 @@ pub fn transpose(
 pub fn side_by_side(
     records: &mut [u8],
     places: &mut [u32],
-    heads: &mut [u16],
-    next: &mut [u16],
-    sizes: &mut [u16],
+    index: &mut [u16],
     count: usize,
     used: usize,
     args: &mut [u8],
@@ -115,22 +111,12 @@ pub fn side_by_side(
     to: usize,
     q: usize,
 ) -> Answer
-    requires { ⌜ SideAsks (now records) (now places) (now heads) (now next) (now sizes) count used (now args) at m to q ⌝ }
-    ensures { λ r. ⌜ AnswerIs (now (records .entry)) (now (places .entry)) count (productOf (sortsIn (now (records .entry)) (now (places .entry)) count (now (records .entry)) at m) (sortsIn (now (records .entry)) (now (places .entry)) count (now (records .entry)) to q)) (now (records .exit)) (now (places .exit)) (now (heads .exit)) (now (next .exit)) (now (sizes .exit)) r ⌝ }
+    requires { ⌜ SideAsks (now records) (now places) (now index) count used (now args) at m to q ⌝ }
+    ensures { λ r. ⌜ AnswerIs (now (records .entry)) (now (places .entry)) count (productOf (sortsIn (now (records .entry)) (now (places .entry)) count (now (records .entry)) at m) (sortsIn (now (records .entry)) (now (places .entry)) count (now (records .entry)) to q)) (now (records .exit)) (now (places .exit)) (now (index .exit)) r ⌝ }
 {
     put_columns(records, at, m, args, 0);
     put_columns(records, to, q, args, m);
-    relation(
-        records,
-        places,
-        heads,
-        next,
-        sizes,
-        count,
-        used,
-        args,
-        m + q,
-    )
+    relation(records, places, index, count, used, args, m + q)
 }
 
 // RelJoin of the m columns from `at` on and the q columns from `to` on: without the last of the left side, if there is one,
@@ -138,9 +124,7 @@ pub fn side_by_side(
 pub fn join_columns(
     records: &mut [u8],
     places: &mut [u32],
-    heads: &mut [u16],
-    next: &mut [u16],
-    sizes: &mut [u16],
+    index: &mut [u16],
     count: usize,
     used: usize,
     args: &mut [u8],
@@ -149,8 +133,8 @@ pub fn join_columns(
     to: usize,
     q: usize,
 ) -> Answer
-    requires { ⌜ SideAsks (now records) (now places) (now heads) (now next) (now sizes) count used (now args) at m to q ⌝ }
-    ensures { λ r. ⌜ AnswerIs (now (records .entry)) (now (places .entry)) count (joinOf (sortsIn (now (records .entry)) (now (places .entry)) count (now (records .entry)) at m) (sortsIn (now (records .entry)) (now (places .entry)) count (now (records .entry)) to q)) (now (records .exit)) (now (places .exit)) (now (heads .exit)) (now (next .exit)) (now (sizes .exit)) r ⌝ }
+    requires { ⌜ SideAsks (now records) (now places) (now index) count used (now args) at m to q ⌝ }
+    ensures { λ r. ⌜ AnswerIs (now (records .entry)) (now (places .entry)) count (joinOf (sortsIn (now (records .entry)) (now (places .entry)) count (now (records .entry)) at m) (sortsIn (now (records .entry)) (now (places .entry)) count (now (records .entry)) to q)) (now (records .exit)) (now (places .exit)) (now (index .exit)) r ⌝ }
 {
     if q == 0 {
         return refuse(Cause::Panics, count, used);
@@ -159,9 +143,7 @@ pub fn join_columns(
         return side_by_side(
             records,
             places,
-            heads,
-            next,
-            sizes,
+            index,
             count,
             used,
             args,
@@ -174,9 +156,7 @@ pub fn join_columns(
     side_by_side(
         records,
         places,
-        heads,
-        next,
-        sizes,
+        index,
         count,
         used,
         args,
@@ -214,25 +194,21 @@ pub fn both_columns(records: &[u8], places: &[u32], args: &[u8], n: usize) -> Bo
 pub fn join(
     records: &mut [u8],
     places: &mut [u32],
-    heads: &mut [u16],
-    next: &mut [u16],
-    sizes: &mut [u16],
+    index: &mut [u16],
     count: usize,
     used: usize,
     args: &mut [u8],
     n: usize,
 ) -> Answer
-    requires { ⌜ ArgsAsks (now records) (now places) (now heads) (now next) (now sizes) count used (now args) n ⌝ }
-    ensures { λ r. ⌜ AnswerIs (now (records .entry)) (now (places .entry)) count (overBoth joinOf (sortsIn (now (records .entry)) (now (places .entry)) count (now (args .entry)) 3 n)) (now (records .exit)) (now (places .exit)) (now (heads .exit)) (now (next .exit)) (now (sizes .exit)) r ⌝ }
+    requires { ⌜ ArgsAsks (now records) (now places) (now index) count used (now args) n ⌝ }
+    ensures { λ r. ⌜ AnswerIs (now (records .entry)) (now (places .entry)) count (overBoth joinOf (sortsIn (now (records .entry)) (now (places .entry)) count (now (args .entry)) 3 n)) (now (records .exit)) (now (places .exit)) (now (index .exit)) r ⌝ }
 {
     let both = both_columns(records, places, args, n);
     match both {
         Both::Have(at, m, to, q) => join_columns(
             records,
             places,
-            heads,
-            next,
-            sizes,
+            index,
             count,
             used,
             args,
@@ -249,25 +225,21 @@ pub fn join(
 pub fn product(
     records: &mut [u8],
     places: &mut [u32],
-    heads: &mut [u16],
-    next: &mut [u16],
-    sizes: &mut [u16],
+    index: &mut [u16],
     count: usize,
     used: usize,
     args: &mut [u8],
     n: usize,
 ) -> Answer
-    requires { ⌜ ArgsAsks (now records) (now places) (now heads) (now next) (now sizes) count used (now args) n ⌝ }
-    ensures { λ r. ⌜ AnswerIs (now (records .entry)) (now (places .entry)) count (overBoth productOf (sortsIn (now (records .entry)) (now (places .entry)) count (now (args .entry)) 3 n)) (now (records .exit)) (now (places .exit)) (now (heads .exit)) (now (next .exit)) (now (sizes .exit)) r ⌝ }
+    requires { ⌜ ArgsAsks (now records) (now places) (now index) count used (now args) n ⌝ }
+    ensures { λ r. ⌜ AnswerIs (now (records .entry)) (now (places .entry)) count (overBoth productOf (sortsIn (now (records .entry)) (now (places .entry)) count (now (args .entry)) 3 n)) (now (records .exit)) (now (places .exit)) (now (index .exit)) r ⌝ }
 {
     let both = both_columns(records, places, args, n);
     match both {
         Both::Have(at, m, to, q) => side_by_side(
             records,
             places,
-            heads,
-            next,
-            sizes,
+            index,
             count,
             used,
             args,

@@ -66,21 +66,19 @@ pub fn some_real(records: &[u8], places: &[u32], args: &[u8], n: usize) -> bool
 pub fn sum(
     records: &mut [u8],
     places: &mut [u32],
-    heads: &mut [u16],
-    next: &mut [u16],
-    sizes: &mut [u16],
+    index: &mut [u16],
     count: usize,
     used: usize,
     args: &[u8],
     n: usize,
 ) -> Answer
-    requires { ⌜ ArgsAsks (now records) (now places) (now heads) (now next) (now sizes) count used (now args) n ⌝ }
-    ensures { λ r. ⌜ AnswerIs (now (records .entry)) (now (places .entry)) count (sumOf (someReal (sortsIn (now (records .entry)) (now (places .entry)) count (now (args .entry)) 3 n))) (now (records .exit)) (now (places .exit)) (now (heads .exit)) (now (next .exit)) (now (sizes .exit)) r ⌝ }
+    requires { ⌜ ArgsAsks (now records) (now places) (now index) count used (now args) n ⌝ }
+    ensures { λ r. ⌜ AnswerIs (now (records .entry)) (now (places .entry)) count (sumOf (someReal (sortsIn (now (records .entry)) (now (places .entry)) count (now (args .entry)) 3 n))) (now (records .exit)) (now (places .exit)) (now (index .exit)) r ⌝ }
 {
     if some_real(records, places, args, n) {
-        return leaf(records, places, heads, next, sizes, count, used, 5);
+        return leaf(records, places, index, count, used, 5);
     }
-    leaf(records, places, heads, next, sizes, count, used, 4)
+    leaf(records, places, index, count, used, 4)
 }
 
 // Select: the second part of the first argument, an Array; else Panics.
@@ -113,19 +111,17 @@ pub fn element(
 pub fn rare_list(
     records: &mut [u8],
     places: &mut [u32],
-    heads: &mut [u16],
-    next: &mut [u16],
-    sizes: &mut [u16],
+    index: &mut [u16],
     count: usize,
     used: usize,
     args: &[u8],
     n: usize,
 ) -> Answer
-    requires { ⌜ ArgsAsks (now records) (now places) (now heads) (now next) (now sizes) count used (now args) n ⌝ }
-    ensures { λ r. ⌜ AnswerIs (now (records .entry)) (now (places .entry)) count (rareOf (sortsIn (now (records .entry)) (now (places .entry)) count (now (args .entry)) 3 n)) (now (records .exit)) (now (places .exit)) (now (heads .exit)) (now (next .exit)) (now (sizes .exit)) r ⌝ }
+    requires { ⌜ ArgsAsks (now records) (now places) (now index) count used (now args) n ⌝ }
+    ensures { λ r. ⌜ AnswerIs (now (records .entry)) (now (places .entry)) count (rareOf (sortsIn (now (records .entry)) (now (places .entry)) count (now (args .entry)) 3 n)) (now (records .exit)) (now (places .exit)) (now (index .exit)) r ⌝ }
 {
     if n == 0 {
-        return variable(records, places, heads, next, sizes, count, used, 0);
+        return variable(records, places, index, count, used, 0);
     }
     let k = u16_at(args, 3);
     found(k, count, used)
@@ -135,22 +131,20 @@ pub fn rare_list(
 pub fn singleton(
     records: &mut [u8],
     places: &mut [u32],
-    heads: &mut [u16],
-    next: &mut [u16],
-    sizes: &mut [u16],
+    index: &mut [u16],
     count: usize,
     used: usize,
     args: &[u8],
     n: usize,
 ) -> Answer
-    requires { ⌜ ArgsAsks (now records) (now places) (now heads) (now next) (now sizes) count used (now args) n ⌝ }
-    ensures { λ r. ⌜ AnswerIs (now (records .entry)) (now (places .entry)) count (singletonOf (sortsIn (now (records .entry)) (now (places .entry)) count (now (args .entry)) 3 n)) (now (records .exit)) (now (places .exit)) (now (heads .exit)) (now (next .exit)) (now (sizes .exit)) r ⌝ }
+    requires { ⌜ ArgsAsks (now records) (now places) (now index) count used (now args) n ⌝ }
+    ensures { λ r. ⌜ AnswerIs (now (records .entry)) (now (places .entry)) count (singletonOf (sortsIn (now (records .entry)) (now (places .entry)) count (now (args .entry)) 3 n)) (now (records .exit)) (now (places .exit)) (now (index .exit)) r ⌝ }
 {
     if n == 0 {
         return refuse(Cause::Panics, count, used);
     }
     let k = u16_at(args, 3);
-    set_of(records, places, heads, next, sizes, count, used, k)
+    set_of(records, places, index, count, used, k)
 }
 
 // BvConst: the vector of the width that the second argument writes; ParamBitVec where it is no integer constant; Panics
@@ -158,9 +152,7 @@ pub fn singleton(
 pub fn constant_width(
     records: &mut [u8],
     places: &mut [u32],
-    heads: &mut [u16],
-    next: &mut [u16],
-    sizes: &mut [u16],
+    index: &mut [u16],
     count: usize,
     used: usize,
     sheet: &[u8],
@@ -168,8 +160,8 @@ pub fn constant_width(
     list: usize,
     n: usize,
 ) -> Answer
-    requires { ⌜ WrittenAsks (now records) (now places) (now heads) (now next) (now sizes) count used (now sheet) (now starts) list n ⌝ }
-    ensures { λ r. ⌜ AnswerIs (now (records .entry)) (now (places .entry)) count (constantWidth (constantsIn (now (sheet .entry)) (now (starts .entry)) list n)) (now (records .exit)) (now (places .exit)) (now (heads .exit)) (now (next .exit)) (now (sizes .exit)) r ⌝ }
+    requires { ⌜ WrittenAsks (now records) (now places) (now index) count used (now sheet) (now starts) list n ⌝ }
+    ensures { λ r. ⌜ AnswerIs (now (records .entry)) (now (places .entry)) count (constantWidth (constantsIn (now (sheet .entry)) (now (starts .entry)) list n)) (now (records .exit)) (now (places .exit)) (now (index .exit)) r ⌝ }
 {
     if n < 2 {
         return refuse(Cause::Panics, count, used);
@@ -178,7 +170,7 @@ pub fn constant_width(
     let at = starts[t] as usize;
     let second = constant_at(sheet, at);
     match second {
-        Constant::Integer(w) => bit_vector(records, places, heads, next, sizes, count, used, w),
-        Constant::Other => leaf(records, places, heads, next, sizes, count, used, 10),
+        Constant::Integer(w) => bit_vector(records, places, index, count, used, w),
+        Constant::Other => leaf(records, places, index, count, used, 10),
     }
 }

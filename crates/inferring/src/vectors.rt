@@ -58,21 +58,19 @@ pub fn scan_vectors(records: &[u8], places: &[u32], args: &[u8], n: usize) -> Sc
 pub fn first_vector(
     records: &mut [u8],
     places: &mut [u32],
-    heads: &mut [u16],
-    next: &mut [u16],
-    sizes: &mut [u16],
+    index: &mut [u16],
     count: usize,
     used: usize,
     args: &[u8],
     n: usize,
 ) -> Answer
-    requires { ⌜ ArgsAsks (now records) (now places) (now heads) (now next) (now sizes) count used (now args) n ⌝ }
-    ensures { λ r. ⌜ AnswerIs (now (records .entry)) (now (places .entry)) count (firstVector (sortsIn (now (records .entry)) (now (places .entry)) count (now (args .entry)) 3 n)) (now (records .exit)) (now (places .exit)) (now (heads .exit)) (now (next .exit)) (now (sizes .exit)) r ⌝ }
+    requires { ⌜ ArgsAsks (now records) (now places) (now index) count used (now args) n ⌝ }
+    ensures { λ r. ⌜ AnswerIs (now (records .entry)) (now (places .entry)) count (firstVector (sortsIn (now (records .entry)) (now (places .entry)) count (now (args .entry)) 3 n)) (now (records .exit)) (now (places .exit)) (now (index .exit)) r ⌝ }
 {
     let scan = scan_vectors(records, places, args, n);
     match scan {
         Scan::Vector(k) => found(k, count, used),
-        Scan::Nothing => leaf(records, places, heads, next, sizes, count, used, 10),
+        Scan::Nothing => leaf(records, places, index, count, used, 10),
         Scan::Other => refuse(Cause::Panics, count, used),
     }
 }
@@ -131,21 +129,19 @@ pub fn add_widths(records: &[u8], places: &[u32], args: &[u8], n: usize) -> Widt
 pub fn concat(
     records: &mut [u8],
     places: &mut [u32],
-    heads: &mut [u16],
-    next: &mut [u16],
-    sizes: &mut [u16],
+    index: &mut [u16],
     count: usize,
     used: usize,
     args: &[u8],
     n: usize,
 ) -> Answer
-    requires { ⌜ ArgsAsks (now records) (now places) (now heads) (now next) (now sizes) count used (now args) n ⌝ }
-    ensures { λ r. ⌜ AnswerIs (now (records .entry)) (now (places .entry)) count (concatFrom 0 (sortsIn (now (records .entry)) (now (places .entry)) count (now (args .entry)) 3 n)) (now (records .exit)) (now (places .exit)) (now (heads .exit)) (now (next .exit)) (now (sizes .exit)) r ⌝ }
+    requires { ⌜ ArgsAsks (now records) (now places) (now index) count used (now args) n ⌝ }
+    ensures { λ r. ⌜ AnswerIs (now (records .entry)) (now (places .entry)) count (concatFrom 0 (sortsIn (now (records .entry)) (now (places .entry)) count (now (args .entry)) 3 n)) (now (records .exit)) (now (places .exit)) (now (index .exit)) r ⌝ }
 {
     let widths = add_widths(records, places, args, n);
     match widths {
-        Widths::Sum(w) => bit_vector(records, places, heads, next, sizes, count, used, w),
-        Widths::Unknown => leaf(records, places, heads, next, sizes, count, used, 10),
+        Widths::Sum(w) => bit_vector(records, places, index, count, used, w),
+        Widths::Unknown => leaf(records, places, index, count, used, 10),
         Widths::NoVector => refuse(Cause::Panics, count, used),
     }
 }

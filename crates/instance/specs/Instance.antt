@@ -31,9 +31,9 @@ use Rattle.answers.specs.AnswerLaws.{untouched-as, answer-limit, answer-full, a
 use Rattle.answers.specs.Within.{over-size, shallow-at}
 
 -- THE ANSWER r TO THE SORT k of the store with its names replaced, for every map that the table l stands for.
-abbrev pub InstanceIs : List ℕ → List ℕ → ℕ → List ℕ → ℕ → List ℕ → List ℕ → List ℕ → List ℕ → List ℕ → Answer → Type 0
-InstanceIs b p n l k b′ p′ hs′ ns′ zs′ r =
-    (θ : Map) → Images (storeOf b p n) l θ → AnswerIs b p n (sort (apply θ (sortAt b p n k))) b′ p′ hs′ ns′ zs′ r
+abbrev pub InstanceIs : List ℕ → List ℕ → ℕ → List ℕ → ℕ → List ℕ → List ℕ → List ℕ → Answer → Type 0
+InstanceIs b p n l k b′ p′ ix′ r =
+    (θ : Map) → Images (storeOf b p n) l θ → AnswerIs b p n (sort (apply θ (sortAt b p n k))) b′ p′ ix′ r
 
 -- The answer as it is made of what substitution gives.
 abbrev pub answerOf : ℕ → ℕ → Applied → Answer
@@ -75,7 +75,7 @@ module _ (θ : Map) (each : (v : ℕ) (s : Sort) → find θ v ≡ some s → sh
         ap₂ _&&_ (shallow-apply s (and-left (shallow s) (shallowAll ss) h)) (shallow-all-apply ss (and-right (shallow s) (shallowAll ss) h))
 
 -- OVER A GOOD STORE the images and the sort are sorts of the store, so the tree size alone decides.
-module _ (b p hs ns zs : List ℕ) (n u : ℕ) (g : Good b p hs ns zs n u) (l : List ℕ) (θ : Map) (m : Images (storeOf b p n) l θ) where
+module _ (b p ix : List ℕ) (n u : ℕ) (g : Good b p ix n u) (l : List ℕ) (θ : Map) (m : Images (storeOf b p n) l θ) where
   image-shallow : (v e : ℕ) → getD l v 0 ≡ e → (s : Sort) → imageAt (storeOf b p n) e ≡ some s → shallow s ≡ true
   unfolding sortAt
   image-shallow v zero q s o = let z : _≡_ {A = ℕ} 0 1 = cc in absurd (omega arith)
@@ -92,19 +92,19 @@ module _ (b p hs ns zs : List ℕ) (n u : ℕ) (g : Good b p hs ns zs n u) (l : 
       ap₂ _&&_ (shallow-apply θ each-image (sortAt b p n k) (shallow-at b p n (g .stored) k h)) (le-leb (size (apply θ (sortAt b p n k))) 4096 o)
 
 -- WHAT SUBSTITUTION GIVES is the answer, where the tree size alone decides.
-module _ (b p hs ns zs : List ℕ) (n u : ℕ) (g : Good b p hs ns zs n u) where
-  pub applied-answer : (s : Sort) → (size s ≤ 4096 → within s ≡ true) → (b′ p′ hs′ ns′ zs′ : List ℕ) (r : Applied) → AppliedIs b p hs ns zs n u s b′ p′ hs′ ns′ zs′ r
-      → AnswerIs b p n (sort s) b′ p′ hs′ ns′ zs′ (answerOf n u r)
-  applied-answer s fits b′ p′ hs′ ns′ zs′ (Is i n′ u′) a =
-      answer-made b p hs ns zs n u g s b′ p′ hs′ ns′ zs′ i n′ u′ (fits (a .small)) (a .made .good) (a .made .kept .long) (a .made .kept .wide)
+module _ (b p ix : List ℕ) (n u : ℕ) (g : Good b p ix n u) where
+  pub applied-answer : (s : Sort) → (size s ≤ 4096 → within s ≡ true) → (b′ p′ ix′ : List ℕ) (r : Applied) → AppliedIs b p ix n u s b′ p′ ix′ r
+      → AnswerIs b p n (sort s) b′ p′ ix′ (answerOf n u r)
+  applied-answer s fits b′ p′ ix′ (Is i n′ u′) a =
+      answer-made b p ix n u g s b′ p′ ix′ i n′ u′ (fits (a .small)) (a .made .good) (a .made .kept .long) (a .made .kept .wide)
       (a .made .added) (a .made .number)
-  applied-answer s fits b′ p′ hs′ ns′ zs′ TooLarge a = untouched-as (a .1) (answer-limit b p hs ns zs n u g s (over-size s (a .0)))
-  applied-answer s fits b′ p′ hs′ ns′ zs′ NoRoom a = untouched-as (a .2) (answer-full b p hs ns zs n u g s (fits (a .0)) (a .1))
+  applied-answer s fits b′ p′ ix′ TooLarge a = untouched-as (a .1) (answer-limit b p ix n u g s (over-size s (a .0)))
+  applied-answer s fits b′ p′ ix′ NoRoom a = untouched-as (a .2) (answer-full b p ix n u g s (fits (a .0)) (a .1))
 
 -- THE SORT k REPLACED, for every map of the table.
-pub instance-of : (b p hs ns zs : List ℕ) (n u k : ℕ) (l : List ℕ) → ApplyAsks b p hs ns zs n u k l → (b′ p′ hs′ ns′ zs′ : List ℕ) (r : Applied)
-    → AppliedIs b p hs ns zs n u (answerAt b p n l k) b′ p′ hs′ ns′ zs′ r → InstanceIs b p n l k b′ p′ hs′ ns′ zs′ (answerOf n u r)
-instance-of b p hs ns zs n u k l h b′ p′ hs′ ns′ zs′ r a θ m =
-    applied-answer b p hs ns zs n u (h .ready .good) (apply θ (sortAt b p n k))
-    (instance-within b p hs ns zs n u (h .ready .good) l θ m k (h .known)) b′ p′ hs′ ns′ zs′ r
-    (subst (λ (s : Sort). AppliedIs b p hs ns zs n u s b′ p′ hs′ ns′ zs′ r) (images-apply (storeOf b p n) l θ m (sortAt b p n k)) a)
+pub instance-of : (b p ix : List ℕ) (n u k : ℕ) (l : List ℕ) → ApplyAsks b p ix n u k l → (b′ p′ ix′ : List ℕ) (r : Applied)
+    → AppliedIs b p ix n u (answerAt b p n l k) b′ p′ ix′ r → InstanceIs b p n l k b′ p′ ix′ (answerOf n u r)
+instance-of b p ix n u k l h b′ p′ ix′ r a θ m =
+    applied-answer b p ix n u (h .ready .good) (apply θ (sortAt b p n k))
+    (instance-within b p ix n u (h .ready .good) l θ m k (h .known)) b′ p′ ix′ r
+    (subst (λ (s : Sort). AppliedIs b p ix n u s b′ p′ ix′ r) (images-apply (storeOf b p n) l θ m (sortAt b p n k)) a)

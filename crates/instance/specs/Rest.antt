@@ -29,15 +29,15 @@ use Rattle.answers.specs.Records.{remaining-many, remaining-one}
 use Rattle.instance.specs.Instance.{InstanceIs, answerOf, shallow-all-apply, each-image, applied-answer}
 
 -- At most 64 numbers of sorts, two bytes each from x on, as for a Function of them.
-abbrev pub RestAsks : List ℕ → List ℕ → List ℕ → List ℕ → List ℕ → ℕ → ℕ → List ℕ → ℕ → ℕ → Type 0
-RestAsks b p hs ns zs n u l x m = FunctionAsks b p hs ns zs n u l x m
+abbrev pub RestAsks : List ℕ → List ℕ → List ℕ → ℕ → ℕ → List ℕ → ℕ → ℕ → Type 0
+RestAsks b p ix n u l x m = FunctionAsks b p ix n u l x m
 
 -- THE ANSWER r TO WHAT REMAINS, the m sorts whose numbers stand from x on, with its names replaced, for every map that
 -- the table l stands for.
-abbrev pub RestIs : List ℕ → List ℕ → ℕ → List ℕ → ℕ → ℕ → List ℕ → List ℕ → List ℕ → List ℕ → List ℕ → Answer → Type 0
-RestIs b p n l x m b′ p′ hs′ ns′ zs′ r =
+abbrev pub RestIs : List ℕ → List ℕ → ℕ → List ℕ → ℕ → ℕ → List ℕ → List ℕ → List ℕ → Answer → Type 0
+RestIs b p n l x m b′ p′ ix′ r =
     (θ : Map) → Images (storeOf b p n) l θ
-    → AnswerIs b p n (sort (apply θ (remaining (sortsOf (storeOf b p n) (numbersAt b x m))))) b′ p′ hs′ ns′ zs′ r
+    → AnswerIs b p n (sort (apply θ (remaining (sortsOf (storeOf b p n) (numbersAt b x m))))) b′ p′ ix′ r
 
 apply-function : (θ : Map) (ss : Sorts) → apply θ (function ss) ≡ function (applyAll θ ss)
 unfolding apply
@@ -49,19 +49,19 @@ unfolding shallow
 shallow-function ss h e = ap₂ _&&_ (le-leb (count ss) 64 h) e
 
 -- ONE LEFT: the answer to that sort.
-module _ (b p hs ns zs : List ℕ) (n u : ℕ) (l : List ℕ) (x m : ℕ) (a : RestAsks b p hs ns zs n u l x m) where
-  pub one-asks : m ≡ 1 → (k : ℕ) → k ≡ u16At b x → ApplyAsks b p hs ns zs n u k l
+module _ (b p ix : List ℕ) (n u : ℕ) (l : List ℕ) (x m : ℕ) (a : RestAsks b p ix n u l x m) where
+  pub one-asks : m ≡ 1 → (k : ℕ) → k ≡ u16At b x → ApplyAsks b p ix n u k l
   one-asks e k q =
       let z : x + 2 * 0 ≡ x = omega arith in record { ready = a .ready; known = omega (arith, q, ap (u16At b) z, a .below 0 (omega arith)) }
 
-  pub one-is : m ≡ 1 → (k : ℕ) → k ≡ u16At b x → (b′ p′ hs′ ns′ zs′ : List ℕ) (r : Answer) → InstanceIs b p n l k b′ p′ hs′ ns′ zs′ r
-      → RestIs b p n l x m b′ p′ hs′ ns′ zs′ r
+  pub one-is : m ≡ 1 → (k : ℕ) → k ≡ u16At b x → (b′ p′ ix′ : List ℕ) (r : Answer) → InstanceIs b p n l k b′ p′ ix′ r
+      → RestIs b p n l x m b′ p′ ix′ r
   unfolding sortAt
-  one-is e k q b′ p′ hs′ ns′ zs′ r h θ t =
+  one-is e k q b′ p′ ix′ r h θ t =
       judged-as (ap (λ (s : Sort). sort (apply θ s)) (remaining-one (storeOf b p n) b x m e ∙ ap (sortAt b p n) (sym q))) (h θ t)
 
 -- OVER A GOOD STORE each sort of the list keeps the limits of widths and lists.
-module _ (b p hs ns zs : List ℕ) (n u : ℕ) (g : Good b p hs ns zs n u) (l : List ℕ) (θ : Map) (t : Images (storeOf b p n) l θ) where
+module _ (b p ix : List ℕ) (n u : ℕ) (g : Good b p ix n u) (l : List ℕ) (θ : Map) (t : Images (storeOf b p n) l θ) where
   list-shallow : (x m : ℕ) → ((j : ℕ) → j < m → u16At b (x + 2 * j) < n) → shallowAll (sortsOf (storeOf b p n) (numbersAt b x m)) ≡ true
   unfolding shallow sortsOf numbersAt sortAt
   list-shallow x zero h = refl
@@ -81,16 +81,16 @@ module _ (b p hs ns zs : List ℕ) (n u : ℕ) (g : Good b p hs ns zs n u) (l : 
       ap₂ _&&_
       (shallow-function (applyAll θ ss)
       (omega (arith, count-applied θ ss, count-sorts (storeOf b p n) (numbersAt b x m), length-numbersAt b x m))
-      (shallow-all-apply θ (each-image b p hs ns zs n u g l θ t) ss (list-shallow x m h)))
+      (shallow-all-apply θ (each-image b p ix n u g l θ t) ss (list-shallow x m h)))
       (le-leb (size (function (applyAll θ ss))) 4096 o)
 
 -- ANY OTHER NUMBER LEFT: what substitution gives is the answer, for every map of the table.
-pub rest-of : (b p hs ns zs : List ℕ) (n u : ℕ) (l : List ℕ) (x m : ℕ) → RestAsks b p hs ns zs n u l x m → (m ≡ 1 → ⊥)
-    → (b′ p′ hs′ ns′ zs′ : List ℕ) (r : Applied) → AppliedIs b p hs ns zs n u (functionAt b p n l x m) b′ p′ hs′ ns′ zs′ r
-    → RestIs b p n l x m b′ p′ hs′ ns′ zs′ (answerOf n u r)
-rest-of b p hs ns zs n u l x m a other b′ p′ hs′ ns′ zs′ r w θ t =
+pub rest-of : (b p ix : List ℕ) (n u : ℕ) (l : List ℕ) (x m : ℕ) → RestAsks b p ix n u l x m → (m ≡ 1 → ⊥)
+    → (b′ p′ ix′ : List ℕ) (r : Applied) → AppliedIs b p ix n u (functionAt b p n l x m) b′ p′ ix′ r
+    → RestIs b p n l x m b′ p′ ix′ (answerOf n u r)
+rest-of b p ix n u l x m a other b′ p′ ix′ r w θ t =
     let ss = sortsOf (storeOf b p n) (numbersAt b x m) in
     judged-as (ap sort (ap (apply θ) (remaining-many (storeOf b p n) b x m other) ∙ apply-function θ ss))
-    (applied-answer b p hs ns zs n u (a .ready .good) (function (applyAll θ ss))
-    (rest-within b p hs ns zs n u (a .ready .good) l θ t x m (a .below) (a .few)) b′ p′ hs′ ns′ zs′ r
-    (subst (λ (qs : Sorts). AppliedIs b p hs ns zs n u (function qs) b′ p′ hs′ ns′ zs′ r) (images-applyAll (storeOf b p n) l θ t ss) w))
+    (applied-answer b p ix n u (a .ready .good) (function (applyAll θ ss))
+    (rest-within b p ix n u (a .ready .good) l θ t x m (a .below) (a .few)) b′ p′ ix′ r
+    (subst (λ (qs : Sorts). AppliedIs b p ix n u (function qs) b′ p′ ix′ r) (images-applyAll (storeOf b p n) l θ t ss) w))

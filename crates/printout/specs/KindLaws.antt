@@ -57,10 +57,10 @@ got-sheet : {h k : Sheet} {x y : ℕ} → got h x ≡ got k y → h ≡ k
 got-sheet {h} {k} e = cc
 
 -- THE SHEET THAT WAS READ is the definition's, so the kinds are those of its questions.
-pub kinds-listed : (s b p hs ns zs tbl xs ys : List ℕ) (c : SheetCounts) → SheetAccepted s programLengths b p hs ns zs tbl xs ys c
+pub kinds-listed : (s b p ix tbl xs ys : List ℕ) (c : SheetCounts) → SheetAccepted s programLengths b p ix tbl xs ys c
     → (kinds kinds′ : List ℕ) → 1024 ≤ length kinds → Put s ys (c .questions) kinds kinds′
     → KindsAre s kinds kinds′ (record { terms = c .terms; questions = c .questions })
-kinds-listed s b p hs ns zs tbl xs ys c a kinds kinds′ room put =
+kinds-listed s b p ix tbl xs ys c a kinds kinds′ room put =
     record {
       long = put .long;
       accepted = λ h x e.

@@ -49,8 +49,8 @@ row-at b p n code k = go (ltb code 65536) refl
         row-refused b p code h ∙ sym (refused-by (storeOf b p n) code h)
 
 -- A row of a good store meets what printing it asks.
-pub row-asks : (b p hs ns zs : List ℕ) (n u code : ℕ) → Good b p hs ns zs n u → Known n code → RowAsks b p code
-row-asks b p hs ns zs n u code g known h = text-asks b p n code (g .stored) (known h) (g .sized .small code (known h))
+pub row-asks : (b p ix : List ℕ) (n u code : ℕ) → Good b p ix n u → Known n code → RowAsks b p code
+row-asks b p ix n u code g known h = text-asks b p n code (g .stored) (known h) (g .sized .small code (known h))
 
 pub answer-no : (b p : List ℕ) (kind code : ℕ) → kind ≡ 0 → code ≡ 0 → answerAt b p kind code ≡ ascii "no"
 unfolding answerText

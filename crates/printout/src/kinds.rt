@@ -32,9 +32,7 @@ pub fn question_kinds(sheet: &[u8], kinds: &mut [u8]) -> Totals
 {
     let mut records = [0u8; 65536];
     let mut places = [0u32; 4096];
-    let mut heads = [0u16; 1024];
-    let mut next = [0u16; 8192];
-    let mut sizes = [0u16; 4096];
+    let mut index = [0u16; 13312];
     let mut table = [0u16; 2048];
     let mut starts = [0u16; 4096];
     let mut asked = [0u16; 1024];
@@ -45,9 +43,7 @@ pub fn question_kinds(sheet: &[u8], kinds: &mut [u8]) -> Totals
         &mut places,
         8192,
         1024,
-        &mut heads,
-        &mut next,
-        &mut sizes,
+        &mut index,
         &mut table,
         &mut starts,
         &mut asked,

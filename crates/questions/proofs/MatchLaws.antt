@@ -44,9 +44,9 @@ pub match-barred : (vs : List ℕ) (p t r : Sort) → false ≡ premise vs p t �
 match-barred vs p t r e = match-by vs p t r false (matches (listedIn vs) p t empty) e refl
 
 ---------------------------------------------------------------- with the names listed
-module _ (b p hs ns zs : List ℕ) (n u : ℕ) (prm imgs bnd : List ℕ) (k j i : ℕ) (h : ListedAsks b p hs ns zs n u prm imgs bnd k j i) where
+module _ (b p ix : List ℕ) (n u : ℕ) (prm imgs bnd : List ℕ) (k j i : ℕ) (h : ListedAsks b p ix n u prm imgs bnd k j i) where
   pub pair-asks : PairAsks b p n k j
-  pair-asks = record { usable = good-usable b p hs ns zs n u (h .good); left = h .pattern; right = h .target }
+  pair-asks = record { usable = good-usable b p ix n u (h .good); left = h .pattern; right = h .target }
 
   pub premise-asks : TestAsks b p n prm k j
   premise-asks = record { pair = pair-asks; table = h .table }
@@ -55,12 +55,12 @@ module _ (b p hs ns zs : List ℕ) (n u : ℕ) (prm imgs bnd : List ℕ) (k j i 
   plain-asks = record { pair = pair-asks; table = h .table; mapped = cleared-mapped b p n imgs bnd (h .cleared) }
 
   pub listed-barred : (t : Bool) → PremiseIs b p n prm k j t → not t ≡ true → (r : Answer) → r ≡ refusing Barred n u
-      → ListedIs b p n prm imgs bnd k j i b p hs ns zs imgs bnd r
+      → ListedIs b p n prm imgs bnd k j i b p ix imgs bnd r
   listed-barred t q e r d =
       record {
         answer = λ vs ls.
             judged-as (match-barred vs (sortAt b p n k) (sortAt b p n j) (sortAt b p n i) (sym (not-true t e) ∙ q vs ls))
-            (answered-as d (answer-refused b p hs ns zs n u (h .good) Barred));
+            (answered-as d (answer-refused b p ix n u (h .good) Barred));
         images = refl;
         bound = refl;
       }
@@ -81,15 +81,15 @@ module _ (b p hs ns zs : List ℕ) (n u : ℕ) (prm imgs bnd : List ℕ) (k j i 
     pub misfits-tabled : (c : ℕ) → x ≡ Misfits c → Tabled l m c
     misfits-tabled c e = subst (λ (y : Matched). Answered b p n l m y (matches (listed prm) (sortAt b p n k) (sortAt b p n j) (mapOf (storeOf b p n) imgs bnd 0))) e (w (listed prm) told) .mapped .tabled
 
-    pub result-asks : (c : ℕ) → x ≡ Fits c → ReplaceAsks b p hs ns zs n u i l
+    pub result-asks : (c : ℕ) → x ≡ Fits c → ReplaceAsks b p ix n u i l
     result-asks c e =
         let d = fits-mapped c e in
         record { ready = record { good = h .good; table = record { long = d .tabled .names; below = d .below } }; known = h .result }
 
     module _ (t : Bool) (q : PremiseIs b p n prm k j t) (o : not t ≡ false) (l′ m′ : List ℕ) (z : Cleared l′ m′) where
-      pub listed-fits : (c : ℕ) → x ≡ Fits c → (b′ p′ hs′ ns′ zs′ : List ℕ) (r : Answer) → InstanceIs b p n l i b′ p′ hs′ ns′ zs′ r
-          → ListedIs b p n prm imgs bnd k j i b′ p′ hs′ ns′ zs′ l′ m′ r
-      listed-fits c e b′ p′ hs′ ns′ zs′ r a =
+      pub listed-fits : (c : ℕ) → x ≡ Fits c → (b′ p′ ix′ : List ℕ) (r : Answer) → InstanceIs b p n l i b′ p′ ix′ r
+          → ListedIs b p n prm imgs bnd k j i b′ p′ ix′ l′ m′ r
+      listed-fits c e b′ p′ ix′ r a =
           let θ = mapOf (storeOf b p n) l m c in
           record {
             answer = λ vs ls.
@@ -101,20 +101,20 @@ module _ (b p hs ns zs : List ℕ) (n u : ℕ) (prm imgs bnd : List ℕ) (k j i 
             bound = cleared-bound imgs bnd l′ m′ (h .cleared) z;
           }
 
-      pub listed-misfits : (c : ℕ) → x ≡ Misfits c → (r : Answer) → r ≡ refusing NoAssignment n u → ListedIs b p n prm imgs bnd k j i b p hs ns zs l′ m′ r
+      pub listed-misfits : (c : ℕ) → x ≡ Misfits c → (r : Answer) → r ≡ refusing NoAssignment n u → ListedIs b p n prm imgs bnd k j i b p ix l′ m′ r
       listed-misfits c e r d =
           record {
             answer = λ vs ls.
                 judged-as
                 (match-by vs (sortAt b p n k) (sortAt b p n j) (sortAt b p n i) true none (sym (not-false t o) ∙ q vs ls)
                 (subst (λ (y : Matched). Answered b p n l m y (matches (listedIn vs) (sortAt b p n k) (sortAt b p n j) empty)) e (found-by vs ls) .result))
-                (answered-as d (answer-refused b p hs ns zs n u (h .good) NoAssignment));
+                (answered-as d (answer-refused b p ix n u (h .good) NoAssignment));
             images = cleared-images imgs bnd l′ m′ (h .cleared) z;
             bound = cleared-bound imgs bnd l′ m′ (h .cleared) z;
           }
 
 ---------------------------------------------------------------- listing the names and taking them off
-module _ (b p hs ns zs : List ℕ) (n u : ℕ) (prm imgs bnd s tbl : List ℕ) (q : QuestionRecord) (h : MatchAsks b p hs ns zs n u prm imgs bnd s tbl q) where
+module _ (b p ix : List ℕ) (n u : ℕ) (prm imgs bnd s tbl : List ℕ) (q : QuestionRecord) (h : MatchAsks b p ix n u prm imgs bnd s tbl q) where
   pub add-asks : AddAsks prm s (q .names) (q .named)
   add-asks =
       record {
@@ -124,7 +124,7 @@ module _ (b p hs ns zs : List ℕ) (n u : ℕ) (prm imgs bnd s tbl : List ℕ) (
       }
 
   module _ (m : List ℕ) (a : Added prm (numbersAt s (q .names) (q .named)) m) where
-    pub listed-asks : (k j i : ℕ) → k < n → j < n → i < n → ListedAsks b p hs ns zs n u m imgs bnd k j i
+    pub listed-asks : (k j i : ℕ) → k < n → j < n → i < n → ListedAsks b p ix n u m imgs bnd k j i
     listed-asks k j i x y z =
         record { good = h .good; table = a .long ∙ h .table; cleared = h .cleared; pattern = x; target = y; result = z }
 
@@ -136,10 +136,10 @@ module _ (b p hs ns zs : List ℕ) (n u : ℕ) (prm imgs bnd s tbl : List ℕ) (
         }
 
     pub match-is : (k j i : ℕ) → k ≡ getD tbl (u16At s (q .list)) 0 → j ≡ getD tbl (u16At s (q .list + 2)) 0 → i ≡ getD tbl (u16At s (q .list + 4)) 0
-        → (b′ p′ hs′ ns′ zs′ l′ m′ prm′ : List ℕ) (r : Answer) → ListedIs b p n m imgs bnd k j i b′ p′ hs′ ns′ zs′ l′ m′ r
-        → Added prm′ (numbersAt s (q .names) (q .named)) m → MatchIs b p n prm imgs bnd s tbl q b′ p′ hs′ ns′ zs′ prm′ l′ m′ r
+        → (b′ p′ ix′ l′ m′ prm′ : List ℕ) (r : Answer) → ListedIs b p n m imgs bnd k j i b′ p′ ix′ l′ m′ r
+        → Added prm′ (numbersAt s (q .names) (q .named)) m → MatchIs b p n prm imgs bnd s tbl q b′ p′ ix′ prm′ l′ m′ r
     unfolding sortAt
-    match-is k j i ek ej ei b′ p′ hs′ ns′ zs′ l′ m′ prm′ r w d =
+    match-is k j i ek ej ei b′ p′ ix′ l′ m′ prm′ r w d =
         let st = storeOf b p n in
         let vs = numbersAt s (q .names) (q .named) in
         let S = sortsBy st tbl s (q .list) (q .count) in

@@ -53,16 +53,16 @@ pick-1 A B C k e = ap₂ (λ (t v : Bool). cond t A (cond v B C)) (ne-eqb k 0 (�
 pick-2 : (A B C : Outcome) (k : ℕ) → (k ≡ 0 → ⊥) → (k ≡ 1 → ⊥) → cond (eqb k 0) A (cond (eqb k 1) B C) ≡ C
 pick-2 A B C k d e = ap₂ (λ (t v : Bool). cond t A (cond v B C)) (ne-eqb k 0 d) (ne-eqb k 1 e)
 
-worded : (c q hs ns zs : List ℕ) (r : Answer) (w : Word) → WordIs r w → Good c q hs ns zs (r .count) (r .used) → Good c q hs ns zs (w .count) (w .used)
-worded c q hs ns zs r w e g =
-    subst (λ (i : ℕ). Good c q hs ns zs i (w .used)) (sym (e .count)) (subst (λ (i : ℕ). Good c q hs ns zs (r .count) i) (sym (e .used)) g)
+worded : (c q ix : List ℕ) (r : Answer) (w : Word) → WordIs r w → Good c q ix (r .count) (r .used) → Good c q ix (w .count) (w .used)
+worded c q ix r w e g =
+    subst (λ (i : ℕ). Good c q ix i (w .used)) (sym (e .count)) (subst (λ (i : ℕ). Good c q ix (r .count) i) (sym (e .used)) g)
 
-module _ (b p hs ns zs : List ℕ) (n u : ℕ) (prm imgs bnd s tbl : List ℕ) (q : QuestionRecord) (h : QuestionAsks b p hs ns zs n u prm imgs bnd s tbl q) where
-  pub match-part : q .kind ≡ 1 → MatchAsks b p hs ns zs n u prm imgs bnd s tbl q
+module _ (b p ix : List ℕ) (n u : ℕ) (prm imgs bnd s tbl : List ℕ) (q : QuestionRecord) (h : QuestionAsks b p ix n u prm imgs bnd s tbl q) where
+  pub match-part : q .kind ≡ 1 → MatchAsks b p ix n u prm imgs bnd s tbl q
   match-part e =
       record { good = h .good; table = h .table; zeros = h .zeros; cleared = h .cleared; asked = h .asked; count = h .three e }
 
-  pub apply-part : (q .kind ≡ 0 → ⊥) → (q .kind ≡ 1 → ⊥) → ApplyAsks b p hs ns zs n u imgs s tbl q
+  pub apply-part : (q .kind ≡ 0 → ⊥) → (q .kind ≡ 1 → ⊥) → ApplyAsks b p ix n u imgs s tbl q
   apply-part d e =
       record { good = h .good; table = h .cleared .names; zeros = h .cleared .images; asked = h .asked; count = h .pairs (two (q .kind) (h .kind) d e) }
     where
@@ -70,10 +70,10 @@ module _ (b p hs ns zs : List ℕ) (n u : ℕ) (prm imgs bnd s tbl : List ℕ) (
       two k l d e = omega arith
 
   pub pair-part : (k j : ℕ) → k < n → j < n → PairAsks b p n k j
-  pair-part k j x y = record { usable = good-usable b p hs ns zs n u (h .good); left = x; right = y }
+  pair-part k j x y = record { usable = good-usable b p ix n u (h .good); left = x; right = y }
 
   pub answered-0 : q .kind ≡ 0 → (k j v : ℕ) → k ≡ getD tbl (u16At s (q .list)) 0 → j ≡ getD tbl (u16At s (q .list + 2)) 0
-      → v ≡ yesNo (compatible (sortAt b p n k) (sortAt b p n j)) → QuestionIs b p n prm imgs bnd s tbl q b p hs ns zs prm imgs bnd (record { code = v; count = n; used = u })
+      → v ≡ yesNo (compatible (sortAt b p n k) (sortAt b p n j)) → QuestionIs b p n prm imgs bnd s tbl q b p ix prm imgs bnd (record { code = v; count = n; used = u })
   unfolding answerOf questionOver sortAt
   answered-0 e k j v ek ej ev =
       let st = storeOf b p n in
@@ -94,13 +94,13 @@ module _ (b p hs ns zs : List ℕ) (n u : ℕ) (prm imgs bnd s tbl : List ℕ) (
         bound = refl;
       }
 
-  module _ (b′ p′ hs′ ns′ zs′ prm′ imgs′ bnd′ : List ℕ) (r : Answer) (w : Word) (e : WordIs r w) where
-    pub answered-1 : q .kind ≡ 1 → MatchIs b p n prm imgs bnd s tbl q b′ p′ hs′ ns′ zs′ prm′ imgs′ bnd′ r
-        → QuestionIs b p n prm imgs bnd s tbl q b′ p′ hs′ ns′ zs′ prm′ imgs′ bnd′ w
+  module _ (b′ p′ ix′ prm′ imgs′ bnd′ : List ℕ) (r : Answer) (w : Word) (e : WordIs r w) where
+    pub answered-1 : q .kind ≡ 1 → MatchIs b p n prm imgs bnd s tbl q b′ p′ ix′ prm′ imgs′ bnd′ r
+        → QuestionIs b p n prm imgs bnd s tbl q b′ p′ ix′ prm′ imgs′ bnd′ w
     unfolding answerOf questionOver
     answered-1 k a =
         record {
-          good = worded b′ p′ hs′ ns′ zs′ r w e (a .answer .good);
+          good = worded b′ p′ ix′ r w e (a .answer .good);
           long = a .answer .long;
           wide = a .answer .wide;
           is = λ l x y.
@@ -112,12 +112,12 @@ module _ (b p hs ns zs : List ℕ) (n u : ℕ) (prm imgs bnd s tbl : List ℕ) (
           bound = a .bound;
         }
 
-    pub answered-2 : (q .kind ≡ 0 → ⊥) → (q .kind ≡ 1 → ⊥) → ApplyIs b p n imgs s tbl q b′ p′ hs′ ns′ zs′ imgs′ r → prm′ ≡ prm → bnd′ ≡ bnd
-        → QuestionIs b p n prm imgs bnd s tbl q b′ p′ hs′ ns′ zs′ prm′ imgs′ bnd′ w
+    pub answered-2 : (q .kind ≡ 0 → ⊥) → (q .kind ≡ 1 → ⊥) → ApplyIs b p n imgs s tbl q b′ p′ ix′ imgs′ r → prm′ ≡ prm → bnd′ ≡ bnd
+        → QuestionIs b p n prm imgs bnd s tbl q b′ p′ ix′ prm′ imgs′ bnd′ w
     unfolding answerOf questionOver
     answered-2 d k a ep eb =
         record {
-          good = worded b′ p′ hs′ ns′ zs′ r w e (a .answer .good);
+          good = worded b′ p′ ix′ r w e (a .answer .good);
           long = a .answer .long;
           wide = a .answer .wide;
           is = λ l x y.

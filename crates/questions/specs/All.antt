@@ -30,15 +30,15 @@ use Rattle.questions.specs.declared.Word.{Word}
 use Rattle.questions.specs.declared.all.Counts.{Counts}
 use Rattle.questions.specs.Contract.{questionOver, QuestionAsks, QuestionIs}
 
-pub record AtAsks (b p hs ns zs : List ℕ) (n u : ℕ) (prm imgs bnd s tbl : List ℕ) (m x : ℕ) : Type 0 where
-  pub good : Good b p hs ns zs n u
+pub record AtAsks (b p ix : List ℕ) (n u : ℕ) (prm imgs bnd s tbl : List ℕ) (m x : ℕ) : Type 0 where
+  pub good : Good b p ix n u
   pub blank : Blank prm imgs bnd
   pub numbered : Numbered n s tbl m
   pub stands : QuestionStands s m x
 
 -- THE ANSWER TO THE QUESTION AT x, whatever its number.
-pub record AtIs (b p : List ℕ) (n : ℕ) (prm imgs bnd s tbl : List ℕ) (m x : ℕ) (b′ p′ hs′ ns′ zs′ prm′ imgs′ bnd′ : List ℕ) (r : Word) : Type 0 where
-  pub good : Good b′ p′ hs′ ns′ zs′ (r .count) (r .used)
+pub record AtIs (b p : List ℕ) (n : ℕ) (prm imgs bnd s tbl : List ℕ) (m x : ℕ) (b′ p′ ix′ prm′ imgs′ bnd′ : List ℕ) (r : Word) : Type 0 where
+  pub good : Good b′ p′ ix′ (r .count) (r .used)
   pub long : length b′ ≡ length b
   pub wide : length p′ ≡ length p
   pub is : (i : ℕ) (l : Lengths) → l .records ≡ length b → l .places ≡ length p
@@ -48,8 +48,8 @@ pub record AtIs (b p : List ℕ) (n : ℕ) (prm imgs bnd s tbl : List ℕ) (m x 
   pub images : imgs′ ≡ imgs
   pub bound : bnd′ ≡ bnd
 
-pub record AllAsks (b p hs ns zs : List ℕ) (n u : ℕ) (prm imgs bnd s tbl : List ℕ) (m : ℕ) (ys : List ℕ) (c : ℕ) (an : List ℕ) : Type 0 where
-  pub good : Good b p hs ns zs n u
+pub record AllAsks (b p ix : List ℕ) (n u : ℕ) (prm imgs bnd s tbl : List ℕ) (m : ℕ) (ys : List ℕ) (c : ℕ) (an : List ℕ) : Type 0 where
+  pub good : Good b p ix n u
   pub blank : Blank prm imgs bnd
   pub numbered : Numbered n s tbl m
   pub stands : (i : ℕ) → i < c → QuestionStands s m (getD ys i 0)
@@ -59,8 +59,8 @@ pub record AllAsks (b p hs ns zs : List ℕ) (n u : ℕ) (prm imgs bnd s tbl : L
 
 -- THE ANSWERS TO c QUESTIONS: the store after them is the definition's, and the lent list holds its answers, then what stood
 -- there.
-pub record AllIs (b p : List ℕ) (n : ℕ) (prm imgs bnd s tbl : List ℕ) (m : ℕ) (ys : List ℕ) (c : ℕ) (an b′ p′ hs′ ns′ zs′ prm′ imgs′ bnd′ an′ : List ℕ) (r : Counts) : Type 0 where
-  pub good : Good b′ p′ hs′ ns′ zs′ (r .count) (r .used)
+pub record AllIs (b p : List ℕ) (n : ℕ) (prm imgs bnd s tbl : List ℕ) (m : ℕ) (ys : List ℕ) (c : ℕ) (an b′ p′ ix′ prm′ imgs′ bnd′ an′ : List ℕ) (r : Counts) : Type 0 where
+  pub good : Good b′ p′ ix′ (r .count) (r .used)
   pub long : length b′ ≡ length b
   pub wide : length p′ ≡ length p
   pub after : (l : Lengths) → l .records ≡ length b → l .places ≡ length p
@@ -78,11 +78,11 @@ pub trees-starts : (st st′ : List Sort) (tbl : List ℕ) (m : ℕ) → Starts 
 trees-starts st st′ tbl m g h = trees-same st′ st tbl tbl m (λ j o. starts-at st st′ g (getD tbl j 0) (h j o))
 
 -- WHAT THE READER PROMISES is what all questions ask, over any good store that has grown from the sheet's.
-pub stands-asks : (s b p hs ns zs tbl xs ys : List ℕ) (c : SheetCounts) → SheetStands s b p hs ns zs tbl xs ys c → (b′ p′ hs′ ns′ zs′ : List ℕ) (n u : ℕ)
-    → Good b′ p′ hs′ ns′ zs′ n u → Starts (storeOf b p (c .count)) (storeOf b′ p′ n) → (prm imgs bnd an : List ℕ) → Blank prm imgs bnd
+pub stands-asks : (s b p ix tbl xs ys : List ℕ) (c : SheetCounts) → SheetStands s b p ix tbl xs ys c → (b′ p′ ix′ : List ℕ) (n u : ℕ)
+    → Good b′ p′ ix′ n u → Starts (storeOf b p (c .count)) (storeOf b′ p′ n) → (prm imgs bnd an : List ℕ) → Blank prm imgs bnd
     → c .sorts ≤ length tbl → c .questions ≤ length ys → c .questions ≤ length an → c .questions ≤ 1024 → length s ≤ 65536
-    → AllAsks b′ p′ hs′ ns′ zs′ n u prm imgs bnd s tbl (c .sorts) ys (c .questions) an
-stands-asks s b p hs ns zs tbl xs ys c h b′ p′ hs′ ns′ zs′ n u g st prm imgs bnd an blank inside asked room few short =
+    → AllAsks b′ p′ ix′ n u prm imgs bnd s tbl (c .sorts) ys (c .questions) an
+stands-asks s b p ix tbl xs ys c h b′ p′ ix′ n u g st prm imgs bnd an blank inside asked room few short =
     record {
       good = g;
       blank = blank;
@@ -100,12 +100,12 @@ stands-asks s b p hs ns zs tbl xs ys c h b′ p′ hs′ ns′ zs′ n u g st pr
     }
 
 ---------------------------------------------------------------- a record at its place
-module _ (b p hs ns zs : List ℕ) (n u : ℕ) (prm imgs bnd s tbl : List ℕ) (m x : ℕ) (h : AtAsks b p hs ns zs n u prm imgs bnd s tbl m x)
+module _ (b p ix : List ℕ) (n u : ℕ) (prm imgs bnd s tbl : List ℕ) (m x : ℕ) (h : AtAsks b p ix n u prm imgs bnd s tbl m x)
     (r : QuestionRecord) (c : Cursor) (e : readQuestion s m x ≡ QuestionAt r c) where
   was : QuestionWas s m x r c
   was = question-again s m x (h .stands) r c e
 
-  pub question-asks : QuestionAsks b p hs ns zs n u prm imgs bnd s tbl r
+  pub question-asks : QuestionAsks b p ix n u prm imgs bnd s tbl r
   question-asks =
       record {
         good = h .good;
@@ -141,9 +141,9 @@ module _ (b p hs ns zs : List ℕ) (n u : ℕ) (prm imgs bnd s tbl : List ℕ) (
       let y : j < r .count = omega (arith, length-numbersAt s (r .list) (r .count)) in
       omega (arith, number-at s (r .list) (r .count) j y, was .references j y))))
 
-  pub at-is : (b′ p′ hs′ ns′ zs′ prm′ imgs′ bnd′ : List ℕ) (w : Word) → QuestionIs b p n prm imgs bnd s tbl r b′ p′ hs′ ns′ zs′ prm′ imgs′ bnd′ w
-      → AtIs b p n prm imgs bnd s tbl m x b′ p′ hs′ ns′ zs′ prm′ imgs′ bnd′ w
-  at-is b′ p′ hs′ ns′ zs′ prm′ imgs′ bnd′ w a =
+  pub at-is : (b′ p′ ix′ prm′ imgs′ bnd′ : List ℕ) (w : Word) → QuestionIs b p n prm imgs bnd s tbl r b′ p′ ix′ prm′ imgs′ bnd′ w
+      → AtIs b p n prm imgs bnd s tbl m x b′ p′ ix′ prm′ imgs′ bnd′ w
+  at-is b′ p′ ix′ prm′ imgs′ bnd′ w a =
       record {
         good = a .good;
         long = a .long;
@@ -157,8 +157,8 @@ module _ (b p hs ns zs : List ℕ) (n u : ℕ) (prm imgs bnd s tbl : List ℕ) (
 
 ---------------------------------------------------------------- the loop
 -- The first i questions are answered.
-pub record Answering (b p : List ℕ) (n : ℕ) (prm imgs bnd s tbl : List ℕ) (m : ℕ) (ys an b′ p′ hs′ ns′ zs′ prm′ imgs′ bnd′ an′ : List ℕ) (n′ u′ i : ℕ) : Type 0 where
-  pub good : Good b′ p′ hs′ ns′ zs′ n′ u′
+pub record Answering (b p : List ℕ) (n : ℕ) (prm imgs bnd s tbl : List ℕ) (m : ℕ) (ys an b′ p′ ix′ prm′ imgs′ bnd′ an′ : List ℕ) (n′ u′ i : ℕ) : Type 0 where
+  pub good : Good b′ p′ ix′ n′ u′
   pub long : length b′ ≡ length b
   pub wide : length p′ ≡ length p
   pub starts : Starts (storeOf b p n) (storeOf b′ p′ n′)
@@ -170,9 +170,9 @@ pub record Answering (b p : List ℕ) (n : ℕ) (prm imgs bnd s tbl : List ℕ) 
       → answersOf l (storeOf b p n) (questionsAt s (treesOf (storeOf b p n) tbl m) ys i) ≡ record { store = storeOf b′ p′ n′; answers = take i an′ }
   pub rest : drop i an′ ≡ drop i an
 
-module _ (b p hs ns zs : List ℕ) (n u : ℕ) (prm imgs bnd s tbl : List ℕ) (m : ℕ) (ys : List ℕ) (c : ℕ) (an : List ℕ)
-    (h : AllAsks b p hs ns zs n u prm imgs bnd s tbl m ys c an) where
-  pub answering-start : Answering b p n prm imgs bnd s tbl m ys an b p hs ns zs prm imgs bnd an n u 0
+module _ (b p ix : List ℕ) (n u : ℕ) (prm imgs bnd s tbl : List ℕ) (m : ℕ) (ys : List ℕ) (c : ℕ) (an : List ℕ)
+    (h : AllAsks b p ix n u prm imgs bnd s tbl m ys c an) where
+  pub answering-start : Answering b p n prm imgs bnd s tbl m ys an b p ix prm imgs bnd an n u 0
   unfolding answersOf eachAt
   answering-start =
       record {
@@ -188,11 +188,11 @@ module _ (b p hs ns zs : List ℕ) (n u : ℕ) (prm imgs bnd s tbl : List ℕ) (
         rest = refl;
       }
 
-  module _ (b′ p′ hs′ ns′ zs′ prm′ imgs′ bnd′ an′ : List ℕ) (n′ u′ i : ℕ) (a : Answering b p n prm imgs bnd s tbl m ys an b′ p′ hs′ ns′ zs′ prm′ imgs′ bnd′ an′ n′ u′ i) where
+  module _ (b′ p′ ix′ prm′ imgs′ bnd′ an′ : List ℕ) (n′ u′ i : ℕ) (a : Answering b p n prm imgs bnd s tbl m ys an b′ p′ ix′ prm′ imgs′ bnd′ an′ n′ u′ i) where
     grown : n ≤ n′
     grown = omega (arith, starts-count (storeOf b p n) (storeOf b′ p′ n′) (a .starts), storeOf-length b p n, storeOf-length b′ p′ n′)
 
-    pub next-asks : (x : ℕ) → i < c → x ≡ getD ys i 0 → AtAsks b′ p′ hs′ ns′ zs′ n′ u′ prm′ imgs′ bnd′ s tbl m x
+    pub next-asks : (x : ℕ) → i < c → x ≡ getD ys i 0 → AtAsks b′ p′ ix′ n′ u′ prm′ imgs′ bnd′ s tbl m x
     next-asks x o e =
         record {
           good = a .good;
@@ -209,8 +209,8 @@ module _ (b p hs ns zs : List ℕ) (n u : ℕ) (prm imgs bnd s tbl : List ℕ) (
         (trees-starts (storeOf b p n) (storeOf b′ p′ n′) tbl m (a .starts)
         (λ j o. omega (arith, h .numbered .known j o, storeOf-length b p n)))
 
-    module _ (x : ℕ) (o : i < c) (e : x ≡ getD ys i 0) (d q is ms ys′ prm″ imgs″ bnd″ : List ℕ) (w : Word)
-        (t : AtIs b′ p′ n′ prm′ imgs′ bnd′ s tbl m x d q is ms ys′ prm″ imgs″ bnd″ w) where
+    module _ (x : ℕ) (o : i < c) (e : x ≡ getD ys i 0) (d q jx′ prm″ imgs″ bnd″ : List ℕ) (w : Word)
+        (t : AtIs b′ p′ n′ prm′ imgs′ bnd′ s tbl m x d q jx′ prm″ imgs″ bnd″ w) where
       one-more : (l : Lengths) → l .records ≡ length b → l .places ≡ length p
           → answersOf l (storeOf b p n) (questionsAt s (treesOf (storeOf b p n) tbl m) ys (suc i))
           ≡ record { store = storeOf d q (w .count); answers = take (suc i) (set an′ i (w .code)) }
@@ -231,10 +231,10 @@ module _ (b p hs ns zs : List ℕ) (n u : ℕ) (prm imgs bnd s tbl : List ℕ) (
           ∙ ap (λ (k : ℕ). drop k an′) (sym z) ∙ sym (drop-drop 1 i an′) ∙ ap (drop 1) (a .rest) ∙ drop-drop 1 i an ∙ ap (λ (k : ℕ). drop k an) z
 
       -- ONE ANSWER MORE.
-      pub answering-step : Answering b p n prm imgs bnd s tbl m ys an d q is ms ys′ prm″ imgs″ bnd″ (set an′ i (w .code)) (w .count) (w .used) (i + 1)
+      pub answering-step : Answering b p n prm imgs bnd s tbl m ys an d q jx′ prm″ imgs″ bnd″ (set an′ i (w .code)) (w .count) (w .used) (i + 1)
       answering-step =
           let z : suc i ≡ i + 1 = omega arith in
-          subst (λ (k : ℕ). Answering b p n prm imgs bnd s tbl m ys an d q is ms ys′ prm″ imgs″ bnd″ (set an′ i (w .code)) (w .count) (w .used) k) z
+          subst (λ (k : ℕ). Answering b p n prm imgs bnd s tbl m ys an d q jx′ prm″ imgs″ bnd″ (set an′ i (w .code)) (w .count) (w .used) k) z
           (record {
             good = t .good;
             long = t .long ∙ a .long;
@@ -259,7 +259,7 @@ module _ (b p hs ns zs : List ℕ) (n u : ℕ) (prm imgs bnd s tbl : List ℕ) (
       rest-whole : drop c an′ ≡ drop c an
       rest-whole = subst (λ (k : ℕ). drop k an′ ≡ drop k an) e (a .rest)
 
-    pub answering-end : i ≡ c → AllIs b p n prm imgs bnd s tbl m ys c an b′ p′ hs′ ns′ zs′ prm′ imgs′ bnd′ an′ (record { count = n′; used = u′ })
+    pub answering-end : i ≡ c → AllIs b p n prm imgs bnd s tbl m ys c an b′ p′ ix′ prm′ imgs′ bnd′ an′ (record { count = n′; used = u′ })
     answering-end e =
         record {
           good = a .good;

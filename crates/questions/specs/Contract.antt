@@ -39,48 +39,48 @@ pub record Asked (n : ℕ) (s tbl : List ℕ) (r : QuestionRecord) : Type 0 wher
   pub short : length s ≤ 65536
 
 ---------------------------------------------------------------- question 2
-pub record ApplyAsks (b p hs ns zs : List ℕ) (n u : ℕ) (imgs s tbl : List ℕ) (r : QuestionRecord) : Type 0 where
-  pub good : Good b p hs ns zs n u
+pub record ApplyAsks (b p ix : List ℕ) (n u : ℕ) (imgs s tbl : List ℕ) (r : QuestionRecord) : Type 0 where
+  pub good : Good b p ix n u
   pub table : length imgs ≡ 65536
   pub zeros : Zeros imgs 0
   pub asked : Asked n s tbl r
   pub count : r .count ≡ r .named + 1
 
-pub record ApplyIs (b p : List ℕ) (n : ℕ) (imgs s tbl : List ℕ) (q : QuestionRecord) (b′ p′ hs′ ns′ zs′ imgs′ : List ℕ) (r : Answer) : Type 0 where
+pub record ApplyIs (b p : List ℕ) (n : ℕ) (imgs s tbl : List ℕ) (q : QuestionRecord) (b′ p′ ix′ imgs′ : List ℕ) (r : Answer) : Type 0 where
   pub answer : AnswerIs b p n
       (applyAnswer (numbersAt s (q .names) (q .named)) (firstOf (sortsOf (storeOf b p n) (mapped tbl (numbersAt s (q .list) (q .count)))))
       (restOf (sortsOf (storeOf b p n) (mapped tbl (numbersAt s (q .list) (q .count))))))
-      b′ p′ hs′ ns′ zs′ r
+      b′ p′ ix′ r
   pub images : imgs′ ≡ imgs
 
 ---------------------------------------------------------------- question 1
-pub record ListedAsks (b p hs ns zs : List ℕ) (n u : ℕ) (prm imgs bnd : List ℕ) (k j i : ℕ) : Type 0 where
-  pub good : Good b p hs ns zs n u
+pub record ListedAsks (b p ix : List ℕ) (n u : ℕ) (prm imgs bnd : List ℕ) (k j i : ℕ) : Type 0 where
+  pub good : Good b p ix n u
   pub table : length prm ≡ 65536
   pub cleared : Cleared imgs bnd
   pub pattern : k < n
   pub target : j < n
   pub result : i < n
 
-pub record ListedIs (b p : List ℕ) (n : ℕ) (prm imgs bnd : List ℕ) (k j i : ℕ) (b′ p′ hs′ ns′ zs′ imgs′ bnd′ : List ℕ) (r : Answer) : Type 0 where
-  pub answer : (vs : List ℕ) → Lists prm vs → AnswerIs b p n (matchAnswer vs (sortAt b p n k) (sortAt b p n j) (sortAt b p n i)) b′ p′ hs′ ns′ zs′ r
+pub record ListedIs (b p : List ℕ) (n : ℕ) (prm imgs bnd : List ℕ) (k j i : ℕ) (b′ p′ ix′ imgs′ bnd′ : List ℕ) (r : Answer) : Type 0 where
+  pub answer : (vs : List ℕ) → Lists prm vs → AnswerIs b p n (matchAnswer vs (sortAt b p n k) (sortAt b p n j) (sortAt b p n i)) b′ p′ ix′ r
   pub images : imgs′ ≡ imgs
   pub bound : bnd′ ≡ bnd
 
-pub record MatchAsks (b p hs ns zs : List ℕ) (n u : ℕ) (prm imgs bnd s tbl : List ℕ) (r : QuestionRecord) : Type 0 where
-  pub good : Good b p hs ns zs n u
+pub record MatchAsks (b p ix : List ℕ) (n u : ℕ) (prm imgs bnd s tbl : List ℕ) (r : QuestionRecord) : Type 0 where
+  pub good : Good b p ix n u
   pub table : length prm ≡ 65536
   pub zeros : Zeros prm 0
   pub cleared : Cleared imgs bnd
   pub asked : Asked n s tbl r
   pub count : r .count ≡ 3
 
-pub record MatchIs (b p : List ℕ) (n : ℕ) (prm imgs bnd s tbl : List ℕ) (q : QuestionRecord) (b′ p′ hs′ ns′ zs′ prm′ imgs′ bnd′ : List ℕ) (r : Answer) : Type 0 where
+pub record MatchIs (b p : List ℕ) (n : ℕ) (prm imgs bnd s tbl : List ℕ) (q : QuestionRecord) (b′ p′ ix′ prm′ imgs′ bnd′ : List ℕ) (r : Answer) : Type 0 where
   pub answer : AnswerIs b p n
       (matchAnswer (numbersAt s (q .names) (q .named)) (firstOf (sortsOf (storeOf b p n) (mapped tbl (numbersAt s (q .list) (q .count)))))
       (firstOf (restOf (sortsOf (storeOf b p n) (mapped tbl (numbersAt s (q .list) (q .count))))))
       (firstOf (restOf (restOf (sortsOf (storeOf b p n) (mapped tbl (numbersAt s (q .list) (q .count))))))))
-      b′ p′ hs′ ns′ zs′ r
+      b′ p′ ix′ r
   pub params : prm′ ≡ prm
   pub images : imgs′ ≡ imgs
   pub bound : bnd′ ≡ bnd
@@ -95,8 +95,8 @@ pub record WordIs (a : Answer) (r : Word) : Type 0 where
   pub used : r .used ≡ a .used
 
 ---------------------------------------------------------------- a question of any kind
-pub record QuestionAsks (b p hs ns zs : List ℕ) (n u : ℕ) (prm imgs bnd s tbl : List ℕ) (r : QuestionRecord) : Type 0 where
-  pub good : Good b p hs ns zs n u
+pub record QuestionAsks (b p ix : List ℕ) (n u : ℕ) (prm imgs bnd s tbl : List ℕ) (r : QuestionRecord) : Type 0 where
+  pub good : Good b p ix n u
   pub table : length prm ≡ 65536
   pub zeros : Zeros prm 0
   pub cleared : Cleared imgs bnd
@@ -107,8 +107,8 @@ pub record QuestionAsks (b p hs ns zs : List ℕ) (n u : ℕ) (prm imgs bnd s tb
   pub pairs : r .kind ≡ 2 → r .count ≡ r .named + 1
 
 -- THE ANSWER TO A QUESTION: the store after it and its code are the definition's, whatever other lengths were lent.
-pub record QuestionIs (b p : List ℕ) (n : ℕ) (prm imgs bnd s tbl : List ℕ) (q : QuestionRecord) (b′ p′ hs′ ns′ zs′ prm′ imgs′ bnd′ : List ℕ) (r : Word) : Type 0 where
-  pub good : Good b′ p′ hs′ ns′ zs′ (r .count) (r .used)
+pub record QuestionIs (b p : List ℕ) (n : ℕ) (prm imgs bnd s tbl : List ℕ) (q : QuestionRecord) (b′ p′ ix′ prm′ imgs′ bnd′ : List ℕ) (r : Word) : Type 0 where
+  pub good : Good b′ p′ ix′ (r .count) (r .used)
   pub long : length b′ ≡ length b
   pub wide : length p′ ≡ length p
   pub is : (l : Lengths) → l .records ≡ length b → l .places ≡ length p → answerOf l (questionOver (storeOf b p n) tbl s q) (storeOf b p n)

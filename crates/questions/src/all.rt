@@ -15,9 +15,7 @@ pub struct Counts {
 pub fn answer_at(
     records: &mut [u8],
     places: &mut [u32],
-    heads: &mut [u16],
-    next: &mut [u16],
-    sizes: &mut [u16],
+    index: &mut [u16],
     count: usize,
     used: usize,
     params: &mut [u16],
@@ -28,8 +26,8 @@ pub fn answer_at(
     sorts: usize,
     at: usize,
 ) -> Word
-    requires { ⌜ AtAsks (now records) (now places) (now heads) (now next) (now sizes) count used (now params) (now images) (now bound) (now sheet) (now table) sorts at ⌝ }
-    ensures { λ r. ⌜ AtIs (now (records .entry)) (now (places .entry)) count (now (params .entry)) (now (images .entry)) (now (bound .entry)) (now (sheet .entry)) (now (table .entry)) sorts at (now (records .exit)) (now (places .exit)) (now (heads .exit)) (now (next .exit)) (now (sizes .exit)) (now (params .exit)) (now (images .exit)) (now (bound .exit)) r ⌝ }
+    requires { ⌜ AtAsks (now records) (now places) (now index) count used (now params) (now images) (now bound) (now sheet) (now table) sorts at ⌝ }
+    ensures { λ r. ⌜ AtIs (now (records .entry)) (now (places .entry)) count (now (params .entry)) (now (images .entry)) (now (bound .entry)) (now (sheet .entry)) (now (table .entry)) sorts at (now (records .exit)) (now (places .exit)) (now (index .exit)) (now (params .exit)) (now (images .exit)) (now (bound .exit)) r ⌝ }
 {
     let cursor = Cursor { at };
     let read = cursor.question(sheet, sorts);
@@ -37,9 +35,7 @@ pub fn answer_at(
         ReadQuestion::Question(question, _) => answer_question(
             records,
             places,
-            heads,
-            next,
-            sizes,
+            index,
             count,
             used,
             params,
@@ -62,9 +58,7 @@ pub fn answer_at(
 pub fn answer_all(
     records: &mut [u8],
     places: &mut [u32],
-    heads: &mut [u16],
-    next: &mut [u16],
-    sizes: &mut [u16],
+    index: &mut [u16],
     count: usize,
     used: usize,
     params: &mut [u16],
@@ -77,8 +71,8 @@ pub fn answer_all(
     many: usize,
     answers: &mut [u32],
 ) -> Counts
-    requires { ⌜ AllAsks (now records) (now places) (now heads) (now next) (now sizes) count used (now params) (now images) (now bound) (now sheet) (now table) sorts (now asked) many (now answers) ⌝ }
-    ensures { λ r. ⌜ AllIs (now (records .entry)) (now (places .entry)) count (now (params .entry)) (now (images .entry)) (now (bound .entry)) (now (sheet .entry)) (now (table .entry)) sorts (now (asked .entry)) many (now (answers .entry)) (now (records .exit)) (now (places .exit)) (now (heads .exit)) (now (next .exit)) (now (sizes .exit)) (now (params .exit)) (now (images .exit)) (now (bound .exit)) (now (answers .exit)) r ⌝ }
+    requires { ⌜ AllAsks (now records) (now places) (now index) count used (now params) (now images) (now bound) (now sheet) (now table) sorts (now asked) many (now answers) ⌝ }
+    ensures { λ r. ⌜ AllIs (now (records .entry)) (now (places .entry)) count (now (params .entry)) (now (images .entry)) (now (bound .entry)) (now (sheet .entry)) (now (table .entry)) sorts (now (asked .entry)) many (now (answers .entry)) (now (records .exit)) (now (places .exit)) (now (index .exit)) (now (params .exit)) (now (images .exit)) (now (bound .exit)) (now (answers .exit)) r ⌝ }
 {
     let mut n = count;
     let mut u = used;
@@ -88,9 +82,7 @@ pub fn answer_all(
         let word = answer_at(
             records,
             places,
-            heads,
-            next,
-            sizes,
+            index,
             n,
             u,
             params,

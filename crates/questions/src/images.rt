@@ -57,9 +57,7 @@ pub fn empty_images(images: &mut [u16], sheet: &[u8], names: usize, n: usize)
 pub fn answer_apply(
     records: &mut [u8],
     places: &mut [u32],
-    heads: &mut [u16],
-    next: &mut [u16],
-    sizes: &mut [u16],
+    index: &mut [u16],
     count: usize,
     used: usize,
     images: &mut [u16],
@@ -67,15 +65,15 @@ pub fn answer_apply(
     table: &[u16],
     question: QuestionRecord,
 ) -> Answer
-    requires { ⌜ ApplyAsks (now records) (now places) (now heads) (now next) (now sizes) count used (now images) (now sheet) (now table) question ⌝ }
-    ensures { λ r. ⌜ ApplyIs (now (records .entry)) (now (places .entry)) count (now (images .entry)) (now (sheet .entry)) (now (table .entry)) question (now (records .exit)) (now (places .exit)) (now (heads .exit)) (now (next .exit)) (now (sizes .exit)) (now (images .exit)) r ⌝ }
+    requires { ⌜ ApplyAsks (now records) (now places) (now index) count used (now images) (now sheet) (now table) question ⌝ }
+    ensures { λ r. ⌜ ApplyIs (now (records .entry)) (now (places .entry)) count (now (images .entry)) (now (sheet .entry)) (now (table .entry)) question (now (records .exit)) (now (places .exit)) (now (index .exit)) (now (images .exit)) r ⌝ }
 {
     let list = question.list;
     let names = question.names;
     let named = question.named;
     fill_images(images, sheet, table, names, list + 2, named);
     let k = sort_at(sheet, list, table);
-    let made = instance(records, places, heads, next, sizes, count, used, images, k);
+    let made = instance(records, places, index, count, used, images, k);
     empty_images(images, sheet, names, named);
     made
 }

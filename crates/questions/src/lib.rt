@@ -54,9 +54,7 @@ pub fn word_of(answer: Answer) -> Word
 pub fn answer_question(
     records: &mut [u8],
     places: &mut [u32],
-    heads: &mut [u16],
-    next: &mut [u16],
-    sizes: &mut [u16],
+    index: &mut [u16],
     count: usize,
     used: usize,
     params: &mut [u16],
@@ -66,8 +64,8 @@ pub fn answer_question(
     table: &[u16],
     question: QuestionRecord,
 ) -> Word
-    requires { ⌜ QuestionAsks (now records) (now places) (now heads) (now next) (now sizes) count used (now params) (now images) (now bound) (now sheet) (now table) question ⌝ }
-    ensures { λ r. ⌜ QuestionIs (now (records .entry)) (now (places .entry)) count (now (params .entry)) (now (images .entry)) (now (bound .entry)) (now (sheet .entry)) (now (table .entry)) question (now (records .exit)) (now (places .exit)) (now (heads .exit)) (now (next .exit)) (now (sizes .exit)) (now (params .exit)) (now (images .exit)) (now (bound .exit)) r ⌝ }
+    requires { ⌜ QuestionAsks (now records) (now places) (now index) count used (now params) (now images) (now bound) (now sheet) (now table) question ⌝ }
+    ensures { λ r. ⌜ QuestionIs (now (records .entry)) (now (places .entry)) count (now (params .entry)) (now (images .entry)) (now (bound .entry)) (now (sheet .entry)) (now (table .entry)) question (now (records .exit)) (now (places .exit)) (now (index .exit)) (now (params .exit)) (now (images .exit)) (now (bound .exit)) r ⌝ }
 {
     let kind = question.kind;
     let list = question.list;
@@ -85,9 +83,7 @@ pub fn answer_question(
         let found = answer_match(
             records,
             places,
-            heads,
-            next,
-            sizes,
+            index,
             count,
             used,
             params,
@@ -102,9 +98,7 @@ pub fn answer_question(
     let made = answer_apply(
         records,
         places,
-        heads,
-        next,
-        sizes,
+        index,
         count,
         used,
         images,

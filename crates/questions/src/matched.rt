@@ -18,9 +18,7 @@ ghost use Rattle.questions.specs.Contract.{ListedAsks, ListedIs, MatchAs
 pub fn match_listed(
     records: &mut [u8],
     places: &mut [u32],
-    heads: &mut [u16],
-    next: &mut [u16],
-    sizes: &mut [u16],
+    index: &mut [u16],
     count: usize,
     used: usize,
     params: &[u16],
@@ -30,8 +28,8 @@ pub fn match_listed(
     target: usize,
     result: usize,
 ) -> Answer
-    requires { ⌜ ListedAsks (now records) (now places) (now heads) (now next) (now sizes) count used (now params) (now images) (now bound) pattern target result ⌝ }
-    ensures { λ r. ⌜ ListedIs (now (records .entry)) (now (places .entry)) count (now (params .entry)) (now (images .entry)) (now (bound .entry)) pattern target result (now (records .exit)) (now (places .exit)) (now (heads .exit)) (now (next .exit)) (now (sizes .exit)) (now (images .exit)) (now (bound .exit)) r ⌝ }
+    requires { ⌜ ListedAsks (now records) (now places) (now index) count used (now params) (now images) (now bound) pattern target result ⌝ }
+    ensures { λ r. ⌜ ListedIs (now (records .entry)) (now (places .entry)) count (now (params .entry)) (now (images .entry)) (now (bound .entry)) pattern target result (now (records .exit)) (now (places .exit)) (now (index .exit)) (now (images .exit)) (now (bound .exit)) r ⌝ }
 {
     if !in_premise(records, places, count, params, pattern, target) {
         return refuse(Cause::Barred, count, used);
@@ -49,17 +47,7 @@ pub fn match_listed(
     );
     match found {
         Matched::Fits(m) => {
-            let made = instance(
-                records,
-                places,
-                heads,
-                next,
-                sizes,
-                count,
-                used,
-                images,
-                result,
-            );
+            let made = instance(records, places, index, count, used, images, result);
             clear(images, bound, m);
             made
         }
@@ -75,9 +63,7 @@ pub fn match_listed(
 pub fn answer_match(
     records: &mut [u8],
     places: &mut [u32],
-    heads: &mut [u16],
-    next: &mut [u16],
-    sizes: &mut [u16],
+    index: &mut [u16],
     count: usize,
     used: usize,
     params: &mut [u16],
@@ -87,8 +73,8 @@ pub fn answer_match(
     table: &[u16],
     question: QuestionRecord,
 ) -> Answer
-    requires { ⌜ MatchAsks (now records) (now places) (now heads) (now next) (now sizes) count used (now params) (now images) (now bound) (now sheet) (now table) question ⌝ }
-    ensures { λ r. ⌜ MatchIs (now (records .entry)) (now (places .entry)) count (now (params .entry)) (now (images .entry)) (now (bound .entry)) (now (sheet .entry)) (now (table .entry)) question (now (records .exit)) (now (places .exit)) (now (heads .exit)) (now (next .exit)) (now (sizes .exit)) (now (params .exit)) (now (images .exit)) (now (bound .exit)) r ⌝ }
+    requires { ⌜ MatchAsks (now records) (now places) (now index) count used (now params) (now images) (now bound) (now sheet) (now table) question ⌝ }
+    ensures { λ r. ⌜ MatchIs (now (records .entry)) (now (places .entry)) count (now (params .entry)) (now (images .entry)) (now (bound .entry)) (now (sheet .entry)) (now (table .entry)) question (now (records .exit)) (now (places .exit)) (now (index .exit)) (now (params .exit)) (now (images .exit)) (now (bound .exit)) r ⌝ }
 {
     let list = question.list;
     let names = question.names;
@@ -100,9 +86,7 @@ pub fn answer_match(
     let found = match_listed(
         records,
         places,
-        heads,
-        next,
-        sizes,
+        index,
         count,
         used,
         params,

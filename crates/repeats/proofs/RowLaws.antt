@@ -144,7 +144,7 @@ again-refused c n u x w h l ex e =
 abbrev lent : List ℕ → List ℕ → Lengths
 lent b p = record { records = length b; places = length p; rows = 0; answers = 0 }
 
-module _ (b p hs ns zs : List ℕ) (n u : ℕ) (g : Good b p hs ns zs n u) (v : Verdict) where
+module _ (b p ix : List ℕ) (n u : ℕ) (g : Good b p ix n u) (v : Verdict) where
   abbrev here : List Sort
   here = storeOf b p n
 
@@ -157,7 +157,7 @@ module _ (b p hs ns zs : List ℕ) (n u : ℕ) (g : Good b p hs ns zs n u) (v : 
 
   -- AN OUTCOME THAT ADDS NOTHING is the answer, over the store as it was.
   pub answer-again : (c : ℕ) (w : Answer) → AgainIs c n u w
-      → ((l : Lengths) → l .records ≡ length b → l .places ≡ length p → outcome l here v ≡ record { store = here; code = c }) → AnswerIs b p n v b p hs ns zs w
+      → ((l : Lengths) → l .records ≡ length b → l .places ≡ length p → outcome l here v ≡ record { store = here; code = c }) → AnswerIs b p n v b p ix w
   answer-again c w i e =
       let is : (l : Lengths) → l .records ≡ length b → l .places ≡ length p → outcome l here v ≡ record { store = here; code = codeOf (w .verdict) } =
       λ l x y. e l x y ∙ ap (λ (k : ℕ). record { store = here; code = k }) (sym (i .code)) in
@@ -216,13 +216,13 @@ look-is {s} {rows} {column} {r} {a} {ws} {ws′} {t} {q} e on d i =
     record { looked = looked-by q (record { app = e; parts = subst (PartsAre s rows column r a) on d }); found = i .found; less = i .less }
 
 ---------------------------------------------------------------- the row
-module _ {column : ℕ} {b p hs ns zs : List ℕ} {n u : ℕ} {prm imgs bnd s tbl xs rows : List ℕ} {r : TermRecord} {a ws : List ℕ}
-    (h : PastAsks column b p hs ns zs n u prm imgs bnd s tbl xs rows r a ws) where
+module _ {column : ℕ} {b p ix : List ℕ} {n u : ℕ} {prm imgs bnd s tbl xs rows : List ℕ} {r : TermRecord} {a ws : List ℕ}
+    (h : PastAsks column b p ix n u prm imgs bnd s tbl xs rows r a ws) where
   pub look-asks : column ≤ 1 → LookAsks b p n s rows column r a
   look-asks o = record { table = tbl; places = xs; stored = h .asks .good .stored; standing = h .asks .standing; side = o; room = h .asks .room }
 
   -- The array for the arguments may hold anything.
-  pub row-asks : {a′ : List ℕ} → length a′ ≡ length a → TermAsks b p hs ns zs n u prm imgs bnd s tbl xs rows r a′
+  pub row-asks : {a′ : List ℕ} → length a′ ≡ length a → TermAsks b p ix n u prm imgs bnd s tbl xs rows r a′
   row-asks e = record { good = h .asks .good; zeroed = h .asks .zeroed; standing = h .asks .standing; room = omega (arith, e, h .asks .room) }
 
   verdict-is : {key : List ℕ} → AppIs s rows column r key
@@ -243,14 +243,14 @@ module _ {column : ℕ} {b p hs ns zs : List ℕ} {n u : ℕ} {prm imgs bnd s tb
         let v = judgingApp column (sortsOf (storeOf b p n) (numbersAt key 3 (r .count))) in
         subst (λ (x : Outcome). Coded (x .code)) (told-here .is (lent b p) refl refl) (outcome-coded (lent b p) (storeOf b p n) v)
 
-    pub row-recalled : {w : Answer} → AgainIs c n u w → PastIs column b p n prm imgs bnd s tbl xs rows r b p hs ns zs prm imgs bnd w ws′
+    pub row-recalled : {w : Answer} → AgainIs c n u w → PastIs column b p n prm imgs bnd s tbl xs rows r b p ix prm imgs bnd w ws′
     row-recalled {w} i =
         record {
           row =
               record {
                 answer =
                     judged-as (verdict-is (subst (Looked s rows column r key) e (l .looked)))
-                    (answer-again b p hs ns zs n u (h .asks .good) (judgingApp column (sortsOf (storeOf b p n) (numbersAt key 3 (r .count)))) c w i (told-here .is));
+                    (answer-again b p ix n u (h .asks .good) (judgingApp column (sortsOf (storeOf b p n) (numbersAt key 3 (r .count)))) c w i (told-here .is));
                 params = refl;
                 images = refl;
                 bound = refl;
@@ -259,8 +259,8 @@ module _ {column : ℕ} {b p hs ns zs : List ℕ} {n u : ℕ} {prm imgs bnd s tb
         }
 
   -- A new answer is the row, and may be noted.
-  module _ {b′ p′ hs′ ns′ zs′ prm′ imgs′ bnd′ : List ℕ} {w : Answer}
-      (i : TermIs (judging column) column b p n prm imgs bnd s tbl xs rows r b′ p′ hs′ ns′ zs′ prm′ imgs′ bnd′ w) where
+  module _ {b′ p′ ix′ prm′ imgs′ bnd′ : List ℕ} {w : Answer}
+      (i : TermIs (judging column) column b p n prm imgs bnd s tbl xs rows r b′ p′ ix′ prm′ imgs′ bnd′ w) where
     abbrev st : List Sort
     st = storeOf b p n
 
@@ -271,7 +271,7 @@ module _ {column : ℕ} {b p hs ns zs : List ℕ} {n u : ℕ} {prm imgs bnd s tb
     verdict = termVerdict (judging column) st s tbl xs rows column r
 
     code-small : (v : RowVerdict) → w .verdict ≡ v → codeOf v < codeEnd
-    code-small (Number k) e = omega (arith, answer-number b p n verdict b′ p′ hs′ ns′ zs′ w (i .answer) k e .1)
+    code-small (Number k) e = omega (arith, answer-number b p n verdict b′ p′ ix′ w (i .answer) k e .1)
     code-small (Refused c) e = cause-small c
 
     module _ (key ws′ : List ℕ) where
@@ -305,7 +305,7 @@ module _ {column : ℕ} {b p hs ns zs : List ℕ} {n u : ℕ} {prm imgs bnd s tb
 
       grown-past : {q : Look} → LookedIs s rows column r key ws ws′ q → PastOf column b′ p′ (w .count) ws′
       grown-past l =
-          past-grown column b p n b′ p′ hs′ ns′ zs′ (w .count) (w .used) ws′ (i .answer .good) (i .answer .long) (i .answer .wide) (i .answer .starts) (past-less l)
+          past-grown column b p n b′ p′ ix′ (w .count) (w .used) ws′ (i .answer .good) (i .answer .long) (i .answer .wide) (i .answer .starts) (past-less l)
 
       noted-past : {ws″ : List ℕ} (q : Look) → LookedIs s rows column r key ws ws′ q → RowNotedIs ws′ (r .count) q (w .verdict) ws″ → PastOf column b′ p′ (w .count) ws″
       noted-past Apart l e = subst (PastOf column b′ p′ (w .count)) (sym e) (grown-past l)
@@ -321,27 +321,27 @@ module _ {column : ℕ} {b p hs ns zs : List ℕ} {n u : ℕ} {prm imgs bnd s tb
           }
 
       row-made : {ws″ : List ℕ} {q : Look} → LookedIs s rows column r key ws ws′ q → RowNotedIs ws′ (r .count) q (w .verdict) ws″
-          → PastIs column b p n prm imgs bnd s tbl xs rows r b′ p′ hs′ ns′ zs′ prm′ imgs′ bnd′ w ws″
+          → PastIs column b p n prm imgs bnd s tbl xs rows r b′ p′ ix′ prm′ imgs′ bnd′ w ws″
       row-made {ws″} {q} l e = record { row = i; past = noted-past q l e }
 
 -- The two columns: what infer and check answer.
-module _ {b p hs ns zs : List ℕ} {n u : ℕ} {prm imgs bnd s tbl xs rows : List ℕ} {r : TermRecord} {a ws key ws′ : List ℕ} {q : Look} {b′ p′ hs′ ns′ zs′ prm′ imgs′ bnd′ : List ℕ} {w : Answer} where
-  module _ (h : PastAsks 0 b p hs ns zs n u prm imgs bnd s tbl xs rows r a ws) (l : LookedIs s rows 0 r key ws ws′ q)
-      (i : TermIs inferred 0 b p n prm imgs bnd s tbl xs rows r b′ p′ hs′ ns′ zs′ prm′ imgs′ bnd′ w) where
+module _ {b p ix : List ℕ} {n u : ℕ} {prm imgs bnd s tbl xs rows : List ℕ} {r : TermRecord} {a ws key ws′ : List ℕ} {q : Look} {b′ p′ ix′ prm′ imgs′ bnd′ : List ℕ} {w : Answer} where
+  module _ (h : PastAsks 0 b p ix n u prm imgs bnd s tbl xs rows r a ws) (l : LookedIs s rows 0 r key ws ws′ q)
+      (i : TermIs inferred 0 b p n prm imgs bnd s tbl xs rows r b′ p′ ix′ prm′ imgs′ bnd′ w) where
     pub inferred-note : RowNoteAsks ws′ (r .count) q (w .verdict)
     unfolding judging
     inferred-note = note-asks h i key ws′ q l
 
-    pub row-inferred : {ws″ : List ℕ} → RowNotedIs ws′ (r .count) q (w .verdict) ws″ → PastIs 0 b p n prm imgs bnd s tbl xs rows r b′ p′ hs′ ns′ zs′ prm′ imgs′ bnd′ w ws″
+    pub row-inferred : {ws″ : List ℕ} → RowNotedIs ws′ (r .count) q (w .verdict) ws″ → PastIs 0 b p n prm imgs bnd s tbl xs rows r b′ p′ ix′ prm′ imgs′ bnd′ w ws″
     unfolding judging
     row-inferred noted = row-made h i key ws′ l noted
 
-  module _ (h : PastAsks 1 b p hs ns zs n u prm imgs bnd s tbl xs rows r a ws) (l : LookedIs s rows 1 r key ws ws′ q)
-      (i : TermIs (checked smtLib) 1 b p n prm imgs bnd s tbl xs rows r b′ p′ hs′ ns′ zs′ prm′ imgs′ bnd′ w) where
+  module _ (h : PastAsks 1 b p ix n u prm imgs bnd s tbl xs rows r a ws) (l : LookedIs s rows 1 r key ws ws′ q)
+      (i : TermIs (checked smtLib) 1 b p n prm imgs bnd s tbl xs rows r b′ p′ ix′ prm′ imgs′ bnd′ w) where
     pub checked-note : RowNoteAsks ws′ (r .count) q (w .verdict)
     unfolding judging
     checked-note = note-asks h i key ws′ q l
 
-    pub row-checked : {ws″ : List ℕ} → RowNotedIs ws′ (r .count) q (w .verdict) ws″ → PastIs 1 b p n prm imgs bnd s tbl xs rows r b′ p′ hs′ ns′ zs′ prm′ imgs′ bnd′ w ws″
+    pub row-checked : {ws″ : List ℕ} → RowNotedIs ws′ (r .count) q (w .verdict) ws″ → PastIs 1 b p n prm imgs bnd s tbl xs rows r b′ p′ ix′ prm′ imgs′ bnd′ w ws″
     unfolding judging
     row-checked noted = row-made h i key ws′ l noted

@@ -207,11 +207,11 @@ pub record LookedIs (s rows : List ℕ) (column : ℕ) (r : TermRecord) (a ws ws
   pub less : Less ws ws′
 
 -- What a row asks, and a table that says the truth.
-pub record PastAsks (column : ℕ) (b p hs ns zs : List ℕ) (n u : ℕ) (prm imgs bnd s tbl xs rows : List ℕ) (r : TermRecord) (a ws : List ℕ) : Type 0 where
-  pub asks : TermAsks b p hs ns zs n u prm imgs bnd s tbl xs rows r a
+pub record PastAsks (column : ℕ) (b p ix : List ℕ) (n u : ℕ) (prm imgs bnd s tbl xs rows : List ℕ) (r : TermRecord) (a ws : List ℕ) : Type 0 where
+  pub asks : TermAsks b p ix n u prm imgs bnd s tbl xs rows r a
   pub past : PastOf column b p n ws
 
 -- THE ROW IN A COLUMN, and a table that says the truth over the store after it.
-pub record PastIs (column : ℕ) (b p : List ℕ) (n : ℕ) (prm imgs bnd s tbl xs rows : List ℕ) (r : TermRecord) (b′ p′ hs′ ns′ zs′ prm′ imgs′ bnd′ : List ℕ) (q : Answer) (ws′ : List ℕ) : Type 0 where
-  pub row : TermIs (judging column) column b p n prm imgs bnd s tbl xs rows r b′ p′ hs′ ns′ zs′ prm′ imgs′ bnd′ q
+pub record PastIs (column : ℕ) (b p : List ℕ) (n : ℕ) (prm imgs bnd s tbl xs rows : List ℕ) (r : TermRecord) (b′ p′ ix′ prm′ imgs′ bnd′ : List ℕ) (q : Answer) (ws′ : List ℕ) : Type 0 where
+  pub row : TermIs (judging column) column b p n prm imgs bnd s tbl xs rows r b′ p′ ix′ prm′ imgs′ bnd′ q
   pub past : PastOf column b′ p′ (q .count) ws′

@@ -42,13 +42,13 @@ told-grown f lb lp st st′ key c g once ordered fits h =
     }
 
 -- THE TABLE OF A COLUMN SAYS THE TRUTH OVER A STORE THAT HAS GROWN, in buffers of the same lengths.
-pub past-grown : (column : ℕ) (b p : List ℕ) (n : ℕ) (b′ p′ hs′ ns′ zs′ : List ℕ) (n′ u′ : ℕ) (ws : List ℕ) → Good b′ p′ hs′ ns′ zs′ n′ u′ → length b′ ≡ length b → length p′ ≡ length p
+pub past-grown : (column : ℕ) (b p : List ℕ) (n : ℕ) (b′ p′ ix′ : List ℕ) (n′ u′ : ℕ) (ws : List ℕ) → Good b′ p′ ix′ n′ u′ → length b′ ≡ length b → length p′ ≡ length p
     → Starts (storeOf b p n) (storeOf b′ p′ n′) → PastOf column b p n ws → PastOf column b′ p′ n′ ws
-past-grown column b p n b′ p′ hs′ ns′ zs′ n′ u′ ws good long wide g h =
+past-grown column b p n b′ p′ ix′ n′ u′ ws good long wide g h =
     let f = judgingApp column in
     record {
       each = λ key c s.
-          told-grown f (length b′) (length p′) (storeOf b p n) (storeOf b′ p′ n′) key c g (good-once b′ p′ hs′ ns′ zs′ n′ u′ good)
-          (store-ordered b′ p′ n′ (good .stored)) (good-room b′ p′ hs′ ns′ zs′ n′ u′ good)
+          told-grown f (length b′) (length p′) (storeOf b p n) (storeOf b′ p′ n′) key c g (good-once b′ p′ ix′ n′ u′ good)
+          (store-ordered b′ p′ n′ (good .stored)) (good-room b′ p′ ix′ n′ u′ good)
           (let t = h .each key c s in record { below = t .below; is = λ l e d. t .is l (e ∙ long) (d ∙ wide) });
     }

@@ -112,9 +112,7 @@ pub fn looked_up(
 pub fn inferred_row(
     records: &mut [u8],
     places: &mut [u32],
-    heads: &mut [u16],
-    next: &mut [u16],
-    sizes: &mut [u16],
+    index: &mut [u16],
     count: usize,
     used: usize,
     params: &mut [u16],
@@ -128,8 +126,8 @@ pub fn inferred_row(
     args: &mut [u8],
     past: &mut [u8],
 ) -> Answer
-    requires { ⌜ PastAsks 0 (now records) (now places) (now heads) (now next) (now sizes) count used (now params) (now images) (now bound) (now sheet) (now table) (now starts) (now rows) term (now args) (now past) ⌝ }
-    ensures { λ r. ⌜ PastIs 0 (now (records .entry)) (now (places .entry)) count (now (params .entry)) (now (images .entry)) (now (bound .entry)) (now (sheet .entry)) (now (table .entry)) (now (starts .entry)) (now (rows .entry)) term (now (records .exit)) (now (places .exit)) (now (heads .exit)) (now (next .exit)) (now (sizes .exit)) (now (params .exit)) (now (images .exit)) (now (bound .exit)) r (now (past .exit)) ⌝ }
+    requires { ⌜ PastAsks 0 (now records) (now places) (now index) count used (now params) (now images) (now bound) (now sheet) (now table) (now starts) (now rows) term (now args) (now past) ⌝ }
+    ensures { λ r. ⌜ PastIs 0 (now (records .entry)) (now (places .entry)) count (now (params .entry)) (now (images .entry)) (now (bound .entry)) (now (sheet .entry)) (now (table .entry)) (now (starts .entry)) (now (rows .entry)) term (now (records .exit)) (now (places .exit)) (now (index .exit)) (now (params .exit)) (now (images .exit)) (now (bound .exit)) r (now (past .exit)) ⌝ }
 {
     let n = term.count;
     let look = looked_up(records, places, count, sheet, rows, 0, term, args, past);
@@ -139,9 +137,7 @@ pub fn inferred_row(
     let made = infer(
         records,
         places,
-        heads,
-        next,
-        sizes,
+        index,
         count,
         used,
         params,
@@ -163,9 +159,7 @@ pub fn inferred_row(
 pub fn checked_row(
     records: &mut [u8],
     places: &mut [u32],
-    heads: &mut [u16],
-    next: &mut [u16],
-    sizes: &mut [u16],
+    index: &mut [u16],
     count: usize,
     used: usize,
     params: &mut [u16],
@@ -179,8 +173,8 @@ pub fn checked_row(
     args: &mut [u8],
     past: &mut [u8],
 ) -> Answer
-    requires { ⌜ PastAsks 1 (now records) (now places) (now heads) (now next) (now sizes) count used (now params) (now images) (now bound) (now sheet) (now table) (now starts) (now rows) term (now args) (now past) ⌝ }
-    ensures { λ r. ⌜ PastIs 1 (now (records .entry)) (now (places .entry)) count (now (params .entry)) (now (images .entry)) (now (bound .entry)) (now (sheet .entry)) (now (table .entry)) (now (starts .entry)) (now (rows .entry)) term (now (records .exit)) (now (places .exit)) (now (heads .exit)) (now (next .exit)) (now (sizes .exit)) (now (params .exit)) (now (images .exit)) (now (bound .exit)) r (now (past .exit)) ⌝ }
+    requires { ⌜ PastAsks 1 (now records) (now places) (now index) count used (now params) (now images) (now bound) (now sheet) (now table) (now starts) (now rows) term (now args) (now past) ⌝ }
+    ensures { λ r. ⌜ PastIs 1 (now (records .entry)) (now (places .entry)) count (now (params .entry)) (now (images .entry)) (now (bound .entry)) (now (sheet .entry)) (now (table .entry)) (now (starts .entry)) (now (rows .entry)) term (now (records .exit)) (now (places .exit)) (now (index .exit)) (now (params .exit)) (now (images .exit)) (now (bound .exit)) r (now (past .exit)) ⌝ }
 {
     let n = term.count;
     let look = looked_up(records, places, count, sheet, rows, 1, term, args, past);
@@ -190,9 +184,7 @@ pub fn checked_row(
     let made = check(
         records,
         places,
-        heads,
-        next,
-        sizes,
+        index,
         count,
         used,
         params,

@@ -20,17 +20,17 @@ use Rattle.store.specs.declared.Interned.the-variants.{Is, NoRoom}
 use Rattle.replacing.specs.Lists.{Numbers}
 use Rattle.replacing.specs.Made.{MakeAsks, MadeIs}
 
-module _ (b p hs ns zs : List ℕ) (n u : ℕ) (f : Fields) (ps ms : Numbers) (a : MakeAsks b p hs ns zs n u f ps ms) (r : List ℕ) (e : r ≡ recordBytes f) where
+module _ (b p ix : List ℕ) (n u : ℕ) (f : Fields) (ps ms : Numbers) (a : MakeAsks b p ix n u f ps ms) (r : List ℕ) (e : r ≡ recordBytes f) where
   rec-fresh : Fresh r n
   rec-fresh = subst (λ (s : List ℕ). Fresh s n) (sym e) (fresh-of f n (a .shape) (a .below))
 
   sort-is : sortOf (storeOf b p n) (fieldsAt r 0) ≡ sortOf (storeOf b p n) f
   sort-is = ap (sortOf (storeOf b p n)) (ap (λ (s : List ℕ). fieldsAt s 0) e ∙ fresh-fields f (a .shape))
 
-  pub make-tree : TreeAsks zs r
-  make-tree = tree-asks zs r n (a .good .sized .table) (a .good .indexed .count) rec-fresh
+  pub make-tree : TreeAsks ix r
+  make-tree = tree-asks ix r n (a .good .indexed .table) (a .good .indexed .count) rec-fresh
 
-  pub make-intern : (w : ℕ) → TreeHas zs r w → InternAsks b p hs ns zs n u r w
+  pub make-intern : (w : ℕ) → TreeHas ix r w → InternAsks b p ix n u r w
   make-intern w h =
       let e = h b p n (a .good .sized) (rec-fresh .below) in
       record { good = a .good; fresh = rec-fresh; weight = e; small = omega (arith, e, ap size sort-is, a .small) }
@@ -41,13 +41,13 @@ module _ (b p hs ns zs : List ℕ) (n u : ℕ) (f : Fields) (ps ms : Numbers) (a
       ∙ sym (intern-parts (sortOf (storeOf b p n) f) (storeOf b p n) (store-ordered b p n (a .good .stored))
       (sort-parts (storeOf b p n) f (a .shape) (λ j h. omega (arith, a .below j h, storeOf-length b p n))))
 
-  pub make-made : (b′ p′ hs′ ns′ zs′ : List ℕ) (i : Interned) → InternedIs b p hs ns zs n u r b′ p′ hs′ ns′ zs′ i
-      → MadeIs b p hs ns zs n u (sortOf (storeOf b p n) f) b′ p′ hs′ ns′ zs′ i
-  make-made b′ p′ hs′ ns′ zs′ (Is k m v) h =
+  pub make-made : (b′ p′ ix′ : List ℕ) (i : Interned) → InternedIs b p ix n u r b′ p′ ix′ i
+      → MadeIs b p ix n u (sortOf (storeOf b p n) f) b′ p′ ix′ i
+  make-made b′ p′ ix′ (Is k m v) h =
       record {
         good = h .good;
         added = h .added ∙ added-is;
         number = h .number ∙ ap (λ (s : Sort). indexOf s (storeOf b′ p′ m)) sort-is;
         kept = h .kept;
       }
-  make-made b′ p′ hs′ ns′ zs′ NoRoom h = (sym (ap (room (length b) (length p)) added-is) ∙ h .0, h .1)
+  make-made b′ p′ ix′ NoRoom h = (sym (ap (room (length b) (length p)) added-is) ∙ h .0, h .1)

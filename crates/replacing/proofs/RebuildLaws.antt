@@ -41,7 +41,7 @@ head-index : (ps : Sorts) (st : List Sort) → ps ≡ headOf ps then end → ind
 unfolding indicesOf
 head-index ps st e = ap (λ (x : Sorts). indicesOf x st) e
 
-module _ (b p hs ns zs : List ℕ) (n u k : ℕ) (parts : Numbers) (l : List ℕ) (a : RebuildAsks b p hs ns zs n u k parts l) (r : SortRecord)
+module _ (b p ix : List ℕ) (n u k : ℕ) (parts : Numbers) (l : List ℕ) (a : RebuildAsks b p ix n u k parts l) (r : SortRecord)
     (e : EntryIs b p n k r) (o : Numbers) (ho : Has o (unbound l (numbersAt b (r .names) (r .named)))) where
   abbrev ps : Sorts
   ps = applyAll (imagesOf (storeOf b p n) l) (partsOf (sortAt b p n k))
@@ -79,13 +79,13 @@ module _ (b p hs ns zs : List ℕ) (n u k : ℕ) (parts : Numbers) (l : List ℕ
         few = a .has .few;
       }
 
-  pub rebuild-gone : goes (r .kind) (o .count) ≡ true → Made b p n u (answerAt b p n l k) b p hs ns zs (getD (parts .list) 0 0) n u
+  pub rebuild-gone : goes (r .kind) (o .count) ≡ true → Made b p n u (answerAt b p n l k) b p ix (getD (parts .list) 0 0) n u
   rebuild-gone g =
       let single = one-part ps (one (goes-par (r .kind) (o .count) g .0)) in
       let there = head-there ps (storeOf b p n) single (a .there) in
       let index = head-index ps (storeOf b p n) single in
       let some : 0 < parts .count = omega (arith, has-length parts (indicesOf ps (storeOf b p n)) (a .has), ap length index) in
-      subst (λ (s : Sort). Made b p n u s b p hs ns zs (getD (parts .list) 0 0) n u)
+      subst (λ (s : Sort). Made b p n u s b p ix (getD (parts .list) 0 0) n u)
       (sym (answer-is ∙ rebuilt-gone (r .kind) (r .name) (r .number) names ps (goes-at true g)))
       (record {
         good = a .ready .good;
@@ -105,19 +105,19 @@ module _ (b p hs ns zs : List ℕ) (n u k : ℕ) (parts : Numbers) (l : List ℕ
 
     -- Parts and names as they were: the sort stays as it is.
     pub rebuild-same : o .count ≡ r .named → numbersOf parts ≡ numbersAt b (r .list) (parts .count)
-        → Made b p n u (answerAt b p n l k) b p hs ns zs k n u
+        → Made b p n u (answerAt b p n l k) b p ix k n u
     rebuild-same en ep =
         let own = numbersAt b (r .names) (r .named) in
         let ns-same : numbersOf o ≡ own =
         ho .is ∙ unbound-all l own (has-length o names ho ∙ en ∙ sym (length-numbersAt b (r .names) (r .named))) in
-        subst (λ (s : Sort). Made b p n u s b p hs ns zs k n u)
+        subst (λ (s : Sort). Made b p n u s b p ix k n u)
         (entry-sort b p n l (a .ready .good .stored) (a .ready .table) k (a .known) r e
         ∙ sym (ap₂ (λ (x y : List ℕ). sortOf (storeOf b p n) (fields (r .kind) (r .name) (r .number) x y))
         (ep ∙ ap (numbersAt b (r .list)) count-same) ns-same)
         ∙ rebuild-is)
-        (made-known-sort b p hs ns zs n u (a .ready .good) k (a .known))
+        (made-known-sort b p ix n u (a .ready .good) k (a .known))
 
-    pub rebuild-asks : MakeAsks b p hs ns zs n u (fieldsIn (r .kind) (r .name) (r .number) parts o) parts o
+    pub rebuild-asks : MakeAsks b p ix n u (fieldsIn (r .kind) (r .name) (r .number) parts o) parts o
     rebuild-asks =
         record {
           good = a .ready .good;
@@ -134,7 +134,7 @@ module _ (b p hs ns zs : List ℕ) (n u k : ℕ) (parts : Numbers) (l : List ℕ
           small = omega (arith, ap size rebuild-is, a .small);
         }
 
-    pub rebuild-made : (b′ p′ hs′ ns′ zs′ : List ℕ) (i : Interned)
-        → MadeIs b p hs ns zs n u (sortOf (storeOf b p n) (fieldsIn (r .kind) (r .name) (r .number) parts o)) b′ p′ hs′ ns′ zs′ i
-        → MadeIs b p hs ns zs n u (answerAt b p n l k) b′ p′ hs′ ns′ zs′ i
-    rebuild-made b′ p′ hs′ ns′ zs′ i m = subst (λ (s : Sort). MadeIs b p hs ns zs n u s b′ p′ hs′ ns′ zs′ i) rebuild-is m
+    pub rebuild-made : (b′ p′ ix′ : List ℕ) (i : Interned)
+        → MadeIs b p ix n u (sortOf (storeOf b p n) (fieldsIn (r .kind) (r .name) (r .number) parts o)) b′ p′ ix′ i
+        → MadeIs b p ix n u (answerAt b p n l k) b′ p′ ix′ i
+    rebuild-made b′ p′ ix′ i m = subst (λ (s : Sort). MadeIs b p ix n u s b′ p′ ix′ i) rebuild-is m

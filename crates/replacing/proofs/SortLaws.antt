@@ -28,19 +28,19 @@ use Rattle.replacing.specs.KnownLaws.{map-same, sort-same, answer-same, 
 use Rattle.replacing.proofs.SortForms.{rebuilt, image-is, image-known, answer-rebuilt, answer-leaf, parts-one, intern-rebuilt, starts-rebuilt, sizes-within, size-refs}
 
 -- A WHOLE SORT.
-module _ (b p hs ns zs : List ℕ) (n u k : ℕ) (l : List ℕ) (a : SortAsks b p hs ns zs n u k l) (e : SortRecord) (is : EntryIs b p n k e) where
-  pub sort-image : e .kind ≡ 2 → (i : ℕ) → i ≡ imageNumber (getD l (e .name) 0) k → Made b p n u (answerAt b p n l k) b p hs ns zs i n u
+module _ (b p ix : List ℕ) (n u k : ℕ) (l : List ℕ) (a : SortAsks b p ix n u k l) (e : SortRecord) (is : EntryIs b p n k e) where
+  pub sort-image : e .kind ≡ 2 → (i : ℕ) → i ≡ imageNumber (getD l (e .name) 0) k → Made b p n u (answerAt b p n l k) b p ix i n u
   sort-image h i q =
-      subst (λ (s : Sort). Made b p n u s b p hs ns zs i n u)
+      subst (λ (s : Sort). Made b p n u s b p ix i n u)
       (ap (sortAt b p n) q ∙ image-is b p n l (a .ready .good .stored) (a .ready .table) k (a .known) e is h)
-      (made-known-sort b p hs ns zs n u (a .ready .good) i
+      (made-known-sort b p ix n u (a .ready .good) i
       (omega (arith, q, image-known b p n l (a .ready .good .stored) (a .ready .table) k (a .known) e is)))
 
-  pub sort-leaf : (e .kind ≡ 2 → ⊥) → e .count ≡ 0 → Made b p n u (answerAt b p n l k) b p hs ns zs k n u
+  pub sort-leaf : (e .kind ≡ 2 → ⊥) → e .count ≡ 0 → Made b p n u (answerAt b p n l k) b p ix k n u
   sort-leaf d z =
-      subst (λ (s : Sort). Made b p n u s b p hs ns zs k n u)
+      subst (λ (s : Sort). Made b p n u s b p ix k n u)
       (answer-leaf b p n l (a .ready .good .stored) (a .ready .table) k (a .known) e is d z)
-      (made-known-sort b p hs ns zs n u (a .ready .good) k (a .known))
+      (made-known-sort b p ix n u (a .ready .good) k (a .known))
 
   pub sort-read : ReadAsks b (e .list) (e .count)
   sort-read = record { within = is .place .list; few = is .few }
@@ -71,7 +71,7 @@ module _ (b p hs ns zs : List ℕ) (n u k : ℕ) (l : List ℕ) (a : SortAsks b 
     sort-falls =
         omega (arith, size-refs b p n k e is, ap (λ (vs : List ℕ). sizes (sortsOf (storeOf b p n) vs)) (ho .is))
 
-    pub sort-parts-ask : PartsAsk b p hs ns zs n u o l
+    pub sort-parts-ask : PartsAsk b p ix n u o l
     sort-parts-ask =
         record {
           ready = a .ready;
@@ -88,9 +88,9 @@ module _ (b p hs ns zs : List ℕ) (n u k : ℕ) (l : List ℕ) (a : SortAsks b 
               omega (arith, ap sizes answers-are, ap size answer-is, a .small, sizes-within (e .kind) (e .name) (e .number) names ps other one);
         }
 
-    pub sort-stuck : (c q js os xs : List ℕ) (m v : ℕ) → Halted b p n u (internAll (answersAt b p n l (numbersOf o)) (storeOf b p n)) c q js os xs m v
-        → Halted b p n u (intern (answerAt b p n l k) (storeOf b p n)) c q js os xs m v
-    sort-stuck c q js os xs m v w =
+    pub sort-stuck : (c q kx : List ℕ) (m v : ℕ) → Halted b p n u (internAll (answersAt b p n l (numbersOf o)) (storeOf b p n)) c q kx m v
+        → Halted b p n u (intern (answerAt b p n l k) (storeOf b p n)) c q kx m v
+    sort-stuck c q kx m v w =
         record {
           good = w .good;
           starts = w .starts;
@@ -102,7 +102,7 @@ module _ (b p hs ns zs : List ℕ) (n u k : ℕ) (l : List ℕ) (a : SortAsks b 
           kept = w .kept;
         }
 
-    module _ (c q js os xs : List ℕ) (r : Numbers) (m v : ℕ) (w : PartsMade b p n u (answersAt b p n l (numbersOf o)) c q js os xs r m v) where
+    module _ (c q kx : List ℕ) (r : Numbers) (m v : ℕ) (w : PartsMade b p n u (answersAt b p n l (numbersOf o)) c q kx r m v) where
       added : storeOf c q m ≡ internAll ps (storeOf b p n)
       added = w .added ∙ ap (λ (ss : Sorts). internAll ss (storeOf b p n)) answers-are
 
@@ -117,11 +117,11 @@ module _ (b p hs ns zs : List ℕ) (n u k : ℕ) (l : List ℕ) (a : SortAsks b 
       ans-same : answerAt c q m l k ≡ answerAt b p n l k
       ans-same = answer-same b p c q n m l starts (a .ready .table) k (a .known)
 
-      pub sort-rebuild : RebuildAsks c q js os xs m v k r l
+      pub sort-rebuild : RebuildAsks c q kx m v k r l
       sort-rebuild =
           record {
             ready = record { good = w .good; table = table-same b p c q n m l starts (a .ready .table) };
-            known = omega (arith, a .known, grown-count b p hs ns zs n u (a .ready .good) c q js os xs m v (w .good) starts);
+            known = omega (arith, a .known, grown-count b p ix n u (a .ready .good) c q kx m v (w .good) starts);
             other = λ z.
                 other (is .kind ∙ sym (ap kindOf (sort-same b p c q n m l starts (a .ready .table) k (a .known))) ∙ z);
             there =
@@ -138,22 +138,22 @@ module _ (b p hs ns zs : List ℕ) (n u k : ℕ) (l : List ℕ) (a : SortAsks b 
           ∙ intern-rebuilt (e .kind) (e .name) (e .number) names ps (storeOf b p n) (store-ordered b p n (a .ready .good .stored)) other one
           ∙ sym (ap (λ (s : Sort). intern s (storeOf b p n)) answer-is)
 
-      pub sort-made : (d t is′ ms′ ys′ : List ℕ) (i m′ v′ : ℕ) → Made c q m v (answerAt c q m l k) d t is′ ms′ ys′ i m′ v′
-          → Made b p n u (answerAt b p n l k) d t is′ ms′ ys′ i m′ v′
-      sort-made d t is′ ms′ ys′ i m′ v′ y =
-          made-over b p hs ns zs n u (a .ready .good) c q js os xs m v (w .good) starts (w .kept) (answerAt b p n l k) interned
-          d t is′ ms′ ys′ i m′ v′ (subst (λ (s : Sort). Made c q m v s d t is′ ms′ ys′ i m′ v′) ans-same y)
+      pub sort-made : (d t jx′ : List ℕ) (i m′ v′ : ℕ) → Made c q m v (answerAt c q m l k) d t jx′ i m′ v′
+          → Made b p n u (answerAt b p n l k) d t jx′ i m′ v′
+      sort-made d t jx′ i m′ v′ y =
+          made-over b p ix n u (a .ready .good) c q kx m v (w .good) starts (w .kept) (answerAt b p n l k) interned
+          d t jx′ i m′ v′ (subst (λ (s : Sort). Made c q m v s d t jx′ i m′ v′) ans-same y)
 
       -- The table has it too.
-      pub sort-known : (d t is′ ms′ ys′ : List ℕ) (i m′ v′ : ℕ) → Made c q m v (answerAt c q m l k) d t is′ ms′ ys′ i m′ v′
+      pub sort-known : (d t jx′ : List ℕ) (i m′ v′ : ℕ) → Made c q m v (answerAt c q m l k) d t jx′ i m′ v′
           → (ws : List ℕ) → Known c q m l ws → Known d t m′ l (set ws k (i + 1))
-      sort-known d t is′ ms′ ys′ i m′ v′ y ws h =
-          known-added c q m v k l d t is′ ms′ ys′ i m′ v′ y (sort-rebuild .ready .table) (sort-rebuild .known) ws h
+      sort-known d t jx′ i m′ v′ y ws h =
+          known-added c q m v k l d t jx′ i m′ v′ y (sort-rebuild .ready .table) (sort-rebuild .known) ws h
 
-      pub sort-full : (d t is′ ms′ ys′ : List ℕ)
-          → (room (length c) (length q) (intern (answerAt c q m l k) (storeOf c q m)) ≡ false) × Untouched c q js os xs d t is′ ms′ ys′
-          → Halted b p n u (intern (answerAt b p n l k) (storeOf b p n)) d t is′ ms′ ys′ m v
-      sort-full d t is′ ms′ ys′ y =
-          halted-over b p hs ns zs n u (a .ready .good) c q js os xs m v (w .good) starts (w .kept) (answerAt b p n l k) interned
-          d t is′ ms′ ys′
+      pub sort-full : (d t jx′ : List ℕ)
+          → (room (length c) (length q) (intern (answerAt c q m l k) (storeOf c q m)) ≡ false) × Untouched c q kx d t jx′
+          → Halted b p n u (intern (answerAt b p n l k) (storeOf b p n)) d t jx′ m v
+      sort-full d t jx′ y =
+          halted-over b p ix n u (a .ready .good) c q kx m v (w .good) starts (w .kept) (answerAt b p n l k) interned
+          d t jx′
           (sym (ap (λ (s : Sort). room (length c) (length q) (intern s (storeOf c q m))) ans-same) ∙ y .0, y .1)

@@ -22,24 +22,24 @@ use Rattle.replacing.specs.Contract.{answerAt, answersAt, Ready, SortAsk
 use Rattle.replacing.specs.KnownLaws.{answer-same, table-same}
 
 -- The store c q has grown from b p by the answers of the first j numbers of vs.
-pub record Along (b p : List ℕ) (n u : ℕ) (vs l c q hs ns zs : List ℕ) (m v j : ℕ) : Type 0 where
-  pub good : Good c q hs ns zs m v
+pub record Along (b p : List ℕ) (n u : ℕ) (vs l c q ix : List ℕ) (m v j : ℕ) : Type 0 where
+  pub good : Good c q ix m v
   pub starts : Starts (storeOf b p n) (storeOf c q m)
   pub kept : Kept b p n u c q
   pub total : internAll (answersAt b p n l (drop j vs)) (storeOf c q m) ≡ internAll (answersAt b p n l vs) (storeOf b p n)
 
-pub along-start : (b p hs ns zs : List ℕ) (n u : ℕ) (vs l : List ℕ) → Good b p hs ns zs n u → Along b p n u vs l b p hs ns zs n u 0
-along-start b p hs ns zs n u vs l g =
+pub along-start : (b p ix : List ℕ) (n u : ℕ) (vs l : List ℕ) → Good b p ix n u → Along b p n u vs l b p ix n u 0
+along-start b p ix n u vs l g =
     record { good = g; starts = starts-self (storeOf b p n); kept = kept-self b p n u; total = refl }
 
-module _ (b p hs ns zs : List ℕ) (n u : ℕ) (l : List ℕ) (ready : Ready b p hs ns zs n u l) (vs c q is ms ys : List ℕ) (m v j : ℕ)
-    (i : Along b p n u vs l c q is ms ys m v j) where
+module _ (b p ix : List ℕ) (n u : ℕ) (l : List ℕ) (ready : Ready b p ix n u l) (vs c q jx : List ℕ) (m v j : ℕ)
+    (i : Along b p n u vs l c q jx m v j) where
   more : n ≤ m
-  more = grown-count b p hs ns zs n u (ready .good) c q is ms ys m v (i .good) (i .starts)
+  more = grown-count b p ix n u (ready .good) c q jx m v (i .good) (i .starts)
 
   kept-on : (d r : List ℕ) → Kept c q m v d r → Kept b p n u d r
   kept-on d r w =
-      kept-trans b p n u c q m v d r more (grown-used b p hs ns zs n u (ready .good) c q is ms ys m v (i .good) (i .starts)) (i .kept) w
+      kept-trans b p n u c q m v d r more (grown-used b p ix n u (ready .good) c q jx m v (i .good) (i .starts)) (i .kept) w
 
   pub along-done : length vs ≤ j → storeOf c q m ≡ internAll (answersAt b p n l vs) (storeOf b p n)
   unfolding sortsOf applyAll internAll
@@ -50,7 +50,7 @@ module _ (b p hs ns zs : List ℕ) (n u : ℕ) (l : List ℕ) (ready : Ready b p
     pub along-same : answerAt c q m l k ≡ answerAt b p n l k
     along-same = answer-same b p c q n m l (i .starts) (ready .table) k known
 
-    pub along-asks : size (answerAt b p n l k) ≤ 4096 → SortAsks c q is ms ys m v k l
+    pub along-asks : size (answerAt b p n l k) ≤ 4096 → SortAsks c q jx m v k l
     along-asks z =
         record {
           ready = record { good = i .good; table = table-same b p c q n m l (i .starts) (ready .table) };
@@ -66,9 +66,9 @@ module _ (b p hs ns zs : List ℕ) (n u : ℕ) (l : List ℕ) (ready : Ready b p
         ap (λ (x : List ℕ). internAll (answersAt b p n l x) (storeOf c q m)) (drop-cons vs j 0 h)
         ∙ ap (λ (x : ℕ). internAll (answersAt b p n l (drop (suc j) vs)) (intern (apply (imagesOf (storeOf b p n) l) (getD (storeOf b p n) x leaf)) (storeOf c q m))) here
 
-    pub along-halted : (d r js os xs : List ℕ) (m′ v′ : ℕ) → Halted c q m v (intern (answerAt c q m l k) (storeOf c q m)) d r js os xs m′ v′
-        → Halted b p n u (internAll (answersAt b p n l vs) (storeOf b p n)) d r js os xs m′ v′
-    along-halted d r js os xs m′ v′ w =
+    pub along-halted : (d r kx : List ℕ) (m′ v′ : ℕ) → Halted c q m v (intern (answerAt c q m l k) (storeOf c q m)) d r kx m′ v′
+        → Halted b p n u (internAll (answersAt b p n l vs) (storeOf b p n)) d r kx m′ v′
+    along-halted d r kx m′ v′ w =
         record {
           good = w .good;
           starts = starts-trans (storeOf b p n) (storeOf c q m) (storeOf d r m′) (i .starts) (w .starts);
@@ -84,14 +84,14 @@ module _ (b p hs ns zs : List ℕ) (n u : ℕ) (l : List ℕ) (ready : Ready b p
           kept = kept-on d r (w .kept);
         }
 
-    pub along-more : (d r js os xs : List ℕ) (x m′ v′ : ℕ) → Made c q m v (answerAt c q m l k) d r js os xs x m′ v′
-        → Along b p n u vs l d r js os xs m′ v′ (j + 1)
-    along-more d r js os xs x m′ v′ w =
+    pub along-more : (d r kx : List ℕ) (x m′ v′ : ℕ) → Made c q m v (answerAt c q m l k) d r kx x m′ v′
+        → Along b p n u vs l d r kx m′ v′ (j + 1)
+    along-more d r kx x m′ v′ w =
         record {
           good = w .good;
           starts =
               starts-trans (storeOf b p n) (storeOf c q m) (storeOf d r m′) (i .starts)
-              (made-starts c q m v (answerAt c q m l k) d r js os xs x m′ v′ w);
+              (made-starts c q m v (answerAt c q m l k) d r kx x m′ v′ w);
           kept = kept-on d r (w .kept);
           total =
               ap (λ (y : ℕ). internAll (answersAt b p n l (drop y vs)) (storeOf d r m′)) (add-one j)

@@ -39,18 +39,19 @@ abbrev pub answersAt : List ℕ → List ℕ → ℕ → List ℕ → List ℕ �
 answersAt b p n l vs = applyAll (imagesOf (storeOf b p n) l) (sortsOf (storeOf b p n) vs)
 
 -- A store that is only read, and a table of images in it.
-pub record Reading (b p zs : List ℕ) (n : ℕ) (l : List ℕ) : Type 0 where
+pub record Reading (b p ix : List ℕ) (n : ℕ) (l : List ℕ) : Type 0 where
   pub stored : Stored b p n
-  pub sized : Sized b p zs n
+  pub sized : Sized b p ix n
+  pub index : length ix ≡ 13312
   pub count : n ≤ 4096
   pub table : Table l n
 
-pub record SizeAsks (b p zs : List ℕ) (n k : ℕ) (l : List ℕ) : Type 0 where
-  pub reading : Reading b p zs n l
+pub record SizeAsks (b p ix : List ℕ) (n k : ℕ) (l : List ℕ) : Type 0 where
+  pub reading : Reading b p ix n l
   pub known : k < n
 
-pub record SizesAsk (b p zs : List ℕ) (n x m : ℕ) (l : List ℕ) : Type 0 where
-  pub reading : Reading b p zs n l
+pub record SizesAsk (b p ix : List ℕ) (n x m : ℕ) (l : List ℕ) : Type 0 where
+  pub reading : Reading b p ix n l
   pub within : x + 2 * m ≤ length b
   pub below : (j : ℕ) → j < m → u16At b (x + 2 * j) < n
 
@@ -61,42 +62,42 @@ abbrev pub SizesAre : List ℕ → List ℕ → ℕ → ℕ → ℕ → List ℕ
 SizesAre b p n x m l r = r ≡ capped (sizes (answersAt b p n l (numbersAt b x m)))
 
 -- A good store, and a table of images in it.
-pub record Ready (b p hs ns zs : List ℕ) (n u : ℕ) (l : List ℕ) : Type 0 where
-  pub good : Good b p hs ns zs n u
+pub record Ready (b p ix : List ℕ) (n u : ℕ) (l : List ℕ) : Type 0 where
+  pub good : Good b p ix n u
   pub table : Table l n
 
 -- The sort k is no variable, and parts has the numbers of its parts replaced, which the store has.
-pub record RebuildAsks (b p hs ns zs : List ℕ) (n u k : ℕ) (parts : Numbers) (l : List ℕ) : Type 0 where
-  pub ready : Ready b p hs ns zs n u l
+pub record RebuildAsks (b p ix : List ℕ) (n u k : ℕ) (parts : Numbers) (l : List ℕ) : Type 0 where
+  pub ready : Ready b p ix n u l
   pub known : k < n
   pub other : kindOf (sortAt b p n k) ≡ 2 → ⊥
   pub there : membAll (applyAll (imagesOf (storeOf b p n) l) (partsOf (sortAt b p n k))) (storeOf b p n) ≡ true
   pub has : Has parts (indicesOf (applyAll (imagesOf (storeOf b p n) l) (partsOf (sortAt b p n k))) (storeOf b p n))
   pub small : size (answerAt b p n l k) ≤ 4096
 
-pub record SortAsks (b p hs ns zs : List ℕ) (n u k : ℕ) (l : List ℕ) : Type 0 where
-  pub ready : Ready b p hs ns zs n u l
+pub record SortAsks (b p ix : List ℕ) (n u k : ℕ) (l : List ℕ) : Type 0 where
+  pub ready : Ready b p ix n u l
   pub known : k < n
   pub small : size (answerAt b p n l k) ≤ 4096
 
-abbrev pub ReplacedIs : List ℕ → List ℕ → ℕ → ℕ → Sort → List ℕ → List ℕ → List ℕ → List ℕ → List ℕ → Replaced → Type 0
-ReplacedIs b p n u s c q hs′ ns′ zs′ (Found i m v) = Made b p n u s c q hs′ ns′ zs′ i m v
-ReplacedIs b p n u s c q hs′ ns′ zs′ (Stuck m v) = Halted b p n u (intern s (storeOf b p n)) c q hs′ ns′ zs′ m v
+abbrev pub ReplacedIs : List ℕ → List ℕ → ℕ → ℕ → Sort → List ℕ → List ℕ → List ℕ → Replaced → Type 0
+ReplacedIs b p n u s c q ix′ (Found i m v) = Made b p n u s c q ix′ i m v
+ReplacedIs b p n u s c q ix′ (Stuck m v) = Halted b p n u (intern s (storeOf b p n)) c q ix′ m v
 
-pub record PartsAsk (b p hs ns zs : List ℕ) (n u : ℕ) (parts : Numbers) (l : List ℕ) : Type 0 where
-  pub ready : Ready b p hs ns zs n u l
+pub record PartsAsk (b p ix : List ℕ) (n u : ℕ) (parts : Numbers) (l : List ℕ) : Type 0 where
+  pub ready : Ready b p ix n u l
   pub has : Has parts (numbersOf parts)
   pub below : (j : ℕ) → j < parts .count → getD (parts .list) j 0 < n
   pub small : sizes (answersAt b p n l (numbersOf parts)) ≤ 4096
 
 -- The store after making the sorts ss, and their numbers in it.
-pub record PartsMade (b p : List ℕ) (n u : ℕ) (ss : Sorts) (c q hs′ ns′ zs′ : List ℕ) (o : Numbers) (m v : ℕ) : Type 0 where
-  pub good : Good c q hs′ ns′ zs′ m v
+pub record PartsMade (b p : List ℕ) (n u : ℕ) (ss : Sorts) (c q ix′ : List ℕ) (o : Numbers) (m v : ℕ) : Type 0 where
+  pub good : Good c q ix′ m v
   pub added : storeOf c q m ≡ internAll ss (storeOf b p n)
   pub has : Has o (indicesOf ss (storeOf c q m))
   pub kept : Kept b p n u c q
 
-abbrev pub PartsAre : List ℕ → List ℕ → ℕ → ℕ → Numbers → List ℕ → List ℕ → List ℕ → List ℕ → List ℕ → List ℕ → Numbers → Parts → Type 0
-PartsAre b p n u parts l c q hs′ ns′ zs′ o (Are m v) = PartsMade b p n u (answersAt b p n l (numbersOf parts)) c q hs′ ns′ zs′ o m v
-PartsAre b p n u parts l c q hs′ ns′ zs′ o (Short m v) =
-    Halted b p n u (internAll (answersAt b p n l (numbersOf parts)) (storeOf b p n)) c q hs′ ns′ zs′ m v
+abbrev pub PartsAre : List ℕ → List ℕ → ℕ → ℕ → Numbers → List ℕ → List ℕ → List ℕ → List ℕ → Numbers → Parts → Type 0
+PartsAre b p n u parts l c q ix′ o (Are m v) = PartsMade b p n u (answersAt b p n l (numbersOf parts)) c q ix′ o m v
+PartsAre b p n u parts l c q ix′ o (Short m v) =
+    Halted b p n u (internAll (answersAt b p n l (numbersOf parts)) (storeOf b p n)) c q ix′ m v

@@ -31,16 +31,16 @@ pub record Weighed (b p : List ℕ) (n : ℕ) (l ws : List ℕ) : Type 0 where
   pub each : (k : ℕ) → Weighs b p n l k (getD ws k 0)
 
 -- The two walks for the size, over a table that says the truth and says it afterwards.
-pub record WeighAsks (b p zs ws : List ℕ) (n k : ℕ) (l : List ℕ) : Type 0 where
-  pub asks : SizeAsks b p zs n k l
+pub record WeighAsks (b p ix ws : List ℕ) (n k : ℕ) (l : List ℕ) : Type 0 where
+  pub asks : SizeAsks b p ix n k l
   pub weighed : Weighed b p n l ws
 
 pub record WeighIs (b p : List ℕ) (n k : ℕ) (l ws : List ℕ) (r : ℕ) : Type 0 where
   pub is : SizeIs b p n k l r
   pub weighed : Weighed b p n l ws
 
-pub record WeighAllAsk (b p zs ws : List ℕ) (n x m : ℕ) (l : List ℕ) : Type 0 where
-  pub asks : SizesAsk b p zs n x m l
+pub record WeighAllAsk (b p ix ws : List ℕ) (n x m : ℕ) (l : List ℕ) : Type 0 where
+  pub asks : SizesAsk b p ix n x m l
   pub weighed : Weighed b p n l ws
 
 pub record WeighAllAre (b p : List ℕ) (n x m : ℕ) (l ws : List ℕ) (r : ℕ) : Type 0 where
@@ -49,26 +49,26 @@ pub record WeighAllAre (b p : List ℕ) (n x m : ℕ) (l ws : List ℕ) (r : ℕ
 
 -- The two walks that make the answer, over a table that says the truth and says it of the grown store afterwards. Where
 -- there was no room the table is of no use any more.
-pub record KnownAsks (b p hs ns zs ws : List ℕ) (n u k : ℕ) (l : List ℕ) : Type 0 where
-  pub asks : SortAsks b p hs ns zs n u k l
+pub record KnownAsks (b p ix ws : List ℕ) (n u k : ℕ) (l : List ℕ) : Type 0 where
+  pub asks : SortAsks b p ix n u k l
   pub known : Known b p n l ws
 
-pub record KnownMade (b p : List ℕ) (n u k : ℕ) (l c q hs′ ns′ zs′ ws′ : List ℕ) (i m v : ℕ) : Type 0 where
-  pub made : Made b p n u (answerAt b p n l k) c q hs′ ns′ zs′ i m v
+pub record KnownMade (b p : List ℕ) (n u k : ℕ) (l c q ix′ ws′ : List ℕ) (i m v : ℕ) : Type 0 where
+  pub made : Made b p n u (answerAt b p n l k) c q ix′ i m v
   pub known : Known c q m l ws′
 
-abbrev pub KnownIs : List ℕ → List ℕ → ℕ → ℕ → ℕ → List ℕ → List ℕ → List ℕ → List ℕ → List ℕ → List ℕ → List ℕ → Replaced → Type 0
-KnownIs b p n u k l c q hs′ ns′ zs′ ws′ (Found i m v) = KnownMade b p n u k l c q hs′ ns′ zs′ ws′ i m v
-KnownIs b p n u k l c q hs′ ns′ zs′ ws′ (Stuck m v) = ReplacedIs b p n u (answerAt b p n l k) c q hs′ ns′ zs′ (Stuck m v)
+abbrev pub KnownIs : List ℕ → List ℕ → ℕ → ℕ → ℕ → List ℕ → List ℕ → List ℕ → List ℕ → List ℕ → Replaced → Type 0
+KnownIs b p n u k l c q ix′ ws′ (Found i m v) = KnownMade b p n u k l c q ix′ ws′ i m v
+KnownIs b p n u k l c q ix′ ws′ (Stuck m v) = ReplacedIs b p n u (answerAt b p n l k) c q ix′ (Stuck m v)
 
-pub record KnownAllAsk (b p hs ns zs ws : List ℕ) (n u : ℕ) (parts : Numbers) (l : List ℕ) : Type 0 where
-  pub asks : PartsAsk b p hs ns zs n u parts l
+pub record KnownAllAsk (b p ix ws : List ℕ) (n u : ℕ) (parts : Numbers) (l : List ℕ) : Type 0 where
+  pub asks : PartsAsk b p ix n u parts l
   pub known : Known b p n l ws
 
-pub record KnownAllMade (b p : List ℕ) (n u : ℕ) (parts : Numbers) (l c q hs′ ns′ zs′ ws′ : List ℕ) (o : Numbers) (m v : ℕ) : Type 0 where
-  pub made : PartsMade b p n u (answersAt b p n l (numbersOf parts)) c q hs′ ns′ zs′ o m v
+pub record KnownAllMade (b p : List ℕ) (n u : ℕ) (parts : Numbers) (l c q ix′ ws′ : List ℕ) (o : Numbers) (m v : ℕ) : Type 0 where
+  pub made : PartsMade b p n u (answersAt b p n l (numbersOf parts)) c q ix′ o m v
   pub known : Known c q m l ws′
 
-abbrev pub KnownAllAre : List ℕ → List ℕ → ℕ → ℕ → Numbers → List ℕ → List ℕ → List ℕ → List ℕ → List ℕ → List ℕ → List ℕ → Numbers → Parts → Type 0
-KnownAllAre b p n u parts l c q hs′ ns′ zs′ ws′ o (Are m v) = KnownAllMade b p n u parts l c q hs′ ns′ zs′ ws′ o m v
-KnownAllAre b p n u parts l c q hs′ ns′ zs′ ws′ o (Short m v) = PartsAre b p n u parts l c q hs′ ns′ zs′ o (Short m v)
+abbrev pub KnownAllAre : List ℕ → List ℕ → ℕ → ℕ → Numbers → List ℕ → List ℕ → List ℕ → List ℕ → List ℕ → Numbers → Parts → Type 0
+KnownAllAre b p n u parts l c q ix′ ws′ o (Are m v) = KnownAllMade b p n u parts l c q ix′ ws′ o m v
+KnownAllAre b p n u parts l c q ix′ ws′ o (Short m v) = PartsAre b p n u parts l c q ix′ o (Short m v)

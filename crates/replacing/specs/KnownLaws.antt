@@ -70,35 +70,35 @@ known-set b p n l ws k i h a c e =
     number j q = omega arith
 
 -- The answer for the sort k is made, and the table has it.
-pub known-added : (c q : List ℕ) (n u k : ℕ) (l d t hs ns zs : List ℕ) (i m v : ℕ) → Made c q n u (answerAt c q n l k) d t hs ns zs i m v → Table l n → k < n
+pub known-added : (c q : List ℕ) (n u k : ℕ) (l d t ix : List ℕ) (i m v : ℕ) → Made c q n u (answerAt c q n l k) d t ix i m v → Table l n → k < n
     → (ws : List ℕ) → Known c q n l ws → Known d t m l (set ws k (i + 1))
-known-added c q n u k l d t hs ns zs i m v w tab h ws old =
+known-added c q n u k l d t ix i m v w tab h ws old =
     let s = answerAt c q n l k in
-    let grows = made-starts c q n u s d t hs ns zs i m v w in
+    let grows = made-starts c q n u s d t ix i m v w in
     known-set d t m l ws k i (known-grown c q d t n m l grows tab ws old)
-    (omega (arith, made-more c q n u s d t hs ns zs i m v w)) (made-known c q n u s d t hs ns zs i m v w)
-    (made-here c q n u s d t hs ns zs i m v w ∙ sym (answer-same c q d t n m l grows tab k h))
+    (omega (arith, made-more c q n u s d t ix i m v w)) (made-known c q n u s d t ix i m v w)
+    (made-here c q n u s d t ix i m v w ∙ sym (answer-same c q d t n m l grows tab k h))
 
 -- What the table has is made.
-pub known-made : (b p hs ns zs : List ℕ) (n u : ℕ) → Good b p hs ns zs n u → (k : ℕ) (l ws : List ℕ) → Known b p n l ws
-    → (v : ℕ) → v ≡ getD ws k 0 → (v ≡ 0 → ⊥) → Made b p n u (answerAt b p n l k) b p hs ns zs (v - 1) n u
-known-made b p hs ns zs n u g k l ws h zero e d = absurd (d refl)
-known-made b p hs ns zs n u g k l ws h (suc i) e d =
+pub known-made : (b p ix : List ℕ) (n u : ℕ) → Good b p ix n u → (k : ℕ) (l ws : List ℕ) → Known b p n l ws
+    → (v : ℕ) → v ≡ getD ws k 0 → (v ≡ 0 → ⊥) → Made b p n u (answerAt b p n l k) b p ix (v - 1) n u
+known-made b p ix n u g k l ws h zero e d = absurd (d refl)
+known-made b p ix n u g k l ws h (suc i) e d =
     let w = h .each k i (sym e) in
     let o : suc i - 1 ≡ i = omega arith in
-    subst (λ (j : ℕ). Made b p n u (answerAt b p n l k) b p hs ns zs j n u) (sym o)
-    (subst (λ (s : Sort). Made b p n u s b p hs ns zs i n u) (w .2) (made-known-sort b p hs ns zs n u g i (w .1)))
+    subst (λ (j : ℕ). Made b p n u (answerAt b p n l k) b p ix j n u) (sym o)
+    (subst (λ (s : Sort). Made b p n u s b p ix i n u) (w .2) (made-known-sort b p ix n u g i (w .1)))
 
 -- Without the table it is the promise of a sort made.
-pub known-replaced : (b p : List ℕ) (n u k : ℕ) (l c q hs′ ns′ zs′ ws′ : List ℕ) (r : Replaced) → KnownIs b p n u k l c q hs′ ns′ zs′ ws′ r
-    → ReplacedIs b p n u (answerAt b p n l k) c q hs′ ns′ zs′ r
-known-replaced b p n u k l c q hs′ ns′ zs′ ws′ (Found i m v) w = w .made
-known-replaced b p n u k l c q hs′ ns′ zs′ ws′ (Stuck m v) w = w
+pub known-replaced : (b p : List ℕ) (n u k : ℕ) (l c q ix′ ws′ : List ℕ) (r : Replaced) → KnownIs b p n u k l c q ix′ ws′ r
+    → ReplacedIs b p n u (answerAt b p n l k) c q ix′ r
+known-replaced b p n u k l c q ix′ ws′ (Found i m v) w = w .made
+known-replaced b p n u k l c q ix′ ws′ (Stuck m v) w = w
 
-pub known-parts : (b p : List ℕ) (n u : ℕ) (parts : Numbers) (l c q hs′ ns′ zs′ ws′ : List ℕ) (o : Numbers) (r : Parts)
-    → KnownAllAre b p n u parts l c q hs′ ns′ zs′ ws′ o r → PartsAre b p n u parts l c q hs′ ns′ zs′ o r
-known-parts b p n u parts l c q hs′ ns′ zs′ ws′ o (Are m v) w = w .made
-known-parts b p n u parts l c q hs′ ns′ zs′ ws′ o (Short m v) w = w
+pub known-parts : (b p : List ℕ) (n u : ℕ) (parts : Numbers) (l c q ix′ ws′ : List ℕ) (o : Numbers) (r : Parts)
+    → KnownAllAre b p n u parts l c q ix′ ws′ o r → PartsAre b p n u parts l c q ix′ o r
+known-parts b p n u parts l c q ix′ ws′ o (Are m v) w = w .made
+known-parts b p n u parts l c q ix′ ws′ o (Short m v) w = w
 
 -- THE SIZES.
 pub weighed-none : (b p : List ℕ) (n : ℕ) (l : List ℕ) (m : ℕ) → Weighed b p n l (replicate m 0)

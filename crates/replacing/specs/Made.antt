@@ -22,21 +22,21 @@ use Rattle.store.specs.declared.Interned.the-variants.{Is, NoRoom}
 use Rattle.replacing.specs.Lists.{Numbers, numbersOf, Has}
 
 -- THE STORE AFTER MAKING THE SORT s: its parts and itself are interned, i is its number, and the old records stay.
-pub record Made (b p : List ℕ) (n u : ℕ) (s : Sort) (b′ p′ hs′ ns′ zs′ : List ℕ) (i n′ u′ : ℕ) : Type 0 where
-  pub good : Good b′ p′ hs′ ns′ zs′ n′ u′
+pub record Made (b p : List ℕ) (n u : ℕ) (s : Sort) (b′ p′ ix′ : List ℕ) (i n′ u′ : ℕ) : Type 0 where
+  pub good : Good b′ p′ ix′ n′ u′
   pub added : storeOf b′ p′ n′ ≡ intern s (storeOf b p n)
   pub number : i ≡ indexOf s (storeOf b′ p′ n′)
   pub kept : Kept b p n u b′ p′
 
 -- Or there is no room for that store, and nothing has changed.
-abbrev pub MadeIs : List ℕ → List ℕ → List ℕ → List ℕ → List ℕ → ℕ → ℕ → Sort → List ℕ → List ℕ → List ℕ → List ℕ → List ℕ → Interned → Type 0
-MadeIs b p hs ns zs n u s b′ p′ hs′ ns′ zs′ (Is i n′ u′) = Made b p n u s b′ p′ hs′ ns′ zs′ i n′ u′
-MadeIs b p hs ns zs n u s b′ p′ hs′ ns′ zs′ NoRoom =
-    (room (length b) (length p) (intern s (storeOf b p n)) ≡ false) × Untouched b p hs ns zs b′ p′ hs′ ns′ zs′
+abbrev pub MadeIs : List ℕ → List ℕ → List ℕ → ℕ → ℕ → Sort → List ℕ → List ℕ → List ℕ → Interned → Type 0
+MadeIs b p ix n u s b′ p′ ix′ (Is i n′ u′) = Made b p n u s b′ p′ ix′ i n′ u′
+MadeIs b p ix n u s b′ p′ ix′ NoRoom =
+    (room (length b) (length p) (intern s (storeOf b p n)) ≡ false) × Untouched b p ix b′ p′ ix′
 
 -- A good store, and the fields of a sort over it whose lists are held in ps and ms.
-pub record MakeAsks (b p hs ns zs : List ℕ) (n u : ℕ) (f : Fields) (ps ms : Numbers) : Type 0 where
-  pub good : Good b p hs ns zs n u
+pub record MakeAsks (b p ix : List ℕ) (n u : ℕ) (f : Fields) (ps ms : Numbers) : Type 0 where
+  pub good : Good b p ix n u
   pub parts : Has ps (numbersOf ps)
   pub names : Has ms (numbersOf ms)
   pub shape : Shape f
@@ -44,7 +44,7 @@ pub record MakeAsks (b p hs ns zs : List ℕ) (n u : ℕ) (f : Fields) (ps ms : 
   pub small : size (sortOf (storeOf b p n) f) ≤ 4096
 
 -- What a made sort's store tells: it starts with the store before, has room, and has the sort under its number.
-module _ (b p : List ℕ) (n u : ℕ) (s : Sort) (b′ p′ hs′ ns′ zs′ : List ℕ) (i n′ u′ : ℕ) (m : Made b p n u s b′ p′ hs′ ns′ zs′ i n′ u′) where
+module _ (b p : List ℕ) (n u : ℕ) (s : Sort) (b′ p′ ix′ : List ℕ) (i n′ u′ : ℕ) (m : Made b p n u s b′ p′ ix′ i n′ u′) where
   pub made-starts : Starts (storeOf b p n) (storeOf b′ p′ n′)
   made-starts = subst (Starts (storeOf b p n)) (sym (m .added)) (starts-intern s (storeOf b p n))
 
@@ -55,7 +55,7 @@ module _ (b p : List ℕ) (n u : ℕ) (s : Sort) (b′ p′ hs′ ns′ zs′ : 
   made-room =
       sym (ap₂ (λ (x y : ℕ). room x y (intern s (storeOf b p n))) (m .kept .long) (m .kept .wide))
       ∙ ap (room (length b′) (length p′)) (sym (m .added))
-      ∙ good-room b′ p′ hs′ ns′ zs′ n′ u′ (m .good)
+      ∙ good-room b′ p′ ix′ n′ u′ (m .good)
 
   pub made-there : memb s (storeOf b′ p′ n′) ≡ true
   made-there = ap (memb s) (m .added) ∙ memb-intern s (storeOf b p n)
@@ -80,7 +80,7 @@ kept-trans b p n u c q m v d r h l k e =
     }
 
 -- A store that starts with another has as many sorts and bytes in use.
-module _ (b p hs ns zs : List ℕ) (n u : ℕ) (g : Good b p hs ns zs n u) (c q is ms ys : List ℕ) (m v : ℕ) (h : Good c q is ms ys m v)
+module _ (b p ix : List ℕ) (n u : ℕ) (g : Good b p ix n u) (c q jx : List ℕ) (m v : ℕ) (h : Good c q jx m v)
     (st : Starts (storeOf b p n) (storeOf c q m)) where
   pub grown-count : n ≤ m
   grown-count = omega (arith, starts-count (storeOf b p n) (storeOf c q m) st, storeOf-length b p n, storeOf-length c q m)
@@ -102,9 +102,9 @@ intern-first (node k a w ss) st o =
     (intern-all-known ss (internAll ss st) (ordered-intern-all ss st o) (memb-intern-all ss st))
 
 -- A SORT THAT THE STORE HAS is made by its number.
-pub made-known-sort : (b p hs ns zs : List ℕ) (n u : ℕ) → Good b p hs ns zs n u → (k : ℕ) → k < n → Made b p n u (sortAt b p n k) b p hs ns zs k n u
+pub made-known-sort : (b p ix : List ℕ) (n u : ℕ) → Good b p ix n u → (k : ℕ) → k < n → Made b p n u (sortAt b p n k) b p ix k n u
 unfolding sortAt
-made-known-sort b p hs ns zs n u g k h =
+made-known-sort b p ix n u g k h =
     let l : k < length (storeOf b p n) = omega (arith, storeOf-length b p n) in
     record {
       good = g;

@@ -48,9 +48,9 @@ indices-each θ st ts (v ∷ vs) (x ∷ l) h e =
     ap₂ (λ (i : ℕ) (is : List ℕ). i ∷ is) (e 0 (omega arith)) (indices-each θ st ts vs l (omega arith) (λ i k. e (suc i) (omega arith)))
 
 -- ALONG THE PARTS: the first j have their answers' numbers, the others their own, and what is left makes the whole.
-pub record PartsInv (b p : List ℕ) (n u : ℕ) (parts : Numbers) (l c q hs ns zs list : List ℕ) (m v j : ℕ) : Type 0 where
+pub record PartsInv (b p : List ℕ) (n u : ℕ) (parts : Numbers) (l c q ix list : List ℕ) (m v j : ℕ) : Type 0 where
   pub low : j ≤ parts .count
-  pub good : Good c q hs ns zs m v
+  pub good : Good c q ix m v
   pub starts : Starts (storeOf b p n) (storeOf c q m)
   pub kept : Kept b p n u c q
   pub long : length list ≡ 64
@@ -60,14 +60,14 @@ pub record PartsInv (b p : List ℕ) (n u : ℕ) (parts : Numbers) (l c q hs ns 
   pub total : internAll (answersAt b p n l (drop j (numbersOf parts))) (storeOf c q m) ≡ internAll (answersAt b p n l (numbersOf parts)) (storeOf b p n)
 
 -- With the table of answers, which stays true and as long as it was.
-pub record KnownInv (b p : List ℕ) (n u : ℕ) (parts : Numbers) (l ws₀ c q hs ns zs ws list : List ℕ) (m v j : ℕ) : Type 0 where
-  pub inv : PartsInv b p n u parts l c q hs ns zs list m v j
+pub record KnownInv (b p : List ℕ) (n u : ℕ) (parts : Numbers) (l ws₀ c q ix ws list : List ℕ) (m v j : ℕ) : Type 0 where
+  pub inv : PartsInv b p n u parts l c q ix list m v j
   pub known : Known c q m l ws
   pub lasts : length ws ≡ length ws₀
 
-pub parts-start : (b p hs ns zs : List ℕ) (n u : ℕ) (parts : Numbers) (l : List ℕ) → PartsAsk b p hs ns zs n u parts l
-    → PartsInv b p n u parts l b p hs ns zs (parts .list) n u 0
-parts-start b p hs ns zs n u parts l a =
+pub parts-start : (b p ix : List ℕ) (n u : ℕ) (parts : Numbers) (l : List ℕ) → PartsAsk b p ix n u parts l
+    → PartsInv b p n u parts l b p ix (parts .list) n u 0
+parts-start b p ix n u parts l a =
     record {
       low = omega arith;
       good = a .ready .good;
@@ -80,12 +80,12 @@ parts-start b p hs ns zs n u parts l a =
       total = refl;
     }
 
-module _ (b p hs ns zs : List ℕ) (n u : ℕ) (parts : Numbers) (l : List ℕ) (a : PartsAsk b p hs ns zs n u parts l)
-    (c q is ms ys list : List ℕ) (m v j : ℕ) (i : PartsInv b p n u parts l c q is ms ys list m v j) where
+module _ (b p ix : List ℕ) (n u : ℕ) (parts : Numbers) (l : List ℕ) (a : PartsAsk b p ix n u parts l)
+    (c q jx list : List ℕ) (m v j : ℕ) (i : PartsInv b p n u parts l c q jx list m v j) where
   many : length (numbersOf parts) ≡ parts .count
   many = has-length parts (numbersOf parts) (a .has)
 
-  along : Along b p n u (numbersOf parts) l c q is ms ys m v j
+  along : Along b p n u (numbersOf parts) l c q jx m v j
   along = record { good = i .good; starts = i .starts; kept = i .kept; total = i .total }
 
   module _ (h : j < parts .count) where
@@ -111,11 +111,11 @@ module _ (b p hs ns zs : List ℕ) (n u : ℕ) (parts : Numbers) (l : List ℕ) 
         ∙ ap (λ (k : ℕ). getD (storeOf b p n) k leaf) (here ∙ sym old)
 
     pub parts-asks : (2 * size (sortAt c q m (getD list j 0)) < 2 * sizes (sortsOf (storeOf b p n) (numbersOf parts)) + 1)
-        × SortAsks c q is ms ys m v (getD list j 0) l
+        × SortAsks c q jx m v (getD list j 0) l
     unfolding sortAt
     parts-asks = (
       omega (arith, ap size sort-here, size-one-of (storeOf b p n) (numbersOf parts) j less),
-      along-asks b p hs ns zs n u l (a .ready) (numbersOf parts) c q is ms ys m v j along (getD list j 0) known less (old ∙ sym here)
+      along-asks b p ix n u l (a .ready) (numbersOf parts) c q jx m v j along (getD list j 0) known less (old ∙ sym here)
           (omega (
             arith,
             ap (λ (k : ℕ). size (apply (imagesOf (storeOf b p n) l) (getD (storeOf b p n) k leaf))) (here ∙ sym old),
@@ -124,24 +124,24 @@ module _ (b p hs ns zs : List ℕ) (n u : ℕ) (parts : Numbers) (l : List ℕ) 
           )),
     )
 
-    pub parts-halted : (d r js os xs : List ℕ) (m′ v′ : ℕ)
-        → Halted c q m v (intern (answerAt c q m l (getD list j 0)) (storeOf c q m)) d r js os xs m′ v′
-        → Halted b p n u (internAll (answersAt b p n l (numbersOf parts)) (storeOf b p n)) d r js os xs m′ v′
+    pub parts-halted : (d r kx : List ℕ) (m′ v′ : ℕ)
+        → Halted c q m v (intern (answerAt c q m l (getD list j 0)) (storeOf c q m)) d r kx m′ v′
+        → Halted b p n u (internAll (answersAt b p n l (numbersOf parts)) (storeOf b p n)) d r kx m′ v′
     parts-halted =
-        along-halted b p hs ns zs n u l (a .ready) (numbersOf parts) c q is ms ys m v j along (getD list j 0) known less (old ∙ sym here)
+        along-halted b p ix n u l (a .ready) (numbersOf parts) c q jx m v j along (getD list j 0) known less (old ∙ sym here)
 
-    module _ (d r js os xs : List ℕ) (k m′ v′ : ℕ) (w : Made c q m v (answerAt c q m l (getD list j 0)) d r js os xs k m′ v′) where
+    module _ (d r kx : List ℕ) (k m′ v′ : ℕ) (w : Made c q m v (answerAt c q m l (getD list j 0)) d r kx k m′ v′) where
       grows : Starts (storeOf c q m) (storeOf d r m′)
-      grows = made-starts c q m v (answerAt c q m l (getD list j 0)) d r js os xs k m′ v′ w
+      grows = made-starts c q m v (answerAt c q m l (getD list j 0)) d r kx k m′ v′ w
 
       pub parts-number : k < 65536
-      parts-number = omega (arith, made-known c q m v (answerAt c q m l (getD list j 0)) d r js os xs k m′ v′ w, w .good .indexed .count)
+      parts-number = omega (arith, made-known c q m v (answerAt c q m l (getD list j 0)) d r kx k m′ v′ w, w .good .indexed .count)
 
       now-there : (x : ℕ) → x < suc j → memb (answerAt b p n l (getD (parts .list) x 0)) (storeOf d r m′) ≡ true
       now-there =
           below-suc (λ (x : ℕ). memb (answerAt b p n l (getD (parts .list) x 0)) (storeOf d r m′) ≡ true) j
           (λ x o. memb-starts (storeOf c q m) (storeOf d r m′) (answerAt b p n l (getD (parts .list) x 0)) grows (i .there x o))
-          (subst (λ (s : Sort). memb s (storeOf d r m′) ≡ true) answer-here (made-there c q m v (answerAt c q m l (getD list j 0)) d r js os xs k m′ v′ w))
+          (subst (λ (s : Sort). memb s (storeOf d r m′) ≡ true) answer-here (made-there c q m v (answerAt c q m l (getD list j 0)) d r kx k m′ v′ w))
 
       now-number : (x : ℕ) → x < suc j → getD (set list j k) x 0 ≡ indexOf (answerAt b p n l (getD (parts .list) x 0)) (storeOf d r m′)
       now-number =
@@ -152,12 +152,12 @@ module _ (b p hs ns zs : List ℕ) (n u : ℕ) (parts : Numbers) (l : List ℕ) 
           (store-once d r m′ (w .good .stored) (w .good .distinct)) grows (i .there x o)))
           (getD-set-same list j k 0 (omega (arith, i .long, a .has .few)) ∙ w .number ∙ ap (λ (s : Sort). indexOf s (storeOf d r m′)) answer-here)
 
-      onward : Along b p n u (numbersOf parts) l d r js os xs m′ v′ (j + 1)
+      onward : Along b p n u (numbersOf parts) l d r kx m′ v′ (j + 1)
       onward =
-          along-more b p hs ns zs n u l (a .ready) (numbersOf parts) c q is ms ys m v j along (getD list j 0) known less (old ∙ sym here)
-          d r js os xs k m′ v′ w
+          along-more b p ix n u l (a .ready) (numbersOf parts) c q jx m v j along (getD list j 0) known less (old ∙ sym here)
+          d r kx k m′ v′ w
 
-      pub parts-more : PartsInv b p n u parts l d r js os xs (set list j k) m′ v′ (j + 1)
+      pub parts-more : PartsInv b p n u parts l d r kx (set list j k) m′ v′ (j + 1)
       parts-more =
           record {
             low = omega arith;
@@ -171,12 +171,12 @@ module _ (b p hs ns zs : List ℕ) (n u : ℕ) (parts : Numbers) (l : List ℕ) 
             total = onward .total;
           }
 
-  pub parts-done : parts .count ≤ j → PartsMade b p n u (answersAt b p n l (numbersOf parts)) c q is ms ys (record { list = list; count = parts .count }) m v
+  pub parts-done : parts .count ≤ j → PartsMade b p n u (answersAt b p n l (numbersOf parts)) c q jx (record { list = list; count = parts .count }) m v
   unfolding sortsOf applyAll internAll sortAt
   parts-done h =
       record {
         good = i .good;
-        added = along-done b p hs ns zs n u l (a .ready) (numbersOf parts) c q is ms ys m v j along (omega (arith, many));
+        added = along-done b p ix n u l (a .ready) (numbersOf parts) c q jx m v j along (omega (arith, many));
         has =
             record {
               long = i .long;

@@ -113,9 +113,7 @@ pub fn draft_of(
 pub fn make(
     records: &mut [u8],
     places: &mut [u32],
-    heads: &mut [u16],
-    next: &mut [u16],
-    sizes: &mut [u16],
+    index: &mut [u16],
     count: usize,
     used: usize,
     kind: usize,
@@ -126,21 +124,11 @@ pub fn make(
     names: &[u16],
     named: usize,
 ) -> Interned
-    requires { ⌜ MakeAsks (now records) (now places) (now heads) (now next) (now sizes) count used (fieldsIn kind name number (held (now parts) many) (held (now names) named)) (held (now parts) many) (held (now names) named) ⌝ }
-    ensures { λ r. ⌜ MadeIs (now (records .entry)) (now (places .entry)) (now (heads .entry)) (now (next .entry)) (now (sizes .entry)) count used (sortOf (storeOf (now (records .entry)) (now (places .entry)) count) (fieldsIn kind name number (held (now (parts .entry)) many) (held (now (names .entry)) named))) (now (records .exit)) (now (places .exit)) (now (heads .exit)) (now (next .exit)) (now (sizes .exit)) r ⌝ }
+    requires { ⌜ MakeAsks (now records) (now places) (now index) count used (fieldsIn kind name number (held (now parts) many) (held (now names) named)) (held (now parts) many) (held (now names) named) ⌝ }
+    ensures { λ r. ⌜ MadeIs (now (records .entry)) (now (places .entry)) (now (index .entry)) count used (sortOf (storeOf (now (records .entry)) (now (places .entry)) count) (fieldsIn kind name number (held (now (parts .entry)) many) (held (now (names .entry)) named))) (now (records .exit)) (now (places .exit)) (now (index .exit)) r ⌝ }
 {
     let mut bytes = [0u8; 266];
     let len = draft_of(&mut bytes, kind, name, number, parts, many, names, named);
-    let weight = tree_size(sizes, &bytes[..len]);
-    intern(
-        records,
-        places,
-        heads,
-        next,
-        sizes,
-        count,
-        used,
-        &bytes[..len],
-        weight,
-    )
+    let weight = tree_size(index, &bytes[..len]);
+    intern(records, places, index, count, used, &bytes[..len], weight)
 }

@@ -87,13 +87,13 @@ pub fn whole_size(kind: usize, names: usize, sum: usize) -> usize
 pub fn applied_size(
     records: &[u8],
     places: &[u32],
-    sizes: &[u16],
+    index: &[u16],
     weighed: &mut [u16],
     count: usize,
     k: usize,
     images: &[u16],
 ) -> usize
-    requires { ⌜ WeighAsks (now records) (now places) (now sizes) (now weighed) count k (now images) ⌝ }
+    requires { ⌜ WeighAsks (now records) (now places) (now index) (now weighed) count k (now images) ⌝ }
     ensures { λ r. ⌜ WeighIs (now (records .entry)) (now (places .entry)) count k (now (images .entry)) (now (weighed .exit)) r ⌝ }
 {
     let seen = recall(weighed, k);
@@ -103,7 +103,7 @@ pub fn applied_size(
     let e = entry(records, places, k);
     if e.kind == 2 {
         let i = image_of(images, e.name, k);
-        return size_at(sizes, i);
+        return size_at(index, i);
     }
     if e.count == 0 {
         return 1;
@@ -111,7 +111,7 @@ pub fn applied_size(
     let sum = applied_sizes(
         records,
         places,
-        sizes,
+        index,
         weighed,
         count,
         e.list,
@@ -129,14 +129,14 @@ pub fn applied_size(
 pub fn applied_sizes(
     records: &[u8],
     places: &[u32],
-    sizes: &[u16],
+    index: &[u16],
     weighed: &mut [u16],
     count: usize,
     at: usize,
     n: usize,
     images: &[u16],
 ) -> usize
-    requires { ⌜ WeighAllAsk (now records) (now places) (now sizes) (now weighed) count at n (now images) ⌝ }
+    requires { ⌜ WeighAllAsk (now records) (now places) (now index) (now weighed) count at n (now images) ⌝ }
     ensures { λ r. ⌜ WeighAllAre (now (records .entry)) (now (places .entry)) count at n (now (images .entry)) (now (weighed .exit)) r ⌝ }
 {
     let mut sum = 0;
@@ -144,7 +144,7 @@ pub fn applied_sizes(
     let mut left = n;
     while 0 < left {
         let k = u16_at(records, next);
-        let one = applied_size(records, places, sizes, weighed, count, k, images);
+        let one = applied_size(records, places, index, weighed, count, k, images);
         sum = capped_at(sum + one);
         next += 2;
         left -= 1;
@@ -157,9 +157,7 @@ pub fn applied_sizes(
 pub fn rebuild(
     records: &mut [u8],
     places: &mut [u32],
-    heads: &mut [u16],
-    next: &mut [u16],
-    sizes: &mut [u16],
+    index: &mut [u16],
     count: usize,
     used: usize,
     k: usize,
@@ -167,8 +165,8 @@ pub fn rebuild(
     many: usize,
     images: &[u16],
 ) -> Interned
-    requires { ⌜ RebuildAsks (now records) (now places) (now heads) (now next) (now sizes) count used k (held (now parts) many) (now images) ⌝ }
-    ensures { λ r. ⌜ MadeIs (now (records .entry)) (now (places .entry)) (now (heads .entry)) (now (next .entry)) (now (sizes .entry)) count used (answerAt (now (records .entry)) (now (places .entry)) count (now (images .entry)) k) (now (records .exit)) (now (places .exit)) (now (heads .exit)) (now (next .exit)) (now (sizes .exit)) r ⌝ }
+    requires { ⌜ RebuildAsks (now records) (now places) (now index) count used k (held (now parts) many) (now images) ⌝ }
+    ensures { λ r. ⌜ MadeIs (now (records .entry)) (now (places .entry)) (now (index .entry)) count used (answerAt (now (records .entry)) (now (places .entry)) count (now (images .entry)) k) (now (records .exit)) (now (places .exit)) (now (index .exit)) r ⌝ }
 {
     let e = entry(records, places, k);
     let mut names = [0u16; 64];
@@ -185,9 +183,7 @@ pub fn rebuild(
     make(
         records,
         places,
-        heads,
-        next,
-        sizes,
+        index,
         count,
         used,
         e.kind,
@@ -205,17 +201,15 @@ pub fn rebuild(
 pub fn apply_sort(
     records: &mut [u8],
     places: &mut [u32],
-    heads: &mut [u16],
-    next: &mut [u16],
-    sizes: &mut [u16],
+    index: &mut [u16],
     known: &mut [u16],
     count: usize,
     used: usize,
     k: usize,
     images: &[u16],
 ) -> Replaced
-    requires { ⌜ KnownAsks (now records) (now places) (now heads) (now next) (now sizes) (now known) count used k (now images) ⌝ }
-    ensures { λ r. ⌜ KnownIs (now (records .entry)) (now (places .entry)) count used k (now (images .entry)) (now (records .exit)) (now (places .exit)) (now (heads .exit)) (now (next .exit)) (now (sizes .exit)) (now (known .exit)) r ⌝ }
+    requires { ⌜ KnownAsks (now records) (now places) (now index) (now known) count used k (now images) ⌝ }
+    ensures { λ r. ⌜ KnownIs (now (records .entry)) (now (places .entry)) count used k (now (images .entry)) (now (records .exit)) (now (places .exit)) (now (index .exit)) (now (known .exit)) r ⌝ }
 {
     let seen = recall(known, k);
     if seen != 0 {
@@ -235,9 +229,7 @@ pub fn apply_sort(
     let done = apply_parts(
         records,
         places,
-        heads,
-        next,
-        sizes,
+        index,
         known,
         &mut parts,
         count,
@@ -247,19 +239,7 @@ pub fn apply_sort(
     );
     match done {
         Parts::Are(n, u) => {
-            let made = rebuild(
-                records,
-                places,
-                heads,
-                next,
-                sizes,
-                n,
-                u,
-                k,
-                &parts,
-                many,
-                images,
-            );
+            let made = rebuild(records, places, index, n, u, k, &parts, many, images);
             match made {
                 Interned::Is(i, m, v) => {
                     remember(known, k, i + 1);
@@ -277,9 +257,7 @@ pub fn apply_sort(
 pub fn apply_parts(
     records: &mut [u8],
     places: &mut [u32],
-    heads: &mut [u16],
-    next: &mut [u16],
-    sizes: &mut [u16],
+    index: &mut [u16],
     known: &mut [u16],
     parts: &mut [u16],
     count: usize,
@@ -287,15 +265,15 @@ pub fn apply_parts(
     many: usize,
     images: &[u16],
 ) -> Parts
-    requires { ⌜ KnownAllAsk (now records) (now places) (now heads) (now next) (now sizes) (now known) count used (held (now parts) many) (now images) ⌝ }
-    ensures { λ r. ⌜ KnownAllAre (now (records .entry)) (now (places .entry)) count used (held (now (parts .entry)) many) (now (images .entry)) (now (records .exit)) (now (places .exit)) (now (heads .exit)) (now (next .exit)) (now (sizes .exit)) (now (known .exit)) (held (now (parts .exit)) many) r ⌝ }
+    requires { ⌜ KnownAllAsk (now records) (now places) (now index) (now known) count used (held (now parts) many) (now images) ⌝ }
+    ensures { λ r. ⌜ KnownAllAre (now (records .entry)) (now (places .entry)) count used (held (now (parts .entry)) many) (now (images .entry)) (now (records .exit)) (now (places .exit)) (now (index .exit)) (now (known .exit)) (held (now (parts .exit)) many) r ⌝ }
 {
     let mut n = count;
     let mut u = used;
     let mut j = 0;
     while j < many {
         let k = parts[j] as usize;
-        let made = apply_sort(records, places, heads, next, sizes, known, n, u, k, images);
+        let made = apply_sort(records, places, index, known, n, u, k, images);
         match made {
             Replaced::Is(i, m, v) => {
                 parts[j] = i as u16;

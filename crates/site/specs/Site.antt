@@ -82,26 +82,26 @@ pub record Standing (n : ℕ) (s tbl xs rows : List ℕ) (r : TermRecord) : Type
   pub known : (i : ℕ) → i < 2 * term → getD rows i 0 < 65536 → getD rows i 0 < n
 
 -- A good store, zeroed tables of names, a term record, and an array for its arguments.
-pub record TermAsks (b p hs ns zs : List ℕ) (n u : ℕ) (prm imgs bnd s tbl xs rows : List ℕ) (r : TermRecord) (a : List ℕ) : Type 0 where
-  pub good : Good b p hs ns zs n u
+pub record TermAsks (b p ix : List ℕ) (n u : ℕ) (prm imgs bnd s tbl xs rows : List ℕ) (r : TermRecord) (a : List ℕ) : Type 0 where
+  pub good : Good b p ix n u
   pub zeroed : Zeroed prm imgs bnd
   pub standing : Standing n s tbl xs rows r
   pub room : 259 ≤ length a
 
 -- THE ROW IN A COLUMN by the verdict J; the tables of names are as they were.
-pub record TermIs (J : Site → Verdict) (column : ℕ) (b p : List ℕ) (n : ℕ) (prm imgs bnd s tbl xs rows : List ℕ) (r : TermRecord) (b′ p′ hs′ ns′ zs′ prm′ imgs′ bnd′ : List ℕ) (q : Answer) : Type 0 where
-  pub answer : AnswerIs b p n (termVerdict J (storeOf b p n) s tbl xs rows column r) b′ p′ hs′ ns′ zs′ q
+pub record TermIs (J : Site → Verdict) (column : ℕ) (b p : List ℕ) (n : ℕ) (prm imgs bnd s tbl xs rows : List ℕ) (r : TermRecord) (b′ p′ ix′ prm′ imgs′ bnd′ : List ℕ) (q : Answer) : Type 0 where
+  pub answer : AnswerIs b p n (termVerdict J (storeOf b p n) s tbl xs rows column r) b′ p′ ix′ q
   pub params : prm′ ≡ prm
   pub images : imgs′ ≡ imgs
   pub bound : bnd′ ≡ bnd
 
 -- The same once the arguments' numbers stand in a.
-pub record SiteAsks (b p hs ns zs : List ℕ) (n u : ℕ) (prm imgs bnd s tbl xs rows : List ℕ) (r : TermRecord) (a : List ℕ) : Type 0 where
-  pub asks : TermAsks b p hs ns zs n u prm imgs bnd s tbl xs rows r a
+pub record SiteAsks (b p ix : List ℕ) (n u : ℕ) (prm imgs bnd s tbl xs rows : List ℕ) (r : TermRecord) (a : List ℕ) : Type 0 where
+  pub asks : TermAsks b p ix n u prm imgs bnd s tbl xs rows r a
   pub below : (j : ℕ) → j < r .count → u16At a (3 + 2 * j) < n
 
-pub record SiteIs (J : Site → Verdict) (b p : List ℕ) (n : ℕ) (prm imgs bnd s tbl xs : List ℕ) (r : TermRecord) (a b′ p′ hs′ ns′ zs′ prm′ imgs′ bnd′ : List ℕ) (q : Answer) : Type 0 where
-  pub answer : AnswerIs b p n (J (siteOver (storeOf b p n) s tbl xs a r)) b′ p′ hs′ ns′ zs′ q
+pub record SiteIs (J : Site → Verdict) (b p : List ℕ) (n : ℕ) (prm imgs bnd s tbl xs : List ℕ) (r : TermRecord) (a b′ p′ ix′ prm′ imgs′ bnd′ : List ℕ) (q : Answer) : Type 0 where
+  pub answer : AnswerIs b p n (J (siteOver (storeOf b p n) s tbl xs a r)) b′ p′ ix′ q
   pub params : prm′ ≡ prm
   pub images : imgs′ ≡ imgs
   pub bound : bnd′ ≡ bnd

@@ -35,9 +35,9 @@ use Rattle.site.specs.Constants.{constant-asks, constants-by}
 
 ---------------------------------------------------------------- the parts and the row
 -- The array after, as long as the one before, has the arguments.
-pub parts-site : {b p hs ns zs : List ℕ} {n u : ℕ} {prm imgs bnd s tbl xs rows : List ℕ} {r : TermRecord} {a a′ : List ℕ} {column : ℕ} {q : Bool}
-    → TermAsks b p hs ns zs n u prm imgs bnd s tbl xs rows r a → length a′ ≡ length a → q ≡ true → PartsAre s rows column r a′ q
-    → SiteAsks b p hs ns zs n u prm imgs bnd s tbl xs rows r a′
+pub parts-site : {b p ix : List ℕ} {n u : ℕ} {prm imgs bnd s tbl xs rows : List ℕ} {r : TermRecord} {a a′ : List ℕ} {column : ℕ} {q : Bool}
+    → TermAsks b p ix n u prm imgs bnd s tbl xs rows r a → length a′ ≡ length a → q ≡ true → PartsAre s rows column r a′ q
+    → SiteAsks b p ix n u prm imgs bnd s tbl xs rows r a′
 parts-site {n = n} {tbl = tbl} {xs = xs} h e on d =
     record {
       asks = record { good = h .good; zeroed = h .zeroed; standing = h .standing; room = omega (arith, e, h .room) };
@@ -45,19 +45,19 @@ parts-site {n = n} {tbl = tbl} {xs = xs} h e on d =
     }
 
 -- The answer on the gathered parts is the row.
-pub site-row : {J : Site → Verdict} {column : ℕ} {b p : List ℕ} {n : ℕ} {prm imgs bnd s tbl xs rows : List ℕ} {r : TermRecord} {a b′ p′ hs′ ns′ zs′ prm′ imgs′ bnd′ : List ℕ} {w : Answer} {q : Bool}
-    → q ≡ true → PartsAre s rows column r a q → SiteIs J b p n prm imgs bnd s tbl xs r a b′ p′ hs′ ns′ zs′ prm′ imgs′ bnd′ w
-    → TermIs J column b p n prm imgs bnd s tbl xs rows r b′ p′ hs′ ns′ zs′ prm′ imgs′ bnd′ w
+pub site-row : {J : Site → Verdict} {column : ℕ} {b p : List ℕ} {n : ℕ} {prm imgs bnd s tbl xs rows : List ℕ} {r : TermRecord} {a b′ p′ ix′ prm′ imgs′ bnd′ : List ℕ} {w : Answer} {q : Bool}
+    → q ≡ true → PartsAre s rows column r a q → SiteIs J b p n prm imgs bnd s tbl xs r a b′ p′ ix′ prm′ imgs′ bnd′ w
+    → TermIs J column b p n prm imgs bnd s tbl xs rows r b′ p′ ix′ prm′ imgs′ bnd′ w
 site-row {J} {b = b} {p = p} {n = n} {tbl = tbl} {xs = xs} on d i =
     record { answer = judged-as (d .judged on J (storeOf b p n) tbl xs) (i .answer); params = i .params; images = i .images; bound = i .bound }
 
 -- Below is the row where a part has none.
-pub below-row : {J : Site → Verdict} {column : ℕ} {b p hs ns zs : List ℕ} {n u : ℕ} {prm imgs bnd s tbl xs rows : List ℕ} {r : TermRecord} {a : List ℕ} {w : Answer} {q : Bool}
-    → q ≡ false → PartsAre s rows column r a q → Good b p hs ns zs n u → w ≡ refusing Below n u
-    → TermIs J column b p n prm imgs bnd s tbl xs rows r b p hs ns zs prm imgs bnd w
-below-row {J} {b = b} {p = p} {hs = hs} {ns = ns} {zs = zs} {n = n} {u = u} {tbl = tbl} {xs = xs} off d g e =
+pub below-row : {J : Site → Verdict} {column : ℕ} {b p ix : List ℕ} {n u : ℕ} {prm imgs bnd s tbl xs rows : List ℕ} {r : TermRecord} {a : List ℕ} {w : Answer} {q : Bool}
+    → q ≡ false → PartsAre s rows column r a q → Good b p ix n u → w ≡ refusing Below n u
+    → TermIs J column b p n prm imgs bnd s tbl xs rows r b p ix prm imgs bnd w
+below-row {J} {b = b} {p = p} {ix = ix} {n = n} {u = u} {tbl = tbl} {xs = xs} off d g e =
     record {
-      answer = judged-as (d .lacking off J (storeOf b p n) tbl xs) (answered-as e (answer-refused b p hs ns zs n u g Below));
+      answer = judged-as (d .lacking off J (storeOf b p n) tbl xs) (answered-as e (answer-refused b p ix n u g Below));
       params = refl;
       images = refl;
       bound = refl;

@@ -143,12 +143,12 @@ standing-grown n n′ s tbl xs rows r le h =
     }
 
 -- A row's code that is no refusal is a number of the store.
-code-known : (b p : List ℕ) (n : ℕ) (v : Verdict) (b′ p′ hs′ ns′ zs′ : List ℕ) (q : Answer) → AnswerIs b p n v b′ p′ hs′ ns′ zs′ q
+code-known : (b p : List ℕ) (n : ℕ) (v : Verdict) (b′ p′ ix′ : List ℕ) (q : Answer) → AnswerIs b p n v b′ p′ ix′ q
     → codeOf (q .verdict) < 65536 → codeOf (q .verdict) < q .count
-code-known b p n v b′ p′ hs′ ns′ zs′ q a = go (q .verdict) refl
+code-known b p n v b′ p′ ix′ q a = go (q .verdict) refl
   where
     go : (w : RowVerdict) → q .verdict ≡ w → codeOf w < 65536 → codeOf w < q .count
-    go (Number k) e o = answer-number b p n v b′ p′ hs′ ns′ zs′ q a k e .0
+    go (Number k) e o = answer-number b p n v b′ p′ ix′ q a k e .0
     go (Refused c) e o = absurd (omega (arith, refusal-large c))
 
 ---------------------------------------------------------------- two rows written
@@ -185,17 +185,17 @@ module _ (rows : List ℕ) (k x y : ℕ) where
       (old i (below-other i k (below-other i (suc k) (omega arith) (λ e. eqb-false i (k + 1) q (omega (arith, e)))) (eqb-false i k w))))))
 
 ---------------------------------------------------------------- both rows of a record
-module _ (b p hs ns zs : List ℕ) (n u : ℕ) (prm imgs bnd s tbl xs rows : List ℕ) (r : TermRecord) (t : ℕ)
-    (h : BothAsk b p hs ns zs n u prm imgs bnd s tbl xs rows r t) where
+module _ (b p ix : List ℕ) (n u : ℕ) (prm imgs bnd s tbl xs rows : List ℕ) (r : TermRecord) (t : ℕ)
+    (h : BothAsk b p ix n u prm imgs bnd s tbl xs rows r t) where
   -- What the inferred row asks, and the checked one behind it.
-  pub first-asks : (a : List ℕ) → 259 ≤ length a → TermAsks b p hs ns zs n u prm imgs bnd s tbl xs rows r a
+  pub first-asks : (a : List ℕ) → 259 ≤ length a → TermAsks b p ix n u prm imgs bnd s tbl xs rows r a
   first-asks a o = record { good = h .good; zeroed = h .zeroed; standing = h .standing; room = o }
 
-  module _ (c q is ms ys prm₁ imgs₁ bnd₁ : List ℕ) (v : Answer) (f : TermIs inferred 0 b p n prm imgs bnd s tbl xs rows r c q is ms ys prm₁ imgs₁ bnd₁ v) where
+  module _ (c q jx prm₁ imgs₁ bnd₁ : List ℕ) (v : Answer) (f : TermIs inferred 0 b p n prm imgs bnd s tbl xs rows r c q jx prm₁ imgs₁ bnd₁ v) where
     more : n ≤ v .count
-    more = answer-more b p n (termVerdict inferred (storeOf b p n) s tbl xs rows 0 r) c q is ms ys v (f .answer)
+    more = answer-more b p n (termVerdict inferred (storeOf b p n) s tbl xs rows 0 r) c q jx v (f .answer)
 
-    pub second-asks : (a : List ℕ) → 259 ≤ length a → TermAsks c q is ms ys (v .count) (v .used) prm₁ imgs₁ bnd₁ s tbl xs rows r a
+    pub second-asks : (a : List ℕ) → 259 ≤ length a → TermAsks c q jx (v .count) (v .used) prm₁ imgs₁ bnd₁ s tbl xs rows r a
     second-asks a o =
         record {
           good = f .answer .good;
@@ -204,8 +204,8 @@ module _ (b p hs ns zs : List ℕ) (n u : ℕ) (prm imgs bnd s tbl xs rows : Lis
           room = o;
         }
 
-    module _ (b′ p′ hs′ ns′ zs′ prm′ imgs′ bnd′ : List ℕ) (w : Answer)
-        (g : TermIs (checked smtLib) 1 c q (v .count) prm₁ imgs₁ bnd₁ s tbl xs rows r b′ p′ hs′ ns′ zs′ prm′ imgs′ bnd′ w)
+    module _ (b′ p′ ix′ prm′ imgs′ bnd′ : List ℕ) (w : Answer)
+        (g : TermIs (checked smtLib) 1 c q (v .count) prm₁ imgs₁ bnd₁ s tbl xs rows r b′ p′ ix′ prm′ imgs′ bnd′ w)
         (x y : ℕ) (ex : x ≡ codeOf (v .verdict)) (ey : y ≡ codeOf (w .verdict)) where
       abbrev st : List Sort
       st = storeOf b p n
@@ -217,7 +217,7 @@ module _ (b p hs ns zs : List ℕ) (n u : ℕ) (prm imgs bnd s tbl xs rows : Lis
       st′ = storeOf b′ p′ (w .count)
 
       further : v .count ≤ w .count
-      further = answer-more c q (v .count) (termVerdict (checked smtLib) st₁ s tbl xs rows 1 r) b′ p′ hs′ ns′ zs′ w (g .answer)
+      further = answer-more c q (v .count) (termVerdict (checked smtLib) st₁ s tbl xs rows 1 r) b′ p′ ix′ w (g .answer)
 
       -- The definition's two rows, the inferred one first.
       module _ (k : Standing n s tbl xs rows r) (l : Lengths) (el : l .records ≡ length b) (ep : l .places ≡ length p) where
@@ -249,7 +249,7 @@ module _ (b p hs ns zs : List ℕ) (n u : ℕ) (prm imgs bnd s tbl xs rows : Lis
             ∙ ap (λ (o : Outcome). rowsAdded so-far (record { store = st₁; code = x }) o) checked-is
 
       -- BOTH ROWS, written one behind the other.
-      pub both-are : BothAre b p n prm imgs bnd s tbl xs rows r t b′ p′ hs′ ns′ zs′ prm′ imgs′ bnd′ (set (set rows (2 * t) x) (2 * t + 1) y) (record { count = w .count; used = w .used })
+      pub both-are : BothAre b p n prm imgs bnd s tbl xs rows r t b′ p′ ix′ prm′ imgs′ bnd′ (set (set rows (2 * t) x) (2 * t + 1) y) (record { count = w .count; used = w .used })
       both-are =
           record {
             good = g .answer .good;
@@ -265,8 +265,8 @@ module _ (b p hs ns zs : List ℕ) (n u : ℕ) (prm imgs bnd s tbl xs rows : Lis
             known = λ i o.
                 two-known rows (2 * t) x y (w .count) (h .room)
                 (λ j z d. omega (arith, h .standing .known j (omega (arith, h .here)) d, more, further))
-                (λ d. omega (arith, code-known b p n (termVerdict inferred st s tbl xs rows 0 r) c q is ms ys v (f .answer) (omega (arith, ex)), ex, further))
-                (λ d. omega (arith, code-known c q (v .count) (termVerdict (checked smtLib) st₁ s tbl xs rows 1 r) b′ p′ hs′ ns′ zs′ w (g .answer) (omega (arith, ey)), ey))
+                (λ d. omega (arith, code-known b p n (termVerdict inferred st s tbl xs rows 0 r) c q jx v (f .answer) (omega (arith, ex)), ex, further))
+                (λ d. omega (arith, code-known c q (v .count) (termVerdict (checked smtLib) st₁ s tbl xs rows 1 r) b′ p′ ix′ w (g .answer) (omega (arith, ey)), ey))
                 i (omega arith);
             starts = starts-trans st st₁ st′ (f .answer .starts) (g .answer .starts);
             params = g .params ∙ f .params;
@@ -275,8 +275,8 @@ module _ (b p hs ns zs : List ℕ) (n u : ℕ) (prm imgs bnd s tbl xs rows : Lis
           }
 
 ---------------------------------------------------------------- a record at its place
-module _ (b p hs ns zs : List ℕ) (n u : ℕ) (prm imgs bnd s tbl : List ℕ) (m : ℕ) (xs rows : List ℕ) (t : ℕ)
-    (h : TurnAsks b p hs ns zs n u prm imgs bnd s tbl m xs rows t) where
+module _ (b p ix : List ℕ) (n u : ℕ) (prm imgs bnd s tbl : List ℕ) (m : ℕ) (xs rows : List ℕ) (t : ℕ)
+    (h : TurnAsks b p ix n u prm imgs bnd s tbl m xs rows t) where
   pub stands-here : TermStands s m t (getD xs t 0)
   stands-here = h .stands t (omega arith)
 
@@ -297,12 +297,12 @@ module _ (b p hs ns zs : List ℕ) (n u : ℕ) (prm imgs bnd s tbl : List ℕ) (
         }
 
     -- What both rows of the record that was read ask, and that they are the sheet's term's.
-    pub both-asks : BothAsk b p hs ns zs n u prm imgs bnd s tbl xs rows r t
+    pub both-asks : BothAsk b p ix n u prm imgs bnd s tbl xs rows r t
     both-asks = record { good = h .good; zeroed = h .zeroed; standing = standing; here = refl; room = h .room; few = h .few }
 
-    pub turn-is : (b′ p′ hs′ ns′ zs′ prm′ imgs′ bnd′ rows′ : List ℕ) (q : Counts) → BothAre b p n prm imgs bnd s tbl xs rows r t b′ p′ hs′ ns′ zs′ prm′ imgs′ bnd′ rows′ q
-        → TurnIs b p n prm imgs bnd s tbl m xs rows t b′ p′ hs′ ns′ zs′ prm′ imgs′ bnd′ rows′ q
-    turn-is b′ p′ hs′ ns′ zs′ prm′ imgs′ bnd′ rows′ q a =
+    pub turn-is : (b′ p′ ix′ prm′ imgs′ bnd′ rows′ : List ℕ) (q : Counts) → BothAre b p n prm imgs bnd s tbl xs rows r t b′ p′ ix′ prm′ imgs′ bnd′ rows′ q
+        → TurnIs b p n prm imgs bnd s tbl m xs rows t b′ p′ ix′ prm′ imgs′ bnd′ rows′ q
+    turn-is b′ p′ ix′ prm′ imgs′ bnd′ rows′ q a =
         let st = storeOf b p n in
         let ts = treesOf st tbl m in
         record {
@@ -324,8 +324,8 @@ module _ (b p hs ns zs : List ℕ) (n u : ℕ) (prm imgs bnd s tbl : List ℕ) (
 
 ---------------------------------------------------------------- the loop
 -- The first i terms have their rows.
-pub record Tabling (b p : List ℕ) (n : ℕ) (prm imgs bnd s tbl : List ℕ) (m : ℕ) (xs rows b′ p′ hs′ ns′ zs′ prm′ imgs′ bnd′ rows′ : List ℕ) (n′ u′ i : ℕ) : Type 0 where
-  pub good : Good b′ p′ hs′ ns′ zs′ n′ u′
+pub record Tabling (b p : List ℕ) (n : ℕ) (prm imgs bnd s tbl : List ℕ) (m : ℕ) (xs rows b′ p′ ix′ prm′ imgs′ bnd′ rows′ : List ℕ) (n′ u′ i : ℕ) : Type 0 where
+  pub good : Good b′ p′ ix′ n′ u′
   pub long : length b′ ≡ length b
   pub wide : length p′ ≡ length p
   pub lent : length rows′ ≡ length rows
@@ -338,9 +338,9 @@ pub record Tabling (b p : List ℕ) (n : ℕ) (prm imgs bnd s tbl : List ℕ) (m
   pub rest : drop (2 * i) rows′ ≡ drop (2 * i) rows
   pub known : Known rows′ i n′
 
-module _ (b p hs ns zs : List ℕ) (n u : ℕ) (prm imgs bnd s tbl : List ℕ) (m : ℕ) (xs : List ℕ) (c : ℕ) (rows : List ℕ)
-    (h : RowsAsk b p hs ns zs n u prm imgs bnd s tbl m xs c rows) where
-  pub tabling-start : Tabling b p n prm imgs bnd s tbl m xs rows b p hs ns zs prm imgs bnd rows n u 0
+module _ (b p ix : List ℕ) (n u : ℕ) (prm imgs bnd s tbl : List ℕ) (m : ℕ) (xs : List ℕ) (c : ℕ) (rows : List ℕ)
+    (h : RowsAsk b p ix n u prm imgs bnd s tbl m xs c rows) where
+  pub tabling-start : Tabling b p n prm imgs bnd s tbl m xs rows b p ix prm imgs bnd rows n u 0
   unfolding rowsOf eachAt
   tabling-start =
       record {
@@ -357,11 +357,11 @@ module _ (b p hs ns zs : List ℕ) (n u : ℕ) (prm imgs bnd s tbl : List ℕ) (
         known = λ i o. absurd (not-suc-le-zero o);
       }
 
-  module _ (b′ p′ hs′ ns′ zs′ prm′ imgs′ bnd′ rows′ : List ℕ) (n′ u′ i : ℕ) (a : Tabling b p n prm imgs bnd s tbl m xs rows b′ p′ hs′ ns′ zs′ prm′ imgs′ bnd′ rows′ n′ u′ i) where
+  module _ (b′ p′ ix′ prm′ imgs′ bnd′ rows′ : List ℕ) (n′ u′ i : ℕ) (a : Tabling b p n prm imgs bnd s tbl m xs rows b′ p′ ix′ prm′ imgs′ bnd′ rows′ n′ u′ i) where
     grown : n ≤ n′
     grown = omega (arith, starts-count (storeOf b p n) (storeOf b′ p′ n′) (a .starts), storeOf-length b p n, storeOf-length b′ p′ n′)
 
-    pub turn-asks : i < c → TurnAsks b′ p′ hs′ ns′ zs′ n′ u′ prm′ imgs′ bnd′ s tbl m xs rows′ i
+    pub turn-asks : i < c → TurnAsks b′ p′ ix′ n′ u′ prm′ imgs′ bnd′ s tbl m xs rows′ i
     turn-asks o =
         record {
           good = a .good;
@@ -380,8 +380,8 @@ module _ (b p hs ns zs : List ℕ) (n u : ℕ) (prm imgs bnd s tbl : List ℕ) (
         (trees-starts (storeOf b p n) (storeOf b′ p′ n′) tbl m (a .starts)
         (λ j o. omega (arith, h .numbered .known j o, storeOf-length b p n)))
 
-    module _ (o : i < c) (d q is ms ys prm″ imgs″ bnd″ rows″ : List ℕ) (w : Counts)
-        (t : TurnIs b′ p′ n′ prm′ imgs′ bnd′ s tbl m xs rows′ i d q is ms ys prm″ imgs″ bnd″ rows″ w) where
+    module _ (o : i < c) (d q jx prm″ imgs″ bnd″ rows″ : List ℕ) (w : Counts)
+        (t : TurnIs b′ p′ n′ prm′ imgs′ bnd′ s tbl m xs rows′ i d q jx prm″ imgs″ bnd″ rows″ w) where
       two-more : 2 * i + 2 ≡ 2 * suc i
       two-more = omega arith
 
@@ -402,7 +402,7 @@ module _ (b p hs ns zs : List ℕ) (n u : ℕ) (prm imgs bnd s tbl : List ℕ) (
           ∙ t .rest ∙ sym (drop-drop 2 (2 * i) rows′) ∙ ap (drop 2) (a .rest) ∙ drop-drop 2 (2 * i) rows ∙ ap (λ (k : ℕ). drop k rows) two-more
 
       -- THE ROWS OF ONE TERM MORE.
-      pub tabling-step : Tabling b p n prm imgs bnd s tbl m xs rows d q is ms ys prm″ imgs″ bnd″ rows″ (w .count) (w .used) (i + 1)
+      pub tabling-step : Tabling b p n prm imgs bnd s tbl m xs rows d q jx prm″ imgs″ bnd″ rows″ (w .count) (w .used) (i + 1)
       tabling-step =
           let z : suc i ≡ i + 1 = omega arith in
           record {
@@ -428,7 +428,7 @@ module _ (b p hs ns zs : List ℕ) (n u : ℕ) (prm imgs bnd s tbl : List ℕ) (
           subst (λ (k : ℕ). rowsOf smtLib l (storeOf b p n) (termsAt s (treesOf (storeOf b p n) tbl m) xs k) ≡ tabled (storeOf b′ p′ n′) (take (2 * k) rows′)) e
           (a .is l f g)
 
-    pub tabling-end : i ≡ c → RowsAre b p n prm imgs bnd s tbl m xs c rows b′ p′ hs′ ns′ zs′ prm′ imgs′ bnd′ rows′ (record { count = n′; used = u′ })
+    pub tabling-end : i ≡ c → RowsAre b p n prm imgs bnd s tbl m xs c rows b′ p′ ix′ prm′ imgs′ bnd′ rows′ (record { count = n′; used = u′ })
     tabling-end e =
         record {
           good = a .good;

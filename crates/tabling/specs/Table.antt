@@ -33,8 +33,8 @@ pub record Pasts (b p : List ℕ) (n : ℕ) (ws vs : List ℕ) : Type 0 where
   pub checks : PastOf 1 b p n vs
 
 -- A good store, zeroed tables of names, and the record r of the term t, with room for its rows.
-pub record BothAsk (b p hs ns zs : List ℕ) (n u : ℕ) (prm imgs bnd s tbl xs rows : List ℕ) (r : TermRecord) (t : ℕ) : Type 0 where
-  pub good : Good b p hs ns zs n u
+pub record BothAsk (b p ix : List ℕ) (n u : ℕ) (prm imgs bnd s tbl xs rows : List ℕ) (r : TermRecord) (t : ℕ) : Type 0 where
+  pub good : Good b p ix n u
   pub zeroed : Zeroed prm imgs bnd
   pub standing : Standing n s tbl xs rows r
   pub here : standing .term ≡ t
@@ -43,8 +43,8 @@ pub record BothAsk (b p hs ns zs : List ℕ) (n u : ℕ) (prm imgs bnd s tbl xs 
 
 -- BOTH ROWS OF THE RECORD r: the store after them and the rows up to them are the definition's; the rows behind them, and the
 -- tables of names, are as they were.
-pub record BothAre (b p : List ℕ) (n : ℕ) (prm imgs bnd s tbl xs rows : List ℕ) (r : TermRecord) (t : ℕ) (b′ p′ hs′ ns′ zs′ prm′ imgs′ bnd′ rows′ : List ℕ) (c : Counts) : Type 0 where
-  pub good : Good b′ p′ hs′ ns′ zs′ (c .count) (c .used)
+pub record BothAre (b p : List ℕ) (n : ℕ) (prm imgs bnd s tbl xs rows : List ℕ) (r : TermRecord) (t : ℕ) (b′ p′ ix′ prm′ imgs′ bnd′ rows′ : List ℕ) (c : Counts) : Type 0 where
+  pub good : Good b′ p′ ix′ (c .count) (c .used)
   pub long : length b′ ≡ length b
   pub wide : length p′ ≡ length p
   pub lent : length rows′ ≡ length rows
@@ -60,8 +60,8 @@ pub record BothAre (b p : List ℕ) (n : ℕ) (prm imgs bnd s tbl xs rows : List
   pub bound : bnd′ ≡ bnd
 
 -- A good store, zeroed tables of names, m sorts with numbers of the store, and the terms up to t at the places xs.
-pub record TurnAsks (b p hs ns zs : List ℕ) (n u : ℕ) (prm imgs bnd s tbl : List ℕ) (m : ℕ) (xs rows : List ℕ) (t : ℕ) : Type 0 where
-  pub good : Good b p hs ns zs n u
+pub record TurnAsks (b p ix : List ℕ) (n u : ℕ) (prm imgs bnd s tbl : List ℕ) (m : ℕ) (xs rows : List ℕ) (t : ℕ) : Type 0 where
+  pub good : Good b p ix n u
   pub zeroed : Zeroed prm imgs bnd
   pub numbered : Numbered n s tbl m
   pub stands : (i : ℕ) → i < t + 1 → TermStands s m i (getD xs i 0)
@@ -71,8 +71,8 @@ pub record TurnAsks (b p hs ns zs : List ℕ) (n u : ℕ) (prm imgs bnd s tbl : 
   pub known : Known rows t n
 
 -- BOTH ROWS OF THE TERM t.
-pub record TurnIs (b p : List ℕ) (n : ℕ) (prm imgs bnd s tbl : List ℕ) (m : ℕ) (xs rows : List ℕ) (t : ℕ) (b′ p′ hs′ ns′ zs′ prm′ imgs′ bnd′ rows′ : List ℕ) (c : Counts) : Type 0 where
-  pub good : Good b′ p′ hs′ ns′ zs′ (c .count) (c .used)
+pub record TurnIs (b p : List ℕ) (n : ℕ) (prm imgs bnd s tbl : List ℕ) (m : ℕ) (xs rows : List ℕ) (t : ℕ) (b′ p′ ix′ prm′ imgs′ bnd′ rows′ : List ℕ) (c : Counts) : Type 0 where
+  pub good : Good b′ p′ ix′ (c .count) (c .used)
   pub long : length b′ ≡ length b
   pub wide : length p′ ≡ length p
   pub lent : length rows′ ≡ length rows
@@ -88,8 +88,8 @@ pub record TurnIs (b p : List ℕ) (n : ℕ) (prm imgs bnd s tbl : List ℕ) (m 
   pub bound : bnd′ ≡ bnd
 
 -- A good store, zeroed tables of names, m sorts with numbers of the store, and c terms at the places xs, with room for their rows.
-pub record RowsAsk (b p hs ns zs : List ℕ) (n u : ℕ) (prm imgs bnd s tbl : List ℕ) (m : ℕ) (xs : List ℕ) (c : ℕ) (rows : List ℕ) : Type 0 where
-  pub good : Good b p hs ns zs n u
+pub record RowsAsk (b p ix : List ℕ) (n u : ℕ) (prm imgs bnd s tbl : List ℕ) (m : ℕ) (xs : List ℕ) (c : ℕ) (rows : List ℕ) : Type 0 where
+  pub good : Good b p ix n u
   pub zeroed : Zeroed prm imgs bnd
   pub numbered : Numbered n s tbl m
   pub stands : (i : ℕ) → i < c → TermStands s m i (getD xs i 0)
@@ -98,8 +98,8 @@ pub record RowsAsk (b p hs ns zs : List ℕ) (n u : ℕ) (prm imgs bnd s tbl : L
   pub few : c ≤ 4096
 
 -- THE ROWS OF c TERMS: the store after them is the definition's, and the lent list holds its rows, then what stood there.
-pub record RowsAre (b p : List ℕ) (n : ℕ) (prm imgs bnd s tbl : List ℕ) (m : ℕ) (xs : List ℕ) (c : ℕ) (rows b′ p′ hs′ ns′ zs′ prm′ imgs′ bnd′ rows′ : List ℕ) (r : Counts) : Type 0 where
-  pub good : Good b′ p′ hs′ ns′ zs′ (r .count) (r .used)
+pub record RowsAre (b p : List ℕ) (n : ℕ) (prm imgs bnd s tbl : List ℕ) (m : ℕ) (xs : List ℕ) (c : ℕ) (rows b′ p′ ix′ prm′ imgs′ bnd′ rows′ : List ℕ) (r : Counts) : Type 0 where
+  pub good : Good b′ p′ ix′ (r .count) (r .used)
   pub long : length b′ ≡ length b
   pub wide : length p′ ≡ length p
   pub after : (l : Lengths) → l .records ≡ length b → l .places ≡ length p

@@ -14,9 +14,7 @@ ghost use Rattle.tabling.specs.Table.{Pasts, BothAsk, BothAre, TurnAsks,
 pub fn rows_of(
     records: &mut [u8],
     places: &mut [u32],
-    heads: &mut [u16],
-    next: &mut [u16],
-    sizes: &mut [u16],
+    index: &mut [u16],
     count: usize,
     used: usize,
     params: &mut [u16],
@@ -31,16 +29,14 @@ pub fn rows_of(
     inferences: &mut [u8],
     checks: &mut [u8],
 ) -> Counts
-    requires { ⌜ BothAsk (now records) (now places) (now heads) (now next) (now sizes) count used (now params) (now images) (now bound) (now sheet) (now table) (now starts) (now rows) term t × Pasts (now records) (now places) count (now inferences) (now checks) ⌝ }
-    ensures { λ r. ⌜ BothAre (now (records .entry)) (now (places .entry)) count (now (params .entry)) (now (images .entry)) (now (bound .entry)) (now (sheet .entry)) (now (table .entry)) (now (starts .entry)) (now (rows .entry)) term t (now (records .exit)) (now (places .exit)) (now (heads .exit)) (now (next .exit)) (now (sizes .exit)) (now (params .exit)) (now (images .exit)) (now (bound .exit)) (now (rows .exit)) r × Pasts (now (records .exit)) (now (places .exit)) (r .count) (now (inferences .exit)) (now (checks .exit)) ⌝ }
+    requires { ⌜ BothAsk (now records) (now places) (now index) count used (now params) (now images) (now bound) (now sheet) (now table) (now starts) (now rows) term t × Pasts (now records) (now places) count (now inferences) (now checks) ⌝ }
+    ensures { λ r. ⌜ BothAre (now (records .entry)) (now (places .entry)) count (now (params .entry)) (now (images .entry)) (now (bound .entry)) (now (sheet .entry)) (now (table .entry)) (now (starts .entry)) (now (rows .entry)) term t (now (records .exit)) (now (places .exit)) (now (index .exit)) (now (params .exit)) (now (images .exit)) (now (bound .exit)) (now (rows .exit)) r × Pasts (now (records .exit)) (now (places .exit)) (r .count) (now (inferences .exit)) (now (checks .exit)) ⌝ }
 {
     let mut args = [0u8; 266];
     let one = inferred_row(
         records,
         places,
-        heads,
-        next,
-        sizes,
+        index,
         count,
         used,
         params,
@@ -59,9 +55,7 @@ pub fn rows_of(
     let two = checked_row(
         records,
         places,
-        heads,
-        next,
-        sizes,
+        index,
         m,
         v,
         params,
@@ -89,9 +83,7 @@ pub fn rows_of(
 pub fn term_rows(
     records: &mut [u8],
     places: &mut [u32],
-    heads: &mut [u16],
-    next: &mut [u16],
-    sizes: &mut [u16],
+    index: &mut [u16],
     count: usize,
     used: usize,
     params: &mut [u16],
@@ -106,8 +98,8 @@ pub fn term_rows(
     inferences: &mut [u8],
     checks: &mut [u8],
 ) -> Counts
-    requires { ⌜ TurnAsks (now records) (now places) (now heads) (now next) (now sizes) count used (now params) (now images) (now bound) (now sheet) (now table) sorts (now starts) (now rows) t × Pasts (now records) (now places) count (now inferences) (now checks) ⌝ }
-    ensures { λ r. ⌜ TurnIs (now (records .entry)) (now (places .entry)) count (now (params .entry)) (now (images .entry)) (now (bound .entry)) (now (sheet .entry)) (now (table .entry)) sorts (now (starts .entry)) (now (rows .entry)) t (now (records .exit)) (now (places .exit)) (now (heads .exit)) (now (next .exit)) (now (sizes .exit)) (now (params .exit)) (now (images .exit)) (now (bound .exit)) (now (rows .exit)) r × Pasts (now (records .exit)) (now (places .exit)) (r .count) (now (inferences .exit)) (now (checks .exit)) ⌝ }
+    requires { ⌜ TurnAsks (now records) (now places) (now index) count used (now params) (now images) (now bound) (now sheet) (now table) sorts (now starts) (now rows) t × Pasts (now records) (now places) count (now inferences) (now checks) ⌝ }
+    ensures { λ r. ⌜ TurnIs (now (records .entry)) (now (places .entry)) count (now (params .entry)) (now (images .entry)) (now (bound .entry)) (now (sheet .entry)) (now (table .entry)) sorts (now (starts .entry)) (now (rows .entry)) t (now (records .exit)) (now (places .exit)) (now (index .exit)) (now (params .exit)) (now (images .exit)) (now (bound .exit)) (now (rows .exit)) r × Pasts (now (records .exit)) (now (places .exit)) (r .count) (now (inferences .exit)) (now (checks .exit)) ⌝ }
 {
     let at = starts[t] as usize;
     let cursor = Cursor { at };
@@ -116,9 +108,7 @@ pub fn term_rows(
         ReadTerm::Term(term, _) => rows_of(
             records,
             places,
-            heads,
-            next,
-            sizes,
+            index,
             count,
             used,
             params,
@@ -142,9 +132,7 @@ pub fn term_rows(
 pub fn rows_past(
     records: &mut [u8],
     places: &mut [u32],
-    heads: &mut [u16],
-    next: &mut [u16],
-    sizes: &mut [u16],
+    index: &mut [u16],
     count: usize,
     used: usize,
     params: &mut [u16],
@@ -159,8 +147,8 @@ pub fn rows_past(
     inferences: &mut [u8],
     checks: &mut [u8],
 ) -> Counts
-    requires { ⌜ RowsAsk (now records) (now places) (now heads) (now next) (now sizes) count used (now params) (now images) (now bound) (now sheet) (now table) sorts (now starts) terms (now rows) × Pasts (now records) (now places) count (now inferences) (now checks) ⌝ }
-    ensures { λ r. ⌜ RowsAre (now (records .entry)) (now (places .entry)) count (now (params .entry)) (now (images .entry)) (now (bound .entry)) (now (sheet .entry)) (now (table .entry)) sorts (now (starts .entry)) terms (now (rows .entry)) (now (records .exit)) (now (places .exit)) (now (heads .exit)) (now (next .exit)) (now (sizes .exit)) (now (params .exit)) (now (images .exit)) (now (bound .exit)) (now (rows .exit)) r × Pasts (now (records .exit)) (now (places .exit)) (r .count) (now (inferences .exit)) (now (checks .exit)) ⌝ }
+    requires { ⌜ RowsAsk (now records) (now places) (now index) count used (now params) (now images) (now bound) (now sheet) (now table) sorts (now starts) terms (now rows) × Pasts (now records) (now places) count (now inferences) (now checks) ⌝ }
+    ensures { λ r. ⌜ RowsAre (now (records .entry)) (now (places .entry)) count (now (params .entry)) (now (images .entry)) (now (bound .entry)) (now (sheet .entry)) (now (table .entry)) sorts (now (starts .entry)) terms (now (rows .entry)) (now (records .exit)) (now (places .exit)) (now (index .exit)) (now (params .exit)) (now (images .exit)) (now (bound .exit)) (now (rows .exit)) r × Pasts (now (records .exit)) (now (places .exit)) (r .count) (now (inferences .exit)) (now (checks .exit)) ⌝ }
 {
     let mut n = count;
     let mut u = used;
@@ -169,9 +157,7 @@ pub fn rows_past(
         let done = term_rows(
             records,
             places,
-            heads,
-            next,
-            sizes,
+            index,
             n,
             u,
             params,
@@ -198,9 +184,7 @@ pub fn rows_past(
 pub fn rows_all(
     records: &mut [u8],
     places: &mut [u32],
-    heads: &mut [u16],
-    next: &mut [u16],
-    sizes: &mut [u16],
+    index: &mut [u16],
     count: usize,
     used: usize,
     params: &mut [u16],
@@ -213,8 +197,8 @@ pub fn rows_all(
     terms: usize,
     rows: &mut [u32],
 ) -> Counts
-    requires { ⌜ RowsAsk (now records) (now places) (now heads) (now next) (now sizes) count used (now params) (now images) (now bound) (now sheet) (now table) sorts (now starts) terms (now rows) ⌝ }
-    ensures { λ r. ⌜ RowsAre (now (records .entry)) (now (places .entry)) count (now (params .entry)) (now (images .entry)) (now (bound .entry)) (now (sheet .entry)) (now (table .entry)) sorts (now (starts .entry)) terms (now (rows .entry)) (now (records .exit)) (now (places .exit)) (now (heads .exit)) (now (next .exit)) (now (sizes .exit)) (now (params .exit)) (now (images .exit)) (now (bound .exit)) (now (rows .exit)) r ⌝ }
+    requires { ⌜ RowsAsk (now records) (now places) (now index) count used (now params) (now images) (now bound) (now sheet) (now table) sorts (now starts) terms (now rows) ⌝ }
+    ensures { λ r. ⌜ RowsAre (now (records .entry)) (now (places .entry)) count (now (params .entry)) (now (images .entry)) (now (bound .entry)) (now (sheet .entry)) (now (table .entry)) sorts (now (starts .entry)) terms (now (rows .entry)) (now (records .exit)) (now (places .exit)) (now (index .exit)) (now (params .exit)) (now (images .exit)) (now (bound .exit)) (now (rows .exit)) r ⌝ }
 {
     if params.len() < 65536 {
         let mut few = [0u8; 1];
@@ -222,9 +206,7 @@ pub fn rows_all(
         return rows_past(
             records,
             places,
-            heads,
-            next,
-            sizes,
+            index,
             count,
             used,
             params,
@@ -245,9 +227,7 @@ pub fn rows_all(
     rows_past(
         records,
         places,
-        heads,
-        next,
-        sizes,
+        index,
         count,
         used,
         params,

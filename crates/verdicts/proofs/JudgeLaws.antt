@@ -65,19 +65,15 @@ blank-tables =
 pub short-tables : Zeroed (replicate 1 0) (replicate 1 0) (replicate 1 0)
 short-tables = record { params = zeros-all 1; images = zeros-all 1; bound = zeros-all 1 }
 
-pub own-tables : ReadSheetAsks (replicate 1024 0) (replicate 8192 0) (replicate 4096 0) (replicate 2048 0) (replicate 4096 0) (replicate 1024 0) (replicate 266 0)
+pub own-tables : ReadSheetAsks (replicate 13312 0) (replicate 2048 0) (replicate 4096 0) (replicate 1024 0) (replicate 266 0)
 own-tables =
     record {
-      heads = length-replicate {A = ℕ} 1024 0;
-      next = length-replicate {A = ℕ} 8192 0;
-      sizes = length-replicate {A = ℕ} 4096 0;
+      index = length-replicate {A = ℕ} 13312 0;
       table = length-replicate {A = ℕ} 2048 0;
       terms = length-replicate {A = ℕ} 4096 0;
       questions = length-replicate {A = ℕ} 1024 0;
       scratch = length-replicate {A = ℕ} 266 0;
-      noHeads = zeros-all 1024;
-      noNext = zeros-all 8192;
-      noSizes = zeros-all 4096;
+      empty = zeros-all 13312;
     }
 
 ---------------------------------------------------------------- the judgement by what was read
@@ -86,8 +82,8 @@ unfolding judged judgedBy
 judged-by s l r e = ap (judgedSheet smtLib l) e
 
 -- A good store is read back.
-reads-good : (b p hs ns zs : List ℕ) (n u : ℕ) → Good b p hs ns zs n u → (st : List Sort) → storeOf b p n ≡ st → Reads b p st
-reads-good b p hs ns zs n u g st e =
+reads-good : (b p ix : List ℕ) (n u : ℕ) → Good b p ix n u → (st : List Sort) → storeOf b p n ≡ st → Reads b p st
+reads-good b p ix n u g st e =
     let c : n ≡ length st = sym (storeOf-length b p n) ∙ ap length e in
     record {
       stored = subst (λ (m : ℕ). Stored b p m) c (g .stored);
@@ -113,11 +109,11 @@ judge-as s l j b p rw an e eb ep er ea back =
     }
 
 ---------------------------------------------------------------- the rows and answers of a sheet that was read
-module _ (s b p hs ns zs tbl xs ys : List ℕ) (c : SheetCounts) (rw an : List ℕ) (a : AcceptedAsks s b p hs ns zs tbl xs ys c rw an) where
+module _ (s b p ix tbl xs ys : List ℕ) (c : SheetCounts) (rw an : List ℕ) (a : AcceptedAsks s b p ix tbl xs ys c rw an) where
   abbrev lengths : Lengths
   lengths = lengthsOf b p rw an
 
-  abbrev stands : SheetStands s b p hs ns zs tbl xs ys c
+  abbrev stands : SheetStands s b p ix tbl xs ys c
   stands = a .accepted .stands
 
   -- The sheet's sorts, terms and questions.
@@ -131,7 +127,7 @@ module _ (s b p hs ns zs tbl xs ys : List ℕ) (c : SheetCounts) (rw an : List �
   questions = questionsAt s sorts ys (c .questions)
 
   pub rows-ask : (prm imgs bnd : List ℕ) → Zeroed prm imgs bnd
-      → RowsAsk b p hs ns zs (c .count) (c .used) prm imgs bnd s tbl (c .sorts) xs (c .terms) rw
+      → RowsAsk b p ix (c .count) (c .used) prm imgs bnd s tbl (c .sorts) xs (c .terms) rw
   rows-ask prm imgs bnd zeroed =
       record {
         good = stands .good;
@@ -145,16 +141,16 @@ module _ (s b p hs ns zs tbl xs ys : List ℕ) (c : SheetCounts) (rw an : List �
       }
 
   -- After the rows.
-  module _ (prm imgs bnd b₁ p₁ hs₁ ns₁ zs₁ prm₁ imgs₁ bnd₁ rw₁ : List ℕ) (r : Counts)
-      (t : RowsAre b p (c .count) prm imgs bnd s tbl (c .sorts) xs (c .terms) rw b₁ p₁ hs₁ ns₁ zs₁ prm₁ imgs₁ bnd₁ rw₁ r) where
+  module _ (prm imgs bnd b₁ p₁ ix₁ prm₁ imgs₁ bnd₁ rw₁ : List ℕ) (r : Counts)
+      (t : RowsAre b p (c .count) prm imgs bnd s tbl (c .sorts) xs (c .terms) rw b₁ p₁ ix₁ prm₁ imgs₁ bnd₁ rw₁ r) where
     -- Over any tables of all names.
-    asks-over : (g l d : List ℕ) → Blank g l d → AllAsks b₁ p₁ hs₁ ns₁ zs₁ (r .count) (r .used) g l d s tbl (c .sorts) ys (c .questions) an
+    asks-over : (g l d : List ℕ) → Blank g l d → AllAsks b₁ p₁ ix₁ (r .count) (r .used) g l d s tbl (c .sorts) ys (c .questions) an
     asks-over g l d blank =
-        stands-asks s b p hs ns zs tbl xs ys c stands b₁ p₁ hs₁ ns₁ zs₁ (r .count) (r .used) (t .good) (t .starts) g l d an blank
+        stands-asks s b p ix tbl xs ys c stands b₁ p₁ ix₁ (r .count) (r .used) (t .good) (t .starts) g l d an blank
         (omega (arith, a .table, a .accepted .fewSorts)) (omega (arith, a .questions, a .accepted .fewQuestions)) (a .accepted .lentAnswers)
         (a .accepted .fewQuestions) (a .accepted .short)
 
-    pub answers-ask : Blank prm imgs bnd → AllAsks b₁ p₁ hs₁ ns₁ zs₁ (r .count) (r .used) prm₁ imgs₁ bnd₁ s tbl (c .sorts) ys (c .questions) an
+    pub answers-ask : Blank prm imgs bnd → AllAsks b₁ p₁ ix₁ (r .count) (r .used) prm₁ imgs₁ bnd₁ s tbl (c .sorts) ys (c .questions) an
     answers-ask blank =
         asks-over prm₁ imgs₁ bnd₁
         (subst (λ (z : List ℕ). Blank z imgs₁ bnd₁) (sym (t .params))
@@ -174,8 +170,8 @@ module _ (s b p hs ns zs tbl xs ys : List ℕ) (c : SheetCounts) (rw an : List �
         (λ j o. omega (arith, stands .known j o, storeOf-length b p (c .count))))
 
     -- After the answers: THE JUDGEMENT.
-    module _ (g l d b₂ p₂ hs₂ ns₂ zs₂ prm₂ imgs₂ bnd₂ an₂ : List ℕ) (q : Counts)
-        (o : AllIs b₁ p₁ (r .count) g l d s tbl (c .sorts) ys (c .questions) an b₂ p₂ hs₂ ns₂ zs₂ prm₂ imgs₂ bnd₂ an₂ q) where
+    module _ (g l d b₂ p₂ ix₂ prm₂ imgs₂ bnd₂ an₂ : List ℕ) (q : Counts)
+        (o : AllIs b₁ p₁ (r .count) g l d s tbl (c .sorts) ys (c .questions) an b₂ p₂ ix₂ prm₂ imgs₂ bnd₂ an₂ q) where
       abbrev answered : Answered
       answered = answersOf lengths (tabled .store) questions
 
@@ -197,9 +193,9 @@ module _ (s b p hs ns zs tbl xs ys : List ℕ) (c : SheetCounts) (rw an : List �
       unfolding recordsAfter placesAfter rowsAfter answersAfter
       judge-written =
           judge-as s lengths (accepted (sheetIn s b p tbl xs ys c) (answered .store) (tabled .rows) (answered .answers)) b₂ p₂ rw₁ an₂ judgement
-          (good-bytes b₂ p₂ hs₂ ns₂ zs₂ (q .count) (q .used) (o .good)
+          (good-bytes b₂ p₂ ix₂ (q .count) (q .used) (o .good)
           ∙ ap₂ storeBytes (o .long ∙ t .long) left-store)
-          (good-places b₂ p₂ hs₂ ns₂ zs₂ (q .count) (q .used) (o .good)
+          (good-places b₂ p₂ ix₂ (q .count) (q .used) (o .good)
           ∙ ap₂ storePlaces (o .wide ∙ t .wide) left-store)
           (over-zeros (tabled .rows) rw rw₁ (2 * c .terms) (a .cleared .rows)
           (rows-count smtLib lengths (storeOf b p (c .count)) terms ∙ ap (λ (k : ℕ). 2 * k) (each-length (termAt s sorts) xs (c .terms)))
@@ -207,7 +203,7 @@ module _ (s b p hs ns zs tbl xs ys : List ℕ) (c : SheetCounts) (rw an : List �
           (over-zeros (answered .answers) an an₂ (c .questions) (a .cleared .answers)
           (answers-count lengths (tabled .store) questions ∙ each-length (questionAt s sorts) ys (c .questions))
           left-answers)
-          (reads-good b₂ p₂ hs₂ ns₂ zs₂ (q .count) (q .used) (o .good) (answered .store) left-store)
+          (reads-good b₂ p₂ ix₂ (q .count) (q .used) (o .good) (answered .store) left-store)
 
     -- Without questions the rows are all there is to write.
     pub judge-unasked : c .questions ≡ 0 → JudgeIs s lengths b₁ p₁ rw₁ an Accepted
@@ -215,9 +211,9 @@ module _ (s b p hs ns zs tbl xs ys : List ℕ) (c : SheetCounts) (rw an : List �
         let g : List ℕ = replicate 65536 0 in
         let d : List ℕ = replicate 4096 0 in
         let h = asks-over g g d blank-tables in
-        judge-written g g d b₁ p₁ hs₁ ns₁ zs₁ g g d an (record { count = r .count; used = r .used })
-        (answering-end b₁ p₁ hs₁ ns₁ zs₁ (r .count) (r .used) g g d s tbl (c .sorts) ys (c .questions) an h b₁ p₁ hs₁ ns₁ zs₁ g g d an (r .count) (r .used) 0
-        (answering-start b₁ p₁ hs₁ ns₁ zs₁ (r .count) (r .used) g g d s tbl (c .sorts) ys (c .questions) an h)
+        judge-written g g d b₁ p₁ ix₁ g g d an (record { count = r .count; used = r .used })
+        (answering-end b₁ p₁ ix₁ (r .count) (r .used) g g d s tbl (c .sorts) ys (c .questions) an h b₁ p₁ ix₁ g g d an (r .count) (r .used) 0
+        (answering-start b₁ p₁ ix₁ (r .count) (r .used) g g d s tbl (c .sorts) ys (c .questions) an h)
         (sym e))
 
 ---------------------------------------------------------------- reading first
@@ -229,14 +225,14 @@ lengths-same b p rw an b₁ p₁ rw₁ an₁ eb ep er ea =
     ∙ ap₂ (λ (i j : ℕ). record { records = length b; places = length p; rows = i; answers = j }) er ea
 
 -- WHAT THE READER PROMISES of an accepted sheet is what its judgement asks.
-pub accepted-ask : (s b p rw an : List ℕ) → ClearedAsks rw an → (b₁ p₁ hs ns zs tbl xs ys : List ℕ) (c : SheetCounts)
-    → SheetAccepted s (lengthsOf b p rw an) b₁ p₁ hs ns zs tbl xs ys c
+pub accepted-ask : (s b p rw an : List ℕ) → ClearedAsks rw an → (b₁ p₁ ix tbl xs ys : List ℕ) (c : SheetCounts)
+    → SheetAccepted s (lengthsOf b p rw an) b₁ p₁ ix tbl xs ys c
     → length tbl ≡ length {A = ℕ} (replicate 2048 0) → length xs ≡ length {A = ℕ} (replicate 4096 0) → length ys ≡ length {A = ℕ} (replicate 1024 0)
-    → AcceptedAsks s b₁ p₁ hs ns zs tbl xs ys c rw an
-accepted-ask s b p rw an z b₁ p₁ hs ns zs tbl xs ys c a et ex ey =
+    → AcceptedAsks s b₁ p₁ ix tbl xs ys c rw an
+accepted-ask s b p rw an z b₁ p₁ ix tbl xs ys c a et ex ey =
     record {
       accepted =
-          subst (λ (l : Lengths). SheetAccepted s l b₁ p₁ hs ns zs tbl xs ys c)
+          subst (λ (l : Lengths). SheetAccepted s l b₁ p₁ ix tbl xs ys c)
           (lengths-same b₁ p₁ rw an b p rw an (sym (a .long)) (sym (a .wide)) refl refl) a;
       table = et ∙ length-replicate {A = ℕ} 2048 0;
       terms = ex ∙ length-replicate {A = ℕ} 4096 0;

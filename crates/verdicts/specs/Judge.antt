@@ -62,8 +62,8 @@ pub record ClearedAsks (rw an : List ℕ) : Type 0 where
   pub answers : an ≡ replicate (length an) 0
 
 -- A sheet that was read over the lent lengths, with its tables of the lengths that are read in, and rows and answers of zeros.
-pub record AcceptedAsks (s b p hs ns zs tbl xs ys : List ℕ) (c : SheetCounts) (rw an : List ℕ) : Type 0 where
-  pub accepted : SheetAccepted s (lengthsOf b p rw an) b p hs ns zs tbl xs ys c
+pub record AcceptedAsks (s b p ix tbl xs ys : List ℕ) (c : SheetCounts) (rw an : List ℕ) : Type 0 where
+  pub accepted : SheetAccepted s (lengthsOf b p rw an) b p ix tbl xs ys c
   pub table : length tbl ≡ 2048
   pub terms : length xs ≡ 4096
   pub questions : length ys ≡ 1024

@@ -48,9 +48,7 @@ pub fn judge_accepted(
     sheet: &[u8],
     records: &mut [u8],
     places: &mut [u32],
-    heads: &mut [u16],
-    next: &mut [u16],
-    sizes: &mut [u16],
+    index: &mut [u16],
     table: &[u16],
     starts: &[u16],
     asked: &[u16],
@@ -58,7 +56,7 @@ pub fn judge_accepted(
     rows: &mut [u32],
     answers: &mut [u32],
 )
-    requires { ⌜ AcceptedAsks (now sheet) (now records) (now places) (now heads) (now next) (now sizes) (now table) (now starts) (now asked) counts (now rows) (now answers) ⌝ }
+    requires { ⌜ AcceptedAsks (now sheet) (now records) (now places) (now index) (now table) (now starts) (now asked) counts (now rows) (now answers) ⌝ }
     ensures { λ _. ⌜ JudgeIs (now (sheet .entry)) (lengthsOf (now (records .entry)) (now (places .entry)) (now (rows .entry)) (now (answers .entry))) (now (records .exit)) (now (places .exit)) (now (rows .exit)) (now (answers .exit)) Accepted ⌝ }
 {
     let count = counts.count;
@@ -67,9 +65,7 @@ pub fn judge_accepted(
             sheet,
             records,
             places,
-            heads,
-            next,
-            sizes,
+            index,
             table,
             starts,
             asked,
@@ -84,9 +80,7 @@ pub fn judge_accepted(
     rows_all(
         records,
         places,
-        heads,
-        next,
-        sizes,
+        index,
         count,
         counts.used,
         &mut params,
@@ -113,9 +107,7 @@ pub fn judge_cleared(
     requires { ⌜ ClearedAsks (now rows) (now answers) ⌝ }
     ensures { λ r. ⌜ JudgeIs (now (sheet .entry)) (lengthsOf (now (records .entry)) (now (places .entry)) (now (rows .entry)) (now (answers .entry))) (now (records .exit)) (now (places .exit)) (now (rows .exit)) (now (answers .exit)) r ⌝ }
 {
-    let mut heads = [0u16; 1024];
-    let mut next = [0u16; 8192];
-    let mut sizes = [0u16; 4096];
+    let mut index = [0u16; 13312];
     let mut table = [0u16; 2048];
     let mut starts = [0u16; 4096];
     let mut asked = [0u16; 1024];
@@ -126,9 +118,7 @@ pub fn judge_cleared(
         places,
         rows.len(),
         answers.len(),
-        &mut heads,
-        &mut next,
-        &mut sizes,
+        &mut index,
         &mut table,
         &mut starts,
         &mut asked,
@@ -140,9 +130,7 @@ pub fn judge_cleared(
                 sheet,
                 records,
                 places,
-                &mut heads,
-                &mut next,
-                &mut sizes,
+                &mut index,
                 &table,
                 &starts,
                 &asked,

@@ -40,9 +40,7 @@ pub fn judge_named(
     sheet: &[u8],
     records: &mut [u8],
     places: &mut [u32],
-    heads: &mut [u16],
-    next: &mut [u16],
-    sizes: &mut [u16],
+    index: &mut [u16],
     table: &[u16],
     starts: &[u16],
     asked: &[u16],
@@ -50,7 +48,7 @@ pub fn judge_named(
     rows: &mut [u32],
     answers: &mut [u32],
 )
-    requires { ⌜ AcceptedAsks (now sheet) (now records) (now places) (now heads) (now next) (now sizes) (now table) (now starts) (now asked) counts (now rows) (now answers) ⌝ }
+    requires { ⌜ AcceptedAsks (now sheet) (now records) (now places) (now index) (now table) (now starts) (now asked) counts (now rows) (now answers) ⌝ }
     ensures { λ _. ⌜ JudgeIs (now (sheet .entry)) (lengthsOf (now (records .entry)) (now (places .entry)) (now (rows .entry)) (now (answers .entry))) (now (records .exit)) (now (places .exit)) (now (rows .exit)) (now (answers .exit)) Accepted ⌝ }
 {
     let mut params = [0u16; 65536];
@@ -60,9 +58,7 @@ pub fn judge_named(
     let done = rows_all(
         records,
         places,
-        heads,
-        next,
-        sizes,
+        index,
         counts.count,
         counts.used,
         &mut params,
@@ -78,9 +74,7 @@ pub fn judge_named(
     answer_all(
         records,
         places,
-        heads,
-        next,
-        sizes,
+        index,
         done.count,
         done.used,
         &mut params,

@@ -11,147 +11,90 @@ use Rattle.apply.proofs.apply.Tie as tie
 
 answer-size-requires : tie.Need-answer-size-requires
 answer-size-requires c κs =
+    let s = c .before .before .before .before .before .before .before in
+    let a = s .args in
+    let b = a .records .now in
+    let p = a .places .now in
+    let ix = a .index .now in
+    let n = a .count in
+    let u = a .used in
+    let l = a .images .now in
+    let k = a .k in
+    apply-size b p ix n u k l (s .pre)
+
+returns : tie.Need-returns
+returns c =
     let s = c .before .before .before .before .before .before .before .before .before in
     let a = s .args in
     let b = a .records .now in
     let p = a .places .now in
-    let hs = a .heads .now in
-    let ns = a .next .now in
-    let zs = a .sizes .now in
+    let ix = a .index .now in
     let n = a .count in
     let u = a .used in
     let l = a .images .now in
     let k = a .k in
-    apply-size b p hs ns zs n u k l (s .pre)
-
-same-length : tie.Need-same-length
-same-length c = search needs
-
-same-length-2 : tie.Need-same-length-2
-same-length-2 c = search needs
-
-same-length-3 : tie.Need-same-length-3
-same-length-3 c = search needs
-
-returns : tie.Need-returns
-returns c =
-    let s = c .before .before .before .before .before .before .before .before .before .before .before in
-    let a = s .args in
-    let b = a .records .now in
-    let p = a .places .now in
-    let hs = a .heads .now in
-    let ns = a .next .now in
-    let zs = a .sizes .now in
-    let n = a .count in
-    let u = a .used in
-    let l = a .images .now in
-    let k = a .k in
-    (apply-over b p hs ns zs n u k l (s .pre) (c .before .answer-size .result) (c .before .answer-size .ensures) (c .if1 .taken), (refl, refl, refl, refl, refl))
+    (apply-over b p ix n u k l (s .pre) (c .before .answer-size .result) (c .before .answer-size .ensures) (c .if1 .taken), (refl, refl, refl))
 
 make-answer-requires : tie.Need-make-answer-requires
 make-answer-requires c κs =
-    let s = c .before .before .before .before .before .before .before .before .before .before .before .before .before .before .before .before in
+    let s = c .before .before .before .before .before .before .before .before .before .before .before .before in
     let a = s .args in
     let b = a .records .now in
     let p = a .places .now in
-    let hs = a .heads .now in
-    let ns = a .next .now in
-    let zs = a .sizes .now in
+    let ix = a .index .now in
     let n = a .count in
     let u = a .used in
     let l = a .images .now in
     let k = a .k in
-    apply-asks b p hs ns zs n u k l (s .pre) (c .before .before .before .before .before .before .answer-size .result) (c .before .before .before .before .before .before .answer-size .ensures) (c .before .before .before .before .before .if1 .left)
-
-enum-known-made : tie.Need-enum-known-made
-enum-known-made c = search needs
-
-enum-known-made-2 : tie.Need-enum-known-made-2
-enum-known-made-2 c = search needs
+    apply-asks b p ix n u k l (s .pre) (c .before .before .before .before .answer-size .result) (c .before .before .before .before .answer-size .ensures) (c .before .before .before .if1 .left)
 
 undo-requires : tie.Need-undo-requires
 undo-requires c κs =
-    let s = c .before .before .before .before .before .before .before .before .before .before .before .before .before .before .before .before .before .before .before .before .before .before .before .before .before .before .before .before .before .before .before .before .before .before .before in
+    let s = c .before .before .before .before .before .before .before .before .before .before .before .before .before .before .before .before .before .before .before .before .before .before .before .before .before in
     let a = s .args in
     let b = a .records .now in
     let p = a .places .now in
-    let hs = a .heads .now in
-    let ns = a .next .now in
-    let zs = a .sizes .now in
+    let ix = a .index .now in
     let n = a .count in
     let u = a .used in
     let l = a .images .now in
     let k = a .k in
-    let d = c .before .before .before .before .before .before .before .before .before .before .before .before .before .before .before .before .before .before .make-answer .last in
-    let v = c .before .before .before .before .before .before .made2 .given .0 in
-    let w = subst (ReplacedIs b p n u (answerAt b p n l k) (d .0) (d .1 .0) (d .1 .1 .0) (d .1 .1 .1 .0) (d .1 .1 .1 .1 .0)) (c .before .before .before .before .before .before .made2 .given .1) (c .before .before .before .before .before .before .before .before .before .before .before .before .before .before .before .before .before .before .make-answer .ensures) in
-    undo-asks b p hs ns zs n u (s .pre .ready .good) (intern (answerAt b p n l k) (storeOf b p n)) (d .0) (d .1 .0) (d .1 .1 .0) (d .1 .1 .1 .0) (d .1 .1 .1 .1 .0) (v .0) (v .1 .0) w
-
-same-length-4 : tie.Need-same-length-4
-same-length-4 c = search needs
-
-same-length-5 : tie.Need-same-length-5
-same-length-5 c = search needs
-
-same-length-6 : tie.Need-same-length-6
-same-length-6 c = search needs
-
-same-length-7 : tie.Need-same-length-7
-same-length-7 c = search needs
-
-same-length-8 : tie.Need-same-length-8
-same-length-8 c = search needs
+    let d = c .before .before .before .before .before .before .before .before .before .before .before .before .make-answer .last in
+    let v = c .before .before .before .before .made2 .given .0 in
+    let w = subst (ReplacedIs b p n u (answerAt b p n l k) (d .0) (d .1 .0) (d .1 .1 .0)) (c .before .before .before .before .made2 .given .1) (c .before .before .before .before .before .before .before .before .before .before .before .before .make-answer .ensures) in
+    undo-asks b p ix n u (s .pre .ready .good) (intern (answerAt b p n l k) (storeOf b p n)) (d .0) (d .1 .0) (d .1 .1 .0) (v .0) (v .1 .0) w
 
 returns-2 : tie.Need-returns-2
 returns-2 c =
-    let s = c .before .before .before .before .before .before .before .before .before .before .before .before .before .before .before .before .before .before .before .before .before .before .before .before .before .before .before .before .before .before in
+    let s = c .before .before .before .before .before .before .before .before .before .before .before .before .before .before .before .before .before .before .before .before .before .before in
     let a = s .args in
     let b = a .records .now in
     let p = a .places .now in
-    let hs = a .heads .now in
-    let ns = a .next .now in
-    let zs = a .sizes .now in
+    let ix = a .index .now in
     let n = a .count in
     let u = a .used in
     let l = a .images .now in
     let k = a .k in
-    let d = c .before .before .before .before .before .before .before .before .before .before .before .before .before .make-answer .last in
-    let w = subst (ReplacedIs b p n u (answerAt b p n l k) (d .0) (d .1 .0) (d .1 .1 .0) (d .1 .1 .1 .0) (d .1 .1 .1 .1 .0)) (c .before .made .given .1) (c .before .before .before .before .before .before .before .before .before .before .before .before .before .make-answer .ensures) in
-    record { small = apply-small b p hs ns zs n u k l (s .pre) (c .before .before .before .before .before .before .before .before .before .before .before .before .before .before .before .before .before .before .before .before .answer-size .result) (c .before .before .before .before .before .before .before .before .before .before .before .before .before .before .before .before .before .before .before .before .answer-size .ensures) (c .before .before .before .before .before .before .before .before .before .before .before .before .before .before .before .before .before .before .before .if1 .left); made = w }
-
-same-length-9 : tie.Need-same-length-9
-same-length-9 c = search needs
-
-same-length-10 : tie.Need-same-length-10
-same-length-10 c = search needs
-
-same-length-11 : tie.Need-same-length-11
-same-length-11 c = search needs
-
-same-length-12 : tie.Need-same-length-12
-same-length-12 c = search needs
-
-same-length-13 : tie.Need-same-length-13
-same-length-13 c = search needs
+    let d = c .before .before .before .before .before .before .before .before .before .make-answer .last in
+    let w = subst (ReplacedIs b p n u (answerAt b p n l k) (d .0) (d .1 .0) (d .1 .1 .0)) (c .before .made .given .1) (c .before .before .before .before .before .before .before .before .before .make-answer .ensures) in
+    record { small = apply-small b p ix n u k l (s .pre) (c .before .before .before .before .before .before .before .before .before .before .before .before .before .before .answer-size .result) (c .before .before .before .before .before .before .before .before .before .before .before .before .before .before .answer-size .ensures) (c .before .before .before .before .before .before .before .before .before .before .before .before .before .if1 .left); made = w }
 
 returns-3 : tie.Need-returns-3
 returns-3 c =
-    let s = c .before .before .before .before .before .before .before .before .before .before .before .before .before .before .before .before .before .before .before .before .before .before .before .before .before .before .before .before .before .before .before .before .before .before .before .before .before .before .before .before .before .before .before .before .before .before in
+    let s = c .before .before .before .before .before .before .before .before .before .before .before .before .before .before .before .before .before .before .before .before .before .before .before .before .before .before .before .before .before .before .before .before in
     let a = s .args in
     let b = a .records .now in
     let p = a .places .now in
-    let hs = a .heads .now in
-    let ns = a .next .now in
-    let zs = a .sizes .now in
+    let ix = a .index .now in
     let n = a .count in
     let u = a .used in
     let l = a .images .now in
     let k = a .k in
-    let d = c .before .before .before .before .before .before .before .before .before .before .before .before .before .before .before .before .before .before .before .before .before .before .before .before .before .before .before .before .before .make-answer .last in
-    let v = c .before .before .before .before .before .before .before .before .before .before .before .before .before .before .before .before .before .made2 .given .0 in
-    let w = subst (ReplacedIs b p n u (answerAt b p n l k) (d .0) (d .1 .0) (d .1 .1 .0) (d .1 .1 .1 .0) (d .1 .1 .1 .1 .0)) (c .before .before .before .before .before .before .before .before .before .before .before .before .before .before .before .before .before .made2 .given .1) (c .before .before .before .before .before .before .before .before .before .before .before .before .before .before .before .before .before .before .before .before .before .before .before .before .before .before .before .before .before .make-answer .ensures) in
-    let e = c .before .before .before .before .before .before .before .before .before .before .undo .last in
-    (apply-small b p hs ns zs n u k l (s .pre) (c .before .before .before .before .before .before .before .before .before .before .before .before .before .before .before .before .before .before .before .before .before .before .before .before .before .before .before .before .before .before .before .before .before .before .before .before .answer-size .result) (c .before .before .before .before .before .before .before .before .before .before .before .before .before .before .before .before .before .before .before .before .before .before .before .before .before .before .before .before .before .before .before .before .before .before .before .before .answer-size .ensures) (c .before .before .before .before .before .before .before .before .before .before .before .before .before .before .before .before .before .before .before .before .before .before .before .before .before .before .before .before .before .before .before .before .before .before .before .if1 .left), w .full, undo-back b p hs ns zs n u (s .pre .ready .good) (intern (answerAt b p n l k) (storeOf b p n)) (d .0) (d .1 .0) (d .1 .1 .0) (d .1 .1 .1 .0) (d .1 .1 .1 .1 .0) (v .0) (v .1 .0) w (e .0) (e .1 .0) (e .1 .1 .0) (e .1 .1 .1 .0) (e .1 .1 .1 .1 .0) (c .before .before .before .before .before .before .before .before .before .before .undo .result) (c .before .before .before .before .before .before .before .before .before .before .undo .ensures))
+    let d = c .before .before .before .before .before .before .before .before .before .before .before .before .before .before .before .before .before .before .before .make-answer .last in
+    let v = c .before .before .before .before .before .before .before .before .before .before .before .made2 .given .0 in
+    let w = subst (ReplacedIs b p n u (answerAt b p n l k) (d .0) (d .1 .0) (d .1 .1 .0)) (c .before .before .before .before .before .before .before .before .before .before .before .made2 .given .1) (c .before .before .before .before .before .before .before .before .before .before .before .before .before .before .before .before .before .before .before .make-answer .ensures) in
+    let e = c .before .before .before .before .before .before .undo .last in
+    (apply-small b p ix n u k l (s .pre) (c .before .before .before .before .before .before .before .before .before .before .before .before .before .before .before .before .before .before .before .before .before .before .before .before .answer-size .result) (c .before .before .before .before .before .before .before .before .before .before .before .before .before .before .before .before .before .before .before .before .before .before .before .before .answer-size .ensures) (c .before .before .before .before .before .before .before .before .before .before .before .before .before .before .before .before .before .before .before .before .before .before .before .if1 .left), w .full, undo-back b p ix n u (s .pre .ready .good) (intern (answerAt b p n l k) (storeOf b p n)) (d .0) (d .1 .0) (d .1 .1 .0) (v .0) (v .1 .0) w (e .0) (e .1 .0) (e .1 .1 .0) (c .before .before .before .before .before .before .undo .result) (c .before .before .before .before .before .before .undo .ensures))
 
 pub apply-spec : {M : Type 1} → statement M
-apply-spec = tie.close (tie.spec answer-size-requires same-length same-length-2 same-length-3 returns make-answer-requires enum-known-made enum-known-made-2 undo-requires same-length-4 same-length-5 same-length-6 same-length-7 same-length-8 returns-2 same-length-9 same-length-10 same-length-11 same-length-12 same-length-13 returns-3)
+apply-spec = tie.close (tie.spec answer-size-requires (λ c. search needs) (λ c. search needs) (λ c. search needs) returns make-answer-requires (λ c. search needs) (λ c. search needs) undo-requires (λ c. search needs) (λ c. search needs) (λ c. search needs) returns-2 (λ c. search needs) (λ c. search needs) (λ c. search needs) returns-3)

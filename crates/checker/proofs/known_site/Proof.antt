@@ -26,7 +26,7 @@ returns c =
     let tbl = q .table .now in
     let a = q .args .now in
     let r = q .term in
-    λ hs ns zs g. judged-as (let-is b p n tbl r a (s .pre) (c .before .if1 .taken)) (c .letting .ensures hs ns zs g)
+    λ ix g. judged-as (let-is b p n tbl r a (s .pre) (c .before .if1 .taken)) (c .letting .ensures ix g)
 
 mul-k : tie.Need-mul-k
 mul-k c =
@@ -67,7 +67,7 @@ returns-2 c =
     let tbl = q .table .now in
     let a = q .args .now in
     let r = q .term in
-    λ hs ns zs g. judged-as (var-is b p n tbl r a (s .pre) (c .before .before .if2 .taken)) (c .variable .ensures hs ns zs g)
+    λ ix g. judged-as (var-is b p n tbl r a (s .pre) (c .before .before .if2 .taken)) (c .variable .ensures ix g)
 
 mul-k-2 : tie.Need-mul-k-2
 mul-k-2 c =
@@ -108,10 +108,7 @@ returns-3 c =
     let tbl = q .table .now in
     let a = q .args .now in
     let r = q .term in
-    λ hs ns zs g. judged-as (as-is b p n tbl r a (s .pre) (c .before .before .if3 .taken)) (c .qualified .ensures hs ns zs g)
-
-refuse-requires : tie.Need-refuse-requires
-refuse-requires c κs = search needs
+    λ ix g. judged-as (as-is b p n tbl r a (s .pre) (c .before .before .if3 .taken)) (c .qualified .ensures ix g)
 
 returns-4 : tie.Need-returns-4
 returns-4 c =
@@ -124,7 +121,7 @@ returns-4 c =
     let tbl = q .table .now in
     let a = q .args .now in
     let r = q .term in
-    λ hs ns zs g. judged-as (known-none (r .kind) (r .number) (ownOver (storeOf b p n) tbl r) (argsOf b p n a (r .count)) (c .before .before .before .if1 .left) (c .before .before .if2 .left) (c .before .if3 .left)) (answered-as (c .refuse .ensures) (answer-refused b p hs ns zs n u g NoRank))
+    λ ix g. judged-as (known-none (r .kind) (r .number) (ownOver (storeOf b p n) tbl r) (argsOf b p n a (r .count)) (c .before .before .before .if1 .left) (c .before .before .if2 .left) (c .before .if3 .left)) (answered-as (c .refuse .ensures) (answer-refused b p ix n u g NoRank))
 
 pub known-site-spec : {M : Type 1} → statement M
-known-site-spec = tie.close (tie.spec letting-requires returns mul-k shared-slice-read-k cast-k variable-requires returns-2 mul-k-2 shared-slice-read-k-2 cast-k-2 qualified-requires returns-3 refuse-requires returns-4)
+known-site-spec = tie.close (tie.spec letting-requires returns mul-k shared-slice-read-k cast-k variable-requires returns-2 mul-k-2 shared-slice-read-k-2 cast-k-2 qualified-requires returns-3 (λ c κs. search needs) returns-4)

@@ -14,52 +14,34 @@ use Rattle.inference.proofs.composed.Tie as tie
 
 operated-requires : tie.Need-operated-requires
 operated-requires c κs =
-    let s = c .before .before .before .before .before .before .before .before .before .before .before .before .before .before .before .before in
+    let s = c .before .before .before .before .before .before .before .before .before .before .before .before in
     record { args = s .pre .args; terms = s .pre .terms }
 
 bound-requires : tie.Need-bound-requires
 bound-requires c κs =
-    let s = c .before .before .before .before .before .before .before .before .before .before .before .before .before .before .before .before in
-    record { args = s .pre .args; body = s .pre .body (c .before .before .before .before .before .before .match .keys2); pairs = s .pre .pairs }
+    let s = c .before .before .before .before .before .before .before .before .before .before .before .before in
+    record { args = s .pre .args; body = s .pre .body (c .before .before .before .before .match .keys2); pairs = s .pre .pairs }
 
 last-of-requires : tie.Need-last-of-requires
 last-of-requires c κs =
-    let s = c .before .before .before .before .before .before .before .before .before .before .before in
+    let s = c .before .before .before .before .before .before .before .before .before in
     record { few = s .pre .args .few; within = omega (arith, s .pre .args .few, s .pre .args .room) }
 
 last-of-requires-2 : tie.Need-last-of-requires-2
 last-of-requires-2 c κs =
-    let s = c .before .before .before .before .before .before .before .before .before .before .before in
+    let s = c .before .before .before .before .before .before .before .before .before in
     record { few = s .pre .args .few; within = omega (arith, s .pre .args .few, s .pre .args .room) }
 
 indexed-requires : tie.Need-indexed-requires
 indexed-requires c κs =
-    let s = c .before .before .before .before .before .before .before .before .before .before .before .before .before .before .before .before in
+    let s = c .before .before .before .before .before .before .before .before .before .before .before .before in
     let a = s .args in
     let r = a .term in
-    record { args = s .pre .args; terms = s .pre .indices (eleven-left (r .kind) (s .pre .low) (s .pre .high) (c .before .before .before .before .before .before .match .rest .0 .0 .0 .1) (c .before .before .before .before .before .before .match .rest .0 .0 .1) (c .before .before .before .before .before .before .match .rest .0 .1) (c .before .before .before .before .before .before .match .rest .1)) }
-
-same-length : tie.Need-same-length
-same-length c = search needs
-
-same-length-2 : tie.Need-same-length-2
-same-length-2 c = search needs
-
-same-length-3 : tie.Need-same-length-3
-same-length-3 c = search needs
-
-same-length-4 : tie.Need-same-length-4
-same-length-4 c = search needs
-
-same-length-5 : tie.Need-same-length-5
-same-length-5 c = search needs
-
-same-length-6 : tie.Need-same-length-6
-same-length-6 c = search needs
+    record { args = s .pre .args; terms = s .pre .indices (eleven-left (r .kind) (s .pre .low) (s .pre .high) (c .before .before .before .before .match .rest .0 .0 .0 .1) (c .before .before .before .before .match .rest .0 .0 .1) (c .before .before .before .before .match .rest .0 .1) (c .before .before .before .before .match .rest .1)) }
 
 returns : tie.Need-returns
 returns c =
-    let s = c .before .before .before .before .before .before .before .before .before .before .before .before .before .before .before .before .before .before .before .before .before .before .before .before .before .before .before .before .before in
+    let s = c .before .before .before .before .before .before .before .before .before .before .before .before .before .before .before .before .before .before .before .before .before in
     let a = s .args in
     let b = a .records .now in
     let p = a .places .now in
@@ -69,30 +51,12 @@ returns c =
     let t = a .table .now in
     let k = a .starts .now in
     let r = a .term in
-    let d = c .before .before .before .before .before .before .before .before .before .before .before .before .operated .last in
-    judged-as {b = b} {p = p} {n = n} {b′ = d .0} {p′ = d .1 .0} {hs′ = d .1 .1 .0} {ns′ = d .1 .1 .1 .0} {zs′ = d .1 .1 .1 .1 .0} (site-op (siteOver (storeOf b p n) z t k x r) (c .before .before .before .before .before .before .before .before .before .before .before .before .before .before .before .before .before .before .before .match .keys1)) (c .before .before .before .before .before .before .before .before .before .before .before .before .operated .ensures)
-
-same-length-7 : tie.Need-same-length-7
-same-length-7 c = search needs
-
-same-length-8 : tie.Need-same-length-8
-same-length-8 c = search needs
-
-same-length-9 : tie.Need-same-length-9
-same-length-9 c = search needs
-
-same-length-10 : tie.Need-same-length-10
-same-length-10 c = search needs
-
-same-length-11 : tie.Need-same-length-11
-same-length-11 c = search needs
-
-same-length-12 : tie.Need-same-length-12
-same-length-12 c = search needs
+    let d = c .before .before .before .before .before .before .before .before .operated .last in
+    judged-as {b = b} {p = p} {n = n} {b′ = d .0} {p′ = d .1 .0} {ix′ = d .1 .1 .0} (site-op (siteOver (storeOf b p n) z t k x r) (c .before .before .before .before .before .before .before .before .before .before .before .before .before .match .keys1)) (c .before .before .before .before .before .before .before .before .operated .ensures)
 
 returns-2 : tie.Need-returns-2
 returns-2 c =
-    let s = c .before .before .before .before .before .before .before .before .before .before .before .before .before .before .before .before .before .before .before .before .before .before .before .before .before .before .before .before .before in
+    let s = c .before .before .before .before .before .before .before .before .before .before .before .before .before .before .before .before .before .before .before .before .before in
     let a = s .args in
     let b = a .records .now in
     let p = a .places .now in
@@ -102,20 +66,15 @@ returns-2 c =
     let t = a .table .now in
     let k = a .starts .now in
     let r = a .term in
-    judged-as {b = b} {p = p} {n = n} (site-binder (siteOver (storeOf b p n) z t k x r) (c .before .before .before .before .before .before .before .before .before .before .before .before .before .before .before .before .before .before .before .match .keys2)) (c .before .before .before .before .before .before .before .before .before .before .before .before .bound .ensures)
-
-same-length-13 : tie.Need-same-length-13
-same-length-13 c = search needs
+    judged-as {b = b} {p = p} {n = n} (site-binder (siteOver (storeOf b p n) z t k x r) (c .before .before .before .before .before .before .before .before .before .before .before .before .before .match .keys2)) (c .before .before .before .before .before .before .before .before .bound .ensures)
 
 returns-3 : tie.Need-returns-3
 returns-3 c =
-    let s = c .before .before .before .before .before .before .before .before .before .before .before .before in
+    let s = c .before .before .before .before .before .before .before .before .before .before in
     let a = s .args in
     let b = a .records .now in
     let p = a .places .now in
-    let hs = a .heads .now in
-    let ns = a .next .now in
-    let zs = a .sizes .now in
+    let ix = a .index .now in
     let n = a .count in
     let x = a .args .now in
     let m = a .term .count in
@@ -123,20 +82,15 @@ returns-3 c =
     let t = a .table .now in
     let k = a .starts .now in
     let r = a .term in
-    judged-as (site-let (siteOver (storeOf b p n) z t k x r) (c .before .before .match .keys3) ∙ last-all (sortsIn b p n x 3 m)) (c .last-of .ensures b p hs ns zs (s .pre .args))
-
-same-length-14 : tie.Need-same-length-14
-same-length-14 c = search needs
+    judged-as (site-let (siteOver (storeOf b p n) z t k x r) (c .before .before .match .keys3) ∙ last-all (sortsIn b p n x 3 m)) (c .last-of .ensures b p ix (s .pre .args))
 
 returns-4 : tie.Need-returns-4
 returns-4 c =
-    let s = c .before .before .before .before .before .before .before .before .before .before .before .before in
+    let s = c .before .before .before .before .before .before .before .before .before .before in
     let a = s .args in
     let b = a .records .now in
     let p = a .places .now in
-    let hs = a .heads .now in
-    let ns = a .next .now in
-    let zs = a .sizes .now in
+    let ix = a .index .now in
     let n = a .count in
     let x = a .args .now in
     let m = a .term .count in
@@ -144,29 +98,11 @@ returns-4 c =
     let t = a .table .now in
     let k = a .starts .now in
     let r = a .term in
-    judged-as (site-match (siteOver (storeOf b p n) z t k x r) (c .before .before .match .keys4) ∙ last-body (sortsIn b p n x 3 m)) (c .last-of2 .ensures b p hs ns zs (s .pre .args))
-
-same-length-15 : tie.Need-same-length-15
-same-length-15 c = search needs
-
-same-length-16 : tie.Need-same-length-16
-same-length-16 c = search needs
-
-same-length-17 : tie.Need-same-length-17
-same-length-17 c = search needs
-
-same-length-18 : tie.Need-same-length-18
-same-length-18 c = search needs
-
-same-length-19 : tie.Need-same-length-19
-same-length-19 c = search needs
-
-same-length-20 : tie.Need-same-length-20
-same-length-20 c = search needs
+    judged-as (site-match (siteOver (storeOf b p n) z t k x r) (c .before .before .match .keys4) ∙ last-body (sortsIn b p n x 3 m)) (c .last-of2 .ensures b p ix (s .pre .args))
 
 returns-5 : tie.Need-returns-5
 returns-5 c =
-    let s = c .before .before .before .before .before .before .before .before .before .before .before .before .before .before .before .before .before .before .before .before .before .before .before .before .before .before .before in
+    let s = c .before .before .before .before .before .before .before .before .before .before .before .before .before .before .before .before .before .before .before in
     let a = s .args in
     let b = a .records .now in
     let p = a .places .now in
@@ -176,8 +112,8 @@ returns-5 c =
     let t = a .table .now in
     let k = a .starts .now in
     let r = a .term in
-    let d = c .before .before .before .before .before .before .before .before .before .before .indexed .last in
-    judged-as {b = b} {p = p} {n = n} {b′ = d .0} {p′ = d .1 .0} {hs′ = d .1 .1 .0} {ns′ = d .1 .1 .1 .0} {zs′ = d .1 .1 .1 .1 .0} (site-indexed (storeOf b p n) z t k x r (eleven-left (r .kind) (s .pre .low) (s .pre .high) (c .before .before .before .before .before .before .before .before .before .before .before .before .before .before .before .before .before .match .rest .0 .0 .0 .1) (c .before .before .before .before .before .before .before .before .before .before .before .before .before .before .before .before .before .match .rest .0 .0 .1) (c .before .before .before .before .before .before .before .before .before .before .before .before .before .before .before .before .before .match .rest .0 .1) (c .before .before .before .before .before .before .before .before .before .before .before .before .before .before .before .before .before .match .rest .1))) (c .before .before .before .before .before .before .before .before .before .before .indexed .ensures)
+    let d = c .before .before .before .before .before .before .indexed .last in
+    judged-as {b = b} {p = p} {n = n} {b′ = d .0} {p′ = d .1 .0} {ix′ = d .1 .1 .0} (site-indexed (storeOf b p n) z t k x r (eleven-left (r .kind) (s .pre .low) (s .pre .high) (c .before .before .before .before .before .before .before .before .before .before .before .match .rest .0 .0 .0 .1) (c .before .before .before .before .before .before .before .before .before .before .before .match .rest .0 .0 .1) (c .before .before .before .before .before .before .before .before .before .before .before .match .rest .0 .1) (c .before .before .before .before .before .before .before .before .before .before .before .match .rest .1))) (c .before .before .before .before .before .before .indexed .ensures)
 
 pub composed-spec : {M : Type 1} → statement M
-composed-spec = tie.close (tie.spec operated-requires bound-requires last-of-requires last-of-requires-2 indexed-requires same-length same-length-2 same-length-3 same-length-4 same-length-5 same-length-6 returns same-length-7 same-length-8 same-length-9 same-length-10 same-length-11 same-length-12 returns-2 same-length-13 returns-3 same-length-14 returns-4 same-length-15 same-length-16 same-length-17 same-length-18 same-length-19 same-length-20 returns-5)
+composed-spec = tie.close (tie.spec operated-requires bound-requires last-of-requires last-of-requires-2 indexed-requires (λ c. search needs) (λ c. search needs) (λ c. search needs) (λ c. search needs) returns (λ c. search needs) (λ c. search needs) (λ c. search needs) (λ c. search needs) returns-2 (λ c. search needs) returns-3 (λ c. search needs) returns-4 (λ c. search needs) (λ c. search needs) (λ c. search needs) (λ c. search needs) returns-5)

@@ -15,74 +15,56 @@ use Rattle.inference.proofs.plain.Tie as tie
 leaf-requires : tie.Need-leaf-requires
 unfolding mapOf maps
 leaf-requires c κs =
-    let s = c .before .before .before .before .before .before .before .before .before .before .before .before in
+    let s = c .before .before .before .before .before .before .before .before in
     record { good = s .pre .good; map = refl }
 
 leaf-requires-2 : tie.Need-leaf-requires-2
 unfolding mapOf maps
 leaf-requires-2 c κs =
-    let s = c .before .before .before .before .before .before .before .before .before .before .before .before in
+    let s = c .before .before .before .before .before .before .before .before in
     record { good = s .pre .good; map = refl }
 
 leaf-requires-3 : tie.Need-leaf-requires-3
 unfolding mapOf maps
 leaf-requires-3 c κs =
-    let s = c .before .before .before .before .before .before .before .before .before .before .before .before in
+    let s = c .before .before .before .before .before .before .before .before in
     record { good = s .pre .good; map = refl }
 
 leaf-requires-4 : tie.Need-leaf-requires-4
 unfolding mapOf maps
 leaf-requires-4 c κs =
-    let s = c .before .before .before .before .before .before .before .before .before .before .before .before in
+    let s = c .before .before .before .before .before .before .before .before in
     record { good = s .pre .good; map = refl }
 
 bit-vector-requires : tie.Need-bit-vector-requires
 bit-vector-requires c κs =
-    let s = c .before .before .before .before .before .before .before .before .before .before .before .before in
+    let s = c .before .before .before .before .before .before .before .before in
     s .pre .good
 
 mul-k : tie.Need-mul-k
 mul-k c =
-    let s = c .before .before .before .before .before .before .before in
+    let s = c .before .before .before .before .before in
     let a = s .args in
     let r = a .term in
-    omega (arith, plain-own (from-five (r .kind) (c .match .rest .0 .0 .0 .0 .1) (c .match .rest .0 .0 .0 .1) (c .match .rest .0 .0 .1) (c .match .rest .0 .1) (c .match .rest .1)) (s .pre .plain) .inside, s .good .1 .1 .1 .1 .1 .1 .1 .0)
+    omega (arith, plain-own (from-five (r .kind) (c .match .rest .0 .0 .0 .0 .1) (c .match .rest .0 .0 .0 .1) (c .match .rest .0 .0 .1) (c .match .rest .0 .1) (c .match .rest .1)) (s .pre .plain) .inside, s .good .1 .1 .1 .1 .1 .0)
 
 shared-slice-read-k : tie.Need-shared-slice-read-k
 shared-slice-read-k c =
-    let s = c .before .before .before .before .before .before .before .before in
+    let s = c .before .before .before .before .before .before in
     let a = s .args in
     let r = a .term in
     plain-own (from-five (r .kind) (c .before .match .rest .0 .0 .0 .0 .1) (c .before .match .rest .0 .0 .0 .1) (c .before .match .rest .0 .0 .1) (c .before .match .rest .0 .1) (c .before .match .rest .1)) (s .pre .plain) .inside
 
 cast-k : tie.Need-cast-k
 cast-k c =
-    let s = c .before .before .before .before .before .before .before .before in
+    let s = c .before .before .before .before .before .before in
     let a = s .args in
     let r = a .term in
     omega (arith, c .shared-slice-known2 .given (r .sort))
 
-found-requires : tie.Need-found-requires
-found-requires c κs = search needs
-
-same-length : tie.Need-same-length
-same-length c = search needs
-
-same-length-2 : tie.Need-same-length-2
-same-length-2 c = search needs
-
-same-length-3 : tie.Need-same-length-3
-same-length-3 c = search needs
-
-same-length-4 : tie.Need-same-length-4
-same-length-4 c = search needs
-
-same-length-5 : tie.Need-same-length-5
-same-length-5 c = search needs
-
 returns : tie.Need-returns
 returns c =
-    let s = c .before .before .before .before .before .before .before .before .before .before .before .before .before .before .before .before .before .before .before .before .before .before .before in
+    let s = c .before .before .before .before .before .before .before .before .before .before .before .before .before .before .before in
     let a = s .args in
     let b = a .records .now in
     let p = a .places .now in
@@ -90,26 +72,11 @@ returns c =
     let t = a .table .now in
     let r = a .term in
     λ y v w.
-    judged-as (site-integer (siteOver (storeOf b p n) y t v w r) (c .before .before .before .before .before .before .before .before .before .before .before .before .before .before .before .before .match .keys1)) (c .before .before .before .before .before .before .before .before .before .before .leaf .ensures)
-
-same-length-6 : tie.Need-same-length-6
-same-length-6 c = search needs
-
-same-length-7 : tie.Need-same-length-7
-same-length-7 c = search needs
-
-same-length-8 : tie.Need-same-length-8
-same-length-8 c = search needs
-
-same-length-9 : tie.Need-same-length-9
-same-length-9 c = search needs
-
-same-length-10 : tie.Need-same-length-10
-same-length-10 c = search needs
+    judged-as (site-integer (siteOver (storeOf b p n) y t v w r) (c .before .before .before .before .before .before .before .before .before .before .match .keys1)) (c .before .before .before .before .before .before .leaf .ensures)
 
 returns-2 : tie.Need-returns-2
 returns-2 c =
-    let s = c .before .before .before .before .before .before .before .before .before .before .before .before .before .before .before .before .before .before .before .before .before .before .before in
+    let s = c .before .before .before .before .before .before .before .before .before .before .before .before .before .before .before in
     let a = s .args in
     let b = a .records .now in
     let p = a .places .now in
@@ -117,26 +84,11 @@ returns-2 c =
     let t = a .table .now in
     let r = a .term in
     λ y v w.
-    judged-as (site-real (siteOver (storeOf b p n) y t v w r) (c .before .before .before .before .before .before .before .before .before .before .before .before .before .before .before .before .match .keys2)) (c .before .before .before .before .before .before .before .before .before .before .leaf2 .ensures)
-
-same-length-11 : tie.Need-same-length-11
-same-length-11 c = search needs
-
-same-length-12 : tie.Need-same-length-12
-same-length-12 c = search needs
-
-same-length-13 : tie.Need-same-length-13
-same-length-13 c = search needs
-
-same-length-14 : tie.Need-same-length-14
-same-length-14 c = search needs
-
-same-length-15 : tie.Need-same-length-15
-same-length-15 c = search needs
+    judged-as (site-real (siteOver (storeOf b p n) y t v w r) (c .before .before .before .before .before .before .before .before .before .before .match .keys2)) (c .before .before .before .before .before .before .leaf2 .ensures)
 
 returns-3 : tie.Need-returns-3
 returns-3 c =
-    let s = c .before .before .before .before .before .before .before .before .before .before .before .before .before .before .before .before .before .before .before .before .before .before .before in
+    let s = c .before .before .before .before .before .before .before .before .before .before .before .before .before .before .before in
     let a = s .args in
     let b = a .records .now in
     let p = a .places .now in
@@ -144,26 +96,11 @@ returns-3 c =
     let t = a .table .now in
     let r = a .term in
     λ y v w.
-    judged-as (site-string (siteOver (storeOf b p n) y t v w r) (c .before .before .before .before .before .before .before .before .before .before .before .before .before .before .before .before .match .keys3)) (c .before .before .before .before .before .before .before .before .before .before .leaf3 .ensures)
-
-same-length-16 : tie.Need-same-length-16
-same-length-16 c = search needs
-
-same-length-17 : tie.Need-same-length-17
-same-length-17 c = search needs
-
-same-length-18 : tie.Need-same-length-18
-same-length-18 c = search needs
-
-same-length-19 : tie.Need-same-length-19
-same-length-19 c = search needs
-
-same-length-20 : tie.Need-same-length-20
-same-length-20 c = search needs
+    judged-as (site-string (siteOver (storeOf b p n) y t v w r) (c .before .before .before .before .before .before .before .before .before .before .match .keys3)) (c .before .before .before .before .before .before .leaf3 .ensures)
 
 returns-4 : tie.Need-returns-4
 returns-4 c =
-    let s = c .before .before .before .before .before .before .before .before .before .before .before .before .before .before .before .before .before .before .before .before .before .before .before in
+    let s = c .before .before .before .before .before .before .before .before .before .before .before .before .before .before .before in
     let a = s .args in
     let b = a .records .now in
     let p = a .places .now in
@@ -171,26 +108,11 @@ returns-4 c =
     let t = a .table .now in
     let r = a .term in
     λ y v w.
-    judged-as (site-reglan (siteOver (storeOf b p n) y t v w r) (c .before .before .before .before .before .before .before .before .before .before .before .before .before .before .before .before .match .keys4)) (c .before .before .before .before .before .before .before .before .before .before .leaf4 .ensures)
-
-same-length-21 : tie.Need-same-length-21
-same-length-21 c = search needs
-
-same-length-22 : tie.Need-same-length-22
-same-length-22 c = search needs
-
-same-length-23 : tie.Need-same-length-23
-same-length-23 c = search needs
-
-same-length-24 : tie.Need-same-length-24
-same-length-24 c = search needs
-
-same-length-25 : tie.Need-same-length-25
-same-length-25 c = search needs
+    judged-as (site-reglan (siteOver (storeOf b p n) y t v w r) (c .before .before .before .before .before .before .before .before .before .before .match .keys4)) (c .before .before .before .before .before .before .leaf4 .ensures)
 
 returns-5 : tie.Need-returns-5
 returns-5 c =
-    let s = c .before .before .before .before .before .before .before .before .before .before .before .before .before .before .before .before .before .before .before .before .before .before .before in
+    let s = c .before .before .before .before .before .before .before .before .before .before .before .before .before .before .before in
     let a = s .args in
     let b = a .records .now in
     let p = a .places .now in
@@ -198,23 +120,21 @@ returns-5 c =
     let t = a .table .now in
     let r = a .term in
     λ y v w.
-    judged-as (site-vector (siteOver (storeOf b p n) y t v w r) (c .before .before .before .before .before .before .before .before .before .before .before .before .before .before .before .before .match .keys5)) (c .before .before .before .before .before .before .before .before .before .before .bit-vector .ensures)
+    judged-as (site-vector (siteOver (storeOf b p n) y t v w r) (c .before .before .before .before .before .before .before .before .before .before .match .keys5)) (c .before .before .before .before .before .before .bit-vector .ensures)
 
 returns-6 : tie.Need-returns-6
 returns-6 c =
-    let s = c .before .before .before .before .before .before .before .before .before in
+    let s = c .before .before .before .before .before .before .before in
     let a = s .args in
     let b = a .records .now in
     let p = a .places .now in
-    let hs = a .heads .now in
-    let ns = a .next .now in
-    let zs = a .sizes .now in
+    let ix = a .index .now in
     let n = a .count in
     let u = a .used in
     let t = a .table .now in
     let r = a .term in
     λ y v w.
-    judged-as (plain-is (from-five (r .kind) (c .before .before .match .rest .0 .0 .0 .0 .1) (c .before .before .match .rest .0 .0 .0 .1) (c .before .before .match .rest .0 .0 .1) (c .before .before .match .rest .0 .1) (c .before .before .match .rest .1)) (s .pre .plain) y v w) (answered-as (c .found .ensures) (answer-known b p hs ns zs n u (s .pre .good) (getD t (r .sort) 0) (plain-own (from-five (r .kind) (c .before .before .match .rest .0 .0 .0 .0 .1) (c .before .before .match .rest .0 .0 .0 .1) (c .before .before .match .rest .0 .0 .1) (c .before .before .match .rest .0 .1) (c .before .before .match .rest .1)) (s .pre .plain) .known)))
+    judged-as (plain-is (from-five (r .kind) (c .before .before .match .rest .0 .0 .0 .0 .1) (c .before .before .match .rest .0 .0 .0 .1) (c .before .before .match .rest .0 .0 .1) (c .before .before .match .rest .0 .1) (c .before .before .match .rest .1)) (s .pre .plain) y v w) (answered-as (c .found .ensures) (answer-known b p ix n u (s .pre .good) (getD t (r .sort) 0) (plain-own (from-five (r .kind) (c .before .before .match .rest .0 .0 .0 .0 .1) (c .before .before .match .rest .0 .0 .0 .1) (c .before .before .match .rest .0 .0 .1) (c .before .before .match .rest .0 .1) (c .before .before .match .rest .1)) (s .pre .plain) .known)))
 
 pub plain-spec : {M : Type 1} → statement M
-plain-spec = tie.close (tie.spec leaf-requires leaf-requires-2 leaf-requires-3 leaf-requires-4 bit-vector-requires mul-k shared-slice-read-k cast-k found-requires same-length same-length-2 same-length-3 same-length-4 same-length-5 returns same-length-6 same-length-7 same-length-8 same-length-9 same-length-10 returns-2 same-length-11 same-length-12 same-length-13 same-length-14 same-length-15 returns-3 same-length-16 same-length-17 same-length-18 same-length-19 same-length-20 returns-4 same-length-21 same-length-22 same-length-23 same-length-24 same-length-25 returns-5 returns-6)
+plain-spec = tie.close (tie.spec leaf-requires leaf-requires-2 leaf-requires-3 leaf-requires-4 bit-vector-requires mul-k shared-slice-read-k cast-k (λ c κs. search needs) (λ c. search needs) (λ c. search needs) (λ c. search needs) returns (λ c. search needs) (λ c. search needs) (λ c. search needs) returns-2 (λ c. search needs) (λ c. search needs) (λ c. search needs) returns-3 (λ c. search needs) (λ c. search needs) (λ c. search needs) returns-4 (λ c. search needs) (λ c. search needs) (λ c. search needs) returns-5 returns-6)

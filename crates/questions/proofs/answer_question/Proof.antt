@@ -12,18 +12,9 @@ use Rattle.questions.proofs.answer_question.Tie as tie
 
 sort-at-requires : tie.Need-sort-at-requires
 sort-at-requires c κs =
-    let s = c .before .before .before .before .before .before .before .before .before .before .before in
+    let s = c .before .before .before .before .before .before .before .before .before in
     let a = s .args in
-    let b = a .records .now in
-    let p = a .places .now in
-    let hs = a .heads .now in
-    let ns = a .next .now in
-    let zs = a .sizes .now in
     let n = a .count in
-    let u = a .used in
-    let m = a .params .now in
-    let g = a .images .now in
-    let o = a .bound .now in
     let d = a .sheet .now in
     let t = a .table .now in
     let q = a .question in
@@ -31,37 +22,14 @@ sort-at-requires c κs =
 
 add-sort-at : tie.Need-add-sort-at
 add-sort-at c =
-    let s = c .before .before .before .before .before .before .before .before .before .before .before .before in
-    let a = s .args in
-    let b = a .records .now in
-    let p = a .places .now in
-    let hs = a .heads .now in
-    let ns = a .next .now in
-    let zs = a .sizes .now in
-    let n = a .count in
-    let u = a .used in
-    let m = a .params .now in
-    let g = a .images .now in
-    let o = a .bound .now in
-    let d = a .sheet .now in
-    let t = a .table .now in
-    let q = a .question in
+    let s = c .before .before .before .before .before .before .before .before .before .before in
     omega (arith, s .pre .asked .within, s .pre .two (c .before .if1 .taken), s .pre .asked .short)
 
 sort-at-requires-2 : tie.Need-sort-at-requires-2
 sort-at-requires-2 c κs =
-    let s = c .before .before .before .before .before .before .before .before .before .before .before .before in
+    let s = c .before .before .before .before .before .before .before .before .before .before in
     let a = s .args in
-    let b = a .records .now in
-    let p = a .places .now in
-    let hs = a .heads .now in
-    let ns = a .next .now in
-    let zs = a .sizes .now in
     let n = a .count in
-    let u = a .used in
-    let m = a .params .now in
-    let g = a .images .now in
-    let o = a .bound .now in
     let d = a .sheet .now in
     let t = a .table .now in
     let q = a .question in
@@ -69,13 +37,11 @@ sort-at-requires-2 c κs =
 
 answer-compatible-requires : tie.Need-answer-compatible-requires
 answer-compatible-requires c κs =
-    let s = c .before .before .before .before .before .before .before .before .before .before .before .before .before .before .before in
+    let s = c .before .before .before .before .before .before .before .before .before .before .before .before .before in
     let a = s .args in
     let b = a .records .now in
     let p = a .places .now in
-    let hs = a .heads .now in
-    let ns = a .next .now in
-    let zs = a .sizes .now in
+    let ix = a .index .now in
     let n = a .count in
     let u = a .used in
     let m = a .params .now in
@@ -84,25 +50,34 @@ answer-compatible-requires c κs =
     let d = a .sheet .now in
     let t = a .table .now in
     let q = a .question in
-    pair-part b p hs ns zs n u m g o d t q (s .pre) (c .before .before .before .sort-at .result) (c .before .before .sort-at2 .result)
+    pair-part b p ix n u m g o d t q (s .pre) (c .before .before .before .sort-at .result) (c .before .before .sort-at2 .result)
     (sort-known n d t q (s .pre .asked) 0 (q .list) (omega (arith, s .pre .two (c .before .before .before .before .if1 .taken))) (omega arith) (c .before .before .before .sort-at .result) (c .before .before .before .sort-at .ensures))
     (sort-known n d t q (s .pre .asked) 1 (q .list + 2) (omega (arith, s .pre .two (c .before .before .before .before .if1 .taken))) (omega arith) (c .before .before .sort-at2 .result) (c .before .before .sort-at2 .ensures))
 
-same-length : tie.Need-same-length
-same-length c = search needs
-
-same-length-2 : tie.Need-same-length-2
-same-length-2 c = search needs
-
 returns : tie.Need-returns
 returns c =
+    let s = c .before .before .before .before .before .before .before .before .before .before .before .before .before .before in
+    let a = s .args in
+    let b = a .records .now in
+    let p = a .places .now in
+    let ix = a .index .now in
+    let n = a .count in
+    let u = a .used in
+    let m = a .params .now in
+    let g = a .images .now in
+    let o = a .bound .now in
+    let d = a .sheet .now in
+    let t = a .table .now in
+    let q = a .question in
+    answered-0 b p ix n u m g o d t q (s .pre) (c .before .before .before .before .before .if1 .taken) (c .before .before .before .before .sort-at .result) (c .before .before .before .sort-at2 .result) (c .answer-compatible .result) (c .before .before .before .before .sort-at .ensures) (c .before .before .before .sort-at2 .ensures) (c .answer-compatible .ensures)
+
+answer-match-requires : tie.Need-answer-match-requires
+answer-match-requires c κs =
     let s = c .before .before .before .before .before .before .before .before .before .before .before .before .before .before .before .before in
     let a = s .args in
     let b = a .records .now in
     let p = a .places .now in
-    let hs = a .heads .now in
-    let ns = a .next .now in
-    let zs = a .sizes .now in
+    let ix = a .index .now in
     let n = a .count in
     let u = a .used in
     let m = a .params .now in
@@ -111,80 +86,25 @@ returns c =
     let d = a .sheet .now in
     let t = a .table .now in
     let q = a .question in
-    answered-0 b p hs ns zs n u m g o d t q (s .pre) (c .before .before .before .before .before .if1 .taken) (c .before .before .before .before .sort-at .result) (c .before .before .before .sort-at2 .result) (c .answer-compatible .result) (c .before .before .before .before .sort-at .ensures) (c .before .before .before .sort-at2 .ensures) (c .answer-compatible .ensures)
-
-answer-match-requires : tie.Need-answer-match-requires
-answer-match-requires c κs =
-    let s = c .before .before .before .before .before .before .before .before .before .before .before .before .before .before .before .before .before .before .before .before in
-    let a = s .args in
-    let b = a .records .now in
-    let p = a .places .now in
-    let hs = a .heads .now in
-    let ns = a .next .now in
-    let zs = a .sizes .now in
-    let n = a .count in
-    let u = a .used in
-    let m = a .params .now in
-    let g = a .images .now in
-    let o = a .bound .now in
-    let d = a .sheet .now in
-    let t = a .table .now in
-    let q = a .question in
-    match-part b p hs ns zs n u m g o d t q (s .pre) (c .before .before .before .before .before .before .before .before .if2 .taken)
+    match-part b p ix n u m g o d t q (s .pre) (c .before .before .before .before .before .before .if2 .taken)
 
 word-of-requires : tie.Need-word-of-requires
 word-of-requires c κs =
-    let s = c .before .before .before .before .before .before .before .before .before .before .before .before .before .before .before .before .before .before .before .before .before .before .before .before .before .before .before .before .before .before .before .before .before .before .before .before .before in
+    let s = c .before .before .before .before .before .before .before .before .before .before .before .before .before .before .before .before .before .before .before .before .before .before .before .before .before .before .before .before .before in
     let a = s .args in
     let b = a .records .now in
     let p = a .places .now in
-    let hs = a .heads .now in
-    let ns = a .next .now in
-    let zs = a .sizes .now in
     let n = a .count in
-    let u = a .used in
-    let m = a .params .now in
-    let g = a .images .now in
-    let o = a .bound .now in
-    let d = a .sheet .now in
-    let t = a .table .now in
-    let q = a .question in
-    let r = c .before .before .before .before .before .before .before .before .before .before .before .before .before .before .before .before .answer-match .last in
-    record { small = answer-code b p n _ (r .0) (r .1 .0) (r .1 .1 .0) (r .1 .1 .1 .0) (r .1 .1 .1 .1 .0) (c .before .before .before .before .before .before .before .before .before .before .before .before .before .before .before .before .answer-match .result) (c .before .before .before .before .before .before .before .before .before .before .before .before .before .before .before .before .answer-match .ensures .answer) }
-
-same-length-3 : tie.Need-same-length-3
-same-length-3 c = search needs
-
-same-length-4 : tie.Need-same-length-4
-same-length-4 c = search needs
-
-same-length-5 : tie.Need-same-length-5
-same-length-5 c = search needs
-
-same-length-6 : tie.Need-same-length-6
-same-length-6 c = search needs
-
-same-length-7 : tie.Need-same-length-7
-same-length-7 c = search needs
-
-same-length-8 : tie.Need-same-length-8
-same-length-8 c = search needs
-
-same-length-9 : tie.Need-same-length-9
-same-length-9 c = search needs
-
-same-length-10 : tie.Need-same-length-10
-same-length-10 c = search needs
+    let r = c .before .before .before .before .before .before .before .before .before .before .before .before .answer-match .last in
+    record { small = answer-code b p n _ (r .0) (r .1 .0) (r .1 .1 .0) (c .before .before .before .before .before .before .before .before .before .before .before .before .answer-match .result) (c .before .before .before .before .before .before .before .before .before .before .before .before .answer-match .ensures .answer) }
 
 returns-2 : tie.Need-returns-2
 returns-2 c =
-    let s = c .before .before .before .before .before .before .before .before .before .before .before .before .before .before .before .before .before .before .before .before .before .before .before .before .before .before .before .before .before .before .before .before .before .before .before .before .before .before in
+    let s = c .before .before .before .before .before .before .before .before .before .before .before .before .before .before .before .before .before .before .before .before .before .before .before .before .before .before .before .before .before .before in
     let a = s .args in
     let b = a .records .now in
     let p = a .places .now in
-    let hs = a .heads .now in
-    let ns = a .next .now in
-    let zs = a .sizes .now in
+    let ix = a .index .now in
     let n = a .count in
     let u = a .used in
     let m = a .params .now in
@@ -193,18 +113,16 @@ returns-2 c =
     let d = a .sheet .now in
     let t = a .table .now in
     let q = a .question in
-    let r = c .before .before .before .before .before .before .before .before .before .before .before .before .before .before .before .before .before .answer-match .last in
-    answered-1 b p hs ns zs n u m g o d t q (s .pre) (r .0) (r .1 .0) (r .1 .1 .0) (r .1 .1 .1 .0) (r .1 .1 .1 .1 .0) (r .1 .1 .1 .1 .1 .1 .1 .0) (r .1 .1 .1 .1 .1 .1 .1 .1 .0) (r .1 .1 .1 .1 .1 .1 .1 .1 .1 .0) (c .before .before .before .before .before .before .before .before .before .before .before .before .before .before .before .before .before .answer-match .result) (c .word-of .result) (c .word-of .ensures) (c .before .before .before .before .before .before .before .before .before .before .before .before .before .before .before .before .before .before .before .before .before .before .before .before .before .before .if2 .taken) (c .before .before .before .before .before .before .before .before .before .before .before .before .before .before .before .before .before .answer-match .ensures)
+    let r = c .before .before .before .before .before .before .before .before .before .before .before .before .before .answer-match .last in
+    answered-1 b p ix n u m g o d t q (s .pre) (r .0) (r .1 .0) (r .1 .1 .0) (r .1 .1 .1 .1 .1 .0) (r .1 .1 .1 .1 .1 .1 .0) (r .1 .1 .1 .1 .1 .1 .1 .0) (c .before .before .before .before .before .before .before .before .before .before .before .before .before .answer-match .result) (c .word-of .result) (c .word-of .ensures) (c .before .before .before .before .before .before .before .before .before .before .before .before .before .before .before .before .before .before .before .before .if2 .taken) (c .before .before .before .before .before .before .before .before .before .before .before .before .before .answer-match .ensures)
 
 answer-apply-requires : tie.Need-answer-apply-requires
 answer-apply-requires c κs =
-    let s = c .before .before .before .before .before .before .before .before .before .before .before .before .before .before .before .before .before .before in
+    let s = c .before .before .before .before .before .before .before .before .before .before .before .before .before .before in
     let a = s .args in
     let b = a .records .now in
     let p = a .places .now in
-    let hs = a .heads .now in
-    let ns = a .next .now in
-    let zs = a .sizes .now in
+    let ix = a .index .now in
     let n = a .count in
     let u = a .used in
     let m = a .params .now in
@@ -213,55 +131,25 @@ answer-apply-requires c κs =
     let d = a .sheet .now in
     let t = a .table .now in
     let q = a .question in
-    apply-part b p hs ns zs n u m g o d t q (s .pre) (c .before .before .before .before .before .before .before .if1 .left) (c .before .before .before .before .before .before .if2 .left)
+    apply-part b p ix n u m g o d t q (s .pre) (c .before .before .before .before .before .if1 .left) (c .before .before .before .before .if2 .left)
 
 word-of-requires-2 : tie.Need-word-of-requires-2
 word-of-requires-2 c κs =
-    let s = c .before .before .before .before .before .before .before .before .before .before .before .before .before .before .before .before .before .before .before .before .before .before .before .before .before .before .before .before .before .before .before in
+    let s = c .before .before .before .before .before .before .before .before .before .before .before .before .before .before .before .before .before .before .before .before .before .before .before in
     let a = s .args in
     let b = a .records .now in
     let p = a .places .now in
-    let hs = a .heads .now in
-    let ns = a .next .now in
-    let zs = a .sizes .now in
     let n = a .count in
-    let u = a .used in
-    let m = a .params .now in
-    let g = a .images .now in
-    let o = a .bound .now in
-    let d = a .sheet .now in
-    let t = a .table .now in
-    let q = a .question in
-    let r = c .before .before .before .before .before .before .before .before .before .before .before .before .answer-apply .last in
-    record { small = answer-code b p n _ (r .0) (r .1 .0) (r .1 .1 .0) (r .1 .1 .1 .0) (r .1 .1 .1 .1 .0) (c .before .before .before .before .before .before .before .before .before .before .before .before .answer-apply .result) (c .before .before .before .before .before .before .before .before .before .before .before .before .answer-apply .ensures .answer) }
-
-same-length-11 : tie.Need-same-length-11
-same-length-11 c = search needs
-
-same-length-12 : tie.Need-same-length-12
-same-length-12 c = search needs
-
-same-length-13 : tie.Need-same-length-13
-same-length-13 c = search needs
-
-same-length-14 : tie.Need-same-length-14
-same-length-14 c = search needs
-
-same-length-15 : tie.Need-same-length-15
-same-length-15 c = search needs
-
-same-length-16 : tie.Need-same-length-16
-same-length-16 c = search needs
+    let r = c .before .before .before .before .before .before .before .before .answer-apply .last in
+    record { small = answer-code b p n _ (r .0) (r .1 .0) (r .1 .1 .0) (c .before .before .before .before .before .before .before .before .answer-apply .result) (c .before .before .before .before .before .before .before .before .answer-apply .ensures .answer) }
 
 returns-3 : tie.Need-returns-3
 returns-3 c =
-    let s = c .before .before .before .before .before .before .before .before .before .before .before .before .before .before .before .before .before .before .before .before .before .before .before .before .before .before .before .before .before .before .before .before in
+    let s = c .before .before .before .before .before .before .before .before .before .before .before .before .before .before .before .before .before .before .before .before .before .before .before .before in
     let a = s .args in
     let b = a .records .now in
     let p = a .places .now in
-    let hs = a .heads .now in
-    let ns = a .next .now in
-    let zs = a .sizes .now in
+    let ix = a .index .now in
     let n = a .count in
     let u = a .used in
     let m = a .params .now in
@@ -270,8 +158,8 @@ returns-3 c =
     let d = a .sheet .now in
     let t = a .table .now in
     let q = a .question in
-    let r = c .before .before .before .before .before .before .before .before .before .before .before .before .before .answer-apply .last in
-    answered-2 b p hs ns zs n u m g o d t q (s .pre) (r .0) (r .1 .0) (r .1 .1 .0) (r .1 .1 .1 .0) (r .1 .1 .1 .1 .0) m (r .1 .1 .1 .1 .1 .1 .1 .0) o (c .before .before .before .before .before .before .before .before .before .before .before .before .before .answer-apply .result) (c .word-of2 .result) (c .word-of2 .ensures) (c .before .before .before .before .before .before .before .before .before .before .before .before .before .before .before .before .before .before .before .before .before .if1 .left) (c .before .before .before .before .before .before .before .before .before .before .before .before .before .before .before .before .before .before .before .before .if2 .left) (c .before .before .before .before .before .before .before .before .before .before .before .before .before .answer-apply .ensures) refl refl
+    let r = c .before .before .before .before .before .before .before .before .before .answer-apply .last in
+    answered-2 b p ix n u m g o d t q (s .pre) (r .0) (r .1 .0) (r .1 .1 .0) m (r .1 .1 .1 .1 .1 .0) o (c .before .before .before .before .before .before .before .before .before .answer-apply .result) (c .word-of2 .result) (c .word-of2 .ensures) (c .before .before .before .before .before .before .before .before .before .before .before .before .before .before .before .if1 .left) (c .before .before .before .before .before .before .before .before .before .before .before .before .before .before .if2 .left) (c .before .before .before .before .before .before .before .before .before .answer-apply .ensures) refl refl
 
 pub answer-question-spec : {M : Type 1} → statement M
-answer-question-spec = tie.close (tie.spec sort-at-requires add-sort-at sort-at-requires-2 answer-compatible-requires same-length same-length-2 returns answer-match-requires word-of-requires same-length-3 same-length-4 same-length-5 same-length-6 same-length-7 same-length-8 same-length-9 same-length-10 returns-2 answer-apply-requires word-of-requires-2 same-length-11 same-length-12 same-length-13 same-length-14 same-length-15 same-length-16 returns-3)
+answer-question-spec = tie.close (tie.spec sort-at-requires add-sort-at sort-at-requires-2 answer-compatible-requires (λ c. search needs) (λ c. search needs) returns answer-match-requires word-of-requires (λ c. search needs) (λ c. search needs) (λ c. search needs) (λ c. search needs) (λ c. search needs) (λ c. search needs) returns-2 answer-apply-requires word-of-requires-2 (λ c. search needs) (λ c. search needs) (λ c. search needs) (λ c. search needs) returns-3)

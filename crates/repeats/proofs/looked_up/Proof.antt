@@ -22,23 +22,14 @@ returns-3 c = look-apart
 parts-judged-requires : tie.Need-parts-judged-requires
 parts-judged-requires c κs = key-gathered (c .before .before .before .before .before .before .before .before .before .before .before .pre)
 
-same-length : tie.Need-same-length
-same-length c = search needs
-
 returns-4 : tie.Need-returns-4
 returns-4 c = look-apart
 
 seek-requires : tie.Need-seek-requires
 seek-requires c κs = key-asks (c .before .before .before .before .before .before .before .before .before .before .before .before .before .before .before .before .before .pre) (omega (arith, c .before .before .before .before .before .before .before .before .before .if2 .left)) _ (c .before .before .before .before .before .parts-judged .kept .1 .1 .1 .1 .0)
 
-same-length-2 : tie.Need-same-length-2
-same-length-2 c = search needs
-
-same-length-3 : tie.Need-same-length-3
-same-length-3 c = search needs
-
 returns-5 : tie.Need-returns-5
 returns-5 c = look-is (c .before .before .before .before .before .before .before .before .before .before .before .before .before .if1 .left) (not-false (c .before .before .before .before .before .before .before .before .parts-judged .result) (c .before .before .before .before .before .if4 .left)) (c .before .before .before .before .before .before .before .before .parts-judged .ensures) (c .before .before .seek .ensures)
 
 pub looked-up-spec : {M : Type 1} → statement M
-looked-up-spec = tie.close (tie.spec returns returns-2 head-is-par-requires returns-3 parts-judged-requires same-length returns-4 seek-requires same-length-2 same-length-3 returns-5)
+looked-up-spec = tie.close (tie.spec returns returns-2 head-is-par-requires returns-3 parts-judged-requires (λ c. search needs) returns-4 seek-requires (λ c. search needs) (λ c. search needs) returns-5)

@@ -5,9 +5,6 @@ use Rattle.repeats.proofs.RowLaws.{again-sort, again-refused}
 use Rattle.repeats.proofs.row_again.Statement.{statement}
 use Rattle.repeats.proofs.row_again.Tie as tie
 
-found-requires : tie.Need-found-requires
-found-requires c κs = search needs
-
 returns : tie.Need-returns
 returns c =
     let a = c .before .before .args in
@@ -16,9 +13,6 @@ returns c =
 cause-of-requires : tie.Need-cause-of-requires
 cause-of-requires c κs = let s = c .before in (s .pre .low (c .if1 .left), s .pre .high (c .if1 .left))
 
-refuse-requires : tie.Need-refuse-requires
-refuse-requires c κs = search needs
-
 returns-2 : tie.Need-returns-2
 returns-2 c =
     let s = c .before .before .before in
@@ -26,4 +20,4 @@ returns-2 c =
     again-refused (a .row) (a .count) (a .used) (c .before .cause-of .result) (c .refuse .result) (s .pre) (c .before .before .if1 .left) (c .before .cause-of .ensures) (c .refuse .ensures)
 
 pub row-again-spec : {M : Type 1} → statement M
-row-again-spec = tie.close (tie.spec found-requires returns cause-of-requires refuse-requires returns-2)
+row-again-spec = tie.close (tie.spec (λ c κs. search needs) returns cause-of-requires (λ c κs. search needs) returns-2)

@@ -33,33 +33,33 @@ use Rattle.store.proofs.entries.entry.Reads as entry-reads
 use Rattle.replacing.proofs.+apply_parts+apply_sort.{statement}
 use Rattle.replacing.proofs.+apply_parts+apply_sort.Tie.{close}
 
-abbrev μ-apply-parts : Measures 8 apply-parts-kinds.ps ℕ
-μ-apply-parts κs a = 2 * sizes (sortsOf (storeOf (a .0 .now) (a .1 .0 .now) (a .1 .1 .1 .1 .1 .1 .1 .0)) (numbersOf (held (a .1 .1 .1 .1 .1 .1 .0 .now) (a .1 .1 .1 .1 .1 .1 .1 .1 .1 .0)))) + 1
+abbrev μ-apply-parts : Measures 6 apply-parts-kinds.ps ℕ
+μ-apply-parts κs a = 2 * sizes (sortsOf (storeOf (a .0 .now) (a .1 .0 .now) (a .1 .1 .1 .1 .1 .0)) (numbersOf (held (a .1 .1 .1 .1 .0 .now) (a .1 .1 .1 .1 .1 .1 .1 .0)))) + 1
 
-abbrev μ-apply-sort : Measures 7 apply-sort-kinds.ps ℕ
-μ-apply-sort κs a = 2 * size (sortAt (a .0 .now) (a .1 .0 .now) (a .1 .1 .1 .1 .1 .1 .0) (a .1 .1 .1 .1 .1 .1 .1 .1 .0))
+abbrev μ-apply-sort : Measures 5 apply-sort-kinds.ps ℕ
+μ-apply-sort κs a = 2 * size (sortAt (a .0 .now) (a .1 .0 .now) (a .1 .1 .1 .1 .0) (a .1 .1 .1 .1 .1 .1 .0))
 
-abbrev apply-parts-at : ℕ → In 8 apply-parts-kinds.ps
+abbrev apply-parts-at : ℕ → In 6 apply-parts-kinds.ps
 apply-parts-at t =
-    and 8 apply-parts-kinds.ps (is 8 apply-parts-kinds.ps μ-apply-parts t) apply-parts.Pre
+    and 6 apply-parts-kinds.ps (is 6 apply-parts-kinds.ps μ-apply-parts t) apply-parts.Pre
 
-abbrev apply-parts-below : ℕ → In 8 apply-parts-kinds.ps
+abbrev apply-parts-below : ℕ → In 6 apply-parts-kinds.ps
 apply-parts-below t =
-    and 8 apply-parts-kinds.ps (falls 8 apply-parts-kinds.ps _<_ μ-apply-parts t) apply-parts.Pre
+    and 6 apply-parts-kinds.ps (falls 6 apply-parts-kinds.ps _<_ μ-apply-parts t) apply-parts.Pre
 
-abbrev apply-sort-at : ℕ → In 7 apply-sort-kinds.ps
+abbrev apply-sort-at : ℕ → In 5 apply-sort-kinds.ps
 apply-sort-at t =
-    and 7 apply-sort-kinds.ps (is 7 apply-sort-kinds.ps μ-apply-sort t) apply-sort.Pre
+    and 5 apply-sort-kinds.ps (is 5 apply-sort-kinds.ps μ-apply-sort t) apply-sort.Pre
 
-abbrev apply-sort-below : ℕ → In 7 apply-sort-kinds.ps
+abbrev apply-sort-below : ℕ → In 5 apply-sort-kinds.ps
 apply-sort-below t =
-    and 7 apply-sort-kinds.ps (falls 7 apply-sort-kinds.ps _<_ μ-apply-sort t) apply-sort.Pre
+    and 5 apply-sort-kinds.ps (falls 5 apply-sort-kinds.ps _<_ μ-apply-sort t) apply-sort.Pre
 
 abbrev apply-parts-Inv-loop : apply-parts-lts.InvT-loop
-apply-parts-Inv-loop records₀ places₀ heads₀ next₀ sizes₀ known₀ parts₀ count used many images n₀ u₀ j₀ records places heads next sizes known parts n u j = KnownInv records₀ places₀ count used (held parts₀ many) images known₀ records places heads next sizes known parts n u j
+apply-parts-Inv-loop records₀ places₀ index₀ known₀ parts₀ count used many images n₀ u₀ j₀ records places index known parts n u j = KnownInv records₀ places₀ count used (held parts₀ many) images known₀ records places index known parts n u j
 
 abbrev apply-parts-μ-loop : apply-parts-lts.MeasureT-loop
-apply-parts-μ-loop records₀ places₀ heads₀ next₀ sizes₀ known₀ parts₀ count used many images n₀ u₀ j₀ records places heads next sizes known parts n u j = many - j
+apply-parts-μ-loop records₀ places₀ index₀ known₀ parts₀ count used many images n₀ u₀ j₀ records places index known parts n u j = many - j
 
 abbrev apply-parts-env : ℕ → apply-parts-lts.Claims
 apply-parts-env t = (apply-sort-below t, apply-sort.Post)
@@ -69,33 +69,33 @@ apply-sort-env t = (recall-reads.Asked, recall-reads.Learnt, entry-reads.Asked, 
 
 apply-parts-loop-holds : (t : ℕ) → apply-parts-lts.Need-loop-holds (apply-parts-env t) (apply-parts-at t) apply-parts.Post apply-parts-Inv-loop apply-parts-μ-loop
 apply-parts-loop-holds t c =
-    let s = c .before .before .before .before .before .before .before .before in
+    let s = c .before .before .before .before .before .before in
     let a = s .args in
     let b = a .records .now in let p = a .places .now in
-    let hs = a .heads .now in let ns = a .next .now in let zs = a .sizes .now in
+    let ix = a .index .now in
     let n = a .count in let u = a .used in
     let l = a .images .now in
-    record { inv = parts-start b p hs ns zs n u (held (a .parts .now) (a .many)) l (s .pre .1 .asks); known = s .pre .1 .known; lasts = refl }
+    record { inv = parts-start b p ix n u (held (a .parts .now) (a .many)) l (s .pre .1 .asks); known = s .pre .1 .known; lasts = refl }
 
 apply-parts-mul-k : (t : ℕ) → apply-parts-lts.Need-mul-k (apply-parts-env t) (apply-parts-at t) apply-parts.Post apply-parts-Inv-loop apply-parts-μ-loop
-apply-parts-mul-k t c = omega (arith, c .loop-test .taken, c .before .before .before .before .before .before .before .before .before .before .pre .1 .asks .has .few)
+apply-parts-mul-k t c = omega (arith, c .loop-test .taken, c .before .before .before .before .before .before .before .before .pre .1 .asks .has .few)
 
 apply-parts-slice-read-k : (t : ℕ) → apply-parts-lts.Need-slice-read-k (apply-parts-env t) (apply-parts-at t) apply-parts.Post apply-parts-Inv-loop apply-parts-μ-loop
-apply-parts-slice-read-k t c = omega (arith, c .before .loop-test .taken, c .before .before .before .before .before .before .before .before .before .before .before .pre .1 .asks .has .few, c .before .before .loop .inv .inv .long)
+apply-parts-slice-read-k t c = omega (arith, c .before .loop-test .taken, c .before .before .before .before .before .before .before .before .before .pre .1 .asks .has .few, c .before .before .loop .inv .inv .long)
 
 apply-parts-cast-k : (t : ℕ) → apply-parts-lts.Need-cast-k (apply-parts-env t) (apply-parts-at t) apply-parts.Post apply-parts-Inv-loop apply-parts-μ-loop
-apply-parts-cast-k t c = omega (arith, c .slice-known8 .given (c .before .before .loop .j))
+apply-parts-cast-k t c = omega (arith, c .slice-known6 .given (c .before .before .loop .j))
 
 apply-parts-apply-sort-requires : (t : ℕ) → apply-parts-lts.Need-apply-sort-requires (apply-parts-env t) (apply-parts-at t) apply-parts.Post apply-parts-Inv-loop apply-parts-μ-loop
 apply-parts-apply-sort-requires t c κs =
-    let s = c .before .before .before .before .before .before .before .before .before .before .before .before .before .before .before .before .before in
+    let s = c .before .before .before .before .before .before .before .before .before .before .before .before .before in
     let a = s .args in
     let b = a .records .now in let p = a .places .now in
-    let hs = a .heads .now in let ns = a .next .now in let zs = a .sizes .now in
+    let ix = a .index .now in
     let n = a .count in let u = a .used in
     let l = a .images .now in
-    let i = c .before .before .before .before .before .before .before .before .loop in
-    let q = parts-asks b p hs ns zs n u (held (a .parts .now) (a .many)) l (s .pre .1 .asks) (i .records) (i .places) (i .heads) (i .next) (i .sizes) (i .parts) (i .n) (i .u) (i .j) (i .inv .inv) (c .before .before .before .before .before .before .before .loop-test .taken) in
+    let i = c .before .before .before .before .before .before .loop in
+    let q = parts-asks b p ix n u (held (a .parts .now) (a .many)) l (s .pre .1 .asks) (i .records) (i .places) (i .index) (i .parts) (i .n) (i .u) (i .j) (i .inv .inv) (c .before .before .before .before .before .loop-test .taken) in
     (omega (arith, s .pre .0, q .0), record { asks = q .1; known = i .inv .known })
 
 apply-parts-enum-known-made : (t : ℕ) → apply-parts-lts.Need-enum-known-made (apply-parts-env t) (apply-parts-at t) apply-parts.Post apply-parts-Inv-loop apply-parts-μ-loop
@@ -103,194 +103,162 @@ apply-parts-enum-known-made t c = search needs
 
 apply-parts-cast-parts : (t : ℕ) → apply-parts-lts.Need-cast-parts (apply-parts-env t) (apply-parts-at t) apply-parts.Post apply-parts-Inv-loop apply-parts-μ-loop
 apply-parts-cast-parts t c =
-    let s = c .before .before .before .before .before .before .before .before .before .before .before .before .before .before .before .before .before .before .before .before .before .before .before .before .before .before .before .before .before .before .before .before .before in
+    let s = c .before .before .before .before .before .before .before .before .before .before .before .before .before .before .before .before .before .before .before .before .before .before .before .before .before in
     let a = s .args in
     let b = a .records .now in let p = a .places .now in
-    let hs = a .heads .now in let ns = a .next .now in let zs = a .sizes .now in
+    let ix = a .index .now in
     let n = a .count in let u = a .used in
     let l = a .images .now in
-    let i = c .before .before .before .before .before .before .before .before .before .before .before .before .before .before .before .before .before .before .before .before .before .before .before .before .loop in
-    let d = c .before .before .before .before .before .before .before .before .before .before .before .before .before .before .before .apply-sort .last in
+    let i = c .before .before .before .before .before .before .before .before .before .before .before .before .before .before .before .before .before .before .loop in
+    let d = c .before .before .before .before .before .before .before .before .before .before .before .apply-sort .last in
     let v = c .before .made .given .0 in
-    let w = subst (KnownIs (i .records) (i .places) (i .n) (i .u) (getD (i .parts) (i .j) 0) l (d .0) (d .1 .0) (d .1 .1 .0) (d .1 .1 .1 .0) (d .1 .1 .1 .1 .0) (d .1 .1 .1 .1 .1 .0)) (c .before .made .given .1) (c .before .before .before .before .before .before .before .before .before .before .before .before .before .before .before .apply-sort .ensures) in
-    omega (arith, parts-number b p hs ns zs n u (held (a .parts .now) (a .many)) l (s .pre .1 .asks) (i .records) (i .places) (i .heads) (i .next) (i .sizes) (i .parts) (i .n) (i .u) (i .j) (i .inv .inv) (c .before .before .before .before .before .before .before .before .before .before .before .before .before .before .before .before .before .before .before .before .before .before .before .loop-test .taken) (d .0) (d .1 .0) (d .1 .1 .0) (d .1 .1 .1 .0) (d .1 .1 .1 .1 .0) (v .0) (v .1 .0) (v .1 .1 .0) (w .made))
+    let w = subst (KnownIs (i .records) (i .places) (i .n) (i .u) (getD (i .parts) (i .j) 0) l (d .0) (d .1 .0) (d .1 .1 .0) (d .1 .1 .1 .0)) (c .before .made .given .1) (c .before .before .before .before .before .before .before .before .before .before .before .apply-sort .ensures) in
+    omega (arith, parts-number b p ix n u (held (a .parts .now) (a .many)) l (s .pre .1 .asks) (i .records) (i .places) (i .index) (i .parts) (i .n) (i .u) (i .j) (i .inv .inv) (c .before .before .before .before .before .before .before .before .before .before .before .before .before .before .before .before .before .loop-test .taken) (d .0) (d .1 .0) (d .1 .1 .0) (v .0) (v .1 .0) (v .1 .1 .0) (w .made))
 
 apply-parts-mul-parts : (t : ℕ) → apply-parts-lts.Need-mul-parts (apply-parts-env t) (apply-parts-at t) apply-parts.Post apply-parts-Inv-loop apply-parts-μ-loop
-apply-parts-mul-parts t c = omega (arith, c .before .before .before .before .before .before .before .before .before .before .before .before .before .before .before .before .before .before .before .before .before .before .before .loop-test .taken, c .before .before .before .before .before .before .before .before .before .before .before .before .before .before .before .before .before .before .before .before .before .before .before .before .before .before .before .before .before .before .before .before .before .pre .1 .asks .has .few)
+apply-parts-mul-parts t c = omega (arith, c .before .before .before .before .before .before .before .before .before .before .before .before .before .before .before .before .before .loop-test .taken, c .before .before .before .before .before .before .before .before .before .before .before .before .before .before .before .before .before .before .before .before .before .before .before .before .before .pre .1 .asks .has .few)
 
 apply-parts-slice-write-parts : (t : ℕ) → apply-parts-lts.Need-slice-write-parts (apply-parts-env t) (apply-parts-at t) apply-parts.Post apply-parts-Inv-loop apply-parts-μ-loop
-apply-parts-slice-write-parts t c = omega (arith, c .before .before .before .before .before .before .before .before .before .before .before .before .before .before .before .before .before .before .before .before .before .before .before .loop-test .taken, c .before .before .before .before .before .before .before .before .before .before .before .before .before .before .before .before .before .before .before .before .before .before .before .before .before .before .before .before .before .before .before .before .before .pre .1 .asks .has .few, c .before .before .before .before .before .before .before .before .before .before .before .before .before .before .before .before .before .before .before .before .before .before .before .before .loop .inv .inv .long)
+apply-parts-slice-write-parts t c = omega (arith, c .before .before .before .before .before .before .before .before .before .before .before .before .before .before .before .before .before .loop-test .taken, c .before .before .before .before .before .before .before .before .before .before .before .before .before .before .before .before .before .before .before .before .before .before .before .before .before .pre .1 .asks .has .few, c .before .before .before .before .before .before .before .before .before .before .before .before .before .before .before .before .before .before .loop .inv .inv .long)
 
 apply-parts-enum-known-made-2 : (t : ℕ) → apply-parts-lts.Need-enum-known-made-2 (apply-parts-env t) (apply-parts-at t) apply-parts.Post apply-parts-Inv-loop apply-parts-μ-loop
 apply-parts-enum-known-made-2 t c = search needs
 
 apply-parts-same-length : (t : ℕ) → apply-parts-lts.Need-same-length (apply-parts-env t) (apply-parts-at t) apply-parts.Post apply-parts-Inv-loop apply-parts-μ-loop
 apply-parts-same-length t c =
-    let s = c .before .before .before .before .before .before .before .before .before .before .before .before .before .before .before .before .before .before .before .before .before .before .before .before .before .before .before .before .before .before .before .before .before in
+    let s = c .before .before .before .before .before .before .before .before .before .before .before .before .before .before .before .before .before .before .before .before .before .before .before .before .before in
     let a = s .args in
     let l = a .images .now in
-    let i = c .before .before .before .before .before .before .before .before .before .before .before .before .before .before .before .before .before .before .before .before .before .before .before .before .loop in
-    let d = c .before .before .before .before .before .before .before .before .before .before .before .before .before .before .before .apply-sort .last in
-    let w = subst (KnownIs (i .records) (i .places) (i .n) (i .u) (getD (i .parts) (i .j) 0) l (d .0) (d .1 .0) (d .1 .1 .0) (d .1 .1 .1 .0) (d .1 .1 .1 .1 .0) (d .1 .1 .1 .1 .1 .0)) (c .before .made2 .given .1) (c .before .before .before .before .before .before .before .before .before .before .before .before .before .before .before .apply-sort .ensures) in
+    let i = c .before .before .before .before .before .before .before .before .before .before .before .before .before .before .before .before .before .before .loop in
+    let d = c .before .before .before .before .before .before .before .before .before .before .before .apply-sort .last in
+    let w = subst (KnownIs (i .records) (i .places) (i .n) (i .u) (getD (i .parts) (i .j) 0) l (d .0) (d .1 .0) (d .1 .1 .0) (d .1 .1 .1 .0)) (c .before .made2 .given .1) (c .before .before .before .before .before .before .before .before .before .before .before .apply-sort .ensures) in
     w .kept .long ∙ i .inv .inv .kept .long
 
 apply-parts-same-length-2 : (t : ℕ) → apply-parts-lts.Need-same-length-2 (apply-parts-env t) (apply-parts-at t) apply-parts.Post apply-parts-Inv-loop apply-parts-μ-loop
 apply-parts-same-length-2 t c =
-    let s = c .before .before .before .before .before .before .before .before .before .before .before .before .before .before .before .before .before .before .before .before .before .before .before .before .before .before .before .before .before .before .before .before .before in
+    let s = c .before .before .before .before .before .before .before .before .before .before .before .before .before .before .before .before .before .before .before .before .before .before .before .before .before in
     let a = s .args in
     let l = a .images .now in
-    let i = c .before .before .before .before .before .before .before .before .before .before .before .before .before .before .before .before .before .before .before .before .before .before .before .before .loop in
-    let d = c .before .before .before .before .before .before .before .before .before .before .before .before .before .before .before .apply-sort .last in
-    let w = subst (KnownIs (i .records) (i .places) (i .n) (i .u) (getD (i .parts) (i .j) 0) l (d .0) (d .1 .0) (d .1 .1 .0) (d .1 .1 .1 .0) (d .1 .1 .1 .1 .0) (d .1 .1 .1 .1 .1 .0)) (c .before .made2 .given .1) (c .before .before .before .before .before .before .before .before .before .before .before .before .before .before .before .apply-sort .ensures) in
+    let i = c .before .before .before .before .before .before .before .before .before .before .before .before .before .before .before .before .before .before .loop in
+    let d = c .before .before .before .before .before .before .before .before .before .before .before .apply-sort .last in
+    let w = subst (KnownIs (i .records) (i .places) (i .n) (i .u) (getD (i .parts) (i .j) 0) l (d .0) (d .1 .0) (d .1 .1 .0) (d .1 .1 .1 .0)) (c .before .made2 .given .1) (c .before .before .before .before .before .before .before .before .before .before .before .apply-sort .ensures) in
     w .kept .wide ∙ i .inv .inv .kept .wide
 
 apply-parts-same-length-3 : (t : ℕ) → apply-parts-lts.Need-same-length-3 (apply-parts-env t) (apply-parts-at t) apply-parts.Post apply-parts-Inv-loop apply-parts-μ-loop
 apply-parts-same-length-3 t c =
-    let s = c .before .before .before .before .before .before .before .before .before .before .before .before .before .before .before .before .before .before .before .before .before .before .before .before .before .before .before .before .before .before .before .before .before in
+    let s = c .before .before .before .before .before .before .before .before .before .before .before .before .before .before .before .before .before .before .before .before .before .before .before .before .before in
     let a = s .args in
     let l = a .images .now in
-    let i = c .before .before .before .before .before .before .before .before .before .before .before .before .before .before .before .before .before .before .before .before .before .before .before .before .loop in
-    let d = c .before .before .before .before .before .before .before .before .before .before .before .before .before .before .before .apply-sort .last in
-    let w = subst (KnownIs (i .records) (i .places) (i .n) (i .u) (getD (i .parts) (i .j) 0) l (d .0) (d .1 .0) (d .1 .1 .0) (d .1 .1 .1 .0) (d .1 .1 .1 .1 .0) (d .1 .1 .1 .1 .1 .0)) (c .before .made2 .given .1) (c .before .before .before .before .before .before .before .before .before .before .before .before .before .before .before .apply-sort .ensures) in
-    w .good .indexed .heads ∙ sym (s .pre .1 .asks .ready .good .indexed .heads)
+    let i = c .before .before .before .before .before .before .before .before .before .before .before .before .before .before .before .before .before .before .loop in
+    let d = c .before .before .before .before .before .before .before .before .before .before .before .apply-sort .last in
+    let w = subst (KnownIs (i .records) (i .places) (i .n) (i .u) (getD (i .parts) (i .j) 0) l (d .0) (d .1 .0) (d .1 .1 .0) (d .1 .1 .1 .0)) (c .before .made2 .given .1) (c .before .before .before .before .before .before .before .before .before .before .before .apply-sort .ensures) in
+    w .good .indexed .table ∙ sym (s .pre .1 .asks .ready .good .indexed .table)
 
 apply-parts-same-length-4 : (t : ℕ) → apply-parts-lts.Need-same-length-4 (apply-parts-env t) (apply-parts-at t) apply-parts.Post apply-parts-Inv-loop apply-parts-μ-loop
-apply-parts-same-length-4 t c =
-    let s = c .before .before .before .before .before .before .before .before .before .before .before .before .before .before .before .before .before .before .before .before .before .before .before .before .before .before .before .before .before .before .before .before .before in
-    let a = s .args in
-    let l = a .images .now in
-    let i = c .before .before .before .before .before .before .before .before .before .before .before .before .before .before .before .before .before .before .before .before .before .before .before .before .loop in
-    let d = c .before .before .before .before .before .before .before .before .before .before .before .before .before .before .before .apply-sort .last in
-    let w = subst (KnownIs (i .records) (i .places) (i .n) (i .u) (getD (i .parts) (i .j) 0) l (d .0) (d .1 .0) (d .1 .1 .0) (d .1 .1 .1 .0) (d .1 .1 .1 .1 .0) (d .1 .1 .1 .1 .1 .0)) (c .before .made2 .given .1) (c .before .before .before .before .before .before .before .before .before .before .before .before .before .before .before .apply-sort .ensures) in
-    w .good .indexed .next ∙ sym (s .pre .1 .asks .ready .good .indexed .next)
+apply-parts-same-length-4 t c = c .before .before .before .before .before .before .before .before .before .before .before .apply-sort .kept .1 .1 .1 .0 ∙ c .before .before .before .before .before .before .before .before .before .before .before .before .before .before .before .before .before .before .loop .inv .lasts
 
 apply-parts-same-length-5 : (t : ℕ) → apply-parts-lts.Need-same-length-5 (apply-parts-env t) (apply-parts-at t) apply-parts.Post apply-parts-Inv-loop apply-parts-μ-loop
-apply-parts-same-length-5 t c =
-    let s = c .before .before .before .before .before .before .before .before .before .before .before .before .before .before .before .before .before .before .before .before .before .before .before .before .before .before .before .before .before .before .before .before .before in
-    let a = s .args in
-    let l = a .images .now in
-    let i = c .before .before .before .before .before .before .before .before .before .before .before .before .before .before .before .before .before .before .before .before .before .before .before .before .loop in
-    let d = c .before .before .before .before .before .before .before .before .before .before .before .before .before .before .before .apply-sort .last in
-    let w = subst (KnownIs (i .records) (i .places) (i .n) (i .u) (getD (i .parts) (i .j) 0) l (d .0) (d .1 .0) (d .1 .1 .0) (d .1 .1 .1 .0) (d .1 .1 .1 .1 .0) (d .1 .1 .1 .1 .1 .0)) (c .before .made2 .given .1) (c .before .before .before .before .before .before .before .before .before .before .before .before .before .before .before .apply-sort .ensures) in
-    w .good .sized .table ∙ sym (s .pre .1 .asks .ready .good .sized .table)
-
-apply-parts-same-length-6 : (t : ℕ) → apply-parts-lts.Need-same-length-6 (apply-parts-env t) (apply-parts-at t) apply-parts.Post apply-parts-Inv-loop apply-parts-μ-loop
-apply-parts-same-length-6 t c = c .before .before .before .before .before .before .before .before .before .before .before .before .before .before .before .apply-sort .kept .1 .1 .1 .1 .1 .0 ∙ c .before .before .before .before .before .before .before .before .before .before .before .before .before .before .before .before .before .before .before .before .before .before .before .before .loop .inv .lasts
-
-apply-parts-same-length-7 : (t : ℕ) → apply-parts-lts.Need-same-length-7 (apply-parts-env t) (apply-parts-at t) apply-parts.Post apply-parts-Inv-loop apply-parts-μ-loop
-apply-parts-same-length-7 t c = c .before .before .before .before .before .before .before .before .before .before .before .before .before .before .before .before .before .before .before .before .before .before .before .before .loop .inv .inv .long ∙ sym (c .before .before .before .before .before .before .before .before .before .before .before .before .before .before .before .before .before .before .before .before .before .before .before .before .before .before .before .before .before .before .before .before .before .pre .1 .asks .has .long)
+apply-parts-same-length-5 t c = c .before .before .before .before .before .before .before .before .before .before .before .before .before .before .before .before .before .before .loop .inv .inv .long ∙ sym (c .before .before .before .before .before .before .before .before .before .before .before .before .before .before .before .before .before .before .before .before .before .before .before .before .before .pre .1 .asks .has .long)
 
 apply-parts-returns : (t : ℕ) → apply-parts-lts.Need-returns (apply-parts-env t) (apply-parts-at t) apply-parts.Post apply-parts-Inv-loop apply-parts-μ-loop
 apply-parts-returns t c =
-    let s = c .before .before .before .before .before .before .before .before .before .before .before .before .before .before .before .before .before .before .before .before .before .before .before .before .before .before .before .before .before .before .before .before .before in
+    let s = c .before .before .before .before .before .before .before .before .before .before .before .before .before .before .before .before .before .before .before .before .before .before .before .before .before in
     let a = s .args in
     let b = a .records .now in let p = a .places .now in
-    let hs = a .heads .now in let ns = a .next .now in let zs = a .sizes .now in
+    let ix = a .index .now in
     let n = a .count in let u = a .used in
     let l = a .images .now in
-    let i = c .before .before .before .before .before .before .before .before .before .before .before .before .before .before .before .before .before .before .before .before .before .before .before .before .loop in
-    let d = c .before .before .before .before .before .before .before .before .before .before .before .before .before .before .before .apply-sort .last in
+    let i = c .before .before .before .before .before .before .before .before .before .before .before .before .before .before .before .before .before .before .loop in
+    let d = c .before .before .before .before .before .before .before .before .before .before .before .apply-sort .last in
     let v = c .before .made2 .given .0 in
-    let w = subst (KnownIs (i .records) (i .places) (i .n) (i .u) (getD (i .parts) (i .j) 0) l (d .0) (d .1 .0) (d .1 .1 .0) (d .1 .1 .1 .0) (d .1 .1 .1 .1 .0) (d .1 .1 .1 .1 .1 .0)) (c .before .made2 .given .1) (c .before .before .before .before .before .before .before .before .before .before .before .before .before .before .before .apply-sort .ensures) in
-    parts-halted b p hs ns zs n u (held (a .parts .now) (a .many)) l (s .pre .1 .asks) (i .records) (i .places) (i .heads) (i .next) (i .sizes) (i .parts) (i .n) (i .u) (i .j) (i .inv .inv) (c .before .before .before .before .before .before .before .before .before .before .before .before .before .before .before .before .before .before .before .before .before .before .before .loop-test .taken) (d .0) (d .1 .0) (d .1 .1 .0) (d .1 .1 .1 .0) (d .1 .1 .1 .1 .0) (v .0) (v .1 .0) w
+    let w = subst (KnownIs (i .records) (i .places) (i .n) (i .u) (getD (i .parts) (i .j) 0) l (d .0) (d .1 .0) (d .1 .1 .0) (d .1 .1 .1 .0)) (c .before .made2 .given .1) (c .before .before .before .before .before .before .before .before .before .before .before .apply-sort .ensures) in
+    parts-halted b p ix n u (held (a .parts .now) (a .many)) l (s .pre .1 .asks) (i .records) (i .places) (i .index) (i .parts) (i .n) (i .u) (i .j) (i .inv .inv) (c .before .before .before .before .before .before .before .before .before .before .before .before .before .before .before .before .before .loop-test .taken) (d .0) (d .1 .0) (d .1 .1 .0) (v .0) (v .1 .0) w
 
 apply-parts-add-j : (t : ℕ) → apply-parts-lts.Need-add-j (apply-parts-env t) (apply-parts-at t) apply-parts.Post apply-parts-Inv-loop apply-parts-μ-loop
-apply-parts-add-j t c = omega (arith, c .before .before .before .before .before .before .before .before .before .before .before .before .before .before .before .before .before .before .before .before .before .before .before .loop-test .taken, c .before .before .before .before .before .before .before .before .before .before .before .before .before .before .before .before .before .before .before .before .before .before .before .before .before .before .before .before .before .before .before .before .before .pre .1 .asks .has .few)
+apply-parts-add-j t c = omega (arith, c .before .before .before .before .before .before .before .before .before .before .before .before .before .before .before .before .before .loop-test .taken, c .before .before .before .before .before .before .before .before .before .before .before .before .before .before .before .before .before .before .before .before .before .before .before .before .before .pre .1 .asks .has .few)
 
 apply-parts-loop-less : (t : ℕ) → apply-parts-lts.Need-loop-less (apply-parts-env t) (apply-parts-at t) apply-parts.Post apply-parts-Inv-loop apply-parts-μ-loop
-apply-parts-loop-less t c = omega (arith, c .before .before .before .before .before .before .before .before .before .before .before .before .before .before .before .before .before .before .before .before .before .before .before .loop-test .taken)
+apply-parts-loop-less t c = omega (arith, c .before .before .before .before .before .before .before .before .before .before .before .before .before .before .before .before .before .loop-test .taken)
 
 apply-parts-loop-again : (t : ℕ) → apply-parts-lts.Need-loop-again (apply-parts-env t) (apply-parts-at t) apply-parts.Post apply-parts-Inv-loop apply-parts-μ-loop
 apply-parts-loop-again t c =
-    let s = c .before .before .before .before .before .before .before .before .before .before .before .before .before .before .before .before .before .before .before .before .before .before .before .before .before .before .before .before .before .before .before .before .before in
+    let s = c .before .before .before .before .before .before .before .before .before .before .before .before .before .before .before .before .before .before .before .before .before .before .before .before .before in
     let a = s .args in
     let b = a .records .now in let p = a .places .now in
-    let hs = a .heads .now in let ns = a .next .now in let zs = a .sizes .now in
+    let ix = a .index .now in
     let n = a .count in let u = a .used in
     let l = a .images .now in
-    let i = c .before .before .before .before .before .before .before .before .before .before .before .before .before .before .before .before .before .before .before .before .before .before .before .before .loop in
-    let d = c .before .before .before .before .before .before .before .before .before .before .before .before .before .before .before .apply-sort .last in
+    let i = c .before .before .before .before .before .before .before .before .before .before .before .before .before .before .before .before .before .before .loop in
+    let d = c .before .before .before .before .before .before .before .before .before .before .before .apply-sort .last in
     let v = c .before .made .given .0 in
-    let w = subst (KnownIs (i .records) (i .places) (i .n) (i .u) (getD (i .parts) (i .j) 0) l (d .0) (d .1 .0) (d .1 .1 .0) (d .1 .1 .1 .0) (d .1 .1 .1 .1 .0) (d .1 .1 .1 .1 .1 .0)) (c .before .made .given .1) (c .before .before .before .before .before .before .before .before .before .before .before .before .before .before .before .apply-sort .ensures) in
-    record { inv = parts-more b p hs ns zs n u (held (a .parts .now) (a .many)) l (s .pre .1 .asks) (i .records) (i .places) (i .heads) (i .next) (i .sizes) (i .parts) (i .n) (i .u) (i .j) (i .inv .inv) (c .before .before .before .before .before .before .before .before .before .before .before .before .before .before .before .before .before .before .before .before .before .before .before .loop-test .taken) (d .0) (d .1 .0) (d .1 .1 .0) (d .1 .1 .1 .0) (d .1 .1 .1 .1 .0) (v .0) (v .1 .0) (v .1 .1 .0) (w .made); known = w .known; lasts = c .before .before .before .before .before .before .before .before .before .before .before .before .before .before .before .apply-sort .kept .1 .1 .1 .1 .1 .0 ∙ i .inv .lasts }
+    let w = subst (KnownIs (i .records) (i .places) (i .n) (i .u) (getD (i .parts) (i .j) 0) l (d .0) (d .1 .0) (d .1 .1 .0) (d .1 .1 .1 .0)) (c .before .made .given .1) (c .before .before .before .before .before .before .before .before .before .before .before .apply-sort .ensures) in
+    record { inv = parts-more b p ix n u (held (a .parts .now) (a .many)) l (s .pre .1 .asks) (i .records) (i .places) (i .index) (i .parts) (i .n) (i .u) (i .j) (i .inv .inv) (c .before .before .before .before .before .before .before .before .before .before .before .before .before .before .before .before .before .loop-test .taken) (d .0) (d .1 .0) (d .1 .1 .0) (v .0) (v .1 .0) (v .1 .1 .0) (w .made); known = w .known; lasts = c .before .before .before .before .before .before .before .before .before .before .before .apply-sort .kept .1 .1 .1 .0 ∙ i .inv .lasts }
 
-apply-parts-same-length-8 : (t : ℕ) → apply-parts-lts.Need-same-length-8 (apply-parts-env t) (apply-parts-at t) apply-parts.Post apply-parts-Inv-loop apply-parts-μ-loop
-apply-parts-same-length-8 t c =
+apply-parts-same-length-6 : (t : ℕ) → apply-parts-lts.Need-same-length-6 (apply-parts-env t) (apply-parts-at t) apply-parts.Post apply-parts-Inv-loop apply-parts-μ-loop
+apply-parts-same-length-6 t c =
     let i = c .before .loop in
     i .inv .inv .kept .long
 
-apply-parts-same-length-9 : (t : ℕ) → apply-parts-lts.Need-same-length-9 (apply-parts-env t) (apply-parts-at t) apply-parts.Post apply-parts-Inv-loop apply-parts-μ-loop
-apply-parts-same-length-9 t c =
+apply-parts-same-length-7 : (t : ℕ) → apply-parts-lts.Need-same-length-7 (apply-parts-env t) (apply-parts-at t) apply-parts.Post apply-parts-Inv-loop apply-parts-μ-loop
+apply-parts-same-length-7 t c =
     let i = c .before .loop in
     i .inv .inv .kept .wide
 
+apply-parts-same-length-8 : (t : ℕ) → apply-parts-lts.Need-same-length-8 (apply-parts-env t) (apply-parts-at t) apply-parts.Post apply-parts-Inv-loop apply-parts-μ-loop
+apply-parts-same-length-8 t c =
+    let s = c .before .before .before .before .before .before .before .before in
+    let i = c .before .loop in
+    i .inv .inv .good .indexed .table ∙ sym (s .pre .1 .asks .ready .good .indexed .table)
+
+apply-parts-same-length-9 : (t : ℕ) → apply-parts-lts.Need-same-length-9 (apply-parts-env t) (apply-parts-at t) apply-parts.Post apply-parts-Inv-loop apply-parts-μ-loop
+apply-parts-same-length-9 t c = c .before .loop .inv .lasts
+
 apply-parts-same-length-10 : (t : ℕ) → apply-parts-lts.Need-same-length-10 (apply-parts-env t) (apply-parts-at t) apply-parts.Post apply-parts-Inv-loop apply-parts-μ-loop
-apply-parts-same-length-10 t c =
-    let s = c .before .before .before .before .before .before .before .before .before .before in
-    let i = c .before .loop in
-    i .inv .inv .good .indexed .heads ∙ sym (s .pre .1 .asks .ready .good .indexed .heads)
-
-apply-parts-same-length-11 : (t : ℕ) → apply-parts-lts.Need-same-length-11 (apply-parts-env t) (apply-parts-at t) apply-parts.Post apply-parts-Inv-loop apply-parts-μ-loop
-apply-parts-same-length-11 t c =
-    let s = c .before .before .before .before .before .before .before .before .before .before in
-    let i = c .before .loop in
-    i .inv .inv .good .indexed .next ∙ sym (s .pre .1 .asks .ready .good .indexed .next)
-
-apply-parts-same-length-12 : (t : ℕ) → apply-parts-lts.Need-same-length-12 (apply-parts-env t) (apply-parts-at t) apply-parts.Post apply-parts-Inv-loop apply-parts-μ-loop
-apply-parts-same-length-12 t c =
-    let s = c .before .before .before .before .before .before .before .before .before .before in
-    let i = c .before .loop in
-    i .inv .inv .good .sized .table ∙ sym (s .pre .1 .asks .ready .good .sized .table)
-
-apply-parts-same-length-13 : (t : ℕ) → apply-parts-lts.Need-same-length-13 (apply-parts-env t) (apply-parts-at t) apply-parts.Post apply-parts-Inv-loop apply-parts-μ-loop
-apply-parts-same-length-13 t c = c .before .loop .inv .lasts
-
-apply-parts-same-length-14 : (t : ℕ) → apply-parts-lts.Need-same-length-14 (apply-parts-env t) (apply-parts-at t) apply-parts.Post apply-parts-Inv-loop apply-parts-μ-loop
-apply-parts-same-length-14 t c = c .before .loop .inv .inv .long ∙ sym (c .before .before .before .before .before .before .before .before .before .before .pre .1 .asks .has .long)
+apply-parts-same-length-10 t c = c .before .loop .inv .inv .long ∙ sym (c .before .before .before .before .before .before .before .before .pre .1 .asks .has .long)
 
 apply-parts-returns-2 : (t : ℕ) → apply-parts-lts.Need-returns-2 (apply-parts-env t) (apply-parts-at t) apply-parts.Post apply-parts-Inv-loop apply-parts-μ-loop
 apply-parts-returns-2 t c =
-    let s = c .before .before .before .before .before .before .before .before .before .before in
+    let s = c .before .before .before .before .before .before .before .before in
     let a = s .args in
     let b = a .records .now in let p = a .places .now in
-    let hs = a .heads .now in let ns = a .next .now in let zs = a .sizes .now in
+    let ix = a .index .now in
     let n = a .count in let u = a .used in
     let l = a .images .now in
     let i = c .before .loop in
-    record { made = parts-done b p hs ns zs n u (held (a .parts .now) (a .many)) l (s .pre .1 .asks) (i .records) (i .places) (i .heads) (i .next) (i .sizes) (i .parts) (i .n) (i .u) (i .j) (i .inv .inv) (c .loop-test .left); known = i .inv .known }
+    record { made = parts-done b p ix n u (held (a .parts .now) (a .many)) l (s .pre .1 .asks) (i .records) (i .places) (i .index) (i .parts) (i .n) (i .u) (i .j) (i .inv .inv) (c .loop-test .left); known = i .inv .known }
 
 apply-sort-recall-requires : (t : ℕ) → apply-sort-lts.Need-recall-requires (apply-sort-env t) (apply-sort-at t) apply-sort.Post
 apply-sort-recall-requires t c κs = search needs
 
-apply-sort-sub-t28 : (t : ℕ) → apply-sort-lts.Need-sub-t28 (apply-sort-env t) (apply-sort-at t) apply-sort.Post
-apply-sort-sub-t28 t c = omega (arith, c .if1 .taken)
+apply-sort-sub-t26 : (t : ℕ) → apply-sort-lts.Need-sub-t26 (apply-sort-env t) (apply-sort-at t) apply-sort.Post
+apply-sort-sub-t26 t c = omega (arith, c .if1 .taken)
 
 apply-sort-same-length : (t : ℕ) → apply-sort-lts.Need-same-length (apply-sort-env t) (apply-sort-at t) apply-sort.Post
 apply-sort-same-length t c = search needs
 
 apply-sort-returns : (t : ℕ) → apply-sort-lts.Need-returns (apply-sort-env t) (apply-sort-at t) apply-sort.Post
 apply-sort-returns t c =
-    let s = c .before .before .before .before .before .before .before .before .before .before in
+    let s = c .before .before .before .before .before .before .before .before in
     let a = s .args in
     let b = a .records .now in let p = a .places .now in
-    let hs = a .heads .now in let ns = a .next .now in let zs = a .sizes .now in
+    let ix = a .index .now in
     let n = a .count in let u = a .used in
     let l = a .images .now in
     let k = a .k in
-    record { made = known-made b p hs ns zs n u (s .pre .1 .asks .ready .good) k l (a .known .now) (s .pre .1 .known) (c .before .recall .result) (c .before .recall .ensures) (c .if1 .taken); known = s .pre .1 .known }
+    record { made = known-made b p ix n u (s .pre .1 .asks .ready .good) k l (a .known .now) (s .pre .1 .known) (c .before .recall .result) (c .before .recall .ensures) (c .if1 .taken); known = s .pre .1 .known }
 
 apply-sort-entry-requires : (t : ℕ) → apply-sort-lts.Need-entry-requires (apply-sort-env t) (apply-sort-at t) apply-sort.Post
 apply-sort-entry-requires t c κs =
-    let s = c .before .before .before .before .before .before .before .before .before .before .before .before in
+    let s = c .before .before .before .before .before .before .before .before .before .before in
     let k = s .args .k in
     record { placed = omega (arith, s .pre .1 .asks .known, s .pre .1 .asks .ready .good .stored .placed); held = s .pre .1 .asks .ready .good .stored .each k (s .pre .1 .asks .known) }
 
 apply-sort-image-of-requires : (t : ℕ) → apply-sort-lts.Need-image-of-requires (apply-sort-env t) (apply-sort-at t) apply-sort.Post
 apply-sort-image-of-requires t c κs =
-    let s = c .before .before .before .before .before .before .before .before .before .before .before .before .before .before .before in
+    let s = c .before .before .before .before .before .before .before .before .before .before .before .before .before in
     let a = s .args in
     let b = a .records .now in let p = a .places .now in
-    let hs = a .heads .now in let ns = a .next .now in let zs = a .sizes .now in
+    let ix = a .index .now in
     let n = a .count in let u = a .used in
     let l = a .images .now in
     let k = a .k in
@@ -309,16 +277,16 @@ apply-sort-same-length-4 t c = search needs
 
 apply-sort-returns-2 : (t : ℕ) → apply-sort-lts.Need-returns-2 (apply-sort-env t) (apply-sort-at t) apply-sort.Post
 apply-sort-returns-2 t c =
-    let s = c .before .before .before .before .before .before .before .before .before .before .before .before .before .before .before .before in
+    let s = c .before .before .before .before .before .before .before .before .before .before .before .before .before .before in
     let a = s .args in
     let b = a .records .now in let p = a .places .now in
-    let hs = a .heads .now in let ns = a .next .now in let zs = a .sizes .now in
+    let ix = a .index .now in
     let n = a .count in let u = a .used in
     let l = a .images .now in
     let k = a .k in
     let e = c .before .before .before .entry .result in
     let is = c .before .before .before .entry .ensures n (s .pre .1 .asks .ready .good .stored) (s .pre .1 .asks .known) in
-    record { made = sort-image b p hs ns zs n u k l (s .pre .1 .asks) e is (c .before .if2 .taken) (c .image-of .result) (c .image-of .ensures); known = s .pre .1 .known }
+    record { made = sort-image b p ix n u k l (s .pre .1 .asks) e is (c .before .if2 .taken) (c .image-of .result) (c .image-of .ensures); known = s .pre .1 .known }
 
 apply-sort-same-length-5 : (t : ℕ) → apply-sort-lts.Need-same-length-5 (apply-sort-env t) (apply-sort-at t) apply-sort.Post
 apply-sort-same-length-5 t c = search needs
@@ -331,118 +299,118 @@ apply-sort-same-length-7 t c = search needs
 
 apply-sort-returns-3 : (t : ℕ) → apply-sort-lts.Need-returns-3 (apply-sort-env t) (apply-sort-at t) apply-sort.Post
 apply-sort-returns-3 t c =
-    let s = c .before .before .before .before .before .before .before .before .before .before .before .before .before .before .before .before .before in
+    let s = c .before .before .before .before .before .before .before .before .before .before .before .before .before .before .before in
     let a = s .args in
     let b = a .records .now in let p = a .places .now in
-    let hs = a .heads .now in let ns = a .next .now in let zs = a .sizes .now in
+    let ix = a .index .now in
     let n = a .count in let u = a .used in
     let l = a .images .now in
     let k = a .k in
     let e = c .before .before .before .before .entry .result in
     let is = c .before .before .before .before .entry .ensures n (s .pre .1 .asks .ready .good .stored) (s .pre .1 .asks .known) in
-    record { made = sort-leaf b p hs ns zs n u k l (s .pre .1 .asks) e is (c .before .before .if2 .left) (c .if3 .taken); known = s .pre .1 .known }
+    record { made = sort-leaf b p ix n u k l (s .pre .1 .asks) e is (c .before .before .if2 .left) (c .if3 .taken); known = s .pre .1 .known }
 
 apply-sort-slice-aggregate-read-numbers : (t : ℕ) → apply-sort-lts.Need-slice-aggregate-read-numbers (apply-sort-env t) (apply-sort-at t) apply-sort.Post
 apply-sort-slice-aggregate-read-numbers t c = search needs
 
 apply-sort-read-numbers-requires : (t : ℕ) → apply-sort-lts.Need-read-numbers-requires (apply-sort-env t) (apply-sort-at t) apply-sort.Post
 apply-sort-read-numbers-requires t c κs =
-    let s = c .before .before .before .before .before .before .before .before .before .before .before .before .before .before .before .before .before .before .before in
+    let s = c .before .before .before .before .before .before .before .before .before .before .before .before .before .before .before .before .before in
     let a = s .args in
     let b = a .records .now in let p = a .places .now in
-    let hs = a .heads .now in let ns = a .next .now in let zs = a .sizes .now in
+    let ix = a .index .now in
     let n = a .count in let u = a .used in
     let l = a .images .now in
     let k = a .k in
     let e = c .before .before .before .before .before .before .entry .result in
     let is = c .before .before .before .before .before .before .entry .ensures n (s .pre .1 .asks .ready .good .stored) (s .pre .1 .asks .known) in
-    (sort-read b p hs ns zs n u k l (s .pre .1 .asks) e is, length-replicate {A = ℕ} 64 0)
+    (sort-read b p ix n u k l (s .pre .1 .asks) e is, length-replicate {A = ℕ} 64 0)
 
 apply-sort-slice-aggregate-apply-parts : (t : ℕ) → apply-sort-lts.Need-slice-aggregate-apply-parts (apply-sort-env t) (apply-sort-at t) apply-sort.Post
-apply-sort-slice-aggregate-apply-parts t c = sym (c .before .before .before .before .before .before .before .before .read-numbers .ensures .long)
+apply-sort-slice-aggregate-apply-parts t c = sym (c .before .before .before .before .before .before .read-numbers .ensures .long)
 
 apply-sort-apply-parts-requires : (t : ℕ) → apply-sort-lts.Need-apply-parts-requires (apply-sort-env t) (apply-sort-at t) apply-sort.Post
 apply-sort-apply-parts-requires t c κs =
-    let s = c .before .before .before .before .before .before .before .before .before .before .before .before .before .before .before .before .before .before .before .before .before .before .before .before .before .before .before .before in
+    let s = c .before .before .before .before .before .before .before .before .before .before .before .before .before .before .before .before .before .before .before .before .before .before .before .before in
     let a = s .args in
     let b = a .records .now in let p = a .places .now in
-    let hs = a .heads .now in let ns = a .next .now in let zs = a .sizes .now in
+    let ix = a .index .now in
     let n = a .count in let u = a .used in
     let l = a .images .now in
     let k = a .k in
-    let e = c .before .before .before .before .before .before .before .before .before .before .before .before .before .before .before .entry .result in
-    let is = c .before .before .before .before .before .before .before .before .before .before .before .before .before .before .before .entry .ensures n (s .pre .1 .asks .ready .good .stored) (s .pre .1 .asks .known) in
-    let o = held (c .before .before .before .before .before .before .before .before .read-numbers .last .1 .1 .1 .0) (e .count) in
-    (omega (arith, s .pre .0, sort-falls b p hs ns zs n u k l (s .pre .1 .asks) e is (c .before .before .before .before .before .before .before .before .before .before .before .before .before .if2 .left) o (c .before .before .before .before .before .before .before .before .read-numbers .ensures)), record { asks = sort-parts-ask b p hs ns zs n u k l (s .pre .1 .asks) e is (c .before .before .before .before .before .before .before .before .before .before .before .before .before .if2 .left) o (c .before .before .before .before .before .before .before .before .read-numbers .ensures); known = s .pre .1 .known })
+    let e = c .before .before .before .before .before .before .before .before .before .before .before .before .before .entry .result in
+    let is = c .before .before .before .before .before .before .before .before .before .before .before .before .before .entry .ensures n (s .pre .1 .asks .ready .good .stored) (s .pre .1 .asks .known) in
+    let o = held (c .before .before .before .before .before .before .read-numbers .last .1 .1 .1 .0) (e .count) in
+    (omega (arith, s .pre .0, sort-falls b p ix n u k l (s .pre .1 .asks) e is (c .before .before .before .before .before .before .before .before .before .before .before .if2 .left) o (c .before .before .before .before .before .before .read-numbers .ensures)), record { asks = sort-parts-ask b p ix n u k l (s .pre .1 .asks) e is (c .before .before .before .before .before .before .before .before .before .before .before .if2 .left) o (c .before .before .before .before .before .before .read-numbers .ensures); known = s .pre .1 .known })
 
 apply-sort-enum-known-done : (t : ℕ) → apply-sort-lts.Need-enum-known-done (apply-sort-env t) (apply-sort-at t) apply-sort.Post
 apply-sort-enum-known-done t c = search needs
 
 apply-sort-slice-aggregate-rebuild : (t : ℕ) → apply-sort-lts.Need-slice-aggregate-rebuild (apply-sort-env t) (apply-sort-at t) apply-sort.Post
-apply-sort-slice-aggregate-rebuild t c = sym (c .before .before .before .before .before .before .before .before .before .before .before .before .before .before .before .before .before .before .before .before .before .before .apply-parts .kept .1 .1 .1 .1 .1 .1 .0 ∙ c .before .before .before .before .before .before .before .before .before .before .before .before .before .before .before .before .before .before .before .before .before .before .before .before .before .before .before .before .before .before .before .read-numbers .ensures .long)
+apply-sort-slice-aggregate-rebuild t c = sym (c .before .before .before .before .before .before .before .before .before .before .before .before .before .before .before .before .apply-parts .kept .1 .1 .1 .1 .0 ∙ c .before .before .before .before .before .before .before .before .before .before .before .before .before .before .before .before .before .before .before .before .before .before .before .read-numbers .ensures .long)
 
 apply-sort-rebuild-requires : (t : ℕ) → apply-sort-lts.Need-rebuild-requires (apply-sort-env t) (apply-sort-at t) apply-sort.Post
 apply-sort-rebuild-requires t c κs =
-    let s = c .before .before .before .before .before .before .before .before .before .before .before .before .before .before .before .before .before .before .before .before .before .before .before .before .before .before .before .before .before .before .before .before .before .before .before .before .before .before .before .before .before .before .before .before .before .before .before .before .before .before .before in
+    let s = c .before .before .before .before .before .before .before .before .before .before .before .before .before .before .before .before .before .before .before .before .before .before .before .before .before .before .before .before .before .before .before .before .before .before .before .before .before .before .before .before .before in
     let a = s .args in
     let b = a .records .now in let p = a .places .now in
-    let hs = a .heads .now in let ns = a .next .now in let zs = a .sizes .now in
+    let ix = a .index .now in
     let n = a .count in let u = a .used in
     let l = a .images .now in
     let k = a .k in
-    let e = c .before .before .before .before .before .before .before .before .before .before .before .before .before .before .before .before .before .before .before .before .before .before .before .before .before .before .before .before .before .before .before .before .before .before .before .before .before .before .entry .result in
-    let is = c .before .before .before .before .before .before .before .before .before .before .before .before .before .before .before .before .before .before .before .before .before .before .before .before .before .before .before .before .before .before .before .before .before .before .before .before .before .before .entry .ensures n (s .pre .1 .asks .ready .good .stored) (s .pre .1 .asks .known) in
-    let o = held (c .before .before .before .before .before .before .before .before .before .before .before .before .before .before .before .before .before .before .before .before .before .before .before .before .before .before .before .before .before .before .before .read-numbers .last .1 .1 .1 .0) (e .count) in
-    let d = c .before .before .before .before .before .before .before .before .before .before .before .before .before .before .before .before .before .before .before .before .before .before .apply-parts .last in
-    let r = held (d .1 .1 .1 .1 .1 .1 .0) (e .count) in
-    let f = c .before .before .before .before .before .before .before .done .given .0 in
-    let w = subst (KnownAllAre b p n u o l (d .0) (d .1 .0) (d .1 .1 .0) (d .1 .1 .1 .0) (d .1 .1 .1 .1 .0) (d .1 .1 .1 .1 .1 .0) r) (c .before .before .before .before .before .before .before .done .given .1) (c .before .before .before .before .before .before .before .before .before .before .before .before .before .before .before .before .before .before .before .before .before .before .apply-parts .ensures) in
-    sort-rebuild b p hs ns zs n u k l (s .pre .1 .asks) e is (c .before .before .before .before .before .before .before .before .before .before .before .before .before .before .before .before .before .before .before .before .before .before .before .before .before .before .before .before .before .before .before .before .before .before .before .before .if2 .left) o (c .before .before .before .before .before .before .before .before .before .before .before .before .before .before .before .before .before .before .before .before .before .before .before .before .before .before .before .before .before .before .before .read-numbers .ensures) (d .0) (d .1 .0) (d .1 .1 .0) (d .1 .1 .1 .0) (d .1 .1 .1 .1 .0) r (f .0) (f .1 .0) (w .made)
+    let e = c .before .before .before .before .before .before .before .before .before .before .before .before .before .before .before .before .before .before .before .before .before .before .before .before .before .before .before .before .before .before .entry .result in
+    let is = c .before .before .before .before .before .before .before .before .before .before .before .before .before .before .before .before .before .before .before .before .before .before .before .before .before .before .before .before .before .before .entry .ensures n (s .pre .1 .asks .ready .good .stored) (s .pre .1 .asks .known) in
+    let o = held (c .before .before .before .before .before .before .before .before .before .before .before .before .before .before .before .before .before .before .before .before .before .before .before .read-numbers .last .1 .1 .1 .0) (e .count) in
+    let d = c .before .before .before .before .before .before .before .before .before .before .before .before .before .before .before .before .apply-parts .last in
+    let r = held (d .1 .1 .1 .1 .0) (e .count) in
+    let f = c .before .before .before .before .before .done .given .0 in
+    let w = subst (KnownAllAre b p n u o l (d .0) (d .1 .0) (d .1 .1 .0) (d .1 .1 .1 .0) r) (c .before .before .before .before .before .done .given .1) (c .before .before .before .before .before .before .before .before .before .before .before .before .before .before .before .before .apply-parts .ensures) in
+    sort-rebuild b p ix n u k l (s .pre .1 .asks) e is (c .before .before .before .before .before .before .before .before .before .before .before .before .before .before .before .before .before .before .before .before .before .before .before .before .before .before .before .before .if2 .left) o (c .before .before .before .before .before .before .before .before .before .before .before .before .before .before .before .before .before .before .before .before .before .before .before .read-numbers .ensures) (d .0) (d .1 .0) (d .1 .1 .0) r (f .0) (f .1 .0) (w .made)
 
 apply-sort-enum-known-made : (t : ℕ) → apply-sort-lts.Need-enum-known-made (apply-sort-env t) (apply-sort-at t) apply-sort.Post
 apply-sort-enum-known-made t c = search needs
 
 apply-sort-add-remember : (t : ℕ) → apply-sort-lts.Need-add-remember (apply-sort-env t) (apply-sort-at t) apply-sort.Post
 apply-sort-add-remember t c =
-    let s = c .before .before .before .before .before .before .before .before .before .before .before .before .before .before .before .before .before .before .before .before .before .before .before .before .before .before .before .before .before .before .before .before .before .before .before .before .before .before .before .before .before .before .before .before .before .before .before .before .before .before .before .before .before .before .before .before .before .before .before .before .before .before .before .before .before .before in
+    let s = c .before .before .before .before .before .before .before .before .before .before .before .before .before .before .before .before .before .before .before .before .before .before .before .before .before .before .before .before .before .before .before .before .before .before .before .before .before .before .before .before .before .before .before .before .before .before .before .before .before .before .before .before in
     let a = s .args in
     let b = a .records .now in let p = a .places .now in
-    let hs = a .heads .now in let ns = a .next .now in let zs = a .sizes .now in
+    let ix = a .index .now in
     let n = a .count in let u = a .used in
     let l = a .images .now in
     let k = a .k in
-    let e = c .before .before .before .before .before .before .before .before .before .before .before .before .before .before .before .before .before .before .before .before .before .before .before .before .before .before .before .before .before .before .before .before .before .before .before .before .before .before .before .before .before .before .before .before .before .before .before .before .before .before .before .before .before .entry .result in
-    let is = c .before .before .before .before .before .before .before .before .before .before .before .before .before .before .before .before .before .before .before .before .before .before .before .before .before .before .before .before .before .before .before .before .before .before .before .before .before .before .before .before .before .before .before .before .before .before .before .before .before .before .before .before .before .entry .ensures n (s .pre .1 .asks .ready .good .stored) (s .pre .1 .asks .known) in
-    let o = held (c .before .before .before .before .before .before .before .before .before .before .before .before .before .before .before .before .before .before .before .before .before .before .before .before .before .before .before .before .before .before .before .before .before .before .before .before .before .before .before .before .before .before .before .before .before .before .read-numbers .last .1 .1 .1 .0) (e .count) in
-    let d = c .before .before .before .before .before .before .before .before .before .before .before .before .before .before .before .before .before .before .before .before .before .before .before .before .before .before .before .before .before .before .before .before .before .before .before .before .before .apply-parts .last in
-    let r = held (d .1 .1 .1 .1 .1 .1 .0) (e .count) in
-    let f = c .before .before .before .before .before .before .before .before .before .before .before .before .before .before .before .before .before .before .before .before .before .before .done .given .0 in
-    let w = subst (KnownAllAre b p n u o l (d .0) (d .1 .0) (d .1 .1 .0) (d .1 .1 .1 .0) (d .1 .1 .1 .1 .0) (d .1 .1 .1 .1 .1 .0) r) (c .before .before .before .before .before .before .before .before .before .before .before .before .before .before .before .before .before .before .before .before .before .before .done .given .1) (c .before .before .before .before .before .before .before .before .before .before .before .before .before .before .before .before .before .before .before .before .before .before .before .before .before .before .before .before .before .before .before .before .before .before .before .before .before .apply-parts .ensures) in
-    let y = c .before .before .before .before .before .before .before .before .before .before .before .before .before .before .rebuild .last in
+    let e = c .before .before .before .before .before .before .before .before .before .before .before .before .before .before .before .before .before .before .before .before .before .before .before .before .before .before .before .before .before .before .before .before .before .before .before .before .before .before .before .before .before .entry .result in
+    let is = c .before .before .before .before .before .before .before .before .before .before .before .before .before .before .before .before .before .before .before .before .before .before .before .before .before .before .before .before .before .before .before .before .before .before .before .before .before .before .before .before .before .entry .ensures n (s .pre .1 .asks .ready .good .stored) (s .pre .1 .asks .known) in
+    let o = held (c .before .before .before .before .before .before .before .before .before .before .before .before .before .before .before .before .before .before .before .before .before .before .before .before .before .before .before .before .before .before .before .before .before .before .read-numbers .last .1 .1 .1 .0) (e .count) in
+    let d = c .before .before .before .before .before .before .before .before .before .before .before .before .before .before .before .before .before .before .before .before .before .before .before .before .before .before .before .apply-parts .last in
+    let r = held (d .1 .1 .1 .1 .0) (e .count) in
+    let f = c .before .before .before .before .before .before .before .before .before .before .before .before .before .before .before .before .done .given .0 in
+    let w = subst (KnownAllAre b p n u o l (d .0) (d .1 .0) (d .1 .1 .0) (d .1 .1 .1 .0) r) (c .before .before .before .before .before .before .before .before .before .before .before .before .before .before .before .before .done .given .1) (c .before .before .before .before .before .before .before .before .before .before .before .before .before .before .before .before .before .before .before .before .before .before .before .before .before .before .before .apply-parts .ensures) in
+    let y = c .before .before .before .before .before .before .before .before .before .before .rebuild .last in
     let v = c .before .before .made .given .0 in
-    let z = subst (MadeIs (d .0) (d .1 .0) (d .1 .1 .0) (d .1 .1 .1 .0) (d .1 .1 .1 .1 .0) (f .0) (f .1 .0) (answerAt (d .0) (d .1 .0) (f .0) l k) (y .0) (y .1 .0) (y .1 .1 .0) (y .1 .1 .1 .0) (y .1 .1 .1 .1 .0)) (c .before .before .made .given .1) (c .before .before .before .before .before .before .before .before .before .before .before .before .before .before .rebuild .ensures) in
-    omega (arith, made-known (d .0) (d .1 .0) (f .0) (f .1 .0) (answerAt (d .0) (d .1 .0) (f .0) l k) (y .0) (y .1 .0) (y .1 .1 .0) (y .1 .1 .1 .0) (y .1 .1 .1 .1 .0) (v .0) (v .1 .0) (v .1 .1 .0) z, z .good .indexed .count)
+    let z = subst (MadeIs (d .0) (d .1 .0) (d .1 .1 .0) (f .0) (f .1 .0) (answerAt (d .0) (d .1 .0) (f .0) l k) (y .0) (y .1 .0) (y .1 .1 .0)) (c .before .before .made .given .1) (c .before .before .before .before .before .before .before .before .before .before .rebuild .ensures) in
+    omega (arith, made-known (d .0) (d .1 .0) (f .0) (f .1 .0) (answerAt (d .0) (d .1 .0) (f .0) l k) (y .0) (y .1 .0) (y .1 .1 .0) (v .0) (v .1 .0) (v .1 .1 .0) z, z .good .indexed .count)
 
 apply-sort-remember-requires : (t : ℕ) → apply-sort-lts.Need-remember-requires (apply-sort-env t) (apply-sort-at t) apply-sort.Post
 apply-sort-remember-requires t c κs =
-    let s = c .before .before .before .before .before .before .before .before .before .before .before .before .before .before .before .before .before .before .before .before .before .before .before .before .before .before .before .before .before .before .before .before .before .before .before .before .before .before .before .before .before .before .before .before .before .before .before .before .before .before .before .before .before .before .before .before .before .before .before .before .before .before .before .before .before .before in
+    let s = c .before .before .before .before .before .before .before .before .before .before .before .before .before .before .before .before .before .before .before .before .before .before .before .before .before .before .before .before .before .before .before .before .before .before .before .before .before .before .before .before .before .before .before .before .before .before .before .before .before .before .before .before in
     let a = s .args in
     let b = a .records .now in let p = a .places .now in
-    let hs = a .heads .now in let ns = a .next .now in let zs = a .sizes .now in
+    let ix = a .index .now in
     let n = a .count in let u = a .used in
     let l = a .images .now in
     let k = a .k in
-    let e = c .before .before .before .before .before .before .before .before .before .before .before .before .before .before .before .before .before .before .before .before .before .before .before .before .before .before .before .before .before .before .before .before .before .before .before .before .before .before .before .before .before .before .before .before .before .before .before .before .before .before .before .before .before .entry .result in
-    let is = c .before .before .before .before .before .before .before .before .before .before .before .before .before .before .before .before .before .before .before .before .before .before .before .before .before .before .before .before .before .before .before .before .before .before .before .before .before .before .before .before .before .before .before .before .before .before .before .before .before .before .before .before .before .entry .ensures n (s .pre .1 .asks .ready .good .stored) (s .pre .1 .asks .known) in
-    let o = held (c .before .before .before .before .before .before .before .before .before .before .before .before .before .before .before .before .before .before .before .before .before .before .before .before .before .before .before .before .before .before .before .before .before .before .before .before .before .before .before .before .before .before .before .before .before .before .read-numbers .last .1 .1 .1 .0) (e .count) in
-    let d = c .before .before .before .before .before .before .before .before .before .before .before .before .before .before .before .before .before .before .before .before .before .before .before .before .before .before .before .before .before .before .before .before .before .before .before .before .before .apply-parts .last in
-    let r = held (d .1 .1 .1 .1 .1 .1 .0) (e .count) in
-    let f = c .before .before .before .before .before .before .before .before .before .before .before .before .before .before .before .before .before .before .before .before .before .before .done .given .0 in
-    let w = subst (KnownAllAre b p n u o l (d .0) (d .1 .0) (d .1 .1 .0) (d .1 .1 .1 .0) (d .1 .1 .1 .1 .0) (d .1 .1 .1 .1 .1 .0) r) (c .before .before .before .before .before .before .before .before .before .before .before .before .before .before .before .before .before .before .before .before .before .before .done .given .1) (c .before .before .before .before .before .before .before .before .before .before .before .before .before .before .before .before .before .before .before .before .before .before .before .before .before .before .before .before .before .before .before .before .before .before .before .before .before .apply-parts .ensures) in
-    let y = c .before .before .before .before .before .before .before .before .before .before .before .before .before .before .rebuild .last in
+    let e = c .before .before .before .before .before .before .before .before .before .before .before .before .before .before .before .before .before .before .before .before .before .before .before .before .before .before .before .before .before .before .before .before .before .before .before .before .before .before .before .before .before .entry .result in
+    let is = c .before .before .before .before .before .before .before .before .before .before .before .before .before .before .before .before .before .before .before .before .before .before .before .before .before .before .before .before .before .before .before .before .before .before .before .before .before .before .before .before .before .entry .ensures n (s .pre .1 .asks .ready .good .stored) (s .pre .1 .asks .known) in
+    let o = held (c .before .before .before .before .before .before .before .before .before .before .before .before .before .before .before .before .before .before .before .before .before .before .before .before .before .before .before .before .before .before .before .before .before .before .read-numbers .last .1 .1 .1 .0) (e .count) in
+    let d = c .before .before .before .before .before .before .before .before .before .before .before .before .before .before .before .before .before .before .before .before .before .before .before .before .before .before .before .apply-parts .last in
+    let r = held (d .1 .1 .1 .1 .0) (e .count) in
+    let f = c .before .before .before .before .before .before .before .before .before .before .before .before .before .before .before .before .done .given .0 in
+    let w = subst (KnownAllAre b p n u o l (d .0) (d .1 .0) (d .1 .1 .0) (d .1 .1 .1 .0) r) (c .before .before .before .before .before .before .before .before .before .before .before .before .before .before .before .before .done .given .1) (c .before .before .before .before .before .before .before .before .before .before .before .before .before .before .before .before .before .before .before .before .before .before .before .before .before .before .before .apply-parts .ensures) in
+    let y = c .before .before .before .before .before .before .before .before .before .before .rebuild .last in
     let v = c .before .before .made .given .0 in
-    let z = subst (MadeIs (d .0) (d .1 .0) (d .1 .1 .0) (d .1 .1 .1 .0) (d .1 .1 .1 .1 .0) (f .0) (f .1 .0) (answerAt (d .0) (d .1 .0) (f .0) l k) (y .0) (y .1 .0) (y .1 .1 .0) (y .1 .1 .1 .0) (y .1 .1 .1 .1 .0)) (c .before .before .made .given .1) (c .before .before .before .before .before .before .before .before .before .before .before .before .before .before .rebuild .ensures) in
-    omega (arith, made-known (d .0) (d .1 .0) (f .0) (f .1 .0) (answerAt (d .0) (d .1 .0) (f .0) l k) (y .0) (y .1 .0) (y .1 .1 .0) (y .1 .1 .1 .0) (y .1 .1 .1 .1 .0) (v .0) (v .1 .0) (v .1 .1 .0) z, z .good .indexed .count)
+    let z = subst (MadeIs (d .0) (d .1 .0) (d .1 .1 .0) (f .0) (f .1 .0) (answerAt (d .0) (d .1 .0) (f .0) l k) (y .0) (y .1 .0) (y .1 .1 .0)) (c .before .before .made .given .1) (c .before .before .before .before .before .before .before .before .before .before .rebuild .ensures) in
+    omega (arith, made-known (d .0) (d .1 .0) (f .0) (f .1 .0) (answerAt (d .0) (d .1 .0) (f .0) l k) (y .0) (y .1 .0) (y .1 .1 .0) (v .0) (v .1 .0) (v .1 .1 .0) z, z .good .indexed .count)
 
 apply-sort-enum-told : (t : ℕ) → apply-sort-lts.Need-enum-told (apply-sort-env t) (apply-sort-at t) apply-sort.Post
 apply-sort-enum-told t c = search needs
@@ -451,116 +419,98 @@ apply-sort-enum-known-done-2 : (t : ℕ) → apply-sort-lts.Need-enum-known-done
 apply-sort-enum-known-done-2 t c = search needs
 
 apply-sort-same-length-8 : (t : ℕ) → apply-sort-lts.Need-same-length-8 (apply-sort-env t) (apply-sort-at t) apply-sort.Post
-apply-sort-same-length-8 t c = c .before .before .before .before .before .before .before .before .before .before .before .before .before .before .before .before .before .rebuild .kept .0 ∙ c .before .before .before .before .before .before .before .before .before .before .before .before .before .before .before .before .before .before .before .before .before .before .before .before .before .before .before .before .before .before .before .before .before .before .before .before .before .before .before .before .apply-parts .kept .0
+apply-sort-same-length-8 t c = c .before .before .before .before .before .before .before .before .before .before .before .before .before .rebuild .kept .0 ∙ c .before .before .before .before .before .before .before .before .before .before .before .before .before .before .before .before .before .before .before .before .before .before .before .before .before .before .before .before .before .before .apply-parts .kept .0
 
 apply-sort-same-length-9 : (t : ℕ) → apply-sort-lts.Need-same-length-9 (apply-sort-env t) (apply-sort-at t) apply-sort.Post
-apply-sort-same-length-9 t c = c .before .before .before .before .before .before .before .before .before .before .before .before .before .before .before .before .before .rebuild .kept .1 .0 ∙ c .before .before .before .before .before .before .before .before .before .before .before .before .before .before .before .before .before .before .before .before .before .before .before .before .before .before .before .before .before .before .before .before .before .before .before .before .before .before .before .before .apply-parts .kept .1 .0
+apply-sort-same-length-9 t c = c .before .before .before .before .before .before .before .before .before .before .before .before .before .rebuild .kept .1 .0 ∙ c .before .before .before .before .before .before .before .before .before .before .before .before .before .before .before .before .before .before .before .before .before .before .before .before .before .before .before .before .before .before .apply-parts .kept .1 .0
 
 apply-sort-same-length-10 : (t : ℕ) → apply-sort-lts.Need-same-length-10 (apply-sort-env t) (apply-sort-at t) apply-sort.Post
-apply-sort-same-length-10 t c = c .before .before .before .before .before .before .before .before .before .before .before .before .before .before .before .before .before .rebuild .kept .1 .1 .0 ∙ c .before .before .before .before .before .before .before .before .before .before .before .before .before .before .before .before .before .before .before .before .before .before .before .before .before .before .before .before .before .before .before .before .before .before .before .before .before .before .before .before .apply-parts .kept .1 .1 .0
+apply-sort-same-length-10 t c = c .before .before .before .before .before .before .before .before .before .before .before .before .before .rebuild .kept .1 .1 .0 ∙ c .before .before .before .before .before .before .before .before .before .before .before .before .before .before .before .before .before .before .before .before .before .before .before .before .before .before .before .before .before .before .apply-parts .kept .1 .1 .0
 
 apply-sort-same-length-11 : (t : ℕ) → apply-sort-lts.Need-same-length-11 (apply-sort-env t) (apply-sort-at t) apply-sort.Post
-apply-sort-same-length-11 t c = c .before .before .before .before .before .before .before .before .before .before .before .before .before .before .before .before .before .rebuild .kept .1 .1 .1 .0 ∙ c .before .before .before .before .before .before .before .before .before .before .before .before .before .before .before .before .before .before .before .before .before .before .before .before .before .before .before .before .before .before .before .before .before .before .before .before .before .before .before .before .apply-parts .kept .1 .1 .1 .0
-
-apply-sort-same-length-12 : (t : ℕ) → apply-sort-lts.Need-same-length-12 (apply-sort-env t) (apply-sort-at t) apply-sort.Post
-apply-sort-same-length-12 t c = c .before .before .before .before .before .before .before .before .before .before .before .before .before .before .before .before .before .rebuild .kept .1 .1 .1 .1 .0 ∙ c .before .before .before .before .before .before .before .before .before .before .before .before .before .before .before .before .before .before .before .before .before .before .before .before .before .before .before .before .before .before .before .before .before .before .before .before .before .before .before .before .apply-parts .kept .1 .1 .1 .1 .0
-
-apply-sort-same-length-13 : (t : ℕ) → apply-sort-lts.Need-same-length-13 (apply-sort-env t) (apply-sort-at t) apply-sort.Post
-apply-sort-same-length-13 t c = c .before .before .remember .kept .0 ∙ c .before .before .before .before .before .before .before .before .before .before .before .before .before .before .before .before .before .before .before .before .before .before .before .before .before .before .before .before .before .before .before .before .before .before .before .before .before .before .before .before .apply-parts .kept .1 .1 .1 .1 .1 .0
+apply-sort-same-length-11 t c = c .before .before .remember .kept .0 ∙ c .before .before .before .before .before .before .before .before .before .before .before .before .before .before .before .before .before .before .before .before .before .before .before .before .before .before .before .before .before .before .apply-parts .kept .1 .1 .1 .0
 
 apply-sort-returns-4 : (t : ℕ) → apply-sort-lts.Need-returns-4 (apply-sort-env t) (apply-sort-at t) apply-sort.Post
 apply-sort-returns-4 t c =
-    let s = c .before .before .before .before .before .before .before .before .before .before .before .before .before .before .before .before .before .before .before .before .before .before .before .before .before .before .before .before .before .before .before .before .before .before .before .before .before .before .before .before .before .before .before .before .before .before .before .before .before .before .before .before .before .before .before .before .before .before .before .before .before .before .before .before .before .before .before .before .before in
+    let s = c .before .before .before .before .before .before .before .before .before .before .before .before .before .before .before .before .before .before .before .before .before .before .before .before .before .before .before .before .before .before .before .before .before .before .before .before .before .before .before .before .before .before .before .before .before .before .before .before .before .before .before .before .before .before .before in
     let a = s .args in
     let b = a .records .now in let p = a .places .now in
-    let hs = a .heads .now in let ns = a .next .now in let zs = a .sizes .now in
+    let ix = a .index .now in
     let n = a .count in let u = a .used in
     let l = a .images .now in
     let k = a .k in
-    let e = c .before .before .before .before .before .before .before .before .before .before .before .before .before .before .before .before .before .before .before .before .before .before .before .before .before .before .before .before .before .before .before .before .before .before .before .before .before .before .before .before .before .before .before .before .before .before .before .before .before .before .before .before .before .before .before .before .entry .result in
-    let is = c .before .before .before .before .before .before .before .before .before .before .before .before .before .before .before .before .before .before .before .before .before .before .before .before .before .before .before .before .before .before .before .before .before .before .before .before .before .before .before .before .before .before .before .before .before .before .before .before .before .before .before .before .before .before .before .before .entry .ensures n (s .pre .1 .asks .ready .good .stored) (s .pre .1 .asks .known) in
-    let o = held (c .before .before .before .before .before .before .before .before .before .before .before .before .before .before .before .before .before .before .before .before .before .before .before .before .before .before .before .before .before .before .before .before .before .before .before .before .before .before .before .before .before .before .before .before .before .before .before .before .before .read-numbers .last .1 .1 .1 .0) (e .count) in
-    let d = c .before .before .before .before .before .before .before .before .before .before .before .before .before .before .before .before .before .before .before .before .before .before .before .before .before .before .before .before .before .before .before .before .before .before .before .before .before .before .before .before .apply-parts .last in
-    let r = held (d .1 .1 .1 .1 .1 .1 .0) (e .count) in
-    let f = c .before .before .before .before .before .before .before .before .before .before .before .before .before .before .before .before .before .before .before .before .before .before .before .before .before .done .given .0 in
-    let w = subst (KnownAllAre b p n u o l (d .0) (d .1 .0) (d .1 .1 .0) (d .1 .1 .1 .0) (d .1 .1 .1 .1 .0) (d .1 .1 .1 .1 .1 .0) r) (c .before .before .before .before .before .before .before .before .before .before .before .before .before .before .before .before .before .before .before .before .before .before .before .before .before .done .given .1) (c .before .before .before .before .before .before .before .before .before .before .before .before .before .before .before .before .before .before .before .before .before .before .before .before .before .before .before .before .before .before .before .before .before .before .before .before .before .before .before .before .apply-parts .ensures) in
-    let y = c .before .before .before .before .before .before .before .before .before .before .before .before .before .before .before .before .before .rebuild .last in
+    let e = c .before .before .before .before .before .before .before .before .before .before .before .before .before .before .before .before .before .before .before .before .before .before .before .before .before .before .before .before .before .before .before .before .before .before .before .before .before .before .before .before .before .before .before .before .entry .result in
+    let is = c .before .before .before .before .before .before .before .before .before .before .before .before .before .before .before .before .before .before .before .before .before .before .before .before .before .before .before .before .before .before .before .before .before .before .before .before .before .before .before .before .before .before .before .before .entry .ensures n (s .pre .1 .asks .ready .good .stored) (s .pre .1 .asks .known) in
+    let o = held (c .before .before .before .before .before .before .before .before .before .before .before .before .before .before .before .before .before .before .before .before .before .before .before .before .before .before .before .before .before .before .before .before .before .before .before .before .before .read-numbers .last .1 .1 .1 .0) (e .count) in
+    let d = c .before .before .before .before .before .before .before .before .before .before .before .before .before .before .before .before .before .before .before .before .before .before .before .before .before .before .before .before .before .before .apply-parts .last in
+    let r = held (d .1 .1 .1 .1 .0) (e .count) in
+    let f = c .before .before .before .before .before .before .before .before .before .before .before .before .before .before .before .before .before .before .before .done .given .0 in
+    let w = subst (KnownAllAre b p n u o l (d .0) (d .1 .0) (d .1 .1 .0) (d .1 .1 .1 .0) r) (c .before .before .before .before .before .before .before .before .before .before .before .before .before .before .before .before .before .before .before .done .given .1) (c .before .before .before .before .before .before .before .before .before .before .before .before .before .before .before .before .before .before .before .before .before .before .before .before .before .before .before .before .before .before .apply-parts .ensures) in
+    let y = c .before .before .before .before .before .before .before .before .before .before .before .before .before .rebuild .last in
     let v = c .before .before .before .before .before .made .given .0 in
-    let z = subst (MadeIs (d .0) (d .1 .0) (d .1 .1 .0) (d .1 .1 .1 .0) (d .1 .1 .1 .1 .0) (f .0) (f .1 .0) (answerAt (d .0) (d .1 .0) (f .0) l k) (y .0) (y .1 .0) (y .1 .1 .0) (y .1 .1 .1 .0) (y .1 .1 .1 .1 .0)) (c .before .before .before .before .before .made .given .1) (c .before .before .before .before .before .before .before .before .before .before .before .before .before .before .before .before .before .rebuild .ensures) in
-    record { made = sort-made b p hs ns zs n u k l (s .pre .1 .asks) e is (c .before .before .before .before .before .before .before .before .before .before .before .before .before .before .before .before .before .before .before .before .before .before .before .before .before .before .before .before .before .before .before .before .before .before .before .before .before .before .before .before .before .before .before .before .before .before .before .before .before .before .before .before .before .before .if2 .left) o (c .before .before .before .before .before .before .before .before .before .before .before .before .before .before .before .before .before .before .before .before .before .before .before .before .before .before .before .before .before .before .before .before .before .before .before .before .before .before .before .before .before .before .before .before .before .before .before .before .before .read-numbers .ensures) (d .0) (d .1 .0) (d .1 .1 .0) (d .1 .1 .1 .0) (d .1 .1 .1 .1 .0) r (f .0) (f .1 .0) (w .made) (y .0) (y .1 .0) (y .1 .1 .0) (y .1 .1 .1 .0) (y .1 .1 .1 .1 .0) (v .0) (v .1 .0) (v .1 .1 .0) z; known = subst (Known (y .0) (y .1 .0) (v .1 .0) l) (sym (c .before .before .remember .ensures)) (sort-known b p hs ns zs n u k l (s .pre .1 .asks) e is (c .before .before .before .before .before .before .before .before .before .before .before .before .before .before .before .before .before .before .before .before .before .before .before .before .before .before .before .before .before .before .before .before .before .before .before .before .before .before .before .before .before .before .before .before .before .before .before .before .before .before .before .before .before .before .if2 .left) o (c .before .before .before .before .before .before .before .before .before .before .before .before .before .before .before .before .before .before .before .before .before .before .before .before .before .before .before .before .before .before .before .before .before .before .before .before .before .before .before .before .before .before .before .before .before .before .before .before .before .read-numbers .ensures) (d .0) (d .1 .0) (d .1 .1 .0) (d .1 .1 .1 .0) (d .1 .1 .1 .1 .0) r (f .0) (f .1 .0) (w .made) (y .0) (y .1 .0) (y .1 .1 .0) (y .1 .1 .1 .0) (y .1 .1 .1 .1 .0) (v .0) (v .1 .0) (v .1 .1 .0) z (d .1 .1 .1 .1 .1 .0) (w .known)) }
+    let z = subst (MadeIs (d .0) (d .1 .0) (d .1 .1 .0) (f .0) (f .1 .0) (answerAt (d .0) (d .1 .0) (f .0) l k) (y .0) (y .1 .0) (y .1 .1 .0)) (c .before .before .before .before .before .made .given .1) (c .before .before .before .before .before .before .before .before .before .before .before .before .before .rebuild .ensures) in
+    record { made = sort-made b p ix n u k l (s .pre .1 .asks) e is (c .before .before .before .before .before .before .before .before .before .before .before .before .before .before .before .before .before .before .before .before .before .before .before .before .before .before .before .before .before .before .before .before .before .before .before .before .before .before .before .before .before .before .if2 .left) o (c .before .before .before .before .before .before .before .before .before .before .before .before .before .before .before .before .before .before .before .before .before .before .before .before .before .before .before .before .before .before .before .before .before .before .before .before .before .read-numbers .ensures) (d .0) (d .1 .0) (d .1 .1 .0) r (f .0) (f .1 .0) (w .made) (y .0) (y .1 .0) (y .1 .1 .0) (v .0) (v .1 .0) (v .1 .1 .0) z; known = subst (Known (y .0) (y .1 .0) (v .1 .0) l) (sym (c .before .before .remember .ensures)) (sort-known b p ix n u k l (s .pre .1 .asks) e is (c .before .before .before .before .before .before .before .before .before .before .before .before .before .before .before .before .before .before .before .before .before .before .before .before .before .before .before .before .before .before .before .before .before .before .before .before .before .before .before .before .before .before .if2 .left) o (c .before .before .before .before .before .before .before .before .before .before .before .before .before .before .before .before .before .before .before .before .before .before .before .before .before .before .before .before .before .before .before .before .before .before .before .before .before .read-numbers .ensures) (d .0) (d .1 .0) (d .1 .1 .0) r (f .0) (f .1 .0) (w .made) (y .0) (y .1 .0) (y .1 .1 .0) (v .0) (v .1 .0) (v .1 .1 .0) z (d .1 .1 .1 .0) (w .known)) }
+
+apply-sort-same-length-12 : (t : ℕ) → apply-sort-lts.Need-same-length-12 (apply-sort-env t) (apply-sort-at t) apply-sort.Post
+apply-sort-same-length-12 t c = c .before .before .before .before .before .before .before .before .rebuild .kept .0 ∙ c .before .before .before .before .before .before .before .before .before .before .before .before .before .before .before .before .before .before .before .before .before .before .before .before .before .apply-parts .kept .0
+
+apply-sort-same-length-13 : (t : ℕ) → apply-sort-lts.Need-same-length-13 (apply-sort-env t) (apply-sort-at t) apply-sort.Post
+apply-sort-same-length-13 t c = c .before .before .before .before .before .before .before .before .rebuild .kept .1 .0 ∙ c .before .before .before .before .before .before .before .before .before .before .before .before .before .before .before .before .before .before .before .before .before .before .before .before .before .apply-parts .kept .1 .0
 
 apply-sort-same-length-14 : (t : ℕ) → apply-sort-lts.Need-same-length-14 (apply-sort-env t) (apply-sort-at t) apply-sort.Post
-apply-sort-same-length-14 t c = c .before .before .before .before .before .before .before .before .before .before .before .before .rebuild .kept .0 ∙ c .before .before .before .before .before .before .before .before .before .before .before .before .before .before .before .before .before .before .before .before .before .before .before .before .before .before .before .before .before .before .before .before .before .before .before .apply-parts .kept .0
+apply-sort-same-length-14 t c = c .before .before .before .before .before .before .before .before .rebuild .kept .1 .1 .0 ∙ c .before .before .before .before .before .before .before .before .before .before .before .before .before .before .before .before .before .before .before .before .before .before .before .before .before .apply-parts .kept .1 .1 .0
 
 apply-sort-same-length-15 : (t : ℕ) → apply-sort-lts.Need-same-length-15 (apply-sort-env t) (apply-sort-at t) apply-sort.Post
-apply-sort-same-length-15 t c = c .before .before .before .before .before .before .before .before .before .before .before .before .rebuild .kept .1 .0 ∙ c .before .before .before .before .before .before .before .before .before .before .before .before .before .before .before .before .before .before .before .before .before .before .before .before .before .before .before .before .before .before .before .before .before .before .before .apply-parts .kept .1 .0
-
-apply-sort-same-length-16 : (t : ℕ) → apply-sort-lts.Need-same-length-16 (apply-sort-env t) (apply-sort-at t) apply-sort.Post
-apply-sort-same-length-16 t c = c .before .before .before .before .before .before .before .before .before .before .before .before .rebuild .kept .1 .1 .0 ∙ c .before .before .before .before .before .before .before .before .before .before .before .before .before .before .before .before .before .before .before .before .before .before .before .before .before .before .before .before .before .before .before .before .before .before .before .apply-parts .kept .1 .1 .0
-
-apply-sort-same-length-17 : (t : ℕ) → apply-sort-lts.Need-same-length-17 (apply-sort-env t) (apply-sort-at t) apply-sort.Post
-apply-sort-same-length-17 t c = c .before .before .before .before .before .before .before .before .before .before .before .before .rebuild .kept .1 .1 .1 .0 ∙ c .before .before .before .before .before .before .before .before .before .before .before .before .before .before .before .before .before .before .before .before .before .before .before .before .before .before .before .before .before .before .before .before .before .before .before .apply-parts .kept .1 .1 .1 .0
-
-apply-sort-same-length-18 : (t : ℕ) → apply-sort-lts.Need-same-length-18 (apply-sort-env t) (apply-sort-at t) apply-sort.Post
-apply-sort-same-length-18 t c = c .before .before .before .before .before .before .before .before .before .before .before .before .rebuild .kept .1 .1 .1 .1 .0 ∙ c .before .before .before .before .before .before .before .before .before .before .before .before .before .before .before .before .before .before .before .before .before .before .before .before .before .before .before .before .before .before .before .before .before .before .before .apply-parts .kept .1 .1 .1 .1 .0
-
-apply-sort-same-length-19 : (t : ℕ) → apply-sort-lts.Need-same-length-19 (apply-sort-env t) (apply-sort-at t) apply-sort.Post
-apply-sort-same-length-19 t c = c .before .before .before .before .before .before .before .before .before .before .before .before .before .before .before .before .before .before .before .before .before .before .before .before .before .before .before .before .before .before .before .before .before .before .before .apply-parts .kept .1 .1 .1 .1 .1 .0
+apply-sort-same-length-15 t c = c .before .before .before .before .before .before .before .before .before .before .before .before .before .before .before .before .before .before .before .before .before .before .before .before .before .apply-parts .kept .1 .1 .1 .0
 
 apply-sort-returns-5 : (t : ℕ) → apply-sort-lts.Need-returns-5 (apply-sort-env t) (apply-sort-at t) apply-sort.Post
 apply-sort-returns-5 t c =
-    let s = c .before .before .before .before .before .before .before .before .before .before .before .before .before .before .before .before .before .before .before .before .before .before .before .before .before .before .before .before .before .before .before .before .before .before .before .before .before .before .before .before .before .before .before .before .before .before .before .before .before .before .before .before .before .before .before .before .before .before .before .before .before .before .before .before in
+    let s = c .before .before .before .before .before .before .before .before .before .before .before .before .before .before .before .before .before .before .before .before .before .before .before .before .before .before .before .before .before .before .before .before .before .before .before .before .before .before .before .before .before .before .before .before .before .before .before .before .before .before in
     let a = s .args in
     let b = a .records .now in let p = a .places .now in
-    let hs = a .heads .now in let ns = a .next .now in let zs = a .sizes .now in
+    let ix = a .index .now in
     let n = a .count in let u = a .used in
     let l = a .images .now in
     let k = a .k in
-    let e = c .before .before .before .before .before .before .before .before .before .before .before .before .before .before .before .before .before .before .before .before .before .before .before .before .before .before .before .before .before .before .before .before .before .before .before .before .before .before .before .before .before .before .before .before .before .before .before .before .before .before .before .entry .result in
-    let is = c .before .before .before .before .before .before .before .before .before .before .before .before .before .before .before .before .before .before .before .before .before .before .before .before .before .before .before .before .before .before .before .before .before .before .before .before .before .before .before .before .before .before .before .before .before .before .before .before .before .before .before .entry .ensures n (s .pre .1 .asks .ready .good .stored) (s .pre .1 .asks .known) in
-    let o = held (c .before .before .before .before .before .before .before .before .before .before .before .before .before .before .before .before .before .before .before .before .before .before .before .before .before .before .before .before .before .before .before .before .before .before .before .before .before .before .before .before .before .before .before .before .read-numbers .last .1 .1 .1 .0) (e .count) in
-    let d = c .before .before .before .before .before .before .before .before .before .before .before .before .before .before .before .before .before .before .before .before .before .before .before .before .before .before .before .before .before .before .before .before .before .before .before .apply-parts .last in
-    let r = held (d .1 .1 .1 .1 .1 .1 .0) (e .count) in
-    let f = c .before .before .before .before .before .before .before .before .before .before .before .before .before .before .before .before .before .before .before .before .done .given .0 in
-    let w = subst (KnownAllAre b p n u o l (d .0) (d .1 .0) (d .1 .1 .0) (d .1 .1 .1 .0) (d .1 .1 .1 .1 .0) (d .1 .1 .1 .1 .1 .0) r) (c .before .before .before .before .before .before .before .before .before .before .before .before .before .before .before .before .before .before .before .before .done .given .1) (c .before .before .before .before .before .before .before .before .before .before .before .before .before .before .before .before .before .before .before .before .before .before .before .before .before .before .before .before .before .before .before .before .before .before .before .apply-parts .ensures) in
-    let y = c .before .before .before .before .before .before .before .before .before .before .before .before .rebuild .last in
-    sort-full b p hs ns zs n u k l (s .pre .1 .asks) e is (c .before .before .before .before .before .before .before .before .before .before .before .before .before .before .before .before .before .before .before .before .before .before .before .before .before .before .before .before .before .before .before .before .before .before .before .before .before .before .before .before .before .before .before .before .before .before .before .before .before .if2 .left) o (c .before .before .before .before .before .before .before .before .before .before .before .before .before .before .before .before .before .before .before .before .before .before .before .before .before .before .before .before .before .before .before .before .before .before .before .before .before .before .before .before .before .before .before .before .read-numbers .ensures) (d .0) (d .1 .0) (d .1 .1 .0) (d .1 .1 .1 .0) (d .1 .1 .1 .1 .0) r (f .0) (f .1 .0) (w .made) (y .0) (y .1 .0) (y .1 .1 .0) (y .1 .1 .1 .0) (y .1 .1 .1 .1 .0) (subst (MadeIs (d .0) (d .1 .0) (d .1 .1 .0) (d .1 .1 .1 .0) (d .1 .1 .1 .1 .0) (f .0) (f .1 .0) (answerAt (d .0) (d .1 .0) (f .0) l k) (y .0) (y .1 .0) (y .1 .1 .0) (y .1 .1 .1 .0) (y .1 .1 .1 .1 .0)) (c .enum-told .given .1) (c .before .before .before .before .before .before .before .before .before .before .before .before .rebuild .ensures))
+    let e = c .before .before .before .before .before .before .before .before .before .before .before .before .before .before .before .before .before .before .before .before .before .before .before .before .before .before .before .before .before .before .before .before .before .before .before .before .before .before .before .entry .result in
+    let is = c .before .before .before .before .before .before .before .before .before .before .before .before .before .before .before .before .before .before .before .before .before .before .before .before .before .before .before .before .before .before .before .before .before .before .before .before .before .before .before .entry .ensures n (s .pre .1 .asks .ready .good .stored) (s .pre .1 .asks .known) in
+    let o = held (c .before .before .before .before .before .before .before .before .before .before .before .before .before .before .before .before .before .before .before .before .before .before .before .before .before .before .before .before .before .before .before .before .read-numbers .last .1 .1 .1 .0) (e .count) in
+    let d = c .before .before .before .before .before .before .before .before .before .before .before .before .before .before .before .before .before .before .before .before .before .before .before .before .before .apply-parts .last in
+    let r = held (d .1 .1 .1 .1 .0) (e .count) in
+    let f = c .before .before .before .before .before .before .before .before .before .before .before .before .before .before .done .given .0 in
+    let w = subst (KnownAllAre b p n u o l (d .0) (d .1 .0) (d .1 .1 .0) (d .1 .1 .1 .0) r) (c .before .before .before .before .before .before .before .before .before .before .before .before .before .before .done .given .1) (c .before .before .before .before .before .before .before .before .before .before .before .before .before .before .before .before .before .before .before .before .before .before .before .before .before .apply-parts .ensures) in
+    let y = c .before .before .before .before .before .before .before .before .rebuild .last in
+    sort-full b p ix n u k l (s .pre .1 .asks) e is (c .before .before .before .before .before .before .before .before .before .before .before .before .before .before .before .before .before .before .before .before .before .before .before .before .before .before .before .before .before .before .before .before .before .before .before .before .before .if2 .left) o (c .before .before .before .before .before .before .before .before .before .before .before .before .before .before .before .before .before .before .before .before .before .before .before .before .before .before .before .before .before .before .before .before .read-numbers .ensures) (d .0) (d .1 .0) (d .1 .1 .0) r (f .0) (f .1 .0) (w .made) (y .0) (y .1 .0) (y .1 .1 .0) (subst (MadeIs (d .0) (d .1 .0) (d .1 .1 .0) (f .0) (f .1 .0) (answerAt (d .0) (d .1 .0) (f .0) l k) (y .0) (y .1 .0) (y .1 .1 .0)) (c .enum-told .given .1) (c .before .before .before .before .before .before .before .before .rebuild .ensures))
 
-apply-sort-same-length-20 : (t : ℕ) → apply-sort-lts.Need-same-length-20 (apply-sort-env t) (apply-sort-at t) apply-sort.Post
-apply-sort-same-length-20 t c = c .before .before .before .before .before .before .before .before .before .before .before .before .before .before .before .before .apply-parts .kept .0
+apply-sort-same-length-16 : (t : ℕ) → apply-sort-lts.Need-same-length-16 (apply-sort-env t) (apply-sort-at t) apply-sort.Post
+apply-sort-same-length-16 t c = c .before .before .before .before .before .before .before .before .before .before .before .before .apply-parts .kept .0
 
-apply-sort-same-length-21 : (t : ℕ) → apply-sort-lts.Need-same-length-21 (apply-sort-env t) (apply-sort-at t) apply-sort.Post
-apply-sort-same-length-21 t c = c .before .before .before .before .before .before .before .before .before .before .before .before .before .before .before .before .apply-parts .kept .1 .0
+apply-sort-same-length-17 : (t : ℕ) → apply-sort-lts.Need-same-length-17 (apply-sort-env t) (apply-sort-at t) apply-sort.Post
+apply-sort-same-length-17 t c = c .before .before .before .before .before .before .before .before .before .before .before .before .apply-parts .kept .1 .0
 
-apply-sort-same-length-22 : (t : ℕ) → apply-sort-lts.Need-same-length-22 (apply-sort-env t) (apply-sort-at t) apply-sort.Post
-apply-sort-same-length-22 t c = c .before .before .before .before .before .before .before .before .before .before .before .before .before .before .before .before .apply-parts .kept .1 .1 .0
+apply-sort-same-length-18 : (t : ℕ) → apply-sort-lts.Need-same-length-18 (apply-sort-env t) (apply-sort-at t) apply-sort.Post
+apply-sort-same-length-18 t c = c .before .before .before .before .before .before .before .before .before .before .before .before .apply-parts .kept .1 .1 .0
 
-apply-sort-same-length-23 : (t : ℕ) → apply-sort-lts.Need-same-length-23 (apply-sort-env t) (apply-sort-at t) apply-sort.Post
-apply-sort-same-length-23 t c = c .before .before .before .before .before .before .before .before .before .before .before .before .before .before .before .before .apply-parts .kept .1 .1 .1 .0
-
-apply-sort-same-length-24 : (t : ℕ) → apply-sort-lts.Need-same-length-24 (apply-sort-env t) (apply-sort-at t) apply-sort.Post
-apply-sort-same-length-24 t c = c .before .before .before .before .before .before .before .before .before .before .before .before .before .before .before .before .apply-parts .kept .1 .1 .1 .1 .0
-
-apply-sort-same-length-25 : (t : ℕ) → apply-sort-lts.Need-same-length-25 (apply-sort-env t) (apply-sort-at t) apply-sort.Post
-apply-sort-same-length-25 t c = c .before .before .before .before .before .before .before .before .before .before .before .before .before .before .before .before .apply-parts .kept .1 .1 .1 .1 .1 .0
+apply-sort-same-length-19 : (t : ℕ) → apply-sort-lts.Need-same-length-19 (apply-sort-env t) (apply-sort-at t) apply-sort.Post
+apply-sort-same-length-19 t c = c .before .before .before .before .before .before .before .before .before .before .before .before .apply-parts .kept .1 .1 .1 .0
 
 apply-sort-returns-6 : (t : ℕ) → apply-sort-lts.Need-returns-6 (apply-sort-env t) (apply-sort-at t) apply-sort.Post
 apply-sort-returns-6 t c =
-    let s = c .before .before .before .before .before .before .before .before .before .before .before .before .before .before .before .before .before .before .before .before .before .before .before .before .before .before .before .before .before .before .before .before .before .before .before .before .before .before .before .before .before .before .before .before .before in
+    let s = c .before .before .before .before .before .before .before .before .before .before .before .before .before .before .before .before .before .before .before .before .before .before .before .before .before .before .before .before .before .before .before .before .before .before .before .before .before in
     let a = s .args in
     let b = a .records .now in let p = a .places .now in
-    let hs = a .heads .now in let ns = a .next .now in let zs = a .sizes .now in
+    let ix = a .index .now in
     let n = a .count in let u = a .used in
     let l = a .images .now in
     let k = a .k in
-    let e = c .before .before .before .before .before .before .before .before .before .before .before .before .before .before .before .before .before .before .before .before .before .before .before .before .before .before .before .before .before .before .before .before .entry .result in
-    let is = c .before .before .before .before .before .before .before .before .before .before .before .before .before .before .before .before .before .before .before .before .before .before .before .before .before .before .before .before .before .before .before .before .entry .ensures n (s .pre .1 .asks .ready .good .stored) (s .pre .1 .asks .known) in
-    let o = held (c .before .before .before .before .before .before .before .before .before .before .before .before .before .before .before .before .before .before .before .before .before .before .before .before .before .read-numbers .last .1 .1 .1 .0) (e .count) in
-    let d = c .before .before .before .before .before .before .before .before .before .before .before .before .before .before .before .before .apply-parts .last in
-    let r = held (d .1 .1 .1 .1 .1 .1 .0) (e .count) in
+    let e = c .before .before .before .before .before .before .before .before .before .before .before .before .before .before .before .before .before .before .before .before .before .before .before .before .before .before .entry .result in
+    let is = c .before .before .before .before .before .before .before .before .before .before .before .before .before .before .before .before .before .before .before .before .before .before .before .before .before .before .entry .ensures n (s .pre .1 .asks .ready .good .stored) (s .pre .1 .asks .known) in
+    let o = held (c .before .before .before .before .before .before .before .before .before .before .before .before .before .before .before .before .before .before .before .read-numbers .last .1 .1 .1 .0) (e .count) in
+    let d = c .before .before .before .before .before .before .before .before .before .before .before .before .apply-parts .last in
+    let r = held (d .1 .1 .1 .1 .0) (e .count) in
     let f = c .before .done2 .given .0 in
-    let w = subst (KnownAllAre b p n u o l (d .0) (d .1 .0) (d .1 .1 .0) (d .1 .1 .1 .0) (d .1 .1 .1 .1 .0) (d .1 .1 .1 .1 .1 .0) r) (c .before .done2 .given .1) (c .before .before .before .before .before .before .before .before .before .before .before .before .before .before .before .before .apply-parts .ensures) in
-    sort-stuck b p hs ns zs n u k l (s .pre .1 .asks) e is (c .before .before .before .before .before .before .before .before .before .before .before .before .before .before .before .before .before .before .before .before .before .before .before .before .before .before .before .before .before .before .if2 .left) o (c .before .before .before .before .before .before .before .before .before .before .before .before .before .before .before .before .before .before .before .before .before .before .before .before .before .read-numbers .ensures) (d .0) (d .1 .0) (d .1 .1 .0) (d .1 .1 .1 .0) (d .1 .1 .1 .1 .0) (f .0) (f .1 .0) w
+    let w = subst (KnownAllAre b p n u o l (d .0) (d .1 .0) (d .1 .1 .0) (d .1 .1 .1 .0) r) (c .before .done2 .given .1) (c .before .before .before .before .before .before .before .before .before .before .before .before .apply-parts .ensures) in
+    sort-stuck b p ix n u k l (s .pre .1 .asks) e is (c .before .before .before .before .before .before .before .before .before .before .before .before .before .before .before .before .before .before .before .before .before .before .before .before .if2 .left) o (c .before .before .before .before .before .before .before .before .before .before .before .before .before .before .before .before .before .before .before .read-numbers .ensures) (d .0) (d .1 .0) (d .1 .1 .0) (f .0) (f .1 .0) w
 
 pub +apply-parts+apply-sort-spec : {M : Type 1} → statement M
-+apply-parts+apply-sort-spec = close μ-apply-parts μ-apply-sort (λ t. apply-parts-lts.spec (apply-parts-env t) (apply-parts-at t) apply-parts.Post apply-parts-Inv-loop apply-parts-μ-loop (apply-parts-loop-holds t) (apply-parts-mul-k t) (apply-parts-slice-read-k t) (apply-parts-cast-k t) (apply-parts-apply-sort-requires t) (apply-parts-enum-known-made t) (apply-parts-cast-parts t) (apply-parts-mul-parts t) (apply-parts-slice-write-parts t) (apply-parts-enum-known-made-2 t) (apply-parts-same-length t) (apply-parts-same-length-2 t) (apply-parts-same-length-3 t) (apply-parts-same-length-4 t) (apply-parts-same-length-5 t) (apply-parts-same-length-6 t) (apply-parts-same-length-7 t) (apply-parts-returns t) (apply-parts-add-j t) (apply-parts-loop-less t) (apply-parts-loop-again t) (apply-parts-same-length-8 t) (apply-parts-same-length-9 t) (apply-parts-same-length-10 t) (apply-parts-same-length-11 t) (apply-parts-same-length-12 t) (apply-parts-same-length-13 t) (apply-parts-same-length-14 t) (apply-parts-returns-2 t)) (λ t. apply-sort-lts.spec (apply-sort-env t) (apply-sort-at t) apply-sort.Post (apply-sort-recall-requires t) (apply-sort-sub-t28 t) (apply-sort-same-length t) (apply-sort-returns t) (apply-sort-entry-requires t) (apply-sort-image-of-requires t) (apply-sort-same-length-2 t) (apply-sort-same-length-3 t) (apply-sort-same-length-4 t) (apply-sort-returns-2 t) (apply-sort-same-length-5 t) (apply-sort-same-length-6 t) (apply-sort-same-length-7 t) (apply-sort-returns-3 t) (apply-sort-slice-aggregate-read-numbers t) (apply-sort-read-numbers-requires t) (apply-sort-slice-aggregate-apply-parts t) (apply-sort-apply-parts-requires t) (apply-sort-enum-known-done t) (apply-sort-slice-aggregate-rebuild t) (apply-sort-rebuild-requires t) (apply-sort-enum-known-made t) (apply-sort-add-remember t) (apply-sort-remember-requires t) (apply-sort-enum-told t) (apply-sort-enum-known-done-2 t) (apply-sort-same-length-8 t) (apply-sort-same-length-9 t) (apply-sort-same-length-10 t) (apply-sort-same-length-11 t) (apply-sort-same-length-12 t) (apply-sort-same-length-13 t) (apply-sort-returns-4 t) (apply-sort-same-length-14 t) (apply-sort-same-length-15 t) (apply-sort-same-length-16 t) (apply-sort-same-length-17 t) (apply-sort-same-length-18 t) (apply-sort-same-length-19 t) (apply-sort-returns-5 t) (apply-sort-same-length-20 t) (apply-sort-same-length-21 t) (apply-sort-same-length-22 t) (apply-sort-same-length-23 t) (apply-sort-same-length-24 t) (apply-sort-same-length-25 t) (apply-sort-returns-6 t))
++apply-parts+apply-sort-spec = close μ-apply-parts μ-apply-sort (λ t. apply-parts-lts.spec (apply-parts-env t) (apply-parts-at t) apply-parts.Post apply-parts-Inv-loop apply-parts-μ-loop (apply-parts-loop-holds t) (apply-parts-mul-k t) (apply-parts-slice-read-k t) (apply-parts-cast-k t) (apply-parts-apply-sort-requires t) (apply-parts-enum-known-made t) (apply-parts-cast-parts t) (apply-parts-mul-parts t) (apply-parts-slice-write-parts t) (apply-parts-enum-known-made-2 t) (apply-parts-same-length t) (apply-parts-same-length-2 t) (apply-parts-same-length-3 t) (apply-parts-same-length-4 t) (apply-parts-same-length-5 t) (apply-parts-returns t) (apply-parts-add-j t) (apply-parts-loop-less t) (apply-parts-loop-again t) (apply-parts-same-length-6 t) (apply-parts-same-length-7 t) (apply-parts-same-length-8 t) (apply-parts-same-length-9 t) (apply-parts-same-length-10 t) (apply-parts-returns-2 t)) (λ t. apply-sort-lts.spec (apply-sort-env t) (apply-sort-at t) apply-sort.Post (apply-sort-recall-requires t) (apply-sort-sub-t26 t) (apply-sort-same-length t) (apply-sort-returns t) (apply-sort-entry-requires t) (apply-sort-image-of-requires t) (apply-sort-same-length-2 t) (apply-sort-same-length-3 t) (apply-sort-same-length-4 t) (apply-sort-returns-2 t) (apply-sort-same-length-5 t) (apply-sort-same-length-6 t) (apply-sort-same-length-7 t) (apply-sort-returns-3 t) (apply-sort-slice-aggregate-read-numbers t) (apply-sort-read-numbers-requires t) (apply-sort-slice-aggregate-apply-parts t) (apply-sort-apply-parts-requires t) (apply-sort-enum-known-done t) (apply-sort-slice-aggregate-rebuild t) (apply-sort-rebuild-requires t) (apply-sort-enum-known-made t) (apply-sort-add-remember t) (apply-sort-remember-requires t) (apply-sort-enum-told t) (apply-sort-enum-known-done-2 t) (apply-sort-same-length-8 t) (apply-sort-same-length-9 t) (apply-sort-same-length-10 t) (apply-sort-same-length-11 t) (apply-sort-returns-4 t) (apply-sort-same-length-12 t) (apply-sort-same-length-13 t) (apply-sort-same-length-14 t) (apply-sort-same-length-15 t) (apply-sort-returns-5 t) (apply-sort-same-length-16 t) (apply-sort-same-length-17 t) (apply-sort-same-length-18 t) (apply-sort-same-length-19 t) (apply-sort-returns-6 t))

@@ -12,7 +12,7 @@ use Rattle.replacing.proofs.rebuild.Tie as tie
 
 entry-requires : tie.Need-entry-requires
 entry-requires c κs =
-    let s = c .before .before .before .before .before .before .before .before .before in
+    let s = c .before .before .before .before .before .before .before in
     let a = s .args in
     record { placed = omega (arith, s .pre .known, s .pre .ready .good .stored .placed); held = s .pre .ready .good .stored .each (a .k) (s .pre .known) }
 
@@ -21,7 +21,7 @@ slice-aggregate-names-left c = search needs
 
 names-left-requires : tie.Need-names-left-requires
 names-left-requires c κs =
-    let s = c .before .before .before .before .before .before .before .before .before .before .before .before in
+    let s = c .before .before .before .before .before .before .before .before .before .before in
     let a = s .args in
     let n = a .count in
     let is = c .before .before .entry .ensures n (s .pre .ready .good .stored) (s .pre .known) in
@@ -31,7 +31,7 @@ wrapper-goes-requires : tie.Need-wrapper-goes-requires
 wrapper-goes-requires c κs = search needs
 
 shared-slice-read-body : tie.Need-shared-slice-read-body
-shared-slice-read-body c = omega (arith, c .before .before .before .before .before .before .before .before .before .before .before .before .before .before .before .before .before .pre .has .long)
+shared-slice-read-body c = omega (arith, c .before .before .before .before .before .before .before .before .before .before .before .before .before .before .before .pre .has .long)
 
 cast-body : tie.Need-cast-body
 cast-body c = omega (arith, c .shared-slice-known3 .given 0)
@@ -44,13 +44,11 @@ same-length-2 c = search needs
 
 returns : tie.Need-returns
 returns c =
-    let s = c .before .before .before .before .before .before .before .before .before .before .before .before .before .before .before .before .before in
+    let s = c .before .before .before .before .before .before .before .before .before .before .before .before .before .before .before in
     let a = s .args in
     let b = a .records .now in
     let p = a .places .now in
-    let hs = a .heads .now in
-    let ns = a .next .now in
-    let zs = a .sizes .now in
+    let ix = a .index .now in
     let n = a .count in
     let u = a .used in
     let l = a .images .now in
@@ -58,17 +56,15 @@ returns c =
     let e = c .before .before .before .before .before .before .before .entry .result in
     let is = c .before .before .before .before .before .before .before .entry .ensures n (s .pre .ready .good .stored) (s .pre .known) in
     let o = held (c .before .before .before .before .names-left .last .1 .1 .1 .1 .0) (c .before .before .before .before .names-left .result) in
-    rebuild-gone b p hs ns zs n u k (held (a .parts .now) (a .many)) l (s .pre) e is o (c .before .before .before .before .names-left .ensures) (sym (c .before .before .wrapper-goes .ensures) ∙ c .before .if1 .taken)
+    rebuild-gone b p ix n u k (held (a .parts .now) (a .many)) l (s .pre) e is o (c .before .before .before .before .names-left .ensures) (sym (c .before .before .wrapper-goes .ensures) ∙ c .before .if1 .taken)
 
 same-numbers-requires : tie.Need-same-numbers-requires
 same-numbers-requires c κs =
-    let s = c .before .before .before .before .before .before .before .before .before .before .before .before .before .before .before .before .before .before .before in
+    let s = c .before .before .before .before .before .before .before .before .before .before .before .before .before .before .before .before .before in
     let a = s .args in
     let b = a .records .now in
     let p = a .places .now in
-    let hs = a .heads .now in
-    let ns = a .next .now in
-    let zs = a .sizes .now in
+    let ix = a .index .now in
     let n = a .count in
     let u = a .used in
     let l = a .images .now in
@@ -76,7 +72,7 @@ same-numbers-requires c κs =
     let e = c .before .before .before .before .before .before .before .before .before .entry .result in
     let is = c .before .before .before .before .before .before .before .before .before .entry .ensures n (s .pre .ready .good .stored) (s .pre .known) in
     let o = held (c .before .before .before .before .before .before .names-left .last .1 .1 .1 .1 .0) (c .before .before .before .before .before .before .names-left .result) in
-    rebuild-same-asks b p hs ns zs n u k (held (a .parts .now) (a .many)) l (s .pre) e is o (c .before .before .before .before .before .before .names-left .ensures)
+    rebuild-same-asks b p ix n u k (held (a .parts .now) (a .many)) l (s .pre) e is o (c .before .before .before .before .before .before .names-left .ensures)
 
 same-length-3 : tie.Need-same-length-3
 same-length-3 c = search needs
@@ -86,13 +82,11 @@ same-length-4 c = search needs
 
 returns-2 : tie.Need-returns-2
 returns-2 c =
-    let s = c .before .before .before .before .before .before .before .before .before .before .before .before .before .before .before .before .before .before .before .before .before in
+    let s = c .before .before .before .before .before .before .before .before .before .before .before .before .before .before .before .before .before .before .before in
     let a = s .args in
     let b = a .records .now in
     let p = a .places .now in
-    let hs = a .heads .now in
-    let ns = a .next .now in
-    let zs = a .sizes .now in
+    let ix = a .index .now in
     let n = a .count in
     let u = a .used in
     let l = a .images .now in
@@ -100,28 +94,26 @@ returns-2 c =
     let e = c .before .before .before .before .before .before .before .before .before .before .before .entry .result in
     let is = c .before .before .before .before .before .before .before .before .before .before .before .entry .ensures n (s .pre .ready .good .stored) (s .pre .known) in
     let o = held (c .before .before .before .before .before .before .before .before .names-left .last .1 .1 .1 .1 .0) (c .before .before .before .before .before .before .before .before .names-left .result) in
-    rebuild-same b p hs ns zs n u k (held (a .parts .now) (a .many)) l (s .pre) e is o (c .before .before .before .before .before .before .before .before .names-left .ensures) (sym (c .before .before .before .before .before .before .wrapper-goes .ensures) ∙ c .before .before .before .before .before .if1 .left) (c .before .before .before .if2 .taken) (c .before .same-numbers .ensures (c .if3 .taken))
+    rebuild-same b p ix n u k (held (a .parts .now) (a .many)) l (s .pre) e is o (c .before .before .before .before .before .before .before .before .names-left .ensures) (sym (c .before .before .before .before .before .before .wrapper-goes .ensures) ∙ c .before .before .before .before .before .if1 .left) (c .before .before .before .if2 .taken) (c .before .same-numbers .ensures (c .if3 .taken))
 
 slice-aggregate-make : tie.Need-slice-aggregate-make
-slice-aggregate-make c = sym (c .before .before .before .before .before .before .before .before .before .before .before .names-left .ensures .long)
+slice-aggregate-make c = sym (c .before .before .before .before .before .before .before .before .before .names-left .ensures .long)
 
 make-requires : tie.Need-make-requires
 make-requires c κs =
-    let s = c .before .before .before .before .before .before .before .before .before .before .before .before .before .before .before .before .before .before .before .before .before .before .before .before in
+    let s = c .before .before .before .before .before .before .before .before .before .before .before .before .before .before .before .before .before .before .before .before in
     let a = s .args in
     let b = a .records .now in
     let p = a .places .now in
-    let hs = a .heads .now in
-    let ns = a .next .now in
-    let zs = a .sizes .now in
+    let ix = a .index .now in
     let n = a .count in
     let u = a .used in
     let l = a .images .now in
     let k = a .k in
-    let e = c .before .before .before .before .before .before .before .before .before .before .before .before .before .before .entry .result in
-    let is = c .before .before .before .before .before .before .before .before .before .before .before .before .before .before .entry .ensures n (s .pre .ready .good .stored) (s .pre .known) in
-    let o = held (c .before .before .before .before .before .before .before .before .before .before .before .names-left .last .1 .1 .1 .1 .0) (c .before .before .before .before .before .before .before .before .before .before .before .names-left .result) in
-    rebuild-asks b p hs ns zs n u k (held (a .parts .now) (a .many)) l (s .pre) e is o (c .before .before .before .before .before .before .before .before .before .before .before .names-left .ensures) (sym (c .before .before .before .before .before .before .before .before .before .wrapper-goes .ensures) ∙ c .before .before .before .before .before .before .before .before .if1 .left)
+    let e = c .before .before .before .before .before .before .before .before .before .before .before .before .entry .result in
+    let is = c .before .before .before .before .before .before .before .before .before .before .before .before .entry .ensures n (s .pre .ready .good .stored) (s .pre .known) in
+    let o = held (c .before .before .before .before .before .before .before .before .before .names-left .last .1 .1 .1 .1 .0) (c .before .before .before .before .before .before .before .before .before .names-left .result) in
+    rebuild-asks b p ix n u k (held (a .parts .now) (a .many)) l (s .pre) e is o (c .before .before .before .before .before .before .before .before .before .names-left .ensures) (sym (c .before .before .before .before .before .before .before .wrapper-goes .ensures) ∙ c .before .before .before .before .before .before .if1 .left)
 
 same-length-5 : tie.Need-same-length-5
 same-length-5 c = search needs
@@ -132,30 +124,22 @@ same-length-6 c = search needs
 same-length-7 : tie.Need-same-length-7
 same-length-7 c = search needs
 
-same-length-8 : tie.Need-same-length-8
-same-length-8 c = search needs
-
-same-length-9 : tie.Need-same-length-9
-same-length-9 c = search needs
-
 returns-3 : tie.Need-returns-3
 returns-3 c =
-    let s = c .before .before .before .before .before .before .before .before .before .before .before .before .before .before .before .before .before .before .before .before .before .before .before .before .before .before .before .before .before .before .before .before .before .before .before in
+    let s = c .before .before .before .before .before .before .before .before .before .before .before .before .before .before .before .before .before .before .before .before .before .before .before .before .before .before .before in
     let a = s .args in
     let b = a .records .now in
     let p = a .places .now in
-    let hs = a .heads .now in
-    let ns = a .next .now in
-    let zs = a .sizes .now in
+    let ix = a .index .now in
     let n = a .count in
     let u = a .used in
     let l = a .images .now in
     let k = a .k in
-    let e = c .before .before .before .before .before .before .before .before .before .before .before .before .before .before .before .before .before .before .before .before .before .before .before .before .before .entry .result in
-    let is = c .before .before .before .before .before .before .before .before .before .before .before .before .before .before .before .before .before .before .before .before .before .before .before .before .before .entry .ensures n (s .pre .ready .good .stored) (s .pre .known) in
-    let o = held (c .before .before .before .before .before .before .before .before .before .before .before .before .before .before .before .before .before .before .before .before .before .before .names-left .last .1 .1 .1 .1 .0) (c .before .before .before .before .before .before .before .before .before .before .before .before .before .before .before .before .before .before .before .before .before .before .names-left .result) in
-    let d = c .before .before .before .before .before .before .before .before .before .before .make .last in
-    rebuild-made b p hs ns zs n u k (held (a .parts .now) (a .many)) l (s .pre) e is o (c .before .before .before .before .before .before .before .before .before .before .before .before .before .before .before .before .before .before .before .before .before .before .names-left .ensures) (sym (c .before .before .before .before .before .before .before .before .before .before .before .before .before .before .before .before .before .before .before .before .wrapper-goes .ensures) ∙ c .before .before .before .before .before .before .before .before .before .before .before .before .before .before .before .before .before .before .before .if1 .left) (d .0) (d .1 .0) (d .1 .1 .0) (d .1 .1 .1 .0) (d .1 .1 .1 .1 .0) (c .before .before .before .before .before .before .before .before .before .before .make .result) (c .before .before .before .before .before .before .before .before .before .before .make .ensures)
+    let e = c .before .before .before .before .before .before .before .before .before .before .before .before .before .before .before .before .before .before .before .entry .result in
+    let is = c .before .before .before .before .before .before .before .before .before .before .before .before .before .before .before .before .before .before .before .entry .ensures n (s .pre .ready .good .stored) (s .pre .known) in
+    let o = held (c .before .before .before .before .before .before .before .before .before .before .before .before .before .before .before .before .names-left .last .1 .1 .1 .1 .0) (c .before .before .before .before .before .before .before .before .before .before .before .before .before .before .before .before .names-left .result) in
+    let d = c .before .before .before .before .before .before .make .last in
+    rebuild-made b p ix n u k (held (a .parts .now) (a .many)) l (s .pre) e is o (c .before .before .before .before .before .before .before .before .before .before .before .before .before .before .before .before .names-left .ensures) (sym (c .before .before .before .before .before .before .before .before .before .before .before .before .before .before .wrapper-goes .ensures) ∙ c .before .before .before .before .before .before .before .before .before .before .before .before .before .if1 .left) (d .0) (d .1 .0) (d .1 .1 .0) (c .before .before .before .before .before .before .make .result) (c .before .before .before .before .before .before .make .ensures)
 
 pub rebuild-spec : {M : Type 1} → statement M
-rebuild-spec = tie.close (tie.spec entry-requires slice-aggregate-names-left names-left-requires wrapper-goes-requires shared-slice-read-body cast-body same-length same-length-2 returns same-numbers-requires same-length-3 same-length-4 returns-2 slice-aggregate-make make-requires same-length-5 same-length-6 same-length-7 same-length-8 same-length-9 returns-3)
+rebuild-spec = tie.close (tie.spec entry-requires slice-aggregate-names-left names-left-requires wrapper-goes-requires shared-slice-read-body cast-body same-length same-length-2 returns same-numbers-requires same-length-3 same-length-4 returns-2 slice-aggregate-make make-requires same-length-5 same-length-6 same-length-7 returns-3)

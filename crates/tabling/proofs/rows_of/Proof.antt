@@ -10,18 +10,13 @@ use Rattle.tabling.proofs.PastRows.{inferred-asks, checked-asks, rows-w
 use Rattle.tabling.proofs.rows_of.Statement.{statement}
 use Rattle.tabling.proofs.rows_of.Tie as tie
 
-slice-aggregate-inferred-row : tie.Need-slice-aggregate-inferred-row
-slice-aggregate-inferred-row c = search needs
-
 inferred-row-requires : tie.Need-inferred-row-requires
 inferred-row-requires c κs =
-    let s = c .before .before .before .before .before .before .before .before .before .before .before .before .before .before .before .before .before .before .before .before .before .before .before .before .before in
+    let s = c .before .before .before .before .before .before .before .before .before .before .before .before .before .before .before .before .before .before .before .before .before in
     let a = s .args in
     let b = a .records .now in
     let p = a .places .now in
-    let hs = a .heads .now in
-    let ns = a .next .now in
-    let zs = a .sizes .now in
+    let ix = a .index .now in
     let n = a .count in
     let u = a .used in
     let m = a .params .now in
@@ -35,20 +30,15 @@ inferred-row-requires c κs =
     let e = a .inferences .now in
     let f = a .checks .now in
     let y = s .pre .1 in
-    inferred-asks b p hs ns zs n u m g o d t x w (a .term) (a .t) h e f y (replicate 266 0) (omega (arith, length-replicate {A = ℕ} 266 0))
-
-slice-aggregate-checked-row : tie.Need-slice-aggregate-checked-row
-slice-aggregate-checked-row c = search needs
+    inferred-asks b p ix n u m g o d t x w (a .term) (a .t) h e f y (replicate 266 0) (omega (arith, length-replicate {A = ℕ} 266 0))
 
 checked-row-requires : tie.Need-checked-row-requires
 checked-row-requires c κs =
-    let s = c .before .before .before .before .before .before .before .before .before .before .before .before .before .before .before .before .before .before .before .before .before .before .before .before .before .before .before .before .before .before .before .before .before .before .before .before .before .before .before .before .before .before .before .before .before .before .before .before .before .before .before .before .before .before .before .before in
+    let s = c .before .before .before .before .before .before .before .before .before .before .before .before .before .before .before .before .before .before .before .before .before .before .before .before .before .before .before .before .before .before .before .before .before .before .before .before .before .before .before .before .before .before .before .before .before .before in
     let a = s .args in
     let b = a .records .now in
     let p = a .places .now in
-    let hs = a .heads .now in
-    let ns = a .next .now in
-    let zs = a .sizes .now in
+    let ix = a .index .now in
     let n = a .count in
     let u = a .used in
     let m = a .params .now in
@@ -62,82 +52,71 @@ checked-row-requires c κs =
     let e = a .inferences .now in
     let f = a .checks .now in
     let y = s .pre .1 in
-    let i = c .before .before .before .before .before .before .before .before .before .before .before .before .before .before .before .before .before .before .before .before .before .before .before .before .before .before .before .before .before .before .inferred-row .last in
-    checked-asks b p hs ns zs n u m g o d t x w (a .term) (a .t) h e f y (i .0) (i .1 .0) (i .1 .1 .0) (i .1 .1 .1 .0) (i .1 .1 .1 .1 .0) (i .1 .1 .1 .1 .1 .1 .1 .0) (i .1 .1 .1 .1 .1 .1 .1 .1 .0) (i .1 .1 .1 .1 .1 .1 .1 .1 .1 .0) (c .before .before .before .before .before .before .before .before .before .before .before .before .before .before .before .before .before .before .before .before .before .before .before .before .before .before .before .before .before .before .inferred-row .result) (i .1 .1 .1 .1 .1 .1 .1 .1 .1 .1 .1 .1 .1 .1 .1 .1 .0) (c .before .before .before .before .before .before .before .before .before .before .before .before .before .before .before .before .before .before .before .before .before .before .before .before .before .before .before .before .before .before .inferred-row .ensures) (i .1 .1 .1 .1 .1 .1 .1 .1 .1 .1 .1 .1 .1 .1 .1 .0) (omega (arith, c .before .before .before .before .before .before .before .before .before .before .before .before .before .before .before .before .before .before .before .before .before .before .before .before .before .before .before .before .before .before .inferred-row .kept .1 .1 .1 .1 .1 .1 .1 .1 .1 .1 .1 .1 .1 .1 .1 .0))
+    let i = c .before .before .before .before .before .before .before .before .before .before .before .before .before .before .before .before .before .before .before .before .before .before .before .before .inferred-row .last in
+    checked-asks b p ix n u m g o d t x w (a .term) (a .t) h e f y (i .0) (i .1 .0) (i .1 .1 .0) (i .1 .1 .1 .1 .1 .0) (i .1 .1 .1 .1 .1 .1 .0) (i .1 .1 .1 .1 .1 .1 .1 .0) (c .before .before .before .before .before .before .before .before .before .before .before .before .before .before .before .before .before .before .before .before .before .before .before .before .inferred-row .result) (i .1 .1 .1 .1 .1 .1 .1 .1 .1 .1 .1 .1 .1 .1 .0) (c .before .before .before .before .before .before .before .before .before .before .before .before .before .before .before .before .before .before .before .before .before .before .before .before .inferred-row .ensures) (i .1 .1 .1 .1 .1 .1 .1 .1 .1 .1 .1 .1 .1 .0) (omega (arith, c .before .before .before .before .before .before .before .before .before .before .before .before .before .before .before .before .before .before .before .before .before .before .before .before .inferred-row .kept .1 .1 .1 .1 .1 .1 .1 .1 .1 .1 .1 .1 .1 .0))
 
 code-requires : tie.Need-code-requires
-code-requires c κs = answer-code _ _ _ _ _ _ _ _ _ _ (c .before .before .before .before .before .before .before .before .before .before .before .before .before .before .before .before .before .before .before .before .before .before .before .before .before .before .before .before .before .before .before .before .before .before .before .before .before .before .before .before .before .before .before .before .before .before .before .before .before .before .inferred-row .ensures .row .answer)
+code-requires c κs = answer-code _ _ _ _ _ _ _ _ (c .before .before .before .before .before .before .before .before .before .before .before .before .before .before .before .before .before .before .before .before .before .before .before .before .before .before .before .before .before .before .before .before .before .before .before .before .before .before .before .before .inferred-row .ensures .row .answer)
 
 mul-rows : tie.Need-mul-rows
-mul-rows c = omega (arith, c .before .before .before .before .before .before .before .before .before .before .before .before .before .before .before .before .before .before .before .before .before .before .before .before .before .before .before .before .before .before .before .before .before .before .before .before .before .before .before .before .before .before .before .before .before .before .before .before .before .before .before .before .before .before .before .before .before .before .before .before .before .before .before .before .before .before .before .before .before .before .before .before .before .before .before .before .before .pre .0 .few)
+mul-rows c = omega (arith, c .before .before .before .before .before .before .before .before .before .before .before .before .before .before .before .before .before .before .before .before .before .before .before .before .before .before .before .before .before .before .before .before .before .before .before .before .before .before .before .before .before .before .before .before .before .before .before .before .before .before .before .before .before .before .before .before .before .before .before .before .before .before .before .pre .0 .few)
 
 mul-rows-2 : tie.Need-mul-rows-2
-mul-rows-2 c = omega (arith, c .before .before .before .before .before .before .before .before .before .before .before .before .before .before .before .before .before .before .before .before .before .before .before .before .before .before .before .before .before .before .before .before .before .before .before .before .before .before .before .before .before .before .before .before .before .before .before .before .before .before .before .before .before .before .before .before .before .before .before .before .before .before .before .before .before .before .before .before .before .before .before .before .before .before .before .before .before .pre .0 .few)
+mul-rows-2 c = omega (arith, c .before .before .before .before .before .before .before .before .before .before .before .before .before .before .before .before .before .before .before .before .before .before .before .before .before .before .before .before .before .before .before .before .before .before .before .before .before .before .before .before .before .before .before .before .before .before .before .before .before .before .before .before .before .before .before .before .before .before .before .before .before .before .before .pre .0 .few)
 
 slice-write-rows : tie.Need-slice-write-rows
-slice-write-rows c = omega (arith, c .before .before .before .before .before .before .before .before .before .before .before .before .before .before .before .before .before .before .before .before .before .before .before .before .before .before .before .before .before .before .before .before .before .before .before .before .before .before .before .before .before .before .before .before .before .before .before .before .before .before .before .before .before .before .before .before .before .before .before .before .before .before .before .before .before .before .before .before .before .before .before .before .before .before .before .before .before .pre .0 .room)
+slice-write-rows c = omega (arith, c .before .before .before .before .before .before .before .before .before .before .before .before .before .before .before .before .before .before .before .before .before .before .before .before .before .before .before .before .before .before .before .before .before .before .before .before .before .before .before .before .before .before .before .before .before .before .before .before .before .before .before .before .before .before .before .before .before .before .before .before .before .before .before .pre .0 .room)
 
 code-requires-2 : tie.Need-code-requires-2
-code-requires-2 c κs = answer-code _ _ _ _ _ _ _ _ _ _ (c .before .before .before .before .before .before .before .before .before .before .before .before .before .before .before .before .before .before .before .before .checked-row .ensures .row .answer)
+code-requires-2 c κs = answer-code _ _ _ _ _ _ _ _ (c .before .before .before .before .before .before .before .before .before .before .before .before .before .before .before .before .checked-row .ensures .row .answer)
 
 mul-rows-3 : tie.Need-mul-rows-3
-mul-rows-3 c = omega (arith, c .before .before .before .before .before .before .before .before .before .before .before .before .before .before .before .before .before .before .before .before .before .before .before .before .before .before .before .before .before .before .before .before .before .before .before .before .before .before .before .before .before .before .before .before .before .before .before .before .before .before .before .before .before .before .before .before .before .before .before .before .before .before .before .before .before .before .before .before .before .before .before .before .before .before .before .before .before .before .pre .0 .few)
+mul-rows-3 c = omega (arith, c .before .before .before .before .before .before .before .before .before .before .before .before .before .before .before .before .before .before .before .before .before .before .before .before .before .before .before .before .before .before .before .before .before .before .before .before .before .before .before .before .before .before .before .before .before .before .before .before .before .before .before .before .before .before .before .before .before .before .before .before .before .before .before .before .pre .0 .few)
 
 add-rows : tie.Need-add-rows
-add-rows c = omega (arith, c .before .before .before .before .before .before .before .before .before .before .before .before .before .before .before .before .before .before .before .before .before .before .before .before .before .before .before .before .before .before .before .before .before .before .before .before .before .before .before .before .before .before .before .before .before .before .before .before .before .before .before .before .before .before .before .before .before .before .before .before .before .before .before .before .before .before .before .before .before .before .before .before .before .before .before .before .before .before .pre .0 .few)
+add-rows c = omega (arith, c .before .before .before .before .before .before .before .before .before .before .before .before .before .before .before .before .before .before .before .before .before .before .before .before .before .before .before .before .before .before .before .before .before .before .before .before .before .before .before .before .before .before .before .before .before .before .before .before .before .before .before .before .before .before .before .before .before .before .before .before .before .before .before .before .pre .0 .few)
 
 mul-rows-4 : tie.Need-mul-rows-4
-mul-rows-4 c = omega (arith, c .before .before .before .before .before .before .before .before .before .before .before .before .before .before .before .before .before .before .before .before .before .before .before .before .before .before .before .before .before .before .before .before .before .before .before .before .before .before .before .before .before .before .before .before .before .before .before .before .before .before .before .before .before .before .before .before .before .before .before .before .before .before .before .before .before .before .before .before .before .before .before .before .before .before .before .before .before .before .pre .0 .few)
+mul-rows-4 c = omega (arith, c .before .before .before .before .before .before .before .before .before .before .before .before .before .before .before .before .before .before .before .before .before .before .before .before .before .before .before .before .before .before .before .before .before .before .before .before .before .before .before .before .before .before .before .before .before .before .before .before .before .before .before .before .before .before .before .before .before .before .before .before .before .before .before .before .pre .0 .few)
 
 slice-write-rows-2 : tie.Need-slice-write-rows-2
 slice-write-rows-2 c =
-    let s = c .before .before .before .before .before .before .before .before .before .before .before .before .before .before .before .before .before .before .before .before .before .before .before .before .before .before .before .before .before .before .before .before .before .before .before .before .before .before .before .before .before .before .before .before .before .before .before .before .before .before .before .before .before .before .before .before .before .before .before .before .before .before .before .before .before .before .before .before .before .before .before .before .before .before .before .before .before .before in
+    let s = c .before .before .before .before .before .before .before .before .before .before .before .before .before .before .before .before .before .before .before .before .before .before .before .before .before .before .before .before .before .before .before .before .before .before .before .before .before .before .before .before .before .before .before .before .before .before .before .before .before .before .before .before .before .before .before .before .before .before .before .before .before .before .before .before in
     let a = s .args in
     let w = a .rows .now in
     omega (arith, s .pre .0 .room, length-set w (2 * a .t) (c .before .code .result))
 
 same-length : tie.Need-same-length
-same-length c = c .before .before .before .before .before .before .before .before .before .before .before .before .before .before .before .before .before .before .before .before .before .checked-row .ensures .row .answer .long ∙ c .before .before .before .before .before .before .before .before .before .before .before .before .before .before .before .before .before .before .before .before .before .before .before .before .before .before .before .before .before .before .before .before .before .before .before .before .before .before .before .before .before .before .before .before .before .before .before .before .before .before .before .before .inferred-row .ensures .row .answer .long
+same-length c = c .before .before .before .before .before .before .before .before .before .before .before .before .before .before .before .before .before .checked-row .ensures .row .answer .long ∙ c .before .before .before .before .before .before .before .before .before .before .before .before .before .before .before .before .before .before .before .before .before .before .before .before .before .before .before .before .before .before .before .before .before .before .before .before .before .before .before .before .before .before .inferred-row .ensures .row .answer .long
 
 same-length-2 : tie.Need-same-length-2
-same-length-2 c = c .before .before .before .before .before .before .before .before .before .before .before .before .before .before .before .before .before .before .before .before .before .checked-row .ensures .row .answer .wide ∙ c .before .before .before .before .before .before .before .before .before .before .before .before .before .before .before .before .before .before .before .before .before .before .before .before .before .before .before .before .before .before .before .before .before .before .before .before .before .before .before .before .before .before .before .before .before .before .before .before .before .before .before .before .inferred-row .ensures .row .answer .wide
+same-length-2 c = c .before .before .before .before .before .before .before .before .before .before .before .before .before .before .before .before .before .checked-row .ensures .row .answer .wide ∙ c .before .before .before .before .before .before .before .before .before .before .before .before .before .before .before .before .before .before .before .before .before .before .before .before .before .before .before .before .before .before .before .before .before .before .before .before .before .before .before .before .before .before .inferred-row .ensures .row .answer .wide
 
 same-length-3 : tie.Need-same-length-3
-same-length-3 c = c .before .before .before .before .before .before .before .before .before .before .before .before .before .before .before .before .before .before .before .before .before .checked-row .ensures .row .answer .good .indexed .heads ∙ sym (c .before .before .before .before .before .before .before .before .before .before .before .before .before .before .before .before .before .before .before .before .before .before .before .before .before .before .before .before .before .before .before .before .before .before .before .before .before .before .before .before .before .before .before .before .before .before .before .before .before .before .before .before .before .before .before .before .before .before .before .before .before .before .before .before .before .before .before .before .before .before .before .before .before .before .before .before .before .before .pre .0 .good .indexed .heads)
+same-length-3 c = c .before .before .before .before .before .before .before .before .before .before .before .before .before .before .before .before .before .checked-row .ensures .row .answer .good .indexed .table ∙ sym (c .before .before .before .before .before .before .before .before .before .before .before .before .before .before .before .before .before .before .before .before .before .before .before .before .before .before .before .before .before .before .before .before .before .before .before .before .before .before .before .before .before .before .before .before .before .before .before .before .before .before .before .before .before .before .before .before .before .before .before .before .before .before .before .before .pre .0 .good .indexed .table)
 
 same-length-4 : tie.Need-same-length-4
-same-length-4 c = c .before .before .before .before .before .before .before .before .before .before .before .before .before .before .before .before .before .before .before .before .before .checked-row .ensures .row .answer .good .indexed .next ∙ sym (c .before .before .before .before .before .before .before .before .before .before .before .before .before .before .before .before .before .before .before .before .before .before .before .before .before .before .before .before .before .before .before .before .before .before .before .before .before .before .before .before .before .before .before .before .before .before .before .before .before .before .before .before .before .before .before .before .before .before .before .before .before .before .before .before .before .before .before .before .before .before .before .before .before .before .before .before .before .before .pre .0 .good .indexed .next)
+same-length-4 c = ap length (c .before .before .before .before .before .before .before .before .before .before .before .before .before .before .before .before .before .checked-row .ensures .row .params ∙ c .before .before .before .before .before .before .before .before .before .before .before .before .before .before .before .before .before .before .before .before .before .before .before .before .before .before .before .before .before .before .before .before .before .before .before .before .before .before .before .before .before .before .inferred-row .ensures .row .params)
 
 same-length-5 : tie.Need-same-length-5
-same-length-5 c = c .before .before .before .before .before .before .before .before .before .before .before .before .before .before .before .before .before .before .before .before .before .checked-row .ensures .row .answer .good .sized .table ∙ sym (c .before .before .before .before .before .before .before .before .before .before .before .before .before .before .before .before .before .before .before .before .before .before .before .before .before .before .before .before .before .before .before .before .before .before .before .before .before .before .before .before .before .before .before .before .before .before .before .before .before .before .before .before .before .before .before .before .before .before .before .before .before .before .before .before .before .before .before .before .before .before .before .before .before .before .before .before .before .before .pre .0 .good .sized .table)
+same-length-5 c = ap length (c .before .before .before .before .before .before .before .before .before .before .before .before .before .before .before .before .before .checked-row .ensures .row .images ∙ c .before .before .before .before .before .before .before .before .before .before .before .before .before .before .before .before .before .before .before .before .before .before .before .before .before .before .before .before .before .before .before .before .before .before .before .before .before .before .before .before .before .before .inferred-row .ensures .row .images)
 
 same-length-6 : tie.Need-same-length-6
-same-length-6 c = ap length (c .before .before .before .before .before .before .before .before .before .before .before .before .before .before .before .before .before .before .before .before .before .checked-row .ensures .row .params ∙ c .before .before .before .before .before .before .before .before .before .before .before .before .before .before .before .before .before .before .before .before .before .before .before .before .before .before .before .before .before .before .before .before .before .before .before .before .before .before .before .before .before .before .before .before .before .before .before .before .before .before .before .before .inferred-row .ensures .row .params)
-
-same-length-7 : tie.Need-same-length-7
-same-length-7 c = ap length (c .before .before .before .before .before .before .before .before .before .before .before .before .before .before .before .before .before .before .before .before .before .checked-row .ensures .row .images ∙ c .before .before .before .before .before .before .before .before .before .before .before .before .before .before .before .before .before .before .before .before .before .before .before .before .before .before .before .before .before .before .before .before .before .before .before .before .before .before .before .before .before .before .before .before .before .before .before .before .before .before .before .before .inferred-row .ensures .row .images)
+same-length-6 c = ap length (c .before .before .before .before .before .before .before .before .before .before .before .before .before .before .before .before .before .checked-row .ensures .row .bound ∙ c .before .before .before .before .before .before .before .before .before .before .before .before .before .before .before .before .before .before .before .before .before .before .before .before .before .before .before .before .before .before .before .before .before .before .before .before .before .before .before .before .before .before .inferred-row .ensures .row .bound)
 
 same-length-8 : tie.Need-same-length-8
-same-length-8 c = ap length (c .before .before .before .before .before .before .before .before .before .before .before .before .before .before .before .before .before .before .before .before .before .checked-row .ensures .row .bound ∙ c .before .before .before .before .before .before .before .before .before .before .before .before .before .before .before .before .before .before .before .before .before .before .before .before .before .before .before .before .before .before .before .before .before .before .before .before .before .before .before .before .before .before .before .before .before .before .before .before .before .before .before .before .inferred-row .ensures .row .bound)
+same-length-8 c = c .before .before .before .before .before .before .before .before .before .before .before .before .before .before .before .before .before .before .before .before .before .before .before .before .before .before .before .before .before .before .before .before .before .before .before .before .before .before .before .before .before .before .inferred-row .kept .1 .1 .1 .1 .1 .1 .1 .1 .1 .1 .1 .1 .1 .1 .0
 
 same-length-9 : tie.Need-same-length-9
-same-length-9 c = search needs
-
-same-length-10 : tie.Need-same-length-10
-same-length-10 c = c .before .before .before .before .before .before .before .before .before .before .before .before .before .before .before .before .before .before .before .before .before .before .before .before .before .before .before .before .before .before .before .before .before .before .before .before .before .before .before .before .before .before .before .before .before .before .before .before .before .before .before .before .inferred-row .kept .1 .1 .1 .1 .1 .1 .1 .1 .1 .1 .1 .1 .1 .1 .1 .1 .0
-
-same-length-11 : tie.Need-same-length-11
-same-length-11 c = c .before .before .before .before .before .before .before .before .before .before .before .before .before .before .before .before .before .before .before .before .before .checked-row .kept .1 .1 .1 .1 .1 .1 .1 .1 .1 .1 .1 .1 .1 .1 .1 .1 .0
+same-length-9 c = c .before .before .before .before .before .before .before .before .before .before .before .before .before .before .before .before .before .checked-row .kept .1 .1 .1 .1 .1 .1 .1 .1 .1 .1 .1 .1 .1 .1 .0
 
 returns : tie.Need-returns
 returns c =
-    let s = c .before .before .before .before .before .before .before .before .before .before .before .before .before .before .before .before .before .before .before .before .before .before .before .before .before .before .before .before .before .before .before .before .before .before .before .before .before .before .before .before .before .before .before .before .before .before .before .before .before .before .before .before .before .before .before .before .before .before .before .before .before .before .before .before .before .before .before .before .before .before .before .before .before .before .before .before .before .before in
+    let s = c .before .before .before .before .before .before .before .before .before .before .before .before .before .before .before .before .before .before .before .before .before .before .before .before .before .before .before .before .before .before .before .before .before .before .before .before .before .before .before .before .before .before .before .before .before .before .before .before .before .before .before .before .before .before .before .before .before .before .before .before .before .before .before .before in
     let a = s .args in
     let b = a .records .now in
     let p = a .places .now in
-    let hs = a .heads .now in
-    let ns = a .next .now in
-    let zs = a .sizes .now in
+    let ix = a .index .now in
     let n = a .count in
     let u = a .used in
     let m = a .params .now in
@@ -151,9 +130,9 @@ returns c =
     let e = a .inferences .now in
     let f = a .checks .now in
     let y = s .pre .1 in
-    let i = c .before .before .before .before .before .before .before .before .before .before .before .before .before .before .before .before .before .before .before .before .before .before .before .before .before .before .before .before .before .before .before .before .before .before .before .before .before .before .before .before .before .before .before .before .before .before .before .before .before .before .before .before .inferred-row .last in
-    let k = c .before .before .before .before .before .before .before .before .before .before .before .before .before .before .before .before .before .before .before .before .before .checked-row .last in
-    (rows-written b p hs ns zs n u m g o d t x w (a .term) (a .t) h e f y (i .0) (i .1 .0) (i .1 .1 .0) (i .1 .1 .1 .0) (i .1 .1 .1 .1 .0) (i .1 .1 .1 .1 .1 .1 .1 .0) (i .1 .1 .1 .1 .1 .1 .1 .1 .0) (i .1 .1 .1 .1 .1 .1 .1 .1 .1 .0) (c .before .before .before .before .before .before .before .before .before .before .before .before .before .before .before .before .before .before .before .before .before .before .before .before .before .before .before .before .before .before .before .before .before .before .before .before .before .before .before .before .before .before .before .before .before .before .before .before .before .before .before .before .inferred-row .result) (i .1 .1 .1 .1 .1 .1 .1 .1 .1 .1 .1 .1 .1 .1 .1 .1 .0) (c .before .before .before .before .before .before .before .before .before .before .before .before .before .before .before .before .before .before .before .before .before .before .before .before .before .before .before .before .before .before .before .before .before .before .before .before .before .before .before .before .before .before .before .before .before .before .before .before .before .before .before .before .inferred-row .ensures) (k .0) (k .1 .0) (k .1 .1 .0) (k .1 .1 .1 .0) (k .1 .1 .1 .1 .0) (k .1 .1 .1 .1 .1 .1 .1 .0) (k .1 .1 .1 .1 .1 .1 .1 .1 .0) (k .1 .1 .1 .1 .1 .1 .1 .1 .1 .0) (c .before .before .before .before .before .before .before .before .before .before .before .before .before .before .before .before .before .before .before .before .before .checked-row .result) (k .1 .1 .1 .1 .1 .1 .1 .1 .1 .1 .1 .1 .1 .1 .1 .1 .0) (c .before .before .before .before .before .before .before .before .before .before .before .before .before .before .before .before .before .before .before .before .before .checked-row .ensures) (c .before .code .result) (c .code2 .result) (c .before .code .ensures) (c .code2 .ensures), pasts-after b p hs ns zs n u m g o d t x w (a .term) (a .t) h e f y (i .0) (i .1 .0) (i .1 .1 .0) (i .1 .1 .1 .0) (i .1 .1 .1 .1 .0) (i .1 .1 .1 .1 .1 .1 .1 .0) (i .1 .1 .1 .1 .1 .1 .1 .1 .0) (i .1 .1 .1 .1 .1 .1 .1 .1 .1 .0) (c .before .before .before .before .before .before .before .before .before .before .before .before .before .before .before .before .before .before .before .before .before .before .before .before .before .before .before .before .before .before .before .before .before .before .before .before .before .before .before .before .before .before .before .before .before .before .before .before .before .before .before .before .inferred-row .result) (i .1 .1 .1 .1 .1 .1 .1 .1 .1 .1 .1 .1 .1 .1 .1 .1 .0) (c .before .before .before .before .before .before .before .before .before .before .before .before .before .before .before .before .before .before .before .before .before .before .before .before .before .before .before .before .before .before .before .before .before .before .before .before .before .before .before .before .before .before .before .before .before .before .before .before .before .before .before .before .inferred-row .ensures) (k .0) (k .1 .0) (k .1 .1 .0) (k .1 .1 .1 .0) (k .1 .1 .1 .1 .0) (k .1 .1 .1 .1 .1 .1 .1 .0) (k .1 .1 .1 .1 .1 .1 .1 .1 .0) (k .1 .1 .1 .1 .1 .1 .1 .1 .1 .0) (c .before .before .before .before .before .before .before .before .before .before .before .before .before .before .before .before .before .before .before .before .before .checked-row .result) (k .1 .1 .1 .1 .1 .1 .1 .1 .1 .1 .1 .1 .1 .1 .1 .1 .0) (c .before .before .before .before .before .before .before .before .before .before .before .before .before .before .before .before .before .before .before .before .before .checked-row .ensures) (c .before .code .result) (c .code2 .result) (c .before .code .ensures) (c .code2 .ensures))
+    let i = c .before .before .before .before .before .before .before .before .before .before .before .before .before .before .before .before .before .before .before .before .before .before .before .before .before .before .before .before .before .before .before .before .before .before .before .before .before .before .before .before .before .before .inferred-row .last in
+    let k = c .before .before .before .before .before .before .before .before .before .before .before .before .before .before .before .before .before .checked-row .last in
+    (rows-written b p ix n u m g o d t x w (a .term) (a .t) h e f y (i .0) (i .1 .0) (i .1 .1 .0) (i .1 .1 .1 .1 .1 .0) (i .1 .1 .1 .1 .1 .1 .0) (i .1 .1 .1 .1 .1 .1 .1 .0) (c .before .before .before .before .before .before .before .before .before .before .before .before .before .before .before .before .before .before .before .before .before .before .before .before .before .before .before .before .before .before .before .before .before .before .before .before .before .before .before .before .before .before .inferred-row .result) (i .1 .1 .1 .1 .1 .1 .1 .1 .1 .1 .1 .1 .1 .1 .0) (c .before .before .before .before .before .before .before .before .before .before .before .before .before .before .before .before .before .before .before .before .before .before .before .before .before .before .before .before .before .before .before .before .before .before .before .before .before .before .before .before .before .before .inferred-row .ensures) (k .0) (k .1 .0) (k .1 .1 .0) (k .1 .1 .1 .1 .1 .0) (k .1 .1 .1 .1 .1 .1 .0) (k .1 .1 .1 .1 .1 .1 .1 .0) (c .before .before .before .before .before .before .before .before .before .before .before .before .before .before .before .before .before .checked-row .result) (k .1 .1 .1 .1 .1 .1 .1 .1 .1 .1 .1 .1 .1 .1 .0) (c .before .before .before .before .before .before .before .before .before .before .before .before .before .before .before .before .before .checked-row .ensures) (c .before .code .result) (c .code2 .result) (c .before .code .ensures) (c .code2 .ensures), pasts-after b p ix n u m g o d t x w (a .term) (a .t) h e f y (i .0) (i .1 .0) (i .1 .1 .0) (i .1 .1 .1 .1 .1 .0) (i .1 .1 .1 .1 .1 .1 .0) (i .1 .1 .1 .1 .1 .1 .1 .0) (c .before .before .before .before .before .before .before .before .before .before .before .before .before .before .before .before .before .before .before .before .before .before .before .before .before .before .before .before .before .before .before .before .before .before .before .before .before .before .before .before .before .before .inferred-row .result) (i .1 .1 .1 .1 .1 .1 .1 .1 .1 .1 .1 .1 .1 .1 .0) (c .before .before .before .before .before .before .before .before .before .before .before .before .before .before .before .before .before .before .before .before .before .before .before .before .before .before .before .before .before .before .before .before .before .before .before .before .before .before .before .before .before .before .inferred-row .ensures) (k .0) (k .1 .0) (k .1 .1 .0) (k .1 .1 .1 .1 .1 .0) (k .1 .1 .1 .1 .1 .1 .0) (k .1 .1 .1 .1 .1 .1 .1 .0) (c .before .before .before .before .before .before .before .before .before .before .before .before .before .before .before .before .before .checked-row .result) (k .1 .1 .1 .1 .1 .1 .1 .1 .1 .1 .1 .1 .1 .1 .0) (c .before .before .before .before .before .before .before .before .before .before .before .before .before .before .before .before .before .checked-row .ensures) (c .before .code .result) (c .code2 .result) (c .before .code .ensures) (c .code2 .ensures))
 
 pub rows-of-spec : {M : Type 1} → statement M
-rows-of-spec = tie.close (tie.spec slice-aggregate-inferred-row inferred-row-requires slice-aggregate-checked-row checked-row-requires code-requires mul-rows mul-rows-2 slice-write-rows code-requires-2 mul-rows-3 add-rows mul-rows-4 slice-write-rows-2 same-length same-length-2 same-length-3 same-length-4 same-length-5 same-length-6 same-length-7 same-length-8 same-length-9 same-length-10 same-length-11 returns)
+rows-of-spec = tie.close (tie.spec (λ c. search needs) inferred-row-requires (λ c. search needs) checked-row-requires code-requires mul-rows mul-rows-2 slice-write-rows code-requires-2 mul-rows-3 add-rows mul-rows-4 slice-write-rows-2 same-length same-length-2 same-length-3 same-length-4 same-length-5 same-length-6 (λ c. search needs) same-length-8 same-length-9 returns)

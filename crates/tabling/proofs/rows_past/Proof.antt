@@ -10,20 +10,18 @@ use Rattle.tabling.proofs.rows_past.Statement.{statement}
 use Rattle.tabling.proofs.rows_past.Tie as tie
 
 abbrev Inv-loop : tie.InvT-loop
-Inv-loop records₀ places₀ heads₀ next₀ sizes₀ count used params₀ images₀ bound₀ sheet table sorts starts terms rows₀ inferences₀ checks₀ n₀ u₀ t₀ records places heads next sizes params images bound rows inferences checks n u t = (t ≤ terms) × Tabling records₀ places₀ count params₀ images₀ bound₀ sheet table sorts starts rows₀ records places heads next sizes params images bound rows n u t × Pasts records places n inferences checks × (length inferences ≡ length inferences₀) × (length checks ≡ length checks₀)
+Inv-loop records₀ places₀ index₀ count used params₀ images₀ bound₀ sheet table sorts starts terms rows₀ inferences₀ checks₀ n₀ u₀ t₀ records places index params images bound rows inferences checks n u t = (t ≤ terms) × Tabling records₀ places₀ count params₀ images₀ bound₀ sheet table sorts starts rows₀ records places index params images bound rows n u t × Pasts records places n inferences checks × (length inferences ≡ length inferences₀) × (length checks ≡ length checks₀)
 
 abbrev μ-loop : tie.MeasureT-loop
-μ-loop records₀ places₀ heads₀ next₀ sizes₀ count used params₀ images₀ bound₀ sheet table sorts starts terms rows₀ inferences₀ checks₀ n₀ u₀ t₀ records places heads next sizes params images bound rows inferences checks n u t = terms - t
+μ-loop records₀ places₀ index₀ count used params₀ images₀ bound₀ sheet table sorts starts terms rows₀ inferences₀ checks₀ n₀ u₀ t₀ records places index params images bound rows inferences checks n u t = terms - t
 
 loop-holds : tie.Need-loop-holds Inv-loop μ-loop
 loop-holds c =
-    let s = c .before .before .before .before .before .before .before .before .before .before .before .before .before .before in
+    let s = c .before .before .before .before .before .before .before .before .before .before .before .before in
     let a = s .args in
     let b = a .records .now in
     let p = a .places .now in
-    let hs = a .heads .now in
-    let ns = a .next .now in
-    let zs = a .sizes .now in
+    let ix = a .index .now in
     let n = a .count in
     let u = a .used in
     let m = a .params .now in
@@ -36,17 +34,15 @@ loop-holds c =
     let k = a .sorts in
     let e = a .terms in
     let h = s .pre .0 in
-    (omega arith, tabling-start b p hs ns zs n u m g o d t k x e w h, s .pre .1, refl, refl)
+    (omega arith, tabling-start b p ix n u m g o d t k x e w h, s .pre .1, refl, refl)
 
 term-rows-requires : tie.Need-term-rows-requires Inv-loop μ-loop
 term-rows-requires c κs =
-    let s = c .before .before .before .before .before .before .before .before .before .before .before .before .before .before .before .before .before .before .before .before .before .before .before .before .before .before .before in
+    let s = c .before .before .before .before .before .before .before .before .before .before .before .before .before .before .before .before .before .before .before .before .before .before .before in
     let a = s .args in
     let b = a .records .now in
     let p = a .places .now in
-    let hs = a .heads .now in
-    let ns = a .next .now in
-    let zs = a .sizes .now in
+    let ix = a .index .now in
     let n = a .count in
     let u = a .used in
     let m = a .params .now in
@@ -59,24 +55,22 @@ term-rows-requires c κs =
     let k = a .sorts in
     let e = a .terms in
     let h = s .pre .0 in
-    let l = c .before .before .before .before .before .before .before .before .before .before .before .before .loop in
-    (turn-asks b p hs ns zs n u m g o d t k x e w h (l .records) (l .places) (l .heads) (l .next) (l .sizes) (l .params) (l .images) (l .bound) (l .rows) (l .n) (l .u) (l .t) (l .inv .1) (c .before .before .before .before .before .before .before .before .before .before .before .loop-test .taken), l .inv .2)
+    let l = c .before .before .before .before .before .before .before .before .before .before .loop in
+    (turn-asks b p ix n u m g o d t k x e w h (l .records) (l .places) (l .index) (l .params) (l .images) (l .bound) (l .rows) (l .n) (l .u) (l .t) (l .inv .1) (c .before .before .before .before .before .before .before .before .before .loop-test .taken), l .inv .2)
 
 add-t : tie.Need-add-t Inv-loop μ-loop
-add-t c = omega (arith, c .before .before .before .before .before .before .before .before .before .before .before .before .before .before .before .before .before .before .before .before .before .before .before .before .before .before .before .before .before .before .before .before .before .before .loop-test .taken, c .before .before .before .before .before .before .before .before .before .before .before .before .before .before .before .before .before .before .before .before .before .before .before .before .before .before .before .before .before .before .before .before .before .before .before .before .before .before .before .before .before .before .before .before .before .before .before .before .before .before .pre .0 .few)
+add-t c = omega (arith, c .before .before .before .before .before .before .before .before .before .before .before .before .before .before .before .before .before .before .before .before .before .before .before .before .before .before .before .before .loop-test .taken, c .before .before .before .before .before .before .before .before .before .before .before .before .before .before .before .before .before .before .before .before .before .before .before .before .before .before .before .before .before .before .before .before .before .before .before .before .before .before .before .before .before .before .pre .0 .few)
 
 loop-less : tie.Need-loop-less Inv-loop μ-loop
-loop-less c = omega (arith, c .before .before .before .before .before .before .before .before .before .before .before .before .before .before .before .before .before .before .before .before .before .before .before .before .before .before .before .before .before .before .before .before .before .before .loop-test .taken)
+loop-less c = omega (arith, c .before .before .before .before .before .before .before .before .before .before .before .before .before .before .before .before .before .before .before .before .before .before .before .before .before .before .before .before .loop-test .taken)
 
 loop-again : tie.Need-loop-again Inv-loop μ-loop
 loop-again c =
-    let s = c .before .before .before .before .before .before .before .before .before .before .before .before .before .before .before .before .before .before .before .before .before .before .before .before .before .before .before .before .before .before .before .before .before .before .before .before .before .before .before .before .before .before .before .before .before .before .before .before .before .before in
+    let s = c .before .before .before .before .before .before .before .before .before .before .before .before .before .before .before .before .before .before .before .before .before .before .before .before .before .before .before .before .before .before .before .before .before .before .before .before .before .before .before .before .before .before in
     let a = s .args in
     let b = a .records .now in
     let p = a .places .now in
-    let hs = a .heads .now in
-    let ns = a .next .now in
-    let zs = a .sizes .now in
+    let ix = a .index .now in
     let n = a .count in
     let u = a .used in
     let m = a .params .now in
@@ -89,9 +83,9 @@ loop-again c =
     let k = a .sorts in
     let e = a .terms in
     let h = s .pre .0 in
-    let l = c .before .before .before .before .before .before .before .before .before .before .before .before .before .before .before .before .before .before .before .before .before .before .before .before .before .before .before .before .before .before .before .before .before .before .before .loop in
-    let r = c .before .before .before .before .before .before .before .before .before .before .before .before .before .before .before .before .before .before .before .before .before .before .term-rows .last in
-    (omega (arith, c .before .before .before .before .before .before .before .before .before .before .before .before .before .before .before .before .before .before .before .before .before .before .before .before .before .before .before .before .before .before .before .before .before .before .loop-test .taken), tabling-step b p hs ns zs n u m g o d t k x e w h (l .records) (l .places) (l .heads) (l .next) (l .sizes) (l .params) (l .images) (l .bound) (l .rows) (l .n) (l .u) (l .t) (l .inv .1) (c .before .before .before .before .before .before .before .before .before .before .before .before .before .before .before .before .before .before .before .before .before .before .before .before .before .before .before .before .before .before .before .before .before .before .loop-test .taken) (r .0) (r .1 .0) (r .1 .1 .0) (r .1 .1 .1 .0) (r .1 .1 .1 .1 .0) (r .1 .1 .1 .1 .1 .1 .1 .0) (r .1 .1 .1 .1 .1 .1 .1 .1 .0) (r .1 .1 .1 .1 .1 .1 .1 .1 .1 .0) (r .1 .1 .1 .1 .1 .1 .1 .1 .1 .1 .1 .1 .1 .1 .0) (c .before .before .before .before .before .before .before .before .before .before .before .before .before .before .before .before .before .before .before .before .before .before .term-rows .result) (c .before .before .before .before .before .before .before .before .before .before .before .before .before .before .before .before .before .before .before .before .before .before .term-rows .ensures .0), c .before .before .before .before .before .before .before .before .before .before .before .before .before .before .before .before .before .before .before .before .before .before .term-rows .ensures .1, c .before .before .before .before .before .before .before .before .before .before .before .before .before .before .before .before .before .before .before .before .before .before .term-rows .kept .1 .1 .1 .1 .1 .1 .1 .1 .1 .1 .1 .1 .1 .1 .1 .1 .0 ∙ l .inv .3, c .before .before .before .before .before .before .before .before .before .before .before .before .before .before .before .before .before .before .before .before .before .before .term-rows .kept .1 .1 .1 .1 .1 .1 .1 .1 .1 .1 .1 .1 .1 .1 .1 .1 .1 .0 ∙ l .inv .4)
+    let l = c .before .before .before .before .before .before .before .before .before .before .before .before .before .before .before .before .before .before .before .before .before .before .before .before .before .before .before .before .before .loop in
+    let r = c .before .before .before .before .before .before .before .before .before .before .before .before .before .before .before .before .before .before .term-rows .last in
+    (omega (arith, c .before .before .before .before .before .before .before .before .before .before .before .before .before .before .before .before .before .before .before .before .before .before .before .before .before .before .before .before .loop-test .taken), tabling-step b p ix n u m g o d t k x e w h (l .records) (l .places) (l .index) (l .params) (l .images) (l .bound) (l .rows) (l .n) (l .u) (l .t) (l .inv .1) (c .before .before .before .before .before .before .before .before .before .before .before .before .before .before .before .before .before .before .before .before .before .before .before .before .before .before .before .before .loop-test .taken) (r .0) (r .1 .0) (r .1 .1 .0) (r .1 .1 .1 .1 .1 .0) (r .1 .1 .1 .1 .1 .1 .0) (r .1 .1 .1 .1 .1 .1 .1 .0) (r .1 .1 .1 .1 .1 .1 .1 .1 .1 .1 .1 .1 .0) (c .before .before .before .before .before .before .before .before .before .before .before .before .before .before .before .before .before .before .term-rows .result) (c .before .before .before .before .before .before .before .before .before .before .before .before .before .before .before .before .before .before .term-rows .ensures .0), c .before .before .before .before .before .before .before .before .before .before .before .before .before .before .before .before .before .before .term-rows .ensures .1, c .before .before .before .before .before .before .before .before .before .before .before .before .before .before .before .before .before .before .term-rows .kept .1 .1 .1 .1 .1 .1 .1 .1 .1 .1 .1 .1 .1 .1 .0 ∙ l .inv .3, c .before .before .before .before .before .before .before .before .before .before .before .before .before .before .before .before .before .before .term-rows .kept .1 .1 .1 .1 .1 .1 .1 .1 .1 .1 .1 .1 .1 .1 .1 .0 ∙ l .inv .4)
 
 same-length : tie.Need-same-length Inv-loop μ-loop
 same-length c = c .before .loop .inv .1 .long
@@ -100,41 +94,33 @@ same-length-2 : tie.Need-same-length-2 Inv-loop μ-loop
 same-length-2 c = c .before .loop .inv .1 .wide
 
 same-length-3 : tie.Need-same-length-3 Inv-loop μ-loop
-same-length-3 c = c .before .loop .inv .1 .good .indexed .heads ∙ sym (c .before .before .before .before .before .before .before .before .before .before .before .before .before .before .before .before .pre .0 .good .indexed .heads)
+same-length-3 c = c .before .loop .inv .1 .good .indexed .table ∙ sym (c .before .before .before .before .before .before .before .before .before .before .before .before .before .before .pre .0 .good .indexed .table)
 
 same-length-4 : tie.Need-same-length-4 Inv-loop μ-loop
-same-length-4 c = c .before .loop .inv .1 .good .indexed .next ∙ sym (c .before .before .before .before .before .before .before .before .before .before .before .before .before .before .before .before .pre .0 .good .indexed .next)
+same-length-4 c = ap length (c .before .loop .inv .1 .params)
 
 same-length-5 : tie.Need-same-length-5 Inv-loop μ-loop
-same-length-5 c = c .before .loop .inv .1 .good .sized .table ∙ sym (c .before .before .before .before .before .before .before .before .before .before .before .before .before .before .before .before .pre .0 .good .sized .table)
+same-length-5 c = ap length (c .before .loop .inv .1 .images)
 
 same-length-6 : tie.Need-same-length-6 Inv-loop μ-loop
-same-length-6 c = ap length (c .before .loop .inv .1 .params)
+same-length-6 c = ap length (c .before .loop .inv .1 .bound)
 
 same-length-7 : tie.Need-same-length-7 Inv-loop μ-loop
-same-length-7 c = ap length (c .before .loop .inv .1 .images)
+same-length-7 c = c .before .loop .inv .1 .lent
 
 same-length-8 : tie.Need-same-length-8 Inv-loop μ-loop
-same-length-8 c = ap length (c .before .loop .inv .1 .bound)
+same-length-8 c = c .before .loop .inv .3
 
 same-length-9 : tie.Need-same-length-9 Inv-loop μ-loop
-same-length-9 c = c .before .loop .inv .1 .lent
-
-same-length-10 : tie.Need-same-length-10 Inv-loop μ-loop
-same-length-10 c = c .before .loop .inv .3
-
-same-length-11 : tie.Need-same-length-11 Inv-loop μ-loop
-same-length-11 c = c .before .loop .inv .4
+same-length-9 c = c .before .loop .inv .4
 
 returns : tie.Need-returns Inv-loop μ-loop
 returns c =
-    let s = c .before .before .before .before .before .before .before .before .before .before .before .before .before .before .before .before in
+    let s = c .before .before .before .before .before .before .before .before .before .before .before .before .before .before in
     let a = s .args in
     let b = a .records .now in
     let p = a .places .now in
-    let hs = a .heads .now in
-    let ns = a .next .now in
-    let zs = a .sizes .now in
+    let ix = a .index .now in
     let n = a .count in
     let u = a .used in
     let m = a .params .now in
@@ -148,7 +134,7 @@ returns c =
     let e = a .terms in
     let h = s .pre .0 in
     let l = c .before .loop in
-    (tabling-end b p hs ns zs n u m g o d t k x e w h (l .records) (l .places) (l .heads) (l .next) (l .sizes) (l .params) (l .images) (l .bound) (l .rows) (l .n) (l .u) (l .t) (l .inv .1) (omega (arith, l .inv .0, c .loop-test .left)), l .inv .2)
+    (tabling-end b p ix n u m g o d t k x e w h (l .records) (l .places) (l .index) (l .params) (l .images) (l .bound) (l .rows) (l .n) (l .u) (l .t) (l .inv .1) (omega (arith, l .inv .0, c .loop-test .left)), l .inv .2)
 
 pub rows-past-spec : {M : Type 1} → statement M
-rows-past-spec = tie.close (tie.spec Inv-loop μ-loop loop-holds term-rows-requires add-t loop-less loop-again same-length same-length-2 same-length-3 same-length-4 same-length-5 same-length-6 same-length-7 same-length-8 same-length-9 same-length-10 same-length-11 returns)
+rows-past-spec = tie.close (tie.spec Inv-loop μ-loop loop-holds term-rows-requires add-t loop-less loop-again same-length same-length-2 same-length-3 same-length-4 same-length-5 same-length-6 same-length-7 same-length-8 same-length-9 returns)

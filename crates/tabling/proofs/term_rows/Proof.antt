@@ -10,29 +10,21 @@ use Rattle.tabling.proofs.term_rows.Statement.{statement}
 use Rattle.tabling.proofs.term_rows.Tie as tie
 
 mul-at : tie.Need-mul-at
-mul-at c = omega (arith, c .before .before .before .before .before .before .before .before .before .before .before .before .before .before .pre .0 .few)
+mul-at c = omega (arith, c .before .before .before .before .before .before .before .before .before .before .before .before .pre .0 .few)
 
 shared-slice-read-at : tie.Need-shared-slice-read-at
-shared-slice-read-at c = omega (arith, c .before .before .before .before .before .before .before .before .before .before .before .before .before .before .before .pre .0 .placed)
+shared-slice-read-at c = omega (arith, c .before .before .before .before .before .before .before .before .before .before .before .before .before .pre .0 .placed)
 
 cast-at : tie.Need-cast-at
-cast-at c = omega (arith, c .shared-slice-known4 .given (c .before .before .before .before .before .before .before .before .before .before .before .before .before .before .before .args .t))
-
-term-requires : tie.Need-term-requires
-term-requires c κs = search needs
-
-enum-known-read : tie.Need-enum-known-read
-enum-known-read c = search needs
+cast-at c = omega (arith, c .shared-slice-known4 .given (c .before .before .before .before .before .before .before .before .before .before .before .before .before .args .t))
 
 rows-of-requires : tie.Need-rows-of-requires
 rows-of-requires c κs =
-    let s = c .before .before .before .before .before .before .before .before .before .before .before .before .before .before .before .before .before .before .before .before .before .before .before .before .before .before .before .before .before .before in
+    let s = c .before .before .before .before .before .before .before .before .before .before .before .before .before .before .before .before .before .before .before .before .before .before .before .before .before .before in
     let a = s .args in
     let b = a .records .now in
     let p = a .places .now in
-    let hs = a .heads .now in
-    let ns = a .next .now in
-    let zs = a .sizes .now in
+    let ix = a .index .now in
     let n = a .count in
     let u = a .used in
     let m = a .params .now in
@@ -44,53 +36,15 @@ rows-of-requires c κs =
     let w = a .rows .now in
     let k = a .sorts in
     let h = s .pre .0 in
-    (both-asks b p hs ns zs n u m g o d t k x w (a .t) h (c .before .before .before .before .before .before .before .before .before .before .before .before .read .given .0 .0) (c .before .before .before .before .before .before .before .before .before .before .before .before .read .given .0 .1 .0) (sym (c .before .before .before .before .before .before .before .before .before .before .before .before .before .before .term .ensures) ∙ c .before .before .before .before .before .before .before .before .before .before .before .before .read .given .1), s .pre .1)
-
-enum-told : tie.Need-enum-told
-enum-told c = search needs
-
-same-length : tie.Need-same-length
-same-length c = search needs
-
-same-length-2 : tie.Need-same-length-2
-same-length-2 c = search needs
-
-same-length-3 : tie.Need-same-length-3
-same-length-3 c = search needs
-
-same-length-4 : tie.Need-same-length-4
-same-length-4 c = search needs
-
-same-length-5 : tie.Need-same-length-5
-same-length-5 c = search needs
-
-same-length-6 : tie.Need-same-length-6
-same-length-6 c = search needs
-
-same-length-7 : tie.Need-same-length-7
-same-length-7 c = search needs
-
-same-length-8 : tie.Need-same-length-8
-same-length-8 c = search needs
-
-same-length-9 : tie.Need-same-length-9
-same-length-9 c = search needs
-
-same-length-10 : tie.Need-same-length-10
-same-length-10 c = search needs
-
-same-length-11 : tie.Need-same-length-11
-same-length-11 c = search needs
+    (both-asks b p ix n u m g o d t k x w (a .t) h (c .before .before .before .before .before .before .before .before .before .before .read .given .0 .0) (c .before .before .before .before .before .before .before .before .before .before .read .given .0 .1 .0) (sym (c .before .before .before .before .before .before .before .before .before .before .before .before .term .ensures) ∙ c .before .before .before .before .before .before .before .before .before .before .read .given .1), s .pre .1)
 
 returns : tie.Need-returns
 returns c =
-    let s = c .before .before .before .before .before .before .before .before .before .before .before .before .before .before .before .before .before .before .before .before .before .before .before .before .before .before .before .before .before .before .before .before .before .before .before .before .before .before .before .before .before .before .before .before .before .before .before .before .before .before .before .before .before in
+    let s = c .before .before .before .before .before .before .before .before .before .before .before .before .before .before .before .before .before .before .before .before .before .before .before .before .before .before .before .before .before .before .before .before .before .before .before .before .before .before .before .before .before .before .before .before .before in
     let a = s .args in
     let b = a .records .now in
     let p = a .places .now in
-    let hs = a .heads .now in
-    let ns = a .next .now in
-    let zs = a .sizes .now in
+    let ix = a .index .now in
     let n = a .count in
     let u = a .used in
     let m = a .params .now in
@@ -102,18 +56,16 @@ returns c =
     let w = a .rows .now in
     let k = a .sorts in
     let h = s .pre .0 in
-    let i = c .before .before .before .before .before .before .before .before .before .before .before .before .before .before .before .before .before .before .before .before .before .before .rows-of .last in
-    (turn-is b p hs ns zs n u m g o d t k x w (a .t) h (c .before .before .before .before .before .before .before .before .before .before .before .before .before .before .before .before .before .before .before .before .before .before .before .before .before .before .before .before .before .before .before .before .before .before .before .read .given .0 .0) (c .before .before .before .before .before .before .before .before .before .before .before .before .before .before .before .before .before .before .before .before .before .before .before .before .before .before .before .before .before .before .before .before .before .before .before .read .given .0 .1 .0) (sym (c .before .before .before .before .before .before .before .before .before .before .before .before .before .before .before .before .before .before .before .before .before .before .before .before .before .before .before .before .before .before .before .before .before .before .before .before .before .term .ensures) ∙ c .before .before .before .before .before .before .before .before .before .before .before .before .before .before .before .before .before .before .before .before .before .before .before .before .before .before .before .before .before .before .before .before .before .before .before .read .given .1) (i .0) (i .1 .0) (i .1 .1 .0) (i .1 .1 .1 .0) (i .1 .1 .1 .1 .0) (i .1 .1 .1 .1 .1 .1 .1 .0) (i .1 .1 .1 .1 .1 .1 .1 .1 .0) (i .1 .1 .1 .1 .1 .1 .1 .1 .1 .0) (i .1 .1 .1 .1 .1 .1 .1 .1 .1 .1 .1 .1 .1 .0) (c .before .before .before .before .before .before .before .before .before .before .before .before .before .before .before .before .before .before .before .before .before .before .rows-of .result) (c .before .before .before .before .before .before .before .before .before .before .before .before .before .before .before .before .before .before .before .before .before .before .rows-of .ensures .0), c .before .before .before .before .before .before .before .before .before .before .before .before .before .before .before .before .before .before .before .before .before .before .rows-of .ensures .1)
+    let i = c .before .before .before .before .before .before .before .before .before .before .before .before .before .before .before .before .before .before .rows-of .last in
+    (turn-is b p ix n u m g o d t k x w (a .t) h (c .before .before .before .before .before .before .before .before .before .before .before .before .before .before .before .before .before .before .before .before .before .before .before .before .before .before .before .before .before .read .given .0 .0) (c .before .before .before .before .before .before .before .before .before .before .before .before .before .before .before .before .before .before .before .before .before .before .before .before .before .before .before .before .before .read .given .0 .1 .0) (sym (c .before .before .before .before .before .before .before .before .before .before .before .before .before .before .before .before .before .before .before .before .before .before .before .before .before .before .before .before .before .before .before .term .ensures) ∙ c .before .before .before .before .before .before .before .before .before .before .before .before .before .before .before .before .before .before .before .before .before .before .before .before .before .before .before .before .before .read .given .1) (i .0) (i .1 .0) (i .1 .1 .0) (i .1 .1 .1 .1 .1 .0) (i .1 .1 .1 .1 .1 .1 .0) (i .1 .1 .1 .1 .1 .1 .1 .0) (i .1 .1 .1 .1 .1 .1 .1 .1 .1 .1 .1 .0) (c .before .before .before .before .before .before .before .before .before .before .before .before .before .before .before .before .before .before .rows-of .result) (c .before .before .before .before .before .before .before .before .before .before .before .before .before .before .before .before .before .before .rows-of .ensures .0), c .before .before .before .before .before .before .before .before .before .before .before .before .before .before .before .before .before .before .rows-of .ensures .1)
 
 returns-2 : tie.Need-returns-2
 returns-2 c =
-    let s = c .before .before .before .before .before .before .before .before .before .before .before .before .before .before .before .before .before .before in
+    let s = c .before .before .before .before .before .before .before .before .before .before .before .before .before .before .before .before in
     let a = s .args in
     let b = a .records .now in
     let p = a .places .now in
-    let hs = a .heads .now in
-    let ns = a .next .now in
-    let zs = a .sizes .now in
+    let ix = a .index .now in
     let n = a .count in
     let u = a .used in
     let m = a .params .now in
@@ -125,7 +77,7 @@ returns-2 c =
     let w = a .rows .now in
     let k = a .sorts in
     let h = s .pre .0 in
-    absurd (term-never d k (a .t) (getD x (a .t) 0) (stands-here b p hs ns zs n u m g o d t k x w (a .t) h) (sym (c .before .before .term .ensures) ∙ c .enum-told .given .1))
+    absurd (term-never d k (a .t) (getD x (a .t) 0) (stands-here b p ix n u m g o d t k x w (a .t) h) (sym (c .before .before .term .ensures) ∙ c .enum-told .given .1))
 
 pub term-rows-spec : {M : Type 1} → statement M
-term-rows-spec = tie.close (tie.spec mul-at shared-slice-read-at cast-at term-requires enum-known-read rows-of-requires enum-told same-length same-length-2 same-length-3 same-length-4 same-length-5 same-length-6 same-length-7 same-length-8 same-length-9 same-length-10 same-length-11 returns returns-2)
+term-rows-spec = tie.close (tie.spec mul-at shared-slice-read-at cast-at (λ c κs. search needs) (λ c. search needs) rows-of-requires (λ c. search needs) (λ c. search needs) (λ c. search needs) (λ c. search needs) (λ c. search needs) (λ c. search needs) (λ c. search needs) (λ c. search needs) (λ c. search needs) (λ c. search needs) returns returns-2)

@@ -6,12 +6,6 @@ use Rattle.verdicts.proofs.JudgeLaws.{cleared-asks, judge-over}
 use Rattle.verdicts.proofs.judge.Statement.{statement}
 use Rattle.verdicts.proofs.judge.Tie as tie
 
-zero-words-requires : tie.Need-zero-words-requires
-zero-words-requires c κs = search needs
-
-zero-words-requires-2 : tie.Need-zero-words-requires-2
-zero-words-requires-2 c κs = search needs
-
 judge-cleared-requires : tie.Need-judge-cleared-requires
 judge-cleared-requires c κs =
     let w = c .before .before .before .before .before .before .before .before .before .before .before .before .before .before .before .before .before in
@@ -19,18 +13,6 @@ judge-cleared-requires c κs =
     let rw₀ = a .rows .now in
     let an₀ = a .answers .now in
     cleared-asks rw₀ an₀ (c .before .before .before .before .before .before .before .before .before .before .zero-words .last .0) (c .before .before .before .before .before .before .zero-words2 .last .0) (c .before .before .before .before .before .before .before .before .before .before .zero-words .kept .0) (c .before .before .before .before .before .before .zero-words2 .kept .0) (c .before .before .before .before .before .before .before .before .before .before .zero-words .ensures) (c .before .before .before .before .before .before .zero-words2 .ensures)
-
-same-length : tie.Need-same-length
-same-length c = search needs
-
-same-length-2 : tie.Need-same-length-2
-same-length-2 c = search needs
-
-same-length-3 : tie.Need-same-length-3
-same-length-3 c = search needs
-
-same-length-4 : tie.Need-same-length-4
-same-length-4 c = search needs
 
 returns : tie.Need-returns
 returns c =
@@ -45,4 +27,4 @@ returns c =
     judge-over s b p rw₀ an₀ b p (c .before .before .before .before .before .before .before .before .before .before .before .before .before .before .before .before .before .before .before .zero-words .last .0) (c .before .before .before .before .before .before .before .before .before .before .before .before .before .before .before .zero-words2 .last .0) (d .1 .0) (d .1 .1 .0) (d .1 .1 .1 .0) (d .1 .1 .1 .1 .0) (c .before .before .before .before .before .before .before .before .judge-cleared .result) refl refl (c .before .before .before .before .before .before .before .before .before .before .before .before .before .before .before .before .before .before .before .zero-words .kept .0) (c .before .before .before .before .before .before .before .before .before .before .before .before .before .before .before .zero-words2 .kept .0) (c .before .before .before .before .before .before .before .before .judge-cleared .ensures)
 
 pub judge-spec : {M : Type 1} → statement M
-judge-spec = tie.close (tie.spec zero-words-requires zero-words-requires-2 judge-cleared-requires same-length same-length-2 same-length-3 same-length-4 returns)
+judge-spec = tie.close (tie.spec (λ c κs. search needs) (λ c κs. search needs) judge-cleared-requires (λ c. search needs) (λ c. search needs) (λ c. search needs) (λ c. search needs) returns)

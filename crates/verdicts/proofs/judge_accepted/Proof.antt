@@ -8,98 +8,46 @@ use Rattle.verdicts.proofs.judge_accepted.Statement.{statement}
 use Rattle.verdicts.proofs.judge_accepted.Tie as tie
 
 uses-names-requires : tie.Need-uses-names-requires
-uses-names-requires c κs = c .before .before .before .before .before .before .before .before .before .before .before .before .before .pre .accepted .stands .good .stored
+uses-names-requires c κs = c .before .before .before .before .before .before .before .before .before .before .before .pre .accepted .stands .good .stored
 
 judge-named-requires : tie.Need-judge-named-requires
-judge-named-requires c κs = c .before .before .before .before .before .before .before .before .before .before .before .before .before .before .before .before .before .before .before .before .before .before .pre
-
-same-length : tie.Need-same-length
-same-length c = search needs
-
-same-length-2 : tie.Need-same-length-2
-same-length-2 c = search needs
-
-same-length-3 : tie.Need-same-length-3
-same-length-3 c = search needs
-
-same-length-4 : tie.Need-same-length-4
-same-length-4 c = search needs
-
-same-length-5 : tie.Need-same-length-5
-same-length-5 c = search needs
-
-same-length-6 : tie.Need-same-length-6
-same-length-6 c = search needs
-
-same-length-7 : tie.Need-same-length-7
-same-length-7 c = search needs
+judge-named-requires c κs = c .before .before .before .before .before .before .before .before .before .before .before .before .before .before .before .before .before .before .pre
 
 returns : tie.Need-returns
-returns c = c .before .before .before .before .before .before .before .before .before .before .before .before .before .before .judge-named .ensures
-
-slice-aggregate-rows-all : tie.Need-slice-aggregate-rows-all
-slice-aggregate-rows-all c = search needs
-
-slice-aggregate-rows-all-2 : tie.Need-slice-aggregate-rows-all-2
-slice-aggregate-rows-all-2 c = search needs
-
-slice-aggregate-rows-all-3 : tie.Need-slice-aggregate-rows-all-3
-slice-aggregate-rows-all-3 c = search needs
+returns c = c .before .before .before .before .before .before .before .before .before .before .judge-named .ensures
 
 rows-all-requires : tie.Need-rows-all-requires
 rows-all-requires c κs =
-    let w = c .before .before .before .before .before .before .before .before .before .before .before .before .before .before .before .before .before .before .before .before .before .before .before .before in
+    let w = c .before .before .before .before .before .before .before .before .before .before .before .before .before .before .before .before .before .before .before .before in
     let a = w .args in
     let s = a .sheet .now in
     let b = a .records .now in
     let p = a .places .now in
-    let hs = a .heads .now in
-    let ns = a .next .now in
-    let zs = a .sizes .now in
+    let ix = a .index .now in
     let tbl = a .table .now in
     let xs = a .starts .now in
     let ys = a .asked .now in
     let k = a .counts in
     let rw₀ = a .rows .now in
     let an₀ = a .answers .now in
-    rows-ask s b p hs ns zs tbl xs ys k rw₀ an₀ (w .pre) (replicate 1 0) (replicate 1 0) (replicate 1 0) short-tables
-
-same-length-8 : tie.Need-same-length-8
-same-length-8 c = search needs
-
-same-length-9 : tie.Need-same-length-9
-same-length-9 c = search needs
-
-same-length-10 : tie.Need-same-length-10
-same-length-10 c = search needs
-
-same-length-11 : tie.Need-same-length-11
-same-length-11 c = search needs
-
-same-length-12 : tie.Need-same-length-12
-same-length-12 c = search needs
-
-same-length-13 : tie.Need-same-length-13
-same-length-13 c = search needs
+    rows-ask s b p ix tbl xs ys k rw₀ an₀ (w .pre) (replicate 1 0) (replicate 1 0) (replicate 1 0) short-tables
 
 returns-2 : tie.Need-returns-2
 returns-2 c =
-    let w = c .before .before .before .before .before .before .before .before .before .before .before .before .before .before .before .before .before .before .before .before .before .before .before .before .before .before .before .before .before .before .before .before .before .before .before .before .before .before .before .before in
+    let w = c .before .before .before .before .before .before .before .before .before .before .before .before .before .before .before .before .before .before .before .before .before .before .before .before .before .before .before .before .before .before .before .before in
     let a = w .args in
     let s = a .sheet .now in
     let b = a .records .now in
     let p = a .places .now in
-    let hs = a .heads .now in
-    let ns = a .next .now in
-    let zs = a .sizes .now in
+    let ix = a .index .now in
     let tbl = a .table .now in
     let xs = a .starts .now in
     let ys = a .asked .now in
     let k = a .counts in
     let rw₀ = a .rows .now in
     let an₀ = a .answers .now in
-    let d = c .before .before .before .before .before .before .before .before .before .before .before .before .before .before .before .rows-all .last in
-    judge-unasked s b p hs ns zs tbl xs ys k rw₀ an₀ (w .pre) (replicate 1 0) (replicate 1 0) (replicate 1 0) (d .0) (d .1 .0) (d .1 .1 .0) (d .1 .1 .1 .0) (d .1 .1 .1 .1 .0) (d .1 .1 .1 .1 .1 .1 .1 .0) (d .1 .1 .1 .1 .1 .1 .1 .1 .0) (d .1 .1 .1 .1 .1 .1 .1 .1 .1 .0) (d .1 .1 .1 .1 .1 .1 .1 .1 .1 .1 .1 .1 .1 .1 .1 .0) (c .before .before .before .before .before .before .before .before .before .before .before .before .before .before .before .rows-all .result) (c .before .before .before .before .before .before .before .before .before .before .before .before .before .before .before .rows-all .ensures) (none-asked b p (k .count) (k .questions) (c .before .before .before .before .before .before .before .before .before .before .before .before .before .before .before .before .before .before .before .before .before .before .before .before .before .before .uses-names .result) (c .before .before .before .before .before .before .before .before .before .before .before .before .before .before .before .before .before .before .before .before .before .before .before .before .before .before .uses-names .ensures) (c .before .before .before .before .before .before .before .before .before .before .before .before .before .before .before .before .before .before .before .before .before .before .before .before .before .if1 .left))
+    let d = c .before .before .before .before .before .before .before .before .before .before .before .rows-all .last in
+    judge-unasked s b p ix tbl xs ys k rw₀ an₀ (w .pre) (replicate 1 0) (replicate 1 0) (replicate 1 0) (d .0) (d .1 .0) (d .1 .1 .0) (d .1 .1 .1 .1 .1 .0) (d .1 .1 .1 .1 .1 .1 .0) (d .1 .1 .1 .1 .1 .1 .1 .0) (d .1 .1 .1 .1 .1 .1 .1 .1 .1 .1 .1 .1 .1 .0) (c .before .before .before .before .before .before .before .before .before .before .before .rows-all .result) (c .before .before .before .before .before .before .before .before .before .before .before .rows-all .ensures) (none-asked b p (k .count) (k .questions) (c .before .before .before .before .before .before .before .before .before .before .before .before .before .before .before .before .before .before .before .before .uses-names .result) (c .before .before .before .before .before .before .before .before .before .before .before .before .before .before .before .before .before .before .before .before .uses-names .ensures) (c .before .before .before .before .before .before .before .before .before .before .before .before .before .before .before .before .before .before .before .if1 .left))
 
 pub judge-accepted-spec : {M : Type 1} → statement M
-judge-accepted-spec = tie.close (tie.spec uses-names-requires judge-named-requires same-length same-length-2 same-length-3 same-length-4 same-length-5 same-length-6 same-length-7 returns slice-aggregate-rows-all slice-aggregate-rows-all-2 slice-aggregate-rows-all-3 rows-all-requires same-length-8 same-length-9 same-length-10 same-length-11 same-length-12 same-length-13 returns-2)
+judge-accepted-spec = tie.close (tie.spec uses-names-requires judge-named-requires (λ c. search needs) (λ c. search needs) (λ c. search needs) (λ c. search needs) (λ c. search needs) returns (λ c. search needs) (λ c. search needs) (λ c. search needs) rows-all-requires (λ c. search needs) (λ c. search needs) (λ c. search needs) (λ c. search needs) returns-2)

@@ -9,116 +9,65 @@ use Rattle.verdicts.proofs.JudgeLaws.{own-tables, accepted-ask, judge-o
 use Rattle.verdicts.proofs.judge_cleared.Statement.{statement}
 use Rattle.verdicts.proofs.judge_cleared.Tie as tie
 
-slice-aggregate-read-sheet : tie.Need-slice-aggregate-read-sheet
-slice-aggregate-read-sheet c = search needs
-
-slice-aggregate-read-sheet-2 : tie.Need-slice-aggregate-read-sheet-2
-slice-aggregate-read-sheet-2 c = search needs
-
-slice-aggregate-read-sheet-3 : tie.Need-slice-aggregate-read-sheet-3
-slice-aggregate-read-sheet-3 c = search needs
-
-slice-aggregate-read-sheet-4 : tie.Need-slice-aggregate-read-sheet-4
-slice-aggregate-read-sheet-4 c = search needs
-
-slice-aggregate-read-sheet-5 : tie.Need-slice-aggregate-read-sheet-5
-slice-aggregate-read-sheet-5 c = search needs
-
-slice-aggregate-read-sheet-6 : tie.Need-slice-aggregate-read-sheet-6
-slice-aggregate-read-sheet-6 c = search needs
-
-slice-aggregate-read-sheet-7 : tie.Need-slice-aggregate-read-sheet-7
-slice-aggregate-read-sheet-7 c = search needs
-
 read-sheet-requires : tie.Need-read-sheet-requires
 read-sheet-requires c κs = own-tables
 
-enum-known-read : tie.Need-enum-known-read
-enum-known-read c = search needs
-
-slice-aggregate-judge-accepted : tie.Need-slice-aggregate-judge-accepted
-slice-aggregate-judge-accepted c = search needs
-
-slice-aggregate-judge-accepted-2 : tie.Need-slice-aggregate-judge-accepted-2
-slice-aggregate-judge-accepted-2 c = search needs
-
-slice-aggregate-judge-accepted-3 : tie.Need-slice-aggregate-judge-accepted-3
-slice-aggregate-judge-accepted-3 c = search needs
-
-slice-aggregate-judge-accepted-4 : tie.Need-slice-aggregate-judge-accepted-4
-slice-aggregate-judge-accepted-4 c = search needs
-
-slice-aggregate-judge-accepted-5 : tie.Need-slice-aggregate-judge-accepted-5
-slice-aggregate-judge-accepted-5 c = search needs
-
-slice-aggregate-judge-accepted-6 : tie.Need-slice-aggregate-judge-accepted-6
-slice-aggregate-judge-accepted-6 c = search needs
-
 judge-accepted-requires : tie.Need-judge-accepted-requires
 judge-accepted-requires c κs =
-    let w = c .before .before .before .before .before .before .before .before .before .before .before .before .before .before .before .before .before .before .before .before .before .before .before .before .before .before .before .before .before .before .before .before .before .before .before .before .before .before .before in
+    let w = c .before .before .before .before .before .before .before .before .before .before .before .before .before .before .before .before .before .before .before .before .before .before .before .before .before .before .before .before .before .before .before .before .before in
     let a = w .args in
     let s = a .sheet .now in
     let b = a .records .now in
     let p = a .places .now in
     let rw₀ = a .rows .now in
     let an₀ = a .answers .now in
-    let d = c .before .before .before .before .before .before .before .before .before .before .before .before .before .before .before .before .before .before .before .before .before .before .before .before .read-sheet .last in
-    let f = subst (ReadSheetIs s (lent b p (length rw₀) (length an₀)) (d .1 .0) (d .1 .1 .0) (d .1 .1 .1 .1 .1 .0) (d .1 .1 .1 .1 .1 .1 .0) (d .1 .1 .1 .1 .1 .1 .1 .0) (d .1 .1 .1 .1 .1 .1 .1 .1 .0) (d .1 .1 .1 .1 .1 .1 .1 .1 .1 .0) (d .1 .1 .1 .1 .1 .1 .1 .1 .1 .1 .0)) (c .before .before .before .before .before .before .before .before .before .before .before .read .given .1) (c .before .before .before .before .before .before .before .before .before .before .before .before .before .before .before .before .before .before .before .before .before .before .before .before .read-sheet .ensures) in
-    accepted-ask s b p rw₀ an₀ (w .pre) (d .1 .0) (d .1 .1 .0) (d .1 .1 .1 .1 .1 .0) (d .1 .1 .1 .1 .1 .1 .0) (d .1 .1 .1 .1 .1 .1 .1 .0) (d .1 .1 .1 .1 .1 .1 .1 .1 .0) (d .1 .1 .1 .1 .1 .1 .1 .1 .1 .0) (d .1 .1 .1 .1 .1 .1 .1 .1 .1 .1 .0) (c .before .before .before .before .before .before .before .before .before .before .before .read .given .0 .0) f (c .before .before .before .before .before .before .before .before .before .before .before .before .before .before .before .before .before .before .before .before .before .before .before .before .read-sheet .kept .1 .1 .1 .1 .1 .1 .1 .1 .0) (c .before .before .before .before .before .before .before .before .before .before .before .before .before .before .before .before .before .before .before .before .before .before .before .before .read-sheet .kept .1 .1 .1 .1 .1 .1 .1 .1 .1 .0) (c .before .before .before .before .before .before .before .before .before .before .before .before .before .before .before .before .before .before .before .before .before .before .before .before .read-sheet .kept .1 .1 .1 .1 .1 .1 .1 .1 .1 .1 .0)
-
-enum-known-read-2 : tie.Need-enum-known-read-2
-enum-known-read-2 c = search needs
-
-zero-bytes-requires : tie.Need-zero-bytes-requires
-zero-bytes-requires c κs = search needs
-
-zero-words-requires : tie.Need-zero-words-requires
-zero-words-requires c κs = search needs
+    let d = c .before .before .before .before .before .before .before .before .before .before .before .before .before .before .before .before .before .before .before .before .read-sheet .last in
+    let f = subst (ReadSheetIs s (lent b p (length rw₀) (length an₀)) (d .1 .0) (d .1 .1 .0) (d .1 .1 .1 .1 .1 .0) (d .1 .1 .1 .1 .1 .1 .0) (d .1 .1 .1 .1 .1 .1 .1 .0) (d .1 .1 .1 .1 .1 .1 .1 .1 .0)) (c .before .before .before .before .before .before .before .before .before .read .given .1) (c .before .before .before .before .before .before .before .before .before .before .before .before .before .before .before .before .before .before .before .before .read-sheet .ensures) in
+    accepted-ask s b p rw₀ an₀ (w .pre) (d .1 .0) (d .1 .1 .0) (d .1 .1 .1 .1 .1 .0) (d .1 .1 .1 .1 .1 .1 .0) (d .1 .1 .1 .1 .1 .1 .1 .0) (d .1 .1 .1 .1 .1 .1 .1 .1 .0) (c .before .before .before .before .before .before .before .before .before .read .given .0 .0) f (c .before .before .before .before .before .before .before .before .before .before .before .before .before .before .before .before .before .before .before .before .read-sheet .kept .1 .1 .1 .1 .1 .1 .0) (c .before .before .before .before .before .before .before .before .before .before .before .before .before .before .before .before .before .before .before .before .read-sheet .kept .1 .1 .1 .1 .1 .1 .1 .0) (c .before .before .before .before .before .before .before .before .before .before .before .before .before .before .before .before .before .before .before .before .read-sheet .kept .1 .1 .1 .1 .1 .1 .1 .1 .0)
 
 same-length : tie.Need-same-length
-same-length c = (c .before .before .before .before .before .before .before .before .before .before .before .judge-accepted .kept .1 .0) ∙ c .before .before .before .before .before .before .before .before .before .before .before .before .before .before .before .before .before .before .before .before .before .before .before .before .before .before .before .before .before .before .before .before .before .before .before .before .read-sheet .kept .1 .0
+same-length c = (c .before .before .before .before .before .before .before .before .before .judge-accepted .kept .1 .0) ∙ c .before .before .before .before .before .before .before .before .before .before .before .before .before .before .before .before .before .before .before .before .before .before .before .before .before .before .before .before .before .before .read-sheet .kept .1 .0
 
 same-length-2 : tie.Need-same-length-2
-same-length-2 c = (c .before .before .before .before .before .before .before .before .before .before .before .judge-accepted .kept .1 .1 .0) ∙ c .before .before .before .before .before .before .before .before .before .before .before .before .before .before .before .before .before .before .before .before .before .before .before .before .before .before .before .before .before .before .before .before .before .before .before .before .read-sheet .kept .1 .1 .0
+same-length-2 c = (c .before .before .before .before .before .before .before .before .before .judge-accepted .kept .1 .1 .0) ∙ c .before .before .before .before .before .before .before .before .before .before .before .before .before .before .before .before .before .before .before .before .before .before .before .before .before .before .before .before .before .before .read-sheet .kept .1 .1 .0
 
 same-length-3 : tie.Need-same-length-3
-same-length-3 c = c .before .before .before .before .before .before .before .before .before .before .before .judge-accepted .kept .1 .1 .1 .1 .1 .1 .1 .1 .1 .1 .0
+same-length-3 c = c .before .before .before .before .before .before .before .before .before .judge-accepted .kept .1 .1 .1 .1 .1 .1 .1 .1 .0
 
 same-length-4 : tie.Need-same-length-4
-same-length-4 c = c .before .before .before .before .before .before .before .before .before .before .before .judge-accepted .kept .1 .1 .1 .1 .1 .1 .1 .1 .1 .1 .1 .0
+same-length-4 c = c .before .before .before .before .before .before .before .before .before .judge-accepted .kept .1 .1 .1 .1 .1 .1 .1 .1 .1 .0
 
 returns : tie.Need-returns
 returns c =
-    let w = c .before .before .before .before .before .before .before .before .before .before .before .before .before .before .before .before .before .before .before .before .before .before .before .before .before .before .before .before .before .before .before .before .before .before .before .before .before .before .before .before .before .before .before .before .before .before .before .before .before .before .before in
+    let w = c .before .before .before .before .before .before .before .before .before .before .before .before .before .before .before .before .before .before .before .before .before .before .before .before .before .before .before .before .before .before .before .before .before .before .before .before .before .before .before .before .before .before .before in
     let a = w .args in
     let s = a .sheet .now in
     let b = a .records .now in
     let p = a .places .now in
     let rw₀ = a .rows .now in
     let an₀ = a .answers .now in
-    let d = c .before .before .before .before .before .before .before .before .before .before .before .before .before .before .before .before .before .before .before .before .before .before .before .before .before .before .before .before .before .before .before .before .before .before .before .before .read-sheet .last in
-    let o = c .before .before .before .before .before .before .before .before .before .before .before .judge-accepted .last in
-    judge-over s b p rw₀ an₀ (d .1 .0) (d .1 .1 .0) rw₀ an₀ (o .1 .0) (o .1 .1 .0) (o .1 .1 .1 .1 .1 .1 .1 .1 .1 .1 .0) (o .1 .1 .1 .1 .1 .1 .1 .1 .1 .1 .1 .0) Accepted (c .before .before .before .before .before .before .before .before .before .before .before .before .before .before .before .before .before .before .before .before .before .before .before .before .before .before .before .before .before .before .before .before .before .before .before .before .read-sheet .kept .1 .0) (c .before .before .before .before .before .before .before .before .before .before .before .before .before .before .before .before .before .before .before .before .before .before .before .before .before .before .before .before .before .before .before .before .before .before .before .before .read-sheet .kept .1 .1 .0) refl refl (c .before .before .before .before .before .before .before .before .before .before .before .judge-accepted .ensures)
+    let d = c .before .before .before .before .before .before .before .before .before .before .before .before .before .before .before .before .before .before .before .before .before .before .before .before .before .before .before .before .before .before .read-sheet .last in
+    let o = c .before .before .before .before .before .before .before .before .before .judge-accepted .last in
+    judge-over s b p rw₀ an₀ (d .1 .0) (d .1 .1 .0) rw₀ an₀ (o .1 .0) (o .1 .1 .0) (o .1 .1 .1 .1 .1 .1 .1 .1 .0) (o .1 .1 .1 .1 .1 .1 .1 .1 .1 .0) Accepted (c .before .before .before .before .before .before .before .before .before .before .before .before .before .before .before .before .before .before .before .before .before .before .before .before .before .before .before .before .before .before .read-sheet .kept .1 .0) (c .before .before .before .before .before .before .before .before .before .before .before .before .before .before .before .before .before .before .before .before .before .before .before .before .before .before .before .before .before .before .read-sheet .kept .1 .1 .0) refl refl (c .before .before .before .before .before .before .before .before .before .judge-accepted .ensures)
 
 same-length-5 : tie.Need-same-length-5
-same-length-5 c = (c .before .before .before .before .before .before .zero-bytes .kept .0) ∙ c .before .before .before .before .before .before .before .before .before .before .before .before .before .before .before .before .before .before .before .before .before .before .read-sheet .kept .1 .0
+same-length-5 c = (c .before .before .before .before .before .before .zero-bytes .kept .0) ∙ c .before .before .before .before .before .before .before .before .before .before .before .before .before .before .before .before .before .before .before .before .read-sheet .kept .1 .0
 
 same-length-6 : tie.Need-same-length-6
-same-length-6 c = (c .before .before .zero-words .kept .0) ∙ c .before .before .before .before .before .before .before .before .before .before .before .before .before .before .before .before .before .before .before .before .before .before .read-sheet .kept .1 .1 .0
+same-length-6 c = (c .before .before .zero-words .kept .0) ∙ c .before .before .before .before .before .before .before .before .before .before .before .before .before .before .before .before .before .before .before .before .read-sheet .kept .1 .1 .0
 
 returns-2 : tie.Need-returns-2
 returns-2 c =
-    let w = c .before .before .before .before .before .before .before .before .before .before .before .before .before .before .before .before .before .before .before .before .before .before .before .before .before .before .before .before .before .before .before .before .before .before .before .before .before in
+    let w = c .before .before .before .before .before .before .before .before .before .before .before .before .before .before .before .before .before .before .before .before .before .before .before .before .before .before .before .before .before .before .before .before .before in
     let a = w .args in
     let s = a .sheet .now in
     let b = a .records .now in
     let p = a .places .now in
     let rw₀ = a .rows .now in
     let an₀ = a .answers .now in
-    let d = c .before .before .before .before .before .before .before .before .before .before .before .before .before .before .before .before .before .before .before .before .before .before .read-sheet .last in
-    let f = subst (ReadSheetIs s (lent b p (length rw₀) (length an₀)) (d .1 .0) (d .1 .1 .0) (d .1 .1 .1 .1 .1 .0) (d .1 .1 .1 .1 .1 .1 .0) (d .1 .1 .1 .1 .1 .1 .1 .0) (d .1 .1 .1 .1 .1 .1 .1 .1 .0) (d .1 .1 .1 .1 .1 .1 .1 .1 .1 .0) (d .1 .1 .1 .1 .1 .1 .1 .1 .1 .1 .0)) (c .before .before .before .before .before .before .before .before .before .read2 .given .1) (c .before .before .before .before .before .before .before .before .before .before .before .before .before .before .before .before .before .before .before .before .before .before .read-sheet .ensures) in
+    let d = c .before .before .before .before .before .before .before .before .before .before .before .before .before .before .before .before .before .before .before .before .read-sheet .last in
+    let f = subst (ReadSheetIs s (lent b p (length rw₀) (length an₀)) (d .1 .0) (d .1 .1 .0) (d .1 .1 .1 .1 .1 .0) (d .1 .1 .1 .1 .1 .1 .0) (d .1 .1 .1 .1 .1 .1 .1 .0) (d .1 .1 .1 .1 .1 .1 .1 .1 .0)) (c .before .before .before .before .before .before .before .before .before .read2 .given .1) (c .before .before .before .before .before .before .before .before .before .before .before .before .before .before .before .before .before .before .before .before .read-sheet .ensures) in
     refused-is s b p rw₀ an₀ (w .pre) (c .before .before .before .before .before .before .before .before .before .read2 .given .0 .0) (d .1 .0) (d .1 .1 .0) (c .before .before .before .before .before .before .zero-bytes .last .0) (c .before .before .zero-words .last .0) f (c .before .before .before .before .before .before .zero-bytes .ensures) (c .before .before .zero-words .ensures)
 
 pub judge-cleared-spec : {M : Type 1} → statement M
-judge-cleared-spec = tie.close (tie.spec slice-aggregate-read-sheet slice-aggregate-read-sheet-2 slice-aggregate-read-sheet-3 slice-aggregate-read-sheet-4 slice-aggregate-read-sheet-5 slice-aggregate-read-sheet-6 slice-aggregate-read-sheet-7 read-sheet-requires enum-known-read slice-aggregate-judge-accepted slice-aggregate-judge-accepted-2 slice-aggregate-judge-accepted-3 slice-aggregate-judge-accepted-4 slice-aggregate-judge-accepted-5 slice-aggregate-judge-accepted-6 judge-accepted-requires enum-known-read-2 zero-bytes-requires zero-words-requires same-length same-length-2 same-length-3 same-length-4 returns same-length-5 same-length-6 returns-2)
+judge-cleared-spec = tie.close (tie.spec (λ c. search needs) (λ c. search needs) (λ c. search needs) (λ c. search needs) (λ c. search needs) read-sheet-requires (λ c. search needs) (λ c. search needs) (λ c. search needs) (λ c. search needs) (λ c. search needs) judge-accepted-requires (λ c. search needs) (λ c κs. search needs) (λ c κs. search needs) same-length same-length-2 same-length-3 same-length-4 returns same-length-5 same-length-6 returns-2)

@@ -5,18 +5,73 @@ use Rattle.application.proofs.CalledLaws.{values-ask, called-count, pla
 use Rattle.application.proofs.called.called.Statement.{statement}
 use Rattle.application.proofs.called.called.Tie as tie
 
-refuse-requires : tie.Need-refuse-requires
-refuse-requires c κs = search needs
-
 returns : tie.Need-returns
 returns c =
+    let s = c .before .before .before .before .before .before .before .before .before in
+    let a = s .args in
+    let b = a .records .now in
+    let p = a .places .now in
+    let ix = a .index .now in
+    let n = a .count in
+    let u = a .used in
+    let prm = a .params .now in
+    let g = a .images .now in
+    let o = a .bound .now in
+    let d = a .args .now in
+    let x = a .list in
+    let m = a .m in
+    let y = a .names in
+    let q = a .named in
+    let k = a .n in
+    called-count b p ix n u prm g o x m y q d k (s .pre) (c .before .if1 .taken) (c .refuse .result) (c .refuse .ensures)
+
+plain-requires : tie.Need-plain-requires
+plain-requires c κs =
+    let s = c .before .before .before .before .before .before .before .before .before .before .before .before in
+    let a = s .args in
+    let b = a .records .now in
+    let p = a .places .now in
+    let ix = a .index .now in
+    let n = a .count in
+    let u = a .used in
+    let prm = a .params .now in
+    let g = a .images .now in
+    let o = a .bound .now in
+    let d = a .args .now in
+    let x = a .list in
+    let m = a .m in
+    let y = a .names in
+    let q = a .named in
+    let k = a .n in
+    plain-asks b p ix n u prm g o x m y q d k (s .pre) (c .before .before .before .before .if1 .left)
+
+returns-2 : tie.Need-returns-2
+returns-2 c =
+    let s = c .before .before .before .before .before .before .before .before .before .before .before .before .before .before .before .before .before .before .before in
+    let a = s .args in
+    let b = a .records .now in
+    let p = a .places .now in
+    let ix = a .index .now in
+    let n = a .count in
+    let u = a .used in
+    let prm = a .params .now in
+    let g = a .images .now in
+    let o = a .bound .now in
+    let d = a .args .now in
+    let x = a .list in
+    let m = a .m in
+    let y = a .names in
+    let q = a .named in
+    let k = a .n in
+    called-plain b p ix n u prm g o x m y q d k (s .pre) (c .before .before .before .before .before .before .before .before .before .before .before .if1 .left) (c .before .before .before .before .before .before .before .before .before .before .if2 .taken) (c .before .before .before .before .before .before .plain .last .0) (c .before .before .before .before .before .before .plain .last .1 .0) (c .before .before .before .before .before .before .plain .last .1 .1 .0) (c .before .before .before .before .before .before .plain .result) (c .before .before .before .before .before .before .plain .ensures)
+
+all-values-requires : tie.Need-all-values-requires
+all-values-requires c κs =
     let s = c .before .before .before .before .before .before .before .before .before .before .before in
     let a = s .args in
     let b = a .records .now in
     let p = a .places .now in
-    let hs = a .heads .now in
-    let nx = a .next .now in
-    let zs = a .sizes .now in
+    let ix = a .index .now in
     let n = a .count in
     let u = a .used in
     let prm = a .params .now in
@@ -28,98 +83,15 @@ returns c =
     let y = a .names in
     let q = a .named in
     let k = a .n in
-    called-count b p hs nx zs n u prm g o x m y q d k (s .pre) (c .before .if1 .taken) (c .refuse .result) (c .refuse .ensures)
-
-plain-requires : tie.Need-plain-requires
-plain-requires c κs =
-    let s = c .before .before .before .before .before .before .before .before .before .before .before .before .before .before .before .before in
-    let a = s .args in
-    let b = a .records .now in
-    let p = a .places .now in
-    let hs = a .heads .now in
-    let nx = a .next .now in
-    let zs = a .sizes .now in
-    let n = a .count in
-    let u = a .used in
-    let prm = a .params .now in
-    let g = a .images .now in
-    let o = a .bound .now in
-    let d = a .args .now in
-    let x = a .list in
-    let m = a .m in
-    let y = a .names in
-    let q = a .named in
-    let k = a .n in
-    plain-asks b p hs nx zs n u prm g o x m y q d k (s .pre) (c .before .before .before .before .before .before .if1 .left)
-
-same-length : tie.Need-same-length
-same-length c = search needs
-
-same-length-2 : tie.Need-same-length-2
-same-length-2 c = search needs
-
-same-length-3 : tie.Need-same-length-3
-same-length-3 c = search needs
-
-same-length-4 : tie.Need-same-length-4
-same-length-4 c = search needs
-
-same-length-5 : tie.Need-same-length-5
-same-length-5 c = search needs
-
-returns-2 : tie.Need-returns-2
-returns-2 c =
-    let s = c .before .before .before .before .before .before .before .before .before .before .before .before .before .before .before .before .before .before .before .before .before .before .before .before .before .before .before in
-    let a = s .args in
-    let b = a .records .now in
-    let p = a .places .now in
-    let hs = a .heads .now in
-    let nx = a .next .now in
-    let zs = a .sizes .now in
-    let n = a .count in
-    let u = a .used in
-    let prm = a .params .now in
-    let g = a .images .now in
-    let o = a .bound .now in
-    let d = a .args .now in
-    let x = a .list in
-    let m = a .m in
-    let y = a .names in
-    let q = a .named in
-    let k = a .n in
-    called-plain b p hs nx zs n u prm g o x m y q d k (s .pre) (c .before .before .before .before .before .before .before .before .before .before .before .before .before .before .before .before .before .if1 .left) (c .before .before .before .before .before .before .before .before .before .before .before .before .before .before .before .before .if2 .taken) (c .before .before .before .before .before .before .before .before .before .before .plain .last .0) (c .before .before .before .before .before .before .before .before .before .before .plain .last .1 .0) (c .before .before .before .before .before .before .before .before .before .before .plain .last .1 .1 .0) (c .before .before .before .before .before .before .before .before .before .before .plain .last .1 .1 .1 .0) (c .before .before .before .before .before .before .before .before .before .before .plain .last .1 .1 .1 .1 .0) (c .before .before .before .before .before .before .before .before .before .before .plain .result) (c .before .before .before .before .before .before .before .before .before .before .plain .ensures)
-
-all-values-requires : tie.Need-all-values-requires
-all-values-requires c κs =
-    let s = c .before .before .before .before .before .before .before .before .before .before .before .before .before in
-    let a = s .args in
-    let b = a .records .now in
-    let p = a .places .now in
-    let hs = a .heads .now in
-    let nx = a .next .now in
-    let zs = a .sizes .now in
-    let n = a .count in
-    let u = a .used in
-    let prm = a .params .now in
-    let g = a .images .now in
-    let o = a .bound .now in
-    let d = a .args .now in
-    let x = a .list in
-    let m = a .m in
-    let y = a .names in
-    let q = a .named in
-    let k = a .n in
-    values-ask b p hs nx zs n u prm g o x m y q d k (s .pre)
+    values-ask b p ix n u prm g o x m y q d k (s .pre)
 
 delivered-lent-requires : tie.Need-delivered-lent-requires
 delivered-lent-requires c κs =
-    let s = c .before .before .before .before .before .before .before .before .before .before .before .before .before .before .before .before .before .before .before .before .before .before .before in
+    let s = c .before .before .before .before .before .before .before .before .before .before .before .before .before .before .before .before .before .before .before in
     let a = s .args in
     let b = a .records .now in
     let p = a .places .now in
-    let hs = a .heads .now in
-    let nx = a .next .now in
-    let zs = a .sizes .now in
+    let ix = a .index .now in
     let n = a .count in
     let u = a .used in
     let prm = a .params .now in
@@ -131,41 +103,15 @@ delivered-lent-requires c κs =
     let y = a .names in
     let q = a .named in
     let k = a .n in
-    lent-asks b p hs nx zs n u prm g o x m y q d k (s .pre) (c .before .before .before .before .before .before .before .before .before .before .before .before .before .if1 .left)
-
-same-length-6 : tie.Need-same-length-6
-same-length-6 c = search needs
-
-same-length-7 : tie.Need-same-length-7
-same-length-7 c = search needs
-
-same-length-8 : tie.Need-same-length-8
-same-length-8 c = search needs
-
-same-length-9 : tie.Need-same-length-9
-same-length-9 c = search needs
-
-same-length-10 : tie.Need-same-length-10
-same-length-10 c = search needs
-
-same-length-11 : tie.Need-same-length-11
-same-length-11 c = search needs
-
-same-length-12 : tie.Need-same-length-12
-same-length-12 c = search needs
-
-same-length-13 : tie.Need-same-length-13
-same-length-13 c = search needs
+    lent-asks b p ix n u prm g o x m y q d k (s .pre) (c .before .before .before .before .before .before .before .before .before .before .before .if1 .left)
 
 returns-3 : tie.Need-returns-3
 returns-3 c =
-    let s = c .before .before .before .before .before .before .before .before .before .before .before .before .before .before .before .before .before .before .before .before .before .before .before .before .before .before .before .before .before .before .before .before .before .before .before .before .before .before .before .before in
+    let s = c .before .before .before .before .before .before .before .before .before .before .before .before .before .before .before .before .before .before .before .before .before .before .before .before .before .before .before .before .before .before .before .before in
     let a = s .args in
     let b = a .records .now in
     let p = a .places .now in
-    let hs = a .heads .now in
-    let nx = a .next .now in
-    let zs = a .sizes .now in
+    let ix = a .index .now in
     let n = a .count in
     let u = a .used in
     let prm = a .params .now in
@@ -177,26 +123,15 @@ returns-3 c =
     let y = a .names in
     let q = a .named in
     let k = a .n in
-    called-delivered b p hs nx zs n u prm g o x m y q d k (s .pre) (c .before .before .before .before .before .before .before .before .before .before .before .before .before .before .before .before .before .before .before .before .before .before .before .before .before .before .before .before .before .before .if1 .left) (c .before .before .before .before .before .before .before .before .before .before .before .before .before .before .before .before .before .before .before .before .before .before .before .before .before .before .all-values .result) (c .before .before .before .before .before .before .before .before .before .before .before .before .before .before .before .before .before .before .before .before .before .before .before .before .before .before .all-values .ensures) (c .before .before .before .before .before .before .before .before .before .before .before .before .before .before .before .before .before .before .before .before .before .before .before .before .before .if3 .taken) (c .before .before .before .before .before .before .before .before .before .before .before .before .before .before .before .before .delivered-lent .last .0) (c .before .before .before .before .before .before .before .before .before .before .before .before .before .before .before .before .delivered-lent .last .1 .0) (c .before .before .before .before .before .before .before .before .before .before .before .before .before .before .before .before .delivered-lent .last .1 .1 .0) (c .before .before .before .before .before .before .before .before .before .before .before .before .before .before .before .before .delivered-lent .last .1 .1 .1 .0) (c .before .before .before .before .before .before .before .before .before .before .before .before .before .before .before .before .delivered-lent .last .1 .1 .1 .1 .0) (c .before .before .before .before .before .before .before .before .before .before .before .before .before .before .before .before .delivered-lent .last .1 .1 .1 .1 .1 .1 .1 .0) (c .before .before .before .before .before .before .before .before .before .before .before .before .before .before .before .before .delivered-lent .last .1 .1 .1 .1 .1 .1 .1 .1 .0) (c .before .before .before .before .before .before .before .before .before .before .before .before .before .before .before .before .delivered-lent .last .1 .1 .1 .1 .1 .1 .1 .1 .1 .0) (c .before .before .before .before .before .before .before .before .before .before .before .before .before .before .before .before .delivered-lent .result) (c .before .before .before .before .before .before .before .before .before .before .before .before .before .before .before .before .delivered-lent .ensures)
-
-refuse-requires-2 : tie.Need-refuse-requires-2
-refuse-requires-2 c κs = search needs
-
-same-length-14 : tie.Need-same-length-14
-same-length-14 c = search needs
-
-same-length-15 : tie.Need-same-length-15
-same-length-15 c = search needs
+    called-delivered b p ix n u prm g o x m y q d k (s .pre) (c .before .before .before .before .before .before .before .before .before .before .before .before .before .before .before .before .before .before .before .before .before .before .before .before .if1 .left) (c .before .before .before .before .before .before .before .before .before .before .before .before .before .before .before .before .before .before .before .before .all-values .result) (c .before .before .before .before .before .before .before .before .before .before .before .before .before .before .before .before .before .before .before .before .all-values .ensures) (c .before .before .before .before .before .before .before .before .before .before .before .before .before .before .before .before .before .before .before .if3 .taken) (c .before .before .before .before .before .before .before .before .before .before .before .before .delivered-lent .last .0) (c .before .before .before .before .before .before .before .before .before .before .before .before .delivered-lent .last .1 .0) (c .before .before .before .before .before .before .before .before .before .before .before .before .delivered-lent .last .1 .1 .0) (c .before .before .before .before .before .before .before .before .before .before .before .before .delivered-lent .last .1 .1 .1 .1 .1 .0) (c .before .before .before .before .before .before .before .before .before .before .before .before .delivered-lent .last .1 .1 .1 .1 .1 .1 .0) (c .before .before .before .before .before .before .before .before .before .before .before .before .delivered-lent .last .1 .1 .1 .1 .1 .1 .1 .0) (c .before .before .before .before .before .before .before .before .before .before .before .before .delivered-lent .result) (c .before .before .before .before .before .before .before .before .before .before .before .before .delivered-lent .ensures)
 
 returns-4 : tie.Need-returns-4
 returns-4 c =
-    let s = c .before .before .before .before .before .before .before .before .before .before .before .before .before .before .before .before in
+    let s = c .before .before .before .before .before .before .before .before .before .before .before .before .before .before in
     let a = s .args in
     let b = a .records .now in
     let p = a .places .now in
-    let hs = a .heads .now in
-    let nx = a .next .now in
-    let zs = a .sizes .now in
+    let ix = a .index .now in
     let n = a .count in
     let u = a .used in
     let prm = a .params .now in
@@ -208,7 +143,7 @@ returns-4 c =
     let y = a .names in
     let q = a .named in
     let k = a .n in
-    called-misfit b p hs nx zs n u prm g o x m y q d k (s .pre) (c .before .before .before .before .before .before .if1 .left) (c .before .before .all-values .result) (c .before .before .all-values .ensures) (c .before .if3 .left) (c .refuse2 .result) (c .refuse2 .ensures)
+    called-misfit b p ix n u prm g o x m y q d k (s .pre) (c .before .before .before .before .before .before .if1 .left) (c .before .before .all-values .result) (c .before .before .all-values .ensures) (c .before .if3 .left) (c .refuse2 .result) (c .refuse2 .ensures)
 
 pub called-spec : {M : Type 1} → statement M
-called-spec = tie.close (tie.spec refuse-requires returns plain-requires same-length same-length-2 same-length-3 same-length-4 same-length-5 returns-2 all-values-requires delivered-lent-requires same-length-6 same-length-7 same-length-8 same-length-9 same-length-10 same-length-11 same-length-12 same-length-13 returns-3 refuse-requires-2 same-length-14 same-length-15 returns-4)
+called-spec = tie.close (tie.spec (λ c κs. search needs) returns plain-requires (λ c. search needs) (λ c. search needs) (λ c. search needs) returns-2 all-values-requires delivered-lent-requires (λ c. search needs) (λ c. search needs) (λ c. search needs) (λ c. search needs) (λ c. search needs) (λ c. search needs) returns-3 (λ c κs. search needs) (λ c. search needs) (λ c. search needs) returns-4)

@@ -24,9 +24,6 @@ matches-all-requires c κs =
     let k = a .n in
     matches-ask b p n prm g o x m d k (s .pre)
 
-enum-known-found : tie.Need-enum-known-found
-enum-known-found c = search needs
-
 mul-at : tie.Need-mul-at
 mul-at c =
     let s = c .before .before .before .before .before .before .before .before .before .before .before .before .before .before .before .before in
@@ -36,9 +33,6 @@ add-at : tie.Need-add-at
 add-at c =
     let s = c .before .before .before .before .before .before .before .before .before .before .before .before .before .before .before .before in
     omega (arith, s .pre .list .within, s .pre .fewer, s .good)
-
-slice-aggregate-all-settled : tie.Need-slice-aggregate-all-settled
-slice-aggregate-all-settled c = search needs
 
 sub-all-settled : tie.Need-sub-all-settled
 sub-all-settled c =
@@ -61,12 +55,6 @@ all-settled-requires c κs =
     let k = a .n in
     (settled-asks b p n prm g o x m d k (s .pre) (c .before .before .before .before .before .before .before .before .before .matches-all .last .1 .1 .1 .1 .0) (c .before .before .before .before .before .before .before .before .before .matches-all .last .1 .1 .1 .1 .1 .0) (c .before .before .before .before .before .before .before .before .before .matches-all .result) (c .before .before .before .before .before .before .before .before .before .matches-all .ensures) (c .before .before .before .found .given .0 .0) (c .before .before .before .found .given .1), table-none (SettledAt b p n prm (c .before .before .before .before .before .before .before .before .before .matches-all .last .1 .1 .1 .1 .0)))
 
-same-length : tie.Need-same-length
-same-length c = search needs
-
-same-length-2 : tie.Need-same-length-2
-same-length-2 c = search needs
-
 returns : tie.Need-returns
 returns c =
     let s = c .before .before .before .before .before .before .before .before .before .before .before .before .before .before .before .before .before .before .before .before .before in
@@ -83,15 +71,6 @@ returns c =
     let k = a .n in
     fit-settled b p n prm g o x m d k (s .pre) (c .before .before .before .before .before .before .before .before .before .before .before .before .matches-all .last .1 .1 .1 .1 .0) (c .before .before .before .before .before .before .before .before .before .before .before .before .matches-all .last .1 .1 .1 .1 .1 .0) (c .before .before .before .before .before .before .before .before .before .before .before .before .matches-all .result) (c .before .before .before .before .before .before .before .before .before .before .before .before .matches-all .ensures) (c .before .before .before .before .before .before .found .given .0 .0) (c .before .before .before .before .before .before .found .given .1) (c .before .before .all-settled .result) (c .before .before .all-settled .ensures .0) (c .if1 .taken)
 
-enum-known-found-2 : tie.Need-enum-known-found-2
-enum-known-found-2 c = search needs
-
-same-length-3 : tie.Need-same-length-3
-same-length-3 c = search needs
-
-same-length-4 : tie.Need-same-length-4
-same-length-4 c = search needs
-
 returns-2 : tie.Need-returns-2
 returns-2 c =
     let s = c .before .before .before .before .before .before .before .before .before .before .before .before .before .before .before .before .before .before .before .before .before in
@@ -107,12 +86,6 @@ returns-2 c =
     let m = a .m in
     let k = a .n in
     fit-unsettled b p n prm g o x m d k (s .pre) (c .before .before .before .before .before .before .before .before .before .before .before .before .matches-all .last .1 .1 .1 .1 .0) (c .before .before .before .before .before .before .before .before .before .before .before .before .matches-all .last .1 .1 .1 .1 .1 .0) (c .before .before .before .before .before .before .before .before .before .before .before .before .matches-all .result) (c .before .before .before .before .before .before .before .before .before .before .before .before .matches-all .ensures) (c .before .before .before .before .before .before .found .given .0 .0) (c .before .before .before .before .before .before .found .given .1) (c .before .before .all-settled .result) (c .before .before .all-settled .ensures .0) (c .if1 .left)
-
-same-length-5 : tie.Need-same-length-5
-same-length-5 c = search needs
-
-same-length-6 : tie.Need-same-length-6
-same-length-6 c = search needs
 
 returns-3 : tie.Need-returns-3
 returns-3 c =
@@ -131,4 +104,4 @@ returns-3 c =
     fit-fails b p n prm g o x m d k (s .pre) (c .before .before .before .before .before .before .before .matches-all .last .1 .1 .1 .1 .0) (c .before .before .before .before .before .before .before .matches-all .last .1 .1 .1 .1 .1 .0) (c .before .before .before .before .before .before .before .matches-all .result) (c .before .before .before .before .before .before .before .matches-all .ensures) (c .before .found2 .given .0 .0) (c .before .found2 .given .1)
 
 pub fit-listed-spec : {M : Type 1} → statement M
-fit-listed-spec = tie.close (tie.spec matches-all-requires enum-known-found mul-at add-at slice-aggregate-all-settled sub-all-settled all-settled-requires same-length same-length-2 returns enum-known-found-2 same-length-3 same-length-4 returns-2 same-length-5 same-length-6 returns-3)
+fit-listed-spec = tie.close (tie.spec matches-all-requires (λ c. search needs) mul-at add-at (λ c. search needs) sub-all-settled all-settled-requires (λ c. search needs) (λ c. search needs) returns (λ c. search needs) (λ c. search needs) (λ c. search needs) returns-2 (λ c. search needs) (λ c. search needs) returns-3)

@@ -16,15 +16,15 @@ use Rattle.application.proofs.called.delivered.Reads as delivered-reads
 use Rattle.application.proofs.lent.+delivered_over.{statement}
 use Rattle.application.proofs.lent.+delivered_over.Tie.{close}
 
-abbrev μ-delivered-over : Measures 9 delivered-over-kinds.ps ℕ
+abbrev μ-delivered-over : Measures 7 delivered-over-kinds.ps ℕ
 μ-delivered-over κs a =
-    turns (full (length (a .1 .1 .1 .1 .1 .1 .1 .0 .now)) (length (a .1 .1 .1 .1 .1 .1 .1 .1 .0 .now)) (length (a .1 .1 .1 .1 .1 .1 .1 .1 .1 .0 .now)))
+    turns (full (length (a .1 .1 .1 .1 .1 .0 .now)) (length (a .1 .1 .1 .1 .1 .1 .0 .now)) (length (a .1 .1 .1 .1 .1 .1 .1 .0 .now)))
 
-abbrev delivered-over-at : ℕ → In 9 delivered-over-kinds.ps
-delivered-over-at t = and 9 delivered-over-kinds.ps (is 9 delivered-over-kinds.ps μ-delivered-over t) delivered-over.Pre
+abbrev delivered-over-at : ℕ → In 7 delivered-over-kinds.ps
+delivered-over-at t = and 7 delivered-over-kinds.ps (is 7 delivered-over-kinds.ps μ-delivered-over t) delivered-over.Pre
 
-abbrev delivered-over-below : ℕ → In 9 delivered-over-kinds.ps
-delivered-over-below t = and 9 delivered-over-kinds.ps (falls 9 delivered-over-kinds.ps _<_ μ-delivered-over t) delivered-over.Pre
+abbrev delivered-over-below : ℕ → In 7 delivered-over-kinds.ps
+delivered-over-below t = and 7 delivered-over-kinds.ps (falls 7 delivered-over-kinds.ps _<_ μ-delivered-over t) delivered-over.Pre
 
 abbrev delivered-over-env : ℕ → delivered-over-lts.Claims
 delivered-over-env t = (are-full-reads.Asked, are-full-reads.Learnt, delivered-reads.Asked, delivered-reads.Learnt, delivered-over-below t, delivered-over.Post)
@@ -35,18 +35,16 @@ delivered-over-are-full-requires t c κs =
 
 delivered-over-delivered-requires : (t : ℕ) → delivered-over-lts.Need-delivered-requires (delivered-over-env t) (delivered-over-at t) delivered-over.Post
 delivered-over-delivered-requires t c κs =
-    let s = c .before .before .before .before .before .before .before .before .before .before .before .before .before .before .before .before .before .before .before in
+    let s = c .before .before .before .before .before .before .before .before .before .before .before .before .before .before .before in
     let a = s .args in
     let b = a .records .now in
     let p = a .places .now in
-    let hs = a .heads .now in
-    let nx = a .next .now in
-    let zs = a .sizes .now in
+    let ix = a .index .now in
     let prm = a .params .now in
     let g = a .images .now in
     let o = a .bound .now in
     let d = a .args .now in
-    deliver-asks b p hs nx zs (a .count) (a .used) prm g o (a .list) (a .m) (a .names) (a .named) d (a .n) (s .pre .1) (sym (c .before .before .before .before .before .before .before .before .before .are-full .ensures) ∙ c .before .before .before .before .before .before .before .before .if1 .taken)
+    deliver-asks b p ix (a .count) (a .used) prm g o (a .list) (a .m) (a .names) (a .named) d (a .n) (s .pre .1) (sym (c .before .before .before .before .before .before .before .are-full .ensures) ∙ c .before .before .before .before .before .before .if1 .taken)
 
 delivered-over-same-length : (t : ℕ) → delivered-over-lts.Need-same-length (delivered-over-env t) (delivered-over-at t) delivered-over.Post
 delivered-over-same-length t c =
@@ -72,17 +70,9 @@ delivered-over-same-length-6 : (t : ℕ) → delivered-over-lts.Need-same-length
 delivered-over-same-length-6 t c =
     search needs
 
-delivered-over-same-length-7 : (t : ℕ) → delivered-over-lts.Need-same-length-7 (delivered-over-env t) (delivered-over-at t) delivered-over.Post
-delivered-over-same-length-7 t c =
-    search needs
-
-delivered-over-same-length-8 : (t : ℕ) → delivered-over-lts.Need-same-length-8 (delivered-over-env t) (delivered-over-at t) delivered-over.Post
-delivered-over-same-length-8 t c =
-    search needs
-
 delivered-over-returns : (t : ℕ) → delivered-over-lts.Need-returns (delivered-over-env t) (delivered-over-at t) delivered-over.Post
 delivered-over-returns t c =
-    c .before .before .before .before .before .before .before .before .before .before .before .before .before .before .before .before .delivered .ensures
+    c .before .before .before .before .before .before .before .before .before .before .before .before .delivered .ensures
 
 delivered-over-slice-aggregate-delivered-over : (t : ℕ) → delivered-over-lts.Need-slice-aggregate-delivered-over (delivered-over-env t) (delivered-over-at t) delivered-over.Post
 delivered-over-slice-aggregate-delivered-over t c =
@@ -98,42 +88,32 @@ delivered-over-slice-aggregate-delivered-over-3 t c =
 
 delivered-over-delivered-over-requires : (t : ℕ) → delivered-over-lts.Need-delivered-over-requires (delivered-over-env t) (delivered-over-at t) delivered-over.Post
 delivered-over-delivered-over-requires t c κs =
-    let s = c .before .before .before .before .before .before .before .before .before .before .before .before .before .before .before .before .before .before .before in
+    let s = c .before .before .before .before .before .before .before .before .before .before .before .before .before .before .before in
     let a = s .args in
     let b = a .records .now in
     let p = a .places .now in
-    let hs = a .heads .now in
-    let nx = a .next .now in
-    let zs = a .sizes .now in
+    let ix = a .index .now in
     let prm = a .params .now in
     let g = a .images .now in
     let o = a .bound .now in
     let d = a .args .now in
-    (turns-less (length prm) (length g) (length o) t (s .pre .0) (sym (c .before .before .before .before .before .before .before .before .before .are-full .ensures) ∙ c .before .before .before .before .before .before .before .before .if1 .left), lent-own b p hs nx zs (a .count) (a .used) prm g o (a .list) (a .m) (a .names) (a .named) d (a .n) (s .pre .1))
+    (turns-less (length prm) (length g) (length o) t (s .pre .0) (sym (c .before .before .before .before .before .before .before .are-full .ensures) ∙ c .before .before .before .before .before .before .if1 .left), lent-own b p ix (a .count) (a .used) prm g o (a .list) (a .m) (a .names) (a .named) d (a .n) (s .pre .1))
+
+delivered-over-same-length-7 : (t : ℕ) → delivered-over-lts.Need-same-length-7 (delivered-over-env t) (delivered-over-at t) delivered-over.Post
+delivered-over-same-length-7 t c =
+    search needs
+
+delivered-over-same-length-8 : (t : ℕ) → delivered-over-lts.Need-same-length-8 (delivered-over-env t) (delivered-over-at t) delivered-over.Post
+delivered-over-same-length-8 t c =
+    search needs
 
 delivered-over-same-length-9 : (t : ℕ) → delivered-over-lts.Need-same-length-9 (delivered-over-env t) (delivered-over-at t) delivered-over.Post
 delivered-over-same-length-9 t c =
     search needs
 
-delivered-over-same-length-10 : (t : ℕ) → delivered-over-lts.Need-same-length-10 (delivered-over-env t) (delivered-over-at t) delivered-over.Post
-delivered-over-same-length-10 t c =
-    search needs
-
-delivered-over-same-length-11 : (t : ℕ) → delivered-over-lts.Need-same-length-11 (delivered-over-env t) (delivered-over-at t) delivered-over.Post
-delivered-over-same-length-11 t c =
-    search needs
-
-delivered-over-same-length-12 : (t : ℕ) → delivered-over-lts.Need-same-length-12 (delivered-over-env t) (delivered-over-at t) delivered-over.Post
-delivered-over-same-length-12 t c =
-    search needs
-
-delivered-over-same-length-13 : (t : ℕ) → delivered-over-lts.Need-same-length-13 (delivered-over-env t) (delivered-over-at t) delivered-over.Post
-delivered-over-same-length-13 t c =
-    search needs
-
 delivered-over-returns-2 : (t : ℕ) → delivered-over-lts.Need-returns-2 (delivered-over-env t) (delivered-over-at t) delivered-over.Post
 delivered-over-returns-2 t c =
-    app-own (c .before .before .before .before .before .before .before .before .before .before .before .before .before .delivered-over .ensures)
+    app-own (c .before .before .before .before .before .before .before .before .before .delivered-over .ensures)
 
 pub +delivered-over-spec : {M : Type 1} → statement M
 +delivered-over-spec = close μ-delivered-over λ t. delivered-over-lts.spec (delivered-over-env t) (delivered-over-at t) delivered-over.Post
@@ -145,16 +125,12 @@ pub +delivered-over-spec : {M : Type 1} → statement M
     (delivered-over-same-length-4 t)
     (delivered-over-same-length-5 t)
     (delivered-over-same-length-6 t)
-    (delivered-over-same-length-7 t)
-    (delivered-over-same-length-8 t)
     (delivered-over-returns t)
     (delivered-over-slice-aggregate-delivered-over t)
     (delivered-over-slice-aggregate-delivered-over-2 t)
     (delivered-over-slice-aggregate-delivered-over-3 t)
     (delivered-over-delivered-over-requires t)
+    (delivered-over-same-length-7 t)
+    (delivered-over-same-length-8 t)
     (delivered-over-same-length-9 t)
-    (delivered-over-same-length-10 t)
-    (delivered-over-same-length-11 t)
-    (delivered-over-same-length-12 t)
-    (delivered-over-same-length-13 t)
     (delivered-over-returns-2 t)

@@ -16,15 +16,15 @@ use Rattle.application.proofs.parametric.parametric.Reads as parametric
 use Rattle.application.proofs.lent.+parametric_over.{statement}
 use Rattle.application.proofs.lent.+parametric_over.Tie.{close}
 
-abbrev μ-parametric-over : Measures 9 parametric-over-kinds.ps ℕ
+abbrev μ-parametric-over : Measures 7 parametric-over-kinds.ps ℕ
 μ-parametric-over κs a =
-    turns (full (length (a .1 .1 .1 .1 .1 .1 .1 .0 .now)) (length (a .1 .1 .1 .1 .1 .1 .1 .1 .0 .now)) (length (a .1 .1 .1 .1 .1 .1 .1 .1 .1 .0 .now)))
+    turns (full (length (a .1 .1 .1 .1 .1 .0 .now)) (length (a .1 .1 .1 .1 .1 .1 .0 .now)) (length (a .1 .1 .1 .1 .1 .1 .1 .0 .now)))
 
-abbrev parametric-over-at : ℕ → In 9 parametric-over-kinds.ps
-parametric-over-at t = and 9 parametric-over-kinds.ps (is 9 parametric-over-kinds.ps μ-parametric-over t) parametric-over.Pre
+abbrev parametric-over-at : ℕ → In 7 parametric-over-kinds.ps
+parametric-over-at t = and 7 parametric-over-kinds.ps (is 7 parametric-over-kinds.ps μ-parametric-over t) parametric-over.Pre
 
-abbrev parametric-over-below : ℕ → In 9 parametric-over-kinds.ps
-parametric-over-below t = and 9 parametric-over-kinds.ps (falls 9 parametric-over-kinds.ps _<_ μ-parametric-over t) parametric-over.Pre
+abbrev parametric-over-below : ℕ → In 7 parametric-over-kinds.ps
+parametric-over-below t = and 7 parametric-over-kinds.ps (falls 7 parametric-over-kinds.ps _<_ μ-parametric-over t) parametric-over.Pre
 
 abbrev parametric-over-env : ℕ → parametric-over-lts.Claims
 parametric-over-env t = (are-full-reads.Asked, are-full-reads.Learnt, parametric-reads.Asked, parametric-reads.Learnt, parametric-over-below t, parametric-over.Post)
@@ -35,18 +35,16 @@ parametric-over-are-full-requires t c κs =
 
 parametric-over-parametric-requires : (t : ℕ) → parametric-over-lts.Need-parametric-requires (parametric-over-env t) (parametric-over-at t) parametric-over.Post
 parametric-over-parametric-requires t c κs =
-    let s = c .before .before .before .before .before .before .before .before .before .before .before .before .before .before .before .before .before .before .before in
+    let s = c .before .before .before .before .before .before .before .before .before .before .before .before .before .before .before in
     let a = s .args in
     let b = a .records .now in
     let p = a .places .now in
-    let hs = a .heads .now in
-    let nx = a .next .now in
-    let zs = a .sizes .now in
+    let ix = a .index .now in
     let prm = a .params .now in
     let g = a .images .now in
     let o = a .bound .now in
     let d = a .args .now in
-    parametric-full b p hs nx zs (a .count) (a .used) prm g o (a .list) (a .m) (a .names) (a .named) d (a .n) (s .pre .1) (sym (c .before .before .before .before .before .before .before .before .before .are-full .ensures) ∙ c .before .before .before .before .before .before .before .before .if1 .taken)
+    parametric-full b p ix (a .count) (a .used) prm g o (a .list) (a .m) (a .names) (a .named) d (a .n) (s .pre .1) (sym (c .before .before .before .before .before .before .before .are-full .ensures) ∙ c .before .before .before .before .before .before .if1 .taken)
 
 parametric-over-same-length : (t : ℕ) → parametric-over-lts.Need-same-length (parametric-over-env t) (parametric-over-at t) parametric-over.Post
 parametric-over-same-length t c =
@@ -72,17 +70,9 @@ parametric-over-same-length-6 : (t : ℕ) → parametric-over-lts.Need-same-leng
 parametric-over-same-length-6 t c =
     search needs
 
-parametric-over-same-length-7 : (t : ℕ) → parametric-over-lts.Need-same-length-7 (parametric-over-env t) (parametric-over-at t) parametric-over.Post
-parametric-over-same-length-7 t c =
-    search needs
-
-parametric-over-same-length-8 : (t : ℕ) → parametric-over-lts.Need-same-length-8 (parametric-over-env t) (parametric-over-at t) parametric-over.Post
-parametric-over-same-length-8 t c =
-    search needs
-
 parametric-over-returns : (t : ℕ) → parametric-over-lts.Need-returns (parametric-over-env t) (parametric-over-at t) parametric-over.Post
 parametric-over-returns t c =
-    c .before .before .before .before .before .before .before .before .before .before .before .before .before .before .before .before .parametric .ensures
+    c .before .before .before .before .before .before .before .before .before .before .before .before .parametric .ensures
 
 parametric-over-slice-aggregate-parametric-over : (t : ℕ) → parametric-over-lts.Need-slice-aggregate-parametric-over (parametric-over-env t) (parametric-over-at t) parametric-over.Post
 parametric-over-slice-aggregate-parametric-over t c =
@@ -98,42 +88,32 @@ parametric-over-slice-aggregate-parametric-over-3 t c =
 
 parametric-over-parametric-over-requires : (t : ℕ) → parametric-over-lts.Need-parametric-over-requires (parametric-over-env t) (parametric-over-at t) parametric-over.Post
 parametric-over-parametric-over-requires t c κs =
-    let s = c .before .before .before .before .before .before .before .before .before .before .before .before .before .before .before .before .before .before .before in
+    let s = c .before .before .before .before .before .before .before .before .before .before .before .before .before .before .before in
     let a = s .args in
     let b = a .records .now in
     let p = a .places .now in
-    let hs = a .heads .now in
-    let nx = a .next .now in
-    let zs = a .sizes .now in
+    let ix = a .index .now in
     let prm = a .params .now in
     let g = a .images .now in
     let o = a .bound .now in
     let d = a .args .now in
-    (turns-less (length prm) (length g) (length o) t (s .pre .0) (sym (c .before .before .before .before .before .before .before .before .before .are-full .ensures) ∙ c .before .before .before .before .before .before .before .before .if1 .left), parametric-own b p hs nx zs (a .count) (a .used) prm g o (a .list) (a .m) (a .names) (a .named) d (a .n) (s .pre .1))
+    (turns-less (length prm) (length g) (length o) t (s .pre .0) (sym (c .before .before .before .before .before .before .before .are-full .ensures) ∙ c .before .before .before .before .before .before .if1 .left), parametric-own b p ix (a .count) (a .used) prm g o (a .list) (a .m) (a .names) (a .named) d (a .n) (s .pre .1))
+
+parametric-over-same-length-7 : (t : ℕ) → parametric-over-lts.Need-same-length-7 (parametric-over-env t) (parametric-over-at t) parametric-over.Post
+parametric-over-same-length-7 t c =
+    search needs
+
+parametric-over-same-length-8 : (t : ℕ) → parametric-over-lts.Need-same-length-8 (parametric-over-env t) (parametric-over-at t) parametric-over.Post
+parametric-over-same-length-8 t c =
+    search needs
 
 parametric-over-same-length-9 : (t : ℕ) → parametric-over-lts.Need-same-length-9 (parametric-over-env t) (parametric-over-at t) parametric-over.Post
 parametric-over-same-length-9 t c =
     search needs
 
-parametric-over-same-length-10 : (t : ℕ) → parametric-over-lts.Need-same-length-10 (parametric-over-env t) (parametric-over-at t) parametric-over.Post
-parametric-over-same-length-10 t c =
-    search needs
-
-parametric-over-same-length-11 : (t : ℕ) → parametric-over-lts.Need-same-length-11 (parametric-over-env t) (parametric-over-at t) parametric-over.Post
-parametric-over-same-length-11 t c =
-    search needs
-
-parametric-over-same-length-12 : (t : ℕ) → parametric-over-lts.Need-same-length-12 (parametric-over-env t) (parametric-over-at t) parametric-over.Post
-parametric-over-same-length-12 t c =
-    search needs
-
-parametric-over-same-length-13 : (t : ℕ) → parametric-over-lts.Need-same-length-13 (parametric-over-env t) (parametric-over-at t) parametric-over.Post
-parametric-over-same-length-13 t c =
-    search needs
-
 parametric-over-returns-2 : (t : ℕ) → parametric-over-lts.Need-returns-2 (parametric-over-env t) (parametric-over-at t) parametric-over.Post
 parametric-over-returns-2 t c =
-    app-own (c .before .before .before .before .before .before .before .before .before .before .before .before .before .parametric-over .ensures)
+    app-own (c .before .before .before .before .before .before .before .before .before .parametric-over .ensures)
 
 pub +parametric-over-spec : {M : Type 1} → statement M
 +parametric-over-spec = close μ-parametric-over λ t. parametric-over-lts.spec (parametric-over-env t) (parametric-over-at t) parametric-over.Post
@@ -145,16 +125,12 @@ pub +parametric-over-spec : {M : Type 1} → statement M
     (parametric-over-same-length-4 t)
     (parametric-over-same-length-5 t)
     (parametric-over-same-length-6 t)
-    (parametric-over-same-length-7 t)
-    (parametric-over-same-length-8 t)
     (parametric-over-returns t)
     (parametric-over-slice-aggregate-parametric-over t)
     (parametric-over-slice-aggregate-parametric-over-2 t)
     (parametric-over-slice-aggregate-parametric-over-3 t)
     (parametric-over-parametric-over-requires t)
+    (parametric-over-same-length-7 t)
+    (parametric-over-same-length-8 t)
     (parametric-over-same-length-9 t)
-    (parametric-over-same-length-10 t)
-    (parametric-over-same-length-11 t)
-    (parametric-over-same-length-12 t)
-    (parametric-over-same-length-13 t)
     (parametric-over-returns-2 t)

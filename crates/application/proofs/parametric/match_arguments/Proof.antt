@@ -59,15 +59,6 @@ unlist-names-requires c κs =
     let k = a .n in
     patterns-take b p n prm g o x m y q d k (s .pre) (c .before .before .before .before .before .before .before .before .before .before .before .before .before .list-names .last .0) (c .before .before .before .before .before .before .before .before .before .before .before .before .before .list-names .ensures) (c .before .before .before .before .before .before .before .match-all-with .last .1 .1 .1 .0) (c .before .before .before .before .before .before .before .match-all-with .last .1 .1 .1 .1 .0) (c .before .before .before .before .before .before .before .match-all-with .last .1 .1 .1 .1 .1 .0) (c .before .before .before .before .before .before .before .match-all-with .result) (c .before .before .before .before .before .before .before .match-all-with .ensures)
 
-same-length : tie.Need-same-length
-same-length c = search needs
-
-same-length-2 : tie.Need-same-length-2
-same-length-2 c = search needs
-
-same-length-3 : tie.Need-same-length-3
-same-length-3 c = search needs
-
 returns : tie.Need-returns
 returns c =
     let s = c .before .before .before .before .before .before .before .before .before .before .before .before .before .before .before .before .before .before .before .before .before .before .before .before in
@@ -87,4 +78,4 @@ returns c =
     patterns-are b p n prm g o x m y q d k (s .pre) (c .before .before .before .before .before .before .before .before .before .before .before .before .before .before .before .before .list-names .last .0) (c .before .before .before .before .before .before .before .before .before .before .before .before .before .before .before .before .list-names .ensures) (c .before .before .before .before .before .before .before .before .before .before .match-all-with .last .1 .1 .1 .0) (c .before .before .before .before .before .before .before .before .before .before .match-all-with .last .1 .1 .1 .1 .0) (c .before .before .before .before .before .before .before .before .before .before .match-all-with .last .1 .1 .1 .1 .1 .0) (c .before .before .before .before .before .before .before .before .before .before .match-all-with .result) (c .before .before .before .before .before .before .before .before .before .before .match-all-with .ensures) (c .before .before .unlist-names .last .0) (c .before .before .unlist-names .ensures)
 
 pub match-arguments-spec : {M : Type 1} → statement M
-match-arguments-spec = tie.close (tie.spec list-names-requires match-all-with-requires unlist-names-requires same-length same-length-2 same-length-3 returns)
+match-arguments-spec = tie.close (tie.spec list-names-requires match-all-with-requires unlist-names-requires (λ c. search needs) (λ c. search needs) (λ c. search needs) returns)

@@ -28,6 +28,7 @@ use Rattle.matching.proofs.notes.is_noted.Reads as is-noted-reads
 use Rattle.matching.proofs.notes.note.Reads as note-reads
 use Rattle.record.proofs.u16_at.Reads as u16-at-reads
 use Rattle.store.proofs.entries.entry.Reads as entry-reads
+use Rattle.store.proofs.entries.size_at.Reads as size-at-reads
 use Rattle.application.proofs.plain.+all_parless+is_parless.{statement}
 use Rattle.application.proofs.plain.+all_parless+is_parless.Tie.{close}
 
@@ -53,7 +54,7 @@ abbrev all-parless-env : ℕ → all-parless-lts.Claims
 all-parless-env t = (u16-at-reads.Asked, u16-at-reads.Learnt, is-parless-below t, is-parless.Post, all-parless-below t, all-parless.Post)
 
 abbrev is-parless-env : ℕ → is-parless-lts.Claims
-is-parless-env t = (is-noted-reads.Asked, is-noted-reads.Learnt, entry-reads.Asked, entry-reads.Learnt, all-parless-below t, all-parless.Post, note-reads.Asked, note-reads.Learnt)
+is-parless-env t = (size-at-reads.Asked, size-at-reads.Learnt, is-noted-reads.Asked, is-noted-reads.Learnt, entry-reads.Asked, entry-reads.Learnt, all-parless-below t, all-parless.Post, note-reads.Asked, note-reads.Learnt)
 
 all-parless-returns : (t : ℕ) → all-parless-lts.Need-returns (all-parless-env t) (all-parless-at t) all-parless.Post
 all-parless-returns t c =
@@ -61,12 +62,12 @@ all-parless-returns t c =
     let a = s .args in
     let b = a .records .now in
     let p = a .places .now in
-    let zs = a .sizes .now in
+    let ix = a .index .now in
     let n = a .count in
     let tab = s .pre .1 .1 in
     let x = a .at in
     let m = a .left in
-    (parless-none b p zs n x m (c .if1 .taken), tab)
+    (parless-none b p ix n x m (c .if1 .taken), tab)
 
 all-parless-u16-at-requires : (t : ℕ) → all-parless-lts.Need-u16-at-requires (all-parless-env t) (all-parless-at t) all-parless.Post
 all-parless-u16-at-requires t c κs =
@@ -80,14 +81,14 @@ all-parless-is-parless-requires t c κs =
     let a = s .args in
     let b = a .records .now in
     let p = a .places .now in
-    let zs = a .sizes .now in
+    let ix = a .index .now in
     let n = a .count in
     let asks = s .pre .1 .0 in
     let tab = s .pre .1 .1 in
     let x = a .at in
     let m = a .left in
     let more = positive m (c .before .before .if1 .left) in
-    rw (c .before .u16-at .ensures .0) (omega (arith, s .pre .0, sizes-more b p n b x m more), (first-asks b p zs n x m asks more, tab))
+    rw (c .before .u16-at .ensures .0) (omega (arith, s .pre .0, sizes-more b p n b x m more), (first-asks b p ix n x m asks more, tab))
 
 all-parless-add-all-parless : (t : ℕ) → all-parless-lts.Need-add-all-parless (all-parless-env t) (all-parless-at t) all-parless.Post
 all-parless-add-all-parless t c =
@@ -105,13 +106,13 @@ all-parless-all-parless-requires t c κs =
     let a = s .args in
     let b = a .records .now in
     let p = a .places .now in
-    let zs = a .sizes .now in
+    let ix = a .index .now in
     let n = a .count in
     let asks = s .pre .1 .0 in
     let x = a .at in
     let m = a .left in
     let more = positive m (c .before .before .before .before .before .before .before .if1 .left) in
-    (omega (arith, s .pre .0, sizes-more b p n b x m more, size-pos (sortAt b p n (u16At b x))), (rest-asks b p zs n x m asks more, c .before .before .before .before .is-parless .ensures .1))
+    (omega (arith, s .pre .0, sizes-more b p n b x m more, size-pos (sortAt b p n (u16At b x))), (rest-asks b p ix n x m asks more, c .before .before .before .before .is-parless .ensures .1))
 
 all-parless-same-length : (t : ℕ) → all-parless-lts.Need-same-length (all-parless-env t) (all-parless-at t) all-parless.Post
 all-parless-same-length t c =
@@ -123,12 +124,12 @@ all-parless-returns-2 t c =
     let a = s .args in
     let b = a .records .now in
     let p = a .places .now in
-    let zs = a .sizes .now in
+    let ix = a .index .now in
     let n = a .count in
     let x = a .at in
     let m = a .left in
     let more = positive m (c .before .before .before .before .before .before .before .before .before .before .if1 .left) in
-    (parless-more b p zs n x m more (c .before .before .before .before .before .before .before .before .before .u16-at .result) (c .before .before .before .before .before .before .before .before .before .u16-at .ensures .0) (c .before .before .before .before .before .before .before .is-parless .result) (c .before .before .before .before .before .before .before .is-parless .ensures .0) (c .before .before .before .before .if2 .taken) (c .before .before .all-parless .result) (c .before .before .all-parless .ensures .0), c .before .before .all-parless .ensures .1)
+    (parless-more b p ix n x m more (c .before .before .before .before .before .before .before .before .before .u16-at .result) (c .before .before .before .before .before .before .before .before .before .u16-at .ensures .0) (c .before .before .before .before .before .before .before .is-parless .result) (c .before .before .before .before .before .before .before .is-parless .ensures .0) (c .before .before .before .before .if2 .taken) (c .before .before .all-parless .result) (c .before .before .all-parless .ensures .0), c .before .before .all-parless .ensures .1)
 
 all-parless-same-length-2 : (t : ℕ) → all-parless-lts.Need-same-length-2 (all-parless-env t) (all-parless-at t) all-parless.Post
 all-parless-same-length-2 t c =
@@ -140,20 +141,16 @@ all-parless-returns-3 t c =
     let a = s .args in
     let b = a .records .now in
     let p = a .places .now in
-    let zs = a .sizes .now in
+    let ix = a .index .now in
     let n = a .count in
     let x = a .at in
     let m = a .left in
     let more = positive m (c .before .before .before .before .before .before .if1 .left) in
-    (parless-fails b p zs n x m more (c .before .before .before .before .before .u16-at .result) (c .before .before .before .before .before .u16-at .ensures .0) (c .before .before .before .is-parless .result) (c .before .before .before .is-parless .ensures .0) (c .if2 .left), c .before .before .before .is-parless .ensures .1)
+    (parless-fails b p ix n x m more (c .before .before .before .before .before .u16-at .result) (c .before .before .before .before .before .u16-at .ensures .0) (c .before .before .before .is-parless .result) (c .before .before .before .is-parless .ensures .0) (c .if2 .left), c .before .before .before .is-parless .ensures .1)
 
-is-parless-mul-if1 : (t : ℕ) → is-parless-lts.Need-mul-if1 (is-parless-env t) (is-parless-at t) is-parless.Post
-is-parless-mul-if1 t c =
-    omega (arith, c .before .before .before .before .pre .1 .0 .one .known, c .before .before .before .before .pre .1 .0 .one .usable .count, c .before .before .before .before .pre .1 .0 .sized .table)
-
-is-parless-shared-slice-read-if1 : (t : ℕ) → is-parless-lts.Need-shared-slice-read-if1 (is-parless-env t) (is-parless-at t) is-parless.Post
-is-parless-shared-slice-read-if1 t c =
-    omega (arith, c .before .before .before .before .before .pre .1 .0 .one .known, c .before .before .before .before .before .pre .1 .0 .one .usable .count, c .before .before .before .before .before .pre .1 .0 .sized .table)
+is-parless-size-at-requires : (t : ℕ) → is-parless-lts.Need-size-at-requires (is-parless-env t) (is-parless-at t) is-parless.Post
+is-parless-size-at-requires t c κs =
+    omega (arith, c .before .before .before .before .pre .1 .0 .one .known, c .before .before .before .before .pre .1 .0 .one .usable .count, c .before .before .before .before .pre .1 .0 .index)
 
 is-parless-returns : (t : ℕ) → is-parless-lts.Need-returns (is-parless-env t) (is-parless-at t) is-parless.Post
 is-parless-returns t c =
@@ -161,12 +158,12 @@ is-parless-returns t c =
     let a = s .args in
     let b = a .records .now in
     let p = a .places .now in
-    let zs = a .sizes .now in
+    let ix = a .index .now in
     let n = a .count in
     let asks = s .pre .1 .0 in
     let tab = s .pre .1 .1 in
     let k = a .k in
-    (parless-leaf b p zs n k asks (c .if1 .taken), tab)
+    (parless-leaf b p ix n k asks (c .before .size-at .result) (c .before .size-at .ensures) (c .if1 .taken), tab)
 
 is-parless-is-noted-requires : (t : ℕ) → is-parless-lts.Need-is-noted-requires (is-parless-env t) (is-parless-at t) is-parless.Post
 is-parless-is-noted-requires t c κs =
@@ -208,14 +205,14 @@ is-parless-returns-3 t c =
     let a = s .args in
     let b = a .records .now in
     let p = a .places .now in
-    let zs = a .sizes .now in
+    let ix = a .index .now in
     let n = a .count in
     let asks = s .pre .1 .0 in
     let tab = s .pre .1 .1 in
     let k = a .k in
     let r = c .before .before .entry .result in
     let e = c .before .before .entry .ensures in
-    (parless-par b p zs n k asks r e (c .if3 .taken), tab)
+    (parless-par b p ix n k asks r e (c .if3 .taken), tab)
 
 is-parless-all-parless-requires : (t : ℕ) → is-parless-lts.Need-all-parless-requires (is-parless-env t) (is-parless-at t) is-parless.Post
 is-parless-all-parless-requires t c κs =
@@ -223,14 +220,14 @@ is-parless-all-parless-requires t c κs =
     let a = s .args in
     let b = a .records .now in
     let p = a .places .now in
-    let zs = a .sizes .now in
+    let ix = a .index .now in
     let n = a .count in
     let asks = s .pre .1 .0 in
     let tab = s .pre .1 .1 in
     let k = a .k in
     let r = c .before .before .before .entry .result in
     let e = c .before .before .before .entry .ensures in
-    (omega (arith, s .pre .0, entry-size b p n k (asks .one .usable) (asks .one .known) r e), (parts-ask b p zs n k asks r e, tab))
+    (omega (arith, s .pre .0, entry-size b p n k (asks .one .usable) (asks .one .known) r e), (parts-ask b p ix n k asks r e, tab))
 
 is-parless-note-requires : (t : ℕ) → is-parless-lts.Need-note-requires (is-parless-env t) (is-parless-at t) is-parless.Post
 is-parless-note-requires t c κs =
@@ -248,13 +245,13 @@ is-parless-returns-4 t c =
     let a = s .args in
     let b = a .records .now in
     let p = a .places .now in
-    let zs = a .sizes .now in
+    let ix = a .index .now in
     let n = a .count in
     let asks = s .pre .1 .0 in
     let k = a .k in
     let r = c .before .before .before .before .before .before .before .before .before .before .before .entry .result in
     let e = c .before .before .before .before .before .before .before .before .before .before .before .entry .ensures in
-    let found : true ≡ parless (sortAt b p n k) = sym (c .before .before .before .before .if4 .taken) ∙ parless-parts b p zs n k asks r e (c .before .before .before .before .before .before .before .before .before .if3 .left) (c .before .before .before .before .before .before .before .all-parless .result) (c .before .before .before .before .before .before .before .all-parless .ensures .0) in
+    let found : true ≡ parless (sortAt b p n k) = sym (c .before .before .before .before .if4 .taken) ∙ parless-parts b p ix n k asks r e (c .before .before .before .before .before .before .before .before .before .if3 .left) (c .before .before .before .before .before .before .before .all-parless .result) (c .before .before .before .before .before .before .before .all-parless .ensures .0) in
     (found, table-put (ParlessAt b p n) (c .before .before .before .before .before .before .before .all-parless .last .1 .1 .1 .1 .0) k (c .before .before .note .last .0) (c .before .before .before .before .before .before .before .all-parless .ensures .1) (sym found) (c .before .before .note .ensures))
 
 is-parless-same-length-4 : (t : ℕ) → is-parless-lts.Need-same-length-4 (is-parless-env t) (is-parless-at t) is-parless.Post
@@ -267,13 +264,13 @@ is-parless-returns-5 t c =
     let a = s .args in
     let b = a .records .now in
     let p = a .places .now in
-    let zs = a .sizes .now in
+    let ix = a .index .now in
     let n = a .count in
     let asks = s .pre .1 .0 in
     let k = a .k in
     let r = c .before .before .before .before .before .before .before .entry .result in
     let e = c .before .before .before .before .before .before .before .entry .ensures in
-    (sym (c .if4 .left) ∙ parless-parts b p zs n k asks r e (c .before .before .before .before .before .if3 .left) (c .before .before .before .all-parless .result) (c .before .before .before .all-parless .ensures .0), c .before .before .before .all-parless .ensures .1)
+    (sym (c .if4 .left) ∙ parless-parts b p ix n k asks r e (c .before .before .before .before .before .if3 .left) (c .before .before .before .all-parless .result) (c .before .before .before .all-parless .ensures .0), c .before .before .before .all-parless .ensures .1)
 
 pub +all-parless+is-parless-spec : {M : Type 1} → statement M
 +all-parless+is-parless-spec = close μ-all-parless μ-is-parless (λ t. all-parless-lts.spec (all-parless-env t) (all-parless-at t) all-parless.Post
@@ -288,8 +285,7 @@ pub +all-parless+is-parless-spec : {M : Type 1} → statement M
     (all-parless-same-length-2 t)
     (all-parless-returns-3 t))
     λ t. is-parless-lts.spec (is-parless-env t) (is-parless-at t) is-parless.Post
-    (is-parless-mul-if1 t)
-    (is-parless-shared-slice-read-if1 t)
+    (is-parless-size-at-requires t)
     (is-parless-returns t)
     (is-parless-is-noted-requires t)
     (is-parless-same-length t)

@@ -11,11 +11,11 @@ use Rattle.application.proofs.plain.all_exact.Statement.{statement}
 use Rattle.application.proofs.plain.all_exact.Tie as tie
 
 abbrev Inv-loop : tie.InvT-loop
-Inv-loop records places sizes count list args n at₀ to₀ left₀ seen₀ at to left seen =
+Inv-loop records places index count list args n at₀ to₀ left₀ seen₀ at to left seen =
     ExactScan records places count list args n at to left × Table (ParlessAt records places count) seen
 
 abbrev μ-loop : tie.MeasureT-loop
-μ-loop records places sizes count list args n at₀ to₀ left₀ seen₀ at to left seen = left
+μ-loop records places index count list args n at₀ to₀ left₀ seen₀ at to left seen = left
 
 loop-holds : tie.Need-loop-holds Inv-loop μ-loop
 loop-holds c =
@@ -23,12 +23,12 @@ loop-holds c =
     let a = s .args in
     let b = a .records .now in
     let p = a .places .now in
-    let zs = a .sizes .now in
+    let ix = a .index .now in
     let n = a .count in
     let x = a .list in
     let d = a .args .now in
     let k = a .n in
-    (exact-start b p zs n x d k (s .pre), table-none (ParlessAt b p n))
+    (exact-start b p ix n x d k (s .pre), table-none (ParlessAt b p n))
 
 u16-at-requires : tie.Need-u16-at-requires Inv-loop μ-loop
 u16-at-requires c κs =
@@ -56,9 +56,6 @@ returns c =
     let j = l .left in
     exact-differ b p n x d k y w j (l .inv .0) (c .before .before .before .loop-test .taken) (c .before .before .u16-at .result) (c .before .u16-at2 .result) (c .before .before .u16-at .ensures .0) (c .before .u16-at2 .ensures .0) (c .if1 .taken)
 
-slice-aggregate-is-parless : tie.Need-slice-aggregate-is-parless Inv-loop μ-loop
-slice-aggregate-is-parless c = search needs
-
 is-parless-requires : tie.Need-is-parless-requires Inv-loop μ-loop
 is-parless-requires c κs =
     let s = c .before .before .before .before .before .before .before .before .before .before in
@@ -73,7 +70,7 @@ is-parless-requires c κs =
     let y = l .at in
     let w = l .to in
     let j = l .left in
-    (record { one = record { usable = s .pre .pairs .usable; known = known-first b p n x d k y w j (l .inv .0) (c .before .before .before .before .loop-test .taken) (c .before .before .before .u16-at .result) (c .before .before .u16-at2 .result) (c .before .before .before .u16-at .ensures .0) (c .before .before .u16-at2 .ensures .0) }; sized = s .pre .sized }, l .inv .1)
+    (record { one = record { usable = s .pre .pairs .usable; known = known-first b p n x d k y w j (l .inv .0) (c .before .before .before .before .loop-test .taken) (c .before .before .before .u16-at .result) (c .before .before .u16-at2 .result) (c .before .before .before .u16-at .ensures .0) (c .before .before .u16-at2 .ensures .0) }; sized = s .pre .sized; index = s .pre .index }, l .inv .1)
 
 returns-2 : tie.Need-returns-2 Inv-loop μ-loop
 returns-2 c =
@@ -140,4 +137,4 @@ returns-3 c =
     exact-end b p n x d k y w j (l .inv .0) (c .loop-test .left)
 
 pub all-exact-spec : {M : Type 1} → statement M
-all-exact-spec = tie.close (tie.spec Inv-loop μ-loop loop-holds u16-at-requires u16-at-requires-2 returns slice-aggregate-is-parless is-parless-requires returns-2 add-at add-to sub-left loop-less loop-again returns-3)
+all-exact-spec = tie.close (tie.spec Inv-loop μ-loop loop-holds u16-at-requires u16-at-requires-2 returns (λ c. search needs) is-parless-requires returns-2 add-at add-to sub-left loop-less loop-again returns-3)

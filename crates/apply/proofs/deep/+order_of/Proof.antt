@@ -43,8 +43,6 @@ order-of-entry-requires t c κs =
     let a = s .args in
     let b = a .records .now in
     let p = a .places .now in
-    let z = a .seen .now in
-    let o = held (a .order .now) (a .n) in
     let n = a .count in
     let k = a .k in
     entry-asks b p n k (s .pre .1 .stored) (s .pre .1 .known)

@@ -11,180 +11,112 @@ use Rattle.apply.proofs.deep.apply_deep.Statement.{statement}
 use Rattle.apply.proofs.deep.apply_deep.Tie as tie
 
 size-at-requires : tie.Need-size-at-requires
-size-at-requires c κs = let s = c .before .before .before .before .before .before .before .before in omega (arith, s .pre .asks .known, s .pre .asks .ready .good .sized .table, s .pre .asks .ready .good .indexed .count)
+size-at-requires c κs = let s = c .before .before .before .before .before .before in omega (arith, s .pre .asks .known, s .pre .asks .ready .good .indexed .table, s .pre .asks .ready .good .indexed .count)
 
 apply-sort-requires : tie.Need-apply-sort-requires
-apply-sort-requires c κs = c .before .before .before .before .before .before .before .before .before .before .before .before .before .before .before .before .pre
-
-same-length : tie.Need-same-length
-same-length c = search needs
-
-same-length-2 : tie.Need-same-length-2
-same-length-2 c = search needs
-
-same-length-3 : tie.Need-same-length-3
-same-length-3 c = search needs
-
-same-length-4 : tie.Need-same-length-4
-same-length-4 c = search needs
-
-same-length-5 : tie.Need-same-length-5
-same-length-5 c = search needs
-
-same-length-6 : tie.Need-same-length-6
-same-length-6 c = search needs
+apply-sort-requires c κs = c .before .before .before .before .before .before .before .before .before .before .before .before .pre
 
 returns : tie.Need-returns
-returns c = c .before .before .before .before .before .before .before .before .before .before .before .before .apply-sort .ensures
-
-slice-aggregate-order-of : tie.Need-slice-aggregate-order-of
-slice-aggregate-order-of c = search needs
-
-slice-aggregate-order-of-2 : tie.Need-slice-aggregate-order-of-2
-slice-aggregate-order-of-2 c = search needs
+returns c = c .before .before .before .before .before .before .before .before .apply-sort .ensures
 
 order-of-requires : tie.Need-order-of-requires
 order-of-requires c κs =
-    let s = c .before .before .before .before .before .before .before .before .before .before .before .before .before .before in
+    let s = c .before .before .before .before .before .before .before .before .before .before .before .before in
     let a = s .args in
     let b = a .records .now in
     let p = a .places .now in
-    let hs = a .heads .now in
-    let ns = a .next .now in
-    let zs = a .sizes .now in
-    let ws = a .known .now in
+    let ix = a .index .now in
     let n = a .count in
     let u = a .used in
     let l = a .images .now in
     let k = a .k in
-    deep-order b p hs ns zs n u k l (s .pre .asks)
+    deep-order b p ix n u k l (s .pre .asks)
 
 slice-aggregate-apply-order : tie.Need-slice-aggregate-apply-order
-slice-aggregate-apply-order c = sym (c .before .before .before .before .before .before .before .before .before .order-of .kept .1 .1 .1 .0 ∙ length-replicate {A = ℕ} 4096 0)
+slice-aggregate-apply-order c = sym (c .before .before .before .before .before .before .before .order-of .kept .1 .1 .1 .0 ∙ length-replicate {A = ℕ} 4096 0)
 
 apply-order-requires : tie.Need-apply-order-requires
 apply-order-requires c κs =
-    let s = c .before .before .before .before .before .before .before .before .before .before .before .before .before .before .before .before .before .before .before .before .before .before .before .before in
+    let s = c .before .before .before .before .before .before .before .before .before .before .before .before .before .before .before .before .before .before .before .before in
     let a = s .args in
     let b = a .records .now in
     let p = a .places .now in
-    let hs = a .heads .now in
-    let ns = a .next .now in
-    let zs = a .sizes .now in
+    let ix = a .index .now in
     let ws = a .known .now in
     let n = a .count in
     let u = a .used in
     let l = a .images .now in
     let k = a .k in
-    let t = c .before .before .before .before .before .before .before .before .before .order-of in
+    let t = c .before .before .before .before .before .before .before .order-of in
     let o = held (t .last .1 .1 .1 .0) (t .result) in
-    deep-asks b p hs ns zs n u k l (s .pre .asks) (t .last .1 .1 .0) o (t .ensures) ws (s .pre .known)
-
-enum-known-done : tie.Need-enum-known-done
-enum-known-done c = search needs
+    deep-asks b p ix n u k l (s .pre .asks) (t .last .1 .1 .0) o (t .ensures) ws (s .pre .known)
 
 apply-sort-requires-2 : tie.Need-apply-sort-requires-2
 apply-sort-requires-2 c κs =
-    let s = c .before .before .before .before .before .before .before .before .before .before .before .before .before .before .before .before .before .before .before .before .before .before .before .before .before .before .before .before .before .before .before .before .before .before .before .before .before .before .before .before .before .before .before .before .before .before in
+    let s = c .before .before .before .before .before .before .before .before .before .before .before .before .before .before .before .before .before .before .before .before .before .before .before .before .before .before .before .before .before .before .before .before .before .before .before .before in
     let a = s .args in
     let b = a .records .now in
     let p = a .places .now in
-    let hs = a .heads .now in
-    let ns = a .next .now in
-    let zs = a .sizes .now in
-    let ws = a .known .now in
+    let ix = a .index .now in
     let n = a .count in
     let u = a .used in
     let l = a .images .now in
     let k = a .k in
-    let t = c .before .before .before .before .before .before .before .before .before .before .before .before .before .before .before .before .before .before .before .before .before .before .before .before .before .before .before .before .before .before .before .order-of in
+    let t = c .before .before .before .before .before .before .before .before .before .before .before .before .before .before .before .before .before .before .before .before .before .before .before .order-of in
     let o = held (t .last .1 .1 .1 .0) (t .result) in
-    let d = c .before .before .before .before .before .before .before .before .before .before .before .before .before .before .before .before .before .before .before .before .before .apply-order .last in
-    let v = c .before .before .before .before .before .before .before .done .given .0 in
-    let w = subst (InOrderAre b p n u o l (d .0) (d .1 .0) (d .1 .1 .0) (d .1 .1 .1 .0) (d .1 .1 .1 .1 .0) (d .1 .1 .1 .1 .1 .0)) (c .before .before .before .before .before .before .before .done .given .1) (c .before .before .before .before .before .before .before .before .before .before .before .before .before .before .before .before .before .before .before .before .before .apply-order .ensures) in
-    deep-last b p hs ns zs n u k l (s .pre .asks) (t .last .1 .1 .0) o (t .ensures) (d .0) (d .1 .0) (d .1 .1 .0) (d .1 .1 .1 .0) (d .1 .1 .1 .1 .0) (d .1 .1 .1 .1 .1 .0) (v .0) (v .1 .0) w
+    let d = c .before .before .before .before .before .before .before .before .before .before .before .before .before .before .before .apply-order .last in
+    let v = c .before .before .before .before .before .done .given .0 in
+    let w = subst (InOrderAre b p n u o l (d .0) (d .1 .0) (d .1 .1 .0) (d .1 .1 .1 .0)) (c .before .before .before .before .before .done .given .1) (c .before .before .before .before .before .before .before .before .before .before .before .before .before .before .before .apply-order .ensures) in
+    deep-last b p ix n u k l (s .pre .asks) (t .last .1 .1 .0) o (t .ensures) (d .0) (d .1 .0) (d .1 .1 .0) (d .1 .1 .1 .0) (v .0) (v .1 .0) w
 
-enum-known-done-2 : tie.Need-enum-known-done-2
-enum-known-done-2 c = search needs
+same-length-5 : tie.Need-same-length-5
+same-length-5 c = c .before .before .before .before .before .before .before .before .apply-sort2 .kept .0 ∙ c .before .before .before .before .before .before .before .before .before .before .before .before .before .before .before .before .before .before .before .before .before .before .before .before .apply-order .kept .0
+
+same-length-6 : tie.Need-same-length-6
+same-length-6 c = c .before .before .before .before .before .before .before .before .apply-sort2 .kept .1 .0 ∙ c .before .before .before .before .before .before .before .before .before .before .before .before .before .before .before .before .before .before .before .before .before .before .before .before .apply-order .kept .1 .0
 
 same-length-7 : tie.Need-same-length-7
-same-length-7 c = c .before .before .before .before .before .before .before .before .before .before .before .before .apply-sort2 .kept .0 ∙ c .before .before .before .before .before .before .before .before .before .before .before .before .before .before .before .before .before .before .before .before .before .before .before .before .before .before .before .before .before .before .before .before .before .before .apply-order .kept .0
+same-length-7 c = c .before .before .before .before .before .before .before .before .apply-sort2 .kept .1 .1 .0 ∙ c .before .before .before .before .before .before .before .before .before .before .before .before .before .before .before .before .before .before .before .before .before .before .before .before .apply-order .kept .1 .1 .0
 
 same-length-8 : tie.Need-same-length-8
-same-length-8 c = c .before .before .before .before .before .before .before .before .before .before .before .before .apply-sort2 .kept .1 .0 ∙ c .before .before .before .before .before .before .before .before .before .before .before .before .before .before .before .before .before .before .before .before .before .before .before .before .before .before .before .before .before .before .before .before .before .before .apply-order .kept .1 .0
-
-same-length-9 : tie.Need-same-length-9
-same-length-9 c = c .before .before .before .before .before .before .before .before .before .before .before .before .apply-sort2 .kept .1 .1 .0 ∙ c .before .before .before .before .before .before .before .before .before .before .before .before .before .before .before .before .before .before .before .before .before .before .before .before .before .before .before .before .before .before .before .before .before .before .apply-order .kept .1 .1 .0
-
-same-length-10 : tie.Need-same-length-10
-same-length-10 c = c .before .before .before .before .before .before .before .before .before .before .before .before .apply-sort2 .kept .1 .1 .1 .0 ∙ c .before .before .before .before .before .before .before .before .before .before .before .before .before .before .before .before .before .before .before .before .before .before .before .before .before .before .before .before .before .before .before .before .before .before .apply-order .kept .1 .1 .1 .0
-
-same-length-11 : tie.Need-same-length-11
-same-length-11 c = c .before .before .before .before .before .before .before .before .before .before .before .before .apply-sort2 .kept .1 .1 .1 .1 .0 ∙ c .before .before .before .before .before .before .before .before .before .before .before .before .before .before .before .before .before .before .before .before .before .before .before .before .before .before .before .before .before .before .before .before .before .before .apply-order .kept .1 .1 .1 .1 .0
-
-same-length-12 : tie.Need-same-length-12
-same-length-12 c = c .before .before .before .before .before .before .before .before .before .before .before .before .apply-sort2 .kept .1 .1 .1 .1 .1 .0 ∙ c .before .before .before .before .before .before .before .before .before .before .before .before .before .before .before .before .before .before .before .before .before .before .before .before .before .before .before .before .before .before .before .before .before .before .apply-order .kept .1 .1 .1 .1 .1 .0
+same-length-8 c = c .before .before .before .before .before .before .before .before .apply-sort2 .kept .1 .1 .1 .0 ∙ c .before .before .before .before .before .before .before .before .before .before .before .before .before .before .before .before .before .before .before .before .before .before .before .before .apply-order .kept .1 .1 .1 .0
 
 returns-2 : tie.Need-returns-2
 returns-2 c =
-    let s = c .before .before .before .before .before .before .before .before .before .before .before .before .before .before .before .before .before .before .before .before .before .before .before .before .before .before .before .before .before .before .before .before .before .before .before .before .before .before .before .before .before .before .before .before .before .before .before .before .before .before .before .before .before .before .before .before .before .before .before in
+    let s = c .before .before .before .before .before .before .before .before .before .before .before .before .before .before .before .before .before .before .before .before .before .before .before .before .before .before .before .before .before .before .before .before .before .before .before .before .before .before .before .before .before .before .before .before .before in
     let a = s .args in
     let b = a .records .now in
     let p = a .places .now in
-    let hs = a .heads .now in
-    let ns = a .next .now in
-    let zs = a .sizes .now in
-    let ws = a .known .now in
+    let ix = a .index .now in
     let n = a .count in
     let u = a .used in
     let l = a .images .now in
     let k = a .k in
-    let t = c .before .before .before .before .before .before .before .before .before .before .before .before .before .before .before .before .before .before .before .before .before .before .before .before .before .before .before .before .before .before .before .before .before .before .before .before .before .before .before .before .before .before .before .before .order-of in
+    let t = c .before .before .before .before .before .before .before .before .before .before .before .before .before .before .before .before .before .before .before .before .before .before .before .before .before .before .before .before .before .before .before .before .order-of in
     let o = held (t .last .1 .1 .1 .0) (t .result) in
-    let d = c .before .before .before .before .before .before .before .before .before .before .before .before .before .before .before .before .before .before .before .before .before .before .before .before .before .before .before .before .before .before .before .before .before .before .apply-order .last in
-    let v = c .before .before .before .before .before .before .before .before .before .before .before .before .before .before .before .before .before .before .before .before .done .given .0 in
-    let w = subst (InOrderAre b p n u o l (d .0) (d .1 .0) (d .1 .1 .0) (d .1 .1 .1 .0) (d .1 .1 .1 .1 .0) (d .1 .1 .1 .1 .1 .0)) (c .before .before .before .before .before .before .before .before .before .before .before .before .before .before .before .before .before .before .before .before .done .given .1) (c .before .before .before .before .before .before .before .before .before .before .before .before .before .before .before .before .before .before .before .before .before .before .before .before .before .before .before .before .before .before .before .before .before .before .apply-order .ensures) in
-    let e = c .before .before .before .before .before .before .before .before .before .before .before .before .apply-sort2 .last in
-    deep-is b p hs ns zs n u k l (s .pre .asks) (t .last .1 .1 .0) o (t .ensures) (d .0) (d .1 .0) (d .1 .1 .0) (d .1 .1 .1 .0) (d .1 .1 .1 .1 .0) (d .1 .1 .1 .1 .1 .0) (v .0) (v .1 .0) w (e .0) (e .1 .0) (e .1 .1 .0) (e .1 .1 .1 .0) (e .1 .1 .1 .1 .0) (e .1 .1 .1 .1 .1 .0) (c .before .before .before .before .before .before .before .before .before .before .before .before .apply-sort2 .result) (c .before .before .before .before .before .before .before .before .before .before .before .before .apply-sort2 .ensures)
-
-same-length-13 : tie.Need-same-length-13
-same-length-13 c = search needs
-
-same-length-14 : tie.Need-same-length-14
-same-length-14 c = search needs
-
-same-length-15 : tie.Need-same-length-15
-same-length-15 c = search needs
-
-same-length-16 : tie.Need-same-length-16
-same-length-16 c = search needs
-
-same-length-17 : tie.Need-same-length-17
-same-length-17 c = search needs
-
-same-length-18 : tie.Need-same-length-18
-same-length-18 c = search needs
+    let d = c .before .before .before .before .before .before .before .before .before .before .before .before .before .before .before .before .before .before .before .before .before .before .before .before .apply-order .last in
+    let v = c .before .before .before .before .before .before .before .before .before .before .before .before .before .before .done .given .0 in
+    let w = subst (InOrderAre b p n u o l (d .0) (d .1 .0) (d .1 .1 .0) (d .1 .1 .1 .0)) (c .before .before .before .before .before .before .before .before .before .before .before .before .before .before .done .given .1) (c .before .before .before .before .before .before .before .before .before .before .before .before .before .before .before .before .before .before .before .before .before .before .before .before .apply-order .ensures) in
+    let e = c .before .before .before .before .before .before .before .before .apply-sort2 .last in
+    deep-is b p ix n u k l (s .pre .asks) (t .last .1 .1 .0) o (t .ensures) (d .0) (d .1 .0) (d .1 .1 .0) (d .1 .1 .1 .0) (v .0) (v .1 .0) w (e .0) (e .1 .0) (e .1 .1 .0) (e .1 .1 .1 .0) (c .before .before .before .before .before .before .before .before .apply-sort2 .result) (c .before .before .before .before .before .before .before .before .apply-sort2 .ensures)
 
 returns-3 : tie.Need-returns-3
 returns-3 c =
-    let s = c .before .before .before .before .before .before .before .before .before .before .before .before .before .before .before .before .before .before .before .before .before .before .before .before .before .before .before .before .before .before .before .before .before .before .before .before .before .before .before .before in
+    let s = c .before .before .before .before .before .before .before .before .before .before .before .before .before .before .before .before .before .before .before .before .before .before .before .before .before .before .before .before .before .before .before .before in
     let a = s .args in
     let b = a .records .now in
     let p = a .places .now in
-    let hs = a .heads .now in
-    let ns = a .next .now in
-    let zs = a .sizes .now in
-    let ws = a .known .now in
+    let ix = a .index .now in
     let n = a .count in
     let u = a .used in
     let l = a .images .now in
     let k = a .k in
-    let t = c .before .before .before .before .before .before .before .before .before .before .before .before .before .before .before .before .before .before .before .before .before .before .before .before .before .order-of in
+    let t = c .before .before .before .before .before .before .before .before .before .before .before .before .before .before .before .before .before .before .before .order-of in
     let o = held (t .last .1 .1 .1 .0) (t .result) in
-    let d = c .before .before .before .before .before .before .before .before .before .before .before .before .before .before .before .apply-order .last in
+    let d = c .before .before .before .before .before .before .before .before .before .before .before .apply-order .last in
     let v = c .before .done2 .given .0 in
-    let w = subst (InOrderAre b p n u o l (d .0) (d .1 .0) (d .1 .1 .0) (d .1 .1 .1 .0) (d .1 .1 .1 .1 .0) (d .1 .1 .1 .1 .1 .0)) (c .before .done2 .given .1) (c .before .before .before .before .before .before .before .before .before .before .before .before .before .before .before .apply-order .ensures) in
-    deep-stuck b p hs ns zs n u k l (s .pre .asks) (t .last .1 .1 .0) o (t .ensures) (d .0) (d .1 .0) (d .1 .1 .0) (d .1 .1 .1 .0) (d .1 .1 .1 .1 .0) (v .0) (v .1 .0) w
+    let w = subst (InOrderAre b p n u o l (d .0) (d .1 .0) (d .1 .1 .0) (d .1 .1 .1 .0)) (c .before .done2 .given .1) (c .before .before .before .before .before .before .before .before .before .before .before .apply-order .ensures) in
+    deep-stuck b p ix n u k l (s .pre .asks) (t .last .1 .1 .0) o (t .ensures) (d .0) (d .1 .0) (d .1 .1 .0) (v .0) (v .1 .0) w
 
 pub apply-deep-spec : {M : Type 1} → statement M
-apply-deep-spec = tie.close (tie.spec size-at-requires apply-sort-requires same-length same-length-2 same-length-3 same-length-4 same-length-5 same-length-6 returns slice-aggregate-order-of slice-aggregate-order-of-2 order-of-requires slice-aggregate-apply-order apply-order-requires enum-known-done apply-sort-requires-2 enum-known-done-2 same-length-7 same-length-8 same-length-9 same-length-10 same-length-11 same-length-12 returns-2 same-length-13 same-length-14 same-length-15 same-length-16 same-length-17 same-length-18 returns-3)
+apply-deep-spec = tie.close (tie.spec size-at-requires apply-sort-requires (λ c. search needs) (λ c. search needs) (λ c. search needs) (λ c. search needs) returns (λ c. search needs) (λ c. search needs) order-of-requires slice-aggregate-apply-order apply-order-requires (λ c. search needs) apply-sort-requires-2 (λ c. search needs) same-length-5 same-length-6 same-length-7 same-length-8 returns-2 (λ c. search needs) (λ c. search needs) (λ c. search needs) (λ c. search needs) returns-3)

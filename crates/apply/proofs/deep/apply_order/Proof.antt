@@ -11,156 +11,128 @@ use Rattle.apply.proofs.deep.apply_order.Statement.{statement}
 use Rattle.apply.proofs.deep.apply_order.Tie as tie
 
 abbrev Inv-loop : tie.InvT-loop
-Inv-loop records₀ places₀ heads₀ next₀ sizes₀ known₀ count used order many images n₀ u₀ j₀ records places heads next sizes known n u j = InOrderInv records₀ places₀ count used (held order many) images known₀ records places heads next sizes known n u j
+Inv-loop records₀ places₀ index₀ known₀ count used order many images n₀ u₀ j₀ records places index known n u j = InOrderInv records₀ places₀ count used (held order many) images known₀ records places index known n u j
 
 abbrev μ-loop : tie.MeasureT-loop
-μ-loop records₀ places₀ heads₀ next₀ sizes₀ known₀ count used order many images n₀ u₀ j₀ records places heads next sizes known n u j = many - j
+μ-loop records₀ places₀ index₀ known₀ count used order many images n₀ u₀ j₀ records places index known n u j = many - j
 
 loop-holds : tie.Need-loop-holds Inv-loop μ-loop
 loop-holds c =
-    let s = c .before .before .before .before .before .before .before .before in
+    let s = c .before .before .before .before .before .before in
     let a = s .args in
     let b = a .records .now in
     let p = a .places .now in
-    let hs = a .heads .now in
-    let ns = a .next .now in
-    let zs = a .sizes .now in
+    let ix = a .index .now in
     let ws = a .known .now in
     let n = a .count in
     let u = a .used in
     let l = a .images .now in
-    in-order-start b p hs ns zs ws n u (held (a .order .now) (a .many)) l (s .pre)
+    in-order-start b p ix ws n u (held (a .order .now) (a .many)) l (s .pre)
 
 mul-k : tie.Need-mul-k Inv-loop μ-loop
-mul-k c = let s = c .before .before .before .before .before .before .before .before .before .before in omega (arith, c .loop-test .taken, s .pre .many, s .good .1 .1 .1 .1 .1 .1 .1 .1 .0)
+mul-k c = let s = c .before .before .before .before .before .before .before .before in omega (arith, c .loop-test .taken, s .pre .many, s .good .1 .1 .1 .1 .1 .1 .0)
 
 shared-slice-read-k : tie.Need-shared-slice-read-k Inv-loop μ-loop
-shared-slice-read-k c = omega (arith, c .before .loop-test .taken, c .before .before .before .before .before .before .before .before .before .before .before .pre .many)
+shared-slice-read-k c = omega (arith, c .before .loop-test .taken, c .before .before .before .before .before .before .before .before .before .pre .many)
 
 cast-k : tie.Need-cast-k Inv-loop μ-loop
 cast-k c = omega (arith, c .shared-slice-known3 .given (c .before .before .loop .j))
 
 apply-sort-requires : tie.Need-apply-sort-requires Inv-loop μ-loop
 apply-sort-requires c κs =
-    let s = c .before .before .before .before .before .before .before .before .before .before .before .before .before .before .before .before .before in
+    let s = c .before .before .before .before .before .before .before .before .before .before .before .before .before in
     let a = s .args in
     let b = a .records .now in
     let p = a .places .now in
-    let hs = a .heads .now in
-    let ns = a .next .now in
-    let zs = a .sizes .now in
+    let ix = a .index .now in
     let ws = a .known .now in
     let n = a .count in
     let u = a .used in
     let l = a .images .now in
     let o = held (a .order .now) (a .many) in
-    let i = c .before .before .before .before .before .before .before .before .loop in
-    in-order-asks b p hs ns zs ws n u o l (s .pre) (i .records) (i .places) (i .heads) (i .next) (i .sizes) (i .known) (i .n) (i .u) (i .j) (i .inv) (c .before .before .before .before .before .before .before .loop-test .taken)
-
-enum-known-made : tie.Need-enum-known-made Inv-loop μ-loop
-enum-known-made c = search needs
-
-enum-known-made-2 : tie.Need-enum-known-made-2 Inv-loop μ-loop
-enum-known-made-2 c = search needs
+    let i = c .before .before .before .before .before .before .loop in
+    in-order-asks b p ix ws n u o l (s .pre) (i .records) (i .places) (i .index) (i .known) (i .n) (i .u) (i .j) (i .inv) (c .before .before .before .before .before .loop-test .taken)
 
 same-length : tie.Need-same-length Inv-loop μ-loop
-same-length c = let i = c .before .before .before .before .before .before .before .before .before .before .before .before .before .before .before .before .before .before .before .before .before .before .before .before .loop in c .before .before .before .before .before .before .before .before .before .before .before .before .before .before .before .apply-sort .kept .0 ∙ i .inv .along .kept .long
+same-length c = let i = c .before .before .before .before .before .before .before .before .before .before .before .before .before .before .before .before .before .before .loop in c .before .before .before .before .before .before .before .before .before .before .before .apply-sort .kept .0 ∙ i .inv .along .kept .long
 
 same-length-2 : tie.Need-same-length-2 Inv-loop μ-loop
-same-length-2 c = let i = c .before .before .before .before .before .before .before .before .before .before .before .before .before .before .before .before .before .before .before .before .before .before .before .before .loop in c .before .before .before .before .before .before .before .before .before .before .before .before .before .before .before .apply-sort .kept .1 .0 ∙ i .inv .along .kept .wide
+same-length-2 c = let i = c .before .before .before .before .before .before .before .before .before .before .before .before .before .before .before .before .before .before .loop in c .before .before .before .before .before .before .before .before .before .before .before .apply-sort .kept .1 .0 ∙ i .inv .along .kept .wide
 
 same-length-3 : tie.Need-same-length-3 Inv-loop μ-loop
-same-length-3 c = let i = c .before .before .before .before .before .before .before .before .before .before .before .before .before .before .before .before .before .before .before .before .before .before .before .before .loop in c .before .before .before .before .before .before .before .before .before .before .before .before .before .before .before .apply-sort .kept .1 .1 .0 ∙ i .inv .along .good .indexed .heads ∙ sym (c .before .before .before .before .before .before .before .before .before .before .before .before .before .before .before .before .before .before .before .before .before .before .before .before .before .before .before .before .before .before .before .before .before .pre .ready .good .indexed .heads)
+same-length-3 c = let i = c .before .before .before .before .before .before .before .before .before .before .before .before .before .before .before .before .before .before .loop in c .before .before .before .before .before .before .before .before .before .before .before .apply-sort .kept .1 .1 .0 ∙ i .inv .along .good .indexed .table ∙ sym (c .before .before .before .before .before .before .before .before .before .before .before .before .before .before .before .before .before .before .before .before .before .before .before .before .before .pre .ready .good .indexed .table)
 
 same-length-4 : tie.Need-same-length-4 Inv-loop μ-loop
-same-length-4 c = let i = c .before .before .before .before .before .before .before .before .before .before .before .before .before .before .before .before .before .before .before .before .before .before .before .before .loop in c .before .before .before .before .before .before .before .before .before .before .before .before .before .before .before .apply-sort .kept .1 .1 .1 .0 ∙ i .inv .along .good .indexed .next ∙ sym (c .before .before .before .before .before .before .before .before .before .before .before .before .before .before .before .before .before .before .before .before .before .before .before .before .before .before .before .before .before .before .before .before .before .pre .ready .good .indexed .next)
-
-same-length-5 : tie.Need-same-length-5 Inv-loop μ-loop
-same-length-5 c = let i = c .before .before .before .before .before .before .before .before .before .before .before .before .before .before .before .before .before .before .before .before .before .before .before .before .loop in c .before .before .before .before .before .before .before .before .before .before .before .before .before .before .before .apply-sort .kept .1 .1 .1 .1 .0 ∙ i .inv .along .good .sized .table ∙ sym (c .before .before .before .before .before .before .before .before .before .before .before .before .before .before .before .before .before .before .before .before .before .before .before .before .before .before .before .before .before .before .before .before .before .pre .ready .good .sized .table)
-
-same-length-6 : tie.Need-same-length-6 Inv-loop μ-loop
-same-length-6 c = let i = c .before .before .before .before .before .before .before .before .before .before .before .before .before .before .before .before .before .before .before .before .before .before .before .before .loop in c .before .before .before .before .before .before .before .before .before .before .before .before .before .before .before .apply-sort .kept .1 .1 .1 .1 .1 .0 ∙ i .inv .lasts
+same-length-4 c = let i = c .before .before .before .before .before .before .before .before .before .before .before .before .before .before .before .before .before .before .loop in c .before .before .before .before .before .before .before .before .before .before .before .apply-sort .kept .1 .1 .1 .0 ∙ i .inv .lasts
 
 returns : tie.Need-returns Inv-loop μ-loop
 returns c =
-    let s = c .before .before .before .before .before .before .before .before .before .before .before .before .before .before .before .before .before .before .before .before .before .before .before .before .before .before .before .before .before .before .before .before .before in
+    let s = c .before .before .before .before .before .before .before .before .before .before .before .before .before .before .before .before .before .before .before .before .before .before .before .before .before in
     let a = s .args in
     let b = a .records .now in
     let p = a .places .now in
-    let hs = a .heads .now in
-    let ns = a .next .now in
-    let zs = a .sizes .now in
+    let ix = a .index .now in
     let ws = a .known .now in
     let n = a .count in
     let u = a .used in
     let l = a .images .now in
     let o = held (a .order .now) (a .many) in
-    let i = c .before .before .before .before .before .before .before .before .before .before .before .before .before .before .before .before .before .before .before .before .before .before .before .before .loop in
-    let d = c .before .before .before .before .before .before .before .before .before .before .before .before .before .before .before .apply-sort .last in
+    let i = c .before .before .before .before .before .before .before .before .before .before .before .before .before .before .before .before .before .before .loop in
+    let d = c .before .before .before .before .before .before .before .before .before .before .before .apply-sort .last in
     let v = c .before .made2 .given .0 in
-    let w = subst (KnownIs (i .records) (i .places) (i .n) (i .u) (getD (o .list) (i .j) 0) l (d .0) (d .1 .0) (d .1 .1 .0) (d .1 .1 .1 .0) (d .1 .1 .1 .1 .0) (d .1 .1 .1 .1 .1 .0)) (c .before .made2 .given .1) (c .before .before .before .before .before .before .before .before .before .before .before .before .before .before .before .apply-sort .ensures) in
-    in-order-halted b p hs ns zs ws n u o l (s .pre) (i .records) (i .places) (i .heads) (i .next) (i .sizes) (i .known) (i .n) (i .u) (i .j) (i .inv) (c .before .before .before .before .before .before .before .before .before .before .before .before .before .before .before .before .before .before .before .before .before .before .before .loop-test .taken) (d .0) (d .1 .0) (d .1 .1 .0) (d .1 .1 .1 .0) (d .1 .1 .1 .1 .0) (v .0) (v .1 .0) w
+    let w = subst (KnownIs (i .records) (i .places) (i .n) (i .u) (getD (o .list) (i .j) 0) l (d .0) (d .1 .0) (d .1 .1 .0) (d .1 .1 .1 .0)) (c .before .made2 .given .1) (c .before .before .before .before .before .before .before .before .before .before .before .apply-sort .ensures) in
+    in-order-halted b p ix ws n u o l (s .pre) (i .records) (i .places) (i .index) (i .known) (i .n) (i .u) (i .j) (i .inv) (c .before .before .before .before .before .before .before .before .before .before .before .before .before .before .before .before .before .loop-test .taken) (d .0) (d .1 .0) (d .1 .1 .0) (v .0) (v .1 .0) w
 
 add-j : tie.Need-add-j Inv-loop μ-loop
-add-j c = let s = c .before .before .before .before .before .before .before .before .before .before .before .before .before .before .before .before .before .before .before .before .before .before .before .before .before .before .before .before .before .before .before .before .before in omega (arith, c .before .before .before .before .before .before .before .before .before .before .before .before .before .before .before .before .before .before .before .before .before .before .before .loop-test .taken, s .pre .many, s .good .1 .1 .1 .1 .1 .1 .1 .1 .0)
+add-j c = let s = c .before .before .before .before .before .before .before .before .before .before .before .before .before .before .before .before .before .before .before .before .before .before .before .before .before in omega (arith, c .before .before .before .before .before .before .before .before .before .before .before .before .before .before .before .before .before .loop-test .taken, s .pre .many, s .good .1 .1 .1 .1 .1 .1 .0)
 
 loop-less : tie.Need-loop-less Inv-loop μ-loop
-loop-less c = omega (arith, c .before .before .before .before .before .before .before .before .before .before .before .before .before .before .before .before .before .before .before .before .before .before .before .loop-test .taken)
+loop-less c = omega (arith, c .before .before .before .before .before .before .before .before .before .before .before .before .before .before .before .before .before .loop-test .taken)
 
 loop-again : tie.Need-loop-again Inv-loop μ-loop
 loop-again c =
-    let s = c .before .before .before .before .before .before .before .before .before .before .before .before .before .before .before .before .before .before .before .before .before .before .before .before .before .before .before .before .before .before .before .before .before in
+    let s = c .before .before .before .before .before .before .before .before .before .before .before .before .before .before .before .before .before .before .before .before .before .before .before .before .before in
     let a = s .args in
     let b = a .records .now in
     let p = a .places .now in
-    let hs = a .heads .now in
-    let ns = a .next .now in
-    let zs = a .sizes .now in
+    let ix = a .index .now in
     let ws = a .known .now in
     let n = a .count in
     let u = a .used in
     let l = a .images .now in
     let o = held (a .order .now) (a .many) in
-    let i = c .before .before .before .before .before .before .before .before .before .before .before .before .before .before .before .before .before .before .before .before .before .before .before .before .loop in
-    let d = c .before .before .before .before .before .before .before .before .before .before .before .before .before .before .before .apply-sort .last in
+    let i = c .before .before .before .before .before .before .before .before .before .before .before .before .before .before .before .before .before .before .loop in
+    let d = c .before .before .before .before .before .before .before .before .before .before .before .apply-sort .last in
     let v = c .before .made .given .0 in
-    let w = subst (KnownIs (i .records) (i .places) (i .n) (i .u) (getD (o .list) (i .j) 0) l (d .0) (d .1 .0) (d .1 .1 .0) (d .1 .1 .1 .0) (d .1 .1 .1 .1 .0) (d .1 .1 .1 .1 .1 .0)) (c .before .made .given .1) (c .before .before .before .before .before .before .before .before .before .before .before .before .before .before .before .apply-sort .ensures) in
-    in-order-more b p hs ns zs ws n u o l (s .pre) (i .records) (i .places) (i .heads) (i .next) (i .sizes) (i .known) (i .n) (i .u) (i .j) (i .inv) (c .before .before .before .before .before .before .before .before .before .before .before .before .before .before .before .before .before .before .before .before .before .before .before .loop-test .taken) (d .0) (d .1 .0) (d .1 .1 .0) (d .1 .1 .1 .0) (d .1 .1 .1 .1 .0) (d .1 .1 .1 .1 .1 .0) (v .0) (v .1 .0) (v .1 .1 .0) (w .made) (w .known) (c .before .before .before .before .before .before .before .before .before .before .before .before .before .before .before .apply-sort .kept .1 .1 .1 .1 .1 .0)
+    let w = subst (KnownIs (i .records) (i .places) (i .n) (i .u) (getD (o .list) (i .j) 0) l (d .0) (d .1 .0) (d .1 .1 .0) (d .1 .1 .1 .0)) (c .before .made .given .1) (c .before .before .before .before .before .before .before .before .before .before .before .apply-sort .ensures) in
+    in-order-more b p ix ws n u o l (s .pre) (i .records) (i .places) (i .index) (i .known) (i .n) (i .u) (i .j) (i .inv) (c .before .before .before .before .before .before .before .before .before .before .before .before .before .before .before .before .before .loop-test .taken) (d .0) (d .1 .0) (d .1 .1 .0) (d .1 .1 .1 .0) (v .0) (v .1 .0) (v .1 .1 .0) (w .made) (w .known) (c .before .before .before .before .before .before .before .before .before .before .before .apply-sort .kept .1 .1 .1 .0)
+
+same-length-5 : tie.Need-same-length-5 Inv-loop μ-loop
+same-length-5 c = let i = c .before .loop in i .inv .along .kept .long
+
+same-length-6 : tie.Need-same-length-6 Inv-loop μ-loop
+same-length-6 c = let i = c .before .loop in i .inv .along .kept .wide
 
 same-length-7 : tie.Need-same-length-7 Inv-loop μ-loop
-same-length-7 c = let i = c .before .loop in i .inv .along .kept .long
+same-length-7 c = let i = c .before .loop in i .inv .along .good .indexed .table ∙ sym (c .before .before .before .before .before .before .before .before .pre .ready .good .indexed .table)
 
 same-length-8 : tie.Need-same-length-8 Inv-loop μ-loop
-same-length-8 c = let i = c .before .loop in i .inv .along .kept .wide
-
-same-length-9 : tie.Need-same-length-9 Inv-loop μ-loop
-same-length-9 c = let i = c .before .loop in i .inv .along .good .indexed .heads ∙ sym (c .before .before .before .before .before .before .before .before .before .before .pre .ready .good .indexed .heads)
-
-same-length-10 : tie.Need-same-length-10 Inv-loop μ-loop
-same-length-10 c = let i = c .before .loop in i .inv .along .good .indexed .next ∙ sym (c .before .before .before .before .before .before .before .before .before .before .pre .ready .good .indexed .next)
-
-same-length-11 : tie.Need-same-length-11 Inv-loop μ-loop
-same-length-11 c = let i = c .before .loop in i .inv .along .good .sized .table ∙ sym (c .before .before .before .before .before .before .before .before .before .before .pre .ready .good .sized .table)
-
-same-length-12 : tie.Need-same-length-12 Inv-loop μ-loop
-same-length-12 c = let i = c .before .loop in i .inv .lasts
+same-length-8 c = let i = c .before .loop in i .inv .lasts
 
 returns-2 : tie.Need-returns-2 Inv-loop μ-loop
 returns-2 c =
-    let s = c .before .before .before .before .before .before .before .before .before .before in
+    let s = c .before .before .before .before .before .before .before .before in
     let a = s .args in
     let b = a .records .now in
     let p = a .places .now in
-    let hs = a .heads .now in
-    let ns = a .next .now in
-    let zs = a .sizes .now in
+    let ix = a .index .now in
     let ws = a .known .now in
     let n = a .count in
     let u = a .used in
     let l = a .images .now in
     let o = held (a .order .now) (a .many) in
     let i = c .before .loop in
-    in-order-done b p hs ns zs ws n u o l (s .pre) (i .records) (i .places) (i .heads) (i .next) (i .sizes) (i .known) (i .n) (i .u) (i .j) (i .inv) (c .loop-test .left)
+    in-order-done b p ix ws n u o l (s .pre) (i .records) (i .places) (i .index) (i .known) (i .n) (i .u) (i .j) (i .inv) (c .loop-test .left)
 
 pub apply-order-spec : {M : Type 1} → statement M
-apply-order-spec = tie.close (tie.spec Inv-loop μ-loop loop-holds mul-k shared-slice-read-k cast-k apply-sort-requires enum-known-made enum-known-made-2 same-length same-length-2 same-length-3 same-length-4 same-length-5 same-length-6 returns add-j loop-less loop-again same-length-7 same-length-8 same-length-9 same-length-10 same-length-11 same-length-12 returns-2)
+apply-order-spec = tie.close (tie.spec Inv-loop μ-loop loop-holds mul-k shared-slice-read-k cast-k apply-sort-requires (λ c. search needs) (λ c. search needs) same-length same-length-2 same-length-3 same-length-4 returns add-j loop-less loop-again same-length-5 same-length-6 same-length-7 same-length-8 returns-2)

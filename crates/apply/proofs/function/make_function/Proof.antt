@@ -15,167 +15,131 @@ use Rattle.apply.proofs.FunctionLaws.{function-read, function-parts, fu
 use Rattle.apply.proofs.function.make_function.Statement.{statement}
 use Rattle.apply.proofs.function.make_function.Tie as tie
 
-slice-aggregate-read-numbers : tie.Need-slice-aggregate-read-numbers
-slice-aggregate-read-numbers c = search needs
-
 read-numbers-requires : tie.Need-read-numbers-requires
 read-numbers-requires c κs =
-    let s = c .before .before .before .before .before .before .before .before in
+    let s = c .before .before .before .before .before .before in
     let a = s .args in
     let b = a .records .now in let p = a .places .now in
-    let hs = a .heads .now in let ns = a .next .now in let zs = a .sizes .now in
+    let ix = a .index .now in
     let n = a .count in let u = a .used in
     let l = a .images .now in
     let x = a .at in let m = a .left in
-    (function-read b p hs ns zs n u l x m (s .pre .asks), length-replicate {A = ℕ} 64 0)
+    (function-read b p ix n u l x m (s .pre .asks), length-replicate {A = ℕ} 64 0)
 
 slice-aggregate-make-answers : tie.Need-slice-aggregate-make-answers
-slice-aggregate-make-answers c = sym (c .before .before .before .before .before .before .before .read-numbers .ensures .long)
+slice-aggregate-make-answers c = sym (c .before .before .before .before .before .read-numbers .ensures .long)
 
 make-answers-requires : tie.Need-make-answers-requires
 make-answers-requires c κs =
-    let s = c .before .before .before .before .before .before .before .before .before .before .before .before .before .before .before .before in
+    let s = c .before .before .before .before .before .before .before .before .before .before .before .before in
     let a = s .args in
     let b = a .records .now in let p = a .places .now in
-    let hs = a .heads .now in let ns = a .next .now in let zs = a .sizes .now in
+    let ix = a .index .now in
     let n = a .count in let u = a .used in
     let l = a .images .now in
     let x = a .at in let m = a .left in
-    let o = held (c .before .before .before .before .before .before .before .read-numbers .last .1 .1 .1 .0) m in
-    function-parts b p hs ns zs n u l x m (s .pre) o (c .before .before .before .before .before .before .before .read-numbers .ensures)
-
-enum-known-done : tie.Need-enum-known-done
-enum-known-done c = search needs
+    let o = held (c .before .before .before .before .before .read-numbers .last .1 .1 .1 .0) m in
+    function-parts b p ix n u l x m (s .pre) o (c .before .before .before .before .before .read-numbers .ensures)
 
 slice-aggregate-make : tie.Need-slice-aggregate-make
-slice-aggregate-make c = sym (c .before .before .before .before .before .before .before .before .before .before .before .before .before .before .before .before .before .before .before .before .make-answers .kept .1 .1 .1 .1 .1 .0 ∙ c .before .before .before .before .before .before .before .before .before .before .before .before .before .before .before .before .before .before .before .before .before .before .before .before .before .before .before .before .read-numbers .ensures .long)
-
-slice-aggregate-make-2 : tie.Need-slice-aggregate-make-2
-slice-aggregate-make-2 c = search needs
+slice-aggregate-make c = sym (c .before .before .before .before .before .before .before .before .before .before .before .before .before .before .make-answers .kept .1 .1 .1 .0 ∙ c .before .before .before .before .before .before .before .before .before .before .before .before .before .before .before .before .before .before .before .before .read-numbers .ensures .long)
 
 make-requires : tie.Need-make-requires
 make-requires c κs =
-    let s = c .before .before .before .before .before .before .before .before .before .before .before .before .before .before .before .before .before .before .before .before .before .before .before .before .before .before .before .before .before .before .before .before .before .before .before .before .before .before in
+    let s = c .before .before .before .before .before .before .before .before .before .before .before .before .before .before .before .before .before .before .before .before .before .before .before .before .before .before .before .before in
     let a = s .args in
     let b = a .records .now in let p = a .places .now in
-    let hs = a .heads .now in let ns = a .next .now in let zs = a .sizes .now in
+    let ix = a .index .now in
     let n = a .count in let u = a .used in
     let l = a .images .now in
     let x = a .at in let m = a .left in
-    let o = held (c .before .before .before .before .before .before .before .before .before .before .before .before .before .before .before .before .before .before .before .before .before .before .before .before .before .before .before .before .before .read-numbers .last .1 .1 .1 .0) m in
-    let d = c .before .before .before .before .before .before .before .before .before .before .before .before .before .before .before .before .before .before .before .before .before .make-answers .last in
-    let r = held (d .1 .1 .1 .1 .1 .0) m in
-    let f = c .before .before .before .before .before .before .before .before .done .given .0 in
-    let w = subst (PartsAre b p n u o l (d .0) (d .1 .0) (d .1 .1 .0) (d .1 .1 .1 .0) (d .1 .1 .1 .1 .0) r) (c .before .before .before .before .before .before .before .before .done .given .1) (c .before .before .before .before .before .before .before .before .before .before .before .before .before .before .before .before .before .before .before .before .before .make-answers .ensures) in
+    let o = held (c .before .before .before .before .before .before .before .before .before .before .before .before .before .before .before .before .before .before .before .before .before .read-numbers .last .1 .1 .1 .0) m in
+    let d = c .before .before .before .before .before .before .before .before .before .before .before .before .before .before .before .make-answers .last in
+    let r = held (d .1 .1 .1 .0) m in
+    let f = c .before .before .before .before .before .before .done .given .0 in
+    let w = subst (PartsAre b p n u o l (d .0) (d .1 .0) (d .1 .1 .0) r) (c .before .before .before .before .before .before .done .given .1) (c .before .before .before .before .before .before .before .before .before .before .before .before .before .before .before .make-answers .ensures) in
     let none = held (replicate 64 0) 0 in
-    function-make b p hs ns zs n u l x m (s .pre) o (c .before .before .before .before .before .before .before .before .before .before .before .before .before .before .before .before .before .before .before .before .before .before .before .before .before .before .before .before .before .read-numbers .ensures) (d .0) (d .1 .0) (d .1 .1 .0) (d .1 .1 .1 .0) (d .1 .1 .1 .1 .0) r (f .0) (f .1 .0) w none (none-has (replicate 64 0) (length-replicate {A = ℕ} 64 0))
-
-enum-known-made : tie.Need-enum-known-made
-enum-known-made c = search needs
-
-enum-told : tie.Need-enum-told
-enum-told c = search needs
-
-enum-known-done-2 : tie.Need-enum-known-done-2
-enum-known-done-2 c = search needs
+    function-make b p ix n u l x m (s .pre) o (c .before .before .before .before .before .before .before .before .before .before .before .before .before .before .before .before .before .before .before .before .before .read-numbers .ensures) (d .0) (d .1 .0) (d .1 .1 .0) r (f .0) (f .1 .0) w none (none-has (replicate 64 0) (length-replicate {A = ℕ} 64 0))
 
 same-length : tie.Need-same-length
-same-length c = c .before .before .before .before .before .before .before .before .before .before .before .before .before .make .kept .0 ∙ c .before .before .before .before .before .before .before .before .before .before .before .before .before .before .before .before .before .before .before .before .before .before .before .before .before .before .before .before .before .before .before .before .before .before .before .make-answers .kept .0
+same-length c = c .before .before .before .before .before .before .before .before .before .make .kept .0 ∙ c .before .before .before .before .before .before .before .before .before .before .before .before .before .before .before .before .before .before .before .before .before .before .before .before .before .make-answers .kept .0
 
 same-length-2 : tie.Need-same-length-2
-same-length-2 c = c .before .before .before .before .before .before .before .before .before .before .before .before .before .make .kept .1 .0 ∙ c .before .before .before .before .before .before .before .before .before .before .before .before .before .before .before .before .before .before .before .before .before .before .before .before .before .before .before .before .before .before .before .before .before .before .before .make-answers .kept .1 .0
+same-length-2 c = c .before .before .before .before .before .before .before .before .before .make .kept .1 .0 ∙ c .before .before .before .before .before .before .before .before .before .before .before .before .before .before .before .before .before .before .before .before .before .before .before .before .before .make-answers .kept .1 .0
 
 same-length-3 : tie.Need-same-length-3
-same-length-3 c = c .before .before .before .before .before .before .before .before .before .before .before .before .before .make .kept .1 .1 .0 ∙ c .before .before .before .before .before .before .before .before .before .before .before .before .before .before .before .before .before .before .before .before .before .before .before .before .before .before .before .before .before .before .before .before .before .before .before .make-answers .kept .1 .1 .0
-
-same-length-4 : tie.Need-same-length-4
-same-length-4 c = c .before .before .before .before .before .before .before .before .before .before .before .before .before .make .kept .1 .1 .1 .0 ∙ c .before .before .before .before .before .before .before .before .before .before .before .before .before .before .before .before .before .before .before .before .before .before .before .before .before .before .before .before .before .before .before .before .before .before .before .make-answers .kept .1 .1 .1 .0
-
-same-length-5 : tie.Need-same-length-5
-same-length-5 c = c .before .before .before .before .before .before .before .before .before .before .before .before .before .make .kept .1 .1 .1 .1 .0 ∙ c .before .before .before .before .before .before .before .before .before .before .before .before .before .before .before .before .before .before .before .before .before .before .before .before .before .before .before .before .before .before .before .before .before .before .before .make-answers .kept .1 .1 .1 .1 .0
+same-length-3 c = c .before .before .before .before .before .before .before .before .before .make .kept .1 .1 .0 ∙ c .before .before .before .before .before .before .before .before .before .before .before .before .before .before .before .before .before .before .before .before .before .before .before .before .before .make-answers .kept .1 .1 .0
 
 returns : tie.Need-returns
 returns c =
-    let s = c .before .before .before .before .before .before .before .before .before .before .before .before .before .before .before .before .before .before .before .before .before .before .before .before .before .before .before .before .before .before .before .before .before .before .before .before .before .before .before .before .before .before .before .before .before .before .before .before .before .before .before .before in
+    let s = c .before .before .before .before .before .before .before .before .before .before .before .before .before .before .before .before .before .before .before .before .before .before .before .before .before .before .before .before .before .before .before .before .before .before .before .before .before .before in
     let a = s .args in
     let b = a .records .now in let p = a .places .now in
-    let hs = a .heads .now in let ns = a .next .now in let zs = a .sizes .now in
+    let ix = a .index .now in
     let n = a .count in let u = a .used in
     let l = a .images .now in
     let x = a .at in let m = a .left in
-    let o = held (c .before .before .before .before .before .before .before .before .before .before .before .before .before .before .before .before .before .before .before .before .before .before .before .before .before .before .before .before .before .before .before .before .before .before .before .before .before .before .before .before .before .before .before .read-numbers .last .1 .1 .1 .0) m in
-    let d = c .before .before .before .before .before .before .before .before .before .before .before .before .before .before .before .before .before .before .before .before .before .before .before .before .before .before .before .before .before .before .before .before .before .before .before .make-answers .last in
-    let r = held (d .1 .1 .1 .1 .1 .0) m in
-    let f = c .before .before .before .before .before .before .before .before .before .before .before .before .before .before .before .before .before .before .before .before .before .before .done .given .0 in
-    let w = subst (PartsAre b p n u o l (d .0) (d .1 .0) (d .1 .1 .0) (d .1 .1 .1 .0) (d .1 .1 .1 .1 .0) r) (c .before .before .before .before .before .before .before .before .before .before .before .before .before .before .before .before .before .before .before .before .before .before .done .given .1) (c .before .before .before .before .before .before .before .before .before .before .before .before .before .before .before .before .before .before .before .before .before .before .before .before .before .before .before .before .before .before .before .before .before .before .before .make-answers .ensures) in
+    let o = held (c .before .before .before .before .before .before .before .before .before .before .before .before .before .before .before .before .before .before .before .before .before .before .before .before .before .before .before .before .before .before .before .read-numbers .last .1 .1 .1 .0) m in
+    let d = c .before .before .before .before .before .before .before .before .before .before .before .before .before .before .before .before .before .before .before .before .before .before .before .before .before .make-answers .last in
+    let r = held (d .1 .1 .1 .0) m in
+    let f = c .before .before .before .before .before .before .before .before .before .before .before .before .before .before .before .before .done .given .0 in
+    let w = subst (PartsAre b p n u o l (d .0) (d .1 .0) (d .1 .1 .0) r) (c .before .before .before .before .before .before .before .before .before .before .before .before .before .before .before .before .done .given .1) (c .before .before .before .before .before .before .before .before .before .before .before .before .before .before .before .before .before .before .before .before .before .before .before .before .before .make-answers .ensures) in
     let none = held (replicate 64 0) 0 in
-    let y = c .before .before .before .before .before .before .before .before .before .before .before .before .before .make .last in
+    let y = c .before .before .before .before .before .before .before .before .before .make .last in
     let v = c .before .made .given .0 in
-    function-made b p hs ns zs n u l x m (s .pre) o (c .before .before .before .before .before .before .before .before .before .before .before .before .before .before .before .before .before .before .before .before .before .before .before .before .before .before .before .before .before .before .before .before .before .before .before .before .before .before .before .before .before .before .before .read-numbers .ensures) (d .0) (d .1 .0) (d .1 .1 .0) (d .1 .1 .1 .0) (d .1 .1 .1 .1 .0) r (f .0) (f .1 .0) w none (none-has (replicate 64 0) (length-replicate {A = ℕ} 64 0)) (y .0) (y .1 .0) (y .1 .1 .0) (y .1 .1 .1 .0) (y .1 .1 .1 .1 .0) (v .0) (v .1 .0) (v .1 .1 .0) (subst (MadeIs (d .0) (d .1 .0) (d .1 .1 .0) (d .1 .1 .1 .0) (d .1 .1 .1 .1 .0) (f .0) (f .1 .0) (sortOf (storeOf (d .0) (d .1 .0) (f .0)) (fieldsIn 0 0 0 r none)) (y .0) (y .1 .0) (y .1 .1 .0) (y .1 .1 .1 .0) (y .1 .1 .1 .1 .0)) (c .before .made .given .1) (c .before .before .before .before .before .before .before .before .before .before .before .before .before .make .ensures))
+    function-made b p ix n u l x m (s .pre) o (c .before .before .before .before .before .before .before .before .before .before .before .before .before .before .before .before .before .before .before .before .before .before .before .before .before .before .before .before .before .before .before .read-numbers .ensures) (d .0) (d .1 .0) (d .1 .1 .0) r (f .0) (f .1 .0) w none (none-has (replicate 64 0) (length-replicate {A = ℕ} 64 0)) (y .0) (y .1 .0) (y .1 .1 .0) (v .0) (v .1 .0) (v .1 .1 .0) (subst (MadeIs (d .0) (d .1 .0) (d .1 .1 .0) (f .0) (f .1 .0) (sortOf (storeOf (d .0) (d .1 .0) (f .0)) (fieldsIn 0 0 0 r none)) (y .0) (y .1 .0) (y .1 .1 .0)) (c .before .made .given .1) (c .before .before .before .before .before .before .before .before .before .make .ensures))
+
+same-length-4 : tie.Need-same-length-4
+same-length-4 c = c .before .before .before .before .before .before .before .before .make .kept .0 ∙ c .before .before .before .before .before .before .before .before .before .before .before .before .before .before .before .before .before .before .before .before .before .before .before .before .make-answers .kept .0
+
+same-length-5 : tie.Need-same-length-5
+same-length-5 c = c .before .before .before .before .before .before .before .before .make .kept .1 .0 ∙ c .before .before .before .before .before .before .before .before .before .before .before .before .before .before .before .before .before .before .before .before .before .before .before .before .make-answers .kept .1 .0
 
 same-length-6 : tie.Need-same-length-6
-same-length-6 c = c .before .before .before .before .before .before .before .before .before .before .before .before .make .kept .0 ∙ c .before .before .before .before .before .before .before .before .before .before .before .before .before .before .before .before .before .before .before .before .before .before .before .before .before .before .before .before .before .before .before .before .before .before .make-answers .kept .0
-
-same-length-7 : tie.Need-same-length-7
-same-length-7 c = c .before .before .before .before .before .before .before .before .before .before .before .before .make .kept .1 .0 ∙ c .before .before .before .before .before .before .before .before .before .before .before .before .before .before .before .before .before .before .before .before .before .before .before .before .before .before .before .before .before .before .before .before .before .before .make-answers .kept .1 .0
-
-same-length-8 : tie.Need-same-length-8
-same-length-8 c = c .before .before .before .before .before .before .before .before .before .before .before .before .make .kept .1 .1 .0 ∙ c .before .before .before .before .before .before .before .before .before .before .before .before .before .before .before .before .before .before .before .before .before .before .before .before .before .before .before .before .before .before .before .before .before .before .make-answers .kept .1 .1 .0
-
-same-length-9 : tie.Need-same-length-9
-same-length-9 c = c .before .before .before .before .before .before .before .before .before .before .before .before .make .kept .1 .1 .1 .0 ∙ c .before .before .before .before .before .before .before .before .before .before .before .before .before .before .before .before .before .before .before .before .before .before .before .before .before .before .before .before .before .before .before .before .before .before .make-answers .kept .1 .1 .1 .0
-
-same-length-10 : tie.Need-same-length-10
-same-length-10 c = c .before .before .before .before .before .before .before .before .before .before .before .before .make .kept .1 .1 .1 .1 .0 ∙ c .before .before .before .before .before .before .before .before .before .before .before .before .before .before .before .before .before .before .before .before .before .before .before .before .before .before .before .before .before .before .before .before .before .before .make-answers .kept .1 .1 .1 .1 .0
+same-length-6 c = c .before .before .before .before .before .before .before .before .make .kept .1 .1 .0 ∙ c .before .before .before .before .before .before .before .before .before .before .before .before .before .before .before .before .before .before .before .before .before .before .before .before .make-answers .kept .1 .1 .0
 
 returns-2 : tie.Need-returns-2
 returns-2 c =
-    let s = c .before .before .before .before .before .before .before .before .before .before .before .before .before .before .before .before .before .before .before .before .before .before .before .before .before .before .before .before .before .before .before .before .before .before .before .before .before .before .before .before .before .before .before .before .before .before .before .before .before .before .before in
+    let s = c .before .before .before .before .before .before .before .before .before .before .before .before .before .before .before .before .before .before .before .before .before .before .before .before .before .before .before .before .before .before .before .before .before .before .before .before .before in
     let a = s .args in
     let b = a .records .now in let p = a .places .now in
-    let hs = a .heads .now in let ns = a .next .now in let zs = a .sizes .now in
+    let ix = a .index .now in
     let n = a .count in let u = a .used in
     let l = a .images .now in
     let x = a .at in let m = a .left in
-    let o = held (c .before .before .before .before .before .before .before .before .before .before .before .before .before .before .before .before .before .before .before .before .before .before .before .before .before .before .before .before .before .before .before .before .before .before .before .before .before .before .before .before .before .before .read-numbers .last .1 .1 .1 .0) m in
-    let d = c .before .before .before .before .before .before .before .before .before .before .before .before .before .before .before .before .before .before .before .before .before .before .before .before .before .before .before .before .before .before .before .before .before .before .make-answers .last in
-    let r = held (d .1 .1 .1 .1 .1 .0) m in
-    let f = c .before .before .before .before .before .before .before .before .before .before .before .before .before .before .before .before .before .before .before .before .before .done .given .0 in
-    let w = subst (PartsAre b p n u o l (d .0) (d .1 .0) (d .1 .1 .0) (d .1 .1 .1 .0) (d .1 .1 .1 .1 .0) r) (c .before .before .before .before .before .before .before .before .before .before .before .before .before .before .before .before .before .before .before .before .before .done .given .1) (c .before .before .before .before .before .before .before .before .before .before .before .before .before .before .before .before .before .before .before .before .before .before .before .before .before .before .before .before .before .before .before .before .before .before .make-answers .ensures) in
+    let o = held (c .before .before .before .before .before .before .before .before .before .before .before .before .before .before .before .before .before .before .before .before .before .before .before .before .before .before .before .before .before .before .read-numbers .last .1 .1 .1 .0) m in
+    let d = c .before .before .before .before .before .before .before .before .before .before .before .before .before .before .before .before .before .before .before .before .before .before .before .before .make-answers .last in
+    let r = held (d .1 .1 .1 .0) m in
+    let f = c .before .before .before .before .before .before .before .before .before .before .before .before .before .before .before .done .given .0 in
+    let w = subst (PartsAre b p n u o l (d .0) (d .1 .0) (d .1 .1 .0) r) (c .before .before .before .before .before .before .before .before .before .before .before .before .before .before .before .done .given .1) (c .before .before .before .before .before .before .before .before .before .before .before .before .before .before .before .before .before .before .before .before .before .before .before .before .make-answers .ensures) in
     let none = held (replicate 64 0) 0 in
-    let y = c .before .before .before .before .before .before .before .before .before .before .before .before .make .last in
-    function-full b p hs ns zs n u l x m (s .pre) o (c .before .before .before .before .before .before .before .before .before .before .before .before .before .before .before .before .before .before .before .before .before .before .before .before .before .before .before .before .before .before .before .before .before .before .before .before .before .before .before .before .before .before .read-numbers .ensures) (d .0) (d .1 .0) (d .1 .1 .0) (d .1 .1 .1 .0) (d .1 .1 .1 .1 .0) r (f .0) (f .1 .0) w none (none-has (replicate 64 0) (length-replicate {A = ℕ} 64 0)) (y .0) (y .1 .0) (y .1 .1 .0) (y .1 .1 .1 .0) (y .1 .1 .1 .1 .0) (subst (MadeIs (d .0) (d .1 .0) (d .1 .1 .0) (d .1 .1 .1 .0) (d .1 .1 .1 .1 .0) (f .0) (f .1 .0) (sortOf (storeOf (d .0) (d .1 .0) (f .0)) (fieldsIn 0 0 0 r none)) (y .0) (y .1 .0) (y .1 .1 .0) (y .1 .1 .1 .0) (y .1 .1 .1 .1 .0)) (c .enum-told .given .1) (c .before .before .before .before .before .before .before .before .before .before .before .before .make .ensures))
+    let y = c .before .before .before .before .before .before .before .before .make .last in
+    function-full b p ix n u l x m (s .pre) o (c .before .before .before .before .before .before .before .before .before .before .before .before .before .before .before .before .before .before .before .before .before .before .before .before .before .before .before .before .before .before .read-numbers .ensures) (d .0) (d .1 .0) (d .1 .1 .0) r (f .0) (f .1 .0) w none (none-has (replicate 64 0) (length-replicate {A = ℕ} 64 0)) (y .0) (y .1 .0) (y .1 .1 .0) (subst (MadeIs (d .0) (d .1 .0) (d .1 .1 .0) (f .0) (f .1 .0) (sortOf (storeOf (d .0) (d .1 .0) (f .0)) (fieldsIn 0 0 0 r none)) (y .0) (y .1 .0) (y .1 .1 .0)) (c .enum-told .given .1) (c .before .before .before .before .before .before .before .before .make .ensures))
 
-same-length-11 : tie.Need-same-length-11
-same-length-11 c = c .before .before .before .before .before .before .before .before .before .before .before .before .before .before .make-answers .kept .0
+same-length-7 : tie.Need-same-length-7
+same-length-7 c = c .before .before .before .before .before .before .before .before .before .before .make-answers .kept .0
 
-same-length-12 : tie.Need-same-length-12
-same-length-12 c = c .before .before .before .before .before .before .before .before .before .before .before .before .before .before .make-answers .kept .1 .0
+same-length-8 : tie.Need-same-length-8
+same-length-8 c = c .before .before .before .before .before .before .before .before .before .before .make-answers .kept .1 .0
 
-same-length-13 : tie.Need-same-length-13
-same-length-13 c = c .before .before .before .before .before .before .before .before .before .before .before .before .before .before .make-answers .kept .1 .1 .0
-
-same-length-14 : tie.Need-same-length-14
-same-length-14 c = c .before .before .before .before .before .before .before .before .before .before .before .before .before .before .make-answers .kept .1 .1 .1 .0
-
-same-length-15 : tie.Need-same-length-15
-same-length-15 c = c .before .before .before .before .before .before .before .before .before .before .before .before .before .before .make-answers .kept .1 .1 .1 .1 .0
+same-length-9 : tie.Need-same-length-9
+same-length-9 c = c .before .before .before .before .before .before .before .before .before .before .make-answers .kept .1 .1 .0
 
 returns-3 : tie.Need-returns-3
 returns-3 c =
-    let s = c .before .before .before .before .before .before .before .before .before .before .before .before .before .before .before .before .before .before .before .before .before .before .before .before .before .before .before .before .before .before .before in
+    let s = c .before .before .before .before .before .before .before .before .before .before .before .before .before .before .before .before .before .before .before .before .before .before .before in
     let a = s .args in
     let b = a .records .now in let p = a .places .now in
-    let hs = a .heads .now in let ns = a .next .now in let zs = a .sizes .now in
+    let ix = a .index .now in
     let n = a .count in let u = a .used in
     let l = a .images .now in
     let x = a .at in let m = a .left in
-    let o = held (c .before .before .before .before .before .before .before .before .before .before .before .before .before .before .before .before .before .before .before .before .before .before .read-numbers .last .1 .1 .1 .0) m in
-    let d = c .before .before .before .before .before .before .before .before .before .before .before .before .before .before .make-answers .last in
-    let r = held (d .1 .1 .1 .1 .1 .0) m in
+    let o = held (c .before .before .before .before .before .before .before .before .before .before .before .before .before .before .before .before .read-numbers .last .1 .1 .1 .0) m in
+    let d = c .before .before .before .before .before .before .before .before .before .before .make-answers .last in
+    let r = held (d .1 .1 .1 .0) m in
     let f = c .before .done2 .given .0 in
-    let w = subst (PartsAre b p n u o l (d .0) (d .1 .0) (d .1 .1 .0) (d .1 .1 .1 .0) (d .1 .1 .1 .1 .0) r) (c .before .done2 .given .1) (c .before .before .before .before .before .before .before .before .before .before .before .before .before .before .make-answers .ensures) in
-    function-stuck b p hs ns zs n u l x m (s .pre) o (c .before .before .before .before .before .before .before .before .before .before .before .before .before .before .before .before .before .before .before .before .before .before .read-numbers .ensures) (d .0) (d .1 .0) (d .1 .1 .0) (d .1 .1 .1 .0) (d .1 .1 .1 .1 .0) (f .0) (f .1 .0) w
+    let w = subst (PartsAre b p n u o l (d .0) (d .1 .0) (d .1 .1 .0) r) (c .before .done2 .given .1) (c .before .before .before .before .before .before .before .before .before .before .make-answers .ensures) in
+    function-stuck b p ix n u l x m (s .pre) o (c .before .before .before .before .before .before .before .before .before .before .before .before .before .before .before .before .read-numbers .ensures) (d .0) (d .1 .0) (d .1 .1 .0) (f .0) (f .1 .0) w
 
 pub make-function-spec : {M : Type 1} → statement M
-make-function-spec = tie.close (tie.spec slice-aggregate-read-numbers read-numbers-requires slice-aggregate-make-answers make-answers-requires enum-known-done slice-aggregate-make slice-aggregate-make-2 make-requires enum-known-made enum-told enum-known-done-2 same-length same-length-2 same-length-3 same-length-4 same-length-5 returns same-length-6 same-length-7 same-length-8 same-length-9 same-length-10 returns-2 same-length-11 same-length-12 same-length-13 same-length-14 same-length-15 returns-3)
+make-function-spec = tie.close (tie.spec (λ c. search needs) read-numbers-requires slice-aggregate-make-answers make-answers-requires (λ c. search needs) slice-aggregate-make (λ c. search needs) make-requires (λ c. search needs) (λ c. search needs) (λ c. search needs) same-length same-length-2 same-length-3 returns same-length-4 same-length-5 same-length-6 returns-2 same-length-7 same-length-8 same-length-9 returns-3)

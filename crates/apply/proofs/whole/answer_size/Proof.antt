@@ -6,10 +6,7 @@ use Rattle.apply.proofs.whole.answer_size.Statement.{statement}
 use Rattle.apply.proofs.whole.answer_size.Tie as tie
 
 size-at-requires : tie.Need-size-at-requires
-size-at-requires c κs = omega (arith, c .before .before .before .before .pre .known, c .before .before .before .before .pre .reading .sized .table, c .before .before .before .before .pre .reading .count)
-
-slice-aggregate-applied-size : tie.Need-slice-aggregate-applied-size
-slice-aggregate-applied-size c = search needs
+size-at-requires c κs = omega (arith, c .before .before .before .before .pre .known, c .before .before .before .before .pre .reading .index, c .before .before .before .before .pre .reading .count)
 
 applied-size-requires : tie.Need-applied-size-requires
 applied-size-requires c κs =
@@ -20,9 +17,6 @@ applied-size-requires c κs =
 
 returns : tie.Need-returns
 returns c = c .before .applied-size .ensures .is
-
-slice-aggregate-applied-size-2 : tie.Need-slice-aggregate-applied-size-2
-slice-aggregate-applied-size-2 c = search needs
 
 applied-size-requires-2 : tie.Need-applied-size-requires-2
 applied-size-requires-2 c κs =
@@ -35,4 +29,4 @@ returns-2 : tie.Need-returns-2
 returns-2 c = c .before .applied-size2 .ensures .is
 
 pub answer-size-spec : {M : Type 1} → statement M
-answer-size-spec = tie.close (tie.spec size-at-requires slice-aggregate-applied-size applied-size-requires returns slice-aggregate-applied-size-2 applied-size-requires-2 returns-2)
+answer-size-spec = tie.close (tie.spec size-at-requires (λ c. search needs) applied-size-requires returns (λ c. search needs) applied-size-requires-2 returns-2)

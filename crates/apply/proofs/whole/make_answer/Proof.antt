@@ -6,71 +6,35 @@ use Rattle.apply.proofs.whole.make_answer.Statement.{statement}
 use Rattle.apply.proofs.whole.make_answer.Tie as tie
 
 size-at-requires : tie.Need-size-at-requires
-size-at-requires c κs = omega (arith, c .before .before .before .before .before .before .before .pre .known, c .before .before .before .before .before .before .before .pre .ready .good .sized .table, c .before .before .before .before .before .before .before .pre .ready .good .indexed .count)
-
-slice-aggregate-apply-sort : tie.Need-slice-aggregate-apply-sort
-slice-aggregate-apply-sort c = search needs
+size-at-requires c κs = omega (arith, c .before .before .before .before .before .pre .known, c .before .before .before .before .before .pre .ready .good .indexed .table, c .before .before .before .before .before .pre .ready .good .indexed .count)
 
 apply-sort-requires : tie.Need-apply-sort-requires
 apply-sort-requires c κs =
-    let s = c .before .before .before .before .before .before .before .before .before .before .before .before .before .before .before in
+    let s = c .before .before .before .before .before .before .before .before .before .before .before in
     let a = s .args in
     let b = a .records .now in let p = a .places .now in let l = a .images .now in
     record { asks = s .pre; known = known-none b p (a .count) l 1 }
 
-same-length : tie.Need-same-length
-same-length c = search needs
-
-same-length-2 : tie.Need-same-length-2
-same-length-2 c = search needs
-
-same-length-3 : tie.Need-same-length-3
-same-length-3 c = search needs
-
-same-length-4 : tie.Need-same-length-4
-same-length-4 c = search needs
-
-same-length-5 : tie.Need-same-length-5
-same-length-5 c = search needs
-
 returns : tie.Need-returns
 returns c =
-    let s = c .before .before .before .before .before .before .before .before .before .before .before .before .before .before .before .before .before .before .before .before .before .before .before .before .before .before .before in
+    let s = c .before .before .before .before .before .before .before .before .before .before .before .before .before .before .before .before .before .before .before in
     let a = s .args in
-    let d = c .before .before .before .before .before .before .before .before .before .before .before .apply-sort .last in
-    known-replaced (a .records .now) (a .places .now) (a .count) (a .used) (a .k) (a .images .now) (d .0) (d .1 .0) (d .1 .1 .0) (d .1 .1 .1 .0) (d .1 .1 .1 .1 .0) (d .1 .1 .1 .1 .1 .0) (c .before .before .before .before .before .before .before .before .before .before .before .apply-sort .result) (c .before .before .before .before .before .before .before .before .before .before .before .apply-sort .ensures)
-
-slice-aggregate-apply-deep : tie.Need-slice-aggregate-apply-deep
-slice-aggregate-apply-deep c = search needs
+    let d = c .before .before .before .before .before .before .before .apply-sort .last in
+    known-replaced (a .records .now) (a .places .now) (a .count) (a .used) (a .k) (a .images .now) (d .0) (d .1 .0) (d .1 .1 .0) (d .1 .1 .1 .0) (c .before .before .before .before .before .before .before .apply-sort .result) (c .before .before .before .before .before .before .before .apply-sort .ensures)
 
 apply-deep-requires : tie.Need-apply-deep-requires
 apply-deep-requires c κs =
-    let s = c .before .before .before .before .before .before .before .before .before .before .before .before .before .before .before in
+    let s = c .before .before .before .before .before .before .before .before .before .before .before in
     let a = s .args in
     let b = a .records .now in let p = a .places .now in let l = a .images .now in
     record { asks = s .pre; known = known-none b p (a .count) l 4096 }
 
-same-length-6 : tie.Need-same-length-6
-same-length-6 c = search needs
-
-same-length-7 : tie.Need-same-length-7
-same-length-7 c = search needs
-
-same-length-8 : tie.Need-same-length-8
-same-length-8 c = search needs
-
-same-length-9 : tie.Need-same-length-9
-same-length-9 c = search needs
-
-same-length-10 : tie.Need-same-length-10
-same-length-10 c = search needs
-
 returns-2 : tie.Need-returns-2
 returns-2 c =
-    let s = c .before .before .before .before .before .before .before .before .before .before .before .before .before .before .before .before .before .before .before .before .before .before .before .before .before .before .before in
+    let s = c .before .before .before .before .before .before .before .before .before .before .before .before .before .before .before .before .before .before .before in
     let a = s .args in
-    let d = c .before .before .before .before .before .before .before .before .before .before .before .apply-deep .last in
-    known-replaced (a .records .now) (a .places .now) (a .count) (a .used) (a .k) (a .images .now) (d .0) (d .1 .0) (d .1 .1 .0) (d .1 .1 .1 .0) (d .1 .1 .1 .1 .0) (d .1 .1 .1 .1 .1 .0) (c .before .before .before .before .before .before .before .before .before .before .before .apply-deep .result) (c .before .before .before .before .before .before .before .before .before .before .before .apply-deep .ensures)
+    let d = c .before .before .before .before .before .before .before .apply-deep .last in
+    known-replaced (a .records .now) (a .places .now) (a .count) (a .used) (a .k) (a .images .now) (d .0) (d .1 .0) (d .1 .1 .0) (d .1 .1 .1 .0) (c .before .before .before .before .before .before .before .apply-deep .result) (c .before .before .before .before .before .before .before .apply-deep .ensures)
 
 pub make-answer-spec : {M : Type 1} → statement M
-make-answer-spec = tie.close (tie.spec size-at-requires slice-aggregate-apply-sort apply-sort-requires same-length same-length-2 same-length-3 same-length-4 same-length-5 returns slice-aggregate-apply-deep apply-deep-requires same-length-6 same-length-7 same-length-8 same-length-9 same-length-10 returns-2)
+make-answer-spec = tie.close (tie.spec size-at-requires (λ c. search needs) apply-sort-requires (λ c. search needs) (λ c. search needs) (λ c. search needs) returns (λ c. search needs) apply-deep-requires (λ c. search needs) (λ c. search needs) (λ c. search needs) returns-2)

@@ -5,39 +5,18 @@ use Rattle.replacing.specs.KnownLaws.{known-none, known-parts}
 use Rattle.apply.proofs.whole.make_answers.Statement.{statement}
 use Rattle.apply.proofs.whole.make_answers.Tie as tie
 
-slice-aggregate-apply-list : tie.Need-slice-aggregate-apply-list
-slice-aggregate-apply-list c = search needs
-
 apply-list-requires : tie.Need-apply-list-requires
 apply-list-requires c κs =
-    let s = c .before .before .before .before .before .before .before .before .before .before .before .before .before .before in
+    let s = c .before .before .before .before .before .before .before .before .before .before in
     let a = s .args in
     record { asks = s .pre; known = known-none (a .records .now) (a .places .now) (a .count) (a .images .now) 4096 }
 
-same-length : tie.Need-same-length
-same-length c = search needs
-
-same-length-2 : tie.Need-same-length-2
-same-length-2 c = search needs
-
-same-length-3 : tie.Need-same-length-3
-same-length-3 c = search needs
-
-same-length-4 : tie.Need-same-length-4
-same-length-4 c = search needs
-
-same-length-5 : tie.Need-same-length-5
-same-length-5 c = search needs
-
-same-length-6 : tie.Need-same-length-6
-same-length-6 c = search needs
-
 returns : tie.Need-returns
 returns c =
-    let s = c .before .before .before .before .before .before .before .before .before .before .before .before .before .before .before .before .before .before .before .before .before .before .before .before .before .before .before .before in
+    let s = c .before .before .before .before .before .before .before .before .before .before .before .before .before .before .before .before .before .before .before .before in
     let a = s .args in
-    let d = c .before .before .before .before .before .before .before .before .before .before .before .before .before .apply-list .last in
-    known-parts (a .records .now) (a .places .now) (a .count) (a .used) (held (a .parts .now) (a .many)) (a .images .now) (d .0) (d .1 .0) (d .1 .1 .0) (d .1 .1 .1 .0) (d .1 .1 .1 .1 .0) (d .1 .1 .1 .1 .1 .0) (held (d .1 .1 .1 .1 .1 .1 .0) (a .many)) (c .before .before .before .before .before .before .before .before .before .before .before .before .before .apply-list .result) (c .before .before .before .before .before .before .before .before .before .before .before .before .before .apply-list .ensures)
+    let d = c .before .before .before .before .before .before .before .before .before .apply-list .last in
+    known-parts (a .records .now) (a .places .now) (a .count) (a .used) (held (a .parts .now) (a .many)) (a .images .now) (d .0) (d .1 .0) (d .1 .1 .0) (d .1 .1 .1 .0) (held (d .1 .1 .1 .1 .0) (a .many)) (c .before .before .before .before .before .before .before .before .before .apply-list .result) (c .before .before .before .before .before .before .before .before .before .apply-list .ensures)
 
 pub make-answers-spec : {M : Type 1} → statement M
-make-answers-spec = tie.close (tie.spec slice-aggregate-apply-list apply-list-requires same-length same-length-2 same-length-3 same-length-4 same-length-5 same-length-6 returns)
+make-answers-spec = tie.close (tie.spec (λ c. search needs) apply-list-requires (λ c. search needs) (λ c. search needs) (λ c. search needs) (λ c. search needs) returns)

@@ -9,45 +9,32 @@ use Rattle.checker.proofs.binder.bound_body.Tie as tie
 
 quantified-requires : tie.Need-quantified-requires
 quantified-requires c κs =
-    let s = c .before .before .before .before .before .before .before .before .before .before .before in
+    let s = c .before .before .before .before .before .before .before .before .before in
     record { bound = s .pre .bound; known = s .pre .known; other = c .before .before .if1 .taken }
-
-same-length : tie.Need-same-length
-same-length c = search needs
-
-same-length-2 : tie.Need-same-length-2
-same-length-2 c = search needs
 
 returns : tie.Need-returns
 returns c =
-    let s = c .before .before .before .before .before .before .before .before .before .before .before .before in
+    let s = c .before .before .before .before .before .before .before .before .before .before in
     let q = s .args in
-    let hs = q .heads .now in
-    let ns = q .next .now in
-    let zs = q .sizes .now in
-    c .quantified .ensures hs ns zs (s .pre .good)
-
-refuse-requires : tie.Need-refuse-requires
-refuse-requires c κs = search needs
+    let ix = q .index .now in
+    c .quantified .ensures ix (s .pre .good)
 
 returns-2 : tie.Need-returns-2
 returns-2 c =
-    let s = c .before .before .before .before .before .before .before .before .before .before .before in
+    let s = c .before .before .before .before .before .before .before .before .before in
     let q = s .args in
     let b = q .records .now in
     let p = q .places .now in
-    let hs = q .heads .now in
-    let ns = q .next .now in
-    let zs = q .sizes .now in
+    let ix = q .index .now in
     let n = q .count in
     let u = q .used in
     let z = q .sheet .now in
     let tbl = q .table .now in
-    judged-as (bound-none b p n z tbl (q .pairs) (q .n) (s .pre .bound) (q .body) (s .pre .known) (q .number) (c .before .if2 .taken)) (answered-as (c .refuse .ensures) (answer-refused b p hs ns zs n u (s .pre .good) Count))
+    judged-as (bound-none b p n z tbl (q .pairs) (q .n) (s .pre .bound) (q .body) (s .pre .known) (q .number) (c .before .if2 .taken)) (answered-as (c .refuse .ensures) (answer-refused b p ix n u (s .pre .good) Count))
 
 kind-at-requires : tie.Need-kind-at-requires
 kind-at-requires c κs =
-    let s = c .before .before .before .before .before .before .before .before .before .before .before .before in
+    let s = c .before .before .before .before .before .before .before .before .before .before in
     let q = s .args in
     let b = q .records .now in
     let p = q .places .now in
@@ -56,74 +43,43 @@ kind-at-requires c κs =
     let tbl = q .table .now in
     body-entry b p n z tbl (q .pairs) (q .n) (s .pre .bound) (q .body) (s .pre .known) (q .number)
 
-refuse-requires-2 : tie.Need-refuse-requires-2
-refuse-requires-2 c κs = search needs
-
-same-length-3 : tie.Need-same-length-3
-same-length-3 c = search needs
-
-same-length-4 : tie.Need-same-length-4
-same-length-4 c = search needs
-
 returns-3 : tie.Need-returns-3
 returns-3 c =
-    let s = c .before .before .before .before .before .before .before .before .before .before .before .before .before .before .before in
+    let s = c .before .before .before .before .before .before .before .before .before .before .before .before .before in
     let q = s .args in
     let b = q .records .now in
     let p = q .places .now in
-    let hs = q .heads .now in
-    let ns = q .next .now in
-    let zs = q .sizes .now in
+    let ix = q .index .now in
     let n = q .count in
     let u = q .used in
     let z = q .sheet .now in
     let tbl = q .table .now in
-    judged-as (lambda-no b p n z tbl (q .pairs) (q .n) (s .pre .bound) (q .body) (s .pre .known) (q .number) (c .before .before .before .before .before .if2 .left) (c .before .before .kind-at .result) (c .before .before .kind-at .ensures) (c .before .before .before .before .before .before .if1 .left) (c .before .if3 .taken)) (answered-as (c .refuse2 .ensures) (answer-refused b p hs ns zs n u (s .pre .good) Misfit))
+    judged-as (lambda-no b p n z tbl (q .pairs) (q .n) (s .pre .bound) (q .body) (s .pre .known) (q .number) (c .before .before .before .before .before .if2 .left) (c .before .before .kind-at .result) (c .before .before .kind-at .ensures) (c .before .before .before .before .before .before .if1 .left) (c .before .if3 .taken)) (answered-as (c .refuse2 .ensures) (answer-refused b p ix n u (s .pre .good) Misfit))
 
 lambda-requires : tie.Need-lambda-requires
 lambda-requires c κs =
-    let s = c .before .before .before .before .before .before .before .before .before .before .before .before .before .before .before .before .before .before .before .before in
+    let s = c .before .before .before .before .before .before .before .before .before .before .before .before .before .before .before .before in
     let q = s .args in
     let b = q .records .now in
     let p = q .places .now in
-    let hs = q .heads .now in
-    let ns = q .next .now in
-    let zs = q .sizes .now in
+    let ix = q .index .now in
     let n = q .count in
     let u = q .used in
     let z = q .sheet .now in
     let tbl = q .table .now in
     let a = q .args .now in
-    lambda-asks b p hs ns zs n u z tbl (q .pairs) (q .n) a (q .body) (s .pre)
-
-same-length-5 : tie.Need-same-length-5
-same-length-5 c = search needs
-
-same-length-6 : tie.Need-same-length-6
-same-length-6 c = search needs
-
-same-length-7 : tie.Need-same-length-7
-same-length-7 c = search needs
-
-same-length-8 : tie.Need-same-length-8
-same-length-8 c = search needs
-
-same-length-9 : tie.Need-same-length-9
-same-length-9 c = search needs
-
-same-length-10 : tie.Need-same-length-10
-same-length-10 c = search needs
+    lambda-asks b p ix n u z tbl (q .pairs) (q .n) a (q .body) (s .pre)
 
 returns-4 : tie.Need-returns-4
 returns-4 c =
-    let s = c .before .before .before .before .before .before .before .before .before .before .before .before .before .before .before .before .before .before .before .before .before .before .before .before .before .before .before .before .before .before .before .before .before in
+    let s = c .before .before .before .before .before .before .before .before .before .before .before .before .before .before .before .before .before .before .before .before .before .before .before .before .before in
     let q = s .args in
     let b = q .records .now in
     let p = q .places .now in
     let n = q .count in
     let z = q .sheet .now in
     let tbl = q .table .now in
-    judged-as {b = b} {p = p} {n = n} (lambda-yes b p n z tbl (q .pairs) (q .n) (s .pre .bound) (q .body) (s .pre .known) (q .number) (c .before .before .before .before .before .before .before .before .before .before .before .before .before .before .before .before .before .before .before .before .before .before .before .if2 .left) (c .before .before .before .before .before .before .before .before .before .before .before .before .before .before .before .before .before .before .before .before .kind-at .result) (c .before .before .before .before .before .before .before .before .before .before .before .before .before .before .before .before .before .before .before .before .kind-at .ensures) (c .before .before .before .before .before .before .before .before .before .before .before .before .before .before .before .before .before .before .before .before .before .before .before .before .if1 .left) (c .before .before .before .before .before .before .before .before .before .before .before .before .before .before .before .before .before .before .before .if3 .left)) (c .before .before .before .before .before .before .before .before .before .before .before .before .lambda .ensures)
+    judged-as {b = b} {p = p} {n = n} (lambda-yes b p n z tbl (q .pairs) (q .n) (s .pre .bound) (q .body) (s .pre .known) (q .number) (c .before .before .before .before .before .before .before .before .before .before .before .before .before .before .before .before .before .if2 .left) (c .before .before .before .before .before .before .before .before .before .before .before .before .before .before .kind-at .result) (c .before .before .before .before .before .before .before .before .before .before .before .before .before .before .kind-at .ensures) (c .before .before .before .before .before .before .before .before .before .before .before .before .before .before .before .before .before .before .if1 .left) (c .before .before .before .before .before .before .before .before .before .before .before .before .before .if3 .left)) (c .before .before .before .before .before .before .before .before .lambda .ensures)
 
 pub bound-body-spec : {M : Type 1} → statement M
-bound-body-spec = tie.close (tie.spec quantified-requires same-length same-length-2 returns refuse-requires returns-2 kind-at-requires refuse-requires-2 same-length-3 same-length-4 returns-3 lambda-requires same-length-5 same-length-6 same-length-7 same-length-8 same-length-9 same-length-10 returns-4)
+bound-body-spec = tie.close (tie.spec quantified-requires (λ c. search needs) (λ c. search needs) returns (λ c κs. search needs) returns-2 kind-at-requires (λ c κs. search needs) (λ c. search needs) (λ c. search needs) returns-3 lambda-requires (λ c. search needs) (λ c. search needs) (λ c. search needs) (λ c. search needs) returns-4)

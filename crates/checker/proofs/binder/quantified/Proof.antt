@@ -9,9 +9,6 @@ use Rattle.checker.proofs.BinderLaws.{body-entry, bound-none, quantifie
 use Rattle.checker.proofs.binder.quantified.Statement.{statement}
 use Rattle.checker.proofs.binder.quantified.Tie as tie
 
-refuse-requires : tie.Need-refuse-requires
-refuse-requires c κs = search needs
-
 returns : tie.Need-returns
 returns c =
     let s = c .before .before .before .before .before .before in
@@ -22,7 +19,7 @@ returns c =
     let u = q .used in
     let z = q .sheet .now in
     let tbl = q .table .now in
-    λ hs ns zs g. judged-as (bound-none b p n z tbl (q .pairs) (q .n) (s .pre .bound) (q .body) (s .pre .known) (q .number) (c .before .if1 .taken)) (answered-as (c .refuse .ensures) (answer-refused b p hs ns zs n u g Count))
+    λ ix g. judged-as (bound-none b p n z tbl (q .pairs) (q .n) (s .pre .bound) (q .body) (s .pre .known) (q .number) (c .before .if1 .taken)) (answered-as (c .refuse .ensures) (answer-refused b p ix n u g Count))
 
 kind-at-requires : tie.Need-kind-at-requires
 kind-at-requires c κs =
@@ -35,9 +32,6 @@ kind-at-requires c κs =
     let tbl = q .table .now in
     body-entry b p n z tbl (q .pairs) (q .n) (s .pre .bound) (q .body) (s .pre .known) (q .number)
 
-refuse-requires-2 : tie.Need-refuse-requires-2
-refuse-requires-2 c κs = search needs
-
 returns-2 : tie.Need-returns-2
 returns-2 c =
     let s = c .before .before .before .before .before .before .before .before .before in
@@ -48,10 +42,7 @@ returns-2 c =
     let u = q .used in
     let z = q .sheet .now in
     let tbl = q .table .now in
-    λ hs ns zs g. judged-as (quantified-no b p n z tbl (q .pairs) (q .n) (s .pre .bound) (q .body) (s .pre .known) (q .number) (c .before .before .before .before .if1 .left) (c .before .before .kind-at .result) (c .before .before .kind-at .ensures) (s .pre .other) (c .before .before .before .if2 .taken) (c .before .if3 .taken)) (answered-as (c .refuse2 .ensures) (answer-refused b p hs ns zs n u g Misfit))
-
-found-requires : tie.Need-found-requires
-found-requires c κs = search needs
+    λ ix g. judged-as (quantified-no b p n z tbl (q .pairs) (q .n) (s .pre .bound) (q .body) (s .pre .known) (q .number) (c .before .before .before .before .if1 .left) (c .before .before .kind-at .result) (c .before .before .kind-at .ensures) (s .pre .other) (c .before .before .before .if2 .taken) (c .before .if3 .taken)) (answered-as (c .refuse2 .ensures) (answer-refused b p ix n u g Misfit))
 
 returns-3 : tie.Need-returns-3
 returns-3 c =
@@ -63,10 +54,7 @@ returns-3 c =
     let u = q .used in
     let z = q .sheet .now in
     let tbl = q .table .now in
-    λ hs ns zs g. judged-as (quantified-yes b p n z tbl (q .pairs) (q .n) (s .pre .bound) (q .body) (s .pre .known) (q .number) (c .before .before .before .before .if1 .left) (c .before .before .kind-at .result) (c .before .before .kind-at .ensures) (s .pre .other) (c .before .before .before .if2 .taken) (c .before .if3 .left)) (answered-as (c .found .ensures) (answer-known b p hs ns zs n u g (q .body) (s .pre .known)))
-
-refuse-requires-3 : tie.Need-refuse-requires-3
-refuse-requires-3 c κs = search needs
+    λ ix g. judged-as (quantified-yes b p n z tbl (q .pairs) (q .n) (s .pre .bound) (q .body) (s .pre .known) (q .number) (c .before .before .before .before .if1 .left) (c .before .before .kind-at .result) (c .before .before .kind-at .ensures) (s .pre .other) (c .before .before .before .if2 .taken) (c .before .if3 .left)) (answered-as (c .found .ensures) (answer-known b p ix n u g (q .body) (s .pre .known)))
 
 returns-4 : tie.Need-returns-4
 returns-4 c =
@@ -78,7 +66,7 @@ returns-4 c =
     let u = q .used in
     let z = q .sheet .now in
     let tbl = q .table .now in
-    λ hs ns zs g. judged-as (choice-count b p n z tbl (q .pairs) (q .n) (s .pre .bound) (q .body) (s .pre .known) (q .number) (c .before .before .if2 .left) (c .before .if4 .taken)) (answered-as (c .refuse3 .ensures) (answer-refused b p hs ns zs n u g Count))
+    λ ix g. judged-as (choice-count b p n z tbl (q .pairs) (q .n) (s .pre .bound) (q .body) (s .pre .known) (q .number) (c .before .before .if2 .left) (c .before .if4 .taken)) (answered-as (c .refuse3 .ensures) (answer-refused b p ix n u g Count))
 
 kind-at-requires-2 : tie.Need-kind-at-requires-2
 kind-at-requires-2 c κs =
@@ -91,9 +79,6 @@ kind-at-requires-2 c κs =
     let tbl = q .table .now in
     body-entry b p n z tbl (q .pairs) (q .n) (s .pre .bound) (q .body) (s .pre .known) (q .number)
 
-refuse-requires-4 : tie.Need-refuse-requires-4
-refuse-requires-4 c κs = search needs
-
 returns-5 : tie.Need-returns-5
 returns-5 c =
     let s = c .before .before .before .before .before .before .before .before .before .before in
@@ -104,7 +89,7 @@ returns-5 c =
     let u = q .used in
     let z = q .sheet .now in
     let tbl = q .table .now in
-    λ hs ns zs g. judged-as (choice-no b p n z tbl (q .pairs) (q .n) (s .pre .bound) (q .body) (s .pre .known) (q .number) (c .before .before .before .before .before .if1 .left) (c .before .before .kind-at2 .result) (c .before .before .kind-at2 .ensures) (c .before .before .before .before .if2 .left) (c .before .before .before .if4 .left) (c .before .if5 .taken)) (answered-as (c .refuse4 .ensures) (answer-refused b p hs ns zs n u g Misfit))
+    λ ix g. judged-as (choice-no b p n z tbl (q .pairs) (q .n) (s .pre .bound) (q .body) (s .pre .known) (q .number) (c .before .before .before .before .before .if1 .left) (c .before .before .kind-at2 .result) (c .before .before .kind-at2 .ensures) (c .before .before .before .before .if2 .left) (c .before .before .before .if4 .left) (c .before .if5 .taken)) (answered-as (c .refuse4 .ensures) (answer-refused b p ix n u g Misfit))
 
 add-u16-at : tie.Need-add-u16-at
 add-u16-at c =
@@ -133,9 +118,6 @@ shared-slice-read-k c =
 cast-k : tie.Need-cast-k
 cast-k c = omega (arith, c .shared-slice-known5 .given (c .before .u16-at .result))
 
-found-requires-2 : tie.Need-found-requires-2
-found-requires-2 c κs = search needs
-
 returns-6 : tie.Need-returns-6
 returns-6 c =
     let s = c .before .before .before .before .before .before .before .before .before .before .before .before in
@@ -146,7 +128,7 @@ returns-6 c =
     let u = q .used in
     let z = q .sheet .now in
     let tbl = q .table .now in
-    λ hs ns zs g. judged-as (choice-yes b p n z tbl (q .pairs) (q .n) (s .pre .bound) (q .body) (s .pre .known) (q .number) (c .before .before .before .before .before .before .before .if1 .left) (c .before .before .before .before .kind-at2 .result) (c .before .before .before .before .kind-at2 .ensures) (c .before .before .before .before .before .before .if2 .left) (c .before .before .before .before .before .if4 .left) (c .before .before .u16-at .result) (c .before .before .u16-at .ensures .0) (c .before .before .before .if5 .left)) (answered-as (c .found2 .ensures) (answer-known b p hs ns zs n u g (getD tbl (c .before .before .u16-at .result) 0) (only-known b p n z tbl (q .pairs) (q .n) (s .pre .bound) (q .body) (s .pre .known) (q .number) (c .before .before .before .before .before .before .before .if1 .left) (c .before .before .before .before .kind-at2 .result) (c .before .before .before .before .kind-at2 .ensures) (c .before .before .before .before .before .before .if2 .left) (c .before .before .before .before .before .if4 .left) (c .before .before .u16-at .result) (c .before .before .u16-at .ensures .0))))
+    λ ix g. judged-as (choice-yes b p n z tbl (q .pairs) (q .n) (s .pre .bound) (q .body) (s .pre .known) (q .number) (c .before .before .before .before .before .before .before .if1 .left) (c .before .before .before .before .kind-at2 .result) (c .before .before .before .before .kind-at2 .ensures) (c .before .before .before .before .before .before .if2 .left) (c .before .before .before .before .before .if4 .left) (c .before .before .u16-at .result) (c .before .before .u16-at .ensures .0) (c .before .before .before .if5 .left)) (answered-as (c .found2 .ensures) (answer-known b p ix n u g (getD tbl (c .before .before .u16-at .result) 0) (only-known b p n z tbl (q .pairs) (q .n) (s .pre .bound) (q .body) (s .pre .known) (q .number) (c .before .before .before .before .before .before .before .if1 .left) (c .before .before .before .before .kind-at2 .result) (c .before .before .before .before .kind-at2 .ensures) (c .before .before .before .before .before .before .if2 .left) (c .before .before .before .before .before .if4 .left) (c .before .before .u16-at .result) (c .before .before .u16-at .ensures .0))))
 
 pub quantified-spec : {M : Type 1} → statement M
-quantified-spec = tie.close (tie.spec refuse-requires returns kind-at-requires refuse-requires-2 returns-2 found-requires returns-3 refuse-requires-3 returns-4 kind-at-requires-2 refuse-requires-4 returns-5 add-u16-at u16-at-requires mul-k shared-slice-read-k cast-k found-requires-2 returns-6)
+quantified-spec = tie.close (tie.spec (λ c κs. search needs) returns kind-at-requires (λ c κs. search needs) returns-2 (λ c κs. search needs) returns-3 (λ c κs. search needs) returns-4 kind-at-requires-2 (λ c κs. search needs) returns-5 add-u16-at u16-at-requires mul-k shared-slice-read-k cast-k (λ c κs. search needs) returns-6)

@@ -10,128 +10,74 @@ use Rattle.checker.proofs.indexed.extracted.Tie as tie
 
 entry-requires : tie.Need-entry-requires
 entry-requires c κs =
-    let s = c .before .before .before .before .before .before .before in
+    let s = c .before .before .before .before .before in
     let q = s .args in
     let b = q .records .now in
     let p = q .places .now in
-    let hs = q .heads .now in
-    let ns = q .next .now in
-    let zs = q .sizes .now in
+    let ix = q .index .now in
     let n = q .count in
     let u = q .used in
-    argument-entry b p hs ns zs n u (q .a) (s .pre)
-
-refuse-requires : tie.Need-refuse-requires
-refuse-requires c κs = search needs
-
-same-length : tie.Need-same-length
-same-length c = search needs
-
-same-length-2 : tie.Need-same-length-2
-same-length-2 c = search needs
+    argument-entry b p ix n u (q .a) (s .pre)
 
 returns : tie.Need-returns
 returns c =
+    let s = c .before .before .before .before .before .before .before .before in
+    let q = s .args in
+    let b = q .records .now in
+    let p = q .places .now in
+    let ix = q .index .now in
+    let n = q .count in
+    let u = q .used in
+    judged-as (extract-order b p ix n u (q .a) (s .pre) (q .i) (q .j) (c .before .if1 .taken)) (answered-as (c .refuse .ensures) (answer-refused b p ix n u (s .pre .good) Count))
+
+returns-2 : tie.Need-returns-2
+returns-2 c =
     let s = c .before .before .before .before .before .before .before .before .before .before in
     let q = s .args in
     let b = q .records .now in
     let p = q .places .now in
-    let hs = q .heads .now in
-    let ns = q .next .now in
-    let zs = q .sizes .now in
+    let ix = q .index .now in
     let n = q .count in
     let u = q .used in
-    judged-as (extract-order b p hs ns zs n u (q .a) (s .pre) (q .i) (q .j) (c .before .if1 .taken)) (answered-as (c .refuse .ensures) (answer-refused b p hs ns zs n u (s .pre .good) Count))
+    judged-as (extract-kind b p ix n u (q .a) (s .pre) (q .i) (q .j) (c .before .before .before .if1 .left) (c .before .before .before .before .entry .result) (c .before .before .before .before .entry .ensures) (c .before .if2 .taken)) (answered-as (c .refuse2 .ensures) (answer-refused b p ix n u (s .pre .good) Misfit))
 
-refuse-requires-2 : tie.Need-refuse-requires-2
-refuse-requires-2 c κs = search needs
-
-same-length-3 : tie.Need-same-length-3
-same-length-3 c = search needs
-
-same-length-4 : tie.Need-same-length-4
-same-length-4 c = search needs
-
-returns-2 : tie.Need-returns-2
-returns-2 c =
+returns-3 : tie.Need-returns-3
+returns-3 c =
     let s = c .before .before .before .before .before .before .before .before .before .before .before .before in
     let q = s .args in
     let b = q .records .now in
     let p = q .places .now in
-    let hs = q .heads .now in
-    let ns = q .next .now in
-    let zs = q .sizes .now in
+    let ix = q .index .now in
     let n = q .count in
     let u = q .used in
-    judged-as (extract-kind b p hs ns zs n u (q .a) (s .pre) (q .i) (q .j) (c .before .before .before .if1 .left) (c .before .before .before .before .entry .result) (c .before .before .before .before .entry .ensures) (c .before .if2 .taken)) (answered-as (c .refuse2 .ensures) (answer-refused b p hs ns zs n u (s .pre .good) Misfit))
+    judged-as (extract-wide b p ix n u (q .a) (s .pre) (q .i) (q .j) (c .before .before .before .before .before .if1 .left) (c .before .before .before .before .before .before .entry .result) (c .before .before .before .before .before .before .entry .ensures) (c .before .before .before .if2 .left) (c .before .if3 .taken)) (answered-as (c .refuse3 .ensures) (answer-refused b p ix n u (s .pre .good) Count))
 
-refuse-requires-3 : tie.Need-refuse-requires-3
-refuse-requires-3 c κs = search needs
-
-same-length-5 : tie.Need-same-length-5
-same-length-5 c = search needs
-
-same-length-6 : tie.Need-same-length-6
-same-length-6 c = search needs
-
-returns-3 : tie.Need-returns-3
-returns-3 c =
+add-bit-vector : tie.Need-add-bit-vector
+add-bit-vector c =
     let s = c .before .before .before .before .before .before .before .before .before .before .before .before .before .before in
     let q = s .args in
     let b = q .records .now in
     let p = q .places .now in
-    let hs = q .heads .now in
-    let ns = q .next .now in
-    let zs = q .sizes .now in
+    let ix = q .index .now in
     let n = q .count in
     let u = q .used in
-    judged-as (extract-wide b p hs ns zs n u (q .a) (s .pre) (q .i) (q .j) (c .before .before .before .before .before .if1 .left) (c .before .before .before .before .before .before .entry .result) (c .before .before .before .before .before .before .entry .ensures) (c .before .before .before .if2 .left) (c .before .if3 .taken)) (answered-as (c .refuse3 .ensures) (answer-refused b p hs ns zs n u (s .pre .good) Count))
-
-add-bit-vector : tie.Need-add-bit-vector
-add-bit-vector c =
-    let s = c .before .before .before .before .before .before .before .before .before .before .before .before .before .before .before .before .before .before in
-    let q = s .args in
-    let b = q .records .now in
-    let p = q .places .now in
-    let hs = q .heads .now in
-    let ns = q .next .now in
-    let zs = q .sizes .now in
-    let n = q .count in
-    let u = q .used in
-    omega (arith, number-small b p hs ns zs n u (q .a) (s .pre) (c .before .before .before .before .before .before .before .before .before .before .entry .result) (c .before .before .before .before .before .before .before .before .before .before .entry .ensures), c .before .before .before .before .before .if3 .left)
+    omega (arith, number-small b p ix n u (q .a) (s .pre) (c .before .before .before .before .before .before .before .before .entry .result) (c .before .before .before .before .before .before .before .before .entry .ensures), c .before .before .before .if3 .left)
 
 bit-vector-requires : tie.Need-bit-vector-requires
 bit-vector-requires c κs =
-    let s = c .before .before .before .before .before .before .before .before .before .before .before .before .before .before .before .before .before .before in
+    let s = c .before .before .before .before .before .before .before .before .before .before .before .before .before .before in
     s .pre .good
-
-same-length-7 : tie.Need-same-length-7
-same-length-7 c = search needs
-
-same-length-8 : tie.Need-same-length-8
-same-length-8 c = search needs
-
-same-length-9 : tie.Need-same-length-9
-same-length-9 c = search needs
-
-same-length-10 : tie.Need-same-length-10
-same-length-10 c = search needs
-
-same-length-11 : tie.Need-same-length-11
-same-length-11 c = search needs
 
 returns-4 : tie.Need-returns-4
 returns-4 c =
-    let s = c .before .before .before .before .before .before .before .before .before .before .before .before .before .before .before .before .before .before .before .before .before .before .before .before .before .before .before .before .before in
+    let s = c .before .before .before .before .before .before .before .before .before .before .before .before .before .before .before .before .before .before .before .before .before in
     let q = s .args in
     let b = q .records .now in
     let p = q .places .now in
-    let hs = q .heads .now in
-    let ns = q .next .now in
-    let zs = q .sizes .now in
+    let ix = q .index .now in
     let n = q .count in
     let u = q .used in
-    judged-as (extract-fits b p hs ns zs n u (q .a) (s .pre) (q .i) (q .j) (c .before .before .before .before .before .before .before .before .before .before .before .before .before .before .before .before .before .before .before .before .if1 .left) (c .before .before .before .before .before .before .before .before .before .before .before .before .before .before .before .before .before .before .before .before .before .entry .result) (c .before .before .before .before .before .before .before .before .before .before .before .before .before .before .before .before .before .before .before .before .before .entry .ensures) (c .before .before .before .before .before .before .before .before .before .before .before .before .before .before .before .before .before .before .if2 .left) (c .before .before .before .before .before .before .before .before .before .before .before .before .before .before .before .before .if3 .left)) (c .before .before .before .before .before .before .before .before .before .before .bit-vector .ensures)
+    judged-as (extract-fits b p ix n u (q .a) (s .pre) (q .i) (q .j) (c .before .before .before .before .before .before .before .before .before .before .before .before .before .before .if1 .left) (c .before .before .before .before .before .before .before .before .before .before .before .before .before .before .before .entry .result) (c .before .before .before .before .before .before .before .before .before .before .before .before .before .before .before .entry .ensures) (c .before .before .before .before .before .before .before .before .before .before .before .before .if2 .left) (c .before .before .before .before .before .before .before .before .before .before .if3 .left)) (c .before .before .before .before .before .before .bit-vector .ensures)
 
 pub extracted-spec : {M : Type 1} → statement M
-extracted-spec = tie.close (tie.spec entry-requires refuse-requires same-length same-length-2 returns refuse-requires-2 same-length-3 same-length-4 returns-2 refuse-requires-3 same-length-5 same-length-6 returns-3 add-bit-vector bit-vector-requires same-length-7 same-length-8 same-length-9 same-length-10 same-length-11 returns-4)
+extracted-spec = tie.close (tie.spec entry-requires (λ c κs. search needs) (λ c. search needs) (λ c. search needs) returns (λ c κs. search needs) (λ c. search needs) (λ c. search needs) returns-2 (λ c κs. search needs) (λ c. search needs) (λ c. search needs) returns-3 add-bit-vector bit-vector-requires (λ c. search needs) (λ c. search needs) (λ c. search needs) returns-4)

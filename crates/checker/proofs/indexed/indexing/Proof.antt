@@ -10,138 +10,99 @@ use Rattle.checking.specs.Contract.{argsOf}
 use Rattle.checker.proofs.indexed.indexing.Statement.{statement}
 use Rattle.checker.proofs.indexed.indexing.Tie as tie
 
-refuse-requires : tie.Need-refuse-requires
-refuse-requires c κs = search needs
-
 returns : tie.Need-returns
 returns c =
+    let s = c .before .before .before .before .before .before .before .before in
+    let q = s .args in
+    let b = q .records .now in
+    let p = q .places .now in
+    let ix = q .index .now in
+    let n = q .count in
+    let u = q .used in
+    let z = q .sheet .now in
+    let xs = q .starts .now in
+    let a = q .args .now in
+    judged-as (unranked-first (q .op) (constantsIn z xs (q .second) (q .seconds)) (argsOf b p n a (q .n)) (c .before .if1 .taken)) (answered-as (c .refuse .ensures) (answer-refused b p ix n u (s .pre .good) NoRank))
+
+returns-2 : tie.Need-returns-2
+returns-2 c =
+    let s = c .before .before .before .before .before .before .before .before .before in
+    let q = s .args in
+    let b = q .records .now in
+    let p = q .places .now in
+    let ix = q .index .now in
+    let n = q .count in
+    let u = q .used in
+    let z = q .sheet .now in
+    let xs = q .starts .now in
+    let a = q .args .now in
+    judged-as (unranked-second (q .op) (constantsIn z xs (q .second) (q .seconds)) (argsOf b p n a (q .n)) (c .before .before .if1 .left) (c .before .if2 .taken)) (answered-as (c .refuse2 .ensures) (answer-refused b p ix n u (s .pre .good) NoRank))
+
+returns-3 : tie.Need-returns-3
+returns-3 c =
     let s = c .before .before .before .before .before .before .before .before .before .before in
     let q = s .args in
     let b = q .records .now in
     let p = q .places .now in
-    let hs = q .heads .now in
-    let ns = q .next .now in
-    let zs = q .sizes .now in
+    let ix = q .index .now in
     let n = q .count in
     let u = q .used in
     let z = q .sheet .now in
     let xs = q .starts .now in
     let a = q .args .now in
-    judged-as (unranked-first (q .op) (constantsIn z xs (q .second) (q .seconds)) (argsOf b p n a (q .n)) (c .before .if1 .taken)) (answered-as (c .refuse .ensures) (answer-refused b p hs ns zs n u (s .pre .good) NoRank))
+    judged-as (unranked-third (q .op) (constantsIn z xs (q .second) (q .seconds)) (argsOf b p n a (q .n)) (c .before .before .before .if1 .left) (c .before .before .if2 .left) (c .before .if3 .taken)) (answered-as (c .refuse3 .ensures) (answer-refused b p ix n u (s .pre .good) NoRank))
 
-refuse-requires-2 : tie.Need-refuse-requires-2
-refuse-requires-2 c κs = search needs
-
-returns-2 : tie.Need-returns-2
-returns-2 c =
+returns-4 : tie.Need-returns-4
+returns-4 c =
     let s = c .before .before .before .before .before .before .before .before .before .before .before in
     let q = s .args in
     let b = q .records .now in
     let p = q .places .now in
-    let hs = q .heads .now in
-    let ns = q .next .now in
-    let zs = q .sizes .now in
+    let ix = q .index .now in
     let n = q .count in
     let u = q .used in
     let z = q .sheet .now in
     let xs = q .starts .now in
     let a = q .args .now in
-    judged-as (unranked-second (q .op) (constantsIn z xs (q .second) (q .seconds)) (argsOf b p n a (q .n)) (c .before .before .if1 .left) (c .before .if2 .taken)) (answered-as (c .refuse2 .ensures) (answer-refused b p hs ns zs n u (s .pre .good) NoRank))
-
-refuse-requires-3 : tie.Need-refuse-requires-3
-refuse-requires-3 c κs = search needs
-
-returns-3 : tie.Need-returns-3
-returns-3 c =
-    let s = c .before .before .before .before .before .before .before .before .before .before .before .before in
-    let q = s .args in
-    let b = q .records .now in
-    let p = q .places .now in
-    let hs = q .heads .now in
-    let ns = q .next .now in
-    let zs = q .sizes .now in
-    let n = q .count in
-    let u = q .used in
-    let z = q .sheet .now in
-    let xs = q .starts .now in
-    let a = q .args .now in
-    judged-as (unranked-third (q .op) (constantsIn z xs (q .second) (q .seconds)) (argsOf b p n a (q .n)) (c .before .before .before .if1 .left) (c .before .before .if2 .left) (c .before .if3 .taken)) (answered-as (c .refuse3 .ensures) (answer-refused b p hs ns zs n u (s .pre .good) NoRank))
-
-refuse-requires-4 : tie.Need-refuse-requires-4
-refuse-requires-4 c κs = search needs
-
-returns-4 : tie.Need-returns-4
-returns-4 c =
-    let s = c .before .before .before .before .before .before .before .before .before .before .before .before .before in
-    let q = s .args in
-    let b = q .records .now in
-    let p = q .places .now in
-    let hs = q .heads .now in
-    let ns = q .next .now in
-    let zs = q .sizes .now in
-    let n = q .count in
-    let u = q .used in
-    let z = q .sheet .now in
-    let xs = q .starts .now in
-    let a = q .args .now in
-    judged-as (indexing-count b p hs ns zs n u z xs (q .second) (q .seconds) a (q .n) (s .pre) (q .op) (c .before .before .before .before .if1 .left) (c .before .before .before .if2 .left) (c .before .before .if3 .left) (c .before .if4 .taken)) (answered-as (c .refuse4 .ensures) (answer-refused b p hs ns zs n u (s .pre .good) Count))
+    judged-as (indexing-count b p ix n u z xs (q .second) (q .seconds) a (q .n) (s .pre) (q .op) (c .before .before .before .before .if1 .left) (c .before .before .before .if2 .left) (c .before .before .if3 .left) (c .before .if4 .taken)) (answered-as (c .refuse4 .ensures) (answer-refused b p ix n u (s .pre .good) Count))
 
 indices-of-requires : tie.Need-indices-of-requires
 indices-of-requires c κs =
-    let s = c .before .before .before .before .before .before .before .before .before .before .before .before in
+    let s = c .before .before .before .before .before .before .before .before .before .before in
     s .pre .constants
 
 u16-at-requires : tie.Need-u16-at-requires
 u16-at-requires c κs =
-    let s = c .before .before .before .before .before .before .before .before .before .before .before .before .before in
+    let s = c .before .before .before .before .before .before .before .before .before .before .before in
     omega (arith, s .pre .within, c .before .if4 .left)
 
 indexed-by-requires : tie.Need-indexed-by-requires
 indexed-by-requires c κs =
-    let s = c .before .before .before .before .before .before .before .before .before .before .before .before .before .before .before .before .before .before .before in
+    let s = c .before .before .before .before .before .before .before .before .before .before .before .before .before .before .before in
     let q = s .args in
     let b = q .records .now in
     let p = q .places .now in
-    let hs = q .heads .now in
-    let ns = q .next .now in
-    let zs = q .sizes .now in
+    let ix = q .index .now in
     let n = q .count in
     let u = q .used in
     let z = q .sheet .now in
     let xs = q .starts .now in
     let a = q .args .now in
-    indexed-asks b p hs ns zs n u z xs (q .second) (q .seconds) a (q .n) (s .pre) (q .op) (c .before .before .before .before .before .before .before .before .before .before .if1 .left) (c .before .before .before .before .before .before .before .before .before .if2 .left) (c .before .before .before .before .before .before .before .before .if3 .left) (c .before .before .before .before .before .before .before .if4 .left) (c .before .before .before .before .before .before .indices-of .result) (c .before .before .before .before .before .before .indices-of .ensures) (c .before .before .before .before .before .u16-at .result) (c .before .before .before .before .before .u16-at .ensures .0)
-
-same-length : tie.Need-same-length
-same-length c = search needs
-
-same-length-2 : tie.Need-same-length-2
-same-length-2 c = search needs
-
-same-length-3 : tie.Need-same-length-3
-same-length-3 c = search needs
-
-same-length-4 : tie.Need-same-length-4
-same-length-4 c = search needs
-
-same-length-5 : tie.Need-same-length-5
-same-length-5 c = search needs
+    indexed-asks b p ix n u z xs (q .second) (q .seconds) a (q .n) (s .pre) (q .op) (c .before .before .before .before .before .before .before .before .if1 .left) (c .before .before .before .before .before .before .before .if2 .left) (c .before .before .before .before .before .before .if3 .left) (c .before .before .before .before .before .if4 .left) (c .before .before .before .before .indices-of .result) (c .before .before .before .before .indices-of .ensures) (c .before .before .before .u16-at .result) (c .before .before .before .u16-at .ensures .0)
 
 returns-5 : tie.Need-returns-5
 returns-5 c =
-    let s = c .before .before .before .before .before .before .before .before .before .before .before .before .before .before .before .before .before .before .before .before .before .before .before .before .before .before .before .before .before .before in
+    let s = c .before .before .before .before .before .before .before .before .before .before .before .before .before .before .before .before .before .before .before .before .before .before in
     let q = s .args in
     let b = q .records .now in
     let p = q .places .now in
-    let hs = q .heads .now in
-    let ns = q .next .now in
-    let zs = q .sizes .now in
+    let ix = q .index .now in
     let n = q .count in
     let u = q .used in
     let z = q .sheet .now in
     let xs = q .starts .now in
     let a = q .args .now in
-    judged-as (indexing-is b p hs ns zs n u z xs (q .second) (q .seconds) a (q .n) (s .pre) (q .op) (c .before .before .before .before .before .before .before .before .before .before .before .before .before .before .before .before .before .before .before .before .before .if1 .left) (c .before .before .before .before .before .before .before .before .before .before .before .before .before .before .before .before .before .before .before .before .if2 .left) (c .before .before .before .before .before .before .before .before .before .before .before .before .before .before .before .before .before .before .before .if3 .left) (c .before .before .before .before .before .before .before .before .before .before .before .before .before .before .before .before .before .before .if4 .left) (c .before .before .before .before .before .before .before .before .before .before .before .before .before .before .before .before .before .indices-of .result) (c .before .before .before .before .before .before .before .before .before .before .before .before .before .before .before .before .before .indices-of .ensures) (c .before .before .before .before .before .before .before .before .before .before .before .before .before .before .before .before .u16-at .result) (c .before .before .before .before .before .before .before .before .before .before .before .before .before .before .before .before .u16-at .ensures .0)) (c .before .before .before .before .before .before .before .before .before .before .indexed-by .ensures)
+    judged-as (indexing-is b p ix n u z xs (q .second) (q .seconds) a (q .n) (s .pre) (q .op) (c .before .before .before .before .before .before .before .before .before .before .before .before .before .before .before .if1 .left) (c .before .before .before .before .before .before .before .before .before .before .before .before .before .before .if2 .left) (c .before .before .before .before .before .before .before .before .before .before .before .before .before .if3 .left) (c .before .before .before .before .before .before .before .before .before .before .before .before .if4 .left) (c .before .before .before .before .before .before .before .before .before .before .before .indices-of .result) (c .before .before .before .before .before .before .before .before .before .before .before .indices-of .ensures) (c .before .before .before .before .before .before .before .before .before .before .u16-at .result) (c .before .before .before .before .before .before .before .before .before .before .u16-at .ensures .0)) (c .before .before .before .before .before .before .indexed-by .ensures)
 
 pub indexing-spec : {M : Type 1} → statement M
-indexing-spec = tie.close (tie.spec refuse-requires returns refuse-requires-2 returns-2 refuse-requires-3 returns-3 refuse-requires-4 returns-4 indices-of-requires u16-at-requires indexed-by-requires same-length same-length-2 same-length-3 same-length-4 same-length-5 returns-5)
+indexing-spec = tie.close (tie.spec (λ c κs. search needs) returns (λ c κs. search needs) returns-2 (λ c κs. search needs) returns-3 (λ c κs. search needs) returns-4 indices-of-requires u16-at-requires indexed-by-requires (λ c. search needs) (λ c. search needs) (λ c. search needs) returns-5)

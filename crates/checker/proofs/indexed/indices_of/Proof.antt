@@ -32,9 +32,6 @@ index-at-requires c κs =
     let xs = q .starts .now in
     index-first z xs (q .second) (q .seconds) (s .pre) (positive (q .seconds) (c .before .if1 .left))
 
-enum-known-first : tie.Need-enum-known-first
-enum-known-first c = search needs
-
 returns-3 : tie.Need-returns-3
 returns-3 c =
     let s = c .before .before .before .before .before .before .before .before .before in
@@ -55,15 +52,6 @@ index-at-requires-2 c κs =
     let z = q .sheet .now in
     let xs = q .starts .now in
     index-second z xs (q .second) (q .seconds) (s .pre) (omega (arith, c .before .before .before .before .before .before .if1 .left, c .if3 .left))
-
-enum-known-last : tie.Need-enum-known-last
-enum-known-last c = search needs
-
-enum-told : tie.Need-enum-told
-enum-told c = search needs
-
-enum-told-2 : tie.Need-enum-told-2
-enum-told-2 c = search needs
 
 returns-4 : tie.Need-returns-4
 returns-4 c =
@@ -90,4 +78,4 @@ returns-6 c =
     indices-other z xs (q .second) (c .before .before .index-at .result) (c .before .before .index-at .ensures) (q .seconds) (c .before .before .before .before .if1 .left) (c .enum-told2 .given .1)
 
 pub indices-of-spec : {M : Type 1} → statement M
-indices-of-spec = tie.close (tie.spec returns returns-2 index-at-requires enum-known-first returns-3 add-index-at index-at-requires-2 enum-known-last enum-told enum-told-2 returns-4 returns-5 returns-6)
+indices-of-spec = tie.close (tie.spec returns returns-2 index-at-requires (λ c. search needs) returns-3 add-index-at index-at-requires-2 (λ c. search needs) (λ c. search needs) (λ c. search needs) returns-4 returns-5 returns-6)

@@ -10,9 +10,6 @@ use mathlib.Core.Bool.{cond}
 use Rattle.checker.proofs.indexed.kept.Statement.{statement}
 use Rattle.checker.proofs.indexed.kept.Tie as tie
 
-found-requires : tie.Need-found-requires
-found-requires c κs = search needs
-
 returns : tie.Need-returns
 returns c =
     let s = c .before .before in
@@ -20,9 +17,6 @@ returns c =
     let n = q .count in
     let u = q .used in
     c .found .ensures ∙ ap (λ (t : Bool). cond t (accepting (q .a) n u) (refusing Misfit n u)) (sym (eq-eqb (q .kind) (q .wanted) (c .before .if1 .taken)))
-
-refuse-requires : tie.Need-refuse-requires
-refuse-requires c κs = search needs
 
 returns-2 : tie.Need-returns-2
 returns-2 c =
@@ -33,4 +27,4 @@ returns-2 c =
     c .refuse .ensures ∙ ap (λ (t : Bool). cond t (accepting (q .a) n u) (refusing Misfit n u)) (sym (ne-eqb (q .kind) (q .wanted) (c .before .if1 .left)))
 
 pub kept-spec : {M : Type 1} → statement M
-kept-spec = tie.close (tie.spec found-requires returns refuse-requires returns-2)
+kept-spec = tie.close (tie.spec (λ c κs. search needs) returns (λ c κs. search needs) returns-2)

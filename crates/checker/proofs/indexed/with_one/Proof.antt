@@ -13,251 +13,139 @@ use Rattle.checker.proofs.indexed.with_one.Tie as tie
 
 entry-requires : tie.Need-entry-requires
 entry-requires c κs =
-    let s = c .before .before .before .before .before .before .before in
+    let s = c .before .before .before .before .before in
     let q = s .args in
     let b = q .records .now in
     let p = q .places .now in
-    let hs = q .heads .now in
-    let ns = q .next .now in
-    let zs = q .sizes .now in
+    let ix = q .index .now in
     let n = q .count in
     let u = q .used in
-    argument-entry b p hs ns zs n u (q .a) (record { good = s .pre .good; known = s .pre .known })
-
-refuse-requires : tie.Need-refuse-requires
-refuse-requires c κs = search needs
-
-same-length : tie.Need-same-length
-same-length c = search needs
-
-same-length-2 : tie.Need-same-length-2
-same-length-2 c = search needs
+    argument-entry b p ix n u (q .a) (record { good = s .pre .good; known = s .pre .known })
 
 returns : tie.Need-returns
 returns c =
-    let s = c .before .before .before .before .before .before .before .before .before .before .before in
+    let s = c .before .before .before .before .before .before .before .before .before in
     let q = s .args in
     let b = q .records .now in
     let p = q .places .now in
-    let hs = q .heads .now in
-    let ns = q .next .now in
-    let zs = q .sizes .now in
+    let ix = q .index .now in
     let n = q .count in
     let u = q .used in
-    judged-as (repeat-none b p hs ns zs n u (q .a) (record { good = s .pre .good; known = s .pre .known }) (c .before .before .before .entry .result) (c .before .before .before .entry .ensures) (q .op) (q .i) (c .before .before .match .keys1) (c .before .if1 .taken)) (answered-as (c .refuse .ensures) (answer-refused b p hs ns zs n u (s .pre .good) Count))
+    judged-as (repeat-none b p ix n u (q .a) (record { good = s .pre .good; known = s .pre .known }) (c .before .before .before .entry .result) (c .before .before .before .entry .ensures) (q .op) (q .i) (c .before .before .match .keys1) (c .before .if1 .taken)) (answered-as (c .refuse .ensures) (answer-refused b p ix n u (s .pre .good) Count))
 
 mul-widened : tie.Need-mul-widened
 mul-widened c =
-    let s = c .before .before .before .before .before .before .before .before .before .before .before .before .before .before .before in
+    let s = c .before .before .before .before .before .before .before .before .before .before .before in
     let q = s .args in
     let b = q .records .now in
     let p = q .places .now in
-    let hs = q .heads .now in
-    let ns = q .next .now in
-    let zs = q .sizes .now in
+    let ix = q .index .now in
     let n = q .count in
     let u = q .used in
-    omega (arith, product-small b p hs ns zs n u (q .a) (record { good = s .pre .good; known = s .pre .known }) (c .before .before .before .before .before .before .before .entry .result) (c .before .before .before .before .before .before .before .entry .ensures) (q .i) (s .pre .small))
+    omega (arith, product-small b p ix n u (q .a) (record { good = s .pre .good; known = s .pre .known }) (c .before .before .before .before .before .entry .result) (c .before .before .before .before .before .entry .ensures) (q .i) (s .pre .small))
 
 widened-requires : tie.Need-widened-requires
 widened-requires c κs =
-    let s = c .before .before .before .before .before .before .before .before .before .before .before .before .before .before .before in
+    let s = c .before .before .before .before .before .before .before .before .before .before .before in
     s .pre .good
-
-refuse-requires-2 : tie.Need-refuse-requires-2
-refuse-requires-2 c κs = search needs
-
-same-length-3 : tie.Need-same-length-3
-same-length-3 c = search needs
-
-same-length-4 : tie.Need-same-length-4
-same-length-4 c = search needs
 
 returns-2 : tie.Need-returns-2
 returns-2 c =
-    let s = c .before .before .before .before .before .before .before .before .before .before .before in
+    let s = c .before .before .before .before .before .before .before .before .before in
     let q = s .args in
     let b = q .records .now in
     let p = q .places .now in
-    let hs = q .heads .now in
-    let ns = q .next .now in
-    let zs = q .sizes .now in
+    let ix = q .index .now in
     let n = q .count in
     let u = q .used in
-    judged-as (int-none b p hs ns zs n u (q .a) (record { good = s .pre .good; known = s .pre .known }) (c .before .before .before .entry .result) (c .before .before .before .entry .ensures) (q .op) (q .i) (c .before .before .match .keys2) (c .before .if2 .taken)) (answered-as (c .refuse2 .ensures) (answer-refused b p hs ns zs n u (s .pre .good) Count))
+    judged-as (int-none b p ix n u (q .a) (record { good = s .pre .good; known = s .pre .known }) (c .before .before .before .entry .result) (c .before .before .before .entry .ensures) (q .op) (q .i) (c .before .before .match .keys2) (c .before .if2 .taken)) (answered-as (c .refuse2 .ensures) (answer-refused b p ix n u (s .pre .good) Count))
 
 widened-requires-2 : tie.Need-widened-requires-2
 widened-requires-2 c κs =
-    let s = c .before .before .before .before .before .before .before .before .before .before .before .before .before .before .before in
+    let s = c .before .before .before .before .before .before .before .before .before .before .before in
     s .pre .good
-
-kept-requires : tie.Need-kept-requires
-kept-requires c κs = search needs
 
 add-widened : tie.Need-add-widened
 add-widened c =
-    let s = c .before .before .before .before .before .before .before .before .before .before .before .before .before .before .before .before in
+    let s = c .before .before .before .before .before .before .before .before .before .before .before .before in
     let q = s .args in
     let b = q .records .now in
     let p = q .places .now in
-    let hs = q .heads .now in
-    let ns = q .next .now in
-    let zs = q .sizes .now in
+    let ix = q .index .now in
     let n = q .count in
     let u = q .used in
-    omega (arith, number-small b p hs ns zs n u (q .a) (record { good = s .pre .good; known = s .pre .known }) (c .before .before .before .before .before .before .before .before .entry .result) (c .before .before .before .before .before .before .before .before .entry .ensures), s .pre .small)
+    omega (arith, number-small b p ix n u (q .a) (record { good = s .pre .good; known = s .pre .known }) (c .before .before .before .before .before .before .entry .result) (c .before .before .before .before .before .before .entry .ensures), s .pre .small)
 
 widened-requires-3 : tie.Need-widened-requires-3
 widened-requires-3 c κs =
-    let s = c .before .before .before .before .before .before .before .before .before .before .before .before .before .before .before .before in
+    let s = c .before .before .before .before .before .before .before .before .before .before .before .before in
     s .pre .good
-
-kept-requires-2 : tie.Need-kept-requires-2
-kept-requires-2 c κs = search needs
-
-refuse-requires-3 : tie.Need-refuse-requires-3
-refuse-requires-3 c κs = search needs
-
-same-length-5 : tie.Need-same-length-5
-same-length-5 c = search needs
-
-same-length-6 : tie.Need-same-length-6
-same-length-6 c = search needs
-
-same-length-7 : tie.Need-same-length-7
-same-length-7 c = search needs
-
-same-length-8 : tie.Need-same-length-8
-same-length-8 c = search needs
-
-same-length-9 : tie.Need-same-length-9
-same-length-9 c = search needs
 
 returns-3 : tie.Need-returns-3
 returns-3 c =
-    let s = c .before .before .before .before .before .before .before .before .before .before .before .before .before .before .before .before .before .before .before .before .before .before .before .before .before .before in
+    let s = c .before .before .before .before .before .before .before .before .before .before .before .before .before .before .before .before .before .before in
     let q = s .args in
     let b = q .records .now in
     let p = q .places .now in
-    let hs = q .heads .now in
-    let ns = q .next .now in
-    let zs = q .sizes .now in
+    let ix = q .index .now in
     let n = q .count in
     let u = q .used in
-    judged-as (repeat-is b p hs ns zs n u (q .a) (record { good = s .pre .good; known = s .pre .known }) (c .before .before .before .before .before .before .before .before .before .before .before .before .before .before .before .before .before .before .entry .result) (c .before .before .before .before .before .before .before .before .before .before .before .before .before .before .before .before .before .before .entry .ensures) (q .op) (q .i) (c .before .before .before .before .before .before .before .before .before .before .before .before .before .before .before .before .before .match .keys1) (c .before .before .before .before .before .before .before .before .before .before .before .before .before .before .before .before .if1 .left)) (c .before .before .before .before .before .before .before .before .before .before .widened .ensures)
-
-same-length-10 : tie.Need-same-length-10
-same-length-10 c = search needs
-
-same-length-11 : tie.Need-same-length-11
-same-length-11 c = search needs
-
-same-length-12 : tie.Need-same-length-12
-same-length-12 c = search needs
-
-same-length-13 : tie.Need-same-length-13
-same-length-13 c = search needs
-
-same-length-14 : tie.Need-same-length-14
-same-length-14 c = search needs
+    judged-as (repeat-is b p ix n u (q .a) (record { good = s .pre .good; known = s .pre .known }) (c .before .before .before .before .before .before .before .before .before .before .before .before .entry .result) (c .before .before .before .before .before .before .before .before .before .before .before .before .entry .ensures) (q .op) (q .i) (c .before .before .before .before .before .before .before .before .before .before .before .match .keys1) (c .before .before .before .before .before .before .before .before .before .before .if1 .left)) (c .before .before .before .before .before .before .widened .ensures)
 
 returns-4 : tie.Need-returns-4
 returns-4 c =
-    let s = c .before .before .before .before .before .before .before .before .before .before .before .before .before .before .before .before .before .before .before .before .before .before .before .before .before .before in
+    let s = c .before .before .before .before .before .before .before .before .before .before .before .before .before .before .before .before .before .before in
     let q = s .args in
     let b = q .records .now in
     let p = q .places .now in
-    let hs = q .heads .now in
-    let ns = q .next .now in
-    let zs = q .sizes .now in
+    let ix = q .index .now in
     let n = q .count in
     let u = q .used in
-    judged-as (int-is b p hs ns zs n u (q .a) (record { good = s .pre .good; known = s .pre .known }) (c .before .before .before .before .before .before .before .before .before .before .before .before .before .before .before .before .before .before .entry .result) (c .before .before .before .before .before .before .before .before .before .before .before .before .before .before .before .before .before .before .entry .ensures) (q .op) (q .i) (c .before .before .before .before .before .before .before .before .before .before .before .before .before .before .before .before .before .match .keys2) (c .before .before .before .before .before .before .before .before .before .before .before .before .before .before .before .before .if2 .left)) (c .before .before .before .before .before .before .before .before .before .before .widened2 .ensures)
-
-same-length-15 : tie.Need-same-length-15
-same-length-15 c = search needs
-
-same-length-16 : tie.Need-same-length-16
-same-length-16 c = search needs
+    judged-as (int-is b p ix n u (q .a) (record { good = s .pre .good; known = s .pre .known }) (c .before .before .before .before .before .before .before .before .before .before .before .before .entry .result) (c .before .before .before .before .before .before .before .before .before .before .before .before .entry .ensures) (q .op) (q .i) (c .before .before .before .before .before .before .before .before .before .before .before .match .keys2) (c .before .before .before .before .before .before .before .before .before .before .if2 .left)) (c .before .before .before .before .before .before .widened2 .ensures)
 
 returns-5 : tie.Need-returns-5
 returns-5 c =
-    let s = c .before .before .before .before .before .before .before .before .before .before in
+    let s = c .before .before .before .before .before .before .before .before in
     let q = s .args in
     let b = q .records .now in
     let p = q .places .now in
-    let hs = q .heads .now in
-    let ns = q .next .now in
-    let zs = q .sizes .now in
+    let ix = q .index .now in
     let n = q .count in
     let u = q .used in
-    answered-as {q = keptAs n u (q .a) (c .before .before .entry .result .kind) 7} (c .kept .ensures) (power-is b p hs ns zs n u (q .a) (record { good = s .pre .good; known = s .pre .known }) (c .before .before .entry .result) (c .before .before .entry .ensures) (q .op) (q .i) (c .before .match .keys3))
-
-same-length-17 : tie.Need-same-length-17
-same-length-17 c = search needs
-
-same-length-18 : tie.Need-same-length-18
-same-length-18 c = search needs
-
-same-length-19 : tie.Need-same-length-19
-same-length-19 c = search needs
-
-same-length-20 : tie.Need-same-length-20
-same-length-20 c = search needs
-
-same-length-21 : tie.Need-same-length-21
-same-length-21 c = search needs
+    answered-as {q = keptAs n u (q .a) (c .before .before .entry .result .kind) 7} (c .kept .ensures) (power-is b p ix n u (q .a) (record { good = s .pre .good; known = s .pre .known }) (c .before .before .entry .result) (c .before .before .entry .ensures) (q .op) (q .i) (c .before .match .keys3))
 
 returns-6 : tie.Need-returns-6
 returns-6 c =
-    let s = c .before .before .before .before .before .before .before .before .before .before .before .before .before .before .before .before .before .before .before .before .before .before .before .before .before .before .before in
+    let s = c .before .before .before .before .before .before .before .before .before .before .before .before .before .before .before .before .before .before .before in
     let q = s .args in
     let b = q .records .now in
     let p = q .places .now in
-    let hs = q .heads .now in
-    let ns = q .next .now in
-    let zs = q .sizes .now in
+    let ix = q .index .now in
     let n = q .count in
     let u = q .used in
-    judged-as (extend-is b p hs ns zs n u (q .a) (record { good = s .pre .good; known = s .pre .known }) (c .before .before .before .before .before .before .before .before .before .before .before .before .before .before .before .before .before .before .before .entry .result) (c .before .before .before .before .before .before .before .before .before .before .before .before .before .before .before .before .before .before .before .entry .ensures) (q .op) (q .i) (c .before .before .before .before .before .before .before .before .before .before .before .before .before .before .before .before .before .if3 .left) (c .before .before .before .before .before .before .before .before .before .before .before .before .before .before .before .before .if4 .taken)) (c .before .before .before .before .before .before .before .before .before .before .widened3 .ensures)
-
-same-length-22 : tie.Need-same-length-22
-same-length-22 c = search needs
-
-same-length-23 : tie.Need-same-length-23
-same-length-23 c = search needs
+    judged-as (extend-is b p ix n u (q .a) (record { good = s .pre .good; known = s .pre .known }) (c .before .before .before .before .before .before .before .before .before .before .before .before .before .entry .result) (c .before .before .before .before .before .before .before .before .before .before .before .before .before .entry .ensures) (q .op) (q .i) (c .before .before .before .before .before .before .before .before .before .before .before .if3 .left) (c .before .before .before .before .before .before .before .before .before .before .if4 .taken)) (c .before .before .before .before .before .before .widened3 .ensures)
 
 returns-7 : tie.Need-returns-7
 returns-7 c =
-    let s = c .before .before .before .before .before .before .before .before .before .before .before .before .before in
-    let q = s .args in
-    let b = q .records .now in
-    let p = q .places .now in
-    let hs = q .heads .now in
-    let ns = q .next .now in
-    let zs = q .sizes .now in
-    let n = q .count in
-    let u = q .used in
-    answered-as {q = keptAs n u (q .a) (c .before .before .before .before .before .entry .result .kind) 9} (c .kept2 .ensures) (rotate-is b p hs ns zs n u (q .a) (record { good = s .pre .good; known = s .pre .known }) (c .before .before .before .before .before .entry .result) (c .before .before .before .before .before .entry .ensures) (q .op) (q .i) (c .before .before .if4 .left) (c .before .if5 .taken))
-
-same-length-24 : tie.Need-same-length-24
-same-length-24 c = search needs
-
-same-length-25 : tie.Need-same-length-25
-same-length-25 c = search needs
-
-returns-8 : tie.Need-returns-8
-returns-8 c =
     let s = c .before .before .before .before .before .before .before .before .before .before .before in
     let q = s .args in
     let b = q .records .now in
     let p = q .places .now in
-    let hs = q .heads .now in
-    let ns = q .next .now in
-    let zs = q .sizes .now in
+    let ix = q .index .now in
     let n = q .count in
     let u = q .used in
-    judged-as (one-other (q .op) (q .i) (sortAt b p n (q .a)) (⊎-map (λ x. x .taken) (λ x. x .2 .left) (c .before .if3 .came)) (c .before .before .match .rest .0 .0 .1) (c .before .before .match .rest .0 .1) (c .before .before .match .rest .1)) (answered-as (c .refuse3 .ensures) (answer-refused b p hs ns zs n u (s .pre .good) Count))
+    answered-as {q = keptAs n u (q .a) (c .before .before .before .before .before .entry .result .kind) 9} (c .kept2 .ensures) (rotate-is b p ix n u (q .a) (record { good = s .pre .good; known = s .pre .known }) (c .before .before .before .before .before .entry .result) (c .before .before .before .before .before .entry .ensures) (q .op) (q .i) (c .before .before .if4 .left) (c .before .if5 .taken))
+
+returns-8 : tie.Need-returns-8
+returns-8 c =
+    let s = c .before .before .before .before .before .before .before .before .before in
+    let q = s .args in
+    let b = q .records .now in
+    let p = q .places .now in
+    let ix = q .index .now in
+    let n = q .count in
+    let u = q .used in
+    judged-as (one-other (q .op) (q .i) (sortAt b p n (q .a)) (⊎-map (λ x. x .taken) (λ x. x .2 .left) (c .before .if3 .came)) (c .before .before .match .rest .0 .0 .1) (c .before .before .match .rest .0 .1) (c .before .before .match .rest .1)) (answered-as (c .refuse3 .ensures) (answer-refused b p ix n u (s .pre .good) Count))
 
 pub with-one-spec : {M : Type 1} → statement M
-with-one-spec = tie.close (tie.spec entry-requires refuse-requires same-length same-length-2 returns mul-widened widened-requires refuse-requires-2 same-length-3 same-length-4 returns-2 widened-requires-2 kept-requires add-widened widened-requires-3 kept-requires-2 refuse-requires-3 same-length-5 same-length-6 same-length-7 same-length-8 same-length-9 returns-3 same-length-10 same-length-11 same-length-12 same-length-13 same-length-14 returns-4 same-length-15 same-length-16 returns-5 same-length-17 same-length-18 same-length-19 same-length-20 same-length-21 returns-6 same-length-22 same-length-23 returns-7 same-length-24 same-length-25 returns-8)
+with-one-spec = tie.close (tie.spec entry-requires (λ c κs. search needs) (λ c. search needs) (λ c. search needs) returns mul-widened widened-requires (λ c κs. search needs) (λ c. search needs) (λ c. search needs) returns-2 widened-requires-2 (λ c κs. search needs) add-widened widened-requires-3 (λ c κs. search needs) (λ c κs. search needs) (λ c. search needs) (λ c. search needs) (λ c. search needs) returns-3 (λ c. search needs) (λ c. search needs) (λ c. search needs) returns-4 (λ c. search needs) (λ c. search needs) returns-5 (λ c. search needs) (λ c. search needs) (λ c. search needs) returns-6 (λ c. search needs) (λ c. search needs) returns-7 (λ c. search needs) (λ c. search needs) returns-8)

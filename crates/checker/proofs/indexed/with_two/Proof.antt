@@ -11,83 +11,50 @@ use Rattle.checker.proofs.indexed.with_two.Tie as tie
 
 extracted-requires : tie.Need-extracted-requires
 extracted-requires c κs =
-    let s = c .before .before .before .before .before .before .before .before .before .before .before in
+    let s = c .before .before .before .before .before .before .before in
     s .pre
-
-same-length : tie.Need-same-length
-same-length c = search needs
-
-same-length-2 : tie.Need-same-length-2
-same-length-2 c = search needs
-
-same-length-3 : tie.Need-same-length-3
-same-length-3 c = search needs
-
-same-length-4 : tie.Need-same-length-4
-same-length-4 c = search needs
-
-same-length-5 : tie.Need-same-length-5
-same-length-5 c = search needs
 
 returns : tie.Need-returns
 returns c =
-    let s = c .before .before .before .before .before .before .before .before .before .before .before .before .before .before .before .before .before .before .before .before .before .before in
+    let s = c .before .before .before .before .before .before .before .before .before .before .before .before .before .before in
     let q = s .args in
     let b = q .records .now in
     let p = q .places .now in
     let n = q .count in
-    judged-as (two-extract (q .op) (q .i) (q .j) (sortAt b p n (q .a)) (c .before .before .before .before .before .before .before .before .before .before .before .before .before .before .before .before .if1 .taken)) (c .before .before .before .before .before .before .before .before .before .before .extracted .ensures)
+    judged-as (two-extract (q .op) (q .i) (q .j) (sortAt b p n (q .a)) (c .before .before .before .before .before .before .before .before .before .before .if1 .taken)) (c .before .before .before .before .before .before .extracted .ensures)
 
 entry-requires : tie.Need-entry-requires
 entry-requires c κs =
+    let s = c .before .before .before .before .before .before .before in
+    let q = s .args in
+    let b = q .records .now in
+    let p = q .places .now in
+    let ix = q .index .now in
+    let n = q .count in
+    let u = q .used in
+    argument-entry b p ix n u (q .a) (s .pre)
+
+returns-2 : tie.Need-returns-2
+returns-2 c =
     let s = c .before .before .before .before .before .before .before .before .before in
     let q = s .args in
     let b = q .records .now in
     let p = q .places .now in
-    let hs = q .heads .now in
-    let ns = q .next .now in
-    let zs = q .sizes .now in
+    let ix = q .index .now in
     let n = q .count in
     let u = q .used in
-    argument-entry b p hs ns zs n u (q .a) (s .pre)
-
-kept-requires : tie.Need-kept-requires
-kept-requires c κs = search needs
-
-same-length-6 : tie.Need-same-length-6
-same-length-6 c = search needs
-
-same-length-7 : tie.Need-same-length-7
-same-length-7 c = search needs
-
-returns-2 : tie.Need-returns-2
-returns-2 c =
-    let s = c .before .before .before .before .before .before .before .before .before .before .before in
-    let q = s .args in
-    let b = q .records .now in
-    let p = q .places .now in
-    let hs = q .heads .now in
-    let ns = q .next .now in
-    let zs = q .sizes .now in
-    let n = q .count in
-    let u = q .used in
-    answered-as {q = keptAs n u (q .a) (c .before .entry .result .kind) 7} (c .kept .ensures) (loop-is b p hs ns zs n u (q .a) (s .pre) (c .before .entry .result) (c .before .entry .ensures) (q .op) (q .i) (q .j) (c .before .before .before .before .if2 .taken))
-
-refuse-requires : tie.Need-refuse-requires
-refuse-requires c κs = search needs
+    answered-as {q = keptAs n u (q .a) (c .before .entry .result .kind) 7} (c .kept .ensures) (loop-is b p ix n u (q .a) (s .pre) (c .before .entry .result) (c .before .entry .ensures) (q .op) (q .i) (q .j) (c .before .before .before .before .if2 .taken))
 
 returns-3 : tie.Need-returns-3
 returns-3 c =
-    let s = c .before .before .before .before .before .before .before .before in
+    let s = c .before .before .before .before .before .before in
     let q = s .args in
     let b = q .records .now in
     let p = q .places .now in
-    let hs = q .heads .now in
-    let ns = q .next .now in
-    let zs = q .sizes .now in
+    let ix = q .index .now in
     let n = q .count in
     let u = q .used in
-    judged-as (two-other (q .op) (q .i) (q .j) (sortAt b p n (q .a)) (c .before .before .if1 .left) (c .before .if2 .left)) (answered-as (c .refuse .ensures) (answer-refused b p hs ns zs n u (s .pre .good) Count))
+    judged-as (two-other (q .op) (q .i) (q .j) (sortAt b p n (q .a)) (c .before .before .if1 .left) (c .before .if2 .left)) (answered-as (c .refuse .ensures) (answer-refused b p ix n u (s .pre .good) Count))
 
 pub with-two-spec : {M : Type 1} → statement M
-with-two-spec = tie.close (tie.spec extracted-requires same-length same-length-2 same-length-3 same-length-4 same-length-5 returns entry-requires kept-requires same-length-6 same-length-7 returns-2 refuse-requires returns-3)
+with-two-spec = tie.close (tie.spec extracted-requires (λ c. search needs) (λ c. search needs) (λ c. search needs) returns entry-requires (λ c κs. search needs) (λ c. search needs) (λ c. search needs) returns-2 (λ c κs. search needs) returns-3)

@@ -12,12 +12,6 @@ use Rattle.checking.proofs.OperatedLaws.{fixed-asks, fixed-has, numbers
 use Rattle.checking.proofs.op.fit_rule.Statement.{statement}
 use Rattle.checking.proofs.op.fit_rule.Tie as tie
 
-enum-told : tie.Need-enum-told
-enum-told c = search needs
-
-enum-known-rule : tie.Need-enum-known-rule
-enum-known-rule c = search needs
-
 fit-all-requires : tie.Need-fit-all-requires
 fit-all-requires c κs =
     let s = c .before .before .before .before .before .before in
@@ -26,9 +20,6 @@ fit-all-requires c κs =
     let p = q .places .now in
     let a = q .args .now in
     subst (λ (r : Rule). FitAsks b p a (q .n) r) (c .before .rule .given .1) (s .pre)
-
-enum-known-rule-2 : tie.Need-enum-known-rule-2
-enum-known-rule-2 c = search needs
 
 fit-fixed-requires : tie.Need-fit-fixed-requires
 fit-fixed-requires c κs =
@@ -39,9 +30,6 @@ fit-fixed-requires c κs =
     let a = q .args .now in
     fixed-asks b p a (q .n) (c .before .rule2 .given .0 .0) (c .before .rule2 .given .0 .1 .0) (c .before .rule2 .given .0 .1 .1 .0) (c .before .rule2 .given .0 .1 .1 .1 .0) (c .before .rule2 .given .0 .1 .1 .1 .1 .0) (subst (λ (r : Rule). FitAsks b p a (q .n) r) (c .before .rule2 .given .1) (s .pre))
 
-enum-known-rule-3 : tie.Need-enum-known-rule-3
-enum-known-rule-3 c = search needs
-
 fit-numbers-requires : tie.Need-fit-numbers-requires
 fit-numbers-requires c κs =
     let s = c .before .before .before .before .before .before in
@@ -50,9 +38,6 @@ fit-numbers-requires c κs =
     let p = q .places .now in
     let a = q .args .now in
     numbers-asks b p a (q .n) (c .before .rule3 .given .0 .0) (c .before .rule3 .given .0 .1 .0) (subst (λ (r : Rule). FitAsks b p a (q .n) r) (c .before .rule3 .given .1) (s .pre))
-
-enum-told-2 : tie.Need-enum-told-2
-enum-told-2 c = search needs
 
 fit-equal-requires : tie.Need-fit-equal-requires
 fit-equal-requires c κs =
@@ -63,9 +48,6 @@ fit-equal-requires c κs =
     let a = q .args .now in
     subst (λ (r : Rule). FitAsks b p a (q .n) r) (c .enum-told2 .given .1) (s .pre)
 
-enum-told-3 : tie.Need-enum-told-3
-enum-told-3 c = search needs
-
 fit-choose-requires : tie.Need-fit-choose-requires
 fit-choose-requires c κs =
     let s = c .before .before .before .before .before in
@@ -74,9 +56,6 @@ fit-choose-requires c κs =
     let p = q .places .now in
     let a = q .args .now in
     subst (λ (r : Rule). FitAsks b p a (q .n) r) (c .enum-told3 .given .1) (s .pre)
-
-enum-told-4 : tie.Need-enum-told-4
-enum-told-4 c = search needs
 
 fit-array-requires : tie.Need-fit-array-requires
 fit-array-requires c κs =
@@ -88,9 +67,6 @@ fit-array-requires c κs =
     let f = subst (λ (r : Rule). FitAsks b p a (q .n) r) (c .enum-told4 .given .1) (s .pre) in
     record { args = f .args; few = inl (eqb-true (q .n) 2 (f .counted)) }
 
-enum-told-5 : tie.Need-enum-told-5
-enum-told-5 c = search needs
-
 fit-array-requires-2 : tie.Need-fit-array-requires-2
 fit-array-requires-2 c κs =
     let s = c .before .before .before .before .before in
@@ -101,9 +77,6 @@ fit-array-requires-2 c κs =
     let f = subst (λ (r : Rule). FitAsks b p a (q .n) r) (c .enum-told5 .given .1) (s .pre) in
     record { args = f .args; few = inr (eqb-true (q .n) 3 (f .counted)) }
 
-enum-known-rule-4 : tie.Need-enum-known-rule-4
-enum-known-rule-4 c = search needs
-
 fit-vectors-requires : tie.Need-fit-vectors-requires
 fit-vectors-requires c κs =
     let s = c .before .before .before .before .before .before in
@@ -112,9 +85,6 @@ fit-vectors-requires c κs =
     let p = q .places .now in
     let a = q .args .now in
     vectors-asks b p a (q .n) (c .before .rule4 .given .0 .0) (c .before .rule4 .given .0 .1 .0) (c .before .rule4 .given .0 .1 .1 .0) (subst (λ (r : Rule). FitAsks b p a (q .n) r) (c .before .rule4 .given .1) (s .pre))
-
-enum-told-6 : tie.Need-enum-told-6
-enum-told-6 c = search needs
 
 fit-concat-requires : tie.Need-fit-concat-requires
 fit-concat-requires c κs =
@@ -216,4 +186,4 @@ returns-10 c =
     subst (λ (r : Rule). FitHas b p a (q .n) r (c .fit-concat .result)) (sym (c .before .enum-told6 .given .1)) (c .fit-concat .ensures)
 
 pub fit-rule-spec : {M : Type 1} → statement M
-fit-rule-spec = tie.close (tie.spec enum-told enum-known-rule fit-all-requires enum-known-rule-2 fit-fixed-requires enum-known-rule-3 fit-numbers-requires enum-told-2 fit-equal-requires enum-told-3 fit-choose-requires enum-told-4 fit-array-requires enum-told-5 fit-array-requires-2 enum-known-rule-4 fit-vectors-requires enum-told-6 fit-concat-requires returns returns-2 returns-3 returns-4 returns-5 returns-6 returns-7 returns-8 returns-9 returns-10)
+fit-rule-spec = tie.close (tie.spec (λ c. search needs) (λ c. search needs) fit-all-requires (λ c. search needs) fit-fixed-requires (λ c. search needs) fit-numbers-requires (λ c. search needs) fit-equal-requires (λ c. search needs) fit-choose-requires (λ c. search needs) fit-array-requires (λ c. search needs) fit-array-requires-2 (λ c. search needs) fit-vectors-requires (λ c. search needs) fit-concat-requires returns returns-2 returns-3 returns-4 returns-5 returns-6 returns-7 returns-8 returns-9 returns-10)

@@ -8,38 +8,8 @@ use Rattle.checking.proofs.RangeLaws.{vectors-more, vectors-only}
 use Rattle.checking.proofs.rule.counts.Statement.{statement}
 use Rattle.checking.proofs.rule.counts.Tie as tie
 
-enum-told : tie.Need-enum-told
-enum-told c = search needs
-
-enum-told-2 : tie.Need-enum-told-2
-enum-told-2 c = search needs
-
-enum-known-rule : tie.Need-enum-known-rule
-enum-known-rule c = search needs
-
-enum-known-rule-2 : tie.Need-enum-known-rule-2
-enum-known-rule-2 c = search needs
-
-enum-told-3 : tie.Need-enum-told-3
-enum-told-3 c = search needs
-
-enum-told-4 : tie.Need-enum-told-4
-enum-told-4 c = search needs
-
-enum-told-5 : tie.Need-enum-told-5
-enum-told-5 c = search needs
-
-enum-told-6 : tie.Need-enum-told-6
-enum-told-6 c = search needs
-
-enum-known-rule-3 : tie.Need-enum-known-rule-3
-enum-known-rule-3 c = search needs
-
 returns : tie.Need-returns
 returns c = vectors-more (c .before .before .before .before .args .rule) (c .before .before .before .before .args .n) (c .before .before .rule3 .given .0 .0) (c .before .before .rule3 .given .0 .1 .0) (c .before .before .rule3 .given .0 .1 .1 .0) (c .before .before .rule3 .given .1) (c .if1 .taken)
-
-enum-told-7 : tie.Need-enum-told-7
-enum-told-7 c = search needs
 
 returns-2 : tie.Need-returns-2
 returns-2 c = sym (ap (λ (r : Rule). countsFor r (c .before .before .args .n)) (c .enum-told .given .1))
@@ -72,4 +42,4 @@ returns-11 : tie.Need-returns-11
 returns-11 c = sym (ap (λ (r : Rule). countsFor r (c .before .before .args .n)) (c .enum-told7 .given .1))
 
 pub counts-spec : {M : Type 1} → statement M
-counts-spec = tie.close (tie.spec enum-told enum-told-2 enum-known-rule enum-known-rule-2 enum-told-3 enum-told-4 enum-told-5 enum-told-6 enum-known-rule-3 returns enum-told-7 returns-2 returns-3 returns-4 returns-5 returns-6 returns-7 returns-8 returns-9 returns-10 returns-11)
+counts-spec = tie.close (tie.spec (λ c. search needs) (λ c. search needs) (λ c. search needs) (λ c. search needs) (λ c. search needs) (λ c. search needs) (λ c. search needs) (λ c. search needs) (λ c. search needs) returns (λ c. search needs) returns-2 returns-3 returns-4 returns-5 returns-6 returns-7 returns-8 returns-9 returns-10 returns-11)

@@ -9,12 +9,6 @@ use Rattle.checking.proofs.RangeLaws.{allKeys, keys-are, allOf, range-i
 use Rattle.checking.proofs.rule.rule_of.Statement.{statement}
 use Rattle.checking.proofs.rule.rule_of.Tie as tie
 
-rule-of-theory-requires : tie.Need-rule-of-theory-requires
-rule-of-theory-requires c κs = search needs
-
-rule-of-text-requires : tie.Need-rule-of-text-requires
-rule-of-text-requires c κs = search needs
-
 returns : tie.Need-returns
 unfolding allKeys
 returns c = keys-are Concat (90 ∷ []) refl (c .before .args .op) (c .match .keys2)
@@ -58,4 +52,4 @@ unfolding allOf
 returns-11 c = range-is (Vectors 2 0 3) ((95 ∷ []) ∷ (90 ∷ []) ∷ (89 ∷ []) ∷ []) 101 7 refl (c .before .before .before .before .before .before .before .args .op) (c .before .before .before .before .before .before .match .rest) (omega (arith, c .before .before .before .before .before .before .before .pre)) (omega (arith, c .before .before .before .before .before .before .before .pre))
 
 pub rule-of-spec : {M : Type 1} → statement M
-rule-of-spec = tie.close (tie.spec rule-of-theory-requires rule-of-text-requires returns returns-2 returns-3 returns-4 returns-5 returns-6 returns-7 returns-8 returns-9 returns-10 returns-11)
+rule-of-spec = tie.close (tie.spec (λ c κs. search needs) (λ c κs. search needs) returns returns-2 returns-3 returns-4 returns-5 returns-6 returns-7 returns-8 returns-9 returns-10 returns-11)

@@ -9,77 +9,42 @@ use Rattle.checking.proofs.single.constant.Statement.{statement}
 use Rattle.checking.proofs.single.constant.Tie as tie
 
 add-leaf : tie.Need-add-leaf
-add-leaf c = omega (arith, c .before .before .before .before .before .if1 .taken)
+add-leaf c = omega (arith, c .before .before .before .if1 .taken)
 
 cast-leaf : tie.Need-cast-leaf
-cast-leaf c = omega (arith, c .before .before .before .before .before .if1 .taken)
+cast-leaf c = omega (arith, c .before .before .before .if1 .taken)
 
 leaf-requires : tie.Need-leaf-requires
 leaf-requires c κs =
-    let s = c .before .before .before .before .before .before .before .before .before .before .before in
+    let s = c .before .before .before .before .before .before .before in
     let q = s .args in
-    record { good = s .pre; map = constant-map (q .kind) (c .before .before .before .before .before .if1 .taken) }
-
-same-length : tie.Need-same-length
-same-length c = search needs
-
-same-length-2 : tie.Need-same-length-2
-same-length-2 c = search needs
-
-same-length-3 : tie.Need-same-length-3
-same-length-3 c = search needs
-
-same-length-4 : tie.Need-same-length-4
-same-length-4 c = search needs
-
-same-length-5 : tie.Need-same-length-5
-same-length-5 c = search needs
+    record { good = s .pre; map = constant-map (q .kind) (c .before .before .before .if1 .taken) }
 
 returns : tie.Need-returns
 returns c =
-    let s = c .before .before .before .before .before .before .before .before .before .before .before .before .before .before .before .before .before .before .before .before .before .before in
+    let s = c .before .before .before .before .before .before .before .before .before .before .before .before .before .before in
     let q = s .args in
-    judged-as (constant-leaf (q .kind) (q .number) (c .before .before .before .before .before .before .before .before .before .before .before .before .before .before .before .before .if1 .taken)) (c .before .before .before .before .before .before .before .before .before .before .leaf .ensures)
-
-refuse-requires : tie.Need-refuse-requires
-refuse-requires c κs = search needs
+    judged-as (constant-leaf (q .kind) (q .number) (c .before .before .before .before .before .before .before .before .before .before .if1 .taken)) (c .before .before .before .before .before .before .leaf .ensures)
 
 returns-2 : tie.Need-returns-2
 returns-2 c =
-    let s = c .before .before .before .before .before .before .before .before in
+    let s = c .before .before .before .before .before .before in
     let q = s .args in
     let b = q .records .now in
     let p = q .places .now in
-    let hs = q .heads .now in
-    let ns = q .next .now in
-    let zs = q .sizes .now in
+    let ix = q .index .now in
     let n = q .count in
     let u = q .used in
-    judged-as (constant-zero (q .kind) (q .number) (c .before .before .if1 .left) (c .before .if2 .taken)) (answered-as (c .refuse .ensures) (answer-refused b p hs ns zs n u (s .pre) Barred))
+    judged-as (constant-zero (q .kind) (q .number) (c .before .before .if1 .left) (c .before .if2 .taken)) (answered-as (c .refuse .ensures) (answer-refused b p ix n u (s .pre) Barred))
 
 bit-vector-requires : tie.Need-bit-vector-requires
-bit-vector-requires c κs = c .before .before .before .before .before .before .before .before .before .before .before .before .pre
-
-same-length-6 : tie.Need-same-length-6
-same-length-6 c = search needs
-
-same-length-7 : tie.Need-same-length-7
-same-length-7 c = search needs
-
-same-length-8 : tie.Need-same-length-8
-same-length-8 c = search needs
-
-same-length-9 : tie.Need-same-length-9
-same-length-9 c = search needs
-
-same-length-10 : tie.Need-same-length-10
-same-length-10 c = search needs
+bit-vector-requires c κs = c .before .before .before .before .before .before .before .before .pre
 
 returns-3 : tie.Need-returns-3
 returns-3 c =
-    let s = c .before .before .before .before .before .before .before .before .before .before .before .before .before .before .before .before .before .before .before .before .before .before .before in
+    let s = c .before .before .before .before .before .before .before .before .before .before .before .before .before .before .before in
     let q = s .args in
-    judged-as (constant-vector (q .kind) (q .number) (c .before .before .before .before .before .before .before .before .before .before .before .before .before .before .before .before .before .if1 .left) (c .before .before .before .before .before .before .before .before .before .before .before .before .before .before .before .before .if2 .left)) (c .before .before .before .before .before .before .before .before .before .before .bit-vector .ensures)
+    judged-as (constant-vector (q .kind) (q .number) (c .before .before .before .before .before .before .before .before .before .before .before .if1 .left) (c .before .before .before .before .before .before .before .before .before .before .if2 .left)) (c .before .before .before .before .before .before .bit-vector .ensures)
 
 pub constant-spec : {M : Type 1} → statement M
-constant-spec = tie.close (tie.spec add-leaf cast-leaf leaf-requires same-length same-length-2 same-length-3 same-length-4 same-length-5 returns refuse-requires returns-2 bit-vector-requires same-length-6 same-length-7 same-length-8 same-length-9 same-length-10 returns-3)
+constant-spec = tie.close (tie.spec add-leaf cast-leaf leaf-requires (λ c. search needs) (λ c. search needs) (λ c. search needs) returns (λ c κs. search needs) returns-2 bit-vector-requires (λ c. search needs) (λ c. search needs) (λ c. search needs) returns-3)

@@ -9,9 +9,6 @@ use Rattle.checking.proofs.SingleLaws.{letting-few, letting-par, lettin
 use Rattle.checking.proofs.single.letting.Statement.{statement}
 use Rattle.checking.proofs.single.letting.Tie as tie
 
-refuse-requires : tie.Need-refuse-requires
-refuse-requires c κs = search needs
-
 returns : tie.Need-returns
 returns c =
     let s = c .before .before .before .before .before in
@@ -20,7 +17,7 @@ returns c =
     let p = q .places .now in
     let n = q .count in
     let a = q .args .now in
-    λ hs ns zs g. judged-as (letting-few b p n a (q .n) (s .pre) (c .before .if1 .taken)) (answered-as (c .refuse .ensures) (answer-refused b p hs ns zs n (q .used) g Count))
+    λ ix g. judged-as (letting-few b p n a (q .n) (s .pre) (c .before .if1 .taken)) (answered-as (c .refuse .ensures) (answer-refused b p ix n (q .used) g Count))
 
 all-values-requires : tie.Need-all-values-requires
 all-values-requires c κs =
@@ -32,9 +29,6 @@ all-values-requires c κs =
     let a = q .args .now in
     over-values b p n a (q .n) (s .pre)
 
-refuse-requires-2 : tie.Need-refuse-requires-2
-refuse-requires-2 c κs = search needs
-
 returns-2 : tie.Need-returns-2
 returns-2 c =
     let s = c .before .before .before .before .before .before .before in
@@ -43,7 +37,7 @@ returns-2 c =
     let p = q .places .now in
     let n = q .count in
     let a = q .args .now in
-    λ hs ns zs g. judged-as (letting-par b p n a (q .n) (s .pre) (c .before .before .before .if1 .left) (c .before .before .all-values .result) (c .before .before .all-values .ensures) (not-true (c .before .before .all-values .result) (c .before .if2 .taken))) (answered-as (c .refuse2 .ensures) (answer-refused b p hs ns zs n (q .used) g Misfit))
+    λ ix g. judged-as (letting-par b p n a (q .n) (s .pre) (c .before .before .before .if1 .left) (c .before .before .all-values .result) (c .before .before .all-values .ensures) (not-true (c .before .before .all-values .result) (c .before .if2 .taken))) (answered-as (c .refuse2 .ensures) (answer-refused b p ix n (q .used) g Misfit))
 
 sub-u16-at : tie.Need-sub-u16-at
 sub-u16-at c = omega (arith, c .before .before .if1 .left)
@@ -57,9 +51,6 @@ add-u16-at c = omega (arith, c .before .before .before .before .before .before .
 u16-at-requires : tie.Need-u16-at-requires
 u16-at-requires c κs = omega (arith, c .before .before .before .before .before .before .pre .within, c .before .before .if1 .left)
 
-found-requires : tie.Need-found-requires
-found-requires c κs = search needs
-
 returns-3 : tie.Need-returns-3
 returns-3 c =
     let s = c .before .before .before .before .before .before .before .before in
@@ -68,9 +59,9 @@ returns-3 c =
     let p = q .places .now in
     let n = q .count in
     let a = q .args .now in
-    λ hs ns zs g.
+    λ ix g.
     judged-as (letting-inner b p n a (q .n) (s .pre) (c .before .before .before .before .if1 .left) (c .before .before .before .all-values .result) (c .before .before .before .all-values .ensures) (not-false (c .before .before .before .all-values .result) (c .before .before .if2 .left)) (c .before .u16-at .result) (c .before .u16-at .ensures .0))
-    (answered-as (c .found .ensures) (answer-known b p hs ns zs n (q .used) g (c .before .u16-at .result) (inner-known b p n a (q .n) (s .pre) (c .before .before .before .before .if1 .left) (c .before .before .before .all-values .result) (c .before .before .before .all-values .ensures) (c .before .u16-at .result) (c .before .u16-at .ensures .0))))
+    (answered-as (c .found .ensures) (answer-known b p ix n (q .used) g (c .before .u16-at .result) (inner-known b p n a (q .n) (s .pre) (c .before .before .before .before .if1 .left) (c .before .before .before .all-values .result) (c .before .before .before .all-values .ensures) (c .before .u16-at .result) (c .before .u16-at .ensures .0))))
 
 pub letting-spec : {M : Type 1} → statement M
-letting-spec = tie.close (tie.spec refuse-requires returns all-values-requires refuse-requires-2 returns-2 sub-u16-at mul-u16-at add-u16-at u16-at-requires found-requires returns-3)
+letting-spec = tie.close (tie.spec (λ c κs. search needs) returns all-values-requires (λ c κs. search needs) returns-2 sub-u16-at mul-u16-at add-u16-at u16-at-requires (λ c κs. search needs) returns-3)

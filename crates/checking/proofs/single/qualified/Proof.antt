@@ -9,9 +9,6 @@ use Rattle.checking.proofs.SingleLaws.{own-entry, qualified-other, qual
 use Rattle.checking.proofs.single.qualified.Statement.{statement}
 use Rattle.checking.proofs.single.qualified.Tie as tie
 
-refuse-requires : tie.Need-refuse-requires
-refuse-requires c κs = search needs
-
 returns : tie.Need-returns
 returns c =
     let s = c .before .before .before .before .before in
@@ -20,13 +17,10 @@ returns c =
     let p = q .places .now in
     let n = q .count in
     let a = q .args .now in
-    λ hs ns zs g. judged-as (qualified-other b p n (q .k) a (q .n) (s .pre) (q .number) (c .before .if1 .taken)) (answered-as (c .refuse .ensures) (answer-refused b p hs ns zs n (q .used) g NoRank))
+    λ ix g. judged-as (qualified-other b p n (q .k) a (q .n) (s .pre) (q .number) (c .before .if1 .taken)) (answered-as (c .refuse .ensures) (answer-refused b p ix n (q .used) g NoRank))
 
 is-proper-requires : tie.Need-is-proper-requires
 is-proper-requires c κs = c .before .before .before .before .pre .own
-
-refuse-requires-2 : tie.Need-refuse-requires-2
-refuse-requires-2 c κs = search needs
 
 returns-2 : tie.Need-returns-2
 returns-2 c =
@@ -36,10 +30,7 @@ returns-2 c =
     let p = q .places .now in
     let n = q .count in
     let a = q .args .now in
-    λ hs ns zs g. judged-as (qualified-barred b p n (q .k) a (q .n) (s .pre) (q .number) (c .before .before .before .if1 .left) (c .before .before .is-proper .result) (c .before .before .is-proper .ensures) (not-true (c .before .before .is-proper .result) (c .before .if2 .taken))) (answered-as (c .refuse2 .ensures) (answer-refused b p hs ns zs n (q .used) g Barred))
-
-refuse-requires-3 : tie.Need-refuse-requires-3
-refuse-requires-3 c κs = search needs
+    λ ix g. judged-as (qualified-barred b p n (q .k) a (q .n) (s .pre) (q .number) (c .before .before .before .if1 .left) (c .before .before .is-proper .result) (c .before .before .is-proper .ensures) (not-true (c .before .before .is-proper .result) (c .before .if2 .taken))) (answered-as (c .refuse2 .ensures) (answer-refused b p ix n (q .used) g Barred))
 
 returns-3 : tie.Need-returns-3
 returns-3 c =
@@ -49,7 +40,7 @@ returns-3 c =
     let p = q .places .now in
     let n = q .count in
     let a = q .args .now in
-    λ hs ns zs g. judged-as (qualified-count b p n (q .k) a (q .n) (s .pre) (q .number) (c .before .before .before .before .if1 .left) (c .before .before .before .is-proper .result) (c .before .before .before .is-proper .ensures) (not-false (c .before .before .before .is-proper .result) (c .before .before .if2 .left)) (c .before .if3 .taken)) (answered-as (c .refuse3 .ensures) (answer-refused b p hs ns zs n (q .used) g Count))
+    λ ix g. judged-as (qualified-count b p n (q .k) a (q .n) (s .pre) (q .number) (c .before .before .before .before .if1 .left) (c .before .before .before .is-proper .result) (c .before .before .before .is-proper .ensures) (not-false (c .before .before .before .is-proper .result) (c .before .before .if2 .left)) (c .before .if3 .taken)) (answered-as (c .refuse3 .ensures) (answer-refused b p ix n (q .used) g Count))
 
 entry-requires : tie.Need-entry-requires
 entry-requires c κs =
@@ -60,9 +51,6 @@ entry-requires c κs =
     let n = q .count in
     own-entry b p n (q .k) (s .pre .own)
 
-refuse-requires-4 : tie.Need-refuse-requires-4
-refuse-requires-4 c κs = search needs
-
 returns-4 : tie.Need-returns-4
 returns-4 c =
     let s = c .before .before .before .before .before .before .before .before .before .before .before in
@@ -71,7 +59,7 @@ returns-4 c =
     let p = q .places .now in
     let n = q .count in
     let a = q .args .now in
-    λ hs ns zs g. judged-as (qualified-kind b p n (q .k) a (q .n) (s .pre) (q .number) (c .before .before .before .before .before .before .before .if1 .left) (c .before .before .before .before .before .before .is-proper .result) (c .before .before .before .before .before .before .is-proper .ensures) (not-false (c .before .before .before .before .before .before .is-proper .result) (c .before .before .before .before .before .if2 .left)) (c .before .before .before .before .if3 .left) (c .before .before .before .entry .result) (c .before .before .before .entry .ensures) (c .before .if4 .taken)) (answered-as (c .refuse4 .ensures) (answer-refused b p hs ns zs n (q .used) g Misfit))
+    λ ix g. judged-as (qualified-kind b p n (q .k) a (q .n) (s .pre) (q .number) (c .before .before .before .before .before .before .before .if1 .left) (c .before .before .before .before .before .before .is-proper .result) (c .before .before .before .before .before .before .is-proper .ensures) (not-false (c .before .before .before .before .before .before .is-proper .result) (c .before .before .before .before .before .if2 .left)) (c .before .before .before .before .if3 .left) (c .before .before .before .entry .result) (c .before .before .before .entry .ensures) (c .before .if4 .taken)) (answered-as (c .refuse4 .ensures) (answer-refused b p ix n (q .used) g Misfit))
 
 add-u16-at : tie.Need-add-u16-at
 add-u16-at c =
@@ -96,9 +84,6 @@ u16-at-requires c κs =
 u16-at-requires-2 : tie.Need-u16-at-requires-2
 u16-at-requires-2 c κs = omega (arith, c .before .before .before .before .before .before .before .before .before .before .before .pre .args .within, c .before .before .before .before .if3 .left)
 
-refuse-requires-5 : tie.Need-refuse-requires-5
-refuse-requires-5 c κs = search needs
-
 returns-5 : tie.Need-returns-5
 returns-5 c =
     let s = c .before .before .before .before .before .before .before .before .before .before .before .before .before .before in
@@ -107,10 +92,7 @@ returns-5 c =
     let p = q .places .now in
     let n = q .count in
     let a = q .args .now in
-    λ hs ns zs g. judged-as (qualified-misfit b p n (q .k) a (q .n) (s .pre) (q .number) (c .before .before .before .before .before .before .before .before .before .before .if1 .left) (c .before .before .before .before .before .before .before .before .before .is-proper .result) (c .before .before .before .before .before .before .before .before .before .is-proper .ensures) (not-false (c .before .before .before .before .before .before .before .before .before .is-proper .result) (c .before .before .before .before .before .before .before .before .if2 .left)) (c .before .before .before .before .before .before .before .if3 .left) (c .before .before .before .before .before .before .entry .result) (c .before .before .before .before .before .before .entry .ensures) (c .before .before .before .before .if4 .left) (c .before .before .before .u16-at .result) (c .before .before .u16-at2 .result) (c .before .before .before .u16-at .ensures .0) (c .before .before .u16-at2 .ensures .0) (c .before .if5 .taken)) (answered-as (c .refuse5 .ensures) (answer-refused b p hs ns zs n (q .used) g Misfit))
-
-found-requires : tie.Need-found-requires
-found-requires c κs = search needs
+    λ ix g. judged-as (qualified-misfit b p n (q .k) a (q .n) (s .pre) (q .number) (c .before .before .before .before .before .before .before .before .before .before .if1 .left) (c .before .before .before .before .before .before .before .before .before .is-proper .result) (c .before .before .before .before .before .before .before .before .before .is-proper .ensures) (not-false (c .before .before .before .before .before .before .before .before .before .is-proper .result) (c .before .before .before .before .before .before .before .before .if2 .left)) (c .before .before .before .before .before .before .before .if3 .left) (c .before .before .before .before .before .before .entry .result) (c .before .before .before .before .before .before .entry .ensures) (c .before .before .before .before .if4 .left) (c .before .before .before .u16-at .result) (c .before .before .u16-at2 .result) (c .before .before .before .u16-at .ensures .0) (c .before .before .u16-at2 .ensures .0) (c .before .if5 .taken)) (answered-as (c .refuse5 .ensures) (answer-refused b p ix n (q .used) g Misfit))
 
 returns-6 : tie.Need-returns-6
 returns-6 c =
@@ -120,7 +102,7 @@ returns-6 c =
     let p = q .places .now in
     let n = q .count in
     let a = q .args .now in
-    λ hs ns zs g. judged-as (qualified-fits b p n (q .k) a (q .n) (s .pre) (q .number) (c .before .before .before .before .before .before .before .before .before .before .if1 .left) (c .before .before .before .before .before .before .before .before .before .is-proper .result) (c .before .before .before .before .before .before .before .before .before .is-proper .ensures) (not-false (c .before .before .before .before .before .before .before .before .before .is-proper .result) (c .before .before .before .before .before .before .before .before .if2 .left)) (c .before .before .before .before .before .before .before .if3 .left) (c .before .before .before .before .before .before .entry .result) (c .before .before .before .before .before .before .entry .ensures) (c .before .before .before .before .if4 .left) (c .before .before .before .u16-at .result) (c .before .before .u16-at2 .result) (c .before .before .before .u16-at .ensures .0) (c .before .before .u16-at2 .ensures .0) (c .before .if5 .left)) (answered-as (c .found .ensures) (answer-known b p hs ns zs n (q .used) g (q .k) (s .pre .own .known)))
+    λ ix g. judged-as (qualified-fits b p n (q .k) a (q .n) (s .pre) (q .number) (c .before .before .before .before .before .before .before .before .before .before .if1 .left) (c .before .before .before .before .before .before .before .before .before .is-proper .result) (c .before .before .before .before .before .before .before .before .before .is-proper .ensures) (not-false (c .before .before .before .before .before .before .before .before .before .is-proper .result) (c .before .before .before .before .before .before .before .before .if2 .left)) (c .before .before .before .before .before .before .before .if3 .left) (c .before .before .before .before .before .before .entry .result) (c .before .before .before .before .before .before .entry .ensures) (c .before .before .before .before .if4 .left) (c .before .before .before .u16-at .result) (c .before .before .u16-at2 .result) (c .before .before .before .u16-at .ensures .0) (c .before .before .u16-at2 .ensures .0) (c .before .if5 .left)) (answered-as (c .found .ensures) (answer-known b p ix n (q .used) g (q .k) (s .pre .own .known)))
 
 pub qualified-spec : {M : Type 1} → statement M
-qualified-spec = tie.close (tie.spec refuse-requires returns is-proper-requires refuse-requires-2 returns-2 refuse-requires-3 returns-3 entry-requires refuse-requires-4 returns-4 add-u16-at u16-at-requires u16-at-requires-2 refuse-requires-5 returns-5 found-requires returns-6)
+qualified-spec = tie.close (tie.spec (λ c κs. search needs) returns is-proper-requires (λ c κs. search needs) returns-2 (λ c κs. search needs) returns-3 entry-requires (λ c κs. search needs) returns-4 add-u16-at u16-at-requires u16-at-requires-2 (λ c κs. search needs) returns-5 (λ c κs. search needs) returns-6)

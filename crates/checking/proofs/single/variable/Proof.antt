@@ -13,9 +13,6 @@ use Rattle.checking.proofs.single.variable.Tie as tie
 is-carried-requires : tie.Need-is-carried-requires
 is-carried-requires c κs = c .before .before .pre
 
-found-requires : tie.Need-found-requires
-found-requires c κs = search needs
-
 returns : tie.Need-returns
 returns c =
     let s = c .before .before .before .before .before in
@@ -23,11 +20,8 @@ returns c =
     let b = q .records .now in
     let p = q .places .now in
     let n = q .count in
-    λ hs ns zs g. judged-as (need-taken (c .before .before .is-carried .result) (sort (sortAt b p n (q .k))) (carried (sortAt b p n (q .k))) (c .before .before .is-carried .ensures) (c .before .if1 .taken))
-    (answered-as (c .found .ensures) (answer-known b p hs ns zs n (q .used) g (q .k) (s .pre .known)))
-
-refuse-requires : tie.Need-refuse-requires
-refuse-requires c κs = search needs
+    λ ix g. judged-as (need-taken (c .before .before .is-carried .result) (sort (sortAt b p n (q .k))) (carried (sortAt b p n (q .k))) (c .before .before .is-carried .ensures) (c .before .if1 .taken))
+    (answered-as (c .found .ensures) (answer-known b p ix n (q .used) g (q .k) (s .pre .known)))
 
 returns-2 : tie.Need-returns-2
 returns-2 c =
@@ -36,8 +30,8 @@ returns-2 c =
     let b = q .records .now in
     let p = q .places .now in
     let n = q .count in
-    λ hs ns zs g. judged-as (need-left (c .before .before .is-carried .result) (sort (sortAt b p n (q .k))) (carried (sortAt b p n (q .k))) (c .before .before .is-carried .ensures) (c .before .if1 .left))
-    (answered-as (c .refuse .ensures) (answer-refused b p hs ns zs n (q .used) g Barred))
+    λ ix g. judged-as (need-left (c .before .before .is-carried .result) (sort (sortAt b p n (q .k))) (carried (sortAt b p n (q .k))) (c .before .before .is-carried .ensures) (c .before .if1 .left))
+    (answered-as (c .refuse .ensures) (answer-refused b p ix n (q .used) g Barred))
 
 pub variable-spec : {M : Type 1} → statement M
-variable-spec = tie.close (tie.spec is-carried-requires found-requires returns refuse-requires returns-2)
+variable-spec = tie.close (tie.spec is-carried-requires (λ c κs. search needs) returns (λ c κs. search needs) returns-2)

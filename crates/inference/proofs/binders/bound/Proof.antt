@@ -18,18 +18,16 @@ use Rattle.inference.proofs.binders.bound.Tie as tie
 
 u16-at-requires : tie.Need-u16-at-requires
 u16-at-requires c κs =
-    let s = c .before .before .before .before .before .before .before .before .before .before in
+    let s = c .before .before .before .before .before .before .before .before in
     omega (arith, s .pre .args .room)
 
 lambda-requires : tie.Need-lambda-requires
 lambda-requires c κs =
-    let s = c .before .before .before .before .before .before .before .before .before .before .before .before .before .before .before .before .before in
+    let s = c .before .before .before .before .before .before .before .before .before .before .before .before .before in
     let a = s .args in
     let b = a .records .now in
     let p = a .places .now in
-    let hs = a .heads .now in
-    let ns = a .next .now in
-    let zs = a .sizes .now in
+    let ix = a .index .now in
     let n = a .count in
     let u = a .used in
     let x = a .args .now in
@@ -39,38 +37,18 @@ lambda-requires c κs =
       within = s .pre .pairs .within;
       each = s .pre .pairs .each;
       below = s .pre .pairs .below;
-      known = first-known b p n x m (args-refer b p hs ns zs n u x m (s .pre .args)) (s .pre .body) (c .before .before .before .before .before .before .u16-at .result) (c .before .before .before .before .before .before .u16-at .ensures .0);
+      known = first-known b p n x m (args-refer b p ix n u x m (s .pre .args)) (s .pre .body) (c .before .before .before .before .u16-at .result) (c .before .before .before .before .u16-at .ensures .0);
       few = s .pre .pairs .few;
       room = omega (arith, s .pre .args .room);
     }
 
-same-length : tie.Need-same-length
-same-length c = search needs
-
-same-length-2 : tie.Need-same-length-2
-same-length-2 c = search needs
-
-same-length-3 : tie.Need-same-length-3
-same-length-3 c = search needs
-
-same-length-4 : tie.Need-same-length-4
-same-length-4 c = search needs
-
-same-length-5 : tie.Need-same-length-5
-same-length-5 c = search needs
-
-same-length-6 : tie.Need-same-length-6
-same-length-6 c = search needs
-
 returns : tie.Need-returns
 returns c =
-    let s = c .before .before .before .before .before .before .before .before .before .before .before .before .before .before .before .before .before .before .before .before .before .before .before .before .before .before .before .before .before .before in
+    let s = c .before .before .before .before .before .before .before .before .before .before .before .before .before .before .before .before .before .before .before .before .before .before in
     let a = s .args in
     let b = a .records .now in
     let p = a .places .now in
-    let hs = a .heads .now in
-    let ns = a .next .now in
-    let zs = a .sizes .now in
+    let ix = a .index .now in
     let n = a .count in
     let u = a .used in
     let x = a .args .now in
@@ -78,33 +56,18 @@ returns c =
     let z = a .sheet .now in
     let t = a .table .now in
     let r = a .term in
-    let d = c .before .before .before .before .before .before .before .before .before .before .before .before .lambda .last in
-    judged-as {b = b} {p = p} {n = n} {b′ = d .0} {p′ = d .1 .0} {hs′ = d .1 .1 .0} {ns′ = d .1 .1 .1 .0} {zs′ = d .1 .1 .1 .1 .0} (lambda-is b p n z t r x (args-refer b p hs ns zs n u x m (s .pre .args)) (s .pre .body) (c .before .before .before .before .before .before .before .before .before .before .before .before .before .before .before .before .before .before .before .u16-at .result) (c .before .before .before .before .before .before .before .before .before .before .before .before .before .before .before .before .before .before .before .u16-at .ensures .0) (c .before .before .before .before .before .before .before .before .before .before .before .before .before .before .before .before .before .before .before .before .before .if1 .taken)) (c .before .before .before .before .before .before .before .before .before .before .before .before .lambda .ensures)
+    let d = c .before .before .before .before .before .before .before .before .lambda .last in
+    judged-as {b = b} {p = p} {n = n} {b′ = d .0} {p′ = d .1 .0} {ix′ = d .1 .1 .0} (lambda-is b p n z t r x (args-refer b p ix n u x m (s .pre .args)) (s .pre .body) (c .before .before .before .before .before .before .before .before .before .before .before .before .before .u16-at .result) (c .before .before .before .before .before .before .before .before .before .before .before .before .before .u16-at .ensures .0) (c .before .before .before .before .before .before .before .before .before .before .before .before .before .before .before .if1 .taken)) (c .before .before .before .before .before .before .before .before .lambda .ensures)
 
 leaf-requires : tie.Need-leaf-requires
 unfolding mapOf maps
 leaf-requires c κs =
-    let s = c .before .before .before .before .before .before .before .before .before .before .before .before .before .before .before in
+    let s = c .before .before .before .before .before .before .before .before .before .before .before in
     record { good = s .pre .args .good; map = refl }
-
-same-length-7 : tie.Need-same-length-7
-same-length-7 c = search needs
-
-same-length-8 : tie.Need-same-length-8
-same-length-8 c = search needs
-
-same-length-9 : tie.Need-same-length-9
-same-length-9 c = search needs
-
-same-length-10 : tie.Need-same-length-10
-same-length-10 c = search needs
-
-same-length-11 : tie.Need-same-length-11
-same-length-11 c = search needs
 
 returns-2 : tie.Need-returns-2
 returns-2 c =
-    let s = c .before .before .before .before .before .before .before .before .before .before .before .before .before .before .before .before .before .before .before .before .before .before .before .before .before .before in
+    let s = c .before .before .before .before .before .before .before .before .before .before .before .before .before .before .before .before .before .before in
     let a = s .args in
     let b = a .records .now in
     let p = a .places .now in
@@ -114,38 +77,33 @@ returns-2 c =
     let z = a .sheet .now in
     let t = a .table .now in
     let r = a .term in
-    judged-as (truth-of (r .number) (bindingsOver (storeOf b p n) t z r) (sortsIn b p n x 3 m) (c .before .before .before .before .before .before .before .before .before .before .before .before .before .before .before .before .before .if1 .left) (c .before .before .before .before .before .before .before .before .before .before .before .before .before .before .before .before .if2 .taken)) (c .before .before .before .before .before .before .before .before .before .before .leaf .ensures)
-
-refuse-requires : tie.Need-refuse-requires
-refuse-requires c κs = search needs
+    judged-as (truth-of (r .number) (bindingsOver (storeOf b p n) t z r) (sortsIn b p n x 3 m) (c .before .before .before .before .before .before .before .before .before .before .before .if1 .left) (c .before .before .before .before .before .before .before .before .before .before .if2 .taken)) (c .before .before .before .before .before .before .leaf .ensures)
 
 returns-3 : tie.Need-returns-3
 returns-3 c =
-    let s = c .before .before .before .before .before .before .before .before .before .before .before .before in
+    let s = c .before .before .before .before .before .before .before .before .before .before in
     let a = s .args in
     let b = a .records .now in
     let p = a .places .now in
-    let hs = a .heads .now in
-    let ns = a .next .now in
-    let zs = a .sizes .now in
+    let ix = a .index .now in
     let n = a .count in
     let u = a .used in
     let x = a .args .now in
     let z = a .sheet .now in
     let t = a .table .now in
     let r = a .term in
-    judged-as (choice-none b p n z t r x (c .before .before .if2 .left) (c .before .if3 .taken)) (answered-as (c .refuse .ensures) (answer-refused b p hs ns zs n u (s .pre .args .good) Panics))
+    judged-as (choice-none b p n z t r x (c .before .before .if2 .left) (c .before .if3 .taken)) (answered-as (c .refuse .ensures) (answer-refused b p ix n u (s .pre .args .good) Panics))
 
 add-u16-at : tie.Need-add-u16-at
 add-u16-at c =
-    let s = c .before .before .before .before .before .before .before .before .before .before .before in
+    let s = c .before .before .before .before .before .before .before .before .before in
     let a = s .args in
     let r = a .term in
-    let q = positive (r .paired) (c .if3 .left) in omega (arith, s .pre .pairs .within, s .good .1 .1 .1 .1 .1 .1 .1 .0)
+    let q = positive (r .paired) (c .if3 .left) in omega (arith, s .pre .pairs .within, s .good .1 .1 .1 .1 .1 .0)
 
 u16-at-requires-2 : tie.Need-u16-at-requires-2
 u16-at-requires-2 c κs =
-    let s = c .before .before .before .before .before .before .before .before .before .before .before in
+    let s = c .before .before .before .before .before .before .before .before .before in
     let a = s .args in
     let r = a .term in
     let q = positive (r .paired) (c .if3 .left) in omega (arith, s .pre .pairs .within)
@@ -155,7 +113,7 @@ mul-k c = omega (arith, c .u16-at2 .ensures .1)
 
 shared-slice-read-k : tie.Need-shared-slice-read-k
 shared-slice-read-k c =
-    let s = c .before .before .before .before .before .before .before .before .before .before .before .before .before in
+    let s = c .before .before .before .before .before .before .before .before .before .before .before in
     let a = s .args in
     let b = a .records .now in
     let p = a .places .now in
@@ -169,25 +127,20 @@ shared-slice-read-k c =
 cast-k : tie.Need-cast-k
 cast-k c = omega (arith, c .shared-slice-known3 .given (c .before .u16-at2 .result))
 
-found-requires : tie.Need-found-requires
-found-requires c κs = search needs
-
 returns-4 : tie.Need-returns-4
 returns-4 c =
-    let s = c .before .before .before .before .before .before .before .before .before .before .before .before .before .before in
+    let s = c .before .before .before .before .before .before .before .before .before .before .before .before in
     let a = s .args in
     let b = a .records .now in
     let p = a .places .now in
-    let hs = a .heads .now in
-    let ns = a .next .now in
-    let zs = a .sizes .now in
+    let ix = a .index .now in
     let n = a .count in
     let u = a .used in
     let x = a .args .now in
     let z = a .sheet .now in
     let t = a .table .now in
     let r = a .term in
-    judged-as (choice-is b p n z t r x (s .pre .pairs) (positive (r .paired) (c .before .before .before .if3 .left)) (c .before .before .u16-at2 .result) (c .before .before .u16-at2 .ensures .0) (c .before .before .before .before .if2 .left)) (answered-as (c .found .ensures) (answer-known b p hs ns zs n u (s .pre .args .good) (getD t (c .before .before .u16-at2 .result) 0) (choice-known b p n z t r x (s .pre .pairs) (positive (r .paired) (c .before .before .before .if3 .left)) (c .before .before .u16-at2 .result) (c .before .before .u16-at2 .ensures .0))))
+    judged-as (choice-is b p n z t r x (s .pre .pairs) (positive (r .paired) (c .before .before .before .if3 .left)) (c .before .before .u16-at2 .result) (c .before .before .u16-at2 .ensures .0) (c .before .before .before .before .if2 .left)) (answered-as (c .found .ensures) (answer-known b p ix n u (s .pre .args .good) (getD t (c .before .before .u16-at2 .result) 0) (choice-known b p n z t r x (s .pre .pairs) (positive (r .paired) (c .before .before .before .if3 .left)) (c .before .before .u16-at2 .result) (c .before .before .u16-at2 .ensures .0))))
 
 pub bound-spec : {M : Type 1} → statement M
-bound-spec = tie.close (tie.spec u16-at-requires lambda-requires same-length same-length-2 same-length-3 same-length-4 same-length-5 same-length-6 returns leaf-requires same-length-7 same-length-8 same-length-9 same-length-10 same-length-11 returns-2 refuse-requires returns-3 add-u16-at u16-at-requires-2 mul-k shared-slice-read-k cast-k found-requires returns-4)
+bound-spec = tie.close (tie.spec u16-at-requires lambda-requires (λ c. search needs) (λ c. search needs) (λ c. search needs) (λ c. search needs) returns leaf-requires (λ c. search needs) (λ c. search needs) (λ c. search needs) returns-2 (λ c κs. search needs) returns-3 add-u16-at u16-at-requires-2 mul-k shared-slice-read-k cast-k (λ c κs. search needs) returns-4)

@@ -13,42 +13,27 @@ use Rattle.inference.proofs.indexed.by_index.Tie as tie
 
 extracted-requires : tie.Need-extracted-requires
 extracted-requires c κs =
-    let s = c .before .before .before .before .before .before .before .before .before .before .before .before .before .before in
+    let s = c .before .before .before .before .before .before .before .before .before .before in
     record { good = s .pre .first .asks .args .good; terms = s .pre .first .asks .terms; small = s .pre .small }
 
 resized-requires : tie.Need-resized-requires
 resized-requires c κs =
-    let s = c .before .before .before .before .before .before .before .before .before .before .before .before .before .before in
+    let s = c .before .before .before .before .before .before .before .before .before .before in
     record { args = s .pre .first .asks .args; small = s .pre .small }
 
 resized-requires-2 : tie.Need-resized-requires-2
 resized-requires-2 c κs =
-    let s = c .before .before .before .before .before .before .before .before .before .before .before .before .before .before .before .before in
+    let s = c .before .before .before .before .before .before .before .before .before .before .before .before in
     record { args = s .pre .first .asks .args; small = s .pre .small }
 
 bit-vector-requires : tie.Need-bit-vector-requires
 bit-vector-requires c κs =
-    let s = c .before .before .before .before .before .before .before .before .before .before .before .before .before .before .before in
+    let s = c .before .before .before .before .before .before .before .before .before .before .before in
     s .pre .first .asks .args .good
-
-same-length : tie.Need-same-length
-same-length c = search needs
-
-same-length-2 : tie.Need-same-length-2
-same-length-2 c = search needs
-
-same-length-3 : tie.Need-same-length-3
-same-length-3 c = search needs
-
-same-length-4 : tie.Need-same-length-4
-same-length-4 c = search needs
-
-same-length-5 : tie.Need-same-length-5
-same-length-5 c = search needs
 
 returns : tie.Need-returns
 returns c =
-    let s = c .before .before .before .before .before .before .before .before .before .before .before .before .before .before .before .before .before .before .before .before .before .before .before .before .before in
+    let s = c .before .before .before .before .before .before .before .before .before .before .before .before .before .before .before .before .before in
     let a = s .args in
     let b = a .records .now in
     let p = a .places .now in
@@ -57,26 +42,11 @@ returns c =
     let m = a .n in
     let z = a .sheet .now in
     let t = a .starts .now in
-    judged-as {b = b} {p = p} {n = n} (given-extract (a .i) (constantsIn z t (a .second + 2) (a .seconds - 1)) (sortsIn b p n x 3 m) (a .op) (c .before .before .before .before .before .before .before .before .before .before .before .before .before .before .before .before .match .keys1)) (c .before .before .before .before .before .before .before .before .before .before .extracted .ensures)
-
-same-length-6 : tie.Need-same-length-6
-same-length-6 c = search needs
-
-same-length-7 : tie.Need-same-length-7
-same-length-7 c = search needs
-
-same-length-8 : tie.Need-same-length-8
-same-length-8 c = search needs
-
-same-length-9 : tie.Need-same-length-9
-same-length-9 c = search needs
-
-same-length-10 : tie.Need-same-length-10
-same-length-10 c = search needs
+    judged-as {b = b} {p = p} {n = n} (given-extract (a .i) (constantsIn z t (a .second + 2) (a .seconds - 1)) (sortsIn b p n x 3 m) (a .op) (c .before .before .before .before .before .before .before .before .before .before .match .keys1)) (c .before .before .before .before .before .before .extracted .ensures)
 
 returns-2 : tie.Need-returns-2
 returns-2 c =
-    let s = c .before .before .before .before .before .before .before .before .before .before .before .before .before .before .before .before .before .before .before .before .before .before .before .before .before in
+    let s = c .before .before .before .before .before .before .before .before .before .before .before .before .before .before .before .before .before in
     let a = s .args in
     let b = a .records .now in
     let p = a .places .now in
@@ -85,26 +55,11 @@ returns-2 c =
     let m = a .n in
     let z = a .sheet .now in
     let t = a .starts .now in
-    judged-as (given-repeat (a .i) (constantsIn z t (a .second + 2) (a .seconds - 1)) (sortsIn b p n x 3 m) (a .op) (c .before .before .before .before .before .before .before .before .before .before .before .before .before .before .before .before .match .keys2)) (c .before .before .before .before .before .before .before .before .before .before .resized .ensures)
-
-same-length-11 : tie.Need-same-length-11
-same-length-11 c = search needs
-
-same-length-12 : tie.Need-same-length-12
-same-length-12 c = search needs
-
-same-length-13 : tie.Need-same-length-13
-same-length-13 c = search needs
-
-same-length-14 : tie.Need-same-length-14
-same-length-14 c = search needs
-
-same-length-15 : tie.Need-same-length-15
-same-length-15 c = search needs
+    judged-as (given-repeat (a .i) (constantsIn z t (a .second + 2) (a .seconds - 1)) (sortsIn b p n x 3 m) (a .op) (c .before .before .before .before .before .before .before .before .before .before .match .keys2)) (c .before .before .before .before .before .before .resized .ensures)
 
 returns-3 : tie.Need-returns-3
 returns-3 c =
-    let s = c .before .before .before .before .before .before .before .before .before .before .before .before .before .before .before .before .before .before .before .before .before .before .before .before .before .before .before in
+    let s = c .before .before .before .before .before .before .before .before .before .before .before .before .before .before .before .before .before .before .before in
     let a = s .args in
     let b = a .records .now in
     let p = a .places .now in
@@ -113,26 +68,11 @@ returns-3 c =
     let m = a .n in
     let z = a .sheet .now in
     let t = a .starts .now in
-    judged-as (given-extend (a .i) (constantsIn z t (a .second + 2) (a .seconds - 1)) (sortsIn b p n x 3 m) (a .op) (c .before .before .before .before .before .before .before .before .before .before .before .before .before .before .before .before .before .if1 .left) (c .before .before .before .before .before .before .before .before .before .before .before .before .before .before .before .before .if2 .taken)) (c .before .before .before .before .before .before .before .before .before .before .resized2 .ensures)
-
-same-length-16 : tie.Need-same-length-16
-same-length-16 c = search needs
-
-same-length-17 : tie.Need-same-length-17
-same-length-17 c = search needs
-
-same-length-18 : tie.Need-same-length-18
-same-length-18 c = search needs
-
-same-length-19 : tie.Need-same-length-19
-same-length-19 c = search needs
-
-same-length-20 : tie.Need-same-length-20
-same-length-20 c = search needs
+    judged-as (given-extend (a .i) (constantsIn z t (a .second + 2) (a .seconds - 1)) (sortsIn b p n x 3 m) (a .op) (c .before .before .before .before .before .before .before .before .before .before .before .if1 .left) (c .before .before .before .before .before .before .before .before .before .before .if2 .taken)) (c .before .before .before .before .before .before .resized2 .ensures)
 
 returns-4 : tie.Need-returns-4
 returns-4 c =
-    let s = c .before .before .before .before .before .before .before .before .before .before .before .before .before .before .before .before .before .before .before .before .before .before .before .before .before .before in
+    let s = c .before .before .before .before .before .before .before .before .before .before .before .before .before .before .before .before .before .before in
     let a = s .args in
     let b = a .records .now in
     let p = a .places .now in
@@ -141,8 +81,8 @@ returns-4 c =
     let m = a .n in
     let z = a .sheet .now in
     let t = a .starts .now in
-    let e : a .op ≡ 9 = ⊎-elim (λ v. convert-low (a .op) (s .pre .first .looks) (c .before .before .before .before .before .before .before .before .before .before .before .before .before .before .before .before .before .match .rest .0 .1) (v .taken)) (λ v. convert-high (a .op) (s .pre .first .looks) (c .before .before .before .before .before .before .before .before .before .before .before .before .before .before .before .before .before .match .rest .1) (v .1 .left)) (c .before .before .before .before .before .before .before .before .before .before .before .before .before .before .before .before .if1 .came) in
-    judged-as (given-convert (a .i) (constantsIn z t (a .second + 2) (a .seconds - 1)) (sortsIn b p n x 3 m) (a .op) e) (c .before .before .before .before .before .before .before .before .before .before .bit-vector .ensures)
+    let e : a .op ≡ 9 = ⊎-elim (λ v. convert-low (a .op) (s .pre .first .looks) (c .before .before .before .before .before .before .before .before .before .before .before .match .rest .0 .1) (v .taken)) (λ v. convert-high (a .op) (s .pre .first .looks) (c .before .before .before .before .before .before .before .before .before .before .before .match .rest .1) (v .1 .left)) (c .before .before .before .before .before .before .before .before .before .before .if1 .came) in
+    judged-as (given-convert (a .i) (constantsIn z t (a .second + 2) (a .seconds - 1)) (sortsIn b p n x 3 m) (a .op) e) (c .before .before .before .before .before .before .bit-vector .ensures)
 
 pub by-index-spec : {M : Type 1} → statement M
-by-index-spec = tie.close (tie.spec extracted-requires resized-requires resized-requires-2 bit-vector-requires same-length same-length-2 same-length-3 same-length-4 same-length-5 returns same-length-6 same-length-7 same-length-8 same-length-9 same-length-10 returns-2 same-length-11 same-length-12 same-length-13 same-length-14 same-length-15 returns-3 same-length-16 same-length-17 same-length-18 same-length-19 same-length-20 returns-4)
+by-index-spec = tie.close (tie.spec extracted-requires resized-requires resized-requires-2 bit-vector-requires (λ c. search needs) (λ c. search needs) (λ c. search needs) returns (λ c. search needs) (λ c. search needs) (λ c. search needs) returns-2 (λ c. search needs) (λ c. search needs) (λ c. search needs) returns-3 (λ c. search needs) (λ c. search needs) (λ c. search needs) returns-4)

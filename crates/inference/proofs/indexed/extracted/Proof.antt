@@ -12,122 +12,76 @@ use Rattle.inference.proofs.IndexedLaws.{extractBy, extract-over, extra
 use Rattle.inference.proofs.indexed.extracted.Statement.{statement}
 use Rattle.inference.proofs.indexed.extracted.Tie as tie
 
-refuse-requires : tie.Need-refuse-requires
-refuse-requires c κs = search needs
-
 returns : tie.Need-returns
 returns c =
-    let s = c .before .before .before .before .before .before .before .before .before in
+    let s = c .before .before .before .before .before .before .before in
     let a = s .args in
     let b = a .records .now in
     let p = a .places .now in
-    let hs = a .heads .now in
-    let ns = a .next .now in
-    let zs = a .sizes .now in
+    let ix = a .index .now in
     let n = a .count in
     let u = a .used in
     let z = a .sheet .now in
     let t = a .starts .now in
-    judged-as (extract-none z t (a .second) (a .seconds) (a .i) (c .before .if1 .taken)) (answered-as (c .refuse .ensures) (answer-refused b p hs ns zs n u (s .pre .good) Panics))
+    judged-as (extract-none z t (a .second) (a .seconds) (a .i) (c .before .if1 .taken)) (answered-as (c .refuse .ensures) (answer-refused b p ix n u (s .pre .good) Panics))
 
 add-index-at : tie.Need-add-index-at
 add-index-at c =
-    let s = c .before .before .before .before .before .before .before .before in
-    omega (arith, s .pre .terms .within, c .if1 .left, s .good .1 .1 .1 .1 .1 .1 .1 .0)
+    let s = c .before .before .before .before .before .before in
+    omega (arith, s .pre .terms .within, c .if1 .left, s .good .1 .1 .1 .1 .1 .0)
 
 index-at-requires : tie.Need-index-at-requires
 index-at-requires c κs =
-    let s = c .before .before .before .before .before .before .before .before in
+    let s = c .before .before .before .before .before .before in
     let a = s .args in
     let z = a .sheet .now in
     let t = a .starts .now in
     index-second z t (a .second) (a .seconds) (s .pre .terms) (c .if1 .left)
 
-enum-known-low : tie.Need-enum-known-low
-enum-known-low c = search needs
-
-refuse-requires-2 : tie.Need-refuse-requires-2
-refuse-requires-2 c κs = search needs
-
 returns-2 : tie.Need-returns-2
 returns-2 c =
-    let s = c .before .before .before .before .before .before .before .before .before .before .before .before .before .before in
+    let s = c .before .before .before .before .before .before .before .before .before .before .before .before in
     let a = s .args in
     let b = a .records .now in
     let p = a .places .now in
-    let hs = a .heads .now in
-    let ns = a .next .now in
-    let zs = a .sizes .now in
+    let ix = a .index .now in
     let n = a .count in
     let u = a .used in
     let z = a .sheet .now in
     let t = a .starts .now in
-    judged-as (extract-second z t (a .second) (a .seconds) (a .i) (c .before .before .before .before .before .before .if1 .left) (c .before .before .before .before .before .index-at .result) (c .before .before .before .before .before .index-at .ensures) ∙ ap (λ (o : Constant). extractBy (a .i) (integerOf o)) (c .before .before .before .low .given .1) ∙ extract-over (a .i) (c .before .before .before .low .given .0 .0) (c .before .if2 .taken)) (answered-as (c .refuse2 .ensures) (answer-refused b p hs ns zs n u (s .pre .good) Panics))
+    judged-as (extract-second z t (a .second) (a .seconds) (a .i) (c .before .before .before .before .before .before .if1 .left) (c .before .before .before .before .before .index-at .result) (c .before .before .before .before .before .index-at .ensures) ∙ ap (λ (o : Constant). extractBy (a .i) (integerOf o)) (c .before .before .before .low .given .1) ∙ extract-over (a .i) (c .before .before .before .low .given .0 .0) (c .before .if2 .taken)) (answered-as (c .refuse2 .ensures) (answer-refused b p ix n u (s .pre .good) Panics))
 
 add-bit-vector : tie.Need-add-bit-vector
 add-bit-vector c =
-    let s = c .before .before .before .before .before .before .before .before .before .before .before .before .before .before .before .before .before .before in
+    let s = c .before .before .before .before .before .before .before .before .before .before .before .before .before .before in
     omega (arith, s .pre .small)
 
 bit-vector-requires : tie.Need-bit-vector-requires
 bit-vector-requires c κs =
-    let s = c .before .before .before .before .before .before .before .before .before .before .before .before .before .before .before .before .before .before in
+    let s = c .before .before .before .before .before .before .before .before .before .before .before .before .before .before in
     s .pre .good
-
-enum-told : tie.Need-enum-told
-enum-told c = search needs
 
 leaf-requires : tie.Need-leaf-requires
 unfolding mapOf maps
 leaf-requires c κs =
-    let s = c .before .before .before .before .before .before .before .before .before .before .before .before .before .before .before .before in
+    let s = c .before .before .before .before .before .before .before .before .before .before .before .before in
     record { good = s .pre .good; map = refl }
-
-same-length : tie.Need-same-length
-same-length c = search needs
-
-same-length-2 : tie.Need-same-length-2
-same-length-2 c = search needs
-
-same-length-3 : tie.Need-same-length-3
-same-length-3 c = search needs
-
-same-length-4 : tie.Need-same-length-4
-same-length-4 c = search needs
-
-same-length-5 : tie.Need-same-length-5
-same-length-5 c = search needs
 
 returns-3 : tie.Need-returns-3
 returns-3 c =
-    let s = c .before .before .before .before .before .before .before .before .before .before .before .before .before .before .before .before .before .before .before .before .before .before .before .before .before .before .before .before .before in
+    let s = c .before .before .before .before .before .before .before .before .before .before .before .before .before .before .before .before .before .before .before .before .before in
     let a = s .args in
     let z = a .sheet .now in
     let t = a .starts .now in
-    judged-as (extract-second z t (a .second) (a .seconds) (a .i) (c .before .before .before .before .before .before .before .before .before .before .before .before .before .before .before .before .before .before .before .before .before .if1 .left) (c .before .before .before .before .before .before .before .before .before .before .before .before .before .before .before .before .before .before .before .before .index-at .result) (c .before .before .before .before .before .before .before .before .before .before .before .before .before .before .before .before .before .before .before .before .index-at .ensures) ∙ ap (λ (o : Constant). extractBy (a .i) (integerOf o)) (c .before .before .before .before .before .before .before .before .before .before .before .before .before .before .before .before .before .before .low .given .1) ∙ extract-fits (a .i) (c .before .before .before .before .before .before .before .before .before .before .before .before .before .before .before .before .before .before .low .given .0 .0) (c .before .before .before .before .before .before .before .before .before .before .before .before .before .before .before .before .if2 .left)) (c .before .before .before .before .before .before .before .before .before .before .bit-vector .ensures)
-
-same-length-6 : tie.Need-same-length-6
-same-length-6 c = search needs
-
-same-length-7 : tie.Need-same-length-7
-same-length-7 c = search needs
-
-same-length-8 : tie.Need-same-length-8
-same-length-8 c = search needs
-
-same-length-9 : tie.Need-same-length-9
-same-length-9 c = search needs
-
-same-length-10 : tie.Need-same-length-10
-same-length-10 c = search needs
+    judged-as (extract-second z t (a .second) (a .seconds) (a .i) (c .before .before .before .before .before .before .before .before .before .before .before .before .before .before .before .if1 .left) (c .before .before .before .before .before .before .before .before .before .before .before .before .before .before .index-at .result) (c .before .before .before .before .before .before .before .before .before .before .before .before .before .before .index-at .ensures) ∙ ap (λ (o : Constant). extractBy (a .i) (integerOf o)) (c .before .before .before .before .before .before .before .before .before .before .before .before .low .given .1) ∙ extract-fits (a .i) (c .before .before .before .before .before .before .before .before .before .before .before .before .low .given .0 .0) (c .before .before .before .before .before .before .before .before .before .before .if2 .left)) (c .before .before .before .before .before .before .bit-vector .ensures)
 
 returns-4 : tie.Need-returns-4
 returns-4 c =
-    let s = c .before .before .before .before .before .before .before .before .before .before .before .before .before .before .before .before .before .before .before .before .before .before .before .before .before .before .before in
+    let s = c .before .before .before .before .before .before .before .before .before .before .before .before .before .before .before .before .before .before .before in
     let a = s .args in
     let z = a .sheet .now in
     let t = a .starts .now in
-    judged-as (extract-second z t (a .second) (a .seconds) (a .i) (c .before .before .before .before .before .before .before .before .before .before .before .before .before .before .before .before .before .before .before .if1 .left) (c .before .before .before .before .before .before .before .before .before .before .before .before .before .before .before .before .before .before .index-at .result) (c .before .before .before .before .before .before .before .before .before .before .before .before .before .before .before .before .before .before .index-at .ensures) ∙ ap (λ (o : Constant). extractBy (a .i) (integerOf o)) (c .before .before .before .before .before .before .before .before .before .before .before .before .before .before .before .before .enum-told .given .1)) (c .before .before .before .before .before .before .before .before .before .before .leaf .ensures)
+    judged-as (extract-second z t (a .second) (a .seconds) (a .i) (c .before .before .before .before .before .before .before .before .before .before .before .before .before .if1 .left) (c .before .before .before .before .before .before .before .before .before .before .before .before .index-at .result) (c .before .before .before .before .before .before .before .before .before .before .before .before .index-at .ensures) ∙ ap (λ (o : Constant). extractBy (a .i) (integerOf o)) (c .before .before .before .before .before .before .before .before .before .before .enum-told .given .1)) (c .before .before .before .before .before .before .leaf .ensures)
 
 pub extracted-spec : {M : Type 1} → statement M
-extracted-spec = tie.close (tie.spec refuse-requires returns add-index-at index-at-requires enum-known-low refuse-requires-2 returns-2 add-bit-vector bit-vector-requires enum-told leaf-requires same-length same-length-2 same-length-3 same-length-4 same-length-5 returns-3 same-length-6 same-length-7 same-length-8 same-length-9 same-length-10 returns-4)
+extracted-spec = tie.close (tie.spec (λ c κs. search needs) returns add-index-at index-at-requires (λ c. search needs) (λ c κs. search needs) returns-2 add-bit-vector bit-vector-requires (λ c. search needs) leaf-requires (λ c. search needs) (λ c. search needs) (λ c. search needs) returns-3 (λ c. search needs) (λ c. search needs) (λ c. search needs) returns-4)

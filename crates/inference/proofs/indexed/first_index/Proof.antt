@@ -17,69 +17,43 @@ use Rattle.inference.proofs.IndexedLaws.{constants-none, looks-none, lo
 use Rattle.inference.proofs.indexed.first_index.Statement.{statement}
 use Rattle.inference.proofs.indexed.first_index.Tie as tie
 
-refuse-requires : tie.Need-refuse-requires
-refuse-requires c κs = search needs
-
 returns : tie.Need-returns
 returns c =
-    let s = c .before .before .before .before .before .before .before .before .before .before in
+    let s = c .before .before .before .before .before .before .before .before in
     let a = s .args in
     let b = a .records .now in
     let p = a .places .now in
-    let hs = a .heads .now in
-    let ns = a .next .now in
-    let zs = a .sizes .now in
+    let ix = a .index .now in
     let n = a .count in
     let u = a .used in
     let x = a .args .now in
     let m = a .n in
     let z = a .sheet .now in
     let t = a .starts .now in
-    judged-as (ap (λ (is : List (Option ℕ)). indexed (a .op) is (sortsIn b p n x 3 m)) (constants-none z t (a .second) (a .seconds) (c .before .if1 .taken)) ∙ looks-none (a .op) (sortsIn b p n x 3 m) (s .pre .looks)) (answered-as (c .refuse .ensures) (answer-refused b p hs ns zs n u (s .pre .asks .args .good) Panics))
+    judged-as (ap (λ (is : List (Option ℕ)). indexed (a .op) is (sortsIn b p n x 3 m)) (constants-none z t (a .second) (a .seconds) (c .before .if1 .taken)) ∙ looks-none (a .op) (sortsIn b p n x 3 m) (s .pre .looks)) (answered-as (c .refuse .ensures) (answer-refused b p ix n u (s .pre .asks .args .good) Panics))
 
 index-at-requires : tie.Need-index-at-requires
 index-at-requires c κs =
-    let s = c .before .before .before .before .before .before .before .before .before in
+    let s = c .before .before .before .before .before .before .before in
     let a = s .args in
     let z = a .sheet .now in
     let t = a .starts .now in
     index-first z t (a .second) (a .seconds) (s .pre .asks .terms) (positive (a .seconds) (c .if1 .left))
 
-enum-known-first : tie.Need-enum-known-first
-enum-known-first c = search needs
-
 by-index-requires : tie.Need-by-index-requires
 by-index-requires c κs =
-    let s = c .before .before .before .before .before .before .before .before .before .before .before .before .before .before .before .before .before .before in
-    record { first = s .pre; small = c .before .before .before .before .before .before .before .before .index-at .ensures .small (c .before .before .before .before .before .before .first .given .0 .0) (c .before .before .before .before .before .before .first .given .1) }
-
-enum-told : tie.Need-enum-told
-enum-told c = search needs
+    let s = c .before .before .before .before .before .before .before .before .before .before .before .before .before .before in
+    record { first = s .pre; small = c .before .before .before .before .before .before .index-at .ensures .small (c .before .before .before .before .first .given .0 .0) (c .before .before .before .before .first .given .1) }
 
 leaf-requires : tie.Need-leaf-requires
 unfolding mapOf maps
 leaf-requires c κs =
-    let s = c .before .before .before .before .before .before .before .before .before .before .before .before .before .before .before .before .before in
+    let s = c .before .before .before .before .before .before .before .before .before .before .before .before .before in
     record { good = s .pre .asks .args .good; map = refl }
-
-same-length : tie.Need-same-length
-same-length c = search needs
-
-same-length-2 : tie.Need-same-length-2
-same-length-2 c = search needs
-
-same-length-3 : tie.Need-same-length-3
-same-length-3 c = search needs
-
-same-length-4 : tie.Need-same-length-4
-same-length-4 c = search needs
-
-same-length-5 : tie.Need-same-length-5
-same-length-5 c = search needs
 
 returns-2 : tie.Need-returns-2
 returns-2 c =
-    let s = c .before .before .before .before .before .before .before .before .before .before .before .before .before .before .before .before .before .before .before .before .before .before .before .before .before .before .before .before .before in
+    let s = c .before .before .before .before .before .before .before .before .before .before .before .before .before .before .before .before .before .before .before .before .before in
     let a = s .args in
     let b = a .records .now in
     let p = a .places .now in
@@ -88,27 +62,12 @@ returns-2 c =
     let m = a .n in
     let z = a .sheet .now in
     let t = a .starts .now in
-    let d = c .before .before .before .before .before .before .before .before .before .before .by-index .last in
-    judged-as {b = b} {p = p} {n = n} {b′ = d .0} {p′ = d .1 .0} {hs′ = d .1 .1 .0} {ns′ = d .1 .1 .1 .0} {zs′ = d .1 .1 .1 .1 .0} (looks-first z t (a .second) (a .seconds) (positive (a .seconds) (c .before .before .before .before .before .before .before .before .before .before .before .before .before .before .before .before .before .before .before .before .if1 .left)) (c .before .before .before .before .before .before .before .before .before .before .before .before .before .before .before .before .before .before .before .index-at .result) (c .before .before .before .before .before .before .before .before .before .before .before .before .before .before .before .before .before .before .before .index-at .ensures) (a .op) (sortsIn b p n x 3 m) ∙ ap (λ (o : Constant). indexed (a .op) (integerOf o ∷ constantsIn z t (a .second + 2) (a .seconds - 1)) (sortsIn b p n x 3 m)) (c .before .before .before .before .before .before .before .before .before .before .before .before .before .before .before .before .before .first .given .1)) (c .before .before .before .before .before .before .before .before .before .before .by-index .ensures)
-
-same-length-6 : tie.Need-same-length-6
-same-length-6 c = search needs
-
-same-length-7 : tie.Need-same-length-7
-same-length-7 c = search needs
-
-same-length-8 : tie.Need-same-length-8
-same-length-8 c = search needs
-
-same-length-9 : tie.Need-same-length-9
-same-length-9 c = search needs
-
-same-length-10 : tie.Need-same-length-10
-same-length-10 c = search needs
+    let d = c .before .before .before .before .before .before .by-index .last in
+    judged-as {b = b} {p = p} {n = n} {b′ = d .0} {p′ = d .1 .0} {ix′ = d .1 .1 .0} (looks-first z t (a .second) (a .seconds) (positive (a .seconds) (c .before .before .before .before .before .before .before .before .before .before .before .before .before .before .if1 .left)) (c .before .before .before .before .before .before .before .before .before .before .before .before .before .index-at .result) (c .before .before .before .before .before .before .before .before .before .before .before .before .before .index-at .ensures) (a .op) (sortsIn b p n x 3 m) ∙ ap (λ (o : Constant). indexed (a .op) (integerOf o ∷ constantsIn z t (a .second + 2) (a .seconds - 1)) (sortsIn b p n x 3 m)) (c .before .before .before .before .before .before .before .before .before .before .before .first .given .1)) (c .before .before .before .before .before .before .by-index .ensures)
 
 returns-3 : tie.Need-returns-3
 returns-3 c =
-    let s = c .before .before .before .before .before .before .before .before .before .before .before .before .before .before .before .before .before .before .before .before .before .before .before .before .before .before .before .before in
+    let s = c .before .before .before .before .before .before .before .before .before .before .before .before .before .before .before .before .before .before .before .before in
     let a = s .args in
     let b = a .records .now in
     let p = a .places .now in
@@ -117,7 +76,7 @@ returns-3 c =
     let m = a .n in
     let z = a .sheet .now in
     let t = a .starts .now in
-    judged-as (looks-first z t (a .second) (a .seconds) (positive (a .seconds) (c .before .before .before .before .before .before .before .before .before .before .before .before .before .before .before .before .before .before .before .if1 .left)) (c .before .before .before .before .before .before .before .before .before .before .before .before .before .before .before .before .before .before .index-at .result) (c .before .before .before .before .before .before .before .before .before .before .before .before .before .before .before .before .before .before .index-at .ensures) (a .op) (sortsIn b p n x 3 m) ∙ ap (λ (o : Constant). indexed (a .op) (integerOf o ∷ constantsIn z t (a .second + 2) (a .seconds - 1)) (sortsIn b p n x 3 m)) (c .before .before .before .before .before .before .before .before .before .before .before .before .before .before .before .before .enum-told .given .1) ∙ looks-unknown (a .op) (constantsIn z t (a .second + 2) (a .seconds - 1)) (sortsIn b p n x 3 m) (s .pre .looks)) (c .before .before .before .before .before .before .before .before .before .before .leaf .ensures)
+    judged-as (looks-first z t (a .second) (a .seconds) (positive (a .seconds) (c .before .before .before .before .before .before .before .before .before .before .before .before .before .if1 .left)) (c .before .before .before .before .before .before .before .before .before .before .before .before .index-at .result) (c .before .before .before .before .before .before .before .before .before .before .before .before .index-at .ensures) (a .op) (sortsIn b p n x 3 m) ∙ ap (λ (o : Constant). indexed (a .op) (integerOf o ∷ constantsIn z t (a .second + 2) (a .seconds - 1)) (sortsIn b p n x 3 m)) (c .before .before .before .before .before .before .before .before .before .before .enum-told .given .1) ∙ looks-unknown (a .op) (constantsIn z t (a .second + 2) (a .seconds - 1)) (sortsIn b p n x 3 m) (s .pre .looks)) (c .before .before .before .before .before .before .leaf .ensures)
 
 pub first-index-spec : {M : Type 1} → statement M
-first-index-spec = tie.close (tie.spec refuse-requires returns index-at-requires enum-known-first by-index-requires enum-told leaf-requires same-length same-length-2 same-length-3 same-length-4 same-length-5 returns-2 same-length-6 same-length-7 same-length-8 same-length-9 same-length-10 returns-3)
+first-index-spec = tie.close (tie.spec (λ c κs. search needs) returns index-at-requires (λ c. search needs) by-index-requires (λ c. search needs) leaf-requires (λ c. search needs) (λ c. search needs) (λ c. search needs) returns-2 (λ c. search needs) (λ c. search needs) (λ c. search needs) returns-3)

@@ -19,53 +19,35 @@ use Rattle.inference.proofs.indexed.indexed.Tie as tie
 leaf-requires : tie.Need-leaf-requires
 unfolding mapOf maps
 leaf-requires c κs =
-    let s = c .before .before .before .before .before .before .before .before .before .before .before .before .before .before in
+    let s = c .before .before .before .before .before .before .before .before .before .before in
     record { good = s .pre .args .good; map = refl }
 
 leaf-requires-2 : tie.Need-leaf-requires-2
 unfolding mapOf maps
 leaf-requires-2 c κs =
-    let s = c .before .before .before .before .before .before .before .before .before .before .before .before .before .before in
+    let s = c .before .before .before .before .before .before .before .before .before .before in
     record { good = s .pre .args .good; map = refl }
 
 argument-requires : tie.Need-argument-requires
 argument-requires c κs =
-    let s = c .before .before .before .before .before .before .before .before .before .before .before in
+    let s = c .before .before .before .before .before .before .before .before .before in
     record { few = s .pre .args .few; within = omega (arith, s .pre .args .few, s .pre .args .room) }
 
 leaf-requires-3 : tie.Need-leaf-requires-3
 unfolding mapOf maps
 leaf-requires-3 c κs =
-    let s = c .before .before .before .before .before .before .before .before .before .before .before .before .before .before .before .before .before .before in
+    let s = c .before .before .before .before .before .before .before .before .before .before .before .before .before .before in
     record { good = s .pre .args .good; map = refl }
-
-refuse-requires : tie.Need-refuse-requires
-refuse-requires c κs = search needs
 
 first-index-requires : tie.Need-first-index-requires
 first-index-requires c κs =
-    let s = c .before .before .before .before .before .before .before .before .before .before .before .before .before .before in
+    let s = c .before .before .before .before .before .before .before .before .before .before in
     let a = s .args in
-    record { asks = s .pre; looks = ⊎-elim (λ v. looks-keys (a .op) (v .keys1)) (λ v. looks-range (a .op) (v .0 .rest .0 .0 .1) (v .0 .rest .0 .1) (v .0 .rest .1) (v .1 .taken)) (c .before .before .before .before .before .match .came) }
-
-same-length : tie.Need-same-length
-same-length c = search needs
-
-same-length-2 : tie.Need-same-length-2
-same-length-2 c = search needs
-
-same-length-3 : tie.Need-same-length-3
-same-length-3 c = search needs
-
-same-length-4 : tie.Need-same-length-4
-same-length-4 c = search needs
-
-same-length-5 : tie.Need-same-length-5
-same-length-5 c = search needs
+    record { asks = s .pre; looks = ⊎-elim (λ v. looks-keys (a .op) (v .keys1)) (λ v. looks-range (a .op) (v .0 .rest .0 .0 .1) (v .0 .rest .0 .1) (v .0 .rest .1) (v .1 .taken)) (c .before .before .before .match .came) }
 
 returns : tie.Need-returns
 returns c =
-    let s = c .before .before .before .before .before .before .before .before .before .before .before .before .before .before .before .before .before .before .before .before .before .before .before .before .before in
+    let s = c .before .before .before .before .before .before .before .before .before .before .before .before .before .before .before .before .before in
     let a = s .args in
     let b = a .records .now in
     let p = a .places .now in
@@ -74,26 +56,11 @@ returns c =
     let m = a .n in
     let z = a .sheet .now in
     let t = a .starts .now in
-    judged-as (bit-of (constantsIn z t (a .second) (a .seconds)) (sortsIn b p n x 3 m) (a .op) (c .before .before .before .before .before .before .before .before .before .before .before .before .before .before .before .before .match .keys2)) (c .before .before .before .before .before .before .before .before .before .before .leaf .ensures)
-
-same-length-6 : tie.Need-same-length-6
-same-length-6 c = search needs
-
-same-length-7 : tie.Need-same-length-7
-same-length-7 c = search needs
-
-same-length-8 : tie.Need-same-length-8
-same-length-8 c = search needs
-
-same-length-9 : tie.Need-same-length-9
-same-length-9 c = search needs
-
-same-length-10 : tie.Need-same-length-10
-same-length-10 c = search needs
+    judged-as (bit-of (constantsIn z t (a .second) (a .seconds)) (sortsIn b p n x 3 m) (a .op) (c .before .before .before .before .before .before .before .before .before .before .match .keys2)) (c .before .before .before .before .before .before .leaf .ensures)
 
 returns-2 : tie.Need-returns-2
 returns-2 c =
-    let s = c .before .before .before .before .before .before .before .before .before .before .before .before .before .before .before .before .before .before .before .before .before .before .before .before .before in
+    let s = c .before .before .before .before .before .before .before .before .before .before .before .before .before .before .before .before .before in
     let a = s .args in
     let b = a .records .now in
     let p = a .places .now in
@@ -102,42 +69,25 @@ returns-2 c =
     let m = a .n in
     let z = a .sheet .now in
     let t = a .starts .now in
-    judged-as (int-of (constantsIn z t (a .second) (a .seconds)) (sortsIn b p n x 3 m) (a .op) (c .before .before .before .before .before .before .before .before .before .before .before .before .before .before .before .before .match .keys3)) (c .before .before .before .before .before .before .before .before .before .before .leaf2 .ensures)
+    judged-as (int-of (constantsIn z t (a .second) (a .seconds)) (sortsIn b p n x 3 m) (a .op) (c .before .before .before .before .before .before .before .before .before .before .match .keys3)) (c .before .before .before .before .before .before .leaf2 .ensures)
 
 returns-3 : tie.Need-returns-3
 returns-3 c =
-    let s = c .before .before .before .before .before .before .before .before .before .before .before .before in
+    let s = c .before .before .before .before .before .before .before .before .before .before in
     let a = s .args in
     let b = a .records .now in
     let p = a .places .now in
-    let hs = a .heads .now in
-    let ns = a .next .now in
-    let zs = a .sizes .now in
+    let ix = a .index .now in
     let n = a .count in
     let x = a .args .now in
     let m = a .n in
     let z = a .sheet .now in
     let t = a .starts .now in
-    judged-as (rotates (constantsIn z t (a .second) (a .seconds)) (sortsIn b p n x 3 m) (a .op) (c .before .before .if1 .left) (c .before .if2 .taken) ∙ nth-first (sortsIn b p n x 3 m)) (c .argument .ensures b p hs ns zs (s .pre .args))
-
-same-length-11 : tie.Need-same-length-11
-same-length-11 c = search needs
-
-same-length-12 : tie.Need-same-length-12
-same-length-12 c = search needs
-
-same-length-13 : tie.Need-same-length-13
-same-length-13 c = search needs
-
-same-length-14 : tie.Need-same-length-14
-same-length-14 c = search needs
-
-same-length-15 : tie.Need-same-length-15
-same-length-15 c = search needs
+    judged-as (rotates (constantsIn z t (a .second) (a .seconds)) (sortsIn b p n x 3 m) (a .op) (c .before .before .if1 .left) (c .before .if2 .taken) ∙ nth-first (sortsIn b p n x 3 m)) (c .argument .ensures b p ix (s .pre .args))
 
 returns-4 : tie.Need-returns-4
 returns-4 c =
-    let s = c .before .before .before .before .before .before .before .before .before .before .before .before .before .before .before .before .before .before .before .before .before .before .before .before .before .before .before .before .before in
+    let s = c .before .before .before .before .before .before .before .before .before .before .before .before .before .before .before .before .before .before .before .before .before in
     let a = s .args in
     let b = a .records .now in
     let p = a .places .now in
@@ -146,17 +96,15 @@ returns-4 c =
     let m = a .n in
     let z = a .sheet .now in
     let t = a .starts .now in
-    judged-as (regular (constantsIn z t (a .second) (a .seconds)) (sortsIn b p n x 3 m) (a .op) (c .before .before .before .before .before .before .before .before .before .before .before .before .before .before .before .before .before .if3 .left) (c .before .before .before .before .before .before .before .before .before .before .before .before .before .before .before .before .if4 .taken) (c .before .before .before .before .before .before .before .before .before .before .before .before .before .before .before .before .before .before .before .before .match .rest .0 .0 .1)) (c .before .before .before .before .before .before .before .before .before .before .leaf3 .ensures)
+    judged-as (regular (constantsIn z t (a .second) (a .seconds)) (sortsIn b p n x 3 m) (a .op) (c .before .before .before .before .before .before .before .before .before .before .before .if3 .left) (c .before .before .before .before .before .before .before .before .before .before .if4 .taken) (c .before .before .before .before .before .before .before .before .before .before .before .before .before .before .match .rest .0 .0 .1)) (c .before .before .before .before .before .before .leaf3 .ensures)
 
 returns-5 : tie.Need-returns-5
 returns-5 c =
-    let s = c .before .before .before .before .before .before .before .before .before .before .before .before .before in
+    let s = c .before .before .before .before .before .before .before .before .before .before .before in
     let a = s .args in
     let b = a .records .now in
     let p = a .places .now in
-    let hs = a .heads .now in
-    let ns = a .next .now in
-    let zs = a .sizes .now in
+    let ix = a .index .now in
     let n = a .count in
     let u = a .used in
     let x = a .args .now in
@@ -164,25 +112,10 @@ returns-5 c =
     let z = a .sheet .now in
     let t = a .starts .now in
     let e : indexed (a .op) (constantsIn z t (a .second) (a .seconds)) (sortsIn b p n x 3 m) ≡ refused Panics = ⊎-elim (λ v. unwritten (constantsIn z t (a .second) (a .seconds)) (sortsIn b p n x 3 m) (a .op) (c .before .before .if2 .left) (v .taken) (c .before .before .before .before .match .rest .0 .0 .1)) (λ v. no-operator (constantsIn z t (a .second) (a .seconds)) (sortsIn b p n x 3 m) (a .op) (v .1 .left)) (c .before .if3 .came) in
-    judged-as (e) (answered-as (c .refuse .ensures) (answer-refused b p hs ns zs n u (s .pre .args .good) Panics))
-
-same-length-16 : tie.Need-same-length-16
-same-length-16 c = search needs
-
-same-length-17 : tie.Need-same-length-17
-same-length-17 c = search needs
-
-same-length-18 : tie.Need-same-length-18
-same-length-18 c = search needs
-
-same-length-19 : tie.Need-same-length-19
-same-length-19 c = search needs
-
-same-length-20 : tie.Need-same-length-20
-same-length-20 c = search needs
+    judged-as (e) (answered-as (c .refuse .ensures) (answer-refused b p ix n u (s .pre .args .good) Panics))
 
 returns-6 : tie.Need-returns-6
-returns-6 c = c .before .before .before .before .before .before .before .before .before .before .first-index .ensures
+returns-6 c = c .before .before .before .before .before .before .first-index .ensures
 
 pub indexed-spec : {M : Type 1} → statement M
-indexed-spec = tie.close (tie.spec leaf-requires leaf-requires-2 argument-requires leaf-requires-3 refuse-requires first-index-requires same-length same-length-2 same-length-3 same-length-4 same-length-5 returns same-length-6 same-length-7 same-length-8 same-length-9 same-length-10 returns-2 returns-3 same-length-11 same-length-12 same-length-13 same-length-14 same-length-15 returns-4 returns-5 same-length-16 same-length-17 same-length-18 same-length-19 same-length-20 returns-6)
+indexed-spec = tie.close (tie.spec leaf-requires leaf-requires-2 argument-requires leaf-requires-3 (λ c κs. search needs) first-index-requires (λ c. search needs) (λ c. search needs) (λ c. search needs) returns (λ c. search needs) (λ c. search needs) (λ c. search needs) returns-2 returns-3 (λ c. search needs) (λ c. search needs) (λ c. search needs) returns-4 returns-5 (λ c. search needs) (λ c. search needs) (λ c. search needs) returns-6)

@@ -18,203 +18,130 @@ use Rattle.inference.proofs.IndexedLaws.{resized-known, resized-unknown
 use Rattle.inference.proofs.indexed.resized.Statement.{statement}
 use Rattle.inference.proofs.indexed.resized.Tie as tie
 
-refuse-requires : tie.Need-refuse-requires
-refuse-requires c κs = search needs
-
 returns : tie.Need-returns
 returns c =
-    let s = c .before .before .before .before .before .before .before .before in
+    let s = c .before .before .before .before .before .before in
     let a = s .args in
     let b = a .records .now in
     let p = a .places .now in
-    let hs = a .heads .now in
-    let ns = a .next .now in
-    let zs = a .sizes .now in
+    let ix = a .index .now in
     let n = a .count in
     let u = a .used in
     let x = a .args .now in
     let m = a .n in
-    judged-as (ap (resizedOf (resizing (a .adds) (a .i))) (sorts-none b p n x m (c .before .if1 .taken))) (answered-as (c .refuse .ensures) (answer-refused b p hs ns zs n u (s .pre .args .good) Panics))
+    judged-as (ap (resizedOf (resizing (a .adds) (a .i))) (sorts-none b p n x m (c .before .if1 .taken))) (answered-as (c .refuse .ensures) (answer-refused b p ix n u (s .pre .args .good) Panics))
 
 u16-at-requires : tie.Need-u16-at-requires
 u16-at-requires c κs =
-    let s = c .before .before .before .before .before .before .before in
+    let s = c .before .before .before .before .before in
     omega (arith, s .pre .args .room)
 
 entry-requires : tie.Need-entry-requires
 entry-requires c κs =
-    let s = c .before .before .before .before .before .before .before .before .before .before in
+    let s = c .before .before .before .before .before .before .before .before in
     let a = s .args in
     let b = a .records .now in
     let p = a .places .now in
-    let hs = a .heads .now in
-    let ns = a .next .now in
-    let zs = a .sizes .now in
+    let ix = a .index .now in
     let n = a .count in
     let u = a .used in
     let x = a .args .now in
     let m = a .n in
-    first-entry b p n x m (args-refer b p hs ns zs n u x m (s .pre .args)) (positive m (c .before .before .before .if1 .left)) (c .before .before .u16-at .result) (c .before .before .u16-at .ensures .0)
+    first-entry b p n x m (args-refer b p ix n u x m (s .pre .args)) (positive m (c .before .before .before .if1 .left)) (c .before .before .u16-at .result) (c .before .before .u16-at .ensures .0)
 
 leaf-requires : tie.Need-leaf-requires
 unfolding mapOf maps
 leaf-requires c κs =
-    let s = c .before .before .before .before .before .before .before .before .before .before .before .before .before .before .before .before .before in
+    let s = c .before .before .before .before .before .before .before .before .before .before .before .before .before in
     record { good = s .pre .args .good; map = refl }
-
-same-length : tie.Need-same-length
-same-length c = search needs
-
-same-length-2 : tie.Need-same-length-2
-same-length-2 c = search needs
-
-same-length-3 : tie.Need-same-length-3
-same-length-3 c = search needs
-
-same-length-4 : tie.Need-same-length-4
-same-length-4 c = search needs
-
-same-length-5 : tie.Need-same-length-5
-same-length-5 c = search needs
 
 returns-2 : tie.Need-returns-2
 returns-2 c =
-    let s = c .before .before .before .before .before .before .before .before .before .before .before .before .before .before .before .before .before .before .before .before .before .before .before .before .before .before .before .before in
+    let s = c .before .before .before .before .before .before .before .before .before .before .before .before .before .before .before .before .before .before .before .before in
     let a = s .args in
     let b = a .records .now in
     let p = a .places .now in
-    let hs = a .heads .now in
-    let ns = a .next .now in
-    let zs = a .sizes .now in
+    let ix = a .index .now in
     let n = a .count in
     let u = a .used in
     let x = a .args .now in
     let m = a .n in
-    judged-as (resized-unknown b p n x m (args-refer b p hs ns zs n u x m (s .pre .args)) (positive m (c .before .before .before .before .before .before .before .before .before .before .before .before .before .before .before .before .before .before .before .before .before .if1 .left)) (c .before .before .before .before .before .before .before .before .before .before .before .before .before .before .before .before .before .before .before .before .u16-at .result) (c .before .before .before .before .before .before .before .before .before .before .before .before .before .before .before .before .before .before .before .before .u16-at .ensures .0) (c .before .before .before .before .before .before .before .before .before .before .before .before .before .before .before .before .before .entry .result) (c .before .before .before .before .before .before .before .before .before .before .before .before .before .before .before .before .before .entry .ensures) (resizing (a .adds) (a .i)) (c .before .before .before .before .before .before .before .before .before .before .before .before .before .before .before .before .if2 .taken)) (c .before .before .before .before .before .before .before .before .before .before .leaf .ensures)
-
-refuse-requires-2 : tie.Need-refuse-requires-2
-refuse-requires-2 c κs = search needs
-
-same-length-6 : tie.Need-same-length-6
-same-length-6 c = search needs
-
-same-length-7 : tie.Need-same-length-7
-same-length-7 c = search needs
+    judged-as (resized-unknown b p n x m (args-refer b p ix n u x m (s .pre .args)) (positive m (c .before .before .before .before .before .before .before .before .before .before .before .before .before .before .before .if1 .left)) (c .before .before .before .before .before .before .before .before .before .before .before .before .before .before .u16-at .result) (c .before .before .before .before .before .before .before .before .before .before .before .before .before .before .u16-at .ensures .0) (c .before .before .before .before .before .before .before .before .before .before .before .entry .result) (c .before .before .before .before .before .before .before .before .before .before .before .entry .ensures) (resizing (a .adds) (a .i)) (c .before .before .before .before .before .before .before .before .before .before .if2 .taken)) (c .before .before .before .before .before .before .leaf .ensures)
 
 returns-3 : tie.Need-returns-3
 returns-3 c =
-    let s = c .before .before .before .before .before .before .before .before .before .before .before .before .before .before in
+    let s = c .before .before .before .before .before .before .before .before .before .before .before .before in
     let a = s .args in
     let b = a .records .now in
     let p = a .places .now in
-    let hs = a .heads .now in
-    let ns = a .next .now in
-    let zs = a .sizes .now in
+    let ix = a .index .now in
     let n = a .count in
     let u = a .used in
     let x = a .args .now in
     let m = a .n in
-    judged-as (resized-other b p n x m (args-refer b p hs ns zs n u x m (s .pre .args)) (positive m (c .before .before .before .before .before .before .before .if1 .left)) (c .before .before .before .before .before .before .u16-at .result) (c .before .before .before .before .before .before .u16-at .ensures .0) (c .before .before .before .entry .result) (c .before .before .before .entry .ensures) (resizing (a .adds) (a .i)) (c .before .if3 .taken) (c .before .before .if2 .left)) (answered-as (c .refuse2 .ensures) (answer-refused b p hs ns zs n u (s .pre .args .good) Panics))
+    judged-as (resized-other b p n x m (args-refer b p ix n u x m (s .pre .args)) (positive m (c .before .before .before .before .before .before .before .if1 .left)) (c .before .before .before .before .before .before .u16-at .result) (c .before .before .before .before .before .before .u16-at .ensures .0) (c .before .before .before .entry .result) (c .before .before .before .entry .ensures) (resizing (a .adds) (a .i)) (c .before .if3 .taken) (c .before .before .if2 .left)) (answered-as (c .refuse2 .ensures) (answer-refused b p ix n u (s .pre .args .good) Panics))
 
 add-bit-vector : tie.Need-add-bit-vector
 add-bit-vector c =
-    let s = c .before .before .before .before .before .before .before .before .before .before .before .before .before .before .before .before .before .before .before in
+    let s = c .before .before .before .before .before .before .before .before .before .before .before .before .before .before .before in
     let a = s .args in
     let b = a .records .now in
     let p = a .places .now in
-    let hs = a .heads .now in
-    let ns = a .next .now in
-    let zs = a .sizes .now in
+    let ix = a .index .now in
     let n = a .count in
     let u = a .used in
     let x = a .args .now in
     let m = a .n in
-    omega (arith, s .pre .small, width-small b p n x m (args-refer b p hs ns zs n u x m (s .pre .args)) (positive m (c .before .before .before .before .before .before .before .before .before .before .before .before .if1 .left)) (c .before .before .before .before .before .before .before .before .before .before .before .u16-at .result) (c .before .before .before .before .before .before .before .before .before .before .before .u16-at .ensures .0) (c .before .before .before .before .before .before .before .before .entry .result) (c .before .before .before .before .before .before .before .before .entry .ensures))
+    omega (arith, s .pre .small, width-small b p n x m (args-refer b p ix n u x m (s .pre .args)) (positive m (c .before .before .before .before .before .before .before .before .before .before .if1 .left)) (c .before .before .before .before .before .before .before .before .before .u16-at .result) (c .before .before .before .before .before .before .before .before .before .u16-at .ensures .0) (c .before .before .before .before .before .before .entry .result) (c .before .before .before .before .before .before .entry .ensures))
 
 bit-vector-requires : tie.Need-bit-vector-requires
 bit-vector-requires c κs =
-    let s = c .before .before .before .before .before .before .before .before .before .before .before .before .before .before .before .before .before .before .before in
+    let s = c .before .before .before .before .before .before .before .before .before .before .before .before .before .before .before in
     s .pre .args .good
-
-same-length-8 : tie.Need-same-length-8
-same-length-8 c = search needs
-
-same-length-9 : tie.Need-same-length-9
-same-length-9 c = search needs
-
-same-length-10 : tie.Need-same-length-10
-same-length-10 c = search needs
-
-same-length-11 : tie.Need-same-length-11
-same-length-11 c = search needs
-
-same-length-12 : tie.Need-same-length-12
-same-length-12 c = search needs
 
 returns-4 : tie.Need-returns-4
 returns-4 c =
-    let s = c .before .before .before .before .before .before .before .before .before .before .before .before .before .before .before .before .before .before .before .before .before .before .before .before .before .before .before .before .before .before in
+    let s = c .before .before .before .before .before .before .before .before .before .before .before .before .before .before .before .before .before .before .before .before .before .before in
     let a = s .args in
     let b = a .records .now in
     let p = a .places .now in
-    let hs = a .heads .now in
-    let ns = a .next .now in
-    let zs = a .sizes .now in
+    let ix = a .index .now in
     let n = a .count in
     let u = a .used in
     let x = a .args .now in
     let m = a .n in
-    judged-as (resized-known b p n x m (args-refer b p hs ns zs n u x m (s .pre .args)) (positive m (c .before .before .before .before .before .before .before .before .before .before .before .before .before .before .before .before .before .before .before .before .before .before .before .if1 .left)) (c .before .before .before .before .before .before .before .before .before .before .before .before .before .before .before .before .before .before .before .before .before .before .u16-at .result) (c .before .before .before .before .before .before .before .before .before .before .before .before .before .before .before .before .before .before .before .before .before .before .u16-at .ensures .0) (c .before .before .before .before .before .before .before .before .before .before .before .before .before .before .before .before .before .before .before .entry .result) (c .before .before .before .before .before .before .before .before .before .before .before .before .before .before .before .before .before .before .before .entry .ensures) (resizing (a .adds) (a .i)) (c .before .before .before .before .before .before .before .before .before .before .before .before .before .before .before .before .before .if3 .left) ∙ ap (λ (d : Bool). sort (bitvec (resizing d (a .i) (c .before .before .before .before .before .before .before .before .before .before .before .before .before .before .before .before .before .before .before .entry .result .number)))) (c .before .before .before .before .before .before .before .before .before .before .before .before .before .before .before .before .if4 .taken)) (c .before .before .before .before .before .before .before .before .before .before .bit-vector .ensures)
+    judged-as (resized-known b p n x m (args-refer b p ix n u x m (s .pre .args)) (positive m (c .before .before .before .before .before .before .before .before .before .before .before .before .before .before .before .before .before .if1 .left)) (c .before .before .before .before .before .before .before .before .before .before .before .before .before .before .before .before .u16-at .result) (c .before .before .before .before .before .before .before .before .before .before .before .before .before .before .before .before .u16-at .ensures .0) (c .before .before .before .before .before .before .before .before .before .before .before .before .before .entry .result) (c .before .before .before .before .before .before .before .before .before .before .before .before .before .entry .ensures) (resizing (a .adds) (a .i)) (c .before .before .before .before .before .before .before .before .before .before .before .if3 .left) ∙ ap (λ (d : Bool). sort (bitvec (resizing d (a .i) (c .before .before .before .before .before .before .before .before .before .before .before .before .before .entry .result .number)))) (c .before .before .before .before .before .before .before .before .before .before .if4 .taken)) (c .before .before .before .before .before .before .bit-vector .ensures)
 
 mul-bit-vector : tie.Need-mul-bit-vector
 mul-bit-vector c =
-    let s = c .before .before .before .before .before .before .before .before .before .before .before .before .before .before .before .before .before .before .before in
+    let s = c .before .before .before .before .before .before .before .before .before .before .before .before .before .before .before in
     let a = s .args in
     let b = a .records .now in
     let p = a .places .now in
-    let hs = a .heads .now in
-    let ns = a .next .now in
-    let zs = a .sizes .now in
+    let ix = a .index .now in
     let n = a .count in
     let u = a .used in
     let x = a .args .now in
     let m = a .n in
-    omega (arith, times-small (a .i) (c .before .before .before .before .before .before .before .before .entry .result .number) (s .pre .small) (width-small b p n x m (args-refer b p hs ns zs n u x m (s .pre .args)) (positive m (c .before .before .before .before .before .before .before .before .before .before .before .before .if1 .left)) (c .before .before .before .before .before .before .before .before .before .before .before .u16-at .result) (c .before .before .before .before .before .before .before .before .before .before .before .u16-at .ensures .0) (c .before .before .before .before .before .before .before .before .entry .result) (c .before .before .before .before .before .before .before .before .entry .ensures)))
+    omega (arith, times-small (a .i) (c .before .before .before .before .before .before .entry .result .number) (s .pre .small) (width-small b p n x m (args-refer b p ix n u x m (s .pre .args)) (positive m (c .before .before .before .before .before .before .before .before .before .before .if1 .left)) (c .before .before .before .before .before .before .before .before .before .u16-at .result) (c .before .before .before .before .before .before .before .before .before .u16-at .ensures .0) (c .before .before .before .before .before .before .entry .result) (c .before .before .before .before .before .before .entry .ensures)))
 
 bit-vector-requires-2 : tie.Need-bit-vector-requires-2
 bit-vector-requires-2 c κs =
-    let s = c .before .before .before .before .before .before .before .before .before .before .before .before .before .before .before .before .before .before .before in
+    let s = c .before .before .before .before .before .before .before .before .before .before .before .before .before .before .before in
     s .pre .args .good
-
-same-length-13 : tie.Need-same-length-13
-same-length-13 c = search needs
-
-same-length-14 : tie.Need-same-length-14
-same-length-14 c = search needs
-
-same-length-15 : tie.Need-same-length-15
-same-length-15 c = search needs
-
-same-length-16 : tie.Need-same-length-16
-same-length-16 c = search needs
-
-same-length-17 : tie.Need-same-length-17
-same-length-17 c = search needs
 
 returns-5 : tie.Need-returns-5
 returns-5 c =
-    let s = c .before .before .before .before .before .before .before .before .before .before .before .before .before .before .before .before .before .before .before .before .before .before .before .before .before .before .before .before .before .before in
+    let s = c .before .before .before .before .before .before .before .before .before .before .before .before .before .before .before .before .before .before .before .before .before .before in
     let a = s .args in
     let b = a .records .now in
     let p = a .places .now in
-    let hs = a .heads .now in
-    let ns = a .next .now in
-    let zs = a .sizes .now in
+    let ix = a .index .now in
     let n = a .count in
     let u = a .used in
     let x = a .args .now in
     let m = a .n in
-    judged-as (resized-known b p n x m (args-refer b p hs ns zs n u x m (s .pre .args)) (positive m (c .before .before .before .before .before .before .before .before .before .before .before .before .before .before .before .before .before .before .before .before .before .before .before .if1 .left)) (c .before .before .before .before .before .before .before .before .before .before .before .before .before .before .before .before .before .before .before .before .before .before .u16-at .result) (c .before .before .before .before .before .before .before .before .before .before .before .before .before .before .before .before .before .before .before .before .before .before .u16-at .ensures .0) (c .before .before .before .before .before .before .before .before .before .before .before .before .before .before .before .before .before .before .before .entry .result) (c .before .before .before .before .before .before .before .before .before .before .before .before .before .before .before .before .before .before .before .entry .ensures) (resizing (a .adds) (a .i)) (c .before .before .before .before .before .before .before .before .before .before .before .before .before .before .before .before .before .if3 .left) ∙ ap (λ (d : Bool). sort (bitvec (resizing d (a .i) (c .before .before .before .before .before .before .before .before .before .before .before .before .before .before .before .before .before .before .before .entry .result .number)))) (c .before .before .before .before .before .before .before .before .before .before .before .before .before .before .before .before .if4 .left)) (c .before .before .before .before .before .before .before .before .before .before .bit-vector2 .ensures)
+    judged-as (resized-known b p n x m (args-refer b p ix n u x m (s .pre .args)) (positive m (c .before .before .before .before .before .before .before .before .before .before .before .before .before .before .before .before .before .if1 .left)) (c .before .before .before .before .before .before .before .before .before .before .before .before .before .before .before .before .u16-at .result) (c .before .before .before .before .before .before .before .before .before .before .before .before .before .before .before .before .u16-at .ensures .0) (c .before .before .before .before .before .before .before .before .before .before .before .before .before .entry .result) (c .before .before .before .before .before .before .before .before .before .before .before .before .before .entry .ensures) (resizing (a .adds) (a .i)) (c .before .before .before .before .before .before .before .before .before .before .before .if3 .left) ∙ ap (λ (d : Bool). sort (bitvec (resizing d (a .i) (c .before .before .before .before .before .before .before .before .before .before .before .before .before .entry .result .number)))) (c .before .before .before .before .before .before .before .before .before .before .if4 .left)) (c .before .before .before .before .before .before .bit-vector2 .ensures)
 
 pub resized-spec : {M : Type 1} → statement M
-resized-spec = tie.close (tie.spec refuse-requires returns u16-at-requires entry-requires leaf-requires same-length same-length-2 same-length-3 same-length-4 same-length-5 returns-2 refuse-requires-2 same-length-6 same-length-7 returns-3 add-bit-vector bit-vector-requires same-length-8 same-length-9 same-length-10 same-length-11 same-length-12 returns-4 mul-bit-vector bit-vector-requires-2 same-length-13 same-length-14 same-length-15 same-length-16 same-length-17 returns-5)
+resized-spec = tie.close (tie.spec (λ c κs. search needs) returns u16-at-requires entry-requires leaf-requires (λ c. search needs) (λ c. search needs) (λ c. search needs) returns-2 (λ c κs. search needs) (λ c. search needs) (λ c. search needs) returns-3 add-bit-vector bit-vector-requires (λ c. search needs) (λ c. search needs) (λ c. search needs) returns-4 mul-bit-vector bit-vector-requires-2 (λ c. search needs) (λ c. search needs) (λ c. search needs) returns-5)

@@ -33,9 +33,6 @@ columns-of-requires c κs =
     let m = a .n in
     left-asks b p x m (c .before .if1 .left) (c .u16-at .result) (c .u16-at .ensures .0) (s .pre)
 
-enum-known-left : tie.Need-enum-known-left
-enum-known-left c = search needs
-
 u16-at-requires-2 : tie.Need-u16-at-requires-2
 u16-at-requires-2 c κs =
     let s = c .before .before .before .before .before .before .before .before .before in
@@ -50,15 +47,6 @@ columns-of-requires-2 c κs =
     let x = a .args .now in
     let m = a .n in
     right-asks b p x m (c .before .before .before .before .before .before .if1 .left) (c .before .before .before .before .before .u16-at .result) (c .before .before .before .before .before .u16-at .ensures .0) (c .u16-at2 .result) (c .u16-at2 .ensures .0) (s .pre)
-
-enum-known-right : tie.Need-enum-known-right
-enum-known-right c = search needs
-
-enum-told : tie.Need-enum-told
-enum-told c = search needs
-
-enum-told-2 : tie.Need-enum-told-2
-enum-told-2 c = search needs
 
 returns-2 : tie.Need-returns-2
 returns-2 c =
@@ -91,4 +79,4 @@ returns-4 c =
     left-none b p x m (c .before .before .before .before .if1 .left) (c .before .before .before .u16-at .result) (c .before .before .before .u16-at .ensures .0) (subst (ColumnsHas b p (c .before .before .before .u16-at .result)) (c .enum-told2 .given .1) (c .before .before .columns-of .ensures))
 
 pub both-columns-spec : {M : Type 1} → statement M
-both-columns-spec = tie.close (tie.spec returns u16-at-requires columns-of-requires enum-known-left u16-at-requires-2 columns-of-requires-2 enum-known-right enum-told enum-told-2 returns-2 returns-3 returns-4)
+both-columns-spec = tie.close (tie.spec returns u16-at-requires columns-of-requires (λ c. search needs) u16-at-requires-2 columns-of-requires-2 (λ c. search needs) (λ c. search needs) (λ c. search needs) returns-2 returns-3 returns-4)

@@ -9,144 +9,95 @@ use Rattle.inferring.proofs.RelationLaws.{join-panics, empty-asks, join
 use Rattle.inferring.proofs.relations.join_columns.Statement.{statement}
 use Rattle.inferring.proofs.relations.join_columns.Tie as tie
 
-refuse-requires : tie.Need-refuse-requires
-refuse-requires c κs = search needs
-
 returns : tie.Need-returns
 returns c =
-    let s = c .before .before .before .before .before .before .before .before in
+    let s = c .before .before .before .before .before .before in
     let a = s .args in
     let b = a .records .now in
     let p = a .places .now in
-    let hs = a .heads .now in
-    let ns = a .next .now in
-    let zs = a .sizes .now in
+    let ix = a .index .now in
     let n = a .count in
     let u = a .used in
     let x = a .args .now in
-    judged-as (join-panics b p hs ns zs n u x (a .at) (a .m) (a .to) (a .q) (s .pre) (c .before .if1 .taken)) (answered-as (c .refuse .ensures) (answer-refused b p hs ns zs n u (s .pre .good) Panics))
+    judged-as (join-panics b p ix n u x (a .at) (a .m) (a .to) (a .q) (s .pre) (c .before .if1 .taken)) (answered-as (c .refuse .ensures) (answer-refused b p ix n u (s .pre .good) Panics))
 
 add-side-by-side : tie.Need-add-side-by-side
 add-side-by-side c =
-    let s = c .before .before .before .before .before .before .before .before .before .before .before .before .before .before in
+    let s = c .before .before .before .before .before .before .before .before .before .before in
     let a = s .args in
-    let more = positive (a .q) (c .before .before .before .before .before .before .before .if1 .left) in omega (arith, s .pre .right .within, s .good .0)
+    let more = positive (a .q) (c .before .before .before .before .before .if1 .left) in omega (arith, s .pre .right .within, s .good .0)
 
 sub-side-by-side : tie.Need-sub-side-by-side
 sub-side-by-side c =
-    let s = c .before .before .before .before .before .before .before .before .before .before .before .before .before .before in
+    let s = c .before .before .before .before .before .before .before .before .before .before in
     let a = s .args in
-    positive (a .q) (c .before .before .before .before .before .before .before .if1 .left)
+    positive (a .q) (c .before .before .before .before .before .if1 .left)
 
 side-by-side-requires : tie.Need-side-by-side-requires
 side-by-side-requires c κs =
-    let s = c .before .before .before .before .before .before .before .before .before .before .before .before .before .before in
+    let s = c .before .before .before .before .before .before .before .before .before .before in
     let a = s .args in
     let b = a .records .now in
     let p = a .places .now in
-    let hs = a .heads .now in
-    let ns = a .next .now in
-    let zs = a .sizes .now in
+    let ix = a .index .now in
     let n = a .count in
     let u = a .used in
     let x = a .args .now in
-    empty-asks b p hs ns zs n u x (a .at) (a .m) (a .to) (a .q) (s .pre) (positive (a .q) (c .before .before .before .before .before .before .before .if1 .left))
-
-same-length : tie.Need-same-length
-same-length c = search needs
-
-same-length-2 : tie.Need-same-length-2
-same-length-2 c = search needs
-
-same-length-3 : tie.Need-same-length-3
-same-length-3 c = search needs
-
-same-length-4 : tie.Need-same-length-4
-same-length-4 c = search needs
-
-same-length-5 : tie.Need-same-length-5
-same-length-5 c = search needs
-
-same-length-6 : tie.Need-same-length-6
-same-length-6 c = search needs
+    empty-asks b p ix n u x (a .at) (a .m) (a .to) (a .q) (s .pre) (positive (a .q) (c .before .before .before .before .before .if1 .left))
 
 returns-2 : tie.Need-returns-2
 returns-2 c =
-    let s = c .before .before .before .before .before .before .before .before .before .before .before .before .before .before .before .before .before .before .before .before .before .before .before .before .before .before .before in
+    let s = c .before .before .before .before .before .before .before .before .before .before .before .before .before .before .before .before .before .before .before in
     let a = s .args in
     let b = a .records .now in
     let p = a .places .now in
-    let hs = a .heads .now in
-    let ns = a .next .now in
-    let zs = a .sizes .now in
+    let ix = a .index .now in
     let n = a .count in
     let u = a .used in
     let x = a .args .now in
-    judged-as (join-empty b p hs ns zs n u x (a .at) (a .m) (a .to) (a .q) (s .pre) (positive (a .q) (c .before .before .before .before .before .before .before .before .before .before .before .before .before .before .before .before .before .before .before .before .if1 .left)) (c .before .before .before .before .before .before .before .before .before .before .before .before .before .before .before .before .before .before .before .if2 .taken)) (c .before .before .before .before .before .before .before .before .before .before .before .before .side-by-side .ensures)
+    judged-as (join-empty b p ix n u x (a .at) (a .m) (a .to) (a .q) (s .pre) (positive (a .q) (c .before .before .before .before .before .before .before .before .before .before .before .before .before .before .if1 .left)) (c .before .before .before .before .before .before .before .before .before .before .before .before .before .if2 .taken)) (c .before .before .before .before .before .before .before .before .side-by-side .ensures)
 
 sub-side-by-side-2 : tie.Need-sub-side-by-side-2
 sub-side-by-side-2 c =
-    let s = c .before .before .before .before .before .before .before .before .before .before .before .before .before .before in
+    let s = c .before .before .before .before .before .before .before .before .before .before in
     let a = s .args in
-    positive (a .m) (c .before .before .before .before .before .before .if2 .left)
+    positive (a .m) (c .before .before .before .before .if2 .left)
 
 add-side-by-side-2 : tie.Need-add-side-by-side-2
 add-side-by-side-2 c =
-    let s = c .before .before .before .before .before .before .before .before .before .before .before .before .before .before in
+    let s = c .before .before .before .before .before .before .before .before .before .before in
     let a = s .args in
-    let more = positive (a .q) (c .before .before .before .before .before .before .before .if1 .left) in omega (arith, s .pre .right .within, s .good .0)
+    let more = positive (a .q) (c .before .before .before .before .before .if1 .left) in omega (arith, s .pre .right .within, s .good .0)
 
 sub-side-by-side-3 : tie.Need-sub-side-by-side-3
 sub-side-by-side-3 c =
-    let s = c .before .before .before .before .before .before .before .before .before .before .before .before .before .before in
+    let s = c .before .before .before .before .before .before .before .before .before .before in
     let a = s .args in
-    positive (a .q) (c .before .before .before .before .before .before .before .if1 .left)
+    positive (a .q) (c .before .before .before .before .before .if1 .left)
 
 side-by-side-requires-2 : tie.Need-side-by-side-requires-2
 side-by-side-requires-2 c κs =
-    let s = c .before .before .before .before .before .before .before .before .before .before .before .before .before .before in
+    let s = c .before .before .before .before .before .before .before .before .before .before in
     let a = s .args in
     let b = a .records .now in
     let p = a .places .now in
-    let hs = a .heads .now in
-    let ns = a .next .now in
-    let zs = a .sizes .now in
+    let ix = a .index .now in
     let n = a .count in
     let u = a .used in
     let x = a .args .now in
-    less-asks b p hs ns zs n u x (a .at) (a .m) (a .to) (a .q) (s .pre) (positive (a .q) (c .before .before .before .before .before .before .before .if1 .left))
-
-same-length-7 : tie.Need-same-length-7
-same-length-7 c = search needs
-
-same-length-8 : tie.Need-same-length-8
-same-length-8 c = search needs
-
-same-length-9 : tie.Need-same-length-9
-same-length-9 c = search needs
-
-same-length-10 : tie.Need-same-length-10
-same-length-10 c = search needs
-
-same-length-11 : tie.Need-same-length-11
-same-length-11 c = search needs
-
-same-length-12 : tie.Need-same-length-12
-same-length-12 c = search needs
+    less-asks b p ix n u x (a .at) (a .m) (a .to) (a .q) (s .pre) (positive (a .q) (c .before .before .before .before .before .if1 .left))
 
 returns-3 : tie.Need-returns-3
 returns-3 c =
-    let s = c .before .before .before .before .before .before .before .before .before .before .before .before .before .before .before .before .before .before .before .before .before .before .before .before .before .before .before in
+    let s = c .before .before .before .before .before .before .before .before .before .before .before .before .before .before .before .before .before .before .before in
     let a = s .args in
     let b = a .records .now in
     let p = a .places .now in
-    let hs = a .heads .now in
-    let ns = a .next .now in
-    let zs = a .sizes .now in
+    let ix = a .index .now in
     let n = a .count in
     let u = a .used in
     let x = a .args .now in
-    judged-as {b = b} {p = p} (join-less b p hs ns zs n u x (a .at) (a .m) (a .to) (a .q) (s .pre) (positive (a .q) (c .before .before .before .before .before .before .before .before .before .before .before .before .before .before .before .before .before .before .before .before .if1 .left)) (positive (a .m) (c .before .before .before .before .before .before .before .before .before .before .before .before .before .before .before .before .before .before .before .if2 .left))) (c .before .before .before .before .before .before .before .before .before .before .before .before .side-by-side2 .ensures)
+    judged-as {b = b} {p = p} (join-less b p ix n u x (a .at) (a .m) (a .to) (a .q) (s .pre) (positive (a .q) (c .before .before .before .before .before .before .before .before .before .before .before .before .before .before .if1 .left)) (positive (a .m) (c .before .before .before .before .before .before .before .before .before .before .before .before .before .if2 .left))) (c .before .before .before .before .before .before .before .before .side-by-side2 .ensures)
 
 pub join-columns-spec : {M : Type 1} → statement M
-join-columns-spec = tie.close (tie.spec refuse-requires returns add-side-by-side sub-side-by-side side-by-side-requires same-length same-length-2 same-length-3 same-length-4 same-length-5 same-length-6 returns-2 sub-side-by-side-2 add-side-by-side-2 sub-side-by-side-3 side-by-side-requires-2 same-length-7 same-length-8 same-length-9 same-length-10 same-length-11 same-length-12 returns-3)
+join-columns-spec = tie.close (tie.spec (λ c κs. search needs) returns add-side-by-side sub-side-by-side side-by-side-requires (λ c. search needs) (λ c. search needs) (λ c. search needs) (λ c. search needs) returns-2 sub-side-by-side-2 add-side-by-side-2 sub-side-by-side-3 side-by-side-requires-2 (λ c. search needs) (λ c. search needs) (λ c. search needs) (λ c. search needs) returns-3)

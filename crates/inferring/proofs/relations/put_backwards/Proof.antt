@@ -79,9 +79,6 @@ loop-again c =
     let room : 3 + 2 * l .i + 2 ≤ length c1 = omega (arith, s .pre .room, c .before .before .before .before .before .loop-test .taken, w .2) in
     (omega (arith, c .before .before .before .before .before .loop-test .taken), subst (λ (d : List ℕ). Filled d (backAt b (a .at) m) (l .i + 1)) (sym (c .before .before .put-u16 .ensures)) (filled-more c1 (backAt b (a .at) m) (l .i) (c .before .before .before .before .u16-at .result) room (c .before .before .before .before .u16-at .ensures .0) (w .1)), c .before .before .put-u16 .kept .0 ∙ w .2)
 
-same-length : tie.Need-same-length Inv-loop μ-loop
-same-length c = search needs
-
 returns : tie.Need-returns Inv-loop μ-loop
 returns c =
     let s = c .before .before .before .before in
@@ -94,4 +91,4 @@ returns c =
     subst (λ (j : ℕ). Filled (l .args) (backAt b (a .at) m) j) e (w .1)
 
 pub put-backwards-spec : {M : Type 1} → statement M
-put-backwards-spec = tie.close (tie.spec Inv-loop μ-loop loop-holds sub-u16-at sub-u16-at-2 mul-u16-at add-u16-at u16-at-requires mul-put-u16 add-put-u16 put-u16-requires add-i loop-less loop-again same-length returns)
+put-backwards-spec = tie.close (tie.spec Inv-loop μ-loop loop-holds sub-u16-at sub-u16-at-2 mul-u16-at add-u16-at u16-at-requires mul-put-u16 add-put-u16 put-u16-requires add-i loop-less loop-again (λ c. search needs) returns)

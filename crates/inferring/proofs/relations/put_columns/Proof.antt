@@ -81,9 +81,6 @@ loop-again c =
     let room : 3 + 2 * (a .from + l .i) + 2 ≤ length c1 = omega (arith, s .pre .room, c .before .before .before .before .before .loop-test .taken, w .2) in
     (omega (arith, c .before .before .before .before .before .loop-test .taken), subst (PutHas b (a .at) (l .i + 1) x (a .from)) (sym (c .before .before .put-u16 .ensures)) (put-more b (a .at) (l .i) x (a .from) c1 (c .before .before .before .before .u16-at .result) room (c .before .before .before .before .u16-at .ensures .0) (w .1)), c .before .before .put-u16 .kept .0 ∙ w .2)
 
-same-length : tie.Need-same-length Inv-loop μ-loop
-same-length c = search needs
-
 returns : tie.Need-returns Inv-loop μ-loop
 returns c =
     let s = c .before .before .before .before in
@@ -97,4 +94,4 @@ returns c =
     subst (λ (j : ℕ). PutHas b (a .at) j x (a .from) (l .args)) e (w .1)
 
 pub put-columns-spec : {M : Type 1} → statement M
-put-columns-spec = tie.close (tie.spec Inv-loop μ-loop loop-holds mul-u16-at add-u16-at u16-at-requires add-put-u16 mul-put-u16 add-put-u16-2 put-u16-requires add-i loop-less loop-again same-length returns)
+put-columns-spec = tie.close (tie.spec Inv-loop μ-loop loop-holds mul-u16-at add-u16-at u16-at-requires add-put-u16 mul-put-u16 add-put-u16-2 put-u16-requires add-i loop-less loop-again (λ c. search needs) returns)

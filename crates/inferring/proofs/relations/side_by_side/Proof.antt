@@ -10,82 +10,56 @@ use Rattle.inferring.proofs.relations.side_by_side.Tie as tie
 
 put-columns-requires : tie.Need-put-columns-requires
 put-columns-requires c κs =
-    let s = c .before .before .before .before .before .before .before .before in
+    let s = c .before .before .before .before .before .before in
     let a = s .args in
     let b = a .records .now in
     let p = a .places .now in
-    let hs = a .heads .now in
-    let ns = a .next .now in
-    let zs = a .sizes .now in
+    let ix = a .index .now in
     let n = a .count in
     let u = a .used in
     let x = a .args .now in
-    side-first b p hs ns zs n u x (a .at) (a .m) (a .to) (a .q) (s .pre)
+    side-first b p ix n u x (a .at) (a .m) (a .to) (a .q) (s .pre)
 
 put-columns-requires-2 : tie.Need-put-columns-requires-2
 put-columns-requires-2 c κs =
-    let s = c .before .before .before .before .before .before .before .before .before .before .before .before .before in
+    let s = c .before .before .before .before .before .before .before .before .before .before .before in
     let a = s .args in
     let b = a .records .now in
     let p = a .places .now in
-    let hs = a .heads .now in
-    let ns = a .next .now in
-    let zs = a .sizes .now in
+    let ix = a .index .now in
     let n = a .count in
     let u = a .used in
     let x = a .args .now in
-    side-second b p hs ns zs n u x (a .at) (a .m) (a .to) (a .q) (s .pre) (c .before .before .before .before .put-columns .last .1 .1 .1 .0) (c .before .before .before .before .put-columns .kept .1 .1 .1 .0)
+    side-second b p ix n u x (a .at) (a .m) (a .to) (a .q) (s .pre) (c .before .before .before .before .put-columns .last .1 .1 .1 .0) (c .before .before .before .before .put-columns .kept .1 .1 .1 .0)
 
 add-relation : tie.Need-add-relation
 add-relation c =
-    let s = c .before .before .before .before .before .before .before .before .before .before .before .before .before .before .before .before .before .before .before .before .before .before in
+    let s = c .before .before .before .before .before .before .before .before .before .before .before .before .before .before .before .before .before .before in
     omega (arith, s .pre .left .few, s .pre .right .few)
 
 relation-requires : tie.Need-relation-requires
 relation-requires c κs =
-    let s = c .before .before .before .before .before .before .before .before .before .before .before .before .before .before .before .before .before .before .before .before .before .before in
+    let s = c .before .before .before .before .before .before .before .before .before .before .before .before .before .before .before .before .before .before in
     let a = s .args in
     let b = a .records .now in
     let p = a .places .now in
-    let hs = a .heads .now in
-    let ns = a .next .now in
-    let zs = a .sizes .now in
+    let ix = a .index .now in
     let n = a .count in
     let u = a .used in
     let x = a .args .now in
-    side-asks b p hs ns zs n u x (a .at) (a .m) (a .to) (a .q) (s .pre) (c .before .before .before .before .before .before .before .before .before .before .before .before .before .put-columns .last .1 .1 .1 .0) (c .before .before .before .before .before .before .before .before .put-columns2 .last .1 .1 .1 .0) (c .before .before .before .before .before .before .before .before .before .before .before .before .before .put-columns .ensures) (c .before .before .before .before .before .before .before .before .put-columns2 .ensures) (c .before .before .before .before .before .before .before .before .put-columns2 .kept .1 .1 .1 .0 ∙ c .before .before .before .before .before .before .before .before .before .before .before .before .before .put-columns .kept .1 .1 .1 .0)
-
-same-length : tie.Need-same-length
-same-length c = search needs
-
-same-length-2 : tie.Need-same-length-2
-same-length-2 c = search needs
-
-same-length-3 : tie.Need-same-length-3
-same-length-3 c = search needs
-
-same-length-4 : tie.Need-same-length-4
-same-length-4 c = search needs
-
-same-length-5 : tie.Need-same-length-5
-same-length-5 c = search needs
-
-same-length-6 : tie.Need-same-length-6
-same-length-6 c = search needs
+    side-asks b p ix n u x (a .at) (a .m) (a .to) (a .q) (s .pre) (c .before .before .before .before .before .before .before .before .before .before .before .put-columns .last .1 .1 .1 .0) (c .before .before .before .before .before .before .put-columns2 .last .1 .1 .1 .0) (c .before .before .before .before .before .before .before .before .before .before .before .put-columns .ensures) (c .before .before .before .before .before .before .put-columns2 .ensures) (c .before .before .before .before .before .before .put-columns2 .kept .1 .1 .1 .0 ∙ c .before .before .before .before .before .before .before .before .before .before .before .put-columns .kept .1 .1 .1 .0)
 
 returns : tie.Need-returns
 returns c =
-    let s = c .before .before .before .before .before .before .before .before .before .before .before .before .before .before .before .before .before .before .before .before .before .before .before .before .before .before .before .before .before .before .before .before .before .before .before in
+    let s = c .before .before .before .before .before .before .before .before .before .before .before .before .before .before .before .before .before .before .before .before .before .before .before .before .before .before .before in
     let a = s .args in
     let b = a .records .now in
     let p = a .places .now in
-    let hs = a .heads .now in
-    let ns = a .next .now in
-    let zs = a .sizes .now in
+    let ix = a .index .now in
     let n = a .count in
     let u = a .used in
     let x = a .args .now in
-    judged-as (side-is b p hs ns zs n u x (a .at) (a .m) (a .to) (a .q) (s .pre) (c .before .before .before .before .before .before .before .before .before .before .before .before .before .before .before .before .before .before .before .before .before .before .before .before .before .before .put-columns .last .1 .1 .1 .0) (c .before .before .before .before .before .before .before .before .before .before .before .before .before .before .before .before .before .before .before .before .before .put-columns2 .last .1 .1 .1 .0) (c .before .before .before .before .before .before .before .before .before .before .before .before .before .before .before .before .before .before .before .before .before .before .before .before .before .before .put-columns .ensures) (c .before .before .before .before .before .before .before .before .before .before .before .before .before .before .before .before .before .before .before .before .before .put-columns2 .ensures)) (c .before .before .before .before .before .before .before .before .before .before .before .before .relation .ensures)
+    judged-as (side-is b p ix n u x (a .at) (a .m) (a .to) (a .q) (s .pre) (c .before .before .before .before .before .before .before .before .before .before .before .before .before .before .before .before .before .before .before .before .put-columns .last .1 .1 .1 .0) (c .before .before .before .before .before .before .before .before .before .before .before .before .before .before .before .put-columns2 .last .1 .1 .1 .0) (c .before .before .before .before .before .before .before .before .before .before .before .before .before .before .before .before .before .before .before .before .put-columns .ensures) (c .before .before .before .before .before .before .before .before .before .before .before .before .before .before .before .put-columns2 .ensures)) (c .before .before .before .before .before .before .before .before .relation .ensures)
 
 pub side-by-side-spec : {M : Type 1} → statement M
-side-by-side-spec = tie.close (tie.spec put-columns-requires put-columns-requires-2 add-relation relation-requires same-length same-length-2 same-length-3 same-length-4 same-length-5 same-length-6 returns)
+side-by-side-spec = tie.close (tie.spec put-columns-requires put-columns-requires-2 add-relation relation-requires (λ c. search needs) (λ c. search needs) (λ c. search needs) (λ c. search needs) returns)

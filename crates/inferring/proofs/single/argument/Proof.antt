@@ -12,9 +12,6 @@ use Rattle.inferring.proofs.SingleLaws.{nth-none, nth-some}
 use Rattle.inferring.proofs.single.argument.Statement.{statement}
 use Rattle.inferring.proofs.single.argument.Tie as tie
 
-refuse-requires : tie.Need-refuse-requires
-refuse-requires c κs = search needs
-
 returns : tie.Need-returns
 returns c =
     let s = c .before .before .before in
@@ -23,8 +20,8 @@ returns c =
     let u = a .used in
     let x = a .args .now in
     let m = a .n in
-    λ b p hs ns zs h.
-    judged-as (nth-none b p n x 3 m (a .i) (c .before .if1 .taken)) (answered-as (c .refuse .ensures) (answer-refused b p hs ns zs n u (h .good) Panics))
+    λ b p ix h.
+    judged-as (nth-none b p n x 3 m (a .i) (c .before .if1 .taken)) (answered-as (c .refuse .ensures) (answer-refused b p ix n u (h .good) Panics))
 
 mul-u16-at : tie.Need-mul-u16-at
 mul-u16-at c =
@@ -41,9 +38,6 @@ u16-at-requires c κs =
     let s = c .before .before in
     omega (arith, s .pre .within, c .if1 .left)
 
-found-requires : tie.Need-found-requires
-found-requires c κs = search needs
-
 returns-2 : tie.Need-returns-2
 returns-2 c =
     let s = c .before .before .before .before in
@@ -52,9 +46,9 @@ returns-2 c =
     let u = a .used in
     let x = a .args .now in
     let m = a .n in
-    λ b p hs ns zs h.
+    λ b p ix h.
     judged-as (nth-some b p n x 3 m (a .i) (c .before .before .if1 .left) ∙ ap (λ (k : ℕ). sort (sortAt b p n k)) (sym (c .before .u16-at .ensures .0)))
-    (answered-as (c .found .ensures) (answer-known b p hs ns zs n u (h .good) (c .before .u16-at .result) (subst (λ (k : ℕ). k < n) (sym (c .before .u16-at .ensures .0)) (h .below (a .i) (c .before .before .if1 .left)))))
+    (answered-as (c .found .ensures) (answer-known b p ix n u (h .good) (c .before .u16-at .result) (subst (λ (k : ℕ). k < n) (sym (c .before .u16-at .ensures .0)) (h .below (a .i) (c .before .before .if1 .left)))))
 
 pub argument-spec : {M : Type 1} → statement M
-argument-spec = tie.close (tie.spec refuse-requires returns mul-u16-at add-u16-at u16-at-requires found-requires returns-2)
+argument-spec = tie.close (tie.spec (λ c κs. search needs) returns mul-u16-at add-u16-at u16-at-requires (λ c κs. search needs) returns-2)

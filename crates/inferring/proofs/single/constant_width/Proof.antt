@@ -12,33 +12,28 @@ use Rattle.inferring.proofs.SingleLaws.{written-none, second-in, second
 use Rattle.inferring.proofs.single.constant_width.Statement.{statement}
 use Rattle.inferring.proofs.single.constant_width.Tie as tie
 
-refuse-requires : tie.Need-refuse-requires
-refuse-requires c κs = search needs
-
 returns : tie.Need-returns
 returns c =
-    let s = c .before .before .before .before .before .before .before .before .before in
+    let s = c .before .before .before .before .before .before .before in
     let a = s .args in
     let b = a .records .now in
     let p = a .places .now in
-    let hs = a .heads .now in
-    let ns = a .next .now in
-    let zs = a .sizes .now in
+    let ix = a .index .now in
     let n = a .count in
     let u = a .used in
     let m = a .n in
     let z = a .sheet .now in
     let t = a .starts .now in
-    judged-as (written-none z t (a .list) m (s .pre .terms) (c .before .if1 .taken)) (answered-as (c .refuse .ensures) (answer-refused b p hs ns zs n u (s .pre .good) Panics))
+    judged-as (written-none z t (a .list) m (s .pre .terms) (c .before .if1 .taken)) (answered-as (c .refuse .ensures) (answer-refused b p ix n u (s .pre .good) Panics))
 
 add-u16-at : tie.Need-add-u16-at
 add-u16-at c =
-    let s = c .before .before .before .before .before .before .before .before in
-    omega (arith, s .pre .terms .within, c .if1 .left, s .good .1 .1 .1 .1 .1 .1 .1 .0)
+    let s = c .before .before .before .before .before .before in
+    omega (arith, s .pre .terms .within, c .if1 .left, s .good .1 .1 .1 .1 .1 .0)
 
 u16-at-requires : tie.Need-u16-at-requires
 u16-at-requires c κs =
-    let s = c .before .before .before .before .before .before .before .before in
+    let s = c .before .before .before .before .before .before in
     omega (arith, s .pre .terms .within, c .if1 .left)
 
 mul-at : tie.Need-mul-at
@@ -46,7 +41,7 @@ mul-at c = omega (arith, c .u16-at .ensures .1)
 
 shared-slice-read-at : tie.Need-shared-slice-read-at
 shared-slice-read-at c =
-    let s = c .before .before .before .before .before .before .before .before .before .before in
+    let s = c .before .before .before .before .before .before .before .before in
     let a = s .args in
     let m = a .n in
     let z = a .sheet .now in
@@ -58,77 +53,41 @@ cast-at c = omega (arith, c .shared-slice-known3 .given (c .before .u16-at .resu
 
 constant-at-requires : tie.Need-constant-at-requires
 constant-at-requires c κs =
-    let s = c .before .before .before .before .before .before .before .before .before .before in
+    let s = c .before .before .before .before .before .before .before .before in
     let a = s .args in
     let m = a .n in
     let z = a .sheet .now in
     let t = a .starts .now in
     second-asks z t (a .list) m (s .pre .terms) (c .before .before .if1 .left) (c .before .u16-at .result) (c .before .u16-at .ensures .0)
 
-enum-known-second : tie.Need-enum-known-second
-enum-known-second c = search needs
-
 bit-vector-requires : tie.Need-bit-vector-requires
 bit-vector-requires c κs =
-    let s = c .before .before .before .before .before .before .before .before .before .before .before .before .before .before .before .before .before .before .before in
+    let s = c .before .before .before .before .before .before .before .before .before .before .before .before .before .before .before in
     s .pre .good
-
-enum-told : tie.Need-enum-told
-enum-told c = search needs
 
 leaf-requires : tie.Need-leaf-requires
 unfolding mapOf maps
 leaf-requires c κs =
-    let s = c .before .before .before .before .before .before .before .before .before .before .before .before .before .before .before .before .before .before in
+    let s = c .before .before .before .before .before .before .before .before .before .before .before .before .before .before in
     record { good = s .pre .good; map = refl }
-
-same-length : tie.Need-same-length
-same-length c = search needs
-
-same-length-2 : tie.Need-same-length-2
-same-length-2 c = search needs
-
-same-length-3 : tie.Need-same-length-3
-same-length-3 c = search needs
-
-same-length-4 : tie.Need-same-length-4
-same-length-4 c = search needs
-
-same-length-5 : tie.Need-same-length-5
-same-length-5 c = search needs
 
 returns-2 : tie.Need-returns-2
 returns-2 c =
-    let s = c .before .before .before .before .before .before .before .before .before .before .before .before .before .before .before .before .before .before .before .before .before .before .before .before .before .before .before .before .before .before in
+    let s = c .before .before .before .before .before .before .before .before .before .before .before .before .before .before .before .before .before .before .before .before .before .before in
     let a = s .args in
     let m = a .n in
     let z = a .sheet .now in
     let t = a .starts .now in
-    judged-as (written-is z t (a .list) m (s .pre .terms) (c .before .before .before .before .before .before .before .before .before .before .before .before .before .before .before .before .before .before .before .before .before .before .if1 .left) (c .before .before .before .before .before .before .before .before .before .before .before .before .before .before .before .before .before .before .before .before .before .u16-at .result) (c .before .before .before .before .before .before .before .before .before .before .before .before .before .before .before .before .before .before .before .before .before .u16-at .ensures .0) (c .before .before .before .before .before .before .before .before .before .before .before .before .before .before .before .before .before .before .before .constant-at .result) (c .before .before .before .before .before .before .before .before .before .before .before .before .before .before .before .before .before .before .before .constant-at .ensures) ∙ ap (λ (o : Constant). widthIn (integerOf o)) (c .before .before .before .before .before .before .before .before .before .before .before .before .before .before .before .before .before .second .given .1)) (c .before .before .before .before .before .before .before .before .before .before .bit-vector .ensures)
-
-same-length-6 : tie.Need-same-length-6
-same-length-6 c = search needs
-
-same-length-7 : tie.Need-same-length-7
-same-length-7 c = search needs
-
-same-length-8 : tie.Need-same-length-8
-same-length-8 c = search needs
-
-same-length-9 : tie.Need-same-length-9
-same-length-9 c = search needs
-
-same-length-10 : tie.Need-same-length-10
-same-length-10 c = search needs
+    judged-as (written-is z t (a .list) m (s .pre .terms) (c .before .before .before .before .before .before .before .before .before .before .before .before .before .before .before .before .if1 .left) (c .before .before .before .before .before .before .before .before .before .before .before .before .before .before .before .u16-at .result) (c .before .before .before .before .before .before .before .before .before .before .before .before .before .before .before .u16-at .ensures .0) (c .before .before .before .before .before .before .before .before .before .before .before .before .before .constant-at .result) (c .before .before .before .before .before .before .before .before .before .before .before .before .before .constant-at .ensures) ∙ ap (λ (o : Constant). widthIn (integerOf o)) (c .before .before .before .before .before .before .before .before .before .before .before .second .given .1)) (c .before .before .before .before .before .before .bit-vector .ensures)
 
 returns-3 : tie.Need-returns-3
 returns-3 c =
-    let s = c .before .before .before .before .before .before .before .before .before .before .before .before .before .before .before .before .before .before .before .before .before .before .before .before .before .before .before .before .before in
+    let s = c .before .before .before .before .before .before .before .before .before .before .before .before .before .before .before .before .before .before .before .before .before in
     let a = s .args in
     let m = a .n in
     let z = a .sheet .now in
     let t = a .starts .now in
-    judged-as (written-is z t (a .list) m (s .pre .terms) (c .before .before .before .before .before .before .before .before .before .before .before .before .before .before .before .before .before .before .before .before .before .if1 .left) (c .before .before .before .before .before .before .before .before .before .before .before .before .before .before .before .before .before .before .before .before .u16-at .result) (c .before .before .before .before .before .before .before .before .before .before .before .before .before .before .before .before .before .before .before .before .u16-at .ensures .0) (c .before .before .before .before .before .before .before .before .before .before .before .before .before .before .before .before .before .before .constant-at .result) (c .before .before .before .before .before .before .before .before .before .before .before .before .before .before .before .before .before .before .constant-at .ensures) ∙ ap (λ (o : Constant). widthIn (integerOf o)) (c .before .before .before .before .before .before .before .before .before .before .before .before .before .before .before .before .enum-told .given .1)) (c .before .before .before .before .before .before .before .before .before .before .leaf .ensures)
+    judged-as (written-is z t (a .list) m (s .pre .terms) (c .before .before .before .before .before .before .before .before .before .before .before .before .before .before .before .if1 .left) (c .before .before .before .before .before .before .before .before .before .before .before .before .before .before .u16-at .result) (c .before .before .before .before .before .before .before .before .before .before .before .before .before .before .u16-at .ensures .0) (c .before .before .before .before .before .before .before .before .before .before .before .before .constant-at .result) (c .before .before .before .before .before .before .before .before .before .before .before .before .constant-at .ensures) ∙ ap (λ (o : Constant). widthIn (integerOf o)) (c .before .before .before .before .before .before .before .before .before .before .enum-told .given .1)) (c .before .before .before .before .before .before .leaf .ensures)
 
 pub constant-width-spec : {M : Type 1} → statement M
-constant-width-spec = tie.close (tie.spec refuse-requires returns add-u16-at u16-at-requires mul-at shared-slice-read-at cast-at constant-at-requires enum-known-second bit-vector-requires enum-told leaf-requires same-length same-length-2 same-length-3 same-length-4 same-length-5 returns-2 same-length-6 same-length-7 same-length-8 same-length-9 same-length-10 returns-3)
+constant-width-spec = tie.close (tie.spec (λ c κs. search needs) returns add-u16-at u16-at-requires mul-at shared-slice-read-at cast-at constant-at-requires (λ c. search needs) bit-vector-requires (λ c. search needs) leaf-requires (λ c. search needs) (λ c. search needs) (λ c. search needs) returns-2 (λ c. search needs) (λ c. search needs) (λ c. search needs) returns-3)

@@ -12,9 +12,6 @@ use Rattle.inferring.proofs.SingleLaws.{sorts-none, first-entry, elemen
 use Rattle.inferring.proofs.single.element.Statement.{statement}
 use Rattle.inferring.proofs.single.element.Tie as tie
 
-refuse-requires : tie.Need-refuse-requires
-refuse-requires c κs = search needs
-
 returns : tie.Need-returns
 returns c =
     let s = c .before .before .before .before .before in
@@ -25,8 +22,8 @@ returns c =
     let u = a .used in
     let x = a .args .now in
     let m = a .n in
-    λ hs ns zs h.
-    judged-as (ap selected (sorts-none b p n x m (c .before .if1 .taken))) (answered-as (c .refuse .ensures) (answer-refused b p hs ns zs n u (h .good) Panics))
+    λ ix h.
+    judged-as (ap selected (sorts-none b p n x m (c .before .if1 .taken))) (answered-as (c .refuse .ensures) (answer-refused b p ix n u (h .good) Panics))
 
 u16-at-requires : tie.Need-u16-at-requires
 u16-at-requires c κs =
@@ -46,9 +43,6 @@ entry-requires c κs =
     let m = a .n in
     first-entry b p n x m (s .pre) (positive m (c .before .if1 .left)) (c .u16-at .result) (c .u16-at .ensures .0)
 
-refuse-requires-2 : tie.Need-refuse-requires-2
-refuse-requires-2 c κs = search needs
-
 returns-2 : tie.Need-returns-2
 returns-2 c =
     let s = c .before .before .before .before .before .before .before .before in
@@ -59,8 +53,8 @@ returns-2 c =
     let u = a .used in
     let x = a .args .now in
     let m = a .n in
-    λ hs ns zs h.
-    judged-as (element-none b p n x m (s .pre) (positive m (c .before .before .before .before .if1 .left)) (c .before .before .before .u16-at .result) (c .before .before .before .u16-at .ensures .0) (c .before .before .entry .result) (c .before .before .entry .ensures) (c .before .if2 .taken)) (answered-as (c .refuse2 .ensures) (answer-refused b p hs ns zs n u (h .good) Panics))
+    λ ix h.
+    judged-as (element-none b p n x m (s .pre) (positive m (c .before .before .before .before .if1 .left)) (c .before .before .before .u16-at .result) (c .before .before .before .u16-at .ensures .0) (c .before .before .entry .result) (c .before .before .entry .ensures) (c .before .if2 .taken)) (answered-as (c .refuse2 .ensures) (answer-refused b p ix n u (h .good) Panics))
 
 add-u16-at : tie.Need-add-u16-at
 add-u16-at c =
@@ -84,9 +78,6 @@ u16-at-requires-2 c κs =
     let m = a .n in
     element-in b p n x m (s .pre) (positive m (c .before .before .before .if1 .left)) (c .before .before .u16-at .result) (c .before .before .u16-at .ensures .0) (c .before .entry .result) (c .before .entry .ensures) (c .if2 .left)
 
-found-requires : tie.Need-found-requires
-found-requires c κs = search needs
-
 returns-3 : tie.Need-returns-3
 returns-3 c =
     let s = c .before .before .before .before .before .before .before .before .before in
@@ -97,12 +88,12 @@ returns-3 c =
     let u = a .used in
     let x = a .args .now in
     let m = a .n in
-    λ hs ns zs h.
+    λ ix h.
     let i = c .before .before .if2 .left in
     let v = c .before .u16-at2 .result in
     let z = c .before .u16-at2 .ensures .0 in
     judged-as (element-is b p n x m (s .pre) (positive m (c .before .before .before .before .before .if1 .left)) (c .before .before .before .before .u16-at .result) (c .before .before .before .before .u16-at .ensures .0) (c .before .before .before .entry .result) (c .before .before .before .entry .ensures) i v z)
-    (answered-as (c .found .ensures) (answer-known b p hs ns zs n u (h .good) v (element-known b p n x m (s .pre) (positive m (c .before .before .before .before .before .if1 .left)) (c .before .before .before .before .u16-at .result) (c .before .before .before .before .u16-at .ensures .0) (c .before .before .before .entry .result) (c .before .before .before .entry .ensures) i v z)))
+    (answered-as (c .found .ensures) (answer-known b p ix n u (h .good) v (element-known b p n x m (s .pre) (positive m (c .before .before .before .before .before .if1 .left)) (c .before .before .before .before .u16-at .result) (c .before .before .before .before .u16-at .ensures .0) (c .before .before .before .entry .result) (c .before .before .before .entry .ensures) i v z)))
 
 pub element-spec : {M : Type 1} → statement M
-element-spec = tie.close (tie.spec refuse-requires returns u16-at-requires entry-requires refuse-requires-2 returns-2 add-u16-at u16-at-requires-2 found-requires returns-3)
+element-spec = tie.close (tie.spec (λ c κs. search needs) returns u16-at-requires entry-requires (λ c κs. search needs) returns-2 add-u16-at u16-at-requires-2 (λ c κs. search needs) returns-3)

@@ -12,73 +12,49 @@ use Rattle.inferring.proofs.SingleLaws.{sorts-none, first-known, first-
 use Rattle.inferring.proofs.single.singleton.Statement.{statement}
 use Rattle.inferring.proofs.single.singleton.Tie as tie
 
-refuse-requires : tie.Need-refuse-requires
-refuse-requires c κs = search needs
-
 returns : tie.Need-returns
 returns c =
-    let s = c .before .before .before .before .before .before .before .before in
+    let s = c .before .before .before .before .before .before in
     let a = s .args in
     let b = a .records .now in
     let p = a .places .now in
-    let hs = a .heads .now in
-    let ns = a .next .now in
-    let zs = a .sizes .now in
+    let ix = a .index .now in
     let n = a .count in
     let u = a .used in
     let x = a .args .now in
     let m = a .n in
-    judged-as (ap singletonOf (sorts-none b p n x m (c .before .if1 .taken))) (answered-as (c .refuse .ensures) (answer-refused b p hs ns zs n u (s .pre .good) Panics))
+    judged-as (ap singletonOf (sorts-none b p n x m (c .before .if1 .taken))) (answered-as (c .refuse .ensures) (answer-refused b p ix n u (s .pre .good) Panics))
 
 u16-at-requires : tie.Need-u16-at-requires
 u16-at-requires c κs =
-    let s = c .before .before .before .before .before .before .before in
+    let s = c .before .before .before .before .before in
     omega (arith, s .pre .room)
 
 set-of-requires : tie.Need-set-of-requires
 set-of-requires c κs =
-    let s = c .before .before .before .before .before .before .before .before .before .before .before .before .before in
+    let s = c .before .before .before .before .before .before .before .before .before in
     let a = s .args in
     let b = a .records .now in
     let p = a .places .now in
-    let hs = a .heads .now in
-    let ns = a .next .now in
-    let zs = a .sizes .now in
+    let ix = a .index .now in
     let n = a .count in
     let u = a .used in
     let x = a .args .now in
     let m = a .n in
-    record { good = s .pre .good; known = first-known b p n x m (args-refer b p hs ns zs n u x m (s .pre)) (positive m (c .before .before .before .before .before .before .if1 .left)) (c .before .before .before .before .before .u16-at .result) (c .before .before .before .before .before .u16-at .ensures .0) }
-
-same-length : tie.Need-same-length
-same-length c = search needs
-
-same-length-2 : tie.Need-same-length-2
-same-length-2 c = search needs
-
-same-length-3 : tie.Need-same-length-3
-same-length-3 c = search needs
-
-same-length-4 : tie.Need-same-length-4
-same-length-4 c = search needs
-
-same-length-5 : tie.Need-same-length-5
-same-length-5 c = search needs
+    record { good = s .pre .good; known = first-known b p n x m (args-refer b p ix n u x m (s .pre)) (positive m (c .before .before .before .before .if1 .left)) (c .before .before .before .u16-at .result) (c .before .before .before .u16-at .ensures .0) }
 
 returns-2 : tie.Need-returns-2
 returns-2 c =
-    let s = c .before .before .before .before .before .before .before .before .before .before .before .before .before .before .before .before .before .before .before .before .before .before .before .before in
+    let s = c .before .before .before .before .before .before .before .before .before .before .before .before .before .before .before .before in
     let a = s .args in
     let b = a .records .now in
     let p = a .places .now in
-    let hs = a .heads .now in
-    let ns = a .next .now in
-    let zs = a .sizes .now in
+    let ix = a .index .now in
     let n = a .count in
     let u = a .used in
     let x = a .args .now in
     let m = a .n in
-    judged-as (ap singletonOf (first-then b p n x m (args-refer b p hs ns zs n u x m (s .pre)) (positive m (c .before .before .before .before .before .before .before .before .before .before .before .before .before .before .before .before .before .if1 .left)) (c .before .before .before .before .before .before .before .before .before .before .before .before .before .before .before .before .u16-at .result) (c .before .before .before .before .before .before .before .before .before .before .before .before .before .before .before .before .u16-at .ensures .0))) (c .before .before .before .before .before .before .before .before .before .before .set-of .ensures)
+    judged-as (ap singletonOf (first-then b p n x m (args-refer b p ix n u x m (s .pre)) (positive m (c .before .before .before .before .before .before .before .before .before .before .before .if1 .left)) (c .before .before .before .before .before .before .before .before .before .before .u16-at .result) (c .before .before .before .before .before .before .before .before .before .before .u16-at .ensures .0))) (c .before .before .before .before .before .before .set-of .ensures)
 
 pub singleton-spec : {M : Type 1} → statement M
-singleton-spec = tie.close (tie.spec refuse-requires returns u16-at-requires set-of-requires same-length same-length-2 same-length-3 same-length-4 same-length-5 returns-2)
+singleton-spec = tie.close (tie.spec (λ c κs. search needs) returns u16-at-requires set-of-requires (λ c. search needs) (λ c. search needs) (λ c. search needs) returns-2)

@@ -44,7 +44,7 @@ read-sheet-requires c κs =
     let a = s .args in
     let x = a .sheet .now in
     let k = a .kinds .now in
-    record { heads = refl; next = refl; sizes = refl; table = refl; terms = refl; questions = refl; scratch = refl; noHeads = zeros-all 1024; noNext = zeros-all 8192; noSizes = zeros-all 4096 }
+    record { index = refl; table = refl; terms = refl; questions = refl; scratch = refl; empty = zeros-all 13312 }
 
 enum-known-read : tie.Need-enum-known-read
 enum-known-read c = search needs

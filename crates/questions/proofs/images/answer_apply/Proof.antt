@@ -9,50 +9,29 @@ use Rattle.questions.proofs.images.answer_apply.Tie as tie
 
 add-fill-images : tie.Need-add-fill-images
 add-fill-images c =
-    let s = c .before .before .before .before .before .before .before .before .before in
-    let a = s .args in
-    let b = a .records .now in
-    let p = a .places .now in
-    let hs = a .heads .now in
-    let ns = a .next .now in
-    let zs = a .sizes .now in
-    let n = a .count in
-    let u = a .used in
-    let g = a .images .now in
-    let d = a .sheet .now in
-    let t = a .table .now in
-    let q = a .question in
+    let s = c .before .before .before .before .before .before .before in
     omega (arith, s .pre .asked .within, s .pre .count, s .pre .asked .short)
 
 fill-images-requires : tie.Need-fill-images-requires
 fill-images-requires c κs =
-    let s = c .before .before .before .before .before .before .before .before .before in
+    let s = c .before .before .before .before .before .before .before in
     let a = s .args in
     let b = a .records .now in
     let p = a .places .now in
-    let hs = a .heads .now in
-    let ns = a .next .now in
-    let zs = a .sizes .now in
+    let ix = a .index .now in
     let n = a .count in
     let u = a .used in
     let g = a .images .now in
     let d = a .sheet .now in
     let t = a .table .now in
     let q = a .question in
-    fill-asks b p hs ns zs n u g d t q (s .pre)
+    fill-asks b p ix n u g d t q (s .pre)
 
 sort-at-requires : tie.Need-sort-at-requires
 sort-at-requires c κs =
-    let s = c .before .before .before .before .before .before .before .before .before .before .before .before in
+    let s = c .before .before .before .before .before .before .before .before .before .before in
     let a = s .args in
-    let b = a .records .now in
-    let p = a .places .now in
-    let hs = a .heads .now in
-    let ns = a .next .now in
-    let zs = a .sizes .now in
     let n = a .count in
-    let u = a .used in
-    let g = a .images .now in
     let d = a .sheet .now in
     let t = a .table .now in
     let q = a .question in
@@ -60,73 +39,49 @@ sort-at-requires c κs =
 
 instance-requires : tie.Need-instance-requires
 instance-requires c κs =
-    let s = c .before .before .before .before .before .before .before .before .before .before .before .before .before .before .before .before .before .before .before in
+    let s = c .before .before .before .before .before .before .before .before .before .before .before .before .before .before .before in
     let a = s .args in
     let b = a .records .now in
     let p = a .places .now in
-    let hs = a .heads .now in
-    let ns = a .next .now in
-    let zs = a .sizes .now in
+    let ix = a .index .now in
     let n = a .count in
     let u = a .used in
     let g = a .images .now in
     let d = a .sheet .now in
     let t = a .table .now in
     let q = a .question in
-    let k = c .before .before .before .before .before .before .sort-at .result in replace-asks b p hs ns zs n u g d t q (s .pre) (c .before .before .before .before .before .before .before .before .before .fill-images .last .0) (c .before .before .before .before .before .before .before .before .before .fill-images .ensures) k (sort-known n d t q (s .pre .asked) 0 (q .list) (omega (arith, s .pre .count)) (omega arith) k (c .before .before .before .before .before .before .sort-at .ensures))
+    let k = c .before .before .before .before .sort-at .result in replace-asks b p ix n u g d t q (s .pre) (c .before .before .before .before .before .before .before .fill-images .last .0) (c .before .before .before .before .before .before .before .fill-images .ensures) k (sort-known n d t q (s .pre .asked) 0 (q .list) (omega (arith, s .pre .count)) (omega arith) k (c .before .before .before .before .sort-at .ensures))
 
 empty-images-requires : tie.Need-empty-images-requires
 empty-images-requires c κs =
-    let s = c .before .before .before .before .before .before .before .before .before .before .before .before .before .before .before .before .before .before .before .before .before .before .before .before .before .before .before .before .before .before .before in
+    let s = c .before .before .before .before .before .before .before .before .before .before .before .before .before .before .before .before .before .before .before .before .before .before .before in
     let a = s .args in
     let b = a .records .now in
     let p = a .places .now in
-    let hs = a .heads .now in
-    let ns = a .next .now in
-    let zs = a .sizes .now in
+    let ix = a .index .now in
     let n = a .count in
     let u = a .used in
     let g = a .images .now in
     let d = a .sheet .now in
     let t = a .table .now in
     let q = a .question in
-    empty-asks b p hs ns zs n u g d t q (s .pre) (c .before .before .before .before .before .before .before .before .before .before .before .before .before .before .before .before .before .before .before .before .before .fill-images .last .0) (c .before .before .before .before .before .before .before .before .before .before .before .before .before .before .before .before .before .before .before .before .before .fill-images .ensures)
-
-same-length : tie.Need-same-length
-same-length c = search needs
-
-same-length-2 : tie.Need-same-length-2
-same-length-2 c = search needs
-
-same-length-3 : tie.Need-same-length-3
-same-length-3 c = search needs
-
-same-length-4 : tie.Need-same-length-4
-same-length-4 c = search needs
-
-same-length-5 : tie.Need-same-length-5
-same-length-5 c = search needs
-
-same-length-6 : tie.Need-same-length-6
-same-length-6 c = search needs
+    empty-asks b p ix n u g d t q (s .pre) (c .before .before .before .before .before .before .before .before .before .before .before .before .before .before .before .fill-images .last .0) (c .before .before .before .before .before .before .before .before .before .before .before .before .before .before .before .fill-images .ensures)
 
 returns : tie.Need-returns
 returns c =
-    let s = c .before .before .before .before .before .before .before .before .before .before .before .before .before .before .before .before .before .before .before .before .before .before .before .before .before .before .before .before .before .before .before .before .before .before in
+    let s = c .before .before .before .before .before .before .before .before .before .before .before .before .before .before .before .before .before .before .before .before .before .before .before .before .before .before in
     let a = s .args in
     let b = a .records .now in
     let p = a .places .now in
-    let hs = a .heads .now in
-    let ns = a .next .now in
-    let zs = a .sizes .now in
+    let ix = a .index .now in
     let n = a .count in
     let u = a .used in
     let g = a .images .now in
     let d = a .sheet .now in
     let t = a .table .now in
     let q = a .question in
-    let r = c .before .before .before .before .before .before .before .before .before .before .before .before .before .before .instance .last in
-    apply-is b p hs ns zs n u g d t q (s .pre) (c .before .before .before .before .before .before .before .before .before .before .before .before .before .before .before .before .before .before .before .before .before .before .before .before .fill-images .last .0) (c .before .before .before .before .before .before .before .before .before .before .before .before .before .before .before .before .before .before .before .before .before .before .before .before .fill-images .ensures) (c .before .before .before .before .before .before .before .before .before .before .before .before .before .before .before .before .before .before .before .before .before .sort-at .result) (c .before .before .before .before .before .before .before .before .before .before .before .before .before .before .before .before .before .before .before .before .before .sort-at .ensures) (r .0) (r .1 .0) (r .1 .1 .0) (r .1 .1 .1 .0) (r .1 .1 .1 .1 .0) (c .before .before .before .before .before .before .before .before .before .before .before .before .before .before .instance .result) (c .before .before .before .before .before .before .before .before .before .before .before .before .before .before .instance .ensures) (c .before .before .empty-images .last .0) (c .before .before .empty-images .ensures)
+    let r = c .before .before .before .before .before .before .before .before .before .before .instance .last in
+    apply-is b p ix n u g d t q (s .pre) (c .before .before .before .before .before .before .before .before .before .before .before .before .before .before .before .before .before .before .fill-images .last .0) (c .before .before .before .before .before .before .before .before .before .before .before .before .before .before .before .before .before .before .fill-images .ensures) (c .before .before .before .before .before .before .before .before .before .before .before .before .before .before .before .sort-at .result) (c .before .before .before .before .before .before .before .before .before .before .before .before .before .before .before .sort-at .ensures) (r .0) (r .1 .0) (r .1 .1 .0) (c .before .before .before .before .before .before .before .before .before .before .instance .result) (c .before .before .before .before .before .before .before .before .before .before .instance .ensures) (c .before .before .empty-images .last .0) (c .before .before .empty-images .ensures)
 
 pub answer-apply-spec : {M : Type 1} → statement M
-answer-apply-spec = tie.close (tie.spec add-fill-images fill-images-requires sort-at-requires instance-requires empty-images-requires same-length same-length-2 same-length-3 same-length-4 same-length-5 same-length-6 returns)
+answer-apply-spec = tie.close (tie.spec add-fill-images fill-images-requires sort-at-requires instance-requires empty-images-requires (λ c. search needs) (λ c. search needs) (λ c. search needs) (λ c. search needs) returns)

@@ -29,9 +29,6 @@ mul-u16-at : tie.Need-mul-u16-at Inv-loop μ-loop
 mul-u16-at c =
     let s = c .before .before .before .before in
     let a = s .args in
-    let g = a .images .now in
-    let b = a .sheet .now in
-    let x = a .names in
     let n = a .n in
     let l = c .before .loop in
     let some = c .loop-test .taken in
@@ -42,9 +39,6 @@ add-u16-at : tie.Need-add-u16-at Inv-loop μ-loop
 add-u16-at c =
     let s = c .before .before .before .before in
     let a = s .args in
-    let g = a .images .now in
-    let b = a .sheet .now in
-    let x = a .names in
     let n = a .n in
     let l = c .before .loop in
     let some = c .loop-test .taken in
@@ -55,9 +49,6 @@ u16-at-requires : tie.Need-u16-at-requires Inv-loop μ-loop
 u16-at-requires c κs =
     let s = c .before .before .before .before in
     let a = s .args in
-    let g = a .images .now in
-    let b = a .sheet .now in
-    let x = a .names in
     let n = a .n in
     let l = c .before .loop in
     let some = c .loop-test .taken in
@@ -71,9 +62,6 @@ slice-write-images : tie.Need-slice-write-images Inv-loop μ-loop
 slice-write-images c =
     let s = c .before .before .before .before .before in
     let a = s .args in
-    let g = a .images .now in
-    let b = a .sheet .now in
-    let x = a .names in
     let n = a .n in
     let l = c .before .before .loop in
     let some = c .before .loop-test .taken in

@@ -10,18 +10,9 @@ use Rattle.questions.proofs.matched.answer_match.Tie as tie
 
 sort-at-requires : tie.Need-sort-at-requires
 sort-at-requires c κs =
-    let s = c .before .before .before .before .before .before .before .before .before .before in
+    let s = c .before .before .before .before .before .before .before .before in
     let a = s .args in
-    let b = a .records .now in
-    let p = a .places .now in
-    let hs = a .heads .now in
-    let ns = a .next .now in
-    let zs = a .sizes .now in
     let n = a .count in
-    let u = a .used in
-    let m = a .params .now in
-    let g = a .images .now in
-    let o = a .bound .now in
     let d = a .sheet .now in
     let t = a .table .now in
     let q = a .question in
@@ -29,37 +20,14 @@ sort-at-requires c κs =
 
 add-sort-at : tie.Need-add-sort-at
 add-sort-at c =
-    let s = c .before .before .before .before .before .before .before .before .before .before .before in
-    let a = s .args in
-    let b = a .records .now in
-    let p = a .places .now in
-    let hs = a .heads .now in
-    let ns = a .next .now in
-    let zs = a .sizes .now in
-    let n = a .count in
-    let u = a .used in
-    let m = a .params .now in
-    let g = a .images .now in
-    let o = a .bound .now in
-    let d = a .sheet .now in
-    let t = a .table .now in
-    let q = a .question in
+    let s = c .before .before .before .before .before .before .before .before .before in
     omega (arith, s .pre .asked .within, s .pre .count, s .pre .asked .short)
 
 sort-at-requires-2 : tie.Need-sort-at-requires-2
 sort-at-requires-2 c κs =
-    let s = c .before .before .before .before .before .before .before .before .before .before .before in
+    let s = c .before .before .before .before .before .before .before .before .before in
     let a = s .args in
-    let b = a .records .now in
-    let p = a .places .now in
-    let hs = a .heads .now in
-    let ns = a .next .now in
-    let zs = a .sizes .now in
     let n = a .count in
-    let u = a .used in
-    let m = a .params .now in
-    let g = a .images .now in
-    let o = a .bound .now in
     let d = a .sheet .now in
     let t = a .table .now in
     let q = a .question in
@@ -67,37 +35,14 @@ sort-at-requires-2 c κs =
 
 add-sort-at-2 : tie.Need-add-sort-at-2
 add-sort-at-2 c =
-    let s = c .before .before .before .before .before .before .before .before .before .before .before .before in
-    let a = s .args in
-    let b = a .records .now in
-    let p = a .places .now in
-    let hs = a .heads .now in
-    let ns = a .next .now in
-    let zs = a .sizes .now in
-    let n = a .count in
-    let u = a .used in
-    let m = a .params .now in
-    let g = a .images .now in
-    let o = a .bound .now in
-    let d = a .sheet .now in
-    let t = a .table .now in
-    let q = a .question in
+    let s = c .before .before .before .before .before .before .before .before .before .before in
     omega (arith, s .pre .asked .within, s .pre .count, s .pre .asked .short)
 
 sort-at-requires-3 : tie.Need-sort-at-requires-3
 sort-at-requires-3 c κs =
-    let s = c .before .before .before .before .before .before .before .before .before .before .before .before in
+    let s = c .before .before .before .before .before .before .before .before .before .before in
     let a = s .args in
-    let b = a .records .now in
-    let p = a .places .now in
-    let hs = a .heads .now in
-    let ns = a .next .now in
-    let zs = a .sizes .now in
     let n = a .count in
-    let u = a .used in
-    let m = a .params .now in
-    let g = a .images .now in
-    let o = a .bound .now in
     let d = a .sheet .now in
     let t = a .table .now in
     let q = a .question in
@@ -105,13 +50,11 @@ sort-at-requires-3 c κs =
 
 list-names-requires : tie.Need-list-names-requires
 list-names-requires c κs =
-    let s = c .before .before .before .before .before .before .before .before .before .before .before .before .before .before in
+    let s = c .before .before .before .before .before .before .before .before .before .before .before .before in
     let a = s .args in
     let b = a .records .now in
     let p = a .places .now in
-    let hs = a .heads .now in
-    let ns = a .next .now in
-    let zs = a .sizes .now in
+    let ix = a .index .now in
     let n = a .count in
     let u = a .used in
     let m = a .params .now in
@@ -120,17 +63,15 @@ list-names-requires c κs =
     let d = a .sheet .now in
     let t = a .table .now in
     let q = a .question in
-    add-asks b p hs ns zs n u m g o d t q (s .pre)
+    add-asks b p ix n u m g o d t q (s .pre)
 
 match-listed-requires : tie.Need-match-listed-requires
 match-listed-requires c κs =
-    let s = c .before .before .before .before .before .before .before .before .before .before .before .before .before .before .before .before .before .before .before .before .before .before .before .before .before in
+    let s = c .before .before .before .before .before .before .before .before .before .before .before .before .before .before .before .before .before .before .before .before .before in
     let a = s .args in
     let b = a .records .now in
     let p = a .places .now in
-    let hs = a .heads .now in
-    let ns = a .next .now in
-    let zs = a .sizes .now in
+    let ix = a .index .now in
     let n = a .count in
     let u = a .used in
     let m = a .params .now in
@@ -139,20 +80,18 @@ match-listed-requires c κs =
     let d = a .sheet .now in
     let t = a .table .now in
     let q = a .question in
-    listed-asks b p hs ns zs n u m g o d t q (s .pre) (c .before .before .before .before .before .before .before .before .before .before .list-names .last .0) (c .before .before .before .before .before .before .before .before .before .before .list-names .ensures) (c .before .before .before .before .before .before .before .before .before .before .before .before .before .before .sort-at .result) (c .before .before .before .before .before .before .before .before .before .before .before .before .before .sort-at2 .result) (c .before .before .before .before .before .before .before .before .before .before .before .before .sort-at3 .result)
-    (sort-known n d t q (s .pre .asked) 0 (q .list) (omega (arith, s .pre .count)) (omega arith) (c .before .before .before .before .before .before .before .before .before .before .before .before .before .before .sort-at .result) (c .before .before .before .before .before .before .before .before .before .before .before .before .before .before .sort-at .ensures))
-    (sort-known n d t q (s .pre .asked) 1 (q .list + 2) (omega (arith, s .pre .count)) (omega arith) (c .before .before .before .before .before .before .before .before .before .before .before .before .before .sort-at2 .result) (c .before .before .before .before .before .before .before .before .before .before .before .before .before .sort-at2 .ensures))
-    (sort-known n d t q (s .pre .asked) 2 (q .list + 4) (omega (arith, s .pre .count)) (omega arith) (c .before .before .before .before .before .before .before .before .before .before .before .before .sort-at3 .result) (c .before .before .before .before .before .before .before .before .before .before .before .before .sort-at3 .ensures))
+    listed-asks b p ix n u m g o d t q (s .pre) (c .before .before .before .before .before .before .before .before .list-names .last .0) (c .before .before .before .before .before .before .before .before .list-names .ensures) (c .before .before .before .before .before .before .before .before .before .before .before .before .sort-at .result) (c .before .before .before .before .before .before .before .before .before .before .before .sort-at2 .result) (c .before .before .before .before .before .before .before .before .before .before .sort-at3 .result)
+    (sort-known n d t q (s .pre .asked) 0 (q .list) (omega (arith, s .pre .count)) (omega arith) (c .before .before .before .before .before .before .before .before .before .before .before .before .sort-at .result) (c .before .before .before .before .before .before .before .before .before .before .before .before .sort-at .ensures))
+    (sort-known n d t q (s .pre .asked) 1 (q .list + 2) (omega (arith, s .pre .count)) (omega arith) (c .before .before .before .before .before .before .before .before .before .before .before .sort-at2 .result) (c .before .before .before .before .before .before .before .before .before .before .before .sort-at2 .ensures))
+    (sort-known n d t q (s .pre .asked) 2 (q .list + 4) (omega (arith, s .pre .count)) (omega arith) (c .before .before .before .before .before .before .before .before .before .before .sort-at3 .result) (c .before .before .before .before .before .before .before .before .before .before .sort-at3 .ensures))
 
 unlist-names-requires : tie.Need-unlist-names-requires
 unlist-names-requires c κs =
-    let s = c .before .before .before .before .before .before .before .before .before .before .before .before .before .before .before .before .before .before .before .before .before .before .before .before .before .before .before .before .before .before .before .before .before .before .before .before .before .before .before .before .before in
+    let s = c .before .before .before .before .before .before .before .before .before .before .before .before .before .before .before .before .before .before .before .before .before .before .before .before .before .before .before .before .before .before .before .before .before in
     let a = s .args in
     let b = a .records .now in
     let p = a .places .now in
-    let hs = a .heads .now in
-    let ns = a .next .now in
-    let zs = a .sizes .now in
+    let ix = a .index .now in
     let n = a .count in
     let u = a .used in
     let m = a .params .now in
@@ -161,41 +100,15 @@ unlist-names-requires c κs =
     let d = a .sheet .now in
     let t = a .table .now in
     let q = a .question in
-    take-asks b p hs ns zs n u m g o d t q (s .pre) (c .before .before .before .before .before .before .before .before .before .before .before .before .before .before .before .before .before .before .before .before .before .before .before .before .before .before .list-names .last .0) (c .before .before .before .before .before .before .before .before .before .before .before .before .before .before .before .before .before .before .before .before .before .before .before .before .before .before .list-names .ensures)
-
-same-length : tie.Need-same-length
-same-length c = search needs
-
-same-length-2 : tie.Need-same-length-2
-same-length-2 c = search needs
-
-same-length-3 : tie.Need-same-length-3
-same-length-3 c = search needs
-
-same-length-4 : tie.Need-same-length-4
-same-length-4 c = search needs
-
-same-length-5 : tie.Need-same-length-5
-same-length-5 c = search needs
-
-same-length-6 : tie.Need-same-length-6
-same-length-6 c = search needs
-
-same-length-7 : tie.Need-same-length-7
-same-length-7 c = search needs
-
-same-length-8 : tie.Need-same-length-8
-same-length-8 c = search needs
+    take-asks b p ix n u m g o d t q (s .pre) (c .before .before .before .before .before .before .before .before .before .before .before .before .before .before .before .before .before .before .before .before .list-names .last .0) (c .before .before .before .before .before .before .before .before .before .before .before .before .before .before .before .before .before .before .before .before .list-names .ensures)
 
 returns : tie.Need-returns
 returns c =
-    let s = c .before .before .before .before .before .before .before .before .before .before .before .before .before .before .before .before .before .before .before .before .before .before .before .before .before .before .before .before .before .before .before .before .before .before .before .before .before .before .before .before .before .before .before .before in
+    let s = c .before .before .before .before .before .before .before .before .before .before .before .before .before .before .before .before .before .before .before .before .before .before .before .before .before .before .before .before .before .before .before .before .before .before .before .before in
     let a = s .args in
     let b = a .records .now in
     let p = a .places .now in
-    let hs = a .heads .now in
-    let ns = a .next .now in
-    let zs = a .sizes .now in
+    let ix = a .index .now in
     let n = a .count in
     let u = a .used in
     let m = a .params .now in
@@ -204,8 +117,8 @@ returns c =
     let d = a .sheet .now in
     let t = a .table .now in
     let q = a .question in
-    let r = c .before .before .before .before .before .before .before .before .before .before .before .before .before .before .before .before .before .before .match-listed .last in
-    match-is b p hs ns zs n u m g o d t q (s .pre) (c .before .before .before .before .before .before .before .before .before .before .before .before .before .before .before .before .before .before .before .before .before .before .before .before .before .before .before .before .before .list-names .last .0) (c .before .before .before .before .before .before .before .before .before .before .before .before .before .before .before .before .before .before .before .before .before .before .before .before .before .before .before .before .before .list-names .ensures) (c .before .before .before .before .before .before .before .before .before .before .before .before .before .before .before .before .before .before .before .before .before .before .before .before .before .before .before .before .before .before .before .before .before .sort-at .result) (c .before .before .before .before .before .before .before .before .before .before .before .before .before .before .before .before .before .before .before .before .before .before .before .before .before .before .before .before .before .before .before .before .sort-at2 .result) (c .before .before .before .before .before .before .before .before .before .before .before .before .before .before .before .before .before .before .before .before .before .before .before .before .before .before .before .before .before .before .before .sort-at3 .result) (c .before .before .before .before .before .before .before .before .before .before .before .before .before .before .before .before .before .before .before .before .before .before .before .before .before .before .before .before .before .before .before .before .before .sort-at .ensures) (c .before .before .before .before .before .before .before .before .before .before .before .before .before .before .before .before .before .before .before .before .before .before .before .before .before .before .before .before .before .before .before .before .sort-at2 .ensures) (c .before .before .before .before .before .before .before .before .before .before .before .before .before .before .before .before .before .before .before .before .before .before .before .before .before .before .before .before .before .before .before .sort-at3 .ensures) (r .0) (r .1 .0) (r .1 .1 .0) (r .1 .1 .1 .0) (r .1 .1 .1 .1 .0) (r .1 .1 .1 .1 .1 .1 .1 .1 .0) (r .1 .1 .1 .1 .1 .1 .1 .1 .1 .0) (c .before .before .unlist-names .last .0) (c .before .before .before .before .before .before .before .before .before .before .before .before .before .before .before .before .before .before .match-listed .result) (c .before .before .before .before .before .before .before .before .before .before .before .before .before .before .before .before .before .before .match-listed .ensures) (c .before .before .unlist-names .ensures)
+    let r = c .before .before .before .before .before .before .before .before .before .before .before .before .before .before .match-listed .last in
+    match-is b p ix n u m g o d t q (s .pre) (c .before .before .before .before .before .before .before .before .before .before .before .before .before .before .before .before .before .before .before .before .before .before .before .list-names .last .0) (c .before .before .before .before .before .before .before .before .before .before .before .before .before .before .before .before .before .before .before .before .before .before .before .list-names .ensures) (c .before .before .before .before .before .before .before .before .before .before .before .before .before .before .before .before .before .before .before .before .before .before .before .before .before .before .before .sort-at .result) (c .before .before .before .before .before .before .before .before .before .before .before .before .before .before .before .before .before .before .before .before .before .before .before .before .before .before .sort-at2 .result) (c .before .before .before .before .before .before .before .before .before .before .before .before .before .before .before .before .before .before .before .before .before .before .before .before .before .sort-at3 .result) (c .before .before .before .before .before .before .before .before .before .before .before .before .before .before .before .before .before .before .before .before .before .before .before .before .before .before .before .sort-at .ensures) (c .before .before .before .before .before .before .before .before .before .before .before .before .before .before .before .before .before .before .before .before .before .before .before .before .before .before .sort-at2 .ensures) (c .before .before .before .before .before .before .before .before .before .before .before .before .before .before .before .before .before .before .before .before .before .before .before .before .before .sort-at3 .ensures) (r .0) (r .1 .0) (r .1 .1 .0) (r .1 .1 .1 .1 .1 .1 .0) (r .1 .1 .1 .1 .1 .1 .1 .0) (c .before .before .unlist-names .last .0) (c .before .before .before .before .before .before .before .before .before .before .before .before .before .before .match-listed .result) (c .before .before .before .before .before .before .before .before .before .before .before .before .before .before .match-listed .ensures) (c .before .before .unlist-names .ensures)
 
 pub answer-match-spec : {M : Type 1} → statement M
-answer-match-spec = tie.close (tie.spec sort-at-requires add-sort-at sort-at-requires-2 add-sort-at-2 sort-at-requires-3 list-names-requires match-listed-requires unlist-names-requires same-length same-length-2 same-length-3 same-length-4 same-length-5 same-length-6 same-length-7 same-length-8 returns)
+answer-match-spec = tie.close (tie.spec sort-at-requires add-sort-at sort-at-requires-2 add-sort-at-2 sort-at-requires-3 list-names-requires match-listed-requires unlist-names-requires (λ c. search needs) (λ c. search needs) (λ c. search needs) (λ c. search needs) (λ c. search needs) (λ c. search needs) returns)

@@ -9,26 +9,11 @@ use Rattle.repeats.proofs.SlotLaws.{note-long, note-is}
 use Rattle.repeats.proofs.slots.noted.Statement.{statement}
 use Rattle.repeats.proofs.slots.noted.Tie as tie
 
-cast-past : tie.Need-cast-past
-cast-past c = search needs
-
-slice-write-past : tie.Need-slice-write-past
-slice-write-past c = search needs
-
-add-put-u16 : tie.Need-add-put-u16
-add-put-u16 c = search needs
-
 put-u16-requires : tie.Need-put-u16-requires
 put-u16-requires c κs =
     let s = c .before .before in
     let a = s .args in
     record { within = omega (arith, s .pre .here .room, length-set (a .past .now) (a .at) (a .n)); small = omega arith }
-
-cast-past-2 : tie.Need-cast-past-2
-cast-past-2 c = search needs
-
-add-past : tie.Need-add-past
-add-past c = search needs
 
 slice-write-past-2 : tie.Need-slice-write-past-2
 slice-write-past-2 c =
@@ -49,4 +34,4 @@ returns c =
     note-is (a .past .now) (a .at) (a .n) (a .row) (s .pre) (c .before .before .put-u16 .last .0) (c .before .before .put-u16 .ensures)
 
 pub noted-spec : {M : Type 1} → statement M
-noted-spec = tie.close (tie.spec cast-past slice-write-past add-put-u16 put-u16-requires cast-past-2 add-past slice-write-past-2 same-length returns)
+noted-spec = tie.close (tie.spec (λ c. search needs) (λ c. search needs) (λ c. search needs) put-u16-requires (λ c. search needs) (λ c. search needs) slice-write-past-2 same-length returns)

@@ -5,27 +5,6 @@ use Rattle.repeats.proofs.SlotLaws.{open-fits, open-long, open-is}
 use Rattle.repeats.proofs.slots.opened.Statement.{statement}
 use Rattle.repeats.proofs.slots.opened.Tie as tie
 
-slice-write-past : tie.Need-slice-write-past
-slice-write-past c = search needs
-
-mul-end : tie.Need-mul-end
-mul-end c = search needs
-
-add-end : tie.Need-add-end
-add-end c = search needs
-
-add-copy-at : tie.Need-add-copy-at
-add-copy-at c = search needs
-
-sub-copy-at : tie.Need-sub-copy-at
-sub-copy-at c = search needs
-
-part-copy-at-start : tie.Need-part-copy-at-start
-part-copy-at-start c = search needs
-
-part-copy-at-end : tie.Need-part-copy-at-end
-part-copy-at-end c = search needs
-
 copy-at-requires : tie.Need-copy-at-requires
 copy-at-requires c κs =
     let s = c .before .before .before .before in
@@ -45,4 +24,4 @@ returns c =
     open-is (a .past .now) (a .at) (a .args .now) (a .n) (s .pre) (c .before .before .copy-at .last .0) (c .before .before .copy-at .ensures)
 
 pub opened-spec : {M : Type 1} → statement M
-opened-spec = tie.close (tie.spec slice-write-past mul-end add-end add-copy-at sub-copy-at part-copy-at-start part-copy-at-end copy-at-requires same-length returns)
+opened-spec = tie.close (tie.spec (λ c. search needs) (λ c. search needs) (λ c. search needs) (λ c. search needs) (λ c. search needs) (λ c. search needs) (λ c. search needs) copy-at-requires same-length returns)

@@ -10,68 +10,17 @@ use Rattle.repeats.proofs.SlotLaws.{recalled-is}
 use Rattle.repeats.proofs.slots.recalled.Statement.{statement}
 use Rattle.repeats.proofs.slots.recalled.Tie as tie
 
-shared-slice-read-if1 : tie.Need-shared-slice-read-if1
-shared-slice-read-if1 c = search needs
-
 cast-if1 : tie.Need-cast-if1
 cast-if1 c = omega (arith, c .shared-slice-known3 .given (c .before .before .before .args .at))
 
 returns : tie.Need-returns
 returns c = record { said = λ c e. absurd (omega (arith, e)); small = omega arith }
 
-add-from : tie.Need-add-from
-add-from c = search needs
-
-mul-to : tie.Need-mul-to
-mul-to c = search needs
-
-add-to : tie.Need-add-to
-add-to c = search needs
-
-mul-end : tie.Need-mul-end
-mul-end c = search needs
-
-add-end : tie.Need-add-end
-add-end c = search needs
-
-sub-same : tie.Need-sub-same
-sub-same c = search needs
-
-part-same-start : tie.Need-part-same-start
-part-same-start c = search needs
-
-part-same-end : tie.Need-part-same-end
-part-same-end c = search needs
-
-sub-same-2 : tie.Need-sub-same-2
-sub-same-2 c = search needs
-
-part-same-start-2 : tie.Need-part-same-start-2
-part-same-start-2 c = search needs
-
-part-same-end-2 : tie.Need-part-same-end-2
-part-same-end-2 c = search needs
-
-same-requires : tie.Need-same-requires
-same-requires c κs = search needs
-
-add-result : tie.Need-add-result
-add-result c = search needs
-
-shared-slice-read-result : tie.Need-shared-slice-read-result
-shared-slice-read-result c = search needs
-
 cast-result : tie.Need-cast-result
 cast-result c = omega (arith, c .shared-slice-known4 .given (c .before .before .before .before .before .before .before .before .before .args .at + 3))
 
 mul-result : tie.Need-mul-result
 mul-result c = omega (arith, c .shared-slice-known4 .given (c .before .before .before .before .before .before .before .before .before .args .at + 3))
-
-add-u16-at : tie.Need-add-u16-at
-add-u16-at c = search needs
-
-u16-at-requires : tie.Need-u16-at-requires
-u16-at-requires c κs = search needs
 
 add-result-2 : tie.Need-add-result-2
 add-result-2 c = omega (arith, c .before .shared-slice-known4 .given (c .before .before .before .before .before .before .before .before .before .before .args .at + 3), c .u16-at .ensures .1)
@@ -90,4 +39,4 @@ returns-3 : tie.Need-returns-3
 returns-3 c = record { said = λ c e. absurd (omega (arith, e)); small = omega arith }
 
 pub recalled-spec : {M : Type 1} → statement M
-recalled-spec = tie.close (tie.spec shared-slice-read-if1 cast-if1 returns add-from mul-to add-to mul-end add-end sub-same part-same-start part-same-end sub-same-2 part-same-start-2 part-same-end-2 same-requires add-result shared-slice-read-result cast-result mul-result add-u16-at u16-at-requires add-result-2 add-result-3 returns-2 returns-3)
+recalled-spec = tie.close (tie.spec (λ c. search needs) cast-if1 returns (λ c. search needs) (λ c. search needs) (λ c. search needs) (λ c. search needs) (λ c. search needs) (λ c. search needs) (λ c. search needs) (λ c. search needs) (λ c. search needs) (λ c. search needs) (λ c. search needs) (λ c κs. search needs) (λ c. search needs) (λ c. search needs) cast-result mul-result (λ c. search needs) (λ c κs. search needs) add-result-2 add-result-3 returns-2 returns-3)

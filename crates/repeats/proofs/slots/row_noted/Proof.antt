@@ -7,32 +7,17 @@ use Rattle.repeats.specs.Past.{NoteAsks, NotedIs, RowNoteAsks, RowNotedI
 use Rattle.repeats.proofs.slots.row_noted.Statement.{statement}
 use Rattle.repeats.proofs.slots.row_noted.Tie as tie
 
-enum-known-look : tie.Need-enum-known-look
-enum-known-look c = search needs
-
 code-requires : tie.Need-code-requires
 code-requires c κs =
     let s = c .before .before .before .before in
     let a = s .args in
     omega (arith, subst (λ q. RowNoteAsks (a .past .now) (a .n) q (a .v)) (c .before .look .given .1) (s .pre) .small)
 
-cast-row : tie.Need-cast-row
-cast-row c = search needs
-
 noted-requires : tie.Need-noted-requires
 noted-requires c κs =
     let s = c .before .before .before .before .before .before in
     let a = s .args in
     subst (NoteAsks (a .past .now) _ (a .n)) (sym (c .before .code .ensures)) (subst (λ q. RowNoteAsks (a .past .now) (a .n) q (a .v)) (c .before .before .before .look .given .1) (s .pre))
-
-enum-told : tie.Need-enum-told
-enum-told c = search needs
-
-enum-told-2 : tie.Need-enum-told-2
-enum-told-2 c = search needs
-
-same-length : tie.Need-same-length
-same-length c = search needs
 
 returns : tie.Need-returns
 returns c =
@@ -51,4 +36,4 @@ returns-3 c =
     subst (λ q. RowNotedIs (a .past .now) (a .n) q (a .v) (a .past .now)) (sym (c .enum-told2 .given .1)) refl
 
 pub row-noted-spec : {M : Type 1} → statement M
-row-noted-spec = tie.close (tie.spec enum-known-look code-requires cast-row noted-requires enum-told enum-told-2 same-length returns returns-2 returns-3)
+row-noted-spec = tie.close (tie.spec (λ c. search needs) code-requires (λ c. search needs) noted-requires (λ c. search needs) (λ c. search needs) (λ c. search needs) returns returns-2 returns-3)

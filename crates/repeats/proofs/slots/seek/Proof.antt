@@ -6,12 +6,6 @@ use Prim.Native.Nat.{_-_}
 use Rattle.repeats.proofs.slots.seek.Statement.{statement}
 use Rattle.repeats.proofs.slots.seek.Tie as tie
 
-slot-of-requires : tie.Need-slot-of-requires
-slot-of-requires c κs = search needs
-
-add-if1 : tie.Need-add-if1
-add-if1 c = search needs
-
 returns : tie.Need-returns
 returns c = record { found = tt; less = λ key d x. x }
 
@@ -19,12 +13,6 @@ recalled-requires : tie.Need-recalled-requires
 recalled-requires c κs =
     let s = c .before .before .before .before .before in
     record { key = s .pre; here = record { slot = _; place = c .before .before .slot-of .ensures; room = omega (arith, c .before .if1 .left) } }
-
-sub-t11 : tie.Need-sub-t11
-sub-t11 c = search needs
-
-same-length : tie.Need-same-length
-same-length c = search needs
 
 returns-2 : tie.Need-returns-2
 returns-2 c = record { found = c .before .recalled .ensures .said (c .before .recalled .result - 1) (omega (arith, c .if2 .taken)); less = λ key d x. x }
@@ -34,11 +22,8 @@ opened-requires c κs =
     let s = c .before .before .before .before .before .before .before .before in
     record { key = s .pre; here = record { slot = _; place = c .before .before .before .before .before .slot-of .ensures; room = omega (arith, c .before .before .before .before .if1 .left) } }
 
-same-length-2 : tie.Need-same-length-2
-same-length-2 c = search needs
-
 returns-3 : tie.Need-returns-3
 returns-3 c = record { found = c .before .before .opened .ensures .ready; less = c .before .before .opened .ensures .less }
 
 pub seek-spec : {M : Type 1} → statement M
-seek-spec = tie.close (tie.spec slot-of-requires add-if1 returns recalled-requires sub-t11 same-length returns-2 opened-requires same-length-2 returns-3)
+seek-spec = tie.close (tie.spec (λ c κs. search needs) (λ c. search needs) returns recalled-requires (λ c. search needs) (λ c. search needs) returns-2 opened-requires (λ c. search needs) returns-3)

@@ -16,7 +16,7 @@ slice-aggregate-draft-of c = search needs
 
 draft-of-requires : tie.Need-draft-of-requires
 draft-of-requires c κs =
-    let s = c .before .before .before .before .before .before .before .before in
+    let s = c .before .before .before .before .before .before in
     record { long = length-replicate {A = ℕ} 266 0; kind = s .pre .shape .known; name = s .pre .shape .name; number = s .pre .shape .number; parts = s .pre .parts; names = s .pre .names }
 
 array-share-prefix-bytes : tie.Need-array-share-prefix-bytes
@@ -27,35 +27,31 @@ slice-aggregate-tree-size c = sym (length-take-le (c .before .before .before .dr
 
 tree-size-requires : tie.Need-tree-size-requires
 tree-size-requires c κs =
-    let s = c .before .before .before .before .before .before .before .before .before .before .before .before in
+    let s = c .before .before .before .before .before .before .before .before .before .before in
     let a = s .args in
     let b = a .records .now in
     let p = a .places .now in
-    let hs = a .heads .now in
-    let ns = a .next .now in
-    let zs = a .sizes .now in
+    let ix = a .index .now in
     let n = a .count in
     let u = a .used in
-    make-tree b p hs ns zs n u (fieldsIn (a .kind) (a .name) (a .number) (held (a .parts .now) (a .many)) (held (a .names .now) (a .named))) (held (a .parts .now) (a .many)) (held (a .names .now) (a .named)) (s .pre) _ (c .before .before .before .draft-of .ensures .is)
+    make-tree b p ix n u (fieldsIn (a .kind) (a .name) (a .number) (held (a .parts .now) (a .many)) (held (a .names .now) (a .named))) (held (a .parts .now) (a .many)) (held (a .names .now) (a .named)) (s .pre) _ (c .before .before .before .draft-of .ensures .is)
 
 array-share-prefix-bytes-2 : tie.Need-array-share-prefix-bytes-2
-array-share-prefix-bytes-2 c = omega (arith, c .before .before .before .before .before .before .before .before .before .draft-of .ensures .most, c .before .before .before .before .before .before .before .before .before .draft-of .ensures .long)
+array-share-prefix-bytes-2 c = omega (arith, c .before .before .before .before .before .before .before .draft-of .ensures .most, c .before .before .before .before .before .before .before .draft-of .ensures .long)
 
 slice-aggregate-intern : tie.Need-slice-aggregate-intern
-slice-aggregate-intern c = sym (length-take-le (c .before .before .before .before .before .before .before .before .before .before .draft-of .result) (c .before .before .before .before .before .before .before .before .before .before .draft-of .last .0) (omega (arith, c .before .before .before .before .before .before .before .before .before .before .draft-of .ensures .most, c .before .before .before .before .before .before .before .before .before .before .draft-of .ensures .long)))
+slice-aggregate-intern c = sym (length-take-le (c .before .before .before .before .before .before .before .before .draft-of .result) (c .before .before .before .before .before .before .before .before .draft-of .last .0) (omega (arith, c .before .before .before .before .before .before .before .before .draft-of .ensures .most, c .before .before .before .before .before .before .before .before .draft-of .ensures .long)))
 
 intern-requires : tie.Need-intern-requires
 intern-requires c κs =
-    let s = c .before .before .before .before .before .before .before .before .before .before .before .before .before .before .before .before .before .before .before in
+    let s = c .before .before .before .before .before .before .before .before .before .before .before .before .before .before .before in
     let a = s .args in
     let b = a .records .now in
     let p = a .places .now in
-    let hs = a .heads .now in
-    let ns = a .next .now in
-    let zs = a .sizes .now in
+    let ix = a .index .now in
     let n = a .count in
     let u = a .used in
-    make-intern b p hs ns zs n u (fieldsIn (a .kind) (a .name) (a .number) (held (a .parts .now) (a .many)) (held (a .names .now) (a .named))) (held (a .parts .now) (a .many)) (held (a .names .now) (a .named)) (s .pre) _ (c .before .before .before .before .before .before .before .before .before .before .draft-of .ensures .is) (c .before .before .before .before .before .before .tree-size .result) (c .before .before .before .before .before .before .tree-size .ensures)
+    make-intern b p ix n u (fieldsIn (a .kind) (a .name) (a .number) (held (a .parts .now) (a .many)) (held (a .names .now) (a .named))) (held (a .parts .now) (a .many)) (held (a .names .now) (a .named)) (s .pre) _ (c .before .before .before .before .before .before .before .before .draft-of .ensures .is) (c .before .before .before .before .tree-size .result) (c .before .before .before .before .tree-size .ensures)
 
 same-length : tie.Need-same-length
 same-length c = search needs
@@ -66,25 +62,17 @@ same-length-2 c = search needs
 same-length-3 : tie.Need-same-length-3
 same-length-3 c = search needs
 
-same-length-4 : tie.Need-same-length-4
-same-length-4 c = search needs
-
-same-length-5 : tie.Need-same-length-5
-same-length-5 c = search needs
-
 returns : tie.Need-returns
 returns c =
-    let s = c .before .before .before .before .before .before .before .before .before .before .before .before .before .before .before .before .before .before .before .before .before .before .before .before .before .before .before .before .before .before in
+    let s = c .before .before .before .before .before .before .before .before .before .before .before .before .before .before .before .before .before .before .before .before .before .before in
     let a = s .args in
     let b = a .records .now in
     let p = a .places .now in
-    let hs = a .heads .now in
-    let ns = a .next .now in
-    let zs = a .sizes .now in
+    let ix = a .index .now in
     let n = a .count in
     let u = a .used in
-    let d = c .before .before .before .before .before .before .before .before .before .before .intern .last in
-    make-made b p hs ns zs n u (fieldsIn (a .kind) (a .name) (a .number) (held (a .parts .now) (a .many)) (held (a .names .now) (a .named))) (held (a .parts .now) (a .many)) (held (a .names .now) (a .named)) (s .pre) _ (c .before .before .before .before .before .before .before .before .before .before .before .before .before .before .before .before .before .before .before .before .before .draft-of .ensures .is) (d .0) (d .1 .0) (d .1 .1 .0) (d .1 .1 .1 .0) (d .1 .1 .1 .1 .0) (c .before .before .before .before .before .before .before .before .before .before .intern .result) (c .before .before .before .before .before .before .before .before .before .before .intern .ensures)
+    let d = c .before .before .before .before .before .before .intern .last in
+    make-made b p ix n u (fieldsIn (a .kind) (a .name) (a .number) (held (a .parts .now) (a .many)) (held (a .names .now) (a .named))) (held (a .parts .now) (a .many)) (held (a .names .now) (a .named)) (s .pre) _ (c .before .before .before .before .before .before .before .before .before .before .before .before .before .before .before .draft-of .ensures .is) (d .0) (d .1 .0) (d .1 .1 .0) (c .before .before .before .before .before .before .intern .result) (c .before .before .before .before .before .before .intern .ensures)
 
 pub make-spec : {M : Type 1} → statement M
-make-spec = tie.close (tie.spec slice-aggregate-draft-of draft-of-requires array-share-prefix-bytes slice-aggregate-tree-size tree-size-requires array-share-prefix-bytes-2 slice-aggregate-intern intern-requires same-length same-length-2 same-length-3 same-length-4 same-length-5 returns)
+make-spec = tie.close (tie.spec slice-aggregate-draft-of draft-of-requires array-share-prefix-bytes slice-aggregate-tree-size tree-size-requires array-share-prefix-bytes-2 slice-aggregate-intern intern-requires same-length same-length-2 same-length-3 returns)

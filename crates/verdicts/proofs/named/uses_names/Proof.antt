@@ -15,9 +15,6 @@ returns c =
 has-par-requires : tie.Need-has-par-requires
 has-par-requires c κs =
     let s = c .before .before .before in
-    let a = s .args in
-    let b = a .records .now in
-    let p = a .places .now in
     s .pre
 
 returns-2 : tie.Need-returns-2
