@@ -21,7 +21,7 @@ use Rattle.checked.specs.AppTheorems.{byCalled, matchingFirsts, found-as
 use Rattle.checked.specs.Parts.{Carried, EachValue}
 use Rattle.checked.specs.PartTheorems.{carried-exactly, eachValue-exactly}
 use Rattle.checked.specs.Refusals.{Exactly}
-use Rattle.checked.specs.RefusalLaws.{Way, unranked, barred, miscounted, misfit, unassigned, accepted, exactly, byNumber}
+use Rattle.checked.specs.RefusalLaws.{miscounted, misfit, unassigned, accepted, byNumber}
 
 ---------------------------------------------------------------- App
 -- A head is a Function with the list ss: under a Par with the parameters ns, or by itself without any.
@@ -30,7 +30,7 @@ pub data Head (h : Sort) (ns : List ℕ) (ss : Sorts) : Type 0 where
   bare : (a w : ℕ) → ns ≡ [] → h ≡ node 0 a w ss → Head h ns ss
 
 called-way : (l : ℕ → Bool) (ss ts : Sorts) → properAll ss ≡ true → 0 < count ts
-    → Way (called l (some ss) ts) Unit Unit ((0 < count ts) × (count ts < count ss)) (EachValue ts × Assigned l ss ts) (Fixed l ss ts)
+    → Exactly (called l (some ss) ts) Unit Unit ((0 < count ts) × (count ts < count ss)) (EachValue ts × Assigned l ss ts) (Fixed l ss ts)
 called-way l ss ts p any =
     byCalled l ss ts p
     (λ a e. miscounted e _ _ (λ h. a (h .1)))
@@ -40,14 +40,23 @@ called-way l ss ts p any =
     (λ h. let (v, i, o, q) = unsettled-unfixed l ss ts p m f c in clash (h v i o) q))
     (λ m a b f c e. accepted (apply m (rest ss ts)) e _ _ (any, a) (eachValue-exactly ts .0 b, found-assigned l ss ts p m f) (settled-fixed l ss ts p m f c))
 
--- The conditions of a way, said otherwise.
-said : {v : Verdict} {C D F G X Y : Type 0} → Way v Unit Unit C F X → (C ↔ D) → (F ↔ G) → (X ↔ Y) → Way v Unit Unit D G Y
-said (unranked e a) c f x = absurd (a _)
-said (barred e a p) c f x = absurd (p _)
-said (miscounted e a p d) c f x = miscounted e _ _ (λ h. d (c .1 h))
-said (misfit e a p d g) c f x = misfit e _ _ (c .0 d) (λ h. g (f .1 h))
-said (unassigned e a p d g y) c f x = unassigned e _ _ (c .0 d) (f .0 g) (λ h. y (x .1 h))
-said (accepted s e a p d g y) c f x = accepted s e _ _ (c .0 d) (f .0 g) (x .0 y)
+-- The conditions, said otherwise.
+said : {v : Verdict} {C D F G X Y : Type 0} → Exactly v Unit Unit C F X → (C ↔ D) → (F ↔ G) → (X ↔ Y) → Exactly v Unit Unit D G Y
+said E c f x = record {
+  unranked = E .unranked;
+  barred = E .barred;
+  miscounted = (λ h. let (a, p, d) = E .miscounted .0 h in (a, p, λ y. d (c .1 y)), λ h. E .miscounted .1 (_, _, λ y. h .2 (c .0 y)));
+  misfit = (λ h. let (a, p, d, g) = E .misfit .0 h in (a, p, c .0 d, λ y. g (f .1 y)), λ h. E .misfit .1 (_, _, c .1 (h .2), λ y. h .3 (f .0 y)));
+  unassigned = (
+    λ h. let (a, p, d, g, z) = E .unassigned .0 h in (a, p, c .0 d, f .0 g, λ y. z (x .1 y)),
+    λ h. E .unassigned .1 (_, _, c .1 (h .2), f .1 (h .3), λ y. h .4 (x .0 y)),
+  );
+  accepted = (
+    λ h. let (a, p, d, g, z) = E .accepted .0 h in (a, p, c .0 d, f .0 g, x .0 z),
+    λ h. E .accepted .1 (_, _, c .1 (h .2), f .1 (h .3), x .1 (h .4)),
+  );
+  nothing-else = E .nothing-else;
+}
 
 abbrev pub Fewer : Sort → Sorts → Type 0
 Fewer h ts = (0 < count ts) × ((ns : List ℕ) (ss : Sorts) → Head h ns ss → count ts < count ss)
@@ -60,7 +69,7 @@ Settled h ts = (ns : List ℕ) (ss : Sorts) → Head h ns ss → Fixed (oneOf ns
 
 -- One head, one list.
 head-way : (h : Sort) (ns : List ℕ) (ss ts : Sorts) → Head h ns ss → ((ms : List ℕ) (rs : Sorts) → Head h ms rs → (ms ≡ ns) × (rs ≡ ss)) → properAll ss ≡ true → 0 < count ts
-    → Way (called (oneOf ns) (some ss) ts) Unit Unit (Fewer h ts) (Taken h ts) (Settled h ts)
+    → Exactly (called (oneOf ns) (some ss) ts) Unit Unit (Fewer h ts) (Taken h ts) (Settled h ts)
 head-way h ns ss ts H only p any =
     said (called-way (oneOf ns) ss ts p any)
     (λ c. (any, λ ms rs G. rw (only ms rs G .1) (c .1)), λ c. (any, c .1 ns ss H))
@@ -69,7 +78,7 @@ head-way h ns ss ts H only p any =
 
 -- A Par over anything but a Function, or another sort, is no head.
 no-head : (h : Sort) (ts : Sorts) {v : Verdict} → v ≡ refused Misfit → ((ns : List ℕ) (ss : Sorts) → Head h ns ss → ⊥) → 0 < count ts
-    → Way v Unit Unit (Fewer h ts) (Taken h ts) (Settled h ts)
+    → Exactly v Unit Unit (Fewer h ts) (Taken h ts) (Settled h ts)
 no-head h ts e n any = misfit e _ _ (any, λ ns ss H. absurd (n ns ss H)) (λ f. let (ns, ss, H, v, A) = f in n ns ss H)
 
 -- What stands under a head's Par, and a head without one.
@@ -81,7 +90,7 @@ bare-list : {k a w : ℕ} {rs : Sorts} {ns : List ℕ} {ss : Sorts} → Head (no
 bare-list (under a w e) = let z : true ≡ false = cc in absurd (true≢false z)
 bare-list (bare a w n e) = (n, cc, cc)
 
-app-way : (h : Sort) (ts : Sorts) → carried h ≡ true → Way (application (h then ts)) Unit Unit (Fewer h ts) (Taken h ts) (Settled h ts)
+app-way : (h : Sort) (ts : Sorts) → carried h ≡ true → Exactly (application (h then ts)) Unit Unit (Fewer h ts) (Taken h ts) (Settled h ts)
 unfolding application called count proper member
 app-way h end c = miscounted refl _ _ (λ f. let z = f .0 in omega arith)
 app-way (var v) (t then ts) c = no-head (var v) (t then ts) refl (λ ns ss H. not-var H) (omega arith)
@@ -111,4 +120,4 @@ app-way (node k a w ss) (t then ts) c =
 pub app-refusals : (R : ℕ → List Rank) (z : Site) (h : Sort) (ts : Sorts) → z .kind ≡ 6 → z .args ≡ h then ts → Carried h
     → Exactly (checked R z) Unit Unit (Fewer h ts) (Taken h ts) (Settled h ts)
 unfolding checked
-app-refusals R z h ts k e c = rw (k, e) (exactly (app-way h ts (carried-exactly h .1 c)))
+app-refusals R z h ts k e c = rw (k, e) (app-way h ts (carried-exactly h .1 c))
