@@ -114,12 +114,11 @@ missing-none row (i ∷ is) h =
 
 -- A ROW IS CODED 20 exactly where the row of a term that the record names is refused in its column.
 module _ (J : Site → Verdict) (never : (z : Site) → J z ≡ refused Below → ⊥) (column : ℕ) (l : Lengths) (rs : List TermFields) (r : TermFields) (rows : List ℕ) (now : List Sort) where
-  abbrev row : ℕ → Option Sort
-  row i = rowSort now rows column i
-
-  pub row-below : rowOf J column l rs r rows now .code ≡ numberOf Below * 65536 ↔ Missing row (r .list) ⊎ Missing row (r .second)
+  pub row-below : rowOf J column l rs r rows now .code ≡ numberOf Below * 65536
+      ↔ Missing (λ i. rowSort now rows column i) (r .list) ⊎ Missing (λ i. rowSort now rows column i) (r .second)
   unfolding rowOf verdictAt plain
   row-below =
+      let row : ℕ → Option Sort = λ i. rowSort now rows column i in
       Iff·trans (code-cause l now (verdictAt J row rs r) Below refl) (
         λ h. byOption (sortsAt row (r .list))
             (λ p. inl (none-missing row (r .list) p))
