@@ -20,10 +20,10 @@ use Rattle.checked.specs.RefusalLaws.{unranked, miscounted, tests, byNum
 
 ---------------------------------------------------------------- ParamOp
 -- Indices are one or two integer constants.
-no-index : {n : ℕ} {ts : Sorts} (is : List (Option ℕ)) → ((i : ℕ) → is ≡ some i ∷ [] → ⊥) → ((i j : ℕ) → is ≡ some i ∷ some j ∷ [] → ⊥) → Indices n is ts → ⊥
-no-index is f g (one i a b e p) = f i e
-no-index is f g (two i j a e) = g i j e
-no-index is f g (extract i j a e p q) = g i j e
+no-index : {n : ℕ} {ts : Sorts} (is : List (Option ℕ)) → ((i : ℕ) → is ≡ some i ∷ [] → ⊥) → ((i j : ℕ) → is ≡ some i ∷ some j ∷ [] → ⊥) → Indices n is ts × (count ts ≡ 1) → ⊥
+no-index is f g (one i a b e p, c) = f i e
+no-index is f g (two i j a e, c) = g i j e
+no-index is f g (extract i j a e p q, c) = g i j e
 
 -- One index, of any size, or of 1 at least; for no other operator.
 any-index : (n i : ℕ) (ts : Sorts) → 3 ≤ n → n ≤ 10 → ((n ≡ 7) ⊎ (n ≡ 9) → ⊥) → true ≡ true ↔ Indices n (some i ∷ []) ts
@@ -157,12 +157,12 @@ module _ (n : ℕ) {A : Type 0} (ranked : A) (other : n ≡ 8 → ⊥) where
   index-way : (is : List (Option ℕ)) (ts : Sorts) → Exactly (indexedOn n is ts) A Unit (Indices n is ts × (count ts ≡ 1)) (Argument n ts) Unit
   unfolding count
   index-way is end = miscounted refl ranked _ (λ h. let z = h .1 in omega arith)
-  index-way [] (a then end) = miscounted refl ranked _ (λ h. no-index [] (λ i e. let z : true ≡ false = cc in true≢false z) (λ i j e. let z : true ≡ false = cc in true≢false z) (h .0))
-  index-way (none ∷ is) (a then end) = miscounted refl ranked _ (λ h. no-index (none ∷ is) (λ i e. let z : true ≡ false = cc in true≢false z) (λ i j e. let z : true ≡ false = cc in true≢false z) (h .0))
+  index-way [] (a then end) = miscounted refl ranked _ (no-index [] (λ i e. let z : true ≡ false = cc in true≢false z) (λ i j e. let z : true ≡ false = cc in true≢false z))
+  index-way (none ∷ is) (a then end) = miscounted refl ranked _ (no-index (none ∷ is) (λ i e. let z : true ≡ false = cc in true≢false z) (λ i j e. let z : true ≡ false = cc in true≢false z))
   index-way (some i ∷ []) (a then end) = one-way i a
-  index-way (some i ∷ (none ∷ is)) (a then end) = miscounted refl ranked _ (λ h. no-index (some i ∷ (none ∷ is)) (λ i e. let z : true ≡ false = cc in true≢false z) (λ i j e. let z : true ≡ false = cc in true≢false z) (h .0))
+  index-way (some i ∷ (none ∷ is)) (a then end) = miscounted refl ranked _ (no-index (some i ∷ (none ∷ is)) (λ i e. let z : true ≡ false = cc in true≢false z) (λ i j e. let z : true ≡ false = cc in true≢false z))
   index-way (some i ∷ (some j ∷ [])) (a then end) = two-way i j a
-  index-way (some i ∷ (some j ∷ (k ∷ is))) (a then end) = miscounted refl ranked _ (λ h. no-index (some i ∷ (some j ∷ (k ∷ is))) (λ i e. let z : true ≡ false = cc in true≢false z) (λ i j e. let z : true ≡ false = cc in true≢false z) (h .0))
+  index-way (some i ∷ (some j ∷ (k ∷ is))) (a then end) = miscounted refl ranked _ (no-index (some i ∷ (some j ∷ (k ∷ is))) (λ i e. let z : true ≡ false = cc in true≢false z) (λ i j e. let z : true ≡ false = cc in true≢false z))
   index-way is (a then (b then bs)) = miscounted refl ranked _ (λ h. let z = h .1 in omega arith)
 
 -- A PARAMOP: 24 exactly for 1 BvBitOf, 2 BvIntOf and 8 BvConst; else 25 exactly where it has not one argument, or not its indices, each

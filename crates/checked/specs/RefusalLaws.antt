@@ -104,6 +104,12 @@ tests true true s e a p c f = accepted s e a p (c .0 refl) (f .0 refl) _
 tests true false s e a p c f = misfit e a p (c .0 refl) (λ h. false≢true (f .1 h))
 tests false r s e a p c f = miscounted e a p (λ h. false≢true (c .1 h))
 
+-- A test of the record's own sorts.
+pub cleaned : (q : Bool) {v : Verdict} {P C F : Type 0} → (q ≡ true ↔ P) → (q ≡ true → P → Exactly v Unit P C F Unit) → (q ≡ false → v ≡ refused Barred)
+    → Exactly v Unit P C F Unit
+cleaned true i f g = f refl (i .0 refl)
+cleaned false i f g = barred (g refl) _ (λ p. false≢true (i .1 p))
+
 -- By whether a number is another one.
 pub byNumber : {C : Type 0} (n k : ℕ) → (eqb n k ≡ true → n ≡ k → C) → (eqb n k ≡ false → (n ≡ k → ⊥) → C) → C
 byNumber n k f g = byTest (eqb n k) (λ q. f q (eqb-true n k q)) (λ q. g q (eqb-false n k q))

@@ -31,7 +31,7 @@ use Rattle.checked.specs.Refusals.{Exactly}
 use Rattle.checked.specs.Rules.{HaveSorts}
 use Rattle.checked.specs.RankTheorems.{sameCount-number, counts-more}
 use Rattle.checked.specs.RuleTheorems.{have-only, have-when}
-use Rattle.checked.specs.RefusalLaws.{unranked, barred, miscounted, misfit, accepted, tests, byNumber, parts-cause}
+use Rattle.checked.specs.RefusalLaws.{unranked, barred, miscounted, misfit, accepted, tests, cleaned, byNumber, parts-cause}
 
 ---------------------------------------------------------------- constants, Var, Match
 -- An INTEGER, REAL, STRING OR REGLAN CONSTANT is never refused.
@@ -66,57 +66,50 @@ unfolding checked
 match-refusals R z k = unranked (rw k refl) (λ h. h)
 
 ---------------------------------------------------------------- Binder
--- One binding for 2 Choice, one or more for the others.
-abbrev pub Bindings : ℕ → ℕ → Type 0
-Bindings n k = (0 < k) × (n ≡ 2 → k ≡ 1)
-
--- The body: no Par for 3 Lambda, Bool for the others.
-abbrev pub Body : ℕ → Sorts → Type 0
-Body n ts = (n ≡ 3 → EachValue ts) × ((n ≡ 3 → ⊥) → ts ≡ bool then end)
-
-body-value : (n : ℕ) (b : Sort) → n ≡ 3 → value b ≡ true ↔ Body n (b then end)
+body-value : (n : ℕ) (b : Sort) → n ≡ 3 → value b ≡ true ↔ (n ≡ 3 → EachValue (b then end)) × ((n ≡ 3 → ⊥) → b then end ≡ bool then end)
 unfolding values
 body-value n b e = (
   λ v. (λ h. eachValue-exactly (b then end) .0 (and-true (value b) true v refl), λ d. absurd (d e)),
   λ h. value-exactly b .1 (h .0 e b first),
 )
 
-body-bool : (n : ℕ) (b : Sort) → (n ≡ 3 → ⊥) → same b bool ≡ true ↔ Body n (b then end)
+body-bool : (n : ℕ) (b : Sort) → (n ≡ 3 → ⊥) → same b bool ≡ true ↔ (n ≡ 3 → EachValue (b then end)) × ((n ≡ 3 → ⊥) → b then end ≡ bool then end)
 body-bool n b d = (
   λ v. (λ e. absurd (d e), λ h. ap (_then end) (same-sound b bool v)),
   λ h. let e = h .1 d in let f : b ≡ bool = cc in same-complete b bool f,
 )
 
-binder-way : (n : ℕ) (bs ts : Sorts) → Exactly (binder n bs ts) Unit (EachProper bs) (Bindings n (count bs) × (count ts ≡ 1)) (Body n ts) Unit
+binder-way : (n : ℕ) (bs ts : Sorts)
+    → Exactly (binder n bs ts) Unit (EachProper bs)
+    ((0 < count bs) × (n ≡ 2 → count bs ≡ 1) × (count ts ≡ 1))
+    ((n ≡ 3 → EachValue ts) × ((n ≡ 3 → ⊥) → ts ≡ bool then end)) Unit
 unfolding binder count
-binder-way n bs ts =
-    byTest (properAll bs)
-    (λ p. let P = eachProper-exactly bs .0 p in body ts P p)
-    (λ p. barred (rw p refl) _ (λ P. clash (eachProper-exactly bs .1 P) p))
-  where
-    body : (ts : Sorts) → EachProper bs → properAll bs ≡ true
-        → Exactly (need (properAll bs) Barred (boundBody n bs ts)) Unit (EachProper bs) (Bindings n (count bs) × (count ts ≡ 1)) (Body n ts) Unit
-    body end P p = miscounted (rw p refl) _ P (λ h. let z = h .1 in omega arith)
-    body (b then (c then cs)) P p = miscounted (rw p refl) _ P (λ h. let z = h .1 in omega arith)
-    body (b then end) P p =
-        byNumber n 3
-        (λ q e. tests (ltb 0 (count bs)) (value b) (function (joined bs b)) (rw (p, q) refl) _ P
-        (λ h. ((ltb-true 0 (count bs) h, λ f. omega arith), refl), λ h. lt-ltb 0 (count bs) (h .0 .0))
-        (body-value n b e))
-        (λ q d. byNumber n 2
-        (λ r e. tests (eqb (count bs) 1) (same b bool) (onlyOf bs) (rw (p, q, r) refl) _ P
-        (λ h. let g = eqb-true (count bs) 1 h in ((omega arith, λ f. g), refl), λ h. eq-eqb (count bs) 1 (h .0 .1 e))
-        (body-bool n b d))
-        (λ r f. tests (ltb 0 (count bs)) (same b bool) bool (rw (p, q, r) refl) _ P
-        (λ h. ((ltb-true 0 (count bs) h, λ e. absurd (f e)), refl), λ h. lt-ltb 0 (count bs) (h .0 .0))
-        (body-bool n b d)))
+binder-way n bs end =
+    cleaned (properAll bs) (eachProper-exactly bs) (λ p P. miscounted (rw p refl) _ P (λ h. let z = h .2 in omega arith)) (λ p. rw p refl)
+binder-way n bs (b then (c then cs)) =
+    cleaned (properAll bs) (eachProper-exactly bs) (λ p P. miscounted (rw p refl) _ P (λ h. let z = h .2 in omega arith)) (λ p. rw p refl)
+binder-way n bs (b then end) =
+    cleaned (properAll bs) (eachProper-exactly bs)
+    (λ p P. byNumber n 3
+    (λ q e. tests (ltb 0 (count bs)) (value b) (function (joined bs b)) (rw (p, q) refl) _ P
+    (λ h. (ltb-true 0 (count bs) h, λ f. omega arith, refl), λ h. lt-ltb 0 (count bs) (h .0))
+    (body-value n b e))
+    (λ q d. byNumber n 2
+    (λ r e. tests (eqb (count bs) 1) (same b bool) (onlyOf bs) (rw (p, q, r) refl) _ P
+    (λ h. let g = eqb-true (count bs) 1 h in (omega arith, λ f. g, refl), λ h. eq-eqb (count bs) 1 (h .1 e))
+    (body-bool n b d))
+    (λ r f. tests (ltb 0 (count bs)) (same b bool) bool (rw (p, q, r) refl) _ P
+    (λ h. (ltb-true 0 (count bs) h, λ e. absurd (f e), refl), λ h. lt-ltb 0 (count bs) (h .0))
+    (body-bool n b d))))
+    (λ p. rw p refl)
 
 -- A BINDER: 28 exactly where a part of a binding's sort is Type, ParamBitVec, BitVec 0 or a Par; else 25 exactly where there is no
 -- binding, more than one for Choice, or not one body; else 26 exactly where the body of a Lambda is a Par or that of another is
 -- not Bool. Never 24 or 27.
 pub binder-refusals : (R : ℕ → List Rank) (z : Site) → z .kind ≡ 8
     → Exactly (checked R z) Unit (EachProper (bindingSorts (z .bindings)))
-    (Bindings (z .number) (count (bindingSorts (z .bindings))) × (count (z .args) ≡ 1)) (Body (z .number) (z .args)) Unit
+    ((0 < count (bindingSorts (z .bindings))) × (z .number ≡ 2 → count (bindingSorts (z .bindings)) ≡ 1) × (count (z .args) ≡ 1))
+    ((z .number ≡ 3 → EachValue (z .args)) × ((z .number ≡ 3 → ⊥) → z .args ≡ bool then end)) Unit
 unfolding checked
 binder-refusals R z k = rw k (binder-way (z .number) (bindingSorts (z .bindings)) (z .args))
 

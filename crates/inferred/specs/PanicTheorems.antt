@@ -24,7 +24,7 @@ use Rattle.rows.specs.OutcomeLaws.{refused-sort}
 use Rattle.inferred.specs.declared.Family.{Family}
 use Rattle.inferred.specs.declared.Family.the-variants.{Truth, Integer, Decimal, Text, Regular, Vector, OneBit, Bits, Constant, Concat, First, Second, Last, Sum, Element, RareList, Singleton, Tuple, UnitTuple, Transpose, Join, Product}
 use Rattle.inferred.specs.Family.{familyOf}
-use Rattle.inferred.specs.Inferred.{firstOf, secondOf, finalOf, someReal, sumOf, elementOf, selected, rareOf, singletonOf, columns, backwards, allButLast, joinOf, productOf, overBoth, transposeOf, operatedBy, indexed, plainApp, parametricApp, headApp, chosen, lambda, bound, matched, inferred}
+use Rattle.inferred.specs.Inferred.{firstOf, secondOf, finalOf, someReal, sumOf, selected, rareOf, singletonOf, columns, backwards, allButLast, joinOf, productOf, overBoth, transposeOf, operatedBy, indexed, plainApp, parametricApp, headApp, chosen, lambda, bound, matched, inferred}
 use Rattle.inferred.specs.PanicLaws.{PanicsWhen, Behind, Some, Unknown, Other, bad, good, panics-said, width-panics}
 use Rattle.inferred.specs.WidthTheorems.{nineteen-way, concat-way, const-way, extract-exactly, extend-exactly, repeat-exactly, convert-exactly}
 
@@ -53,10 +53,7 @@ never-panics n is ss (inr (inr (inl e))) = rw e ((good reglan refl (λ h. h)))
 never-panics n is ss (inr (inr (inr e))) = rw e ((good reglan refl (λ h. h)))
 
 ---------------------------------------------------------------- families of operators
--- An Array, and a relation with the columns cs: a Set of a Tuple.
-abbrev pub Array : Sort → Type 0
-Array s = (a : ℕ) × (w : ℕ) × (x : Sort) × (y : Sort) × (rs : Sorts) × (s ≡ node 8 a w (x then y then rs))
-
+-- A relation with the columns cs: a Set of a Tuple.
 abbrev pub Relation : Sort → Sorts → Type 0
 Relation s cs = (a : ℕ) × (w : ℕ) × (b : ℕ) × (x : ℕ) × (rs : Sorts) × (s ≡ node 14 a w (node 15 b x cs then rs))
 
@@ -72,7 +69,7 @@ pub data Panicking (ss : Sorts) (cs : List (Option ℕ)) : Family → Type 0 whe
   first : count ss ≡ 0 → Panicking ss cs First
   second : count ss < 2 → Panicking ss cs Second
   last : count ss ≡ 0 → Panicking ss cs Last
-  element : ((s : Sort) (ts : Sorts) → ss ≡ s then ts → Array s → ⊥) → Panicking ss cs Element
+  element : ((a w : ℕ) (x y : Sort) (rs ts : Sorts) → ss ≡ node 8 a w (x then y then rs) then ts → ⊥) → Panicking ss cs Element
   singleton : count ss ≡ 0 → Panicking ss cs Singleton
   transpose : ((s : Sort) (ts xs : Sorts) → ss ≡ s then ts → Relation s xs → ⊥) → Panicking ss cs Transpose
   join : ((xs ys : Sorts) (y : Sort) → Relations ss xs (y then ys) → ⊥) → Panicking ss cs Join
@@ -102,21 +99,19 @@ rare-way : (ss : Sorts) → PanicsWhen (rareOf ss) ⊥
 rare-way end = good (var 0) refl (λ h. h)
 rare-way (s then ss) = good s refl (λ h. h)
 
--- An argument's sort: an Array, or none; a relation, or none.
-array-way : (s : Sort) → PanicsWhen (elementOf s) (Array s → ⊥)
-array-way (var v) = bad refl (λ h. let (a, w, x, y, rs, e) = h in let z : true ≡ false = cc in true≢false z)
-array-way (par ns b) = bad refl (λ h. let (a, w, x, y, rs, e) = h in let z : true ≡ false = cc in true≢false z)
-array-way (node k a w end) = bad refl (λ h. let (b, v, x, y, rs, e) = h in let z : true ≡ false = cc in true≢false z)
-array-way (node k a w (r then end)) = bad refl (λ h. let (b, v, x, y, rs, e) = h in let z : true ≡ false = cc in true≢false z)
-array-way (node k a w (r then (t then ts))) =
+-- Select has an Array, with its two parts, as first argument, or none.
+selected-way : (ss : Sorts) → PanicsWhen (selected ss) ((a w : ℕ) (x y : Sort) (rs ts : Sorts) → ss ≡ node 8 a w (x then y then rs) then ts → ⊥)
+selected-way end = bad refl (λ a w x y rs ts e. let z : true ≡ false = cc in true≢false z)
+selected-way (var v then ss) = bad refl (λ a w x y rs ts e. let z : true ≡ false = cc in true≢false z)
+selected-way (par ns b then ss) = bad refl (λ a w x y rs ts e. let z : true ≡ false = cc in true≢false z)
+selected-way (node k b v end then ss) = bad refl (λ a w x y rs ts e. let z : true ≡ false = cc in true≢false z)
+selected-way (node k b v (r then end) then ss) = bad refl (λ a w x y rs ts e. let z : true ≡ false = cc in true≢false z)
+selected-way (node k b v (r then (t then ts)) then ss) =
     byTest (eqb k 8)
-    (λ q. good t (rw q refl) (λ n. n (a, w, r, t, ts, rw (eqb-true k 8 q) refl)))
-    (λ q. bad (rw q refl) (λ h. let (b, v, x, y, rs, e) = h in let z : k ≡ 8 = cc in eqb-false k 8 q z))
+    (λ q. good t (rw q refl) (λ n. n b v r t ts ss (rw (eqb-true k 8 q) refl)))
+    (λ q. bad (rw q refl) (λ a w x y rs us e. let z : k ≡ 8 = cc in eqb-false k 8 q z))
 
-selected-way : (ss : Sorts) → PanicsWhen (selected ss) ((s : Sort) (ts : Sorts) → ss ≡ s then ts → Array s → ⊥)
-selected-way end = bad refl (λ s ts e h. let z : true ≡ false = cc in true≢false z)
-selected-way (a then ss) = panics-said (array-way a) (λ n s ts q h. let z : s ≡ a = cc in n (rw z at h)) (λ h. h a ss refl)
-
+-- A relation, with its columns, or none.
 columns-of : (s : Sort) → ((cs : Sorts) × (columns s ≡ some cs) × Relation s cs) ⊎ ((columns s ≡ none) × ((cs : Sorts) → Relation s cs → ⊥))
 columns-of (var v) = inr (refl, λ cs h. let (a, w, b, x, rs, e) = h in let z : true ≡ false = cc in true≢false z)
 columns-of (par ns t) = inr (refl, λ cs h. let (a, w, b, x, rs, e) = h in let z : true ≡ false = cc in true≢false z)

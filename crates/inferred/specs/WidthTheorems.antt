@@ -157,12 +157,10 @@ convert-exactly is ss = way is
     way (none ∷ is) = unclear refl refl (λ h. omega arith) refl
     way (some w ∷ is) = wide refl refl (λ h. omega arith) (λ e. none-some (sym e))
 
--- No index; or the first is an integer constant i and there is no second, or the second is one that is larger.
-abbrev pub Unspanned : List (Option ℕ) → Type 0
-Unspanned is = (length is ≡ 0) ⊎ ((i : ℕ) × (getD is 0 none ≡ some i) × ((length is ≡ 1) ⊎ ((j : ℕ) × (getD is 1 none ≡ some j) × (i < j))))
-
 extract-way : (is : List (Option ℕ))
-    → WidthWhen (extracted is) (Unspanned is) ((getD is 0 none ≡ none) ⊎ (getD is 1 none ≡ none)) (bitvec (suc (orZero (getD is 0 none) - orZero (getD is 1 none))))
+    → WidthWhen (extracted is)
+    ((length is ≡ 0) ⊎ ((i : ℕ) × (getD is 0 none ≡ some i) × ((length is ≡ 1) ⊎ ((j : ℕ) × (getD is 1 none ≡ some j) × (i < j)))))
+    ((getD is 0 none ≡ none) ⊎ (getD is 1 none ≡ none)) (bitvec (suc (orZero (getD is 0 none) - orZero (getD is 1 none))))
 extract-way [] = bad-width refl (inl refl)
 extract-way (none ∷ is) = unclear refl refl (⊎-elim (λ h. omega arith) (λ h. let (i, e, x) = h in none-some e)) (inl refl)
 extract-way (some i ∷ []) = bad-width refl (inr (i, refl, inl refl))
@@ -180,6 +178,8 @@ extract-way (some i ∷ (some j ∷ is)) =
 -- EXTRACT i, j (0) panics exactly without an index, without a second one behind an integer constant, or where j is larger than i; else its
 -- width is unknown exactly where one of the two is no integer constant, and elsewhere i - j + 1. The argument is not looked at.
 pub extract-exactly : (is : List (Option ℕ)) (ss : Sorts)
-    → WidthWhen (indexed 0 is ss) (Unspanned is) ((getD is 0 none ≡ none) ⊎ (getD is 1 none ≡ none)) (bitvec (suc (orZero (getD is 0 none) - orZero (getD is 1 none))))
+    → WidthWhen (indexed 0 is ss)
+    ((length is ≡ 0) ⊎ ((i : ℕ) × (getD is 0 none ≡ some i) × ((length is ≡ 1) ⊎ ((j : ℕ) × (getD is 1 none ≡ some j) × (i < j)))))
+    ((getD is 0 none ≡ none) ⊎ (getD is 1 none ≡ none)) (bitvec (suc (orZero (getD is 0 none) - orZero (getD is 1 none))))
 unfolding indexed
 extract-exactly is ss = extract-way is
