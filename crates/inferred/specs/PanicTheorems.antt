@@ -203,6 +203,11 @@ family-way Transpose ss cs = panics-said (transpose-way ss) transpose (λ h. eli
 family-way Join ss cs = panics-said (join-way ss) join (λ h. elim h [ join p ↦ p ])
 family-way Product ss cs = panics-said (product-way ss) product (λ h. elim h [ product p ↦ p ])
 
+-- An operator is judged by its family, its arguments and the integer constants among them: so the laws on widths are those of its row.
+pub operator-inferred : (z : Site) → z .kind ≡ 7 → inferred z ≡ operatedBy (familyOf (z .number)) (z .args) (z .constants)
+unfolding inferred
+operator-inferred z k = rw k refl
+
 pub operator-panics : (z : Site) → z .kind ≡ 7 → PanicsWhen (inferred z) (Panicking (z .args) (z .constants) (familyOf (z .number)))
 unfolding inferred
 operator-panics z k = rw k (family-way (familyOf (z .number)) (z .args) (z .constants))

@@ -15,7 +15,7 @@ use Rattle.record.specs.Sort.{Sort, Sorts, end, _then_, bitvec, kindOf, numberI
 use Rattle.record.specs.Cases.{byTest, none-some, some-inj}
 use Rattle.substitution.specs.MatchWith.{isParamBitVec, isBitVec}
 use Rattle.rows.specs.Verdict.{sort}
-use Rattle.inferred.specs.declared.Family.the-variants.{Vector, Constant, Concat}
+use Rattle.inferred.specs.declared.Family.the-variants.{Vector}
 use Rattle.inferred.specs.Family.{familyOf}
 use Rattle.inferred.specs.Inferred.{hasWidth, firstVector, concatUnknown, concatFrom, constantWidth, operatedBy, resized, widthOf, extracted, indexed}
 use Rattle.inferred.specs.PanicLaws.{WidthWhen, Behind, Some, Known, Unknown, Other, bad-width, unclear, wide, width-said, byWidth, known-bitvec}
@@ -79,10 +79,10 @@ concat-way w (s then ss) =
     (λ q u b k. rw (q, u) (width-said refl (unknown-way (w + widthsOf (s then ss)) ss) (λ p. inr (_, p)) (⊎-elim (λ o. absurd (o .1 k)) (λ o. o .1)) (λ x. inl k) (λ x. _)))
     (λ q u b o. bad-width (rw (q, u) refl) (inl o))
 
--- BVCONCAT panics exactly where some argument is no vector; else its width is unknown exactly where that of some argument is, and
+-- BVCONCAT (90) panics exactly where some argument is no vector; else its width is unknown exactly where that of some argument is, and
 -- elsewhere the sum of all.
-pub concat-exactly : (ss : Sorts) (cs : List (Option ℕ)) → WidthWhen (operatedBy Concat ss cs) (Some Other ss) (Some Unknown ss) (bitvec (widthsOf ss))
-unfolding operatedBy
+pub concat-exactly : (ss : Sorts) (cs : List (Option ℕ)) → WidthWhen (operatedBy (familyOf 90) ss cs) (Some Other ss) (Some Unknown ss) (bitvec (widthsOf ss))
+unfolding operatedBy familyOf
 concat-exactly ss cs = rw (zero-add (widthsOf ss)) at (concat-way 0 ss)
 
 ---------------------------------------------------------------- BvBbTerm and BvConst
@@ -105,8 +105,8 @@ const-way (c ∷ (some w ∷ cs)) = wide refl refl (λ h. omega arith) (λ e. no
 -- BVCONST (112) panics exactly with fewer than two arguments; else its width is unknown exactly where the second is no integer constant,
 -- and elsewhere that number.
 pub const-exactly : (ss : Sorts) (cs : List (Option ℕ))
-    → WidthWhen (operatedBy Constant ss cs) (length cs < 2) (getD cs 1 none ≡ none) (bitvec (orZero (getD cs 1 none)))
-unfolding operatedBy
+    → WidthWhen (operatedBy (familyOf 112) ss cs) (length cs < 2) (getD cs 1 none ≡ none) (bitvec (orZero (getD cs 1 none)))
+unfolding operatedBy familyOf
 const-exactly ss cs = const-way cs
 
 ---------------------------------------------------------------- indexed operators
