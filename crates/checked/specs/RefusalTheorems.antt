@@ -15,15 +15,15 @@ use Rattle.record.specs.Cases.{and-left, and-right, and-true, byTest, none-some
 use Rattle.sheet.specs.Sheet.{Binding}
 use Rattle.substitution.specs.Premises.{proper, properAll}
 use Rattle.rows.specs.declared.Cause.{Cause}
-use Rattle.rows.specs.declared.Cause.the-variants.{Below, Barred}
-use Rattle.rows.specs.Verdict.{refused, need}
+use Rattle.rows.specs.declared.Cause.the-variants.{Below}
+use Rattle.rows.specs.Verdict.{refused}
 use Rattle.rows.specs.Lists.{lastOf, joined, bindingSorts}
 use Rattle.rows.specs.Term.{Site, Terms, term, constantsOf, verdictOf, verdictsOf}
 use Rattle.checked.specs.Rank.{Rank, rank, stretched, counts, vector as isVector, someCounts}
 use Rattle.checked.specs.RankLaws.{vector-is}
 use Rattle.checked.specs.RankSound.{Sound}
 use Rattle.checked.specs.Fits.{rankAt, SomeFits}
-use Rattle.checked.specs.Checked.{carried, value, values, onlyOf, boundBody, binder, letting, constantArray, qualified, concatenation, nonempty, operated, checked, check}
+use Rattle.checked.specs.Checked.{carried, value, values, onlyOf, binder, letting, constantArray, qualified, concatenation, nonempty, operated, checked, check}
 use Rattle.checked.specs.FitLaws.{someCounts-nonempty, firstFit-some, some-firstFit, someCounts-when, fit-counts, some-fit, operated-ranked, byRanked}
 use Rattle.checked.specs.Parts.{first, Proper, Carried, EachProper, EachValue}
 use Rattle.checked.specs.PartTheorems.{proper-exactly, carried-exactly, value-exactly, eachProper-exactly, eachValue-exactly}

@@ -10,7 +10,7 @@ use native.Mathlib.Omega.{arith}
 use lib.ListN.{length}
 use lib.Dec.{eqb, leb}
 use borrow.Author.Tests.{eqb-true, eqb-false, ne-eqb, leb-true, leb-false}
-use Rattle.record.specs.Sort.{Sort, Sorts, var, par, node, end, _then_, bool, int, real, string, reglan, bitvec, paramBitVec, set, tuple, function, count}
+use Rattle.record.specs.Sort.{Sort, Sorts, var, par, node, end, _then_, bool, int, real, string, reglan, bitvec, set, tuple, function, count}
 use Rattle.record.specs.Cases.{byTest, byOption, none-some, some-inj}
 use Rattle.substitution.specs.Substitution.{Map, empty, apply}
 use Rattle.sheet.specs.Sheet.{Binding}

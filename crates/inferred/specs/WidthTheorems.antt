@@ -1,9 +1,9 @@
 -- INFERRED WIDTHS for every list of arguments and indices, with the cases of an unknown width and of a panic: the nineteen, BvConcat,
 -- BvBbTerm, BvConst, the extensions, Repeat, IntToBv and Extract.
 use Prim.Native.Nat.{ℕ, suc, _+_, _*_, _-_, _≤_, _<_}
-use mathlib.Core.Path.{_≡_, refl, sym, ap, _∙_}
+use mathlib.Core.Path.{_≡_, refl, sym}
 use mathlib.Core.Logic.{_⊎_, inl, inr, ⊎-elim}
-use mathlib.Core.Bool.{true, false, cond}
+use mathlib.Core.Bool.{true, cond}
 use mathlib.Core.List.{List, [], _∷_}
 use mathlib.Core.Option.{Option, none, some}
 use native.Mathlib.Omega.{arith}
@@ -13,7 +13,7 @@ use lib.Dec.{eqb, leb}
 use borrow.Author.Tests.{eqb-true, eqb-false, leb-true, leb-false}
 use Rattle.record.specs.Sort.{Sort, Sorts, end, _then_, bitvec, kindOf, numberIn, count}
 use Rattle.record.specs.Cases.{byTest, none-some, some-inj}
-use Rattle.substitution.specs.MatchWith.{isParamBitVec, isBitVec}
+use Rattle.substitution.specs.MatchWith.{isBitVec}
 use Rattle.rows.specs.Verdict.{sort}
 use Rattle.inferred.specs.declared.Family.the-variants.{Vector}
 use Rattle.inferred.specs.Family.{familyOf}

@@ -20,7 +20,6 @@ use Rattle.substitution.specs.Matching.{matches, Within, listedIn, known, known
 use Rattle.substitution.specs.MatchingLaws.{known-parless, unlisted-free, free-unlisted, matching-premise, match-exact}
 use Rattle.rows.specs.declared.Cause.the-variants.{Barred, NoAssignment}
 use Rattle.rows.specs.Verdict.{sort, refused, numberOf}
-use Rattle.rows.specs.Outcome.{within}
 use Rattle.rows.specs.OutcomeLaws.{plain, refused-sort, sort-inj}
 use Rattle.checked.specs.Parts.{In, first, later, PartOf, whole, inBody, inList, Value}
 use Rattle.checked.specs.FitLaws.{sort-refused, other-cause}
