@@ -2,7 +2,7 @@
 use Prim.Native.Nat.{ℕ, suc, _+_, _*_, _-_, _≤_, _<_}
 use mathlib.Core.Path.{_≡_, refl, ap}
 use mathlib.Core.Logic.{_↔_, _⊎_, inl, inr, ⊎-elim}
-use mathlib.Core.Bool.{Bool, true, not, _&&_, _||_}
+use mathlib.Core.Bool.{Bool, true, false, true≢false, not, _&&_, _||_}
 use mathlib.Core.List.{List, [], _∷_}
 use mathlib.Core.Option.{Option, none, some}
 use native.Mathlib.Omega.{arith}
@@ -16,22 +16,14 @@ use Rattle.checked.specs.Rank.{Rank, vector as isVector}
 use Rattle.checked.specs.RankLaws.{vector-is}
 use Rattle.checked.specs.Checked.{indexed₁, indexed₂, indexedOn, indexing, checked}
 use Rattle.checked.specs.Refusals.{Exactly, Indices, one, two, extract, Argument, integer, language, vector}
-use Rattle.checked.specs.RefusalLaws.{Way, unranked, miscounted, exactly, tests, byNumber}
+use Rattle.checked.specs.RefusalLaws.{unranked, miscounted, tests, byNumber}
 
 ---------------------------------------------------------------- ParamOp
--- How many indices there are, where each is an integer constant: one or two.
-abbrev form : List (Option ℕ) → ℕ
-form [] = 0
-form (none ∷ is) = 0
-form (some i ∷ []) = 1
-form (some i ∷ (none ∷ is)) = 0
-form (some i ∷ (some j ∷ [])) = 2
-form (some i ∷ (some j ∷ (k ∷ is))) = 0
-
-no-indices : {n : ℕ} {is : List (Option ℕ)} {ts : Sorts} → form is ≡ 0 → Indices n is ts → ⊥
-no-indices f (one i a b e p) = let z = ap form e in omega arith
-no-indices f (two i j a e) = let z = ap form e in omega arith
-no-indices f (extract i j a e p q) = let z = ap form e in omega arith
+-- Indices are one or two integer constants.
+no-index : {n : ℕ} {ts : Sorts} (is : List (Option ℕ)) → ((i : ℕ) → is ≡ some i ∷ [] → ⊥) → ((i j : ℕ) → is ≡ some i ∷ some j ∷ [] → ⊥) → Indices n is ts × (count ts ≡ 1) → ⊥
+no-index is f g (one i a b e p, c) = f i e
+no-index is f g (two i j a e, c) = g i j e
+no-index is f g (extract i j a e p q, c) = g i j e
 
 -- One index, of any size, or of 1 at least; for no other operator.
 any-index : (n i : ℕ) (ts : Sorts) → 3 ≤ n → n ≤ 10 → ((n ≡ 7) ⊎ (n ≡ 9) → ⊥) → true ≡ true ↔ Indices n (some i ∷ []) ts
@@ -45,13 +37,13 @@ some-index n i ts c = (
   where
     at-least : Indices n (some i ∷ []) ts → ltb 0 i ≡ true
     at-least (one j a b e p) = let q : i ≡ j = cc in let r = p c in lt-ltb 0 i (omega arith)
-    at-least (two j k a e) = let z = ap form e in absurd (omega arith)
-    at-least (extract j k a e p q) = let z = ap form e in absurd (omega arith)
+    at-least (two j k a e) = let z : true ≡ false = cc in absurd (true≢false z)
+    at-least (extract j k a e p q) = let z : true ≡ false = cc in absurd (true≢false z)
 
 other-index : (n i : ℕ) (ts : Sorts) → (3 ≤ n → n ≤ 10 → ⊥) → Indices n (some i ∷ []) ts → ⊥
 other-index n i ts d (one j a b e p) = d a b
-other-index n i ts d (two j k a e) = let z = ap form e in omega arith
-other-index n i ts d (extract j k a e p q) = let z = ap form e in omega arith
+other-index n i ts d (two j k a e) = let z : true ≡ false = cc in true≢false z
+other-index n i ts d (extract j k a e p q) = let z : true ≡ false = cc in true≢false z
 
 -- The argument.
 a-vector : (n : ℕ) (a : Sort) → n < 9 → isVector a ≡ true ↔ Argument n (a then end)
@@ -93,7 +85,7 @@ in-range n i j a c = (there, back)
         let o = ltb-true i (numberIn a) l in omega arith)
 
     back : Indices n (some i ∷ some j ∷ []) (a then end) → (leb j i && (not (isVector a) || ltb i (numberIn a))) ≡ true
-    back (one k x y e p) = let z = ap form e in absurd (omega arith)
+    back (one k x y e p) = let z : true ≡ false = cc in absurd (true≢false z)
     back (two k l x e) = absurd (omega arith)
     back (extract k l x e p q) =
         let u : i ≡ k = cc in
@@ -104,13 +96,9 @@ in-range n i j a c = (there, back)
         (λ t. rw t refl))
 
 other-indices : (n i j : ℕ) (ts : Sorts) → (n ≡ 0 → ⊥) → (n ≡ 11 → ⊥) → Indices n (some i ∷ some j ∷ []) ts → ⊥
-other-indices n i j ts c d (one k x y e p) = let z = ap form e in omega arith
+other-indices n i j ts c d (one k x y e p) = let z : true ≡ false = cc in true≢false z
 other-indices n i j ts c d (two k l x e) = d x
 other-indices n i j ts c d (extract k l x e p q) = c x
-
--- 1 BvBitOf, 2 BvIntOf and 8 BvConst are unranked.
-abbrev pub Indexed : ℕ → Type 0
-Indexed n = (n ≡ 1 → ⊥) × (n ≡ 2 → ⊥) × (n ≡ 8 → ⊥)
 
 -- Past a number that it is not; and none is left between two such numbers.
 past : (n k : ℕ) → k ≤ n → (n ≡ k → ⊥) → k + 1 ≤ n
@@ -124,9 +112,9 @@ alone : {q : Bool} {I : Type 0} (a : Sort) → (q ≡ true ↔ I) → q ≡ true
 unfolding count
 alone a h = (λ e. (h .0 e, refl), λ p. h .1 (p .0))
 
-module _ (n : ℕ) (ranked : Indexed n) where
+module _ (n : ℕ) {A : Type 0} (ranked : A) (other : n ≡ 8 → ⊥) where
   one-way : (i : ℕ) (a : Sort)
-      → Way (indexed₁ n i a) (Indexed n) Unit (Indices n (some i ∷ []) (a then end) × (count (a then end) ≡ 1)) (Argument n (a then end)) Unit
+      → Exactly (indexed₁ n i a) A Unit (Indices n (some i ∷ []) (a then end) × (count (a then end) ≡ 1)) (Argument n (a then end)) Unit
   one-way i a =
       let ts = a then end in
       let apart : (n ≡ 7 → ⊥) → (n ≡ 9 → ⊥) → (n ≡ 7) ⊎ (n ≡ 9) → ⊥ = λ d7 d9 c. ⊎-elim d7 d9 c in
@@ -153,10 +141,10 @@ module _ (n : ℕ) (ranked : Indexed n) where
       (alone a (any-index n i ts (omega arith) (omega arith) (apart d7 d9))) (a-language n a (omega arith)))
       (λ q10 d10. miscounted (rw (q3, q4, q5, q6, q7, q9, q10) refl) ranked _
       (λ h. other-index n i ts
-      (λ x y. none-left n 9 (past n 8 (past n 7 (past n 6 (past n 5 (past n 4 (past n 3 x d3) d4) d5) d6) d7) (ranked .2)) y d9 d10) (h .0)))))))))
+      (λ x y. none-left n 9 (past n 8 (past n 7 (past n 6 (past n 5 (past n 4 (past n 3 x d3) d4) d5) d6) d7) other) y d9 d10) (h .0)))))))))
 
   two-way : (i j : ℕ) (a : Sort)
-      → Way (indexed₂ n i j a) (Indexed n) Unit (Indices n (some i ∷ some j ∷ []) (a then end) × (count (a then end) ≡ 1)) (Argument n (a then end)) Unit
+      → Exactly (indexed₂ n i j a) A Unit (Indices n (some i ∷ some j ∷ []) (a then end) × (count (a then end) ≡ 1)) (Argument n (a then end)) Unit
   two-way i j a =
       let ts = a then end in
       byNumber n 0
@@ -166,25 +154,26 @@ module _ (n : ℕ) (ranked : Indexed n) where
       (λ q e. tests true (same a reglan) reglan (rw (q0, q) refl) ranked _ (alone a (λ h. two i j e refl, λ h. refl)) (a-language n a (omega arith)))
       (λ q11 d11. miscounted (rw (q0, q11) refl) ranked _ (λ h. other-indices n i j ts d0 d11 (h .0))))
 
-  index-way : (is : List (Option ℕ)) (ts : Sorts) → Way (indexedOn n is ts) (Indexed n) Unit (Indices n is ts × (count ts ≡ 1)) (Argument n ts) Unit
+  index-way : (is : List (Option ℕ)) (ts : Sorts) → Exactly (indexedOn n is ts) A Unit (Indices n is ts × (count ts ≡ 1)) (Argument n ts) Unit
   unfolding count
   index-way is end = miscounted refl ranked _ (λ h. let z = h .1 in omega arith)
-  index-way [] (a then end) = miscounted refl ranked _ (λ h. no-indices refl (h .0))
-  index-way (none ∷ is) (a then end) = miscounted refl ranked _ (λ h. no-indices refl (h .0))
+  index-way [] (a then end) = miscounted refl ranked _ (no-index [] (λ i e. let z : true ≡ false = cc in true≢false z) (λ i j e. let z : true ≡ false = cc in true≢false z))
+  index-way (none ∷ is) (a then end) = miscounted refl ranked _ (no-index (none ∷ is) (λ i e. let z : true ≡ false = cc in true≢false z) (λ i j e. let z : true ≡ false = cc in true≢false z))
   index-way (some i ∷ []) (a then end) = one-way i a
-  index-way (some i ∷ (none ∷ is)) (a then end) = miscounted refl ranked _ (λ h. no-indices refl (h .0))
+  index-way (some i ∷ (none ∷ is)) (a then end) = miscounted refl ranked _ (no-index (some i ∷ (none ∷ is)) (λ i e. let z : true ≡ false = cc in true≢false z) (λ i j e. let z : true ≡ false = cc in true≢false z))
   index-way (some i ∷ (some j ∷ [])) (a then end) = two-way i j a
-  index-way (some i ∷ (some j ∷ (k ∷ is))) (a then end) = miscounted refl ranked _ (λ h. no-indices refl (h .0))
+  index-way (some i ∷ (some j ∷ (k ∷ is))) (a then end) = miscounted refl ranked _ (no-index (some i ∷ (some j ∷ (k ∷ is))) (λ i e. let z : true ≡ false = cc in true≢false z) (λ i j e. let z : true ≡ false = cc in true≢false z))
   index-way is (a then (b then bs)) = miscounted refl ranked _ (λ h. let z = h .1 in omega arith)
 
 -- A PARAMOP: 24 exactly for 1 BvBitOf, 2 BvIntOf and 8 BvConst; else 25 exactly where it has not one argument, or not its indices, each
 -- an integer constant and in range; else 26 exactly where the argument is not of its sort. Never 28 or 27.
 pub index-refusals : (R : ℕ → List Rank) (z : Site) → z .kind ≡ 11
-    → Exactly (checked R z) (Indexed (z .number)) Unit (Indices (z .number) (z .indices) (z .args) × (count (z .args) ≡ 1)) (Argument (z .number) (z .args)) Unit
+    → Exactly (checked R z) ((z .number ≡ 1 → ⊥) × (z .number ≡ 2 → ⊥) × (z .number ≡ 8 → ⊥)) Unit
+    (Indices (z .number) (z .indices) (z .args) × (count (z .args) ≡ 1)) (Argument (z .number) (z .args)) Unit
 unfolding checked indexing
 index-refusals R z k = rw k (
-    byNumber (z .number) 1 (λ q e. exactly (unranked (rw q refl) (λ h. h .0 e)))
-    (λ q1 d1. byNumber (z .number) 2 (λ q e. exactly (unranked (rw (q1, q) refl) (λ h. h .1 e)))
-    (λ q2 d2. byNumber (z .number) 8 (λ q e. exactly (unranked (rw (q1, q2, q) refl) (λ h. h .2 e)))
-    (λ q8 d8. exactly (rw (q1, q2, q8) (index-way (z .number) (d1, d2, d8) (z .indices) (z .args))))))
+    byNumber (z .number) 1 (λ q e. unranked (rw q refl) (λ h. h .0 e))
+    (λ q1 d1. byNumber (z .number) 2 (λ q e. unranked (rw (q1, q) refl) (λ h. h .1 e))
+    (λ q2 d2. byNumber (z .number) 8 (λ q e. unranked (rw (q1, q2, q) refl) (λ h. h .2 e))
+    (λ q8 d8. rw (q1, q2, q8) (index-way (z .number) (d1, d2, d8) d8 (z .indices) (z .args)))))
     )

@@ -12,7 +12,7 @@ use Rattle.record.specs.Sort.{Sort, Sorts, var, par, node, end, _then_, kindOf,
 use Rattle.record.specs.Cases.{and-left, and-right, and-true, byTest, clash, not-true-false}
 use Rattle.substitution.specs.Premises.{usual, proper, properAll}
 use Rattle.checked.specs.Checked.{carried, value, values}
-use Rattle.checked.specs.Parts.{In, first, later, PartOf, whole, inBody, inList, Bars, aType, unknownWidth, zeroWidth, aPar, Proper, Improper, Allowed, Carried, Value, EachProper, SomeImproper, EachValue, SomePar}
+use Rattle.checked.specs.Parts.{In, first, later, PartOf, whole, inBody, inList, Bars, aType, unknownWidth, zeroWidth, aPar, Proper, Allowed, outermost, Carried, Value, EachProper, EachValue}
 
 ---------------------------------------------------------------- proper
 pub in-proper : {s : Sort} {ss : Sorts} → In s ss → properAll ss ≡ true → proper s ≡ true
@@ -52,7 +52,7 @@ unusual k a w ss e =
 mutual
   unfolding proper
 
-  find-improper : (s : Sort) → proper s ≡ false → Improper s
+  find-improper : (s : Sort) → proper s ≡ false → (r : Sort) × PartOf r s × Bars r
   find-improper (var v) e = clash refl e
   find-improper (par ns b) e = (par ns b, whole, aPar ns b refl)
   find-improper (node k a w ss) e =
@@ -60,7 +60,7 @@ mutual
       (λ q. let (s, i, (r, p, h)) = find-someImproper ss (rw q at e) in (r, inList i p, h))
       (λ q. (node k a w ss, whole, unusual k a w ss q))
 
-  find-someImproper : (ss : Sorts) → properAll ss ≡ false → SomeImproper ss
+  find-someImproper : (ss : Sorts) → properAll ss ≡ false → (s : Sort) × In s ss × ((r : Sort) × PartOf r s × Bars r)
   find-someImproper end e = clash refl e
   find-someImproper (s then ss) e =
       byTest (proper s)
@@ -75,7 +75,7 @@ proper-exactly s = (
 )
 
 -- and fails exactly where some part is.
-pub improper-exactly : (s : Sort) → proper s ≡ false ↔ Improper s
+pub improper-exactly : (s : Sort) → proper s ≡ false ↔ ((r : Sort) × PartOf r s × Bars r)
 improper-exactly s = (
   find-improper s,
   λ h. let (r, p, b) = h in not-true-false (proper s) (λ e. proper-bars r (part-proper p e) b),
@@ -88,7 +88,7 @@ eachProper-exactly ss = (
   λ h. byTest (properAll ss) (λ q. q) (λ q. let (s, i, (r, p, b)) = find-someImproper ss q in absurd (h s i r p b)),
 )
 
-pub someImproper-exactly : (ss : Sorts) → properAll ss ≡ false ↔ SomeImproper ss
+pub someImproper-exactly : (ss : Sorts) → properAll ss ≡ false ↔ ((s : Sort) × In s ss × ((r : Sort) × PartOf r s × Bars r))
 someImproper-exactly ss = (
   find-someImproper ss,
   λ h. let (s, i, (r, p, b)) = h in not-true-false (properAll ss) (λ e. eachProper-exactly ss .0 e s i r p b),
@@ -111,12 +111,16 @@ not-inside : (ns : List ℕ) (b r : Sort) → PartOf r b → r ≡ par ns b → 
 unfolding size
 not-inside ns b r p e = let h = part-size p in let z : size r ≡ size (par ns b) = ap size e in omega arith
 
+-- An allowed part is the whole, a Par with a name and a Function under it.
+allowed : {r s : Sort} → Allowed r s → (r ≡ s) × ((n : ℕ) × (ns : List ℕ) × (b : Sort) × (s ≡ par (n ∷ ns) b) × (kindOf b ≡ 0))
+allowed (outermost {n} {ns} {b} f) = (refl, (n, ns, b, refl, f))
+
 -- `carried` HOLDS exactly where no part of the sort is one of these, but for a Par outermost over a Function.
 pub carried-exactly : (s : Sort) → carried s ≡ true ↔ Carried s
 carried-exactly s = (only s, when s)
   where
     over : (n : ℕ) (ns : List ℕ) (b : Sort) → kindOf b ≡ 0 → proper b ≡ true → {r : Sort} → PartOf r (par (n ∷ ns) b) → Bars r → Allowed r (par (n ∷ ns) b)
-    over n ns b f e whole h = record { outermost = refl; name = n; names = ns; body = b; isPar = refl; function = f }
+    over n ns b f e whole h = outermost f
     over n ns b f e {r} (inBody p) h = absurd (proper-exactly b .0 e r p h)
 
     only : (s : Sort) → carried s ≡ true → Carried s
@@ -131,10 +135,9 @@ carried-exactly s = (only s, when s)
     -- A Par that a Var may carry has a name, and a Function under it.
     named : (ns : List ℕ) (b : Sort) → Carried (par ns b) → (ns ≡ [] → ⊥) × (kindOf b ≡ 0)
     named ns b h =
-        let a = h (par ns b) whole (aPar ns b refl) in
-        let e = a .isPar in
-        let f : b ≡ a .body = cc in
-        (λ q. let z : true ≡ false = cc in true≢false z, ap kindOf f ∙ a .function)
+        let (m, ms, c, e, g) = allowed (h (par ns b) whole (aPar ns b refl)) .1 in
+        let f : b ≡ c = cc in
+        (λ q. let z : true ≡ false = cc in true≢false z, ap kindOf f ∙ g)
 
     when : (s : Sort) → Carried s → carried s ≡ true
     when (var v) h = refl
@@ -144,10 +147,10 @@ carried-exactly s = (only s, when s)
     when (par (n ∷ ns) (node k a w ss)) h =
         let o = node k a w ss in
         and-true (eqb k 0) (proper o) (eq-eqb k 0 (named (n ∷ ns) o h .1))
-        (proper-exactly o .1 (λ r p b. not-inside (n ∷ ns) o r p (h r (inBody p) b .outermost)))
+        (proper-exactly o .1 (λ r p b. not-inside (n ∷ ns) o r p (allowed (h r (inBody p) b) .0)))
     when (node k a w ss) h =
         proper-exactly (node k a w ss) .1
-        (λ r p b. let e = h r p b .isPar in let z : true ≡ false = cc in true≢false z)
+        (λ r p b. elim (h r p b) [ ])
 
 -- It fails exactly where that is not so.
 pub uncarried-exactly : (s : Sort) → carried s ≡ false ↔ (Carried s → ⊥)
@@ -162,7 +165,7 @@ unfolding values
 each {s} (first {ss}) e = and-left (value s) (values ss) e
 each (later {r} {ss} i) e = each i (and-right (value r) (values ss) e)
 
-find-par : (ss : Sorts) → values ss ≡ false → SomePar ss
+find-par : (ss : Sorts) → values ss ≡ false → (ns : List ℕ) × (b : Sort) × In (par ns b) ss
 unfolding values
 find-par end e = clash refl e
 find-par (var v then ss) e = let (ns, b, i) = find-par ss e in (ns, b, later i)
@@ -183,7 +186,7 @@ eachValue-exactly ss = (
 )
 
 -- it fails exactly where some sort is.
-pub somePar-exactly : (ss : Sorts) → values ss ≡ false ↔ SomePar ss
+pub somePar-exactly : (ss : Sorts) → values ss ≡ false ↔ ((ns : List ℕ) × (b : Sort) × In (par ns b) ss)
 somePar-exactly ss = (
   find-par ss,
   λ h. let (ns, b, i) = h in not-true-false (values ss) (λ e. false≢true (each i e)),

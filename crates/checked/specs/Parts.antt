@@ -24,22 +24,13 @@ pub data Bars (r : Sort) : Type 0 where
   zeroWidth : kindOf r ≡ 9 → numberIn r ≡ 0 → Bars r
   aPar : (ns : List ℕ) (b : Sort) → r ≡ par ns b → Bars r
 
--- A binding's, AsOp's or constant's sort: no part of it is one of these,
+-- A binding's, AsOp's or constant's sort: no part of it is one of these.
 abbrev pub Proper : Sort → Type 0
 Proper s = (r : Sort) → PartOf r s → Bars r → ⊥
 
--- or some part is.
-abbrev pub Improper : Sort → Type 0
-Improper s = (r : Sort) × PartOf r s × Bars r
-
 -- "A Par sort may stand only outermost in a Var's sort, over a Function": with one name or more, as every Par of a sheet.
-pub record Allowed (r s : Sort) : Type 0 where
-  pub outermost : r ≡ s
-  pub name : ℕ
-  pub names : List ℕ
-  pub body : Sort
-  pub isPar : s ≡ par (name ∷ names) body
-  pub function : kindOf body ≡ 0
+pub data Allowed : Sort → Sort → Type 0 where
+  outermost : {n : ℕ} {ns : List ℕ} {b : Sort} → kindOf b ≡ 0 → Allowed (par (n ∷ ns) b) (par (n ∷ ns) b)
 
 -- A Var's sort: no part of it is one of these, but for a Par outermost over a Function.
 abbrev pub Carried : Sort → Type 0
@@ -53,11 +44,5 @@ Value s = (ns : List ℕ) (b : Sort) → s ≡ par ns b → ⊥
 abbrev pub EachProper : Sorts → Type 0
 EachProper ss = (s : Sort) → In s ss → Proper s
 
-abbrev pub SomeImproper : Sorts → Type 0
-SomeImproper ss = (s : Sort) × In s ss × Improper s
-
 abbrev pub EachValue : Sorts → Type 0
 EachValue ss = (s : Sort) → In s ss → Value s
-
-abbrev pub SomePar : Sorts → Type 0
-SomePar ss = (ns : List ℕ) × (b : Sort) × In (par ns b) ss

@@ -1,5 +1,5 @@
--- How the theorems on refusals are proved: a verdict is gone through once, each way out says which of the five conditions fails, and one
--- way makes all six equivalences.
+-- How the theorems on refusals are proved: a verdict is gone through once, and each way out, which says which of the five conditions fails,
+-- makes all six equivalences.
 use Prim.Native.Nat.{ℕ, _≤_}
 use mathlib.Core.Path.{_≡_, refl, sym, _∙_}
 use mathlib.Core.Logic.{_↔_}
@@ -21,15 +21,6 @@ use Rattle.checked.specs.FitLaws.{sort-refused, other-cause}
 use Rattle.checked.specs.Refusals.{Exactly}
 
 ---------------------------------------------------------------- the ways out
--- What a verdict says, with the conditions that hold or fail there.
-pub data Way (v : Verdict) (Ranked Clean Counted Fitting Fixed : Type 0) : Type 0 where
-  unranked : v ≡ refused NoRank → (Ranked → ⊥) → Way v Ranked Clean Counted Fitting Fixed
-  barred : v ≡ refused Barred → Ranked → (Clean → ⊥) → Way v Ranked Clean Counted Fitting Fixed
-  miscounted : v ≡ refused Count → Ranked → Clean → (Counted → ⊥) → Way v Ranked Clean Counted Fitting Fixed
-  misfit : v ≡ refused Misfit → Ranked → Clean → Counted → (Fitting → ⊥) → Way v Ranked Clean Counted Fitting Fixed
-  unassigned : v ≡ refused Unassigned → Ranked → Clean → Counted → Fitting → (Fixed → ⊥) → Way v Ranked Clean Counted Fitting Fixed
-  accepted : (s : Sort) → v ≡ sort s → Ranked → Clean → Counted → Fitting → Fixed → Way v Ranked Clean Counted Fitting Fixed
-
 -- A refusal tells its cause.
 pub refused-inj : {c d : Cause} → refused c ≡ refused d → c ≡ d
 refused-inj e = cc
@@ -38,9 +29,10 @@ refused-inj e = cc
 told : {v : Verdict} {c d : Cause} → v ≡ refused c → (24 ≤ numberOf c) × (numberOf c ≤ 28) → v ≡ refused d → (24 ≤ numberOf d) × (numberOf d ≤ 28)
 told e b h = let q = refused-inj (sym e ∙ h) in rw q at b
 
--- One of them makes all equivalences: two causes are never one, and a condition does not hold and fail.
-pub exactly : {v : Verdict} {A P C F X : Type 0} → Way v A P C F X → Exactly v A P C F X
-exactly (unranked e a) = record {
+-- WHAT A VERDICT SAYS, with the conditions that hold or fail there, makes all equivalences: two causes are never one, and a condition
+-- does not hold and fail.
+pub unranked : {v : Verdict} {A P C F X : Type 0} → v ≡ refused NoRank → (A → ⊥) → Exactly v A P C F X
+unranked e a = record {
   unranked = (λ h. a, λ h. e);
   barred = (λ h. other-cause refl (sym e ∙ h), λ h. absurd (a (h .0)));
   miscounted = (λ h. other-cause refl (sym e ∙ h), λ h. absurd (a (h .0)));
@@ -49,7 +41,9 @@ exactly (unranked e a) = record {
   nothing-else = λ c h. told e (omega arith, omega arith) h;
   accepted = (λ h. refused-sort (sym e ∙ h .1), λ h. absurd (a (h .0)));
 }
-exactly (barred e a p) = record {
+
+pub barred : {v : Verdict} {A P C F X : Type 0} → v ≡ refused Barred → A → (P → ⊥) → Exactly v A P C F X
+barred e a p = record {
   unranked = (λ h. other-cause refl (sym e ∙ h), λ h. absurd (h a));
   barred = (λ h. (a, p), λ h. e);
   miscounted = (λ h. other-cause refl (sym e ∙ h), λ h. absurd (p (h .1)));
@@ -58,7 +52,9 @@ exactly (barred e a p) = record {
   nothing-else = λ c h. told e (omega arith, omega arith) h;
   accepted = (λ h. refused-sort (sym e ∙ h .1), λ h. absurd (p (h .1)));
 }
-exactly (miscounted e a p c) = record {
+
+pub miscounted : {v : Verdict} {A P C F X : Type 0} → v ≡ refused Count → A → P → (C → ⊥) → Exactly v A P C F X
+miscounted e a p c = record {
   unranked = (λ h. other-cause refl (sym e ∙ h), λ h. absurd (h a));
   barred = (λ h. other-cause refl (sym e ∙ h), λ h. absurd (h .1 p));
   miscounted = (λ h. (a, p, c), λ h. e);
@@ -67,7 +63,9 @@ exactly (miscounted e a p c) = record {
   nothing-else = λ c h. told e (omega arith, omega arith) h;
   accepted = (λ h. refused-sort (sym e ∙ h .1), λ h. absurd (c (h .2)));
 }
-exactly (misfit e a p c f) = record {
+
+pub misfit : {v : Verdict} {A P C F X : Type 0} → v ≡ refused Misfit → A → P → C → (F → ⊥) → Exactly v A P C F X
+misfit e a p c f = record {
   unranked = (λ h. other-cause refl (sym e ∙ h), λ h. absurd (h a));
   barred = (λ h. other-cause refl (sym e ∙ h), λ h. absurd (h .1 p));
   miscounted = (λ h. other-cause refl (sym e ∙ h), λ h. absurd (h .2 c));
@@ -76,7 +74,9 @@ exactly (misfit e a p c f) = record {
   nothing-else = λ c h. told e (omega arith, omega arith) h;
   accepted = (λ h. refused-sort (sym e ∙ h .1), λ h. absurd (f (h .3)));
 }
-exactly (unassigned e a p c f x) = record {
+
+pub unassigned : {v : Verdict} {A P C F X : Type 0} → v ≡ refused Unassigned → A → P → C → F → (X → ⊥) → Exactly v A P C F X
+unassigned e a p c f x = record {
   unranked = (λ h. other-cause refl (sym e ∙ h), λ h. absurd (h a));
   barred = (λ h. other-cause refl (sym e ∙ h), λ h. absurd (h .1 p));
   miscounted = (λ h. other-cause refl (sym e ∙ h), λ h. absurd (h .2 c));
@@ -85,7 +85,9 @@ exactly (unassigned e a p c f x) = record {
   nothing-else = λ c h. told e (omega arith, omega arith) h;
   accepted = (λ h. refused-sort (sym e ∙ h .1), λ h. absurd (x (h .4)));
 }
-exactly (accepted s e a p c f x) = record {
+
+pub accepted : {v : Verdict} {A P C F X : Type 0} → (s : Sort) → v ≡ sort s → A → P → C → F → X → Exactly v A P C F X
+accepted s e a p c f x = record {
   unranked = (λ h. sort-refused (sym e ∙ h), λ h. absurd (h a));
   barred = (λ h. sort-refused (sym e ∙ h), λ h. absurd (h .1 p));
   miscounted = (λ h. sort-refused (sym e ∙ h), λ h. absurd (h .2 c));
@@ -97,10 +99,16 @@ exactly (accepted s e a p c f x) = record {
 
 -- A test of counts, then one of sorts, each of which says its condition.
 pub tests : (q r : Bool) (s : Sort) {v : Verdict} {A P C F : Type 0} → v ≡ need q Count (need r Misfit (sort s)) → A → P
-    → (q ≡ true ↔ C) → (r ≡ true ↔ F) → Way v A P C F Unit
+    → (q ≡ true ↔ C) → (r ≡ true ↔ F) → Exactly v A P C F Unit
 tests true true s e a p c f = accepted s e a p (c .0 refl) (f .0 refl) _
 tests true false s e a p c f = misfit e a p (c .0 refl) (λ h. false≢true (f .1 h))
 tests false r s e a p c f = miscounted e a p (λ h. false≢true (c .1 h))
+
+-- A test of the record's own sorts.
+pub cleaned : (q : Bool) {v : Verdict} {P C F : Type 0} → (q ≡ true ↔ P) → (q ≡ true → P → Exactly v Unit P C F Unit) → (q ≡ false → v ≡ refused Barred)
+    → Exactly v Unit P C F Unit
+cleaned true i f g = f refl (i .0 refl)
+cleaned false i f g = barred (g refl) _ (λ p. false≢true (i .1 p))
 
 -- By whether a number is another one.
 pub byNumber : {C : Type 0} (n k : ℕ) → (eqb n k ≡ true → n ≡ k → C) → (eqb n k ≡ false → (n ≡ k → ⊥) → C) → C

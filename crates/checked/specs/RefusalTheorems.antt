@@ -15,15 +15,15 @@ use Rattle.record.specs.Cases.{and-left, and-right, and-true, byTest, none-some
 use Rattle.sheet.specs.Sheet.{Binding}
 use Rattle.substitution.specs.Premises.{proper, properAll}
 use Rattle.rows.specs.declared.Cause.{Cause}
-use Rattle.rows.specs.declared.Cause.the-variants.{Below, Barred}
-use Rattle.rows.specs.Verdict.{refused, need}
+use Rattle.rows.specs.declared.Cause.the-variants.{Below}
+use Rattle.rows.specs.Verdict.{refused}
 use Rattle.rows.specs.Lists.{lastOf, joined, bindingSorts}
 use Rattle.rows.specs.Term.{Site, Terms, term, constantsOf, verdictOf, verdictsOf}
 use Rattle.checked.specs.Rank.{Rank, rank, stretched, counts, vector as isVector, someCounts}
 use Rattle.checked.specs.RankLaws.{vector-is}
 use Rattle.checked.specs.RankSound.{Sound}
 use Rattle.checked.specs.Fits.{rankAt, SomeFits}
-use Rattle.checked.specs.Checked.{carried, value, values, onlyOf, boundBody, binder, letting, constantArray, qualified, concatenation, nonempty, operated, checked, check}
+use Rattle.checked.specs.Checked.{carried, value, values, onlyOf, binder, letting, constantArray, qualified, concatenation, nonempty, operated, checked, check}
 use Rattle.checked.specs.FitLaws.{someCounts-nonempty, firstFit-some, some-firstFit, someCounts-when, fit-counts, some-fit, operated-ranked, byRanked}
 use Rattle.checked.specs.Parts.{first, Proper, Carried, EachProper, EachValue}
 use Rattle.checked.specs.PartTheorems.{proper-exactly, carried-exactly, value-exactly, eachProper-exactly, eachValue-exactly}
@@ -31,17 +31,17 @@ use Rattle.checked.specs.Refusals.{Exactly}
 use Rattle.checked.specs.Rules.{HaveSorts}
 use Rattle.checked.specs.RankTheorems.{sameCount-number, counts-more}
 use Rattle.checked.specs.RuleTheorems.{have-only, have-when}
-use Rattle.checked.specs.RefusalLaws.{Way, unranked, barred, miscounted, misfit, accepted, exactly, tests, byNumber, parts-cause}
+use Rattle.checked.specs.RefusalLaws.{unranked, barred, miscounted, misfit, accepted, tests, cleaned, byNumber, parts-cause}
 
 ---------------------------------------------------------------- constants, Var, Match
 -- An INTEGER, REAL, STRING OR REGLAN CONSTANT is never refused.
 pub constant-refusals : (R : ℕ → List Rank) (z : Site) → z .kind ≤ 3 → Exactly (checked R z) Unit Unit Unit Unit Unit
 unfolding checked
 constant-refusals R z k =
-    byNumber (z .kind) 0 (λ q e. exactly (accepted int (rw q refl) _ _ _ _ _))
-    (λ q0 d0. byNumber (z .kind) 1 (λ q e. exactly (accepted real (rw (q0, q) refl) _ _ _ _ _))
-    (λ q1 d1. byNumber (z .kind) 2 (λ q e. exactly (accepted string (rw (q0, q1, q) refl) _ _ _ _ _))
-    (λ q2 d2. byNumber (z .kind) 3 (λ q e. exactly (accepted reglan (rw (q0, q1, q2, q) refl) _ _ _ _ _))
+    byNumber (z .kind) 0 (λ q e. accepted int (rw q refl) _ _ _ _ _)
+    (λ q0 d0. byNumber (z .kind) 1 (λ q e. accepted real (rw (q0, q) refl) _ _ _ _ _)
+    (λ q1 d1. byNumber (z .kind) 2 (λ q e. accepted string (rw (q0, q1, q) refl) _ _ _ _ _)
+    (λ q2 d2. byNumber (z .kind) 3 (λ q e. accepted reglan (rw (q0, q1, q2, q) refl) _ _ _ _ _)
     (λ q3 d3. absurd (omega arith)))))
 
 -- A BIT-VECTOR CONSTANT gets 28 exactly where its width is 0, and is refused for nothing else.
@@ -49,79 +49,72 @@ pub vector-refusals : (R : ℕ → List Rank) (z : Site) → z .kind ≡ 4 → E
 unfolding checked
 vector-refusals R z k =
     byNumber (z .number) 0
-    (λ q e. exactly (barred (rw (k, q) refl) _ (λ h. omega arith)))
-    (λ q d. exactly (accepted (bitvec (z .number)) (rw (k, q) refl) _ (positive (z .number) d) _ _ _))
+    (λ q e. barred (rw (k, q) refl) _ (λ h. omega arith))
+    (λ q d. accepted (bitvec (z .number)) (rw (k, q) refl) _ (positive (z .number) d) _ _ _)
 
 -- A VAR gets 28 exactly where its sort is not one that it may carry, and is refused for nothing else.
 pub var-refusals : (R : ℕ → List Rank) (z : Site) → z .kind ≡ 5 → Exactly (checked R z) Unit (Carried (z .own)) Unit Unit Unit
 unfolding checked
 var-refusals R z k =
     byTest (carried (z .own))
-    (λ q. exactly (accepted (z .own) (rw (k, q) refl) _ (carried-exactly (z .own) .0 q) _ _ _))
-    (λ q. exactly (barred (rw (k, q) refl) _ (λ h. clash (carried-exactly (z .own) .1 h) q)))
+    (λ q. accepted (z .own) (rw (k, q) refl) _ (carried-exactly (z .own) .0 q) _ _ _)
+    (λ q. barred (rw (k, q) refl) _ (λ h. clash (carried-exactly (z .own) .1 h) q))
 
 -- A MATCH gets 24.
 pub match-refusals : (R : ℕ → List Rank) (z : Site) → z .kind ≡ 10 → Exactly (checked R z) ⊥ Unit Unit Unit Unit
 unfolding checked
-match-refusals R z k = exactly (unranked (rw k refl) (λ h. h))
+match-refusals R z k = unranked (rw k refl) (λ h. h)
 
 ---------------------------------------------------------------- Binder
--- One binding for 2 Choice, one or more for the others.
-abbrev pub Bindings : ℕ → ℕ → Type 0
-Bindings n k = (0 < k) × (n ≡ 2 → k ≡ 1)
-
--- The body: no Par for 3 Lambda, Bool for the others.
-abbrev pub Body : ℕ → Sorts → Type 0
-Body n ts = (n ≡ 3 → EachValue ts) × ((n ≡ 3 → ⊥) → ts ≡ bool then end)
-
-body-value : (n : ℕ) (b : Sort) → n ≡ 3 → value b ≡ true ↔ Body n (b then end)
+body-value : (n : ℕ) (b : Sort) → n ≡ 3 → value b ≡ true ↔ (n ≡ 3 → EachValue (b then end)) × ((n ≡ 3 → ⊥) → b then end ≡ bool then end)
 unfolding values
 body-value n b e = (
   λ v. (λ h. eachValue-exactly (b then end) .0 (and-true (value b) true v refl), λ d. absurd (d e)),
   λ h. value-exactly b .1 (h .0 e b first),
 )
 
-body-bool : (n : ℕ) (b : Sort) → (n ≡ 3 → ⊥) → same b bool ≡ true ↔ Body n (b then end)
+body-bool : (n : ℕ) (b : Sort) → (n ≡ 3 → ⊥) → same b bool ≡ true ↔ (n ≡ 3 → EachValue (b then end)) × ((n ≡ 3 → ⊥) → b then end ≡ bool then end)
 body-bool n b d = (
   λ v. (λ e. absurd (d e), λ h. ap (_then end) (same-sound b bool v)),
   λ h. let e = h .1 d in let f : b ≡ bool = cc in same-complete b bool f,
 )
 
-binder-way : (n : ℕ) (bs ts : Sorts) → Way (binder n bs ts) Unit (EachProper bs) (Bindings n (count bs) × (count ts ≡ 1)) (Body n ts) Unit
+binder-way : (n : ℕ) (bs ts : Sorts)
+    → Exactly (binder n bs ts) Unit (EachProper bs)
+    ((0 < count bs) × (n ≡ 2 → count bs ≡ 1) × (count ts ≡ 1))
+    ((n ≡ 3 → EachValue ts) × ((n ≡ 3 → ⊥) → ts ≡ bool then end)) Unit
 unfolding binder count
-binder-way n bs ts =
-    byTest (properAll bs)
-    (λ p. let P = eachProper-exactly bs .0 p in body ts P p)
-    (λ p. barred (rw p refl) _ (λ P. clash (eachProper-exactly bs .1 P) p))
-  where
-    body : (ts : Sorts) → EachProper bs → properAll bs ≡ true
-        → Way (need (properAll bs) Barred (boundBody n bs ts)) Unit (EachProper bs) (Bindings n (count bs) × (count ts ≡ 1)) (Body n ts) Unit
-    body end P p = miscounted (rw p refl) _ P (λ h. let z = h .1 in omega arith)
-    body (b then (c then cs)) P p = miscounted (rw p refl) _ P (λ h. let z = h .1 in omega arith)
-    body (b then end) P p =
-        byNumber n 3
-        (λ q e. tests (ltb 0 (count bs)) (value b) (function (joined bs b)) (rw (p, q) refl) _ P
-        (λ h. ((ltb-true 0 (count bs) h, λ f. omega arith), refl), λ h. lt-ltb 0 (count bs) (h .0 .0))
-        (body-value n b e))
-        (λ q d. byNumber n 2
-        (λ r e. tests (eqb (count bs) 1) (same b bool) (onlyOf bs) (rw (p, q, r) refl) _ P
-        (λ h. let g = eqb-true (count bs) 1 h in ((omega arith, λ f. g), refl), λ h. eq-eqb (count bs) 1 (h .0 .1 e))
-        (body-bool n b d))
-        (λ r f. tests (ltb 0 (count bs)) (same b bool) bool (rw (p, q, r) refl) _ P
-        (λ h. ((ltb-true 0 (count bs) h, λ e. absurd (f e)), refl), λ h. lt-ltb 0 (count bs) (h .0 .0))
-        (body-bool n b d)))
+binder-way n bs end =
+    cleaned (properAll bs) (eachProper-exactly bs) (λ p P. miscounted (rw p refl) _ P (λ h. let z = h .2 in omega arith)) (λ p. rw p refl)
+binder-way n bs (b then (c then cs)) =
+    cleaned (properAll bs) (eachProper-exactly bs) (λ p P. miscounted (rw p refl) _ P (λ h. let z = h .2 in omega arith)) (λ p. rw p refl)
+binder-way n bs (b then end) =
+    cleaned (properAll bs) (eachProper-exactly bs)
+    (λ p P. byNumber n 3
+    (λ q e. tests (ltb 0 (count bs)) (value b) (function (joined bs b)) (rw (p, q) refl) _ P
+    (λ h. (ltb-true 0 (count bs) h, λ f. omega arith, refl), λ h. lt-ltb 0 (count bs) (h .0))
+    (body-value n b e))
+    (λ q d. byNumber n 2
+    (λ r e. tests (eqb (count bs) 1) (same b bool) (onlyOf bs) (rw (p, q, r) refl) _ P
+    (λ h. let g = eqb-true (count bs) 1 h in (omega arith, λ f. g, refl), λ h. eq-eqb (count bs) 1 (h .1 e))
+    (body-bool n b d))
+    (λ r f. tests (ltb 0 (count bs)) (same b bool) bool (rw (p, q, r) refl) _ P
+    (λ h. (ltb-true 0 (count bs) h, λ e. absurd (f e), refl), λ h. lt-ltb 0 (count bs) (h .0))
+    (body-bool n b d))))
+    (λ p. rw p refl)
 
 -- A BINDER: 28 exactly where a part of a binding's sort is Type, ParamBitVec, BitVec 0 or a Par; else 25 exactly where there is no
 -- binding, more than one for Choice, or not one body; else 26 exactly where the body of a Lambda is a Par or that of another is
 -- not Bool. Never 24 or 27.
 pub binder-refusals : (R : ℕ → List Rank) (z : Site) → z .kind ≡ 8
     → Exactly (checked R z) Unit (EachProper (bindingSorts (z .bindings)))
-    (Bindings (z .number) (count (bindingSorts (z .bindings))) × (count (z .args) ≡ 1)) (Body (z .number) (z .args)) Unit
+    ((0 < count (bindingSorts (z .bindings))) × (z .number ≡ 2 → count (bindingSorts (z .bindings)) ≡ 1) × (count (z .args) ≡ 1))
+    ((z .number ≡ 3 → EachValue (z .args)) × ((z .number ≡ 3 → ⊥) → z .args ≡ bool then end)) Unit
 unfolding checked
-binder-refusals R z k = rw k (exactly (binder-way (z .number) (bindingSorts (z .bindings)) (z .args)))
+binder-refusals R z k = rw k (binder-way (z .number) (bindingSorts (z .bindings)) (z .args))
 
 ---------------------------------------------------------------- Let
-let-way : (ts : Sorts) → Way (letting ts) Unit Unit (1 < count ts) (EachValue ts) Unit
+let-way : (ts : Sorts) → Exactly (letting ts) Unit Unit (1 < count ts) (EachValue ts) Unit
 unfolding letting count
 let-way end = miscounted refl _ _ (λ h. omega arith)
 let-way (t then ts) =
@@ -131,14 +124,11 @@ let-way (t then ts) =
 -- A LET: 25 exactly where it has no value before its inner term; else 26 exactly where a value or the inner term is a Par.
 pub let-refusals : (R : ℕ → List Rank) (z : Site) → z .kind ≡ 9 → Exactly (checked R z) Unit Unit (1 < count (z .args)) (EachValue (z .args)) Unit
 unfolding checked
-let-refusals R z k = rw k (exactly (let-way (z .args)))
+let-refusals R z k = rw k (let-way (z .args))
 
 ---------------------------------------------------------------- AsOp
--- The sort is an Array, and the one argument has its element sort.
-abbrev pub Filled : Sort → Sorts → Type 0
-Filled s ts = (i : Sort) × (e : Sort) × (s ≡ array i e) × (ts ≡ e then end)
-
-const-way : {A : Type 0} → A → (s : Sort) (ts : Sorts) → Proper s → Way (constantArray s ts) A (Proper s) (count ts ≡ 1) (Filled s ts) Unit
+const-way : {A : Type 0} → A → (s : Sort) (ts : Sorts) → Proper s → Exactly (constantArray s ts) A (Proper s) (count ts ≡ 1)
+    ((i : Sort) × (e : Sort) × (s ≡ array i e) × (ts ≡ e then end)) Unit
 unfolding count
 const-way r s end p = miscounted refl r p (λ h. omega arith)
 const-way r s (a then (b then bs)) p = miscounted refl r p (λ h. omega arith)
@@ -163,14 +153,15 @@ const-way r (node k n w (x then (y then (t then ts)))) (a then end) p = misfit r
 -- Par; else 25 exactly where it has not one argument; else 26 exactly where its sort is no Array or the argument is not of its
 -- element sort. Never 27.
 pub as-refusals : (R : ℕ → List Rank) (z : Site) → z .kind ≡ 12
-    → Exactly (checked R z) (z .number ≡ 0) (Proper (z .own)) (count (z .args) ≡ 1) (Filled (z .own) (z .args)) Unit
+    → Exactly (checked R z) (z .number ≡ 0) (Proper (z .own)) (count (z .args) ≡ 1)
+    ((i : Sort) × (e : Sort) × (z .own ≡ array i e) × (z .args ≡ e then end)) Unit
 unfolding checked qualified
 as-refusals R z k = rw k (
     byNumber (z .number) 0
     (λ q e. byTest (proper (z .own))
-    (λ p. exactly (rw (q, p) (const-way e (z .own) (z .args) (proper-exactly (z .own) .0 p))))
-    (λ p. exactly (barred (rw (q, p) refl) e (λ P. clash (proper-exactly (z .own) .1 P) p))))
-    (λ q d. exactly (unranked (rw q refl) d))
+    (λ p. rw (q, p) (const-way e (z .own) (z .args) (proper-exactly (z .own) .0 p)))
+    (λ p. barred (rw (q, p) refl) e (λ P. clash (proper-exactly (z .own) .1 P) p)))
+    (λ q d. unranked (rw q refl) d)
     )
 
 ---------------------------------------------------------------- Op
@@ -179,11 +170,8 @@ pub data Takes (k : ℕ) : Rank → Type 0 where
   exact : {rep vs : Bool} {ps : Sorts} {r : Sort} → count ps ≡ k → Takes k (rank rep vs ps r)
   more : {vs : Bool} {p : Sort} {ps : Sorts} {r : Sort} → count (p then ps) ≤ k → Takes k (rank true vs (p then ps) r)
 
-pub record SomeTakes (rs : List Rank) (k : ℕ) : Type 0 where
-  pub place : ℕ
-  pub chosen : Rank
-  pub listed : rankAt rs place ≡ some chosen
-  pub takes : Takes k chosen
+abbrev pub SomeTakes : List Rank → ℕ → Type 0
+SomeTakes rs k = (place : ℕ) × (r : Rank) × (rankAt rs place ≡ some r) × Takes k r
 
 counts-takes : (r : Rank) (ts : Sorts) → counts r ts ≡ true → Takes (count ts) r
 unfolding counts stretched
@@ -204,17 +192,17 @@ takes-counts ts (exact {rep} {vs} {ps} {r} e) = alike rep ps e
 -- The test of counts says this.
 someTakes-exactly : (rs : List Rank) (ts : Sorts) → someCounts rs ts ≡ true ↔ SomeTakes rs (count ts)
 unfolding someCounts rankAt
-someTakes-exactly rs ts = (there rs, λ T. someCounts-when rs (T .place) (T .chosen) ts (T .listed) (takes-counts ts (T .takes)))
+someTakes-exactly rs ts = (there rs, λ T. let (i, r, l, t) = T in someCounts-when rs i r ts l (takes-counts ts t))
   where
     there : (rs : List Rank) → someCounts rs ts ≡ true → SomeTakes rs (count ts)
     there [] e = absurd (false≢true e)
     there (r ∷ rs) e =
         byTest (counts r ts)
-        (λ q. record { place = 0; chosen = r; listed = refl; takes = counts-takes r ts q })
-        (λ q. let T = there rs (rw q at e) in record { place = suc (T .place); chosen = T .chosen; listed = T .listed; takes = T .takes })
+        (λ q. (0, r, refl, counts-takes r ts q))
+        (λ q. let (i, o, l, t) = there rs (rw q at e) in (suc i, o, l, t))
 
 op-way : (R : ℕ → List Rank) (n : ℕ) (ts : Sorts) → Sound (R n) → (n ≡ 90 → ⊥)
-    → Way (operated R n ts) (R n ≡ [] → ⊥) Unit (SomeTakes (R n) (count ts)) (EachValue ts × ((s : Sort) × SomeFits (R n) ts s)) Unit
+    → Exactly (operated R n ts) (R n ≡ [] → ⊥) Unit (SomeTakes (R n) (count ts)) (EachValue ts × ((s : Sort) × SomeFits (R n) ts s)) Unit
 op-way R n ts S d =
     let o = operated-ranked R n ts d in
     let any : nonempty (R n) ≡ true → R n ≡ [] → ⊥ = λ a e. true≢false (sym a ∙ ap nonempty e) in
@@ -238,17 +226,17 @@ pub op-refusals : (R : ℕ → List Rank) (z : Site) → Sound (R (z .number)) �
     → Exactly (checked R z) (R (z .number) ≡ [] → ⊥) Unit (SomeTakes (R (z .number)) (count (z .args)))
     (EachValue (z .args) × ((s : Sort) × SomeFits (R (z .number)) (z .args) s)) Unit
 unfolding checked
-op-refusals R z S k d = rw k (exactly (op-way R (z .number) (z .args) S d))
+op-refusals R z S k d = rw k (op-way R (z .number) (z .args) S d)
 
 -- 90 BvConcat: 25 exactly where it has not two arguments; else 26 exactly where they are not two vectors of known width.
 pub concat-refusals : (R : ℕ → List Rank) (z : Site) → z .kind ≡ 7 → z .number ≡ 90
     → Exactly (checked R z) Unit Unit (count (z .args) ≡ 2) ((i : ℕ) × (j : ℕ) × (z .args ≡ bitvec i then bitvec j then end)) Unit
 unfolding checked operated concatenation count
-concat-refusals R z k n = rw (k, n) (exactly (way (z .args)))
+concat-refusals R z k n = rw (k, n) (way (z .args))
   where
-    way : (ts : Sorts) → Way (concatenation ts) Unit Unit (count ts ≡ 2) ((i : ℕ) × (j : ℕ) × (ts ≡ bitvec i then bitvec j then end)) Unit
+    way : (ts : Sorts) → Exactly (concatenation ts) Unit Unit (count ts ≡ 2) ((i : ℕ) × (j : ℕ) × (ts ≡ bitvec i then bitvec j then end)) Unit
     way end = miscounted refl _ _ (λ h. omega arith)
-    way (a then end) = miscounted refl _ _ (λ h. omega arith)
+    way (a then end) = miscounted refl _ _ (λ h. omega (arith, h))
     way (a then (b then end)) =
         tests true (isVector a && isVector b) (bitvec (numberIn a + numberIn b)) refl _ _ (λ h. refl, λ h. refl) (
           λ h. let e = vector-is a (and-left (isVector a) (isVector b) h) in
@@ -258,7 +246,7 @@ concat-refusals R z k n = rw (k, n) (exactly (way (z .args)))
               let g : b ≡ bitvec j = cc in
               rw (f, g) (and-true (isVector (bitvec i)) (isVector (bitvec j)) (same-refl (bitvec i)) (same-refl (bitvec j))),
         )
-    way (a then (b then (c then ss))) = miscounted refl _ _ (λ h. omega arith)
+    way (a then (b then (c then ss))) = miscounted refl _ _ (λ h. omega (arith, h))
 
 ---------------------------------------------------------------- terms
 -- A TERM IS REFUSED for a cause other than 20 exactly where its parts have sorts by the rules and the record with these is refused for it.

@@ -1,10 +1,12 @@
 -- What the inferred sort is, stated over the width and over the columns: the group of nineteen, BvConcat, the indexed operators,
 -- and the join of relations.
 use Prim.Native.Nat.{ℕ, zero, suc, _+_, _*_, _-_, _≤_, _<_}
-use mathlib.Core.Path.{_≡_, refl, ap}
+use mathlib.Core.Path.{_≡_, refl, ap, _∙_}
 use mathlib.Core.Bool.{Bool, true, false, cond}
 use mathlib.Core.List.{List, [], _∷_}
 use mathlib.Core.Option.{Option, some}
+use native.Mathlib.Omega.{arith}
+use native.Mathlib.Nat.{zero-add, add-zero}
 use borrow.Author.Tests.{le-leb, lt-leb}
 use Rattle.record.specs.Sort.{Sort, Sorts, end, _then_, bitvec, paramBitVec, set, tuple}
 use Rattle.rows.specs.declared.Cause.the-variants.{Panics}
@@ -14,6 +16,7 @@ use Rattle.inferred.specs.declared.Family.{Family}
 use Rattle.inferred.specs.declared.Family.the-variants.{Truth, Integer, Decimal, Text, Regular, Vector, OneBit, Bits, Constant, Concat, First, Second, Last, Sum, Element, RareList, Singleton, Tuple, UnitTuple, Transpose, Join, Product}
 use Rattle.inferred.specs.Family.{familyOf}
 use Rattle.inferred.specs.Inferred.{concatFrom, allButLast, operatedBy, indexed}
+use Rattle.inferred.specs.WidthTheorems.{widthsOf}
 
 ---------------------------------------------------------------- the group of nineteen
 abbrev isVector : Family → Bool
@@ -61,24 +64,22 @@ unfolding operatedBy
 first-unknown ss cs = refl
 
 ---------------------------------------------------------------- BvConcat
--- Vectors of these widths, and the sum of the widths.
+-- Vectors of these widths.
 unfoldable pub vectorsOf : List ℕ → Sorts
 vectorsOf [] = end
 vectorsOf (w ∷ ws) = bitvec w then vectorsOf ws
 
-unfoldable pub sumFrom : ℕ → List ℕ → ℕ
-sumFrom u [] = u
-sumFrom u (w ∷ ws) = sumFrom (u + w) ws
-
-concat-from : (u : ℕ) (ws : List ℕ) → concatFrom u (vectorsOf ws) ≡ sort (bitvec (sumFrom u ws))
-unfolding concatFrom vectorsOf sumFrom
-concat-from u [] = refl
-concat-from u (w ∷ ws) = concat-from (u + w) ws
+concat-from : (u : ℕ) (ws : List ℕ) → concatFrom u (vectorsOf ws) ≡ sort (bitvec (u + widthsOf (vectorsOf ws)))
+unfolding concatFrom vectorsOf widthsOf
+concat-from u [] = rw add-zero refl
+concat-from u (w ∷ ws) =
+    let z : u + w + widthsOf (vectorsOf ws) ≡ u + (w + widthsOf (vectorsOf ws)) = omega arith in
+    concat-from (u + w) ws ∙ ap (λ (x : ℕ). sort (bitvec x)) z
 
 -- BvConcat of any number of vectors has the sum of their widths.
-pub concat-widths : (ws : List ℕ) (cs : List (Option ℕ)) → operatedBy Concat (vectorsOf ws) cs ≡ sort (bitvec (sumFrom 0 ws))
+pub concat-widths : (ws : List ℕ) (cs : List (Option ℕ)) → operatedBy Concat (vectorsOf ws) cs ≡ sort (bitvec (widthsOf (vectorsOf ws)))
 unfolding operatedBy
-concat-widths ws cs = concat-from 0 ws
+concat-widths ws cs = rw zero-add at (concat-from 0 ws)
 
 ---------------------------------------------------------------- indexed operators
 -- Extract i, j: i - j + 1 where j is at most i, whatever the argument; else the Rust panics.

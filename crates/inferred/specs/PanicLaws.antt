@@ -1,7 +1,7 @@
--- What is said of 21 and of inferred widths, and how it is proved: a verdict is gone through once, each way out says what holds there, and one
--- way makes all equivalences.
+-- What is said of 21 and of inferred widths, and how it is proved: a verdict is gone through once, and what holds at each way out makes all
+-- equivalences.
 use mathlib.Core.Path.{_≡_, refl, sym, ap, _∙_}
-use mathlib.Core.Logic.{_↔_, _⊎_, inl, inr}
+use mathlib.Core.Logic.{_↔_, _⊎_, inl, inr, ⊎-elim}
 use mathlib.Core.Bool.{true, false}
 use native.Mathlib.Omega.{arith}
 use lib.Dec.{eqb}
@@ -50,38 +50,57 @@ Other s = (kindOf s ≡ 9 → ⊥) × (kindOf s ≡ 10 → ⊥)
 pub sort-panics : {C : Type 0} {s : Sort} → sort s ≡ refused Panics → C
 sort-panics {C} {s} e = refused-sort (sym e)
 
-pub data Way (v : Verdict) (Panic : Type 0) : Type 0 where
-  bad : v ≡ refused Panics → Panic → Way v Panic
-  good : (s : Sort) → v ≡ sort s → (Panic → ⊥) → Way v Panic
+-- A verdict that is 21 or a sort,
+pub bad : {v : Verdict} {P : Type 0} → v ≡ refused Panics → P → PanicsWhen v P
+bad e p = record { panics = (λ h. p, λ h. e); otherwise = (λ h. refused-sort (sym e ∙ h .1), λ h. absurd (h p)); nothing-else = inl e }
 
-pub panicsWhen : {v : Verdict} {P : Type 0} → Way v P → PanicsWhen v P
-panicsWhen (bad e p) = record { panics = (λ h. p, λ h. e); otherwise = (λ h. refused-sort (sym e ∙ h .1), λ h. absurd (h p)); nothing-else = inl e }
-panicsWhen (good s e n) = record { panics = (λ h. sort-panics (sym e ∙ h), λ h. absurd (n h)); otherwise = (λ h. n, λ h. (s, e)); nothing-else = inr (s, e) }
+pub good : {v : Verdict} {P : Type 0} (s : Sort) → v ≡ sort s → (P → ⊥) → PanicsWhen v P
+good s e n = record { panics = (λ h. sort-panics (sym e ∙ h), λ h. absurd (n h)); otherwise = (λ h. n, λ h. (s, e)); nothing-else = inr (s, e) }
 
-pub data Width (v : Verdict) (Panic Unclear : Type 0) (r : Sort) : Type 0 where
-  bad : v ≡ refused Panics → Panic → Width v Panic Unclear r
-  unclear : v ≡ sort paramBitVec → (Panic → ⊥) → Unclear → Width v Panic Unclear r
-  wide : v ≡ sort r → (Panic → ⊥) → (Unclear → ⊥) → Width v Panic Unclear r
+-- where the panic is said otherwise.
+pub panics-said : {v : Verdict} {P Q : Type 0} → PanicsWhen v P → (P → Q) → (Q → P) → PanicsWhen v Q
+panics-said W f g = ⊎-elim (λ e. bad e (f (W .panics .0 e))) (λ x. good (x .0) (x .1) (λ q. W .otherwise .0 x (g q))) (W .nothing-else)
 
-pub widthWhen : {v : Verdict} {P U : Type 0} {r : Sort} → kindOf r ≡ 9 → Width v P U r → WidthWhen v P U r
-widthWhen k (bad e p) = record {
+-- A vector that is 21, of unknown width, or r,
+pub bad-width : {v : Verdict} {P U : Type 0} {r : Sort} → v ≡ refused Panics → P → WidthWhen v P U r
+bad-width e p = record {
   panics = (λ h. p, λ h. e);
   unknown = (λ h. refused-sort (sym e ∙ h), λ h. absurd (h .0 p));
   known = (λ h. refused-sort (sym e ∙ h), λ h. absurd (h .0 p));
   nothing-else = inl e;
 }
-widthWhen {v} {P} {U} {r} k (unclear e n u) = record {
+
+pub unclear : {v : Verdict} {P U : Type 0} {r : Sort} → kindOf r ≡ 9 → v ≡ sort paramBitVec → (P → ⊥) → U → WidthWhen v P U r
+unclear {v} {P} {U} {r} k e n u = record {
   panics = (λ h. sort-panics (sym e ∙ h), λ h. absurd (n h));
   unknown = (λ h. (n, u), λ h. e);
   known = (λ h. let z = ap kindOf (sort-inj (sym e ∙ h)) in absurd (omega arith), λ h. absurd (h .1 u));
   nothing-else = inr (inl e);
 }
-widthWhen {v} {P} {U} {r} k (wide e n u) = record {
+
+pub wide : {v : Verdict} {P U : Type 0} {r : Sort} → kindOf r ≡ 9 → v ≡ sort r → (P → ⊥) → (U → ⊥) → WidthWhen v P U r
+wide {v} {P} {U} {r} k e n u = record {
   panics = (λ h. sort-panics (sym e ∙ h), λ h. absurd (n h));
   unknown = (λ h. let z = ap kindOf (sort-inj (sym e ∙ h)) in absurd (omega arith), λ h. absurd (u (h .1)));
   known = (λ h. (n, u), λ h. e);
   nothing-else = inr (inr e);
 }
+
+-- where panic and unknown width are said otherwise,
+pub width-said : {v : Verdict} {P Q U O : Type 0} {r : Sort} → kindOf r ≡ 9 → WidthWhen v P U r → (P → Q) → (Q → P) → (U → O) → (O → U) → WidthWhen v Q O r
+width-said k W f g i j =
+    ⊎-elim (λ e. bad-width e (f (W .panics .0 e)))
+    (⊎-elim
+    (λ e. let (n, u) = W .unknown .0 e in unclear k e (λ q. n (g q)) (i u))
+    (λ e. let (n, u) = W .known .0 e in wide k e (λ q. n (g q)) (λ x. u (j x))))
+    (W .nothing-else)
+
+-- and as a verdict that is 21 or a sort.
+pub width-panics : {v : Verdict} {P U : Type 0} {r : Sort} → WidthWhen v P U r → PanicsWhen v P
+width-panics {v} {P} {U} {r} W =
+    ⊎-elim (λ e. bad e (W .panics .0 e))
+    (⊎-elim (λ e. good paramBitVec e (W .unknown .0 e .0)) (λ e. good r e (W .known .0 e .0)))
+    (W .nothing-else)
 
 -- By the kind of a sort: known, unknown, other.
 pub byWidth : {C : Type 0} (s : Sort) → (hasWidth s ≡ true → Known s → C) → (hasWidth s ≡ false → isParamBitVec s ≡ true → isBitVec s ≡ true → Unknown s → C)

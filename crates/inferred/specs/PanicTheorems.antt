@@ -10,7 +10,7 @@ use native.Mathlib.Omega.{arith}
 use lib.ListN.{length}
 use lib.Dec.{eqb, leb}
 use borrow.Author.Tests.{eqb-true, eqb-false, ne-eqb, leb-true, leb-false}
-use Rattle.record.specs.Sort.{Sort, Sorts, var, par, node, end, _then_, bool, int, real, string, reglan, bitvec, paramBitVec, set, tuple, function, count}
+use Rattle.record.specs.Sort.{Sort, Sorts, var, par, node, end, _then_, bool, int, real, string, reglan, bitvec, set, tuple, function, count}
 use Rattle.record.specs.Cases.{byTest, byOption, none-some, some-inj}
 use Rattle.substitution.specs.Substitution.{Map, empty, apply}
 use Rattle.sheet.specs.Sheet.{Binding}
@@ -24,12 +24,12 @@ use Rattle.rows.specs.OutcomeLaws.{refused-sort}
 use Rattle.inferred.specs.declared.Family.{Family}
 use Rattle.inferred.specs.declared.Family.the-variants.{Truth, Integer, Decimal, Text, Regular, Vector, OneBit, Bits, Constant, Concat, First, Second, Last, Sum, Element, RareList, Singleton, Tuple, UnitTuple, Transpose, Join, Product}
 use Rattle.inferred.specs.Family.{familyOf}
-use Rattle.inferred.specs.Inferred.{firstOf, secondOf, finalOf, someReal, sumOf, elementOf, selected, rareOf, singletonOf, columns, backwards, allButLast, joinOf, productOf, overBoth, transposeOf, operatedBy, indexed, plainApp, parametricApp, headApp, chosen, lambda, bound, matched, inferred}
-use Rattle.inferred.specs.PanicLaws.{PanicsWhen, WidthWhen, Behind, Some, Unknown, Other, Way, good, panicsWhen, Width, bad, unclear, wide}
+use Rattle.inferred.specs.Inferred.{firstOf, secondOf, finalOf, someReal, sumOf, selected, rareOf, singletonOf, columns, backwards, allButLast, joinOf, productOf, overBoth, transposeOf, operatedBy, indexed, plainApp, parametricApp, headApp, chosen, lambda, bound, matched, inferred}
+use Rattle.inferred.specs.PanicLaws.{PanicsWhen, Behind, Some, Unknown, Other, bad, good, panics-said, width-panics}
 use Rattle.inferred.specs.WidthTheorems.{nineteen-way, concat-way, const-way, extract-exactly, extend-exactly, repeat-exactly, convert-exactly}
 
 ---------------------------------------------------------------- indexed operators
-first-way : (ss : Sorts) → Way (firstOf ss) (count ss ≡ 0)
+first-way : (ss : Sorts) → PanicsWhen (firstOf ss) (count ss ≡ 0)
 unfolding count
 first-way end = bad refl refl
 first-way (s then ss) = good s refl (λ h. omega arith)
@@ -38,8 +38,8 @@ first-way (s then ss) = good s refl (λ h. omega arith)
 -- 11 ReLoop never.
 pub rotate-panics : (n : ℕ) (is : List (Option ℕ)) (ss : Sorts) → ((n ≡ 5) ⊎ (n ≡ 6)) → PanicsWhen (indexed n is ss) (count ss ≡ 0)
 unfolding indexed
-rotate-panics n is ss (inl e) = rw e (panicsWhen (first-way ss))
-rotate-panics n is ss (inr e) = rw e (panicsWhen (first-way ss))
+rotate-panics n is ss (inl e) = rw e (first-way ss)
+rotate-panics n is ss (inr e) = rw e (first-way ss)
 
 pub always-panics : (is : List (Option ℕ)) (ss : Sorts) → indexed 8 is ss ≡ refused Panics
 unfolding indexed
@@ -47,16 +47,13 @@ always-panics is ss = refl
 
 pub never-panics : (n : ℕ) (is : List (Option ℕ)) (ss : Sorts) → ((n ≡ 1) ⊎ ((n ≡ 2) ⊎ ((n ≡ 10) ⊎ (n ≡ 11)))) → PanicsWhen (indexed n is ss) ⊥
 unfolding indexed
-never-panics n is ss (inl e) = rw e (panicsWhen (good bool refl (λ h. h)))
-never-panics n is ss (inr (inl e)) = rw e (panicsWhen (good int refl (λ h. h)))
-never-panics n is ss (inr (inr (inl e))) = rw e (panicsWhen (good reglan refl (λ h. h)))
-never-panics n is ss (inr (inr (inr e))) = rw e (panicsWhen (good reglan refl (λ h. h)))
+never-panics n is ss (inl e) = rw e ((good bool refl (λ h. h)))
+never-panics n is ss (inr (inl e)) = rw e ((good int refl (λ h. h)))
+never-panics n is ss (inr (inr (inl e))) = rw e ((good reglan refl (λ h. h)))
+never-panics n is ss (inr (inr (inr e))) = rw e ((good reglan refl (λ h. h)))
 
 ---------------------------------------------------------------- families of operators
--- An Array, and a relation with the columns cs: a Set of a Tuple.
-abbrev pub Array : Sort → Type 0
-Array s = (a : ℕ) × (w : ℕ) × (x : Sort) × (y : Sort) × (rs : Sorts) × (s ≡ node 8 a w (x then y then rs))
-
+-- A relation with the columns cs: a Set of a Tuple.
 abbrev pub Relation : Sort → Sorts → Type 0
 Relation s cs = (a : ℕ) × (w : ℕ) × (b : ℕ) × (x : ℕ) × (rs : Sorts) × (s ≡ node 14 a w (node 15 b x cs then rs))
 
@@ -64,80 +61,57 @@ Relation s cs = (a : ℕ) × (w : ℕ) × (b : ℕ) × (x : ℕ) × (rs : Sorts)
 abbrev pub Relations : Sorts → Sorts → Sorts → Type 0
 Relations ss xs ys = (l : Sort) × (r : Sort) × (ts : Sorts) × (ss ≡ l then r then ts) × Relation l xs × Relation r ys
 
--- WHERE EACH FAMILY PANICS, from the sorts of its arguments and the integer constants among them.
-abbrev pub Panicking : Family → Sorts → List (Option ℕ) → Type 0
-Panicking Truth ss cs = ⊥
-Panicking Integer ss cs = ⊥
-Panicking Decimal ss cs = ⊥
-Panicking Text ss cs = ⊥
-Panicking Regular ss cs = ⊥
-Panicking Vector ss cs = Behind Unknown Other ss
-Panicking OneBit ss cs = ⊥
-Panicking Bits ss cs = ⊥
-Panicking Constant ss cs = length cs < 2
-Panicking Concat ss cs = Some Other ss
-Panicking First ss cs = count ss ≡ 0
-Panicking Second ss cs = count ss < 2
-Panicking Last ss cs = count ss ≡ 0
-Panicking Sum ss cs = ⊥
-Panicking Element ss cs = (s : Sort) (ts : Sorts) → ss ≡ s then ts → Array s → ⊥
-Panicking RareList ss cs = ⊥
-Panicking Singleton ss cs = count ss ≡ 0
-Panicking Tuple ss cs = ⊥
-Panicking UnitTuple ss cs = ⊥
-Panicking Transpose ss cs = (s : Sort) (ts xs : Sorts) → ss ≡ s then ts → Relation s xs → ⊥
-Panicking Join ss cs = (xs ys : Sorts) (y : Sort) → Relations ss xs (y then ys) → ⊥
-Panicking Product ss cs = (xs ys : Sorts) → Relations ss xs ys → ⊥
+-- WHERE EACH FAMILY PANICS, from the sorts of its arguments and the integer constants among them: a line for each that does; the others never.
+pub data Panicking (ss : Sorts) (cs : List (Option ℕ)) : Family → Type 0 where
+  vector : Behind Unknown Other ss → Panicking ss cs Vector
+  constant : length cs < 2 → Panicking ss cs Constant
+  concat : Some Other ss → Panicking ss cs Concat
+  first : count ss ≡ 0 → Panicking ss cs First
+  second : count ss < 2 → Panicking ss cs Second
+  last : count ss ≡ 0 → Panicking ss cs Last
+  element : ((a w : ℕ) (x y : Sort) (rs ts : Sorts) → ss ≡ node 8 a w (x then y then rs) then ts → ⊥) → Panicking ss cs Element
+  singleton : count ss ≡ 0 → Panicking ss cs Singleton
+  transpose : ((s : Sort) (ts xs : Sorts) → ss ≡ s then ts → Relation s xs → ⊥) → Panicking ss cs Transpose
+  join : ((xs ys : Sorts) (y : Sort) → Relations ss xs (y then ys) → ⊥) → Panicking ss cs Join
+  product : ((xs ys : Sorts) → Relations ss xs ys → ⊥) → Panicking ss cs Product
 
--- A vector that is wide or of unknown width is a sort.
-width-way : {v : Verdict} {P U : Type 0} {r : Sort} → Width v P U r → Way v P
-width-way (bad e p) = bad e p
-width-way (unclear e n u) = good paramBitVec e n
-width-way {v} {P} {U} {r} (wide e n u) = good r e n
-
-second-way : (ss : Sorts) → Way (secondOf ss) (count ss < 2)
+second-way : (ss : Sorts) → PanicsWhen (secondOf ss) (count ss < 2)
 unfolding count
 second-way end = bad refl (omega arith)
 second-way (s then end) = bad refl (omega arith)
 second-way (s then (t then ss)) = good t refl (λ h. omega arith)
 
-last-way : (ss : Sorts) → Way (finalOf ss) (count ss ≡ 0)
+last-way : (ss : Sorts) → PanicsWhen (finalOf ss) (count ss ≡ 0)
 unfolding count
 last-way end = bad refl refl
 last-way (s then ss) = good (lastOf s ss) refl (λ h. omega arith)
 
-singleton-way : (ss : Sorts) → Way (singletonOf ss) (count ss ≡ 0)
+singleton-way : (ss : Sorts) → PanicsWhen (singletonOf ss) (count ss ≡ 0)
 unfolding count
 singleton-way end = bad refl refl
 singleton-way (s then ss) = good (set s) refl (λ h. omega arith)
 
-sum-way : (b : Bool) → Way (sumOf b) ⊥
+sum-way : (b : Bool) → PanicsWhen (sumOf b) ⊥
 sum-way true = good real refl (λ h. h)
 sum-way false = good int refl (λ h. h)
 
-rare-way : (ss : Sorts) → Way (rareOf ss) ⊥
+rare-way : (ss : Sorts) → PanicsWhen (rareOf ss) ⊥
 rare-way end = good (var 0) refl (λ h. h)
 rare-way (s then ss) = good s refl (λ h. h)
 
--- An argument's sort: an Array, or none; a relation, or none.
-array-way : (s : Sort) → Way (elementOf s) (Array s → ⊥)
-array-way (var v) = bad refl (λ h. let (a, w, x, y, rs, e) = h in let z : true ≡ false = cc in true≢false z)
-array-way (par ns b) = bad refl (λ h. let (a, w, x, y, rs, e) = h in let z : true ≡ false = cc in true≢false z)
-array-way (node k a w end) = bad refl (λ h. let (b, v, x, y, rs, e) = h in let z : true ≡ false = cc in true≢false z)
-array-way (node k a w (r then end)) = bad refl (λ h. let (b, v, x, y, rs, e) = h in let z : true ≡ false = cc in true≢false z)
-array-way (node k a w (r then (t then ts))) =
+-- Select has an Array, with its two parts, as first argument, or none.
+selected-way : (ss : Sorts) → PanicsWhen (selected ss) ((a w : ℕ) (x y : Sort) (rs ts : Sorts) → ss ≡ node 8 a w (x then y then rs) then ts → ⊥)
+selected-way end = bad refl (λ a w x y rs ts e. let z : true ≡ false = cc in true≢false z)
+selected-way (var v then ss) = bad refl (λ a w x y rs ts e. let z : true ≡ false = cc in true≢false z)
+selected-way (par ns b then ss) = bad refl (λ a w x y rs ts e. let z : true ≡ false = cc in true≢false z)
+selected-way (node k b v end then ss) = bad refl (λ a w x y rs ts e. let z : true ≡ false = cc in true≢false z)
+selected-way (node k b v (r then end) then ss) = bad refl (λ a w x y rs ts e. let z : true ≡ false = cc in true≢false z)
+selected-way (node k b v (r then (t then ts)) then ss) =
     byTest (eqb k 8)
-    (λ q. good t (rw q refl) (λ n. n (a, w, r, t, ts, rw (eqb-true k 8 q) refl)))
-    (λ q. bad (rw q refl) (λ h. let (b, v, x, y, rs, e) = h in let z : k ≡ 8 = cc in eqb-false k 8 q z))
+    (λ q. good t (rw q refl) (λ n. n b v r t ts ss (rw (eqb-true k 8 q) refl)))
+    (λ q. bad (rw q refl) (λ a w x y rs us e. let z : k ≡ 8 = cc in eqb-false k 8 q z))
 
-selected-way : (ss : Sorts) → Way (selected ss) ((s : Sort) (ts : Sorts) → ss ≡ s then ts → Array s → ⊥)
-selected-way end = bad refl (λ s ts e h. let z : true ≡ false = cc in true≢false z)
-selected-way (a then ss) = one (array-way a)
-  where
-    one : Way (elementOf a) (Array a → ⊥) → Way (elementOf a) ((s : Sort) (ts : Sorts) → a then ss ≡ s then ts → Array s → ⊥)
-    one (bad e n) = bad e (λ s ts q h. let z : s ≡ a = cc in n (rw z at h))
-    one (good s e n) = good s e (λ h. n (h a ss refl))
-
+-- A relation, with its columns, or none.
 columns-of : (s : Sort) → ((cs : Sorts) × (columns s ≡ some cs) × Relation s cs) ⊎ ((columns s ≡ none) × ((cs : Sorts) → Relation s cs → ⊥))
 columns-of (var v) = inr (refl, λ cs h. let (a, w, b, x, rs, e) = h in let z : true ≡ false = cc in true≢false z)
 columns-of (par ns t) = inr (refl, λ cs h. let (a, w, b, x, rs, e) = h in let z : true ≡ false = cc in true≢false z)
@@ -154,7 +128,7 @@ columns-of (node k i j (node l c m ts then ss)) =
 relation-columns : {s : Sort} {cs : Sorts} → Relation s cs → columns s ≡ some cs
 relation-columns h = let (a, w, b, x, rs, e) = h in rw e refl
 
-transpose-way : (ss : Sorts) → Way (transposeOf ss) ((s : Sort) (ts xs : Sorts) → ss ≡ s then ts → Relation s xs → ⊥)
+transpose-way : (ss : Sorts) → PanicsWhen (transposeOf ss) ((s : Sort) (ts xs : Sorts) → ss ≡ s then ts → Relation s xs → ⊥)
 transpose-way end = bad refl (λ s ts xs e h. let z : true ≡ false = cc in true≢false z)
 transpose-way (a then ss) =
     ⊎-elim
@@ -174,7 +148,7 @@ looked {a} {b} R =
     let y : b ≡ r = cc in
     (ap columns x ∙ relation-columns p, ap columns y ∙ relation-columns q)
 
-product-way : (ss : Sorts) → Way (overBoth productOf ss) ((xs ys : Sorts) → Relations ss xs ys → ⊥)
+product-way : (ss : Sorts) → PanicsWhen (overBoth productOf ss) ((xs ys : Sorts) → Relations ss xs ys → ⊥)
 unfolding count
 product-way end = bad refl (λ xs ys R. few (omega arith) R)
 product-way (a then end) = bad refl (λ xs ys R. few (omega arith) R)
@@ -186,7 +160,7 @@ product-way (a then (b then ts)) =
     (λ d. bad (rw (e, d .0) refl) (λ us ys T. none-some (sym (d .0) ∙ looked T .1))) (columns-of b))
     (λ c. bad (rw (c .0) refl) (λ us ys T. none-some (sym (c .0) ∙ looked T .0))) (columns-of a)
 
-join-way : (ss : Sorts) → Way (overBoth joinOf ss) ((xs ys : Sorts) (y : Sort) → Relations ss xs (y then ys) → ⊥)
+join-way : (ss : Sorts) → PanicsWhen (overBoth joinOf ss) ((xs ys : Sorts) (y : Sort) → Relations ss xs (y then ys) → ⊥)
 unfolding count
 join-way end = bad refl (λ xs ys y R. few (omega arith) R)
 join-way (a then end) = bad refl (λ xs ys y R. few (omega arith) R)
@@ -199,52 +173,57 @@ join-way (a then (b then ts)) =
     (λ c. bad (rw (c .0) refl) (λ us ys y T. none-some (sym (c .0) ∙ looked T .0))) (columns-of a)
   where
     right : (xs ys : Sorts) → columns a ≡ some xs → columns b ≡ some ys → Relation a xs → Relation b ys
-        → Way (overBoth joinOf (a then b then ts)) ((us vs : Sorts) (y : Sort) → Relations (a then b then ts) us (y then vs) → ⊥)
+        → PanicsWhen (overBoth joinOf (a then b then ts)) ((us vs : Sorts) (y : Sort) → Relations (a then b then ts) us (y then vs) → ⊥)
     right xs end e f R S = bad (rw (e, f) refl) (λ us vs y T. let g = some-inj (sym f ∙ looked T .1) in let z : true ≡ false = cc in true≢false z)
     right xs (y then ys) e f R S = good (set (tuple (appended (allButLast xs) ys))) (rw (e, f) refl) (λ n. n xs ys y (a, b, ts, refl, R, S))
 
 -- 21 OF AN OPERATOR, exactly where its family panics; elsewhere it has a sort.
-family-way : (f : Family) (ss : Sorts) (cs : List (Option ℕ)) → Way (operatedBy f ss cs) (Panicking f ss cs)
+family-way : (f : Family) (ss : Sorts) (cs : List (Option ℕ)) → PanicsWhen (operatedBy f ss cs) (Panicking ss cs f)
 unfolding operatedBy
-family-way Truth ss cs = good bool refl (λ h. h)
-family-way Integer ss cs = good int refl (λ h. h)
-family-way Decimal ss cs = good real refl (λ h. h)
-family-way Text ss cs = good string refl (λ h. h)
-family-way Regular ss cs = good reglan refl (λ h. h)
-family-way Vector ss cs = width-way (nineteen-way ss)
-family-way OneBit ss cs = good (bitvec 1) refl (λ h. h)
-family-way Bits ss cs = good (bitvec (count ss)) refl (λ h. h)
-family-way Constant ss cs = width-way (const-way cs)
-family-way Concat ss cs = width-way (concat-way 0 ss)
-family-way First ss cs = first-way ss
-family-way Second ss cs = second-way ss
-family-way Last ss cs = last-way ss
-family-way Sum ss cs = sum-way (someReal ss)
-family-way Element ss cs = selected-way ss
-family-way RareList ss cs = rare-way ss
-family-way Singleton ss cs = singleton-way ss
-family-way Tuple ss cs = good (tuple ss) refl (λ h. h)
-family-way UnitTuple ss cs = good (tuple end) refl (λ h. h)
-family-way Transpose ss cs = transpose-way ss
-family-way Join ss cs = join-way ss
-family-way Product ss cs = product-way ss
+family-way Truth ss cs = good bool refl (λ h. elim h [ ])
+family-way Integer ss cs = good int refl (λ h. elim h [ ])
+family-way Decimal ss cs = good real refl (λ h. elim h [ ])
+family-way Text ss cs = good string refl (λ h. elim h [ ])
+family-way Regular ss cs = good reglan refl (λ h. elim h [ ])
+family-way Vector ss cs = panics-said (width-panics (nineteen-way ss)) vector (λ h. elim h [ vector p ↦ p ])
+family-way OneBit ss cs = good (bitvec 1) refl (λ h. elim h [ ])
+family-way Bits ss cs = good (bitvec (count ss)) refl (λ h. elim h [ ])
+family-way Constant ss cs = panics-said (width-panics (const-way cs)) constant (λ h. elim h [ constant p ↦ p ])
+family-way Concat ss cs = panics-said (width-panics (concat-way 0 ss)) concat (λ h. elim h [ concat p ↦ p ])
+family-way First ss cs = panics-said (first-way ss) first (λ h. elim h [ first p ↦ p ])
+family-way Second ss cs = panics-said (second-way ss) second (λ h. elim h [ second p ↦ p ])
+family-way Last ss cs = panics-said (last-way ss) last (λ h. elim h [ last p ↦ p ])
+family-way Sum ss cs = panics-said (sum-way (someReal ss)) (λ h. absurd h) (λ h. elim h [ ])
+family-way Element ss cs = panics-said (selected-way ss) element (λ h. elim h [ element p ↦ p ])
+family-way RareList ss cs = panics-said (rare-way ss) (λ h. absurd h) (λ h. elim h [ ])
+family-way Singleton ss cs = panics-said (singleton-way ss) singleton (λ h. elim h [ singleton p ↦ p ])
+family-way Tuple ss cs = good (tuple ss) refl (λ h. elim h [ ])
+family-way UnitTuple ss cs = good (tuple end) refl (λ h. elim h [ ])
+family-way Transpose ss cs = panics-said (transpose-way ss) transpose (λ h. elim h [ transpose p ↦ p ])
+family-way Join ss cs = panics-said (join-way ss) join (λ h. elim h [ join p ↦ p ])
+family-way Product ss cs = panics-said (product-way ss) product (λ h. elim h [ product p ↦ p ])
 
-pub operator-panics : (z : Site) → z .kind ≡ 7 → PanicsWhen (inferred z) (Panicking (familyOf (z .number)) (z .args) (z .constants))
+-- An operator is judged by its family, its arguments and the integer constants among them: so the laws on widths are those of its row.
+pub operator-inferred : (z : Site) → z .kind ≡ 7 → inferred z ≡ operatedBy (familyOf (z .number)) (z .args) (z .constants)
 unfolding inferred
-operator-panics z k = rw k (panicsWhen (family-way (familyOf (z .number)) (z .args) (z .constants)))
+operator-inferred z k = rw k refl
+
+pub operator-panics : (z : Site) → z .kind ≡ 7 → PanicsWhen (inferred z) (Panicking (z .args) (z .constants) (familyOf (z .number)))
+unfolding inferred
+operator-panics z k = rw k (family-way (familyOf (z .number)) (z .args) (z .constants))
 
 ---------------------------------------------------------------- the other kinds
 -- A CONSTANT, A VAR AND AN ASOP never panic.
 pub own-panics : (z : Site) → ((z .kind ≤ 5) ⊎ (z .kind ≡ 12)) → PanicsWhen (inferred z) ⊥
 unfolding inferred
 own-panics z k =
-    byTest (eqb (z .kind) 0) (λ q. panicsWhen (good int (rw q refl) (λ h. h)))
-    (λ q0. byTest (eqb (z .kind) 1) (λ q. panicsWhen (good real (rw (q0, q) refl) (λ h. h)))
-    (λ q1. byTest (eqb (z .kind) 2) (λ q. panicsWhen (good string (rw (q0, q1, q) refl) (λ h. h)))
-    (λ q2. byTest (eqb (z .kind) 3) (λ q. panicsWhen (good reglan (rw (q0, q1, q2, q) refl) (λ h. h)))
-    (λ q3. byTest (eqb (z .kind) 4) (λ q. panicsWhen (good (bitvec (z .number)) (rw (q0, q1, q2, q3, q) refl) (λ h. h)))
-    (λ q4. byTest (eqb (z .kind) 5) (λ q. panicsWhen (good (z .own) (rw (q0, q1, q2, q3, q4, q) refl) (λ h. h)))
-    (λ q5. let e : z .kind ≡ 12 = last (z .kind) k q0 q1 q2 q3 q4 q5 in panicsWhen (good (z .own) (rw e refl) (λ h. h))))))))
+    byTest (eqb (z .kind) 0) (λ q. (good int (rw q refl) (λ h. h)))
+    (λ q0. byTest (eqb (z .kind) 1) (λ q. (good real (rw (q0, q) refl) (λ h. h)))
+    (λ q1. byTest (eqb (z .kind) 2) (λ q. (good string (rw (q0, q1, q) refl) (λ h. h)))
+    (λ q2. byTest (eqb (z .kind) 3) (λ q. (good reglan (rw (q0, q1, q2, q) refl) (λ h. h)))
+    (λ q3. byTest (eqb (z .kind) 4) (λ q. (good (bitvec (z .number)) (rw (q0, q1, q2, q3, q) refl) (λ h. h)))
+    (λ q4. byTest (eqb (z .kind) 5) (λ q. (good (z .own) (rw (q0, q1, q2, q3, q4, q) refl) (λ h. h)))
+    (λ q5. let e : z .kind ≡ 12 = last (z .kind) k q0 q1 q2 q3 q4 q5 in (good (z .own) (rw e refl) (λ h. h))))))))
   where
     last : (k : ℕ) → ((k ≤ 5) ⊎ (k ≡ 12)) → eqb k 0 ≡ false → eqb k 1 ≡ false → eqb k 2 ≡ false → eqb k 3 ≡ false → eqb k 4 ≡ false → eqb k 5 ≡ false → k ≡ 12
     last k (inr e) a b c d f g = e
@@ -260,7 +239,7 @@ own-panics z k =
 pub binder-panics : (z : Site) → z .kind ≡ 8
     → PanicsWhen (inferred z) (((z .number ≡ 2) × (length (z .bindings) ≡ 0)) ⊎ ((z .number ≡ 3) × (count (z .args) ≡ 0)))
 unfolding inferred bound
-binder-panics z k = rw k (panicsWhen (
+binder-panics z k = rw k ((
     byTest (eqb (z .number) 3)
     (λ q. let e = eqb-true (z .number) 3 q in rw q (body (z .args) e))
     (λ q. let d = eqb-false (z .number) 3 q in
@@ -269,25 +248,25 @@ binder-panics z k = rw k (panicsWhen (
     (λ r. let f = eqb-false (z .number) 2 r in good bool (rw (q, r) refl) (⊎-elim (λ h. f (h .0)) (λ h. d (h .0)))))
     ))
   where
-    body : (ss : Sorts) → z .number ≡ 3 → Way (lambda (z .bindings) ss) (((z .number ≡ 2) × (length (z .bindings) ≡ 0)) ⊎ ((z .number ≡ 3) × (count ss ≡ 0)))
+    body : (ss : Sorts) → z .number ≡ 3 → PanicsWhen (lambda (z .bindings) ss) (((z .number ≡ 2) × (length (z .bindings) ≡ 0)) ⊎ ((z .number ≡ 3) × (count ss ≡ 0)))
     body end e = bad refl (inr (e, refl))
     body (s then ss) e = good (function (joined (bindingSorts (z .bindings)) s)) refl (⊎-elim (λ h. let y = h .0 in omega arith) (λ h. let y = h .1 in omega arith))
 
-    binding : (bs : List Binding) → z .number ≡ 2 → (z .number ≡ 3 → ⊥) → Way (chosen bs) (((z .number ≡ 2) × (length bs ≡ 0)) ⊎ ((z .number ≡ 3) × (count (z .args) ≡ 0)))
+    binding : (bs : List Binding) → z .number ≡ 2 → (z .number ≡ 3 → ⊥) → PanicsWhen (chosen bs) (((z .number ≡ 2) × (length bs ≡ 0)) ⊎ ((z .number ≡ 3) × (count (z .args) ≡ 0)))
     binding [] e d = bad refl (inl (e, refl))
     binding (b ∷ bs) e d = good (b .sort) refl (⊎-elim (λ h. let y = h .1 in omega arith) (λ h. d (h .0)))
 
 -- A LET panics exactly where it has no inner term,
 pub let-panics : (z : Site) → z .kind ≡ 9 → PanicsWhen (inferred z) (count (z .args) ≡ 0)
 unfolding inferred
-let-panics z k = rw k (panicsWhen (last-way (z .args)))
+let-panics z k = rw k (last-way (z .args))
 
 -- and a MATCH where it has no body.
 pub match-panics : (z : Site) → z .kind ≡ 10 → PanicsWhen (inferred z) (count (z .args) < 2)
 unfolding inferred count
-match-panics z k = rw k (panicsWhen (way (z .args)))
+match-panics z k = rw k (way (z .args))
   where
-    way : (ss : Sorts) → Way (matched ss) (count ss < 2)
+    way : (ss : Sorts) → PanicsWhen (matched ss) (count ss < 2)
     way end = bad refl (omega arith)
     way (s then end) = bad refl (omega arith)
     way (s then (t then ts)) = good (lastOf t ts) refl (λ h. omega arith)
@@ -317,7 +296,7 @@ bare-list F = let (a, w, e) = F in ⊎-elim (λ q. (cc, cc)) (λ q. let z : true
 under-list : {us : List ℕ} {b : Sort} {ss : Sorts} {ns : List ℕ} → Function (par us b) ns ss → (us ≡ ns) × ((a : ℕ) × (w : ℕ) × (b ≡ node 0 a w ss))
 under-list F = let (a, w, e) = F in ⊎-elim (λ q. let z : true ≡ false = cc in absurd (true≢false z)) (λ q. (cc, (a, w, cc))) e
 
-app-way : (h : Sort) (ts : Sorts) → Way (headApp h ts) (Misapplied h ts)
+app-way : (h : Sort) (ts : Sorts) → PanicsWhen (headApp h ts) (Misapplied h ts)
 unfolding plainApp parametricApp
 app-way (var v) ts = bad refl (noFunction (not-var v))
 app-way (par ns (var v)) ts = bad refl (noFunction (λ ms ss F. let (e, (a, w, q)) = under-list F in let z : true ≡ false = cc in true≢false z))
@@ -355,7 +334,7 @@ app-way (node k a w ss) ts =
 -- AN APP panics exactly where the head is no Function, has fewer entries than there are arguments, or match_with finds no map.
 pub app-panics : (z : Site) (h : Sort) (ts : Sorts) → z .kind ≡ 6 → z .args ≡ h then ts → PanicsWhen (inferred z) (Misapplied h ts)
 unfolding inferred
-app-panics z h ts k e = rw (k, e) (panicsWhen (app-way h ts))
+app-panics z h ts k e = rw (k, e) (app-way h ts)
 
 ---------------------------------------------------------------- every kind
 -- A verdict that is 21 or a sort is refused for nothing else.
@@ -363,24 +342,21 @@ panics-only : {v : Verdict} {c : Cause} → (v ≡ refused Panics) ⊎ ((s : Sor
 panics-only (inl e) h = cc
 panics-only (inr x) h = refused-sort (sym h ∙ x .1)
 
-width-only : {v : Verdict} {P U : Type 0} {r : Sort} {c : Cause} → WidthWhen v P U r → v ≡ refused c → c ≡ Panics
-width-only {v} {P} {U} {r} W h = panics-only (⊎-elim (λ e. inl e) (⊎-elim (λ e. inr (paramBitVec, e)) (λ e. inr (r, e))) (W .nothing-else)) h
-
 byNumber : {C : Type 0} (n k : ℕ) → (n ≡ k → C) → (eqb n k ≡ false → C) → C
 byNumber n k f g = byTest (eqb n k) (λ q. f (eqb-true n k q)) g
 
 index-only : (n : ℕ) (is : List (Option ℕ)) (ss : Sorts) (c : Cause) → indexed n is ss ≡ refused c → c ≡ Panics
 unfolding indexed
 index-only n is ss c h =
-    byNumber n 0 (λ e. width-only (extract-exactly is ss) (rw e at h))
+    byNumber n 0 (λ e. panics-only (width-panics (extract-exactly is ss) .nothing-else) (rw e at h))
     (λ q0. byNumber n 1 (λ e. panics-only (never-panics n is ss (inl e) .nothing-else) h)
     (λ q1. byNumber n 2 (λ e. panics-only (never-panics n is ss (inr (inl e)) .nothing-else) h)
-    (λ q2. byNumber n 3 (λ e. width-only (extend-exactly n is ss (inl e)) h)
-    (λ q3. byNumber n 4 (λ e. width-only (extend-exactly n is ss (inr e)) h)
+    (λ q2. byNumber n 3 (λ e. panics-only (width-panics (extend-exactly n is ss (inl e)) .nothing-else) h)
+    (λ q3. byNumber n 4 (λ e. panics-only (width-panics (extend-exactly n is ss (inr e)) .nothing-else) h)
     (λ q4. byNumber n 5 (λ e. panics-only (rotate-panics n is ss (inl e) .nothing-else) h)
     (λ q5. byNumber n 6 (λ e. panics-only (rotate-panics n is ss (inr e) .nothing-else) h)
-    (λ q6. byNumber n 7 (λ e. width-only (repeat-exactly is ss) (rw e at h))
-    (λ q7. byNumber n 9 (λ e. width-only (convert-exactly is ss) (rw e at h))
+    (λ q6. byNumber n 7 (λ e. panics-only (width-panics (repeat-exactly is ss) .nothing-else) (rw e at h))
+    (λ q7. byNumber n 9 (λ e. panics-only (width-panics (convert-exactly is ss) .nothing-else) (rw e at h))
     (λ q9. byNumber n 10 (λ e. panics-only (never-panics n is ss (inr (inr (inl e))) .nothing-else) h)
     (λ q10. byNumber n 11 (λ e. panics-only (never-panics n is ss (inr (inr (inr e))) .nothing-else) h)
     (λ q11. panics-only (inl (rw (q0, q1, q2, q3, q4, q5, q6, q7, q9, q10, q11) refl)) h)))))))))))

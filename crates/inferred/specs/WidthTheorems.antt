@@ -1,9 +1,9 @@
 -- INFERRED WIDTHS for every list of arguments and indices, with the cases of an unknown width and of a panic: the nineteen, BvConcat,
 -- BvBbTerm, BvConst, the extensions, Repeat, IntToBv and Extract.
 use Prim.Native.Nat.{ℕ, suc, _+_, _*_, _-_, _≤_, _<_}
-use mathlib.Core.Path.{_≡_, refl, sym, ap, _∙_}
+use mathlib.Core.Path.{_≡_, refl, sym}
 use mathlib.Core.Logic.{_⊎_, inl, inr, ⊎-elim}
-use mathlib.Core.Bool.{true, false, cond}
+use mathlib.Core.Bool.{true, cond}
 use mathlib.Core.List.{List, [], _∷_}
 use mathlib.Core.Option.{Option, none, some}
 use native.Mathlib.Omega.{arith}
@@ -13,12 +13,12 @@ use lib.Dec.{eqb, leb}
 use borrow.Author.Tests.{eqb-true, eqb-false, leb-true, leb-false}
 use Rattle.record.specs.Sort.{Sort, Sorts, end, _then_, bitvec, kindOf, numberIn, count}
 use Rattle.record.specs.Cases.{byTest, none-some, some-inj}
-use Rattle.substitution.specs.MatchWith.{isParamBitVec, isBitVec}
+use Rattle.substitution.specs.MatchWith.{isBitVec}
 use Rattle.rows.specs.Verdict.{sort}
-use Rattle.inferred.specs.declared.Family.the-variants.{Vector, Constant, Concat}
+use Rattle.inferred.specs.declared.Family.the-variants.{Vector}
 use Rattle.inferred.specs.Family.{familyOf}
 use Rattle.inferred.specs.Inferred.{hasWidth, firstVector, concatUnknown, concatFrom, constantWidth, operatedBy, resized, widthOf, extracted, indexed}
-use Rattle.inferred.specs.PanicLaws.{WidthWhen, Behind, Some, Known, Unknown, Other, Width, bad, unclear, wide, widthWhen, byWidth, known-bitvec}
+use Rattle.inferred.specs.PanicLaws.{WidthWhen, Behind, Some, Known, Unknown, Other, bad-width, unclear, wide, width-said, byWidth, known-bitvec}
 
 ---------------------------------------------------------------- the nineteen
 -- The first vector of known width; where there is none, any.
@@ -31,27 +31,24 @@ unfolding firstKnown
 firstKnown-kind end = refl
 firstKnown-kind (s then ss) = byTest (hasWidth s) (λ q. rw q (eqb-true (kindOf s) 9 q)) (λ q. rw q (firstKnown-kind ss))
 
-pub nineteen-way : (ss : Sorts) → Width (firstVector ss) (Behind Unknown Other ss) (Some Known ss → ⊥) (firstKnown ss)
+pub nineteen-way : (ss : Sorts) → WidthWhen (firstVector ss) (Behind Unknown Other ss) (Some Known ss → ⊥) (firstKnown ss)
 unfolding firstVector firstKnown
-nineteen-way end = unclear refl (λ h. h) (λ h. h)
+nineteen-way end = unclear refl refl (λ h. h) (λ h. h)
 nineteen-way (s then ss) =
     byWidth s
-    (λ q k. wide (rw q refl) (⊎-elim (λ o. o .0 k) (λ o. let z = o .0 in omega arith)) (λ n. n (inl k)))
-    (λ q u b k. step q u k (nineteen-way ss))
-    (λ q u b o. bad (rw (q, u) refl) (inl o))
-  where
-    step : hasWidth s ≡ false → isParamBitVec s ≡ true → Unknown s → Width (firstVector ss) (Behind Unknown Other ss) (Some Known ss → ⊥) (firstKnown ss)
-        → Width (firstVector (s then ss)) (Behind Unknown Other (s then ss)) (Some Known (s then ss) → ⊥) (firstKnown (s then ss))
-    step q u k (bad e p) = bad (rw (q, u) e) (inr (k, p))
-    step q u k (unclear e n x) = unclear (rw (q, u) e) (⊎-elim (λ o. o .1 k) (λ o. n (o .1))) (⊎-elim (λ z. omega arith) (λ o. x (o .1)))
-    step q u k (wide e n x) = wide (rw (q, u) e) (⊎-elim (λ o. o .1 k) (λ o. n (o .1))) (λ y. x (λ z. y (inr (_, z))))
+    (λ q k. rw q (wide (eqb-true (kindOf s) 9 q) refl (⊎-elim (λ o. o .0 k) (λ o. let z = o .0 in omega arith)) (λ n. n (inl k))))
+    (λ q u b k. rw (q, u) (
+    width-said (firstKnown-kind ss) (nineteen-way ss) (λ p. inr (k, p)) (⊎-elim (λ o. absurd (o .1 k)) (λ o. o .1))
+    (λ n. ⊎-elim (λ z. omega arith) (λ o. n (o .1))) (λ n x. n (inr (_, x)))
+    ))
+    (λ q u b o. bad-width (rw (q, u) refl) (inl o))
 
 -- THE NINETEEN panic exactly where another sort is met before a vector of known width; else their width is unknown exactly where there is
 -- no vector of known width, and elsewhere their sort is the first of these.
 pub nineteen-exactly : (n : ℕ) (ss : Sorts) (cs : List (Option ℕ)) → familyOf n ≡ Vector
     → WidthWhen (operatedBy (familyOf n) ss cs) (Behind Unknown Other ss) (Some Known ss → ⊥) (firstKnown ss)
 unfolding operatedBy
-nineteen-exactly n ss cs f = rw f (widthWhen (firstKnown-kind ss) (nineteen-way ss))
+nineteen-exactly n ss cs f = rw f (nineteen-way ss)
 
 ---------------------------------------------------------------- BvConcat
 -- The sum of the widths.
@@ -59,48 +56,34 @@ unfoldable pub widthsOf : Sorts → ℕ
 widthsOf end = 0
 widthsOf (s then ss) = numberIn s + widthsOf ss
 
-unknown-way : (r : Sort) (ss : Sorts) → Width (concatUnknown ss) (Some Other ss) Unit r
+unknown-way : (w : ℕ) (ss : Sorts) → WidthWhen (concatUnknown ss) (Some Other ss) Unit (bitvec w)
 unfolding concatUnknown
-unknown-way r end = unclear refl (λ h. h) _
-unknown-way r (s then ss) =
+unknown-way w end = unclear refl refl (λ h. h) _
+unknown-way w (s then ss) =
     byWidth s
-    (λ q k. step (known-bitvec s k) (λ o. o .0 k) (unknown-way r ss))
-    (λ q u b k. step b (λ o. o .1 k) (unknown-way r ss))
-    (λ q u b o. bad (rw b refl) (inl o))
+    (λ q k. step (known-bitvec s k) (λ o. o .0 k) (unknown-way w ss))
+    (λ q u b k. step b (λ o. o .1 k) (unknown-way w ss))
+    (λ q u b o. bad-width (rw b refl) (inl o))
   where
-    step : isBitVec s ≡ true → (Other s → ⊥) → Width (concatUnknown ss) (Some Other ss) Unit r → Width (concatUnknown (s then ss)) (Some Other (s then ss)) Unit r
-    step b d (bad e p) = bad (rw b e) (inr (_, p))
-    step b d (unclear e n x) = unclear (rw b e) (⊎-elim d (λ o. n (o .1))) _
-    step b d (wide e n x) = absurd (x _)
+    step : isBitVec s ≡ true → (Other s → ⊥) → WidthWhen (concatUnknown ss) (Some Other ss) Unit (bitvec w)
+        → WidthWhen (concatUnknown (s then ss)) (Some Other (s then ss)) Unit (bitvec w)
+    step b d W = rw b (width-said refl W (λ p. inr (_, p)) (⊎-elim (λ o. absurd (d o)) (λ o. o .1)) (λ u. u) (λ u. u))
 
-pub concat-way : (w : ℕ) (ss : Sorts) → Width (concatFrom w ss) (Some Other ss) (Some Unknown ss) (bitvec (w + widthsOf ss))
+pub concat-way : (w : ℕ) (ss : Sorts) → WidthWhen (concatFrom w ss) (Some Other ss) (Some Unknown ss) (bitvec (w + widthsOf ss))
 unfolding concatFrom widthsOf
-concat-way w end = wide (rw add-zero refl) (λ h. h) (λ h. h)
+concat-way w end = wide refl (rw add-zero refl) (λ h. h) (λ h. h)
 concat-way w (s then ss) =
     byWidth s
-    (λ q k. step q k (concat-way (w + numberIn s) ss))
-    (λ q u b k. over q u k (unknown-way (bitvec (w + widthsOf (s then ss))) ss))
-    (λ q u b o. bad (rw (q, u) refl) (inl o))
-  where
-    step : hasWidth s ≡ true → Known s → Width (concatFrom (w + numberIn s) ss) (Some Other ss) (Some Unknown ss) (bitvec (w + numberIn s + widthsOf ss))
-        → Width (concatFrom w (s then ss)) (Some Other (s then ss)) (Some Unknown (s then ss)) (bitvec (w + widthsOf (s then ss)))
-    step q k (bad e p) = bad (rw q e) (inr (_, p))
-    step q k (unclear e n x) = unclear (rw q e) (⊎-elim (λ o. o .0 k) (λ o. n (o .1))) (inr (_, x))
-    step q k (wide e n x) =
-        let z : w + numberIn s + widthsOf ss ≡ w + (numberIn s + widthsOf ss) = omega arith in
-        wide (rw q (e ∙ ap (λ (u : ℕ). sort (bitvec u)) z)) (⊎-elim (λ o. o .0 k) (λ o. n (o .1))) (⊎-elim (λ y. omega arith) (λ o. x (o .1)))
+    (λ q k. let z : w + (numberIn s + widthsOf ss) ≡ w + numberIn s + widthsOf ss = omega arith in
+    rw (q, z) (width-said refl (concat-way (w + numberIn s) ss) (λ p. inr (_, p)) (⊎-elim (λ o. absurd (o .0 k)) (λ o. o .1)) (λ u. inr (_, u)) (⊎-elim (λ y. absurd (omega (arith, k, y))) (λ o. o .1))))
+    (λ q u b k. rw (q, u) (width-said refl (unknown-way (w + widthsOf (s then ss)) ss) (λ p. inr (_, p)) (⊎-elim (λ o. absurd (o .1 k)) (λ o. o .1)) (λ x. inl k) (λ x. _)))
+    (λ q u b o. bad-width (rw (q, u) refl) (inl o))
 
-    over : hasWidth s ≡ false → isParamBitVec s ≡ true → Unknown s → Width (concatUnknown ss) (Some Other ss) Unit (bitvec (w + widthsOf (s then ss)))
-        → Width (concatFrom w (s then ss)) (Some Other (s then ss)) (Some Unknown (s then ss)) (bitvec (w + widthsOf (s then ss)))
-    over q u k (bad e p) = bad (rw (q, u) e) (inr (_, p))
-    over q u k (unclear e n x) = unclear (rw (q, u) e) (⊎-elim (λ o. o .1 k) (λ o. n (o .1))) (inl k)
-    over q u k (wide e n x) = absurd (x _)
-
--- BVCONCAT panics exactly where some argument is no vector; else its width is unknown exactly where that of some argument is, and
+-- BVCONCAT (90) panics exactly where some argument is no vector; else its width is unknown exactly where that of some argument is, and
 -- elsewhere the sum of all.
-pub concat-exactly : (ss : Sorts) (cs : List (Option ℕ)) → WidthWhen (operatedBy Concat ss cs) (Some Other ss) (Some Unknown ss) (bitvec (widthsOf ss))
-unfolding operatedBy
-concat-exactly ss cs = widthWhen refl (rw (zero-add (widthsOf ss)) at (concat-way 0 ss))
+pub concat-exactly : (ss : Sorts) (cs : List (Option ℕ)) → WidthWhen (operatedBy (familyOf 90) ss cs) (Some Other ss) (Some Unknown ss) (bitvec (widthsOf ss))
+unfolding operatedBy familyOf
+concat-exactly ss cs = rw (zero-add (widthsOf ss)) at (concat-way 0 ss)
 
 ---------------------------------------------------------------- BvBbTerm and BvConst
 -- BVPBBTERM AND BVBBTERM (110, 111) never panic: a vector of as many bits as there are arguments.
@@ -113,18 +96,18 @@ abbrev pub orZero : Option ℕ → ℕ
 orZero none = 0
 orZero (some w) = w
 
-pub const-way : (cs : List (Option ℕ)) → Width (constantWidth cs) (length cs < 2) (getD cs 1 none ≡ none) (bitvec (orZero (getD cs 1 none)))
-const-way [] = bad refl (omega arith)
-const-way (c ∷ []) = bad refl (omega arith)
-const-way (c ∷ (none ∷ cs)) = unclear refl (λ h. omega arith) refl
-const-way (c ∷ (some w ∷ cs)) = wide refl (λ h. omega arith) (λ e. none-some (sym e))
+pub const-way : (cs : List (Option ℕ)) → WidthWhen (constantWidth cs) (length cs < 2) (getD cs 1 none ≡ none) (bitvec (orZero (getD cs 1 none)))
+const-way [] = bad-width refl (omega arith)
+const-way (c ∷ []) = bad-width refl (omega arith)
+const-way (c ∷ (none ∷ cs)) = unclear refl refl (λ h. omega arith) refl
+const-way (c ∷ (some w ∷ cs)) = wide refl refl (λ h. omega arith) (λ e. none-some (sym e))
 
 -- BVCONST (112) panics exactly with fewer than two arguments; else its width is unknown exactly where the second is no integer constant,
 -- and elsewhere that number.
 pub const-exactly : (ss : Sorts) (cs : List (Option ℕ))
-    → WidthWhen (operatedBy Constant ss cs) (length cs < 2) (getD cs 1 none ≡ none) (bitvec (orZero (getD cs 1 none)))
-unfolding operatedBy
-const-exactly ss cs = widthWhen refl (const-way cs)
+    → WidthWhen (operatedBy (familyOf 112) ss cs) (length cs < 2) (getD cs 1 none ≡ none) (bitvec (orZero (getD cs 1 none)))
+unfolding operatedBy familyOf
+const-exactly ss cs = const-way cs
 
 ---------------------------------------------------------------- indexed operators
 -- The first argument.
@@ -132,75 +115,71 @@ abbrev pub firstIn : Sorts → Sort
 firstIn end = bitvec 0
 firstIn (s then ss) = s
 
--- There is no argument, or the first is no vector.
-abbrev pub NoVector : Sorts → Type 0
-NoVector ss = (count ss ≡ 0) ⊎ Other (firstIn ss)
-
--- No index; or the first is an integer constant and there is no vector.
+-- No index; or the first is an integer constant, and there is no argument or the first is no vector.
 abbrev pub Unsized : List (Option ℕ) → Sorts → Type 0
-Unsized is ss = (length is ≡ 0) ⊎ (((i : ℕ) × (getD is 0 none ≡ some i)) × NoVector ss)
+Unsized is ss = (length is ≡ 0) ⊎ (((i : ℕ) × (getD is 0 none ≡ some i)) × ((count ss ≡ 0) ⊎ Other (firstIn ss)))
 
 resized-way : (f : ℕ → ℕ → ℕ) (is : List (Option ℕ)) (ss : Sorts)
-    → Width (resized f is ss) (Unsized is ss) ((getD is 0 none ≡ none) ⊎ Unknown (firstIn ss)) (bitvec (f (orZero (getD is 0 none)) (numberIn (firstIn ss))))
+    → WidthWhen (resized f is ss) (Unsized is ss) ((getD is 0 none ≡ none) ⊎ Unknown (firstIn ss)) (bitvec (f (orZero (getD is 0 none)) (numberIn (firstIn ss))))
 unfolding count
-resized-way f [] ss = bad refl (inl refl)
-resized-way f (none ∷ is) ss = unclear refl (⊎-elim (λ h. omega arith) (λ h. let (i, e) = h .0 in none-some e)) (inl refl)
-resized-way f (some i ∷ is) end = bad refl (inr ((i, refl), inl refl))
+resized-way f [] ss = bad-width refl (inl refl)
+resized-way f (none ∷ is) ss = unclear refl refl (⊎-elim (λ h. omega arith) (λ h. let (i, e) = h .0 in none-some e)) (inl refl)
+resized-way f (some i ∷ is) end = bad-width refl (inr ((i, refl), inl refl))
 resized-way f (some i ∷ is) (s then ss) =
     byWidth s
-    (λ q k. wide (rw q refl) (⊎-elim (λ h. omega arith) (λ h. ⊎-elim (λ z. omega arith) (λ o. o .0 k) (h .1)))
+    (λ q k. wide refl (rw q refl) (⊎-elim (λ h. omega arith) (λ h. ⊎-elim (λ z. omega arith) (λ o. o .0 k) (h .1)))
     (⊎-elim (λ e. none-some (sym e)) (λ z. omega arith)))
-    (λ q u b k. unclear (rw (q, u) refl) (⊎-elim (λ h. omega arith) (λ h. ⊎-elim (λ z. omega arith) (λ o. o .1 k) (h .1))) (inr k))
-    (λ q u b o. bad (rw (q, u) refl) (inr ((i, refl), inr o)))
+    (λ q u b k. unclear refl (rw (q, u) refl) (⊎-elim (λ h. omega arith) (λ h. ⊎-elim (λ z. omega arith) (λ o. o .1 k) (h .1))) (inr k))
+    (λ q u b o. bad-width (rw (q, u) refl) (inr ((i, refl), inr o)))
 
 -- ZEROEXTEND AND SIGNEXTEND (3, 4) panic exactly without an index, or with an integer constant for index and no vector as first argument;
 -- else the width is unknown exactly where the index is no integer constant or the vector's width is unknown, and elsewhere the sum.
 pub extend-exactly : (n : ℕ) (is : List (Option ℕ)) (ss : Sorts) → ((n ≡ 3) ⊎ (n ≡ 4))
     → WidthWhen (indexed n is ss) (Unsized is ss) ((getD is 0 none ≡ none) ⊎ Unknown (firstIn ss)) (bitvec (orZero (getD is 0 none) + numberIn (firstIn ss)))
 unfolding indexed
-extend-exactly n is ss (inl e) = rw e (widthWhen refl (resized-way (λ i w. i + w) is ss))
-extend-exactly n is ss (inr e) = rw e (widthWhen refl (resized-way (λ i w. i + w) is ss))
+extend-exactly n is ss (inl e) = rw e (resized-way (λ i w. i + w) is ss)
+extend-exactly n is ss (inr e) = rw e (resized-way (λ i w. i + w) is ss)
 
 -- REPEAT (7) the same, with the product.
 pub repeat-exactly : (is : List (Option ℕ)) (ss : Sorts)
     → WidthWhen (indexed 7 is ss) (Unsized is ss) ((getD is 0 none ≡ none) ⊎ Unknown (firstIn ss)) (bitvec (orZero (getD is 0 none) * numberIn (firstIn ss)))
 unfolding indexed
-repeat-exactly is ss = widthWhen refl (resized-way (λ i w. i * w) is ss)
+repeat-exactly is ss = resized-way (λ i w. i * w) is ss
 
 -- INTTOBV (9) panics exactly without an index; else its width is unknown exactly where the index is no integer constant, and elsewhere
 -- that number.
 pub convert-exactly : (is : List (Option ℕ)) (ss : Sorts) → WidthWhen (indexed 9 is ss) (length is ≡ 0) (getD is 0 none ≡ none) (bitvec (orZero (getD is 0 none)))
 unfolding indexed
-convert-exactly is ss = widthWhen refl (way is)
+convert-exactly is ss = way is
   where
-    way : (is : List (Option ℕ)) → Width (widthOf is) (length is ≡ 0) (getD is 0 none ≡ none) (bitvec (orZero (getD is 0 none)))
-    way [] = bad refl refl
-    way (none ∷ is) = unclear refl (λ h. omega arith) refl
-    way (some w ∷ is) = wide refl (λ h. omega arith) (λ e. none-some (sym e))
-
--- No index; or the first is an integer constant i and there is no second, or the second is one that is larger.
-abbrev pub Unspanned : List (Option ℕ) → Type 0
-Unspanned is = (length is ≡ 0) ⊎ ((i : ℕ) × (getD is 0 none ≡ some i) × ((length is ≡ 1) ⊎ ((j : ℕ) × (getD is 1 none ≡ some j) × (i < j))))
+    way : (is : List (Option ℕ)) → WidthWhen (widthOf is) (length is ≡ 0) (getD is 0 none ≡ none) (bitvec (orZero (getD is 0 none)))
+    way [] = bad-width refl refl
+    way (none ∷ is) = unclear refl refl (λ h. omega arith) refl
+    way (some w ∷ is) = wide refl refl (λ h. omega arith) (λ e. none-some (sym e))
 
 extract-way : (is : List (Option ℕ))
-    → Width (extracted is) (Unspanned is) ((getD is 0 none ≡ none) ⊎ (getD is 1 none ≡ none)) (bitvec (suc (orZero (getD is 0 none) - orZero (getD is 1 none))))
-extract-way [] = bad refl (inl refl)
-extract-way (none ∷ is) = unclear refl (⊎-elim (λ h. omega arith) (λ h. let (i, e, x) = h in none-some e)) (inl refl)
-extract-way (some i ∷ []) = bad refl (inr (i, refl, inl refl))
+    → WidthWhen (extracted is)
+    ((length is ≡ 0) ⊎ ((i : ℕ) × (getD is 0 none ≡ some i) × ((length is ≡ 1) ⊎ ((j : ℕ) × (getD is 1 none ≡ some j) × (i < j)))))
+    ((getD is 0 none ≡ none) ⊎ (getD is 1 none ≡ none)) (bitvec (suc (orZero (getD is 0 none) - orZero (getD is 1 none))))
+extract-way [] = bad-width refl (inl refl)
+extract-way (none ∷ is) = unclear refl refl (⊎-elim (λ h. omega arith) (λ h. let (i, e, x) = h in none-some e)) (inl refl)
+extract-way (some i ∷ []) = bad-width refl (inr (i, refl, inl refl))
 extract-way (some i ∷ (none ∷ is)) =
-    unclear refl (⊎-elim (λ h. omega arith) (λ h. let (k, e, x) = h in ⊎-elim (λ z. omega arith) (λ y. let (j, f, l) = y in none-some f) x)) (inr refl)
+    unclear refl refl (⊎-elim (λ h. omega arith) (λ h. let (k, e, x) = h in ⊎-elim (λ z. omega arith) (λ y. let (j, f, l) = y in none-some f) x)) (inr refl)
 extract-way (some i ∷ (some j ∷ is)) =
     byTest (leb j i)
     (λ q. let a = leb-true j i q in
-    wide (rw q refl)
+    wide refl (rw q refl)
     (⊎-elim (λ h. omega arith) (λ h. let (k, e, x) = h in ⊎-elim (λ z. omega arith)
     (λ y. let (m, f, l) = y in let u = some-inj e in let v = some-inj f in omega arith) x))
     (⊎-elim (λ e. none-some (sym e)) (λ e. none-some (sym e))))
-    (λ q. let a = leb-false j i q in bad (rw q refl) (inr (i, refl, inr (j, refl, omega arith))))
+    (λ q. let a = leb-false j i q in bad-width (rw q refl) (inr (i, refl, inr (j, refl, omega arith))))
 
 -- EXTRACT i, j (0) panics exactly without an index, without a second one behind an integer constant, or where j is larger than i; else its
 -- width is unknown exactly where one of the two is no integer constant, and elsewhere i - j + 1. The argument is not looked at.
 pub extract-exactly : (is : List (Option ℕ)) (ss : Sorts)
-    → WidthWhen (indexed 0 is ss) (Unspanned is) ((getD is 0 none ≡ none) ⊎ (getD is 1 none ≡ none)) (bitvec (suc (orZero (getD is 0 none) - orZero (getD is 1 none))))
+    → WidthWhen (indexed 0 is ss)
+    ((length is ≡ 0) ⊎ ((i : ℕ) × (getD is 0 none ≡ some i) × ((length is ≡ 1) ⊎ ((j : ℕ) × (getD is 1 none ≡ some j) × (i < j)))))
+    ((getD is 0 none ≡ none) ⊎ (getD is 1 none ≡ none)) (bitvec (suc (orZero (getD is 0 none) - orZero (getD is 1 none))))
 unfolding indexed
-extract-exactly is ss = widthWhen refl (extract-way is)
+extract-exactly is ss = extract-way is

@@ -29,7 +29,7 @@ use Rattle.checked.specs.Checked.{carried, checked}
 use Rattle.checked.specs.Kept.{carriedAll}
 use Rattle.checked.specs.RouteLaws.{checked-kept, parts}
 use Rattle.checked.specs.RouteTheorems.{parameters-clear, parameters-clearAll}
-use Rattle.judged.specs.Rows.{Tabled, rowOf, rowsOf}
+use Rattle.judged.specs.Rows.{rowOf, rowsOf}
 use Rattle.judged.specs.Judged.{accepted, judgedBy}
 use Rattle.judged.specs.RowLaws.{row-grown, row-accepted, rows-more, rows-new, rows-old, turn-grown}
 use Rattle.judged.specs.QuestionLaws.{answers-grown}
@@ -84,24 +84,18 @@ module _ (R : ℕ → List Rank) (S : (n : ℕ) → Sound (R n)) (l : Lengths) w
       (a .below, rw (a .there) (checked-carried R S _ s (sorts-carried now rows (length rs) h (r .list) below ts p) v))
 
   module _ (st : List Sort) where
-    abbrev tabled : List TermFields → Tabled
-    tabled rs = rowsOf R l st rs
-
-    abbrev code : List TermFields → ℕ → ℕ
-    code rs i = getD (tabled rs .rows) (2 * i + 1) 0
-
     -- The checked row of one more term,
-    new-carried : (rs : List TermFields) (r : TermFields) → ((i : ℕ) → i < length rs → Carries (tabled rs .store) (code rs i)) → referring (r ∷ rs) ≡ true
-        → Carries (tabled (r ∷ rs) .store) (code (r ∷ rs) (length rs))
+    new-carried : (rs : List TermFields) (r : TermFields) → ((i : ℕ) → i < length rs → Carries (rowsOf R l st rs .store) (getD (rowsOf R l st rs .rows) (2 * i + 1) 0)) → referring (r ∷ rs) ≡ true
+        → Carries (rowsOf R l st (r ∷ rs) .store) (getD (rowsOf R l st (r ∷ rs) .rows) (2 * length rs + 1) 0)
     new-carried rs r h refs =
-        let first = rowOf inferred 0 l rs r (tabled rs .rows) (tabled rs .store) in
-        let g = row-grown inferred 0 l rs r (tabled rs .rows) (tabled rs .store) in
+        let first = rowOf inferred 0 l rs r (rowsOf R l st rs .rows) (rowsOf R l st rs .store) in
+        let g = row-grown inferred 0 l rs r (rowsOf R l st rs .rows) (rowsOf R l st rs .store) in
         rw (rows-new R l st rs r 1, rows-more R l st rs r)
-        (row-carried rs r (tabled rs .rows) (first .store)
-        (λ i o. carries-stays (tabled rs .store) (first .store) (code rs i) (g .starts) (h i o)) refs)
+        (row-carried rs r (rowsOf R l st rs .rows) (first .store)
+        (λ i o. carries-stays (rowsOf R l st rs .store) (first .store) (getD (rowsOf R l st rs .rows) (2 * i + 1) 0) (g .starts) (h i o)) refs)
 
     -- and so of all.
-    rows-carried : (rs : List TermFields) → referring rs ≡ true → (i : ℕ) → i < length rs → Carries (tabled rs .store) (code rs i)
+    rows-carried : (rs : List TermFields) → referring rs ≡ true → (i : ℕ) → i < length rs → Carries (rowsOf R l st rs .store) (getD (rowsOf R l st rs .rows) (2 * i + 1) 0)
     unfolding referring
     rows-carried [] refs i low = absurd (not-suc-le-zero low)
     rows-carried (r ∷ rs) refs i low =
@@ -111,7 +105,7 @@ module _ (R : ℕ → List Rank) (S : (n : ℕ) → Sound (R n)) (l : Lengths) w
         (λ q.
         let o : i < length rs = below-other i (length rs) low (eqb-false i (length rs) q) in
         rw (rows-old R l st rs r (2 * i + 1) (omega arith))
-        (carries-stays (tabled rs .store) (tabled (r ∷ rs) .store) (code rs i) (turn-grown R l st rs r .starts) (rows-carried rs earlier i o)))
+        (carries-stays (rowsOf R l st rs .store) (rowsOf R l st (r ∷ rs) .store) (getD (rowsOf R l st rs .rows) (2 * i + 1) 0) (turn-grown R l st rs r .starts) (rows-carried rs earlier i o)))
 
 ---------------------------------------------------------------- an accepted sheet
 -- EVERY CHECKED ROW of an accepted sheet that is no refusal names a sort that a Var may carry.

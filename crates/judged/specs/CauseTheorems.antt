@@ -33,10 +33,7 @@ use Rattle.checked.specs.CheckedCauses.{checked-causes}
 use Rattle.judged.specs.Rows.{rowOf}
 
 -- A cause's number says the cause.
-abbrev causeOf : ℕ → Cause
-causeOf n = getD (Below ∷ Panics ∷ Limit ∷ Full ∷ NoRank ∷ Count ∷ Misfit ∷ Unassigned ∷ Barred ∷ NoAssignment ∷ []) (n - 20) Below
-
-cause-back : (c : Cause) → causeOf (numberOf c) ≡ c
+cause-back : (c : Cause) → getD (Below ∷ Panics ∷ Limit ∷ Full ∷ NoRank ∷ Count ∷ Misfit ∷ Unassigned ∷ Barred ∷ NoAssignment ∷ []) (numberOf c - 20) Below ≡ c
 cause-back Below = refl
 cause-back Panics = refl
 cause-back Limit = refl
@@ -49,7 +46,7 @@ cause-back Barred = refl
 cause-back NoAssignment = refl
 
 one-cause : (c d : Cause) → numberOf c * 65536 ≡ numberOf d * 65536 → c ≡ d
-one-cause c d h = let e : numberOf c ≡ numberOf d = omega arith in sym (cause-back c) ∙ ap causeOf e ∙ cause-back d
+one-cause c d h = let e : numberOf c ≡ numberOf d = omega arith in sym (cause-back c) ∙ rw e (cause-back d)
 
 -- A CODE STANDS FOR A CAUSE other than 22 and 23 exactly where the verdict is refused for it: so of every row, too.
 pub code-cause : (l : Lengths) (st : List Sort) (v : Verdict) (c : Cause) → plain (refused c) ≡ true
@@ -89,11 +86,8 @@ row-cause J column l rs r rows now c p d =
     (parts-cause J (r .kind) (r .number) (r .own) (r .bindings) (constantsAt rs (r .list)) (constantsAt rs (r .second)) (sortsAt row (r .list)) (sortsAt row (r .second)) c d)
 
 ---------------------------------------------------------------- 20
--- A term of the list has no sort by its row.
-abbrev pub Missing : (ℕ → Option Sort) → List ℕ → Type 0
-Missing row is = (i : ℕ) × (member i is ≡ true) × (row i ≡ none)
-
-none-missing : (row : ℕ → Option Sort) (is : List ℕ) → sortsAt row is ≡ none → Missing row is
+-- The list's sorts are not there exactly where a term of it has no sort by its row.
+none-missing : (row : ℕ → Option Sort) (is : List ℕ) → sortsAt row is ≡ none → (i : ℕ) × (member i is ≡ true) × (row i ≡ none)
 unfolding sortsAt member
 none-missing row [] e = none-some (sym e)
 none-missing row (i ∷ is) e =
@@ -103,7 +97,7 @@ none-missing row (i ∷ is) e =
     (λ f. let (j, m, n) = none-missing row is f in (j, or-second (eqb i j) (member j is) m, n))
     (λ ss f. let g : some (s then ss) ≡ none = rw (q, f) at e in none-some (sym g)))
 
-missing-none : (row : ℕ → Option Sort) (is : List ℕ) → Missing row is → sortsAt row is ≡ none
+missing-none : (row : ℕ → Option Sort) (is : List ℕ) → (i : ℕ) × (member i is ≡ true) × (row i ≡ none) → sortsAt row is ≡ none
 unfolding sortsAt member
 missing-none row [] h = let (j, m, n) = h in absurd (false≢true m)
 missing-none row (i ∷ is) h =
@@ -114,12 +108,11 @@ missing-none row (i ∷ is) h =
 
 -- A ROW IS CODED 20 exactly where the row of a term that the record names is refused in its column.
 module _ (J : Site → Verdict) (never : (z : Site) → J z ≡ refused Below → ⊥) (column : ℕ) (l : Lengths) (rs : List TermFields) (r : TermFields) (rows : List ℕ) (now : List Sort) where
-  abbrev row : ℕ → Option Sort
-  row i = rowSort now rows column i
-
-  pub row-below : rowOf J column l rs r rows now .code ≡ numberOf Below * 65536 ↔ Missing row (r .list) ⊎ Missing row (r .second)
+  pub row-below : rowOf J column l rs r rows now .code ≡ numberOf Below * 65536
+      ↔ ((i : ℕ) × (member i (r .list) ≡ true) × (rowSort now rows column i ≡ none)) ⊎ ((i : ℕ) × (member i (r .second) ≡ true) × (rowSort now rows column i ≡ none))
   unfolding rowOf verdictAt plain
   row-below =
+      let row : ℕ → Option Sort = λ i. rowSort now rows column i in
       Iff·trans (code-cause l now (verdictAt J row rs r) Below refl) (
         λ h. byOption (sortsAt row (r .list))
             (λ p. inl (none-missing row (r .list) p))

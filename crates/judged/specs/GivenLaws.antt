@@ -26,7 +26,7 @@ use Rattle.inferred.specs.Inferred.{inferred}
 use Rattle.checked.specs.Rank.{Rank}
 use Rattle.checked.specs.Checked.{checked}
 use Rattle.checked.specs.RouteLaws.{parts}
-use Rattle.judged.specs.Rows.{Tabled, rowOf, rowsOf}
+use Rattle.judged.specs.Rows.{rowOf, rowsOf}
 use Rattle.judged.specs.Judged.{accepted, judgedBy}
 use Rattle.judged.specs.RowLaws.{row-accepted, rows-new, rows-old}
 use Rattle.judged.specs.JudgedLaws.{told}
@@ -66,21 +66,15 @@ module _ (J : Site → Verdict) (column : ℕ) (l : Lengths) (rs : List TermFiel
 
 ---------------------------------------------------------------- all rows
 module _ (R : ℕ → List Rank) (l : Lengths) (st : List Sort) where
-  abbrev tabled : List TermFields → Tabled
-  tabled rs = rowsOf R l st rs
-
-  abbrev code : List TermFields → ℕ → ℕ → ℕ
-  code rs column i = getD (tabled rs .rows) (2 * i + column) 0
-
-  new-low : (rs : List TermFields) (r : TermFields) (column : ℕ) → column < 2 → code (r ∷ rs) column (length rs) < 65536
-      → (j : ℕ) → named r j ≡ true → code rs column j < 65536
-  new-low rs r zero col h = named-low inferred 0 l rs r (tabled rs .rows) (tabled rs .store) (rw (rows-new R l st rs r 0) at h)
+  new-low : (rs : List TermFields) (r : TermFields) (column : ℕ) → column < 2 → getD (rowsOf R l st (r ∷ rs) .rows) (2 * length rs + column) 0 < 65536
+      → (j : ℕ) → named r j ≡ true → getD (rowsOf R l st rs .rows) (2 * j + column) 0 < 65536
+  new-low rs r zero col h = named-low inferred 0 l rs r (rowsOf R l st rs .rows) (rowsOf R l st rs .store) (rw (rows-new R l st rs r 0) at h)
   new-low rs r (suc zero) col h =
-      named-low (checked R) 1 l rs r (tabled rs .rows) (rowOf inferred 0 l rs r (tabled rs .rows) (tabled rs .store) .store) (rw (rows-new R l st rs r 1) at h)
+      named-low (checked R) 1 l rs r (rowsOf R l st rs .rows) (rowOf inferred 0 l rs r (rowsOf R l st rs .rows) (rowsOf R l st rs .store) .store) (rw (rows-new R l st rs r 1) at h)
   new-low rs r (suc (suc column)) col h = absurd (omega arith)
 
   one-low : (rs : List TermFields) → referring rs ≡ true → (column n j : ℕ) → column < 2 → n < length rs → named (recordAt rs n) j ≡ true
-      → code rs column n < 65536 → code rs column j < 65536
+      → getD (rowsOf R l st rs .rows) (2 * n + column) 0 < 65536 → getD (rowsOf R l st rs .rows) (2 * j + column) 0 < 65536
   unfolding recordAt referring
   one-low [] refs column n j col low m h = absurd (not-suc-le-zero low)
   one-low (r ∷ rs) refs column n j col low m h =
@@ -88,14 +82,14 @@ module _ (R : ℕ → List Rank) (l : Lengths) (st : List Sort) where
       let early = named-below (r ∷ rs) refs n low j m in
       rw (rows-old R l st rs r (2 * j + column) (omega arith))
       (byTest (eqb n (length rs))
-      (λ q. new-low rs r column col (subst (λ (k : ℕ). code (r ∷ rs) column k < 65536) (eqb-true n (length rs) q) h) j (rw q at m))
+      (λ q. new-low rs r column col (subst (λ (k : ℕ). getD (rowsOf R l st (r ∷ rs) .rows) (2 * k + column) 0 < 65536) (eqb-true n (length rs) q) h) j (rw q at m))
       (λ q.
       let o : n < length rs = below-other n (length rs) low (eqb-false n (length rs) q) in
       one-low rs earlier column n j col o (rw q at m) (rw (rows-old R l st rs r (2 * n + column) (omega arith)) at h)))
 
   -- WHERE A ROW GIVES A SORT, so does every row at its term or below it, in the same column.
   pub given-below : (rs : List TermFields) → referring rs ≡ true → (column n u : ℕ) → column < 2 → n < length rs → AtOrBelow rs n u
-      → code rs column n < 65536 → code rs column u < 65536
+      → getD (rowsOf R l st rs .rows) (2 * n + column) 0 < 65536 → getD (rowsOf R l st rs .rows) (2 * u + column) 0 < 65536
   given-below rs refs column n u col low itself h = h
   given-below rs refs column n u col low (below j m b) h =
       let early = named-below rs refs n low j m in
@@ -103,10 +97,10 @@ module _ (R : ℕ → List Rank) (l : Lengths) (st : List Sort) where
 
   -- A ROW THAT GIVES A SORT HAS MET NO LIMIT at its term or below it.
   pub given-free : (rs : List TermFields) → referring rs ≡ true → (column n : ℕ) → column < 2 → n < length rs
-      → code rs column n < 65536 → free (tabled rs .rows) column rs n ≡ true
+      → getD (rowsOf R l st rs .rows) (2 * n + column) 0 < 65536 → free (rowsOf R l st rs .rows) column rs n ≡ true
   given-free rs refs column n col low h =
-      free-exactly (tabled rs .rows) column rs refs n low .1
-      (λ u b. not-limited (code rs column u) (given-below rs refs column n u col low b h))
+      free-exactly (rowsOf R l st rs .rows) column rs refs n low .1
+      (λ u b. not-limited (getD (rowsOf R l st rs .rows) (2 * u + column) 0) (given-below rs refs column n u col low b h))
 
 ---------------------------------------------------------------- an accepted sheet
 -- The same of the rows of an accepted sheet.

@@ -2,7 +2,7 @@
 -- premise is said of the parts of pattern and target, free of any test, and proved to be the test `premise`.
 use Prim.Native.Nat.{ℕ, _*_}
 use mathlib.Core.Path.{_≡_, refl, sym, ap, _∙_}
-use mathlib.Core.Bool.{true, false, not, _&&_, false≢true}
+use mathlib.Core.Bool.{true, false, not, _&&_, false≢true, true≢false}
 use mathlib.Core.List.{List}
 use mathlib.Core.Option.{none, some}
 use mathlib.Core.Logic.{_↔_, Iff·trans}
@@ -20,9 +20,8 @@ use Rattle.substitution.specs.Matching.{matches, Within, listedIn, known, known
 use Rattle.substitution.specs.MatchingLaws.{known-parless, unlisted-free, free-unlisted, matching-premise, match-exact}
 use Rattle.rows.specs.declared.Cause.the-variants.{Barred, NoAssignment}
 use Rattle.rows.specs.Verdict.{sort, refused, numberOf}
-use Rattle.rows.specs.Outcome.{within}
 use Rattle.rows.specs.OutcomeLaws.{plain, refused-sort, sort-inj}
-use Rattle.checked.specs.Parts.{In, first, later, PartOf, whole, inBody, inList}
+use Rattle.checked.specs.Parts.{In, first, later, PartOf, whole, inBody, inList, Value}
 use Rattle.checked.specs.FitLaws.{sort-refused, other-cause}
 use Rattle.judged.specs.CauseTheorems.{code-cause}
 use Rattle.judged.specs.Questions.{firstOf, restOf, matchAnswer, answerOf}
@@ -30,12 +29,8 @@ use Rattle.judged.specs.QuestionLaws.{answerVerdict, answer-is}
 
 ---------------------------------------------------------------- the premise
 -- "A pattern and target without Par and ParamBitVec, the target also without listed parameters."
-pub data Unmatched (r : Sort) : Type 0 where
-  aPar : (ns : List ℕ) (b : Sort) → r ≡ par ns b → Unmatched r
-  unknownWidth : kindOf r ≡ 10 → Unmatched r
-
 abbrev pub Known : Sort → Type 0
-Known s = (r : Sort) → PartOf r s → Unmatched r → ⊥
+Known s = (r : Sort) → PartOf r s → Value r × (kindOf r ≡ 10 → ⊥)
 
 pub record Premise (ns : List ℕ) (p t : Sort) : Type 0 where
   pub pattern : Known p
@@ -53,37 +48,30 @@ part-known whole e = e
 part-known (inBody p) e = absurd (false≢true e)
 part-known (inList {k} {a} {w} {s} {ss} i p) e = part-known p (in-known i (and-right (not (eqb k 10)) (knownAll ss) e))
 
-known-not : (r : Sort) → known r ≡ true → Unmatched r → ⊥
+known-not : (r : Sort) → known r ≡ true → Value r × (kindOf r ≡ 10 → ⊥)
 unfolding known
-known-not r e (aPar ns b q) = let z : false ≡ true = rw q at e in false≢true z
-known-not (var v) e (unknownWidth k) = omega arith
-known-not (par ns b) e (unknownWidth k) = omega arith
-known-not (node k a w ss) e (unknownWidth q) = let z : false ≡ true = rw q at e in false≢true z
+known-not (var v) e = (λ ns b q. let z : true ≡ false = cc in true≢false z, λ k. omega arith)
+known-not (par ns b) e = absurd (false≢true e)
+known-not (node k a w ss) e = (λ ns b q. let z : true ≡ false = cc in true≢false z, λ q. let z : false ≡ true = rw q at e in false≢true z)
 
 mutual
   unfolding known
 
-  find-unknown : (s : Sort) → known s ≡ false → (r : Sort) × PartOf r s × Unmatched r
-  find-unknown (var v) e = clash refl e
-  find-unknown (par ns b) e = (par ns b, whole, aPar ns b refl)
-  find-unknown (node k a w ss) e =
+  known-when : (s : Sort) → Known s → known s ≡ true
+  known-when (var v) h = refl
+  known-when (par ns b) h = absurd (h (par ns b) whole .0 ns b refl)
+  known-when (node k a w ss) h =
       byTest (eqb k 10)
-      (λ q. (node k a w ss, whole, unknownWidth (eqb-true k 10 q)))
-      (λ q. let (s, i, (r, p, h)) = find-someUnknown ss (rw q at e) in (r, inList i p, h))
+      (λ q. absurd (h (node k a w ss) whole .1 (eqb-true k 10 q)))
+      (λ q. rw q (all-known ss (λ s i r p. h r (inList i p))))
 
-  find-someUnknown : (ss : Sorts) → knownAll ss ≡ false → (s : Sort) × In s ss × ((r : Sort) × PartOf r s × Unmatched r)
-  find-someUnknown end e = clash refl e
-  find-someUnknown (s then ss) e =
-      byTest (known s)
-      (λ q. let (r, i, h) = find-someUnknown ss (rw q at e) in (r, later i, h))
-      (λ q. (s, first, find-unknown s q))
+  all-known : (ss : Sorts) → ((s : Sort) → In s ss → Known s) → knownAll ss ≡ true
+  all-known end h = refl
+  all-known (s then ss) h = and-true (known s) (knownAll ss) (known-when s (h s first)) (all-known ss (λ r i. h r (later i)))
 
 -- `known` HOLDS exactly where no part of the sort is a Par or ParamBitVec.
 pub known-exactly : (s : Sort) → known s ≡ true ↔ Known s
-known-exactly s = (
-  λ e r p h. known-not r (part-known p e) h,
-  λ h. byTest (known s) (λ q. q) (λ q. let (r, p, u) = find-unknown s q in absurd (h r p u)),
-)
+known-exactly s = (λ e r p. known-not r (part-known p e), known-when s)
 
 -- A name occurs in a sort without Par exactly where its variable is a part.
 in-occurs : (v : ℕ) {s : Sort} {ss : Sorts} → In s ss → occurs v s ≡ true → occursAny v ss ≡ true
@@ -129,9 +117,8 @@ premise-exactly ns p t = (
 
 ---------------------------------------------------------------- the three answers
 -- An assignment of listed names turns pattern into target.
-pub record Turns (ns : List ℕ) (p t : Sort) (θ : Map) : Type 0 where
-  pub within : Within (listedIn ns) θ
-  pub turns : apply θ p ≡ t
+abbrev pub Turns : List ℕ → Sort → Sort → Map → Type 0
+Turns ns p t θ = Within (listedIn ns) θ × (apply θ p ≡ t)
 
 -- Which answer it is, with what holds there.
 by-answer : {C : Type 0} (ns : List ℕ) (p t r : Sort) → ((Premise ns p t → ⊥) → matchAnswer ns p t r ≡ refused Barred → C)
@@ -142,7 +129,7 @@ by-answer ns p t r outside none-there good =
     byTest (premise ns p t)
     (λ e. let P = premise-exactly ns p t .0 e in
     byOption (matches (listedIn ns) p t empty)
-    (λ f. none-there P (λ θ T. matching-premise ns p t e .refusal f θ (T .within) (T .turns)) (rw (e, f) refl))
+    (λ f. none-there P (λ θ T. matching-premise ns p t e .refusal f θ (T .0) (T .1)) (rw (e, f) refl))
     (λ m f. good m P f (rw (e, f) refl)))
     (λ e. outside (λ P. clash (premise-exactly ns p t .1 P) e) (rw e refl))
 
@@ -158,7 +145,7 @@ pub match-unassigned : (ns : List ℕ) (p t r : Sort) → matchAnswer ns p t r �
 match-unassigned ns p t r = (
   λ h. by-answer ns p t r (λ a e. other-cause refl (sym e ∙ h)) (λ P n e. (P, n)) (λ m P f e. sort-refused (sym e ∙ h)),
   λ g. by-answer ns p t r (λ a e. absurd (a (g .0))) (λ P n e. e)
-      (λ m P f e. let (w, s) = matching-premise ns p t (premise-exactly ns p t .1 P) .success m f in absurd (g .1 m (record { within = w; turns = s }))),
+      (λ m P f e. let (w, s) = matching-premise ns p t (premise-exactly ns p t .1 P) .success m f in absurd (g .1 m ((w, s)))),
 )
 
 not-bound : (m : Map) (v : ℕ) → bound m v ≡ false → find m v ≡ none
@@ -173,7 +160,7 @@ match-answered ns p t r s = (
       let M = matching-premise ns p t (premise-exactly ns p t .1 P) in
       let (w, g) = M .success m f in
       let k = known-parless p (known-exactly p .1 (P .pattern)) in
-      (P, (m, record { within = w; turns = g }, λ v b. occurs-part p v k (M .only m f v b .1), sort-inj (sym e ∙ h)))),
+      (P, (m, (w, g), λ v b. occurs-part p v k (M .only m f v b .1), sort-inj (sym e ∙ h)))),
   λ g. let (P, (θ, T, o, q)) = g in
       by-answer ns p t r (λ a e. absurd (a P)) (λ P n e. absurd (n θ T))
       (λ m P f e. e ∙ ap sort (apply-agree m θ r (λ v i. agree m θ P T o f v) ∙ q)),
@@ -186,32 +173,26 @@ match-answered ns p t r s = (
         let M = matching-premise ns p t e in
         byTest (bound θ v)
         (λ b. byTest (listedIn ns v)
-        (λ l. match-exact ns p t m θ e f (T .within) (T .turns) v l (part-occurs v (o v b)))
-        (λ l. clash b (ap isSome (T .within v l))))
+        (λ l. match-exact ns p t m θ e f (T .0) (T .1) v l (part-occurs v (o v b)))
+        (λ l. clash b (ap isSome (T .0 v l))))
         (λ b. byTest (bound m v)
-        (λ c. let (l, x) = M .only m f v c in match-exact ns p t m θ e f (T .within) (T .turns) v l x)
+        (λ c. let (l, x) = M .only m f v c in match-exact ns p t m θ e f (T .0) (T .1) v l x)
         (λ c. not-bound m v c ∙ sym (not-bound θ v b)))
 
 ---------------------------------------------------------------- the answer's code
--- The pattern, the target and the result of a question 1.
-abbrev pub patternIn : QuestionFields → Sort
-patternIn q = firstOf (q .sorts)
-
-abbrev pub targetIn : QuestionFields → Sort
-targetIn q = firstOf (restOf (q .sorts))
-
--- SO THE ANSWER TO A QUESTION 1 IS CODED 28 exactly outside the premise, and 29 exactly on it without an assignment.
+-- SO THE ANSWER TO A QUESTION 1, whose sorts are pattern, target and result, IS CODED 28 exactly outside the premise, and 29 exactly on it
+-- without an assignment.
 pub answer-barred : (l : Lengths) (q : QuestionFields) (st : List Sort) → q .kind ≡ 1
-    → answerOf l q st .code ≡ numberOf Barred * 65536 ↔ (Premise (q .names) (patternIn q) (targetIn q) → ⊥)
+    → answerOf l q st .code ≡ numberOf Barred * 65536 ↔ (Premise (q .names) (firstOf (q .sorts)) (firstOf (restOf (q .sorts))) → ⊥)
 unfolding answerVerdict plain
 answer-barred l q st k =
     rw (answer-is l q st (rw k refl))
-    (Iff·trans (code-cause l st (answerVerdict q) Barred refl) (rw k (match-barred (q .names) (patternIn q) (targetIn q) (firstOf (restOf (restOf (q .sorts)))))))
+    (Iff·trans (code-cause l st (answerVerdict q) Barred refl) (rw k (match-barred (q .names) (firstOf (q .sorts)) (firstOf (restOf (q .sorts))) (firstOf (restOf (restOf (q .sorts)))))))
 
 pub answer-unassigned : (l : Lengths) (q : QuestionFields) (st : List Sort) → q .kind ≡ 1
     → answerOf l q st .code ≡ numberOf NoAssignment * 65536
-    ↔ Premise (q .names) (patternIn q) (targetIn q) × ((θ : Map) → Turns (q .names) (patternIn q) (targetIn q) θ → ⊥)
+    ↔ Premise (q .names) (firstOf (q .sorts)) (firstOf (restOf (q .sorts))) × ((θ : Map) → Turns (q .names) (firstOf (q .sorts)) (firstOf (restOf (q .sorts))) θ → ⊥)
 unfolding answerVerdict plain
 answer-unassigned l q st k =
     rw (answer-is l q st (rw k refl))
-    (Iff·trans (code-cause l st (answerVerdict q) NoAssignment refl) (rw k (match-unassigned (q .names) (patternIn q) (targetIn q) (firstOf (restOf (restOf (q .sorts)))))))
+    (Iff·trans (code-cause l st (answerVerdict q) NoAssignment refl) (rw k (match-unassigned (q .names) (firstOf (q .sorts)) (firstOf (restOf (q .sorts))) (firstOf (restOf (restOf (q .sorts)))))))

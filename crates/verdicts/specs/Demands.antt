@@ -22,8 +22,8 @@ use Rattle.rows.specs.FreeLaws.{free-same}
 use Rattle.checked.specs.Ranks.{smtLib}
 use Rattle.checked.specs.Rules.{HasSort}
 use Rattle.checked.specs.Routes.{replace, clearTerm}
-use Rattle.judged.specs.Rows.{Tabled, rowsOf}
-use Rattle.judged.specs.Questions.{Answered, answersOf}
+use Rattle.judged.specs.Rows.{rowsOf}
+use Rattle.judged.specs.Questions.{answersOf}
 use Rattle.judged.specs.Judged.{Judgement, accepted, judgedSheet, judgedBy, judged, rowsAfter}
 use Rattle.judged.specs.JudgedLaws.{told, judged-counts}
 use Rattle.judged.specs.KnownLaws.{judged-rows-known}
@@ -37,65 +37,66 @@ use Rattle.verdicts.specs.Judge.{ReadsBack, JudgeIs}
 abbrev pub GivesIn : List ℕ → List ℕ → List ℕ → ℕ → Sort → Type 0
 GivesIn b p rw t s = (checkedRow rw t < 65536) × (sortAt b p (suc (checkedRow rw t)) (checkedRow rw t) ≡ s)
 
--- A call of `judge` for bytes s that are read as the sheet h, so that it accepts them.
-module _ {s : List ℕ} {l : Lengths} {b p rw an : List ℕ} {o : Outcome} (j : JudgeIs s l b p rw an o) {h : Sheet} {x : ℕ} (q : readSheet s l ≡ got h x) where
-  -- Its judgement.
-  abbrev tabled : Tabled
-  tabled = rowsOf smtLib l (h .store) (h .terms)
+-- The judgement of bytes s that are read as the sheet h.
+judgement : (s : List ℕ) (l : Lengths) {h : Sheet} {x : ℕ} → readSheet s l ≡ got h x
+    → (st : List Sort) × (rows : List ℕ) × (answers : List ℕ) × (judged s l ≡ accepted h st rows answers)
+unfolding judged judgedBy
+judgement s l {h} q =
+    let tabled = rowsOf smtLib l (h .store) (h .terms) in
+    let answered = answersOf l (tabled .store) (h .questions) in
+    (answered .store, tabled .rows, answered .answers, ap (judgedSheet smtLib l) q)
 
-  abbrev answered : Answered
-  answered = answersOf l (tabled .store) (h .questions)
-
-  judgement : judged s l ≡ accepted h (answered .store) (tabled .rows) (answered .answers)
-  unfolding judged judgedBy
-  judgement = ap (judgedSheet smtLib l) q
-
+-- A call of `judge` for bytes s that it accepts as the sheet h.
+module _ {s : List ℕ} {l : Lengths} {b p rw an : List ℕ} {o : Outcome} (j : JudgeIs s l b p rw an o)
+    {h : Sheet} {st : List Sort} {rows answers : List ℕ} (e : judged s l ≡ accepted h st rows answers) where
   -- Its buffers: the rows stand first in the lent ones, and the sort of each number is read back.
-  row-here : (i : ℕ) → i < 2 * length (h .terms) → getD rw i 0 ≡ getD (tabled .rows) i 0
+  row-here : (i : ℕ) → i < 2 * length (h .terms) → getD rw i 0 ≡ getD rows i 0
   unfolding judged rowsAfter padded
   row-here i low =
-      ap (λ (z : List ℕ). getD z i 0) (j .buffers .rows ∙ ap (rowsAfter l) judgement)
-      ∙ List·getD-append (tabled .rows) (replicate (l .rows - length (tabled .rows)) 0) 0 i
-      (omega (arith, judged-counts smtLib s l h (answered .store) (tabled .rows) (answered .answers) judgement .0))
+      ap (λ (z : List ℕ). getD z i 0) (j .buffers .rows ∙ ap (rowsAfter l) e)
+      ∙ List·getD-append rows (replicate (l .rows - length rows) 0) 0 i
+      (omega (arith, judged-counts smtLib s l h st rows answers e .0))
 
-  sort-here : (k : ℕ) → k < length (answered .store) → sortAt b p (suc k) k ≡ getD (answered .store) k leaf
+  sort-here : (k : ℕ) → k < length st → sortAt b p (suc k) k ≡ getD st k leaf
   unfolding sortAt
   sort-here k low =
-      sort-made b p k (suc k) (omega arith) ∙ sym (sort-made b p k (length (answered .store)) low)
-      ∙ ap (λ (z : List Sort). getD z k leaf) (subst (λ (z : Judgement). ReadsBack z b p) judgement (j .buffers .reads) .back)
+      sort-made b p k (suc k) (omega arith) ∙ sym (sort-made b p k (length st) low)
+      ∙ ap (λ (z : List Sort). getD z k leaf) (subst (λ (z : Judgement). ReadsBack z b p) e (j .buffers .reads) .back)
 
-  free-here : (t : ℕ) → t < length (h .terms) → free rw 1 (h .terms) t ≡ true → free (tabled .rows) 1 (h .terms) t ≡ true
+  free-here : (t : ℕ) → t < length (h .terms) → free rw 1 (h .terms) t ≡ true → free rows 1 (h .terms) t ≡ true
   unfolding judged
   free-here t low =
-      free-same rw (tabled .rows) 1 (omega arith) (h .terms)
-      (told smtLib s l h (answered .store) (tabled .rows) (answered .answers) judgement .sheet .terms-are .below) row-here t low
+      free-same rw rows 1 (omega arith) (h .terms) (told smtLib s l h st rows answers e .sheet .terms-are .below) row-here t low
 
   -- The buffers give what the judgement gives.
   module _ (t : ℕ) (low : t < length (h .terms)) (a : Sort) where
-    known : checkedRow (tabled .rows) t < 65536 → checkedRow (tabled .rows) t < length (answered .store)
+    known : checkedRow rows t < 65536 → checkedRow rows t < length st
     unfolding judged
-    known small = judged-rows-known smtLib s l h (answered .store) (tabled .rows) (answered .answers) judgement (2 * t + 1) (omega arith) small
+    known small = judged-rows-known smtLib s l h st rows answers e (2 * t + 1) (omega arith) small
 
-    gives-in : Gives (answered .store) (tabled .rows) t a → GivesIn b p rw t a
+    gives-in : Gives st rows t a → GivesIn b p rw t a
     gives-in g =
         subst (λ (k : ℕ). (k < 65536) × (sortAt b p (suc k) k ≡ a)) (sym (row-here (2 * t + 1) (omega arith)))
-        (g .0, sort-here (checkedRow (tabled .rows) t) (known (g .0)) ∙ g .1)
+        (g .0, sort-here (checkedRow rows t) (known (g .0)) ∙ g .1)
 
-    gives-out : GivesIn b p rw t a → Gives (answered .store) (tabled .rows) t a
+    gives-out : GivesIn b p rw t a → Gives st rows t a
     gives-out g =
         let k = subst (λ (k : ℕ). (k < 65536) × (sortAt b p (suc k) k ≡ a)) (row-here (2 * t + 1) (omega arith)) g in
-        (k .0, sym (sort-here (checkedRow (tabled .rows) t) (known (k .0))) ∙ k .1)
+        (k .0, sym (sort-here (checkedRow rows t) (known (k .0))) ∙ k .1)
 
-    -- DEMAND 2 ON THE BYTES: what the checked row gives, the rules give to the term's tree; and where no limit is met at the term or below
-    -- it, the row gives a sort exactly when the rules give it (`row-has`, `row-exactly`).
-    pub judge-has : GivesIn b p rw t a → HasSort smtLib (termAt (h .terms) t) a
-    judge-has g = row-has s l h (answered .store) (tabled .rows) (answered .answers) judgement t low a (gives-out g)
+-- A call of `judge` for bytes s that are read as the sheet h, so that it accepts them.
+module _ {s : List ℕ} {l : Lengths} {b p rw an : List ℕ} {o : Outcome} (j : JudgeIs s l b p rw an o) {h : Sheet} {x : ℕ} (q : readSheet s l ≡ got h x)
+    (t : ℕ) (low : t < length (h .terms)) (a : Sort) where
+  -- DEMAND 2 ON THE BYTES: what the checked row gives, the rules give to the term's tree; and where no limit is met at the term or below
+  -- it, the row gives a sort exactly when the rules give it (`row-has`, `row-exactly`).
+  pub judge-has : GivesIn b p rw t a → HasSort smtLib (termAt (h .terms) t) a
+  judge-has g = let (st, rows, answers, e) = judgement s l q in row-has s l h st rows answers e t low a (gives-out j e t low a g)
 
-    pub judge-exactly : free rw 1 (h .terms) t ≡ true → GivesIn b p rw t a ↔ HasSort smtLib (termAt (h .terms) t) a
-    judge-exactly f = (
-      judge-has,
-      λ r. gives-in (row-exactly s l h (answered .store) (tabled .rows) (answered .answers) judgement t low a (free-here t low f) .1 r),
-    )
+  pub judge-exactly : free rw 1 (h .terms) t ≡ true → GivesIn b p rw t a ↔ HasSort smtLib (termAt (h .terms) t) a
+  judge-exactly f = (
+    judge-has,
+    λ r. let (st, rows, answers, e) = judgement s l q in gives-in j e t low a (row-exactly s l h st rows answers e t low a (free-here j e t low f) .1 r),
+  )
 
 -- DEMAND 3 ON THE BYTES (`two-routes`): for any two calls of `judge`, with bytes A and B that are read as the sheets hA and hB, so that it
 -- accepts both; any term t of A, and t′ of B whose tree is that of t with its sort variables replaced by σ; where σ's images hold no
@@ -111,6 +112,8 @@ pub judge-routes : {A B : List ℕ} {lA lB : Lengths} {bA pA rwA anA bB pB rwB a
     → free rwB 1 (hB .terms) t′ ≡ true
     → (s : Sort) → GivesIn bA pA rwA t s → GivesIn bB pB rwB t′ (apply σ s)
 judge-routes {A} {B} {lA} {lB} jA jB {hA} {hB} qA qB t t′ lowA lowB σ proper clear same f s g =
-    gives-in jB qB t′ lowB (apply σ s)
-    (two-routes A B lA lB hA hB (answered jA qA .store) (answered jB qB .store) (tabled jA qA .rows) (tabled jB qB .rows) (answered jA qA .answers) (answered jB qB .answers)
-    (judgement jA qA) (judgement jB qB) t t′ lowA lowB σ proper clear same (free-here jB qB t′ lowB f) s (gives-out jA qA t lowA s g) .1)
+    let (stA, rowsA, answersA, eA) = judgement A lA qA in
+    let (stB, rowsB, answersB, eB) = judgement B lB qB in
+    gives-in jB eB t′ lowB (apply σ s)
+    (two-routes A B lA lB hA hB stA stB rowsA rowsB answersA answersB eA eB
+    t t′ lowA lowB σ proper clear same (free-here jB eB t′ lowB f) s (gives-out jA eA t lowA s g) .1)
