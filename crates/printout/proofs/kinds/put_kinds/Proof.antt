@@ -28,37 +28,18 @@ loop-holds c =
 mul-at : tie.Need-mul-at Inv-loop μ-loop
 mul-at c =
     let s = c .before .before in
-    let a = s .args in
-    let x = a .sheet .now in
-    let y = a .asked .now in
-    let k = a .kinds .now in
-    let l = c .before .loop in
     let some = c .loop-test .taken in
-    let o = s .pre .stands (l .q) some in
     omega (arith, some, s .pre .few)
 
 shared-slice-read-at : tie.Need-shared-slice-read-at Inv-loop μ-loop
 shared-slice-read-at c =
     let s = c .before .before .before in
-    let a = s .args in
-    let x = a .sheet .now in
-    let y = a .asked .now in
-    let k = a .kinds .now in
-    let l = c .before .before .loop in
     let some = c .before .loop-test .taken in
-    let o = s .pre .stands (l .q) some in
     omega (arith, some, s .pre .asked)
 
 cast-at : tie.Need-cast-at Inv-loop μ-loop
 cast-at c =
-    let s = c .before .before .before in
-    let a = s .args in
-    let x = a .sheet .now in
-    let y = a .asked .now in
-    let k = a .kinds .now in
     let l = c .before .before .loop in
-    let some = c .before .loop-test .taken in
-    let o = s .pre .stands (l .q) some in
     omega (arith, c .shared-slice-known .given (l .q))
 
 add-kinds : tie.Need-add-kinds Inv-loop μ-loop
@@ -67,7 +48,6 @@ add-kinds c =
     let a = s .args in
     let x = a .sheet .now in
     let y = a .asked .now in
-    let k = a .kinds .now in
     let l = c .before .before .loop in
     let some = c .before .loop-test .taken in
     let o = s .pre .stands (l .q) some in
@@ -79,7 +59,6 @@ shared-slice-read-kinds c =
     let a = s .args in
     let x = a .sheet .now in
     let y = a .asked .now in
-    let k = a .kinds .now in
     let l = c .before .before .before .loop in
     let some = c .before .before .loop-test .taken in
     let o = s .pre .stands (l .q) some in
@@ -88,37 +67,19 @@ shared-slice-read-kinds c =
 slice-write-kinds : tie.Need-slice-write-kinds Inv-loop μ-loop
 slice-write-kinds c =
     let s = c .before .before .before .before in
-    let a = s .args in
-    let x = a .sheet .now in
-    let y = a .asked .now in
-    let k = a .kinds .now in
     let l = c .before .before .before .loop in
     let some = c .before .before .loop-test .taken in
-    let o = s .pre .stands (l .q) some in
     omega (arith, some, s .pre .room, l .inv .1 .long)
 
 add-q : tie.Need-add-q Inv-loop μ-loop
 add-q c =
     let s = c .before .before .before .before in
-    let a = s .args in
-    let x = a .sheet .now in
-    let y = a .asked .now in
-    let k = a .kinds .now in
-    let l = c .before .before .before .loop in
     let some = c .before .before .loop-test .taken in
-    let o = s .pre .stands (l .q) some in
     omega (arith, some, s .pre .few)
 
 loop-less : tie.Need-loop-less Inv-loop μ-loop
 loop-less c =
-    let s = c .before .before .before .before in
-    let a = s .args in
-    let x = a .sheet .now in
-    let y = a .asked .now in
-    let k = a .kinds .now in
-    let l = c .before .before .before .loop in
     let some = c .before .before .loop-test .taken in
-    let o = s .pre .stands (l .q) some in
     omega (arith, some)
 
 loop-again : tie.Need-loop-again Inv-loop μ-loop
@@ -130,16 +91,10 @@ loop-again c =
     let k = a .kinds .now in
     let l = c .before .before .before .loop in
     let some = c .before .before .loop-test .taken in
-    let o = s .pre .stands (l .q) some in
     (omega (arith, some), put-one x y (l .q) k (l .kinds) (omega (arith, some, s .pre .room)) (l .inv .1) (getD x (getD y (l .q) 0 + 1) 0) refl)
 
 same-length : tie.Need-same-length Inv-loop μ-loop
 same-length c =
-    let s = c .before .before in
-    let a = s .args in
-    let x = a .sheet .now in
-    let y = a .asked .now in
-    let k = a .kinds .now in
     let l = c .before .loop in
     l .inv .1 .long
 

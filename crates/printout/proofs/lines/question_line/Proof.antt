@@ -69,9 +69,6 @@ put-answer-requires c κs =
     let r : a .to + length (l ++ (x ++ ascii "\n")) ≤ length o = omega (arith, c .before .before .before .before .before .if1 .left, c .before .before .before .before .before .before .digits .ensures .0, c .before .before .before .before .before .before .before .answer-size .ensures .0, question-length b p (a .q) (a .kind) (a .code), s .pre .within) in
     (s .pre .answer, room-step x (ascii "\n") (c .before .before .before .put-label .ensures) r)
 
-slice-aggregate-put : tie.Need-slice-aggregate-put
-slice-aggregate-put c = search needs
-
 put-requires : tie.Need-put-requires
 unfolding questionAt
 put-requires c κs =
@@ -85,9 +82,6 @@ put-requires c κs =
     let r : a .to + length (l ++ (x ++ ascii "\n")) ≤ length o = omega (arith, c .before .before .before .before .before .before .before .before .before .before .if1 .left, c .before .before .before .before .before .before .before .before .before .before .before .digits .ensures .0, c .before .before .before .before .before .before .before .before .before .before .before .before .answer-size .ensures .0, question-length b p (a .q) (a .kind) (a .code), s .pre .within) in
     room-next (ascii "\n") (c .before .before .before .before .put-answer .ensures) (room-next (x ++ ascii "\n") (c .before .before .before .before .before .before .before .before .put-label .ensures) r)
 
-same-length : tie.Need-same-length
-same-length c = search needs
-
 returns-2 : tie.Need-returns-2
 unfolding questionAt
 returns-2 c =
@@ -99,4 +93,4 @@ returns-2 c =
     wrote-as (question-at b p n (a .q) (a .kind) (a .code) k) (wrote-more (c .before .before .before .before .before .before .before .before .before .before .before .put-label .ensures) (wrote-more (c .before .before .before .before .before .before .before .put-answer .ensures) (c .before .before .put .ensures)))
 
 pub question-line-spec : {M : Type 1} → statement M
-question-line-spec = tie.close (tie.spec answer-size-requires sub-if1 digits-requires add-if1 add-if1-2 returns put-label-requires put-answer-requires slice-aggregate-put put-requires same-length returns-2)
+question-line-spec = tie.close (tie.spec answer-size-requires sub-if1 digits-requires add-if1 add-if1-2 returns put-label-requires put-answer-requires (λ c. search needs) put-requires (λ c. search needs) returns-2)

@@ -41,9 +41,6 @@ put-refusal-requires c κs =
     let r : a .to + length (refusalText (a .number) ++ ascii "\n") ≤ length o = omega (arith, c .before .if1 .left, c .before .before .digits .ensures .0, refusal-line-length (a .number), s .pre .1) in
     room-first o (a .to) (refusalText (a .number)) (ascii "\n") r
 
-slice-aggregate-put : tie.Need-slice-aggregate-put
-slice-aggregate-put c = search needs
-
 put-requires : tie.Need-put-requires
 unfolding refusalLine
 put-requires c κs =
@@ -53,9 +50,6 @@ put-requires c κs =
     let r : a .to + length (refusalText (a .number) ++ ascii "\n") ≤ length o = omega (arith, c .before .before .before .before .before .before .if1 .left, c .before .before .before .before .before .before .before .digits .ensures .0, refusal-line-length (a .number), s .pre .1) in
     room-next (ascii "\n") (c .before .before .before .before .put-refusal .ensures) r
 
-same-length : tie.Need-same-length
-same-length c = search needs
-
 returns-2 : tie.Need-returns-2
 returns-2 c =
     let s = c .before .before .before .before .before .before .before .before .before .before .before .before in
@@ -63,4 +57,4 @@ returns-2 c =
     wrote-as (refusal-line (a .number)) (wrote-more (c .before .before .before .before .before .before .before .put-refusal .ensures) (c .before .before .put .ensures))
 
 pub refusal-line-spec : {M : Type 1} → statement M
-refusal-line-spec = tie.close (tie.spec sub-if1 digits-requires add-if1 returns put-refusal-requires slice-aggregate-put put-requires same-length returns-2)
+refusal-line-spec = tie.close (tie.spec sub-if1 digits-requires add-if1 returns put-refusal-requires (λ c. search needs) put-requires (λ c. search needs) returns-2)

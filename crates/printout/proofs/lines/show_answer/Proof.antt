@@ -32,9 +32,6 @@ put-answer-requires c κs =
     let s = c .before .before .before .before .before .before in
     (s .pre .0, omega (arith, c .before .if1 .left, c .before .before .answer-size .ensures .0, s .pre .1))
 
-same-length : tie.Need-same-length
-same-length c = search needs
-
 returns-2 : tie.Need-returns-2
 returns-2 c =
     let s = c .before .before .before .before .before .before .before .before .before in
@@ -44,4 +41,4 @@ returns-2 c =
     λ n k. wrote-as (answer-at b p n (a .kind) (a .code) k) (c .before .before .put-answer .ensures)
 
 pub show-answer-spec : {M : Type 1} → statement M
-show-answer-spec = tie.close (tie.spec answer-size-requires sub-if1 returns put-answer-requires same-length returns-2)
+show-answer-spec = tie.close (tie.spec answer-size-requires sub-if1 returns put-answer-requires (λ c. search needs) returns-2)

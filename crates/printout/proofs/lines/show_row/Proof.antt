@@ -32,9 +32,6 @@ put-row-requires c κs =
     let s = c .before .before .before .before .before .before in
     (s .pre .0, omega (arith, c .before .if1 .left, c .before .before .row-size .ensures .0, s .pre .1))
 
-same-length : tie.Need-same-length
-same-length c = search needs
-
 returns-2 : tie.Need-returns-2
 returns-2 c =
     let s = c .before .before .before .before .before .before .before .before .before in
@@ -44,4 +41,4 @@ returns-2 c =
     λ n k. wrote-as (row-at b p n (a .code) k) (c .before .before .put-row .ensures)
 
 pub show-row-spec : {M : Type 1} → statement M
-show-row-spec = tie.close (tie.spec row-size-requires sub-if1 returns put-row-requires same-length returns-2)
+show-row-spec = tie.close (tie.spec row-size-requires sub-if1 returns put-row-requires (λ c. search needs) returns-2)

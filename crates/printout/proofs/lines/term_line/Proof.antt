@@ -81,9 +81,6 @@ put-row-requires c κs =
     let r : a .to + length (l ++ (x ++ (ascii " " ++ z))) ≤ length o = omega (arith, c .before .before .before .before .before .if1 .left, c .before .before .before .before .before .before .digits .ensures .0, c .before .before .before .before .before .before .before .before .row-size .ensures .0, c .before .before .before .before .before .before .before .row-size2 .ensures .0, term-length b p (a .t) (a .inferred) (a .checked), s .pre .within) in
     (s .pre .inferred, room-step x (ascii " " ++ z) (c .before .before .before .put-label .ensures) r)
 
-slice-aggregate-put : tie.Need-slice-aggregate-put
-slice-aggregate-put c = search needs
-
 put-requires : tie.Need-put-requires
 unfolding termAt
 put-requires c κs =
@@ -117,9 +114,6 @@ put-row-requires-2 c κs =
     let r₂ = room-next (ascii " " ++ z) (c .before .before .before .before .before .before .before .before .put-row .ensures) r₁ in
     (s .pre .checked, room-step y (ascii "\n") (c .before .before .before .put .ensures) r₂)
 
-slice-aggregate-put-2 : tie.Need-slice-aggregate-put-2
-slice-aggregate-put-2 c = search needs
-
 put-requires-2 : tie.Need-put-requires-2
 unfolding termAt
 put-requires-2 c κs =
@@ -138,9 +132,6 @@ put-requires-2 c κs =
     let r₃ = room-next z (c .before .before .before .before .before .before .before .before .put .ensures) r₂ in
     room-next (ascii "\n") (c .before .before .before .before .put-row2 .ensures) r₃
 
-same-length : tie.Need-same-length
-same-length c = search needs
-
 returns-2 : tie.Need-returns-2
 unfolding termAt
 returns-2 c =
@@ -153,4 +144,4 @@ returns-2 c =
     (wrote-more (c .before .before .before .before .before .before .before .before .before .before .before .before .before .before .before .before .before .before .before .before .put-label .ensures) (wrote-more (c .before .before .before .before .before .before .before .before .before .before .before .before .before .before .before .before .put-row .ensures) (wrote-more (c .before .before .before .before .before .before .before .before .before .before .before .put .ensures) (wrote-more (c .before .before .before .before .before .before .before .put-row2 .ensures) (c .before .before .put2 .ensures)))))
 
 pub term-line-spec : {M : Type 1} → statement M
-term-line-spec = tie.close (tie.spec row-size-requires row-size-requires-2 sub-if1 digits-requires add-if1 add-if1-2 add-if1-3 returns put-label-requires put-row-requires slice-aggregate-put put-requires put-row-requires-2 slice-aggregate-put-2 put-requires-2 same-length returns-2)
+term-line-spec = tie.close (tie.spec row-size-requires row-size-requires-2 sub-if1 digits-requires add-if1 add-if1-2 add-if1-3 returns put-label-requires put-row-requires (λ c. search needs) put-requires put-row-requires-2 (λ c. search needs) put-requires-2 (λ c. search needs) returns-2)

@@ -32,9 +32,6 @@ u16-at-requires c κs =
     let l = c .before .loop in
     omega (arith, l .inv .within, c .loop-test .taken)
 
-slice-aggregate-put : tie.Need-slice-aggregate-put Inv-loop μ-loop
-slice-aggregate-put c = search needs
-
 put-requires : tie.Need-put-requires Inv-loop μ-loop
 put-requires c κs =
     let s = c .before .before .before .before .before .before .before in
@@ -90,4 +87,4 @@ returns c =
     left-done (rw e at (l .inv .rest))
 
 pub put-names-spec : {M : Type 1} → statement M
-put-names-spec = tie.close (tie.spec Inv-loop μ-loop loop-holds u16-at-requires slice-aggregate-put put-requires put-name-requires add-next sub-left loop-less loop-again same-length returns)
+put-names-spec = tie.close (tie.spec Inv-loop μ-loop loop-holds u16-at-requires (λ c. search needs) put-requires put-name-requires add-next sub-left loop-less loop-again same-length returns)

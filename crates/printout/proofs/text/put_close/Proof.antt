@@ -37,9 +37,6 @@ add-result c =
     let a = s .args in
     omega (arith, s .pre .1, ap length (close-one (a .form) (c .if1 .left)))
 
-same-length : tie.Need-same-length
-same-length c = search needs
-
 returns-2 : tie.Need-returns-2
 unfolding closes
 returns-2 c =
@@ -50,4 +47,4 @@ returns-2 c =
     wrote-as (sym e) (wrote-one o (a .to) (getD closes (a .form) 0) (omega (arith, s .pre .1, ap length e)))
 
 pub put-close-spec : {M : Type 1} → statement M
-put-close-spec = tie.close (tie.spec array-read-bracket returns slice-write-out add-result same-length returns-2)
+put-close-spec = tie.close (tie.spec array-read-bracket returns slice-write-out add-result (λ c. search needs) returns-2)

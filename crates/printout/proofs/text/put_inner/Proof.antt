@@ -40,9 +40,6 @@ put-par-names-requires c κs =
     let b = a .records .now in
     (s .pre .0 .some (c .before .match .keys3), s .pre .0 .within, omega (arith, s .pre .1, ap length (inner-names (a .form) (a .a .name) (a .a .number) (numbersAt b (a .a .names) (a .a .named)) (c .before .match .keys3))))
 
-same-length : tie.Need-same-length
-same-length c = search needs
-
 returns : tie.Need-returns
 unfolding inners
 returns c =
@@ -51,9 +48,6 @@ returns c =
     let b = a .records .now in
     wrote-as (sym (inner-name (a .form) (a .a .name) (a .a .number) (numbersAt b (a .a .names) (a .a .named)) (c .before .before .before .before .match .keys1))) (c .before .before .put-name .ensures)
 
-same-length-2 : tie.Need-same-length-2
-same-length-2 c = search needs
-
 returns-2 : tie.Need-returns-2
 unfolding inners
 returns-2 c =
@@ -61,9 +55,6 @@ returns-2 c =
     let a = s .args in
     let b = a .records .now in
     wrote-as (sym (inner-number (a .form) (a .a .name) (a .a .number) (numbersAt b (a .a .names) (a .a .named)) (c .before .before .before .before .match .keys2))) (c .before .before .put-decimal .ensures)
-
-same-length-3 : tie.Need-same-length-3
-same-length-3 c = search needs
 
 returns-3 : tie.Need-returns-3
 unfolding inners
@@ -83,4 +74,4 @@ returns-4 c =
     wrote-as (sym (inner-none (a .form) (a .a .name) (a .a .number) (numbersAt b (a .a .names) (a .a .named)) (c .match .rest .0 .0 .1) (c .match .rest .0 .1) (c .match .rest .1))) (wrote-none o (a .to) (omega (arith, s .pre .1)))
 
 pub put-inner-spec : {M : Type 1} → statement M
-put-inner-spec = tie.close (tie.spec array-read-inner put-name-requires put-decimal-requires put-par-names-requires same-length returns same-length-2 returns-2 same-length-3 returns-3 returns-4)
+put-inner-spec = tie.close (tie.spec array-read-inner put-name-requires put-decimal-requires put-par-names-requires (λ c. search needs) returns (λ c. search needs) returns-2 (λ c. search needs) returns-3 returns-4)

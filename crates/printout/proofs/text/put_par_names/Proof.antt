@@ -55,9 +55,6 @@ put-names-requires c κs =
     let w : Wrote o (a .to) n _ _ = wrote-as (ap nameText e) (c .before .before .before .put-name .ensures) in
     (omega (arith, s .pre .0, s .pre .1), room-step m (ascii ")") w r)
 
-slice-aggregate-put : tie.Need-slice-aggregate-put
-slice-aggregate-put c = search needs
-
 put-requires : tie.Need-put-requires
 put-requires c κs =
     let s = c .before .before .before .before .before .before .before .before .before .before .before .before .before in
@@ -72,9 +69,6 @@ put-requires c κs =
     let w : Wrote o (a .to) n _ _ = wrote-as (ap nameText e) (c .before .before .before .before .before .before .before .before .put-name .ensures) in
     room-next (ascii ")") (c .before .before .before .before .put-names .ensures) (room-next (m ++ ascii ")") w r)
 
-same-length : tie.Need-same-length
-same-length c = search needs
-
 returns : tie.Need-returns
 returns c =
     let s = c .before .before .before .before .before .before .before .before .before .before .before .before .before .before .before .before in
@@ -88,4 +82,4 @@ returns c =
     wrote-as (sym q) (wrote-more w (wrote-more (c .before .before .before .before .before .before .before .put-names .ensures) (c .before .before .put .ensures)))
 
 pub put-par-names-spec : {M : Type 1} → statement M
-put-par-names-spec = tie.close (tie.spec u16-at-requires put-name-requires add-put-names sub-put-names put-names-requires slice-aggregate-put put-requires same-length returns)
+put-par-names-spec = tie.close (tie.spec u16-at-requires put-name-requires add-put-names sub-put-names put-names-requires (λ c. search needs) put-requires (λ c. search needs) returns)

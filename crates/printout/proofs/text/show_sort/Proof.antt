@@ -34,9 +34,6 @@ put-sort-requires c κs =
     let s = c .before .before .before .before .before .before in
     (s .pre .0, omega (arith, c .before .if1 .left, c .before .before .text-size .ensures .is, s .pre .1))
 
-same-length : tie.Need-same-length
-same-length c = search needs
-
 returns-2 : tie.Need-returns-2
 returns-2 c =
     let s = c .before .before .before .before .before .before .before .before .before in
@@ -46,4 +43,4 @@ returns-2 c =
     λ n l. wrote-as (ap text (tree-at b p (a .k) n l)) (c .before .before .put-sort .ensures)
 
 pub show-sort-spec : {M : Type 1} → statement M
-show-sort-spec = tie.close (tie.spec text-size-requires sub-if1 returns put-sort-requires same-length returns-2)
+show-sort-spec = tie.close (tie.spec text-size-requires sub-if1 returns put-sort-requires (λ c. search needs) returns-2)

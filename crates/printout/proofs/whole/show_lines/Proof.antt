@@ -21,15 +21,6 @@ abbrev μ-loop : tie.MeasureT-loop
 add-total : tie.Need-add-total Inv-loop μ-loop
 add-total c =
     let s = c .before .before .before .before .before .before in
-    let a = s .args in
-    let b = a .records .now in
-    let p = a .places .now in
-    let w = a .rows .now in
-    let d = a .kinds .now in
-    let g = a .answers .now in
-    let t = a .terms in
-    let q = a .questions in
-    let o = a .out .now in
     omega (arith, s .pre .judged .few, s .pre .judged .fewer)
 
 loop-holds : tie.Need-loop-holds Inv-loop μ-loop
@@ -61,35 +52,13 @@ line-requires c κs =
     let l = c .before .before .loop in
     showing-asks b p w d g t q (a .from) (s .pre) o (l .out) (l .k) (l .to) (l .inv .1) (omega (arith, c .before .loop-test .taken, l .inv .0))
 
-enum-known-shown : tie.Need-enum-known-shown Inv-loop μ-loop
-enum-known-shown c = search needs
-
 add-k : tie.Need-add-k Inv-loop μ-loop
 add-k c =
     let s = c .before .before .before .before .before .before .before .before .before .before .before .before .before .before .before in
-    let a = s .args in
-    let b = a .records .now in
-    let p = a .places .now in
-    let w = a .rows .now in
-    let d = a .kinds .now in
-    let g = a .answers .now in
-    let t = a .terms in
-    let q = a .questions in
-    let o = a .out .now in
     omega (arith, c .before .before .before .before .before .before .before .loop-test .taken, s .pre .judged .few, s .pre .judged .fewer)
 
 loop-less : tie.Need-loop-less Inv-loop μ-loop
 loop-less c =
-    let s = c .before .before .before .before .before .before .before .before .before .before .before .before .before .before .before in
-    let a = s .args in
-    let b = a .records .now in
-    let p = a .places .now in
-    let w = a .rows .now in
-    let d = a .kinds .now in
-    let g = a .answers .now in
-    let t = a .terms in
-    let q = a .questions in
-    let o = a .out .now in
     omega (arith, c .before .before .before .before .before .before .before .loop-test .taken)
 
 loop-again : tie.Need-loop-again Inv-loop μ-loop
@@ -108,21 +77,8 @@ loop-again c =
     let h = subst (λ (x : Shown). LineHas b p w d g t q (l .k) (l .out) (l .to) (c .before .before .before .before .before .line .last .1 .1 .1 .1 .1 .1 .1 .1 .0) x) (c .before .shown .given .1) (c .before .before .before .before .before .line .ensures) in
     (l .inv .0, showing-step b p w d g t q (a .from) (s .pre) o (l .out) (l .k) (l .to) (l .inv .1) (c .before .before .before .before .before .line .last .1 .1 .1 .1 .1 .1 .1 .1 .0) (c .before .shown .given .0 .0) (omega (arith, c .before .before .before .before .before .before .before .loop-test .taken, l .inv .0)) h)
 
-enum-told : tie.Need-enum-told Inv-loop μ-loop
-enum-told c = search needs
-
 same-length : tie.Need-same-length Inv-loop μ-loop
 same-length c =
-    let s = c .before .before .before .before .before .before .before .before .before .before .before .before .before .before in
-    let a = s .args in
-    let b = a .records .now in
-    let p = a .places .now in
-    let w = a .rows .now in
-    let d = a .kinds .now in
-    let g = a .answers .now in
-    let t = a .terms in
-    let q = a .questions in
-    let o = a .out .now in
     let l = c .before .before .before .before .before .before .before .loop in
     c .before .before .before .before .line .kept .1 .1 .1 .1 .1 .1 .1 .1 .0 ∙ l .inv .1 .long
 
@@ -144,16 +100,6 @@ returns c =
 
 same-length-2 : tie.Need-same-length-2 Inv-loop μ-loop
 same-length-2 c =
-    let s = c .before .before .before .before .before .before .before .before in
-    let a = s .args in
-    let b = a .records .now in
-    let p = a .places .now in
-    let w = a .rows .now in
-    let d = a .kinds .now in
-    let g = a .answers .now in
-    let t = a .terms in
-    let q = a .questions in
-    let o = a .out .now in
     let l = c .before .loop in
     l .inv .1 .long
 
@@ -173,4 +119,4 @@ returns-2 c =
     showing-end b p w d g t q (a .from) (s .pre) o (l .out) (l .k) (l .to) (l .inv .1) (omega (arith, c .loop-test .left, l .inv .0, l .inv .1 .last))
 
 pub show-lines-spec : {M : Type 1} → statement M
-show-lines-spec = tie.close (tie.spec Inv-loop μ-loop add-total loop-holds line-requires enum-known-shown add-k loop-less loop-again enum-told same-length returns same-length-2 returns-2)
+show-lines-spec = tie.close (tie.spec Inv-loop μ-loop add-total loop-holds line-requires (λ c. search needs) add-k loop-less loop-again (λ c. search needs) same-length returns same-length-2 returns-2)

@@ -13,14 +13,8 @@ returns c =
     let x = a .self .at in
     byte-short s x (c .if1 .taken)
 
-shared-slice-read-v : tie.Need-shared-slice-read-v
-shared-slice-read-v c = search needs
-
 cast-v : tie.Need-cast-v
 cast-v c = omega (arith, c .shared-slice-known .given (c .before .before .args .self .at))
-
-add-t5 : tie.Need-add-t5
-add-t5 c = search needs
 
 returns-2 : tie.Need-returns-2
 returns-2 c =
@@ -30,4 +24,4 @@ returns-2 c =
     byte-is s x (c .before .if1 .left)
 
 pub byte-spec : {M : Type 1} → statement M
-byte-spec = tie.close (tie.spec returns shared-slice-read-v cast-v add-t5 returns-2)
+byte-spec = tie.close (tie.spec returns (λ c. search needs) cast-v (λ c. search needs) returns-2)

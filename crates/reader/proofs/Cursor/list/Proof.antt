@@ -7,12 +7,6 @@ use mathlib.Core.Path.{sym, _∙_}
 use Rattle.reader.proofs.Cursor.list.Statement.{statement}
 use Rattle.reader.proofs.Cursor.list.Tie as tie
 
-byte-requires : tie.Need-byte-requires
-byte-requires c κs = search needs
-
-enum-known-read : tie.Need-enum-known-read
-enum-known-read c = search needs
-
 sub-if1 : tie.Need-sub-if1
 sub-if1 c =
     let a = c .before .before .before .before .before .args in
@@ -64,9 +58,6 @@ add-t13 c =
     let r = sym (c .before .before .before .before .before .before .byte .ensures) ∙ c .before .before .before .before .read .given .1 in
     omega (arith, byte-inside s x r)
 
-enum-known-read-2 : tie.Need-enum-known-read-2
-enum-known-read-2 c = search needs
-
 returns-4 : tie.Need-returns-4
 returns-4 c =
     let a = c .before .before .before .before .before .before .before .before .args in
@@ -84,4 +75,4 @@ returns-5 c =
     list-fails s (a .least) (a .most) x (sym (c .before .before .before .byte .ensures) ∙ c .before .read2 .given .1)
 
 pub list-spec : {M : Type 1} → statement M
-list-spec = tie.close (tie.spec byte-requires enum-known-read sub-if1 returns returns-2 returns-3 mul-t12 add-t13 enum-known-read-2 returns-4 returns-5)
+list-spec = tie.close (tie.spec (λ c κs. search needs) (λ c. search needs) sub-if1 returns returns-2 returns-3 mul-t12 add-t13 (λ c. search needs) returns-4 returns-5)

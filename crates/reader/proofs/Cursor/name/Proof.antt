@@ -6,9 +6,6 @@ use mathlib.Core.Path.{_∙_}
 use Rattle.reader.proofs.Cursor.name.Statement.{statement}
 use Rattle.reader.proofs.Cursor.name.Tie as tie
 
-u16-requires : tie.Need-u16-requires
-u16-requires c κs = search needs
-
 returns : tie.Need-returns
 returns c =
     let a = c .before .before .before .args in
@@ -24,4 +21,4 @@ returns-2 c =
     name-off s (a .map) x (c .if1 .left)
 
 pub name-spec : {M : Type 1} → statement M
-name-spec = tie.close (tie.spec u16-requires returns returns-2)
+name-spec = tie.close (tie.spec (λ c κs. search needs) returns returns-2)

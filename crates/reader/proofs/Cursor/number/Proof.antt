@@ -13,21 +13,12 @@ returns c =
     let x = a .self .at in
     number-off s (a .map) (a .most) x (c .if1 .taken)
 
-u32-requires : tie.Need-u32-requires
-u32-requires c κs = search needs
-
-enum-known-read : tie.Need-enum-known-read
-enum-known-read c = search needs
-
 returns-2 : tie.Need-returns-2
 returns-2 c =
     let a = c .before .before .before .before .before .before .before .args in
     let s = a .s .now in
     let x = a .self .at in
     number-over s (a .map) (a .most) x (c .before .before .before .before .before .if1 .left) (sym (c .before .before .before .before .u32 .ensures) ∙ c .before .before .read .given .1) (c .if2 .taken)
-
-enum-known-read-2 : tie.Need-enum-known-read-2
-enum-known-read-2 c = search needs
 
 returns-3 : tie.Need-returns-3
 returns-3 c =
@@ -44,4 +35,4 @@ returns-4 c =
     number-fails s (a .map) (a .most) x (c .before .before .before .before .if1 .left) (sym (c .before .before .before .u32 .ensures) ∙ c .before .read2 .given .1)
 
 pub number-spec : {M : Type 1} → statement M
-number-spec = tie.close (tie.spec returns u32-requires enum-known-read returns-2 enum-known-read-2 returns-3 returns-4)
+number-spec = tie.close (tie.spec returns (λ c κs. search needs) (λ c. search needs) returns-2 (λ c. search needs) returns-3 returns-4)

@@ -14,12 +14,6 @@ returns c =
     let x = a .self .at in
     pairs-off s (a .map) (a .sorts) x (c .if1 .taken)
 
-byte-requires : tie.Need-byte-requires
-byte-requires c κs = search needs
-
-enum-known-read : tie.Need-enum-known-read
-enum-known-read c = search needs
-
 sub-if2 : tie.Need-sub-if2
 sub-if2 c =
     let a = c .before .before .before .before .before .before .args in
@@ -79,9 +73,6 @@ returns-4 c =
     let i = byte-inside s x r in
     pairs-are s (a .map) (a .sorts) x (c .before .before .before .before .before .before .before .before .if1 .left) r (omega (arith, i, c .before .before .before .if2 .left)) (omega (arith, c .before .before .if3 .left)) (sym (c .before .pairs-below .ensures) ∙ c .if4 .taken)
 
-enum-known-read-2 : tie.Need-enum-known-read-2
-enum-known-read-2 c = search needs
-
 returns-5 : tie.Need-returns-5
 returns-5 c =
     let a = c .before .before .before .before .before .before .before .before .before .before .args in
@@ -99,4 +90,4 @@ returns-6 c =
     pairs-fail s (a .map) (a .sorts) x (c .before .before .before .before .if1 .left) (sym (c .before .before .before .byte .ensures) ∙ c .before .read2 .given .1)
 
 pub pairs-spec : {M : Type 1} → statement M
-pairs-spec = tie.close (tie.spec returns byte-requires enum-known-read sub-if2 returns-2 returns-3 pairs-below-requires mul-t22 add-t23 returns-4 enum-known-read-2 returns-5 returns-6)
+pairs-spec = tie.close (tie.spec returns (λ c κs. search needs) (λ c. search needs) sub-if2 returns-2 returns-3 pairs-below-requires mul-t22 add-t23 returns-4 (λ c. search needs) returns-5 returns-6)

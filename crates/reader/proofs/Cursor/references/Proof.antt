@@ -13,12 +13,6 @@ returns c =
     let x = a .self .at in
     references-off s (a .map) (a .least) (a .most) (a .limit) x (c .if1 .taken)
 
-list-requires : tie.Need-list-requires
-list-requires c κs = search needs
-
-enum-known-read : tie.Need-enum-known-read
-enum-known-read c = search needs
-
 all-below-requires : tie.Need-all-below-requires
 all-below-requires c κs =
     let a = c .before .before .before .before .before .before .args in
@@ -34,9 +28,6 @@ returns-2 c =
     let x = a .self .at in
     let r = sym (c .before .before .before .before .before .list .ensures) ∙ c .before .before .before .read .given .1 in
     references-are s (a .map) (a .least) (a .most) (a .limit) x (c .before .before .before .before .before .before .if1 .left) r (sym (c .before .all-below .ensures) ∙ c .if2 .taken)
-
-enum-known-read-2 : tie.Need-enum-known-read-2
-enum-known-read-2 c = search needs
 
 returns-3 : tie.Need-returns-3
 returns-3 c =
@@ -54,4 +45,4 @@ returns-4 c =
     references-fail s (a .map) (a .least) (a .most) (a .limit) x (c .before .before .before .before .if1 .left) (sym (c .before .before .before .list .ensures) ∙ c .before .read2 .given .1)
 
 pub references-spec : {M : Type 1} → statement M
-references-spec = tie.close (tie.spec returns list-requires enum-known-read all-below-requires returns-2 enum-known-read-2 returns-3 returns-4)
+references-spec = tie.close (tie.spec returns (λ c κs. search needs) (λ c. search needs) all-below-requires returns-2 (λ c. search needs) returns-3 returns-4)

@@ -6,15 +6,6 @@ use mathlib.Core.Path.{sym, _∙_}
 use Rattle.reader.proofs.Cursor.sort.Statement.{statement}
 use Rattle.reader.proofs.Cursor.sort.Tie as tie
 
-head-requires : tie.Need-head-requires
-head-requires c κs = search needs
-
-enum-known-first : tie.Need-enum-known-first
-enum-known-first c = search needs
-
-map-of-requires : tie.Need-map-of-requires
-map-of-requires c κs = search needs
-
 returns : tie.Need-returns
 returns c =
     let a = c .before .before .before .before .before .before .before .args in
@@ -22,12 +13,6 @@ returns c =
     let x = a .self .at in
     let r = sym (c .before .before .before .before .before .head .ensures) ∙ c .before .before .before .first .given .1 in
     sort-2 s (a .index) x r (c .before .map-of .ensures) (c .if1 .taken)
-
-sort-fields-requires : tie.Need-sort-fields-requires
-sort-fields-requires c κs = search needs
-
-enum-known-first-2 : tie.Need-enum-known-first-2
-enum-known-first-2 c = search needs
 
 returns-2 : tie.Need-returns-2
 returns-2 c =
@@ -45,4 +30,4 @@ returns-3 c =
     sort-1 s (a .index) x (sym (c .before .before .before .head .ensures) ∙ c .before .first2 .given .1)
 
 pub sort-spec : {M : Type 1} → statement M
-sort-spec = tie.close (tie.spec head-requires enum-known-first map-of-requires returns sort-fields-requires enum-known-first-2 returns-2 returns-3)
+sort-spec = tie.close (tie.spec (λ c κs. search needs) (λ c. search needs) (λ c κs. search needs) returns (λ c κs. search needs) (λ c. search needs) returns-2 returns-3)

@@ -6,27 +6,6 @@ use mathlib.Core.Path.{sym, _∙_}
 use Rattle.reader.proofs.Cursor.sort_fields.Statement.{statement}
 use Rattle.reader.proofs.Cursor.sort_fields.Tie as tie
 
-name-requires : tie.Need-name-requires
-name-requires c κs = search needs
-
-enum-known-first : tie.Need-enum-known-first
-enum-known-first c = search needs
-
-number-requires : tie.Need-number-requires
-number-requires c κs = search needs
-
-enum-known-last : tie.Need-enum-known-last
-enum-known-last c = search needs
-
-sort-lists-requires : tie.Need-sort-lists-requires
-sort-lists-requires c κs = search needs
-
-enum-known-last-2 : tie.Need-enum-known-last-2
-enum-known-last-2 c = search needs
-
-enum-known-first-2 : tie.Need-enum-known-first-2
-enum-known-first-2 c = search needs
-
 returns : tie.Need-returns
 returns c =
     let a = c .before .before .before .before .before .before .before .before .before .before .args in
@@ -54,4 +33,4 @@ returns-3 c =
     sort-fields-1 s (a .map) (a .kind) (a .index) x v
 
 pub sort-fields-spec : {M : Type 1} → statement M
-sort-fields-spec = tie.close (tie.spec name-requires enum-known-first number-requires enum-known-last sort-lists-requires enum-known-last-2 enum-known-first-2 returns returns-2 returns-3)
+sort-fields-spec = tie.close (tie.spec (λ c κs. search needs) (λ c. search needs) (λ c κs. search needs) (λ c. search needs) (λ c κs. search needs) (λ c. search needs) (λ c. search needs) returns returns-2 returns-3)

@@ -6,15 +6,6 @@ use mathlib.Core.Path.{sym, _∙_}
 use Rattle.reader.proofs.Cursor.term.Statement.{statement}
 use Rattle.reader.proofs.Cursor.term.Tie as tie
 
-head-requires : tie.Need-head-requires
-head-requires c κs = search needs
-
-enum-known-first : tie.Need-enum-known-first
-enum-known-first c = search needs
-
-term-map-of-requires : tie.Need-term-map-of-requires
-term-map-of-requires c κs = search needs
-
 returns : tie.Need-returns
 returns c =
     let a = c .before .before .before .before .before .before .before .args in
@@ -22,12 +13,6 @@ returns c =
     let x = a .self .at in
     let r = sym (c .before .before .before .before .before .head .ensures) ∙ c .before .before .before .first .given .1 in
     term-2 s (a .sorts) (a .index) x r (c .before .term-map-of .ensures) (c .if1 .taken)
-
-term-fields-requires : tie.Need-term-fields-requires
-term-fields-requires c κs = search needs
-
-enum-known-first-2 : tie.Need-enum-known-first-2
-enum-known-first-2 c = search needs
 
 returns-2 : tie.Need-returns-2
 returns-2 c =
@@ -45,4 +30,4 @@ returns-3 c =
     term-1 s (a .sorts) (a .index) x (sym (c .before .before .before .head .ensures) ∙ c .before .first2 .given .1)
 
 pub term-spec : {M : Type 1} → statement M
-term-spec = tie.close (tie.spec head-requires enum-known-first term-map-of-requires returns term-fields-requires enum-known-first-2 returns-2 returns-3)
+term-spec = tie.close (tie.spec (λ c κs. search needs) (λ c. search needs) (λ c κs. search needs) returns (λ c κs. search needs) (λ c. search needs) returns-2 returns-3)

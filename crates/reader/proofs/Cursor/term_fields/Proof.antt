@@ -6,39 +6,6 @@ use mathlib.Core.Path.{sym, _∙_}
 use Rattle.reader.proofs.Cursor.term_fields.Statement.{statement}
 use Rattle.reader.proofs.Cursor.term_fields.Tie as tie
 
-name-requires : tie.Need-name-requires
-name-requires c κs = search needs
-
-enum-known-first : tie.Need-enum-known-first
-enum-known-first c = search needs
-
-term-number-of-requires : tie.Need-term-number-of-requires
-term-number-of-requires c κs = search needs
-
-number-requires : tie.Need-number-requires
-number-requires c κs = search needs
-
-enum-known-between : tie.Need-enum-known-between
-enum-known-between c = search needs
-
-own-requires : tie.Need-own-requires
-own-requires c κs = search needs
-
-enum-known-last : tie.Need-enum-known-last
-enum-known-last c = search needs
-
-term-lists-requires : tie.Need-term-lists-requires
-term-lists-requires c κs = search needs
-
-enum-known-last-2 : tie.Need-enum-known-last-2
-enum-known-last-2 c = search needs
-
-enum-known-between-2 : tie.Need-enum-known-between-2
-enum-known-between-2 c = search needs
-
-enum-known-first-2 : tie.Need-enum-known-first-2
-enum-known-first-2 c = search needs
-
 returns : tie.Need-returns
 returns c =
     let a = c .before .before .before .before .before .before .before .before .before .before .before .before .before .before .before .args in
@@ -77,4 +44,4 @@ returns-4 c =
     term-fields-1 s (a .map) (a .kind) (a .sorts) (a .index) x v
 
 pub term-fields-spec : {M : Type 1} → statement M
-term-fields-spec = tie.close (tie.spec name-requires enum-known-first term-number-of-requires number-requires enum-known-between own-requires enum-known-last term-lists-requires enum-known-last-2 enum-known-between-2 enum-known-first-2 returns returns-2 returns-3 returns-4)
+term-fields-spec = tie.close (tie.spec (λ c κs. search needs) (λ c. search needs) (λ c κs. search needs) (λ c κs. search needs) (λ c. search needs) (λ c κs. search needs) (λ c. search needs) (λ c κs. search needs) (λ c. search needs) (λ c. search needs) (λ c. search needs) returns returns-2 returns-3 returns-4)

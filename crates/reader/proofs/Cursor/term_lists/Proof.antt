@@ -6,42 +6,6 @@ use mathlib.Core.Path.{sym, _∙_}
 use Rattle.reader.proofs.Cursor.term_lists.Statement.{statement}
 use Rattle.reader.proofs.Cursor.term_lists.Tie as tie
 
-term-least-of-requires : tie.Need-term-least-of-requires
-term-least-of-requires c κs = search needs
-
-term-most-of-requires : tie.Need-term-most-of-requires
-term-most-of-requires c κs = search needs
-
-references-requires : tie.Need-references-requires
-references-requires c κs = search needs
-
-enum-known-first : tie.Need-enum-known-first
-enum-known-first c = search needs
-
-pairs-requires : tie.Need-pairs-requires
-pairs-requires c κs = search needs
-
-enum-known-between : tie.Need-enum-known-between
-enum-known-between c = search needs
-
-second-requires : tie.Need-second-requires
-second-requires c κs = search needs
-
-enum-known-last : tie.Need-enum-known-last
-enum-known-last c = search needs
-
-with-requires : tie.Need-with-requires
-with-requires c κs = search needs
-
-enum-known-last-2 : tie.Need-enum-known-last-2
-enum-known-last-2 c = search needs
-
-enum-known-between-2 : tie.Need-enum-known-between-2
-enum-known-between-2 c = search needs
-
-enum-known-first-2 : tie.Need-enum-known-first-2
-enum-known-first-2 c = search needs
-
 returns : tie.Need-returns
 returns c =
     let a = c .before .before .before .before .before .before .before .before .before .before .before .before .before .before .before .before .args in
@@ -80,4 +44,4 @@ returns-4 c =
     term-lists-1 s (a .map) (a .sorts) (a .index) (a .found) x (c .before .before .before .before .before .term-least-of .ensures) (c .before .before .before .before .term-most-of .ensures) l
 
 pub term-lists-spec : {M : Type 1} → statement M
-term-lists-spec = tie.close (tie.spec term-least-of-requires term-most-of-requires references-requires enum-known-first pairs-requires enum-known-between second-requires enum-known-last with-requires enum-known-last-2 enum-known-between-2 enum-known-first-2 returns returns-2 returns-3 returns-4)
+term-lists-spec = tie.close (tie.spec (λ c κs. search needs) (λ c κs. search needs) (λ c κs. search needs) (λ c. search needs) (λ c κs. search needs) (λ c. search needs) (λ c κs. search needs) (λ c. search needs) (λ c κs. search needs) (λ c. search needs) (λ c. search needs) (λ c. search needs) returns returns-2 returns-3 returns-4)

@@ -19,27 +19,12 @@ abbrev μ-loop : tie.MeasureT-loop
 loop-holds : tie.Need-loop-holds Inv-loop μ-loop
 loop-holds c = (search needs, refl)
 
-add-u16-at : tie.Need-add-u16-at Inv-loop μ-loop
-add-u16-at c = search needs
-
-u16-at-requires : tie.Need-u16-at-requires Inv-loop μ-loop
-u16-at-requires c κs = search needs
-
 returns : tie.Need-returns Inv-loop μ-loop
 returns c =
     let a = c .before .before .before .before .before .args in
     let s = a .s .now in
     let l = c .before .before .before .loop in
     pairs-below-far s (l .next) (l .left) (a .limit) (c .before .u16-at .result) (c .before .before .loop-test .taken) (c .before .u16-at .ensures .0) (omega (arith, c .if1 .taken)) ∙ l .inv .1
-
-add-next : tie.Need-add-next Inv-loop μ-loop
-add-next c = search needs
-
-sub-left : tie.Need-sub-left Inv-loop μ-loop
-sub-left c = search needs
-
-loop-less : tie.Need-loop-less Inv-loop μ-loop
-loop-less c = search needs
 
 loop-again : tie.Need-loop-again Inv-loop μ-loop
 loop-again c =
@@ -56,4 +41,4 @@ returns-2 c =
     pairs-below-end s (l .next) (l .left) (a .limit) (c .loop-test .left) ∙ l .inv .1
 
 pub pairs-below-spec : {M : Type 1} → statement M
-pairs-below-spec = tie.close (tie.spec Inv-loop μ-loop loop-holds add-u16-at u16-at-requires returns add-next sub-left loop-less loop-again returns-2)
+pairs-below-spec = tie.close (tie.spec Inv-loop μ-loop loop-holds (λ c. search needs) (λ c κs. search needs) returns (λ c. search needs) (λ c. search needs) (λ c. search needs) loop-again returns-2)

@@ -8,12 +8,6 @@ use Rattle.record.specs.Record.{leastOf, leasts}
 use Rattle.reader.proofs.tables.least_of.Statement.{statement}
 use Rattle.reader.proofs.tables.least_of.Tie as tie
 
-mul-result : tie.Need-mul-result
-mul-result c = search needs
-
-array-read-result : tie.Need-array-read-result
-array-read-result c = search needs
-
 returns : tie.Need-returns
 unfolding leastOf leasts
 returns c = refl
@@ -23,4 +17,4 @@ unfolding leastOf leasts
 returns-2 c = sym (List·getD-eq-default leasts 0 {n = c .before .args .kind} (omega arith))
 
 pub least-of-spec : {M : Type 1} → statement M
-least-of-spec = tie.close (tie.spec mul-result array-read-result returns returns-2)
+least-of-spec = tie.close (tie.spec (λ c. search needs) (λ c. search needs) returns returns-2)

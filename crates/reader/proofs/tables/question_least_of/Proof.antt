@@ -8,12 +8,6 @@ use Rattle.reader.specs.Tables.{questionLeastOf, questionLeasts}
 use Rattle.reader.proofs.tables.question_least_of.Statement.{statement}
 use Rattle.reader.proofs.tables.question_least_of.Tie as tie
 
-mul-result : tie.Need-mul-result
-mul-result c = search needs
-
-array-read-result : tie.Need-array-read-result
-array-read-result c = search needs
-
 returns : tie.Need-returns
 unfolding questionLeastOf questionLeasts
 returns c = refl
@@ -23,4 +17,4 @@ unfolding questionLeastOf questionLeasts
 returns-2 c = sym (List·getD-eq-default questionLeasts 0 {n = c .before .args .kind} (omega arith))
 
 pub question-least-of-spec : {M : Type 1} → statement M
-question-least-of-spec = tie.close (tie.spec mul-result array-read-result returns returns-2)
+question-least-of-spec = tie.close (tie.spec (λ c. search needs) (λ c. search needs) returns returns-2)

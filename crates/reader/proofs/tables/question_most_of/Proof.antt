@@ -8,12 +8,6 @@ use Rattle.reader.specs.Tables.{questionMostOf, questionMosts}
 use Rattle.reader.proofs.tables.question_most_of.Statement.{statement}
 use Rattle.reader.proofs.tables.question_most_of.Tie as tie
 
-mul-result : tie.Need-mul-result
-mul-result c = search needs
-
-array-read-result : tie.Need-array-read-result
-array-read-result c = search needs
-
 returns : tie.Need-returns
 unfolding questionMostOf questionMosts
 returns c = refl
@@ -23,4 +17,4 @@ unfolding questionMostOf questionMosts
 returns-2 c = sym (List·getD-eq-default questionMosts 0 {n = c .before .args .kind} (omega arith))
 
 pub question-most-of-spec : {M : Type 1} → statement M
-question-most-of-spec = tie.close (tie.spec mul-result array-read-result returns returns-2)
+question-most-of-spec = tie.close (tie.spec (λ c. search needs) (λ c. search needs) returns returns-2)

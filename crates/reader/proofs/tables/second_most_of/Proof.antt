@@ -12,9 +12,6 @@ returns c =
     let a = c .before .args in
     count-other (a .kind) 9 (a .count) 64 (c .if1 .taken)
 
-sub-result : tie.Need-sub-result
-sub-result c = search needs
-
 returns-2 : tie.Need-returns-2
 unfolding secondMostOf
 returns-2 c =
@@ -28,4 +25,4 @@ returns-3 c =
     count-none (a .kind) 9 (a .count) 64 (c .before .if1 .left) (c .if2 .left)
 
 pub second-most-of-spec : {M : Type 1} → statement M
-second-most-of-spec = tie.close (tie.spec returns sub-result returns-2 returns-3)
+second-most-of-spec = tie.close (tie.spec returns (λ c. search needs) returns-2 returns-3)

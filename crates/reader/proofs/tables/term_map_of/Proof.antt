@@ -8,12 +8,6 @@ use Rattle.reader.specs.Tables.{termMapOf, termMaps}
 use Rattle.reader.proofs.tables.term_map_of.Statement.{statement}
 use Rattle.reader.proofs.tables.term_map_of.Tie as tie
 
-mul-result : tie.Need-mul-result
-mul-result c = search needs
-
-array-read-result : tie.Need-array-read-result
-array-read-result c = search needs
-
 returns : tie.Need-returns
 unfolding termMapOf termMaps
 returns c = refl
@@ -23,4 +17,4 @@ unfolding termMapOf termMaps
 returns-2 c = sym (List·getD-eq-default termMaps 0 {n = c .before .args .kind} (omega arith))
 
 pub term-map-of-spec : {M : Type 1} → statement M
-term-map-of-spec = tie.close (tie.spec mul-result array-read-result returns returns-2)
+term-map-of-spec = tie.close (tie.spec (λ c. search needs) (λ c. search needs) returns returns-2)

@@ -8,12 +8,6 @@ use Rattle.reader.specs.Tables.{termMostOf, termMosts}
 use Rattle.reader.proofs.tables.term_most_of.Statement.{statement}
 use Rattle.reader.proofs.tables.term_most_of.Tie as tie
 
-mul-result : tie.Need-mul-result
-mul-result c = search needs
-
-array-read-result : tie.Need-array-read-result
-array-read-result c = search needs
-
 returns : tie.Need-returns
 unfolding termMostOf termMosts
 returns c = refl
@@ -23,4 +17,4 @@ unfolding termMostOf termMosts
 returns-2 c = sym (List·getD-eq-default termMosts 0 {n = c .before .args .kind} (omega arith))
 
 pub term-most-of-spec : {M : Type 1} → statement M
-term-most-of-spec = tie.close (tie.spec mul-result array-read-result returns returns-2)
+term-most-of-spec = tie.close (tie.spec (λ c. search needs) (λ c. search needs) returns returns-2)
