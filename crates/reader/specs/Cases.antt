@@ -277,23 +277,23 @@ module _ (s : List ℕ) (m k n limit x : ℕ) where
   unfolding readSecond
   second-off h = simp (bit-off 64 m h)
 
-  module _ {lo hi : ℕ} (el : lo ≡ secondLeastOf k n) (eh : hi ≡ secondMostOf k n) (h : m / 64 % 2 ≡ 1) {o : ReadList} (p : o ≡ readList s lo hi x) where
+  module _ {lo hi : ℕ} (el : lo ≡ cond (eqb k 9) (n - 1) 0) (eh : hi ≡ cond (eqb k 9) (n - 1) 64) (h : m / 64 % 2 ≡ 1) {o : ReadList} (p : o ≡ readList s lo hi x) where
     pub second-fails : {e : Refusal} → o ≡ NoList e → NoList e ≡ readSecond s m k n limit x
-    unfolding readSecond
+    unfolding readSecond secondLeastOf secondMostOf
     second-fails r = simp (bit-on 64 m h, sym (rw (el, eh) at p), r)
 
     module _ {a q : ℕ} {c : Cursor} (r : o ≡ Found a q c) where
       pub second-let : k ≡ 9 → Found a q c ≡ readSecond s m k n limit x
-      unfolding readSecond
+      unfolding readSecond secondLeastOf secondMostOf
       second-let e = rw (bit-on 64 m h, sym (rw (el, eh) at p), r, eq-eqb k 9 e)
 
       module _ (d : k ≡ 9 → ⊥) {t : Bool} (u : t ≡ allBelow limit (numbersAt s a q)) where
         pub second-far : t ≡ false → NoList Reference ≡ readSecond s m k n limit x
-        unfolding readSecond
+        unfolding readSecond secondLeastOf secondMostOf
         second-far e = rw (bit-on 64 m h, sym (rw (el, eh) at p), r, ne-eqb k 9 d, sym u, e)
 
         pub second-are : t ≡ true → Found a q c ≡ readSecond s m k n limit x
-        unfolding readSecond
+        unfolding readSecond secondLeastOf secondMostOf
         second-are e = rw (bit-on 64 m h, sym (rw (el, eh) at p), r, ne-eqb k 9 d, sym u, e)
 
 -- PAIRS
@@ -439,15 +439,15 @@ module _ (s : List ℕ) (m k sorts x : ℕ) {lo hi : ℕ} (el : lo ≡ questionL
   unfolding readQuestionFields
   question-fields-1 r4 = simp (sym (rw (el, eh) at p4), r4)
 
-  module _ {l n : ℕ} {c4 : Cursor} (r4 : o4 ≡ Found l n c4) {few many : ℕ} (ef : few ≡ namesLeastOf k n) (em : many ≡ namesMostOf k n)
+  module _ {l n : ℕ} {c4 : Cursor} (r4 : o4 ≡ Found l n c4) {few many : ℕ} (ef : few ≡ cond (eqb k 2) (n - 1) 0) (em : many ≡ cond (eqb k 2) (n - 1) 64)
       {o5 : ReadList} (p5 : o5 ≡ readNames s m few many (c4 .at)) where
     pub question-fields-2 : {e : Refusal} → o5 ≡ NoList e → NoQuestion e ≡ readQuestionFields s m k sorts x
-    unfolding readQuestionFields
+    unfolding readQuestionFields namesLeastOf namesMostOf
     question-fields-2 r5 = simp (sym (rw (el, eh) at p4), r4, sym (rw (ef, em) at p5), r5)
 
     pub question-fields-3 : {ns q : ℕ} {c5 : Cursor} → o5 ≡ Found ns q c5
         → Question (record { kind = k; list = l; count = n; names = ns; named = q }) c5 ≡ readQuestionFields s m k sorts x
-    unfolding readQuestionFields
+    unfolding readQuestionFields namesLeastOf namesMostOf
     question-fields-3 r5 = simp (sym (rw (el, eh) at p4), r4, sym (rw (ef, em) at p5), r5)
 
 module _ (s : List ℕ) (sorts x : ℕ) {o : ReadHead} (p : o ≡ readHead s x) where

@@ -8,8 +8,7 @@ use super::Refusal;
 use super::scans::all_below;
 use super::scans::distinct_at;
 use super::scans::pairs_below;
-use super::tables::second_least_of;
-use super::tables::second_most_of;
+use super::tables::one_less;
 use record::u16_at;
 ghost use mathlib.Core.Path.{_≡_};
 ghost use Rattle.reader.specs.Reader.{readByte, readU16, readU32, readHead, readName, readNumber, readOwn, readList, readReferences, readNames, readSecond, readPairs};
@@ -211,8 +210,8 @@ impl Cursor {
             let here = self.at;
             return ReadList::List(here, 0, self);
         }
-        let least = second_least_of(kind, count);
-        let most = second_most_of(kind, count);
+        let least = one_less(kind, 9, count, 0);
+        let most = one_less(kind, 9, count, 64);
         let read = self.list(s, least, most);
         match read {
             ReadList::List(at, seconds, next) => {

@@ -1,4 +1,6 @@
 // Numbers in bytes, and the fields of a sort record.
+pub mod tables;
+
 ghost use mathlib.Core.Path.{_≡_};
 ghost use Prim.Native.Nat.{_+_, _≤_, _<_};
 ghost use lib.ListN.{length};
