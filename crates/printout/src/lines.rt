@@ -5,6 +5,7 @@ use super::pieces::put;
 use super::pieces::put_decimal;
 use super::text::put_sort;
 use super::text::text_size;
+use record::kinds::QUESTION_COMPATIBLE;
 ghost use mathlib.Core.Path.{_≡_};
 ghost use Prim.Native.Nat.{_+_, _≤_, _<_};
 ghost use lib.ListN.{length};
@@ -64,7 +65,7 @@ fn answer_size(records: &[u8], places: &[u32], kind: usize, code: u32) -> usize
     requires { ⌜ AnswerAsks (now records) (now places) kind code ⌝ }
     ensures { λ r. ⌜ (r ≡ length (answerAt (now (records .entry)) (now (places .entry)) kind code)) × (r ≤ 1867776) ⌝ }
 {
-    if kind != 0 {
+    if kind != QUESTION_COMPATIBLE {
         return row_size(records, places, code);
     }
     if code == 0 {
@@ -73,7 +74,7 @@ fn answer_size(records: &[u8], places: &[u32], kind: usize, code: u32) -> usize
     3
 }
 
-// Writes the text of an answer to a question of this kind at `to`: no or yes for 0, else as a row.
+// Writes the text of an answer to a question of this kind at `to`: no or yes whether two sorts are compatible, else as a row.
 fn put_answer(
     records: &[u8],
     places: &[u32],
@@ -85,7 +86,7 @@ fn put_answer(
     requires { ⌜ AnswerAsks (now records) (now places) kind code × (to + length (answerAt (now records) (now places) kind code) ≤ length (now out)) ⌝ }
     ensures { λ r. ⌜ Wrote (now (out .entry)) to (answerAt (now (records .entry)) (now (places .entry)) kind code) (now (out .exit)) r ⌝ }
 {
-    if kind != 0 {
+    if kind != QUESTION_COMPATIBLE {
         return put_row(records, places, code, out, to);
     }
     if code == 0 {
@@ -142,7 +143,7 @@ pub fn term_line(
     if out.len() - to < 4 + digits(t) + one + two {
         return Shown::Full;
     }
-    let first = put_label(84, t, out, to);
+    let first = put_label(b'T', t, out, to);
     let second = put_row(records, places, inferred, out, first);
     let third = put(out, second, b" ");
     let fourth = put_row(records, places, checked, out, third);
@@ -167,7 +168,7 @@ pub fn question_line(
     if out.len() - to < 3 + digits(q) + size {
         return Shown::Full;
     }
-    let first = put_label(81, q, out, to);
+    let first = put_label(b'Q', q, out, to);
     let second = put_answer(records, places, kind, code, out, first);
     let end = put(out, second, b"\n");
     Shown::To(end)

@@ -22,6 +22,7 @@ use super::tables::term_map_of;
 use super::tables::term_most_of;
 use super::tables::term_number_of;
 use record::SortRecord;
+use record::kinds::QUESTION_APPLY;
 use record::tables::map_of;
 ghost use mathlib.Core.Path.{_≡_};
 ghost use Rattle.reader.specs.Reader.{readSortFields, readSort, readTermFields, readTerm, readQuestionFields, readQuestion};
@@ -226,8 +227,8 @@ impl Cursor {
         let first = self.references(s, map, least, most, sorts);
         match first {
             ReadList::List(list, count, c4) => {
-                let fewest = one_less(kind, 2, count, 0);
-                let greatest = one_less(kind, 2, count, 64);
+                let fewest = one_less(kind, QUESTION_APPLY, count, 0);
+                let greatest = one_less(kind, QUESTION_APPLY, count, 64);
                 let last = c4.names(s, map, fewest, greatest);
                 match last {
                     ReadList::List(names, named, c5) => ReadQuestion::Question(

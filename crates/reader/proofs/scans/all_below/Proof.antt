@@ -2,7 +2,7 @@
 -- it ends the loop, and with none left the test is that of the empty list.
 use borrow.Author.Needs.{needs}
 use Rattle.reader.specs.Cases.{below-far, below-step, below-end}
-use mathlib.Core.Path.{_≡_, refl}
+use mathlib.Core.Path.{_≡_}
 use Prim.Native.Nat.{_+_, _*_, _≤_}
 use lib.ListN.{length}
 use Rattle.record.specs.Number.{numbersAt}
@@ -16,8 +16,5 @@ Inv-loop s at count limit next₀ left₀ next left = (next + 2 * left ≤ lengt
 abbrev μ-loop : tie.MeasureT-loop
 μ-loop s at count limit next₀ left₀ next left = left
 
-loop-holds : tie.Need-loop-holds Inv-loop μ-loop
-loop-holds c = (search needs, refl)
-
 pub all-below-spec : {M : Type 1} → statement M
-all-below-spec = tie.close (tie.spec Inv-loop μ-loop loop-holds (λ c κs. search needs) (λ c. search below-far) (λ c. search needs) (λ c. search needs) (λ c. search needs) (λ c. search (needs, below-step)) (λ c. search below-end))
+all-below-spec = tie.close (tie.spec Inv-loop μ-loop (λ c. search needs) (λ c κs. search needs) (λ c. search below-far) (λ c. search needs) (λ c. search needs) (λ c. search needs) (λ c. search (needs, below-step)) (λ c. search below-end))

@@ -2,7 +2,7 @@
 -- stands nowhere behind it, and one that does ends the loop.
 use borrow.Author.Needs.{needs}
 use Rattle.reader.specs.Cases.{distinct-twice, distinct-step, distinct-end}
-use mathlib.Core.Path.{_≡_, refl}
+use mathlib.Core.Path.{_≡_}
 use Prim.Native.Nat.{_+_, _*_, _≤_}
 use lib.ListN.{length}
 use Rattle.record.specs.Number.{numbersAt}
@@ -16,8 +16,5 @@ Inv-loop s at count next₀ left₀ next left = (next + 2 * left ≤ length s) �
 abbrev μ-loop : tie.MeasureT-loop
 μ-loop s at count next₀ left₀ next left = left
 
-loop-holds : tie.Need-loop-holds Inv-loop μ-loop
-loop-holds c = (search needs, refl)
-
 pub distinct-at-spec : {M : Type 1} → statement M
-distinct-at-spec = tie.close (tie.spec Inv-loop μ-loop loop-holds (λ c κs. search needs) (λ c. search needs) (λ c. search needs) (λ c κs. search needs) (λ c. search distinct-twice) (λ c. search needs) (λ c. search (needs, distinct-step)) (λ c. search distinct-end))
+distinct-at-spec = tie.close (tie.spec Inv-loop μ-loop (λ c. search needs) (λ c κs. search needs) (λ c. search needs) (λ c. search needs) (λ c κs. search needs) (λ c. search distinct-twice) (λ c. search needs) (λ c. search (needs, distinct-step)) (λ c. search distinct-end))
