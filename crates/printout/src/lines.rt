@@ -9,10 +9,10 @@ use record::kinds::QUESTION_COMPATIBLE;
 ghost use mathlib.Core.Path.{_≡_};
 ghost use Prim.Native.Nat.{_+_, _≤_, _<_};
 ghost use lib.ListN.{length};
-ghost use Rattle.printout.specs.Lines.{refusalText, refusalLine};
+ghost use Rattle.printout.specs.Lines.{refusalText, refusalLine, sortRoom};
 ghost use Rattle.printout.specs.Wrote.{Wrote, ShownIs};
 ghost use Rattle.printout.specs.Trees.{rowAt, answerAt};
-ghost use Rattle.printout.specs.LineAsks.{RowAsks, AnswerAsks, RowHas, AnswerHas, TermHas, QuestionHas, TermAsks, QuestionAsks, labelText};
+ghost use Rattle.printout.specs.LineAsks.{RowAsks, AnswerAsks, TermHas, QuestionHas, TermAsks, QuestionAsks, labelText};
 
 // Writes `!` and the number of a refusal at `to`.
 fn put_refusal(out: &mut [u8], to: usize, number: usize) -> usize
@@ -26,7 +26,7 @@ fn put_refusal(out: &mut [u8], to: usize, number: usize) -> usize
 // The length of the text of a row.
 fn row_size(records: &[u8], places: &[u32], code: u32) -> usize
     requires { ⌜ RowAsks (now records) (now places) code ⌝ }
-    ensures { λ r. ⌜ (r ≡ length (rowAt (now (records .entry)) (now (places .entry)) code)) × (r ≤ 1867776) ⌝ }
+    ensures { λ r. ⌜ (r ≡ length (rowAt (now (records .entry)) (now (places .entry)) code)) × (r ≤ sortRoom) ⌝ }
 {
     let v = code as usize;
     if v < 65536 {
@@ -47,23 +47,10 @@ fn put_row(records: &[u8], places: &[u32], code: u32, out: &mut [u8], to: usize)
     put_refusal(out, to, v / 65536)
 }
 
-// Writes the text of a row at `to`; or Full, where it does not fit.
-pub fn show_row(records: &[u8], places: &[u32], code: u32, out: &mut [u8], to: usize) -> Shown
-    requires { ⌜ RowAsks (now records) (now places) code × (to ≤ length (now out)) ⌝ }
-    ensures { λ r. ⌜ RowHas (now (records .entry)) (now (places .entry)) code (now (out .entry)) to (now (out .exit)) r ⌝ }
-{
-    let size = row_size(records, places, code);
-    if out.len() - to < size {
-        return Shown::Full;
-    }
-    let end = put_row(records, places, code, out, to);
-    Shown::To(end)
-}
-
 // The length of the text of an answer to a question of this kind.
 fn answer_size(records: &[u8], places: &[u32], kind: usize, code: u32) -> usize
     requires { ⌜ AnswerAsks (now records) (now places) kind code ⌝ }
-    ensures { λ r. ⌜ (r ≡ length (answerAt (now (records .entry)) (now (places .entry)) kind code)) × (r ≤ 1867776) ⌝ }
+    ensures { λ r. ⌜ (r ≡ length (answerAt (now (records .entry)) (now (places .entry)) kind code)) × (r ≤ sortRoom) ⌝ }
 {
     if kind != QUESTION_COMPATIBLE {
         return row_size(records, places, code);
@@ -93,26 +80,6 @@ fn put_answer(
         return put(out, to, b"no");
     }
     put(out, to, b"yes")
-}
-
-// Writes the text of an answer at `to`; or Full, where it does not fit.
-pub fn show_answer(
-    records: &[u8],
-    places: &[u32],
-    kind: usize,
-    code: u32,
-    out: &mut [u8],
-    to: usize,
-) -> Shown
-    requires { ⌜ AnswerAsks (now records) (now places) kind code × (to ≤ length (now out)) ⌝ }
-    ensures { λ r. ⌜ AnswerHas (now (records .entry)) (now (places .entry)) kind code (now (out .entry)) to (now (out .exit)) r ⌝ }
-{
-    let size = answer_size(records, places, kind, code);
-    if out.len() - to < size {
-        return Shown::Full;
-    }
-    let end = put_answer(records, places, kind, code, out, to);
-    Shown::To(end)
 }
 
 // Writes a mark, a number and a blank at `to`, as `T0 `.

@@ -1,5 +1,4 @@
 // The text of a sort: a word, then a name, a number or names, then its parts, each behind a blank, then a bracket.
-use super::Shown;
 use super::pieces::digits;
 use super::pieces::name_size;
 use super::pieces::names_size;
@@ -35,7 +34,7 @@ ghost use mathlib.Core.List.{_++_};
 ghost use Rattle.printout.specs.Text.{ascii, namesText, text, texts};
 ghost use Rattle.printout.specs.Pieces.{formOf, wordText, closeText, frames};
 ghost use Rattle.printout.specs.Wrote.{Wrote};
-ghost use Rattle.printout.specs.Trees.{treeAt, treesAt, innerOf, InnerAsks, InnerIs, TextAsks, TextsAsk, TextIs, TextsAre, SortHas};
+ghost use Rattle.printout.specs.Trees.{treeAt, treesAt, innerOf, InnerAsks, InnerIs, TextAsks, TextsAsk, TextIs, TextsAre};
 
 // The form behind those of the kinds.
 const BARE_ATOM: usize = 16;
@@ -251,17 +250,4 @@ fn put_list(
     let first = put(out, to, b" ");
     let next = put_sort(records, places, k, out, first);
     put_list(records, places, at + 2, left - 1, out, next)
-}
-
-// Writes the text of the sort `k` at `to`; or Full, where it does not fit.
-pub fn show_sort(records: &[u8], places: &[u32], k: usize, out: &mut [u8], to: usize) -> Shown
-    requires { ⌜ TextAsks (now records) (now places) k × (to ≤ length (now out)) ⌝ }
-    ensures { λ r. ⌜ SortHas (now (records .entry)) (now (places .entry)) k (now (out .entry)) to (now (out .exit)) r ⌝ }
-{
-    let size = text_size(records, places, k);
-    if out.len() - to < size {
-        return Shown::Full;
-    }
-    let end = put_sort(records, places, k, out, to);
-    Shown::To(end)
 }
