@@ -5,10 +5,5 @@ use mathlib.Core.Path.{refl}
 use Rattle.printout.proofs.pieces.put.Statement.{statement}
 use Rattle.printout.proofs.pieces.put.Tie as tie
 
-returns : tie.Need-returns
-returns c =
-    let s = c .before .before .before .before .before .before in
-    record { is = c .before .before .copy-at .ensures; next = refl; fits = s .pre }
-
 pub put-spec : {M : Type 1} → statement M
-put-spec = tie.close (tie.spec (λ c κs. search needs) (λ c. search needs) (λ c. search needs) returns)
+put-spec = tie.close (tie.spec (λ c κs. search needs) (λ c. search needs) (λ c. search needs) (λ c. search needs))

@@ -16,10 +16,7 @@ put-requires c κs =
     omega (arith, s .pre, ap length (name-none (a .name) (c .before .before .if1 .taken)))
 
 returns : tie.Need-returns
-returns c =
-    let s = c .before .before .before .before .before .before .before in
-    let a = s .args in
-    wrote-as (sym (name-none (a .name) (c .before .before .before .before .before .if1 .taken))) (c .before .before .put .ensures)
+returns c = wrote-as (sym (name-none _ (c .before .before .before .before .before .if1 .taken))) (c .before .before .put .ensures)
 
 put-requires-2 : tie.Need-put-requires-2
 put-requires-2 c κs =
@@ -34,10 +31,7 @@ put-decimal-requires c κs =
     omega (arith, s .pre, ap length (name-some (a .name) (c .before .before .before .before .before .before .if1 .left)), c .before .before .before .put2 .ensures .next, wrote-long (c .before .before .before .put2 .ensures))
 
 returns-2 : tie.Need-returns-2
-returns-2 c =
-    let s = c .before .before .before .before .before .before .before .before .before .before .before in
-    let a = s .args in
-    wrote-as (sym (name-some (a .name) (c .before .before .before .before .before .before .before .before .before .if1 .left))) (wrote-more (c .before .before .before .before .before .before .put2 .ensures) (c .before .before .put-decimal .ensures))
+returns-2 c = wrote-as (sym (name-some _ (c .before .before .before .before .before .before .before .before .before .if1 .left))) (wrote-more (c .before .before .before .before .before .before .put2 .ensures) (c .before .before .put-decimal .ensures))
 
 pub put-name-spec : {M : Type 1} → statement M
 put-name-spec = tie.close (tie.spec (λ c. search needs) put-requires (λ c. search needs) returns (λ c. search needs) put-requires-2 put-decimal-requires (λ c. search needs) returns-2)

@@ -74,7 +74,7 @@ put-list-put-sort-requires t c κs =
     (first-falls _ _ _ _ _ (m .if1 .left) (s .pre .0), (first-asks (s .pre .1 .0) (m .if1 .left), room-now (room-then fits (c .before .before .before .put .ensures))))
 
 put-list-sub-put-list : (t : ℕ) → put-list-lts.Need-sub-put-list (put-list-env t) (put-list-at t) put-list.Post
-put-list-sub-put-list t c = after _ 0 (c .before .before .before .before .before .before .before .before .before .before .if1 .left) (omega arith)
+put-list-sub-put-list t c = search needs
 
 put-list-put-list-requires : (t : ℕ) → put-list-lts.Need-put-list-requires (put-list-env t) (put-list-at t) put-list.Post
 put-list-put-list-requires t c κs =

@@ -110,7 +110,7 @@ texts-size-text-size-requires t c κs =
     rw (c .u16-at .ensures .0) (first-falls _ _ _ _ _ (c .before .if1 .left) (s .pre .0), first-asks (s .pre .1) (c .before .if1 .left))
 
 texts-size-sub-texts-size : (t : ℕ) → texts-size-lts.Need-sub-texts-size (texts-size-env t) (texts-size-at t) texts-size.Post
-texts-size-sub-texts-size t c = after _ 0 (c .before .before .if1 .left) (omega arith)
+texts-size-sub-texts-size t c = search needs
 
 texts-size-texts-size-requires : (t : ℕ) → texts-size-lts.Need-texts-size-requires (texts-size-env t) (texts-size-at t) texts-size.Post
 texts-size-texts-size-requires t c κs =
@@ -119,14 +119,12 @@ texts-size-texts-size-requires t c κs =
 
 texts-size-add-result : (t : ℕ) → texts-size-lts.Need-add-result (texts-size-env t) (texts-size-at t) texts-size.Post
 texts-size-add-result t c =
-    let a = c .before .before .before .before .before .before .args in
-    let w = list-length (a .records .now) (a .places .now) (a .at) (a .left) _ (c .before .before .before .if1 .left) (c .before .before .u16-at .ensures .0) (c .before .text-size .ensures) (c .texts-size .ensures) in
+    let w = list-length _ _ _ _ _ (c .before .before .before .if1 .left) (c .before .before .u16-at .ensures .0) (c .before .text-size .ensures) (c .texts-size .ensures) in
     omega (arith, w .most, c .before .before .before .before .before .before .pre .1 .small)
 
 texts-size-add-result-2 : (t : ℕ) → texts-size-lts.Need-add-result-2 (texts-size-env t) (texts-size-at t) texts-size.Post
 texts-size-add-result-2 t c =
-    let a = c .before .before .before .before .before .before .args in
-    let w = list-length (a .records .now) (a .places .now) (a .at) (a .left) _ (c .before .before .before .if1 .left) (c .before .before .u16-at .ensures .0) (c .before .text-size .ensures) (c .texts-size .ensures) in
+    let w = list-length _ _ _ _ _ (c .before .before .before .if1 .left) (c .before .before .u16-at .ensures .0) (c .before .text-size .ensures) (c .texts-size .ensures) in
     omega (arith, w .most, c .before .before .before .before .before .before .pre .1 .small)
 
 texts-size-returns-2 : (t : ℕ) → texts-size-lts.Need-returns-2 (texts-size-env t) (texts-size-at t) texts-size.Post

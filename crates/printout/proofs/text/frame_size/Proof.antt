@@ -8,7 +8,7 @@ use Rattle.printout.proofs.text.frame_size.Tie as tie
 
 returns : tie.Need-returns
 unfolding frames
-returns c = refl
+returns c = search needs
 
 pub frame-size-spec : {M : Type 1} → statement M
 frame-size-spec = tie.close (tie.spec (λ c. search needs) (λ c. search needs) returns)
