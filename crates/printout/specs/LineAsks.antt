@@ -6,7 +6,7 @@ use lib.ListN.{length}
 use Rattle.record.specs.Decode.{storeOf}
 use Rattle.printout.specs.declared.Shown.{Shown}
 use Rattle.printout.specs.Text.{ascii, decimal}
-use Rattle.printout.specs.Lines.{rowText, answerText, termLine, questionLine}
+use Rattle.printout.specs.Lines.{termLine, questionLine}
 use Rattle.printout.specs.Wrote.{ShownIs}
 use Rattle.printout.specs.Trees.{TextAsks, rowAt, answerAt}
 
@@ -22,14 +22,7 @@ AnswerAsks b p kind code = (kind ≡ 0 → ⊥) → RowAsks b p code
 abbrev pub Known : ℕ → ℕ → Type 0
 Known n code = code < 65536 → code < n
 
--- WHAT A ROW, AN ANSWER AND A LINE SHOW, over the store of n sorts that they are of.
-abbrev pub RowHas : List ℕ → List ℕ → ℕ → List ℕ → ℕ → List ℕ → Shown → Type 0
-RowHas b p code o to o′ r = (n : ℕ) → Known n code → ShownIs o to (rowText (storeOf b p n) code) o′ r
-
-abbrev pub AnswerHas : List ℕ → List ℕ → ℕ → ℕ → List ℕ → ℕ → List ℕ → Shown → Type 0
-AnswerHas b p kind code o to o′ r =
-    (n : ℕ) → ((kind ≡ 0 → ⊥) → Known n code) → ShownIs o to (answerText (storeOf b p n) kind code) o′ r
-
+-- WHAT A LINE SHOWS, over the store of n sorts that its rows or its answer are of.
 abbrev pub TermHas : List ℕ → List ℕ → ℕ → ℕ → ℕ → List ℕ → ℕ → List ℕ → Shown → Type 0
 TermHas b p t i c o to o′ r =
     (n : ℕ) → Known n i → Known n c → ShownIs o to (termLine (storeOf b p n) t i c) o′ r

@@ -1,8 +1,8 @@
 -- Rows, answers and lines: what each is by its code, over any store that has the sort, and how long it is.
-use Prim.Native.Nat.{ℕ, suc, _+_, _/_, _≤_, _<_}
+use Prim.Native.Nat.{ℕ, suc, _+_, _-_, _/_, _≤_, _<_}
 use mathlib.Core.Path.{_≡_, refl, sym, ap, ap₂, _∙_}
 use mathlib.Core.Bool.{Bool, true, false}
-use mathlib.Core.List.{List, _∷_, _++_, append-assoc}
+use mathlib.Core.List.{List, [], _∷_, _++_, append-assoc}
 use native.Mathlib.Omega.{arith}
 use lib.ListN.{length, length-append}
 use lib.Dec.{eqb, ltb}
@@ -14,7 +14,9 @@ use Rattle.printout.specs.Text.{ascii, decimal, text}
 use Rattle.printout.specs.Lines.{refusalText, refusalLine, rowText, answerText, termLine, questionLine}
 use Rattle.printout.specs.Trees.{treeAt, rowAt, answerAt}
 use Rattle.printout.specs.TreeLaws.{tree-at, text-asks}
-use Rattle.printout.specs.LineAsks.{RowAsks, Known, labelText, termAt, questionAt}
+use Rattle.printout.specs.Wrote.{Wrote, wrote-as, total, Room}
+use Rattle.printout.specs.declared.Shown.the-variants.{To, Full}
+use Rattle.printout.specs.LineAsks.{RowAsks, Known, TermAsks, TermHas, QuestionAsks, QuestionHas, labelText, termAt, questionAt}
 
 pub refusal-length : (n : ℕ) → length (refusalText n) ≡ 1 + length (decimal n)
 unfolding refusalText
@@ -106,6 +108,21 @@ term-length b p t i c =
       length-append (rowAt b p c) (ascii "\n"),
     )
 
+-- It does not fit, or there is room for its pieces.
+module _ {b p o : List ℕ} {t i c to : ℕ} (a : TermAsks b p t i c o to) {d x y : ℕ} (ed : d ≡ length (decimal t)) (ex : x ≡ length (rowAt b p i))
+    (ey : y ≡ length (rowAt b p c)) where
+  pub term-full : length o - to < 4 + d + x + y → TermHas b p t i c o to o Full
+  term-full h n ki kc = (refl, omega (arith, term-length b p t i c, ap length (term-at b p n t i c ki kc)))
+
+  pub term-room : 4 + d + x + y ≤ length o - to → Room o to (labelText 84 t ∷ rowAt b p i ∷ ascii " " ∷ rowAt b p c ∷ ascii "\n" ∷ [])
+  unfolding total
+  term-room h = record { fits = omega (arith, label-length 84 t, a .within) }
+
+pub term-wrote : (b p : List ℕ) (t i c : ℕ) {o : List ℕ} {to : ℕ} {o′ : List ℕ} {e : ℕ}
+    → Wrote o to (labelText 84 t ++ (rowAt b p i ++ (ascii " " ++ (rowAt b p c ++ ascii "\n")))) o′ e → TermHas b p t i c o to o′ (To e)
+unfolding termAt
+term-wrote b p t i c w n ki kc = wrote-as (term-at b p n t i c ki kc) w
+
 -- THE LINE OF A QUESTION.
 pub question-at : (b p : List ℕ) (n q kind code : ℕ) → ((kind ≡ 0 → ⊥) → Known n code) → questionAt b p q kind code ≡ questionLine (storeOf b p n) q kind code
 unfolding questionAt labelText questionLine
@@ -122,6 +139,20 @@ question-length b p q kind code =
       length-append (labelText 81 q) (answerAt b p kind code ++ ascii "\n"),
       length-append (answerAt b p kind code) (ascii "\n"),
     )
+
+module _ {b p o : List ℕ} {q kind code to : ℕ} (a : QuestionAsks b p q kind code o to) {d x : ℕ} (ed : d ≡ length (decimal q))
+    (ex : x ≡ length (answerAt b p kind code)) where
+  pub question-full : length o - to < 3 + d + x → QuestionHas b p q kind code o to o Full
+  question-full h n k = (refl, omega (arith, question-length b p q kind code, ap length (question-at b p n q kind code k)))
+
+  pub question-room : 3 + d + x ≤ length o - to → Room o to (labelText 81 q ∷ answerAt b p kind code ∷ ascii "\n" ∷ [])
+  unfolding total
+  question-room h = record { fits = omega (arith, label-length 81 q, a .within) }
+
+pub question-wrote : (b p : List ℕ) (q kind code : ℕ) {o : List ℕ} {to : ℕ} {o′ : List ℕ} {e : ℕ}
+    → Wrote o to (labelText 81 q ++ (answerAt b p kind code ++ ascii "\n")) o′ e → QuestionHas b p q kind code o to o′ (To e)
+unfolding questionAt
+question-wrote b p q kind code w n k = wrote-as (question-at b p n q kind code k) w
 
 -- THE LINE OF A REFUSED SHEET.
 pub refusal-line : (n : ℕ) → refusalText n ++ ascii "\n" ≡ refusalLine n

@@ -6,7 +6,7 @@ use native.Mathlib.Omega.{arith}
 use lib.ListN.{length, length-append}
 use Rattle.record.specs.Number.{u16At, numbersAt}
 use Rattle.printout.specs.Text.{ascii, decimal, nameText, moreNames, namesText}
-use Rattle.printout.specs.Wrote.{Left}
+use Rattle.printout.specs.Wrote.{Left, Wrote, wrote-as, total, Room}
 
 pub name-none : (a : ℕ) → a ≡ 0 → nameText a ≡ ascii "?"
 unfolding nameText
@@ -42,6 +42,19 @@ pub names-own : (b : List ℕ) (x m : ℕ) → 0 < m → namesText (numbersAt b 
 names-own b x m h =
     ap (λ (l : List ℕ). l ++ ascii ")") (names-first b x m h)
     ∙ append-assoc (nameText (u16At b x)) (moreNames (numbersAt b (x + 2) (m - 1))) (ascii ")")
+
+pub names-room : (b : List ℕ) (x m : ℕ) (o : List ℕ) (to : ℕ) → 0 < m → to + length (namesText (numbersAt b x m) ++ ascii ")") ≤ length o
+    → Room o to (nameText (u16At b x) ∷ moreNames (numbersAt b (x + 2) (m - 1)) ∷ ascii ")" ∷ [])
+unfolding total
+names-room b x m o to h r =
+    let rest = moreNames (numbersAt b (x + 2) (m - 1)) in
+    record {
+      fits = omega (arith, ap length (names-own b x m h), length-append (nameText (u16At b x)) (rest ++ ascii ")"), length-append rest (ascii ")"));
+    }
+
+-- The same name, of the same number.
+pub name-as : {k j : ℕ} {o : List ℕ} {to : ℕ} {o′ : List ℕ} {e : ℕ} → k ≡ j → Wrote o to (nameText k) o′ e → Wrote o to (nameText j) o′ e
+name-as q w = wrote-as (ap nameText q) w
 
 -- A bracket takes the place of the first blank.
 pub names-bracket : (b : List ℕ) (x m : ℕ) → 0 < m → length (namesText (numbersAt b x m) ++ ascii ")") ≡ length (moreNames (numbersAt b x m))

@@ -14,6 +14,7 @@ use Rattle.record.specs.Store.{fieldsOf}
 use Rattle.record.specs.Sizes.{Formed, length-indices}
 use Rattle.record.specs.Table.{at}
 use Rattle.printout.specs.Text.{ascii, decimal, nameText, namesText, nodeText, text, texts}
+use Rattle.printout.specs.Wrote.{Wrote, wrote-as, wrote-none}
 use Rattle.printout.specs.Pieces.{formOf, wordText, closes, bracket, closeText, frames, inners, innerBy, innerText, piecesText}
 
 var-pieces : (v w : ℕ) (ns : List ℕ) → text (var v) ≡ piecesText 2 v w ns []
@@ -178,6 +179,18 @@ pub close-one : (f : ℕ) → (getD closes f 0 ≡ 0 → ⊥) → closeText f �
 unfolding closeText
 close-one f h = bracket-one (getD closes f 0) h
 
+-- The word of a form that is known: it is written, and there is room for it.
+pub word-wrote : (k : ℕ) {f : ℕ} {o : List ℕ} {to : ℕ} {o′ : List ℕ} {e : ℕ} → f ≡ k → Wrote o to (wordText k) o′ e → Wrote o to (wordText f) o′ e
+word-wrote k q w = wrote-as (sym (ap wordText q)) w
+
+pub word-room : (k : ℕ) {f : ℕ} (to n : ℕ) → f ≡ k → to + length (wordText f) ≤ n → to + length (wordText k) ≤ n
+word-room k to n q h = rw q at h
+
+-- A form that is none of the first k.
+abbrev pub Others : ℕ → ℕ → Type 0
+Others zero f = Unit {0}
+Others (suc k) f = Others k f × (f ≡ k → ⊥)
+
 -- The form of a kind.
 pub form-below : (k m : ℕ) → k < 16 → formOf k m < 17
 unfolding formOf
@@ -215,3 +228,12 @@ after n k h l = go (decLt k n)
     go : Dec (k < n) → k < n
     go (yes t) = t
     go (no t) = absurd (h (omega arith))
+
+others-low : (k f : ℕ) → Others k f → k ≤ f
+others-low zero f h = omega arith
+others-low (suc k) f h = after f k (h .1) (others-low k f (h .0))
+
+-- The form that is none of the kinds has no word.
+pub word-none : (f : ℕ) {o : List ℕ} {to : ℕ} → f < 17 → Others 16 f → to + length (wordText f) ≤ length o → Wrote o to (wordText f) o to
+unfolding wordText
+word-none f {o} {to} l h r = let q : f ≡ 16 = omega (arith, others-low 16 f h) in wrote-as (sym (ap wordText q)) (wrote-none o to (omega arith))

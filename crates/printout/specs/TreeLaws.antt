@@ -14,11 +14,12 @@ use Rattle.record.specs.Sizes.{Formed, sort-formed, count-sorts}
 use Rattle.record.specs.Entries.{stored-first}
 use Rattle.record.specs.declared.SortRecord.{SortRecord}
 use Rattle.store.specs.Entry.{EntryIs}
-use Rattle.store.specs.Walk.{walk-size}
+use Rattle.store.specs.Walk.{walk-size, size-pos}
 use Rattle.printout.specs.Text.{ascii, text, texts}
-use Rattle.printout.specs.Pieces.{formOf, frames, piecesText}
-use Rattle.printout.specs.PieceLaws.{pieces-text, pieces-length, form-below, form-par, names-form, own-short}
-use Rattle.printout.specs.Trees.{treeAt, treesAt, TextAsks, TextsAsk, InnerAsks, InnerIs, TextIs, TextsAre}
+use Rattle.printout.specs.Pieces.{formOf, wordText, closeText, frames, piecesText}
+use Rattle.printout.specs.PieceLaws.{pieces-text, pieces-length, form-below, form-par, names-form, own-short, after}
+use Rattle.printout.specs.Wrote.{Wrote, wrote-as, total, Room}
+use Rattle.printout.specs.Trees.{treeAt, treesAt, innerOf, TextAsks, TextsAsk, InnerAsks, InnerIs, TextIs, TextsAre}
 
 -- THE SORT k, whatever the count of the store's sorts is.
 pub tree-at : (b p : List ℕ) (k n : ℕ) → k < n → treeAt b p k ≡ sortAt b p n k
@@ -36,9 +37,9 @@ pub trees-none : (b p : List ℕ) (x m : ℕ) → m ≡ 0 → treesAt b p (numbe
 unfolding treesAt numbersAt
 trees-none b p x m e = ap (λ (i : ℕ). treesAt b p (numbersAt b x i)) e
 
-pub trees-more : (b p : List ℕ) (x m : ℕ) → 0 < m → treesAt b p (numbersAt b x m) ≡ treeAt b p (u16At b x) then treesAt b p (numbersAt b (x + 2) (m - 1))
+pub trees-more : (b p : List ℕ) (x m : ℕ) → (m ≡ 0 → ⊥) → treesAt b p (numbersAt b x m) ≡ treeAt b p (u16At b x) then treesAt b p (numbersAt b (x + 2) (m - 1))
 unfolding treesAt numbersAt
-trees-more b p x zero h = absurd (omega arith)
+trees-more b p x zero h = absurd (h refl)
 trees-more b p x (suc m) h =
     let e : m ≡ suc m - 1 = omega arith in
     ap (λ (i : ℕ). treeAt b p (u16At b x) then treesAt b p (numbersAt b (x + 2) i)) e
@@ -47,15 +48,35 @@ pub texts-none : (b p : List ℕ) (x m : ℕ) → m ≡ 0 → texts (treesAt b p
 unfolding text
 texts-none b p x m e = ap texts (trees-none b p x m e)
 
-pub texts-more : (b p : List ℕ) (x m : ℕ) → 0 < m
+pub texts-more : (b p : List ℕ) (x m : ℕ) → (m ≡ 0 → ⊥)
     → texts (treesAt b p (numbersAt b x m)) ≡ ascii " " ++ (text (treeAt b p (u16At b x)) ++ texts (treesAt b p (numbersAt b (x + 2) (m - 1))))
 unfolding text
 texts-more b p x m h = ap texts (trees-more b p x m h)
 
-pub trees-size : (b p : List ℕ) (x m : ℕ) → 0 < m
+pub trees-size : (b p : List ℕ) (x m : ℕ) → (m ≡ 0 → ⊥)
     → sizes (treesAt b p (numbersAt b x m)) ≡ size (treeAt b p (u16At b x)) + sizes (treesAt b p (numbersAt b (x + 2) (m - 1)))
 unfolding size
 trees-size b p x m h = ap sizes (trees-more b p x m h)
+
+-- The same text, of the same number.
+pub text-as : (b p : List ℕ) {k j : ℕ} {o : List ℕ} {to : ℕ} {o′ : List ℕ} {e : ℕ} → k ≡ j → Wrote o to (text (treeAt b p k)) o′ e → Wrote o to (text (treeAt b p j)) o′ e
+text-as b p q w = wrote-as (ap (λ (i : ℕ). text (treeAt b p i)) q) w
+
+-- Room for a list is room for a blank, its first sort and the rest.
+pub texts-room : (b p : List ℕ) (x m : ℕ) (o : List ℕ) (to : ℕ) → (m ≡ 0 → ⊥) → to + length (texts (treesAt b p (numbersAt b x m))) ≤ length o
+    → Room o to (ascii " " ∷ text (treeAt b p (u16At b x)) ∷ texts (treesAt b p (numbersAt b (x + 2) (m - 1))) ∷ [])
+unfolding total
+texts-room b p x m o to h r =
+    let first = text (treeAt b p (u16At b x)) in
+    record { fits = omega (arith, ap length (texts-more b p x m h), length-append first (texts (treesAt b p (numbersAt b (x + 2) (m - 1))))) }
+
+-- The measures fall: from a list to its first sort, and to the rest.
+pub first-falls : (b p : List ℕ) (x m t : ℕ) → (m ≡ 0 → ⊥) → 2 * sizes (treesAt b p (numbersAt b x m)) + 1 ≡ t → 2 * size (treeAt b p (u16At b x)) < t
+first-falls b p x m t h q = omega (arith, trees-size b p x m h)
+
+pub rest-falls : (b p : List ℕ) (x m t : ℕ) → (m ≡ 0 → ⊥) → 2 * sizes (treesAt b p (numbersAt b x m)) + 1 ≡ t
+    → 2 * sizes (treesAt b p (numbersAt b (x + 2) (m - 1))) + 1 < t
+rest-falls b p x m t h q = omega (arith, trees-size b p x m h, size-pos (treeAt b p (u16At b x)))
 
 -- A sort of a well-formed store within document 01's limit meets what printing it asks.
 pub text-asks : (b p : List ℕ) (n k : ℕ) → Stored b p n → k < n → size (sortAt b p n k) ≤ 4096 → TextAsks b p k
@@ -66,17 +87,19 @@ text-asks b p n k stored l small =
     }
 
 -- What a walk asks goes down to the first of a list, and to the rest.
-module _ (b p : List ℕ) (x m : ℕ) (h : 0 < m) (a : TextsAsk b p x m) where
+module _ {b p : List ℕ} {x m : ℕ} (a : TextsAsk b p x m) (h : m ≡ 0 → ⊥) where
   pub first-asks : TextAsks b p (u16At b x)
   first-asks =
+      let some : 0 < m = after m 0 h (omega arith) in
       let e : x + 2 * 0 ≡ x = omega arith in
       record {
-        stored = subst (λ (i : ℕ). Stored b p (suc (u16At b i))) e (a .stored 0 h);
+        stored = subst (λ (i : ℕ). Stored b p (suc (u16At b i))) e (a .stored 0 some);
         small = omega (arith, trees-size b p x m h, a .small);
       }
 
   pub rest-ask : TextsAsk b p (x + 2) (m - 1)
   rest-ask =
+      let some : 0 < m = after m 0 h (omega arith) in
       record {
         within = omega (arith, a .within);
         stored = λ j l.
@@ -86,7 +109,7 @@ module _ (b p : List ℕ) (x m : ℕ) (h : 0 < m) (a : TextsAsk b p x m) where
       }
 
 -- AN ENTRY that was read: its text in pieces, its size, and what its pieces ask.
-module _ (b p : List ℕ) (k : ℕ) (a : TextAsks b p k) (r : SortRecord) (e : EntryIs b p (suc k) k r) (form : ℕ)
+module _ {b p : List ℕ} {k : ℕ} (a : TextAsks b p k) {r : SortRecord} (e : EntryIs b p (suc k) k r) {form : ℕ}
     (is : form ≡ formOf (r .kind) (r .count)) where
   abbrev numbers : List ℕ
   numbers = numbersAt b (r .list) (r .count)
@@ -126,6 +149,28 @@ module _ (b p : List ℕ) (k : ℕ) (a : TextAsks b p k) (r : SortRecord) (e : E
       ∙ ap₂ (λ (ns : List ℕ) (ss : Sorts). piecesText (formOf (r .kind) (r .count)) (r .name) (r .number) ns (texts ss)) (sym (e .names)) parts
       ∙ ap (λ (f : ℕ). piecesText f (r .name) (r .number) (numbersAt b (r .names) (r .named)) (texts (treesAt b p numbers))) (sym is)
 
+  -- room for the text is room for its pieces
+  pub entry-room : (o : List ℕ) (to : ℕ) → to + length (text (treeAt b p k)) ≤ length o
+      → Room o to (wordText form ∷ innerOf b form r ∷ texts (treesAt b p numbers) ∷ closeText form ∷ [])
+  unfolding piecesText total
+  entry-room o to h =
+      let ts = texts (treesAt b p numbers) in
+      record {
+        fits =
+            omega (
+              arith,
+              ap length entry-text,
+              length-append (wordText form) (innerOf b form r ++ (ts ++ closeText form)),
+              length-append (innerOf b form r) (ts ++ closeText form),
+              length-append ts (closeText form),
+            );
+      }
+
+  pub entry-wrote : {o : List ℕ} {to : ℕ} {o′ : List ℕ} {d : ℕ}
+      → Wrote o to (wordText form ++ (innerOf b form r ++ (texts (treesAt b p numbers) ++ closeText form))) o′ d → Wrote o to (text (treeAt b p k)) o′ d
+  unfolding piecesText
+  entry-wrote w = wrote-as (sym entry-text) w
+
   pub entry-form : form < 17
   entry-form = subst (λ (f : ℕ). f < 17) (sym is) (form-below (r .kind) (r .count) (shape .known))
 
@@ -133,6 +178,9 @@ module _ (b p : List ℕ) (k : ℕ) (a : TextAsks b p k) (r : SortRecord) (e : E
   unfolding treeAt
   entry-size =
       walk-size b p (suc k) k (a .stored) (omega arith) r e ∙ ap (λ (ss : Sorts). 1 + sizes ss) trees
+
+  pub entry-falls : (t : ℕ) → 2 * size (treeAt b p k) ≡ t → 2 * sizes (treesAt b p numbers) + 1 < t
+  entry-falls t q = omega (arith, entry-size)
 
   pub inner-asks : InnerAsks b form r
   inner-asks =
@@ -158,9 +206,9 @@ module _ (b p : List ℕ) (k : ℕ) (a : TextAsks b p k) (r : SortRecord) (e : E
         small = omega (arith, entry-size, a .small);
       }
 
-  pub entry-length : (z i t : ℕ) → z ≡ getD frames form 0 → InnerIs b form r i → TextsAre (texts (treesAt b p numbers)) (sizes (treesAt b p numbers)) t
+  pub entry-length : {z i t : ℕ} → z ≡ getD frames form 0 → InnerIs b form r i → TextsAre (texts (treesAt b p numbers)) (sizes (treesAt b p numbers)) t
       → TextIs (text (treeAt b p k)) (size (treeAt b p k)) (z + i + t)
-  entry-length z i t ez ei et =
+  entry-length {z} {i} {t} ez ei et =
       record {
         is =
             omega (
@@ -175,10 +223,11 @@ module _ (b p : List ℕ) (k : ℕ) (a : TextAsks b p k) (r : SortRecord) (e : E
       }
 
 -- The length of a list: a blank, its first, and the rest.
-pub list-length : (b p : List ℕ) (x m f t : ℕ) → 0 < m → TextIs (text (treeAt b p (u16At b x))) (size (treeAt b p (u16At b x))) f
+pub list-length : (b p : List ℕ) (x m k : ℕ) {f t : ℕ} → (m ≡ 0 → ⊥) → k ≡ u16At b x → TextIs (text (treeAt b p k)) (size (treeAt b p k)) f
     → TextsAre (texts (treesAt b p (numbersAt b (x + 2) (m - 1)))) (sizes (treesAt b p (numbersAt b (x + 2) (m - 1)))) t
     → TextsAre (texts (treesAt b p (numbersAt b x m))) (sizes (treesAt b p (numbersAt b x m))) (1 + f + t)
-list-length b p x m f t h ef et =
+list-length b p x m k {f} {t} h q eq et =
+    let ef : TextIs (text (treeAt b p (u16At b x))) (size (treeAt b p (u16At b x))) f = rw q at eq in
     record {
       is =
           omega (

@@ -7,11 +7,8 @@ use Rattle.record.specs.Number.{u16At, numbersAt}
 use Rattle.record.specs.Sort.{Sort, Sorts, end, _then_, size, sizes}
 use Rattle.record.specs.Decode.{storeOf, sortAt, Stored}
 use Rattle.record.specs.declared.SortRecord.{SortRecord}
-use Rattle.printout.specs.Text.{text}
 use Rattle.printout.specs.Lines.{rowText, answerText}
 use Rattle.printout.specs.Pieces.{inners, innerText}
-use Rattle.printout.specs.Wrote.{ShownIs}
-use Rattle.printout.specs.declared.Shown.{Shown}
 
 -- The sort k of a store: the first k + 1 records make it, however many there are.
 unfoldable pub treeAt : List ℕ → List ℕ → ℕ → Sort
@@ -41,10 +38,6 @@ pub record TextsAsk (b p : List ℕ) (x m : ℕ) : Type 0 where
   pub within : x + 2 * m ≤ length b
   pub stored : (j : ℕ) → j < m → Stored b p (suc (u16At b (x + 2 * j)))
   pub small : sizes (treesAt b p (numbersAt b x m)) ≤ 4096
-
--- WHAT SHOWING THE SORT k GIVES, whatever the count n of the store's sorts is.
-abbrev pub SortHas : List ℕ → List ℕ → ℕ → List ℕ → ℕ → List ℕ → Shown → Type 0
-SortHas b p k o to o′ r = (n : ℕ) → k < n → ShownIs o to (text (sortAt b p n k)) o′ r
 
 -- What stands between the word and the parts of an entry, and when it can be read.
 abbrev pub innerOf : List ℕ → ℕ → SortRecord → List ℕ

@@ -67,17 +67,21 @@ wrote-more {o} {to} {s} {o₁} {e} {t} v w =
       fits = omega (arith, v .next, w .fits, length-append s t, wrote-long v);
     }
 
--- Behind the first of two there is room for the second.
-pub room-next : {o : List ℕ} {to : ℕ} {s o₁ : List ℕ} {e : ℕ} (t : List ℕ) → Wrote o to s o₁ e → to + length (s ++ t) ≤ length o → e + length t ≤ length o₁
-room-next {o} {to} {s} t w h = omega (arith, w .next, length-append s t, wrote-long w)
+-- ROOM FOR TEXTS one after the other: for the first, and for the others behind it.
+unfoldable pub total : List (List ℕ) → ℕ
+total [] = 0
+total (s ∷ ts) = length s + total ts
 
--- There is room for the first of two.
-pub room-first : (o : List ℕ) (to : ℕ) (s t : List ℕ) → to + length (s ++ t) ≤ length o → to + length s ≤ length o
-room-first o to s t h = omega (arith, length-append s t)
+pub record Room (o : List ℕ) (to : ℕ) (ts : List (List ℕ)) : Type 0 where
+  pub fits : to + total ts ≤ length o
 
--- Behind the first of three there is room for the second.
-pub room-step : {o : List ℕ} {to : ℕ} {s o₁ : List ℕ} {e : ℕ} (t r : List ℕ) → Wrote o to s o₁ e → to + length (s ++ (t ++ r)) ≤ length o → e + length t ≤ length o₁
-room-step {o} {to} {s} {o₁} {e} t r w h = room-first o₁ e t r (room-next (t ++ r) w h)
+pub room-now : {o : List ℕ} {to : ℕ} {s : List ℕ} {ts : List (List ℕ)} → Room o to (s ∷ ts) → to + length s ≤ length o
+unfolding total
+room-now r = omega (arith, r .fits)
+
+pub room-then : {o : List ℕ} {to : ℕ} {s : List ℕ} {ts : List (List ℕ)} {o₁ : List ℕ} {e : ℕ} → Room o to (s ∷ ts) → Wrote o to s o₁ e → Room o₁ e ts
+unfolding total
+room-then r w = record { fits = omega (arith, r .fits, w .next, wrote-long w) }
 
 -- A buffer o′ in which the rest of a text, written at e, gives o with the whole text at `to`.
 pub record Left (o : List ℕ) (to : ℕ) (whole o′ : List ℕ) (e : ℕ) (rest : List ℕ) : Type 0 where

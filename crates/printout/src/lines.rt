@@ -5,13 +5,14 @@ use super::pieces::put;
 use super::pieces::put_decimal;
 use super::text::put_sort;
 use super::text::text_size;
+use record::kinds::QUESTION_COMPATIBLE;
 ghost use mathlib.Core.Path.{_≡_};
 ghost use Prim.Native.Nat.{_+_, _≤_, _<_};
 ghost use lib.ListN.{length};
-ghost use Rattle.printout.specs.Lines.{refusalText, refusalLine};
+ghost use Rattle.printout.specs.Lines.{refusalText, refusalLine, sortRoom};
 ghost use Rattle.printout.specs.Wrote.{Wrote, ShownIs};
 ghost use Rattle.printout.specs.Trees.{rowAt, answerAt};
-ghost use Rattle.printout.specs.LineAsks.{RowAsks, AnswerAsks, RowHas, AnswerHas, TermHas, QuestionHas, TermAsks, QuestionAsks, labelText};
+ghost use Rattle.printout.specs.LineAsks.{RowAsks, AnswerAsks, TermHas, QuestionHas, TermAsks, QuestionAsks, labelText};
 
 // Writes `!` and the number of a refusal at `to`.
 fn put_refusal(out: &mut [u8], to: usize, number: usize) -> usize
@@ -25,7 +26,7 @@ fn put_refusal(out: &mut [u8], to: usize, number: usize) -> usize
 // The length of the text of a row.
 fn row_size(records: &[u8], places: &[u32], code: u32) -> usize
     requires { ⌜ RowAsks (now records) (now places) code ⌝ }
-    ensures { λ r. ⌜ (r ≡ length (rowAt (now (records .entry)) (now (places .entry)) code)) × (r ≤ 1867776) ⌝ }
+    ensures { λ r. ⌜ (r ≡ length (rowAt (now (records .entry)) (now (places .entry)) code)) × (r ≤ sortRoom) ⌝ }
 {
     let v = code as usize;
     if v < 65536 {
@@ -46,25 +47,12 @@ fn put_row(records: &[u8], places: &[u32], code: u32, out: &mut [u8], to: usize)
     put_refusal(out, to, v / 65536)
 }
 
-// Writes the text of a row at `to`; or Full, where it does not fit.
-pub fn show_row(records: &[u8], places: &[u32], code: u32, out: &mut [u8], to: usize) -> Shown
-    requires { ⌜ RowAsks (now records) (now places) code × (to ≤ length (now out)) ⌝ }
-    ensures { λ r. ⌜ RowHas (now (records .entry)) (now (places .entry)) code (now (out .entry)) to (now (out .exit)) r ⌝ }
-{
-    let size = row_size(records, places, code);
-    if out.len() - to < size {
-        return Shown::Full;
-    }
-    let end = put_row(records, places, code, out, to);
-    Shown::To(end)
-}
-
 // The length of the text of an answer to a question of this kind.
 fn answer_size(records: &[u8], places: &[u32], kind: usize, code: u32) -> usize
     requires { ⌜ AnswerAsks (now records) (now places) kind code ⌝ }
-    ensures { λ r. ⌜ (r ≡ length (answerAt (now (records .entry)) (now (places .entry)) kind code)) × (r ≤ 1867776) ⌝ }
+    ensures { λ r. ⌜ (r ≡ length (answerAt (now (records .entry)) (now (places .entry)) kind code)) × (r ≤ sortRoom) ⌝ }
 {
-    if kind != 0 {
+    if kind != QUESTION_COMPATIBLE {
         return row_size(records, places, code);
     }
     if code == 0 {
@@ -73,7 +61,7 @@ fn answer_size(records: &[u8], places: &[u32], kind: usize, code: u32) -> usize
     3
 }
 
-// Writes the text of an answer to a question of this kind at `to`: no or yes for 0, else as a row.
+// Writes the text of an answer to a question of this kind at `to`: no or yes whether two sorts are compatible, else as a row.
 fn put_answer(
     records: &[u8],
     places: &[u32],
@@ -85,33 +73,13 @@ fn put_answer(
     requires { ⌜ AnswerAsks (now records) (now places) kind code × (to + length (answerAt (now records) (now places) kind code) ≤ length (now out)) ⌝ }
     ensures { λ r. ⌜ Wrote (now (out .entry)) to (answerAt (now (records .entry)) (now (places .entry)) kind code) (now (out .exit)) r ⌝ }
 {
-    if kind != 0 {
+    if kind != QUESTION_COMPATIBLE {
         return put_row(records, places, code, out, to);
     }
     if code == 0 {
         return put(out, to, b"no");
     }
     put(out, to, b"yes")
-}
-
-// Writes the text of an answer at `to`; or Full, where it does not fit.
-pub fn show_answer(
-    records: &[u8],
-    places: &[u32],
-    kind: usize,
-    code: u32,
-    out: &mut [u8],
-    to: usize,
-) -> Shown
-    requires { ⌜ AnswerAsks (now records) (now places) kind code × (to ≤ length (now out)) ⌝ }
-    ensures { λ r. ⌜ AnswerHas (now (records .entry)) (now (places .entry)) kind code (now (out .entry)) to (now (out .exit)) r ⌝ }
-{
-    let size = answer_size(records, places, kind, code);
-    if out.len() - to < size {
-        return Shown::Full;
-    }
-    let end = put_answer(records, places, kind, code, out, to);
-    Shown::To(end)
 }
 
 // Writes a mark, a number and a blank at `to`, as `T0 `.
@@ -142,7 +110,7 @@ pub fn term_line(
     if out.len() - to < 4 + digits(t) + one + two {
         return Shown::Full;
     }
-    let first = put_label(84, t, out, to);
+    let first = put_label(b'T', t, out, to);
     let second = put_row(records, places, inferred, out, first);
     let third = put(out, second, b" ");
     let fourth = put_row(records, places, checked, out, third);
@@ -167,7 +135,7 @@ pub fn question_line(
     if out.len() - to < 3 + digits(q) + size {
         return Shown::Full;
     }
-    let first = put_label(81, q, out, to);
+    let first = put_label(b'Q', q, out, to);
     let second = put_answer(records, places, kind, code, out, first);
     let end = put(out, second, b"\n");
     Shown::To(end)

@@ -12,6 +12,9 @@ ghost use Rattle.printout.specs.Wrote.{Wrote};
 // The first numbers of two to six digits.
 const TENS: [usize; 5] = [10, 100, 1000, 10000, 100000];
 
+// The byte of the digit 0.
+const ZERO: usize = 48;
+
 // How many digits a number under 100,000 has.
 pub fn digits(v: usize) -> usize
     requires { ⌜ v < 100000 ⌝ }
@@ -38,7 +41,7 @@ pub fn put_decimal(out: &mut [u8], to: usize, v: usize) -> usize
     requires { ⌜ to + length (decimal v) ≤ length (now out) ⌝ }
     ensures { λ r. ⌜ Wrote (now (out .entry)) to (decimal v) (now (out .exit)) r ⌝ }
 {
-    let digit = (48 + v % 10) as u8;
+    let digit = (ZERO + v % 10) as u8;
     if v < 10 {
         out[to] = digit;
         return to + 1;

@@ -1,5 +1,4 @@
 // The text of a sort: a word, then a name, a number or names, then its parts, each behind a blank, then a bracket.
-use super::Shown;
 use super::pieces::digits;
 use super::pieces::name_size;
 use super::pieces::names_size;
@@ -8,6 +7,22 @@ use super::pieces::put_decimal;
 use super::pieces::put_name;
 use super::pieces::put_names;
 use record::SortRecord;
+use record::kinds::SORT_ARRAY;
+use record::kinds::SORT_ATOM;
+use record::kinds::SORT_BIT_VEC;
+use record::kinds::SORT_BOOL;
+use record::kinds::SORT_DATATYPE;
+use record::kinds::SORT_FUNCTION;
+use record::kinds::SORT_INT;
+use record::kinds::SORT_PAR;
+use record::kinds::SORT_PARAM_BIT_VEC;
+use record::kinds::SORT_REAL;
+use record::kinds::SORT_REG_LAN;
+use record::kinds::SORT_SET;
+use record::kinds::SORT_STRING;
+use record::kinds::SORT_TUPLE;
+use record::kinds::SORT_TYPE;
+use record::kinds::SORT_VAR;
 use record::u16_at;
 use store::entries::entry;
 ghost use mathlib.Core.Path.{_≡_};
@@ -19,24 +34,72 @@ ghost use mathlib.Core.List.{_++_};
 ghost use Rattle.printout.specs.Text.{ascii, namesText, text, texts};
 ghost use Rattle.printout.specs.Pieces.{formOf, wordText, closeText, frames};
 ghost use Rattle.printout.specs.Wrote.{Wrote};
-ghost use Rattle.printout.specs.Trees.{treeAt, treesAt, innerOf, InnerAsks, InnerIs, TextAsks, TextsAsk, TextIs, TextsAre, SortHas};
+ghost use Rattle.printout.specs.Trees.{treeAt, treesAt, innerOf, InnerAsks, InnerIs, TextAsks, TextsAsk, TextIs, TextsAre};
+
+// The form behind those of the kinds.
+const BARE_ATOM: usize = 16;
 
 // How many bytes the word and the bracket of each form have together.
 const FRAMES: [usize; 17] = [4, 2, 1, 4, 3, 4, 6, 6, 7, 11, 12, 2, 7, 4, 5, 7, 0];
 
 // The bracket that closes each form, 0 for none.
-const CLOSES: [u8; 17] = [41, 41, 0, 0, 0, 0, 0, 0, 41, 41, 0, 93, 41, 0, 41, 41, 0];
+const CLOSES: [u8; 17] = [
+    b')',
+    b')',
+    0,
+    0,
+    0,
+    0,
+    0,
+    0,
+    b')',
+    b')',
+    0,
+    b']',
+    b')',
+    0,
+    b')',
+    b')',
+    0,
+];
 
-// What stands between the word and the parts of each form: 0 nothing, 1 its name, 2 its number, 3 its names and a bracket.
-const INNERS: [u8; 17] = [0, 1, 1, 0, 0, 0, 0, 0, 0, 2, 0, 1, 3, 0, 0, 0, 1];
+// What stands between the word and the parts of a form: nothing, its name, its number, or its names and a bracket.
+const NOTHING: u8 = 0;
 
-// The form of a sort's text: its kind, or 16 for an Atom without parts, which has no brackets.
+const NAME: u8 = 1;
+
+const NUMBER: u8 = 2;
+
+const NAMES: u8 = 3;
+
+// What stands there in each form.
+const INNERS: [u8; 17] = [
+    NOTHING,
+    NAME,
+    NAME,
+    NOTHING,
+    NOTHING,
+    NOTHING,
+    NOTHING,
+    NOTHING,
+    NOTHING,
+    NUMBER,
+    NOTHING,
+    NAME,
+    NAMES,
+    NOTHING,
+    NOTHING,
+    NOTHING,
+    NAME,
+];
+
+// The form of a sort's text: its kind, or `BARE_ATOM` for an Atom without parts, which has no brackets.
 fn form_of(kind: usize, parts: usize) -> usize
     ensures { λ r. ⌜ r ≡ formOf kind parts ⌝ }
 {
-    if kind == 1 {
+    if kind == SORT_ATOM {
         if parts == 0 {
-            return 16;
+            return BARE_ATOM;
         }
     }
     kind
@@ -57,9 +120,9 @@ fn inner_size(records: &[u8], form: usize, a: SortRecord) -> usize
 {
     let inner = INNERS[form];
     match inner {
-        1 => name_size(a.name),
-        2 => digits(a.number),
-        3 => names_size(records, a.names, a.named),
+        NAME => name_size(a.name),
+        NUMBER => digits(a.number),
+        NAMES => names_size(records, a.names, a.named),
         _ => 0,
     }
 }
@@ -97,22 +160,22 @@ fn put_word(form: usize, out: &mut [u8], to: usize) -> usize
     ensures { λ r. ⌜ Wrote (now (out .entry)) to (wordText form) (now (out .exit)) r ⌝ }
 {
     match form {
-        0 => put(out, to, b"(->"),
-        1 => put(out, to, b"("),
-        2 => put(out, to, b"'"),
-        3 => put(out, to, b"Bool"),
-        4 => put(out, to, b"Int"),
-        5 => put(out, to, b"Real"),
-        6 => put(out, to, b"String"),
-        7 => put(out, to, b"RegLan"),
-        8 => put(out, to, b"(Array"),
-        9 => put(out, to, b"(_ BitVec "),
-        10 => put(out, to, b"(_ BitVec ?)"),
-        11 => put(out, to, b"["),
-        12 => put(out, to, b"(par ("),
-        13 => put(out, to, b"Type"),
-        14 => put(out, to, b"(Set"),
-        15 => put(out, to, b"(Tuple"),
+        SORT_FUNCTION => put(out, to, b"(->"),
+        SORT_ATOM => put(out, to, b"("),
+        SORT_VAR => put(out, to, b"'"),
+        SORT_BOOL => put(out, to, b"Bool"),
+        SORT_INT => put(out, to, b"Int"),
+        SORT_REAL => put(out, to, b"Real"),
+        SORT_STRING => put(out, to, b"String"),
+        SORT_REG_LAN => put(out, to, b"RegLan"),
+        SORT_ARRAY => put(out, to, b"(Array"),
+        SORT_BIT_VEC => put(out, to, b"(_ BitVec "),
+        SORT_PARAM_BIT_VEC => put(out, to, b"(_ BitVec ?)"),
+        SORT_DATATYPE => put(out, to, b"["),
+        SORT_PAR => put(out, to, b"(par ("),
+        SORT_TYPE => put(out, to, b"Type"),
+        SORT_SET => put(out, to, b"(Set"),
+        SORT_TUPLE => put(out, to, b"(Tuple"),
         _ => to,
     }
 }
@@ -135,9 +198,9 @@ fn put_inner(records: &[u8], form: usize, a: SortRecord, out: &mut [u8], to: usi
 {
     let inner = INNERS[form];
     match inner {
-        1 => put_name(out, to, a.name),
-        2 => put_decimal(out, to, a.number),
-        3 => put_par_names(records, a.names, a.named, out, to),
+        NAME => put_name(out, to, a.name),
+        NUMBER => put_decimal(out, to, a.number),
+        NAMES => put_par_names(records, a.names, a.named, out, to),
         _ => to,
     }
 }
@@ -187,17 +250,4 @@ fn put_list(
     let first = put(out, to, b" ");
     let next = put_sort(records, places, k, out, first);
     put_list(records, places, at + 2, left - 1, out, next)
-}
-
-// Writes the text of the sort `k` at `to`; or Full, where it does not fit.
-pub fn show_sort(records: &[u8], places: &[u32], k: usize, out: &mut [u8], to: usize) -> Shown
-    requires { ⌜ TextAsks (now records) (now places) k × (to ≤ length (now out)) ⌝ }
-    ensures { λ r. ⌜ SortHas (now (records .entry)) (now (places .entry)) k (now (out .entry)) to (now (out .exit)) r ⌝ }
-{
-    let size = text_size(records, places, k);
-    if out.len() - to < size {
-        return Shown::Full;
-    }
-    let end = put_sort(records, places, k, out, to);
-    Shown::To(end)
 }

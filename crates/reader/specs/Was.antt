@@ -123,7 +123,7 @@ head-read s x m k c1 c2 c p q odd e =
       kind = w .value ∙ ap (λ (i : ℕ). getD s i 0) (v .next);
       odd = odd;
       next = omega (arith, v .next, w .next, e);
-      inside = omega (arith, v .next, w .next, byte-inside s (c1 .at) q);
+      inside = omega (arith, v .next, w .next, byte-inside s (c1 .at) refl q);
     }
 
 pub head-was : (s : List ℕ) (x m k : ℕ) (c : Cursor) → readHead s x ≡ Head m k c → HeadWas s x m k c

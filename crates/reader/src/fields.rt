@@ -8,8 +8,8 @@ use super::Refusal;
 use super::scans::all_below;
 use super::scans::distinct_at;
 use super::scans::pairs_below;
-use super::tables::second_least_of;
-use super::tables::second_most_of;
+use super::tables::one_less;
+use record::kinds::TERM_LET;
 use record::u16_at;
 ghost use mathlib.Core.Path.{_≡_};
 ghost use Rattle.reader.specs.Reader.{readByte, readU16, readU32, readHead, readName, readNumber, readOwn, readList, readReferences, readNames, readSecond, readPairs};
@@ -202,7 +202,7 @@ impl Cursor {
         }
     }
 
-    // The second list of a term of this kind with a list of `count`: the names of a Let (9), which may be any, or the index
+    // The second list of a term of this kind with a list of `count`: the names of a Let, which may be any, or the index
     // terms of a ParamOp, Reference where one is not below `limit`; empty where its bit does not stand in the map.
     pub fn second(self, s: &[u8], map: usize, kind: usize, count: usize, limit: usize) -> ReadList
         ensures { λ r. ⌜ r ≡ readSecond (now (s .entry)) map kind count limit (self .at) ⌝ }
@@ -211,12 +211,12 @@ impl Cursor {
             let here = self.at;
             return ReadList::List(here, 0, self);
         }
-        let least = second_least_of(kind, count);
-        let most = second_most_of(kind, count);
+        let least = one_less(kind, TERM_LET, count, 0);
+        let most = one_less(kind, TERM_LET, count, 64);
         let read = self.list(s, least, most);
         match read {
             ReadList::List(at, seconds, next) => {
-                if kind == 9 {
+                if kind == TERM_LET {
                     return ReadList::List(at, seconds, next);
                 }
                 if all_below(s, at, seconds, limit) {

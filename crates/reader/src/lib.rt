@@ -69,16 +69,19 @@ pub enum ReadSort {
     NoSort(Refusal),
 }
 
-// The fields of a term record.
+// The fields of a term record: of each of its three lists the place where it starts, then how many entries it has.
 pub struct TermRecord {
     pub kind: usize,
     pub name: usize,
     pub number: usize,
     pub sort: usize,
+    // The place of the list, and its count.
     pub list: usize,
     pub count: usize,
+    // The place of the pairs, and their count.
     pub pairs: usize,
     pub paired: usize,
+    // The place of the second list, and its count.
     pub second: usize,
     pub seconds: usize,
 }
@@ -89,7 +92,7 @@ pub enum ReadTerm {
     NoTerm(Refusal),
 }
 
-// The fields of a question record.
+// The fields of a question record; of its two lists the place where it starts, then how many entries it has.
 pub struct QuestionRecord {
     pub kind: usize,
     pub list: usize,

@@ -12,10 +12,8 @@ use super::Refusal;
 use super::Scalars;
 use super::TermRecord;
 use super::tables::least_of;
-use super::tables::map_of;
 use super::tables::most_of;
-use super::tables::names_least_of;
-use super::tables::names_most_of;
+use super::tables::one_less;
 use super::tables::question_least_of;
 use super::tables::question_map_of;
 use super::tables::question_most_of;
@@ -24,6 +22,8 @@ use super::tables::term_map_of;
 use super::tables::term_most_of;
 use super::tables::term_number_of;
 use record::SortRecord;
+use record::kinds::QUESTION_APPLY;
+use record::tables::map_of;
 ghost use mathlib.Core.Path.{_≡_};
 ghost use Rattle.reader.specs.Reader.{readSortFields, readSort, readTermFields, readTerm, readQuestionFields, readQuestion};
 ghost use Rattle.reader.specs.Parts.{readSortLists, readTermLists, termOf};
@@ -227,8 +227,8 @@ impl Cursor {
         let first = self.references(s, map, least, most, sorts);
         match first {
             ReadList::List(list, count, c4) => {
-                let fewest = names_least_of(kind, count);
-                let greatest = names_most_of(kind, count);
+                let fewest = one_less(kind, QUESTION_APPLY, count, 0);
+                let greatest = one_less(kind, QUESTION_APPLY, count, 64);
                 let last = c4.names(s, map, fewest, greatest);
                 match last {
                     ReadList::List(names, named, c5) => ReadQuestion::Question(

@@ -23,9 +23,6 @@ unfolding sameNames
 sameNames-refl [] = refl
 sameNames-refl (a ∷ ms) = simp (eqb-self, sameNames-refl ms)
 
-pub sameNames-complete : (ms ns : List ℕ) → ms ≡ ns → sameNames ms ns ≡ true
-sameNames-complete ms ns e = rw (← e) (sameNames-refl ms)
-
 -- Equal by the test, so equal: fields first, then the parts by the induction.
 mutual
   unfolding same
@@ -72,9 +69,6 @@ mutual
 
 pub same-complete : (r s : Sort) → r ≡ s → same r s ≡ true
 same-complete r s e = rw (← e) (same-refl r)
-
-pub sameAll-complete : (rs ss : Sorts) → rs ≡ ss → sameAll rs ss ≡ true
-sameAll-complete rs ss e = rw (← e) (sameAll-refl rs)
 
 -- The order of the two does not matter.
 pub same-swap : (r s : Sort) → same r s ≡ same s r

@@ -1,4 +1,7 @@
-// Numbers in bytes, and the fields of a sort record.
+// Numbers in bytes, and the fields of a sort record. kinds.rt has the names of the kinds, tables.rt the bit map of each.
+pub mod kinds;
+pub mod tables;
+
 ghost use mathlib.Core.Path.{_≡_};
 ghost use Prim.Native.Nat.{_+_, _≤_, _<_};
 ghost use lib.ListN.{length};

@@ -18,12 +18,6 @@ abbrev μ-loop : tie.MeasureT-loop
 loop-holds : tie.Need-loop-holds Inv-loop μ-loop
 loop-holds c = (omega arith, refl)
 
-read-once-requires : tie.Need-read-once-requires Inv-loop μ-loop
-read-once-requires c κs = search needs
-
-enum-known-got : tie.Need-enum-known-got Inv-loop μ-loop
-enum-known-got c = search needs
-
 add-done : tie.Need-add-done Inv-loop μ-loop
 add-done c =
     let l = c .before .before .before .before .before .before .before .before .loop in
@@ -45,31 +39,16 @@ loop-again c =
     let g = subst (GotWithin (l .done) (length (r .last .1 .0))) (c .before .got .given .1) (r .ensures) in
     (g .1, r .kept .1 .0 ∙ l .inv .1)
 
-enum-told : tie.Need-enum-told Inv-loop μ-loop
-enum-told c = search needs
-
-same-length : tie.Need-same-length Inv-loop μ-loop
-same-length c = search needs
-
 returns : tie.Need-returns Inv-loop μ-loop
 returns c =
     let l = c .before .before .before .before .before .before .before .loop in
     omega (arith, l .inv .0, c .before .before .before .before .read-once .kept .1 .0)
 
-enum-told-2 : tie.Need-enum-told-2 Inv-loop μ-loop
-enum-told-2 c = search needs
-
-same-length-2 : tie.Need-same-length-2 Inv-loop μ-loop
-same-length-2 c = search needs
-
 returns-2 : tie.Need-returns-2 Inv-loop μ-loop
 returns-2 c = tt
-
-same-length-3 : tie.Need-same-length-3 Inv-loop μ-loop
-same-length-3 c = search needs
 
 returns-3 : tie.Need-returns-3 Inv-loop μ-loop
 returns-3 c = c .before .loop .inv .0
 
 pub read-input-spec : {M : Type 1} → statement M
-read-input-spec = tie.close (tie.spec Inv-loop μ-loop loop-holds read-once-requires enum-known-got add-done loop-less loop-again enum-told same-length returns enum-told-2 same-length-2 returns-2 same-length-3 returns-3)
+read-input-spec = tie.close (tie.spec Inv-loop μ-loop loop-holds (λ c κs. search needs) (λ c. search needs) add-done loop-less loop-again (λ c. search needs) (λ c. search needs) returns (λ c. search needs) (λ c. search needs) returns-2 (λ c. search needs) returns-3)

@@ -21,9 +21,6 @@ returns c =
     let room = length (a .buffer .now) in
     subst (λ (y : ℤ). NoRead ≡ gotOf y room) (toZ-ofZ {w = w64} (s .fits .answer)) (told-failed z room (c .if1 .taken))
 
-count-requires : tie.Need-count-requires
-count-requires c κs = search needs
-
 returns-2 : tie.Need-returns-2
 returns-2 c =
     let s = c .before .before .before .before in
@@ -43,4 +40,4 @@ returns-3 c =
     (told-bytes z room (c .before .count .result) (c .before .before .if1 .left) (c .before .count .ensures .1) (c .if2 .left))
 
 pub told-spec : {M : Type 1} → statement M
-told-spec = tie.close (tie.spec returns count-requires returns-2 returns-3)
+told-spec = tie.close (tie.spec returns (λ c κs. search needs) returns-2 returns-3)

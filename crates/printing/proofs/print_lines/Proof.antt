@@ -29,9 +29,6 @@ add-total c =
     let f = s .pre .left in
     omega (arith, f .good .few, f .good .fewer)
 
-nothing-written-requires : tie.Need-nothing-written-requires Inv-loop μ-loop
-nothing-written-requires c κs = search needs
-
 loop-holds : tie.Need-loop-holds Inv-loop μ-loop
 loop-holds c =
     let e = c .nothing-written .ensures in (refl, omega arith, ap (λ (z : Written). z .failed) e, ap (λ (z : Written). z .lines) e, refl)
@@ -73,9 +70,6 @@ write-lines-requires c κs =
     let l = c .before .before .before .before .before .before .loop in
     let r = c .before .before .before .show-lines .ensures (f .many) (f .good) in
     piece-next x b p w d g (record { terms = t; questions = q }) f (l .done) (l .k) (l .out) (c .before .before .before .show-lines .last .1 .1 .1 .1 .1 .1 .1 .1 .0) (c .before .before .before .show-lines .result) (l .inv .2) (l .inv .3) r
-
-has-failed-requires : tie.Need-has-failed-requires Inv-loop μ-loop
-has-failed-requires c κs = search needs
 
 same-length : tie.Need-same-length Inv-loop μ-loop
 same-length c =
@@ -135,4 +129,4 @@ returns-2 c =
     printed-whole (judged x programLengths) (l .done) (l .inv .2) (omega (arith, c .loop-test .left, l .inv .0, l .inv .1, l .inv .3, f .count))
 
 pub print-lines-spec : {M : Type 1} → statement M
-print-lines-spec = tie.close (tie.spec Inv-loop μ-loop add-total nothing-written-requires loop-holds show-lines-requires slice-reshare-prefix-write-lines slice-aggregate-write-lines write-lines-requires has-failed-requires same-length returns loop-less loop-again same-length-2 returns-2)
+print-lines-spec = tie.close (tie.spec Inv-loop μ-loop add-total (λ c κs. search needs) loop-holds show-lines-requires slice-reshare-prefix-write-lines slice-aggregate-write-lines write-lines-requires (λ c κs. search needs) same-length returns loop-less loop-again same-length-2 returns-2)

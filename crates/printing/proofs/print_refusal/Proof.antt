@@ -14,22 +14,10 @@ use Rattle.printing.specs.PrintLaws.{refusal-fits}
 use Rattle.printing.proofs.print_refusal.Statement.{statement}
 use Rattle.printing.proofs.print_refusal.Tie as tie
 
-refusal-number-requires : tie.Need-refusal-number-requires
-refusal-number-requires c κs = search needs
-
-cast-number : tie.Need-cast-number
-cast-number c = search needs
-
-slice-aggregate-refusal-line : tie.Need-slice-aggregate-refusal-line
-slice-aggregate-refusal-line c = search needs
-
 refusal-line-requires : tie.Need-refusal-line-requires
 refusal-line-requires c κs =
     let s = c .before .before in
     (omega (arith, c .before .refusal-number .ensures, refusal-small (s .args .e)), omega arith)
-
-enum-known-shown : tie.Need-enum-known-shown
-enum-known-shown c = search needs
 
 array-share-prefix-line : tie.Need-array-share-prefix-line
 array-share-prefix-line c =
@@ -46,15 +34,6 @@ write-refusal-requires c κs =
     let w = subst (ShownIs (replicate 16 0) 0 (refusalLine (c .before .before .before .before .before .before .before .refusal-number .result)) (c .before .before .before .before .before .refusal-line .last .1 .0)) (c .before .before .shown .given .1) (c .before .before .before .before .before .refusal-line .ensures) in
     wrote-first (replicate 16 0) (refusalLine (c .before .before .before .before .before .before .before .refusal-number .result)) (c .before .before .before .before .before .refusal-line .last .1 .0) (c .before .before .shown .given .0 .0) w ∙ ap refusalLine (c .before .before .before .before .before .before .before .refusal-number .ensures)
 
-enum-told : tie.Need-enum-told
-enum-told c = search needs
-
-nothing-written-requires : tie.Need-nothing-written-requires
-nothing-written-requires c κs = search needs
-
-returns : tie.Need-returns
-returns c = search needs
-
 returns-2 : tie.Need-returns-2
 returns-2 c =
     let s = c .before .before .before .before .before .before .before in
@@ -62,4 +41,4 @@ returns-2 c =
     absurd (refusal-fits (s .args .e) (omega (arith, w .1, ap (λ (n : ℕ). length (refusalLine n)) (c .before .before .before .before .before .before .refusal-number .ensures))))
 
 pub print-refusal-spec : {M : Type 1} → statement M
-print-refusal-spec = tie.close (tie.spec refusal-number-requires cast-number slice-aggregate-refusal-line refusal-line-requires enum-known-shown array-share-prefix-line slice-aggregate-write-refusal write-refusal-requires enum-told nothing-written-requires returns returns-2)
+print-refusal-spec = tie.close (tie.spec (λ c κs. search needs) (λ c. search needs) (λ c. search needs) refusal-line-requires (λ c. search needs) array-share-prefix-line slice-aggregate-write-refusal write-refusal-requires (λ c. search needs) (λ c κs. search needs) (λ c. search needs) returns-2)

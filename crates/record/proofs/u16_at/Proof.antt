@@ -9,21 +9,12 @@ use Rattle.record.proofs.u16_at.Reads as reads
 use Rattle.record.proofs.u16_at.Lts as lts
 
 -- src/lib.rt:13:15
-shared-slice-read-low : tie.Need-shared-slice-read-low
-shared-slice-read-low c = search needs
-
 -- src/lib.rt:13:15
 cast-low : tie.Need-cast-low
 cast-low c = omega (arith, c .shared-slice-known .given (c .before .args .at))
 
 -- src/lib.rt:14:18
-add-high : tie.Need-add-high
-add-high c = search needs
-
 -- src/lib.rt:14:16
-shared-slice-read-high : tie.Need-shared-slice-read-high
-shared-slice-read-high c = search needs
-
 -- src/lib.rt:14:16
 cast-high : tie.Need-cast-high
 cast-high c = omega (arith, c .shared-slice-known2 .given (c .before .before .args .at + 1))
@@ -45,10 +36,10 @@ pub u16-at-spec : {M : Type 1} → statement M
 u16-at-spec =
     tie.close
     (tie.spec
-    shared-slice-read-low
+    (λ c. search needs)
     cast-low
-    add-high
-    shared-slice-read-high
+    (λ c. search needs)
+    (λ c. search needs)
     cast-high
     mul-result
     add-result

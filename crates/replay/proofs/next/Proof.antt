@@ -9,47 +9,8 @@ use lib.Seq.{length-take-le}
 use Rattle.replay.proofs.next.Statement.{statement}
 use Rattle.replay.proofs.next.Tie as tie
 
-slice-aggregate-read-full : tie.Need-slice-aggregate-read-full
-slice-aggregate-read-full c = search needs
-
-read-full-requires : tie.Need-read-full-requires
-read-full-requires c κs = search needs
-
-returns : tie.Need-returns
-returns c = search needs
-
-slice-aggregate-u16-at : tie.Need-slice-aggregate-u16-at
-slice-aggregate-u16-at c = search needs
-
-u16-at-requires : tie.Need-u16-at-requires
-u16-at-requires c κs = search needs
-
-slice-aggregate-u16-at-2 : tie.Need-slice-aggregate-u16-at-2
-slice-aggregate-u16-at-2 c = search needs
-
-u16-at-requires-2 : tie.Need-u16-at-requires-2
-u16-at-requires-2 c κs = search needs
-
-mul-length : tie.Need-mul-length
-mul-length c = search needs
-
-add-length : tie.Need-add-length
-add-length c = search needs
-
-returns-2 : tie.Need-returns-2
-returns-2 c = search needs
-
-array-borrow-prefix-sheet : tie.Need-array-borrow-prefix-sheet
-array-borrow-prefix-sheet c = search needs
-
 slice-aggregate-show : tie.Need-slice-aggregate-show
 slice-aggregate-show c = sym (length-take-le (c .before .before .before .before .u16-at .result + c .before .before .u16-at2 .result * 65536) (replicate 65540 0) (omega (arith, c .before .if2 .left)))
 
-show-requires : tie.Need-show-requires
-show-requires c κs = search needs
-
-returns-3 : tie.Need-returns-3
-returns-3 c = search needs
-
 pub next-spec : {M : Type 1} → statement M
-next-spec = tie.close (tie.spec slice-aggregate-read-full read-full-requires returns slice-aggregate-u16-at u16-at-requires slice-aggregate-u16-at-2 u16-at-requires-2 mul-length add-length returns-2 array-borrow-prefix-sheet slice-aggregate-show show-requires returns-3)
+next-spec = tie.close (tie.spec (λ c. search needs) (λ c κs. search needs) (λ c. search needs) (λ c. search needs) (λ c κs. search needs) (λ c. search needs) (λ c κs. search needs) (λ c. search needs) (λ c. search needs) (λ c. search needs) (λ c. search needs) slice-aggregate-show (λ c κs. search needs) (λ c. search needs))

@@ -18,39 +18,25 @@ loop-holds c = omega arith
 
 shared-slice-read-print-hex : tie.Need-shared-slice-read-print-hex Inv-loop μ-loop
 shared-slice-read-print-hex c =
-    let s = c .before .before .before .before in
-    let l = c .before .before .loop in
     c .before .loop-test .taken
 
 cast-print-hex : tie.Need-cast-print-hex Inv-loop μ-loop
 cast-print-hex c =
-    let s = c .before .before .before .before in
     let l = c .before .before .loop in
     omega (arith, c .shared-slice-known2 .given (l .i))
 
-print-hex-requires : tie.Need-print-hex-requires Inv-loop μ-loop
-print-hex-requires c κs = search needs
-
 add-i : tie.Need-add-i Inv-loop μ-loop
 add-i c =
-    let s = c .before .before .before .before .before in
     let l = c .before .before .before .loop in
     omega (arith, c .before .before .loop-test .taken, l .inv)
 
 loop-less : tie.Need-loop-less Inv-loop μ-loop
 loop-less c =
-    let s = c .before .before .before .before .before in
-    let l = c .before .before .before .loop in
     omega (arith, c .before .before .loop-test .taken)
 
 loop-again : tie.Need-loop-again Inv-loop μ-loop
 loop-again c =
-    let s = c .before .before .before .before .before in
-    let l = c .before .before .before .loop in
     omega (arith, c .before .before .loop-test .taken)
 
-returns : tie.Need-returns Inv-loop μ-loop
-returns c = search needs
-
 pub print-hexes-spec : {M : Type 1} → statement M
-print-hexes-spec = tie.close (tie.spec Inv-loop μ-loop loop-holds shared-slice-read-print-hex cast-print-hex print-hex-requires add-i loop-less loop-again returns)
+print-hexes-spec = tie.close (tie.spec Inv-loop μ-loop loop-holds shared-slice-read-print-hex cast-print-hex (λ c κs. search needs) add-i loop-less loop-again (λ c. search needs))

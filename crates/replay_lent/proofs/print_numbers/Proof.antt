@@ -16,38 +16,22 @@ abbrev μ-loop : tie.MeasureT-loop
 loop-holds : tie.Need-loop-holds Inv-loop μ-loop
 loop-holds c = omega arith
 
-mul-print-number : tie.Need-mul-print-number Inv-loop μ-loop
-mul-print-number c = search needs
-
 shared-slice-read-print-number : tie.Need-shared-slice-read-print-number Inv-loop μ-loop
 shared-slice-read-print-number c =
-    let s = c .before .before .before .before in
-    let l = c .before .before .loop in
     c .before .loop-test .taken
-
-print-number-requires : tie.Need-print-number-requires Inv-loop μ-loop
-print-number-requires c κs = search needs
 
 add-i : tie.Need-add-i Inv-loop μ-loop
 add-i c =
-    let s = c .before .before .before .before .before in
     let l = c .before .before .before .loop in
     omega (arith, c .before .before .loop-test .taken, l .inv)
 
 loop-less : tie.Need-loop-less Inv-loop μ-loop
 loop-less c =
-    let s = c .before .before .before .before .before in
-    let l = c .before .before .before .loop in
     omega (arith, c .before .before .loop-test .taken)
 
 loop-again : tie.Need-loop-again Inv-loop μ-loop
 loop-again c =
-    let s = c .before .before .before .before .before in
-    let l = c .before .before .before .loop in
     omega (arith, c .before .before .loop-test .taken)
 
-returns : tie.Need-returns Inv-loop μ-loop
-returns c = search needs
-
 pub print-numbers-spec : {M : Type 1} → statement M
-print-numbers-spec = tie.close (tie.spec Inv-loop μ-loop loop-holds mul-print-number shared-slice-read-print-number print-number-requires add-i loop-less loop-again returns)
+print-numbers-spec = tie.close (tie.spec Inv-loop μ-loop loop-holds (λ c. search needs) shared-slice-read-print-number (λ c κs. search needs) add-i loop-less loop-again (λ c. search needs))

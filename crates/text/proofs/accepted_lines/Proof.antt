@@ -11,12 +11,6 @@ use Rattle.text.specs.TextLaws.{lines-none, lines-left}
 use Rattle.text.proofs.accepted_lines.Statement.{statement}
 use Rattle.text.proofs.accepted_lines.Tie as tie
 
-slice-aggregate-question-kinds : tie.Need-slice-aggregate-question-kinds
-slice-aggregate-question-kinds c = search needs
-
-question-kinds-requires : tie.Need-question-kinds-requires
-question-kinds-requires c κs = search needs
-
 add-if1 : tie.Need-add-if1
 add-if1 c =
     let s = c .before .before .before .before .before .before .before .before .before in
@@ -45,9 +39,6 @@ returns c =
     let l = left x b p w g (s .pre) (replicate 1024 0) k t (omega arith) (c .before .before .question-kinds .ensures) in
     lines-none (judged x programLengths) (a .from) (a .out .now) (omega (arith, l .count, c .if1 .taken))
 
-slice-aggregate-show-lines : tie.Need-slice-aggregate-show-lines
-slice-aggregate-show-lines c = search needs
-
 show-lines-requires : tie.Need-show-lines-requires
 show-lines-requires c κs =
     let s = c .before .before .before .before .before .before .before .before .before .before .before .before in
@@ -61,9 +52,6 @@ show-lines-requires c κs =
     let t = c .before .before .before .before .question-kinds .result in
     let l = left x b p w g (s .pre) (replicate 1024 0) k t (omega arith) (c .before .before .before .before .question-kinds .ensures) in
     record { many = l .many; judged = l .good; number = omega (arith, c .before .before .if1 .left) }
-
-same-length : tie.Need-same-length
-same-length c = search needs
 
 returns-2 : tie.Need-returns-2
 returns-2 c =
@@ -87,4 +75,4 @@ returns-2 c =
     piece-goes b p w k g (t .terms) (t .questions) (l .many) (l .good) (l .one) bytes (λ i. omega (arith, c .before .before .before .before .before .before .before .before .before .before .before .shared-slice-known4 .given i)) (λ i. omega (arith, c .before .before .before .before .before .before .before .before .before .before .shared-slice-known5 .given i)) (a .from) o o′ r piece u long)
 
 pub accepted-lines-spec : {M : Type 1} → statement M
-accepted-lines-spec = tie.close (tie.spec slice-aggregate-question-kinds question-kinds-requires add-if1 returns slice-aggregate-show-lines show-lines-requires same-length returns-2)
+accepted-lines-spec = tie.close (tie.spec (λ c. search needs) (λ c κs. search needs) add-if1 returns (λ c. search needs) show-lines-requires (λ c. search needs) returns-2)

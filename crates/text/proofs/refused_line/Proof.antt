@@ -17,23 +17,8 @@ returns c =
     let a = c .before .before .args in
     lines-none (refused (a .e)) (a .from) (a .out .now) (omega (arith, c .if1 .taken))
 
-refusal-number-requires : tie.Need-refusal-number-requires
-refusal-number-requires c κs = search needs
-
-cast-number : tie.Need-cast-number
-cast-number c = search needs
-
 refusal-line-requires : tie.Need-refusal-line-requires
 refusal-line-requires c κs = (omega (arith, c .before .refusal-number .ensures, refusal-small (c .before .before .before .before .args .e)), omega arith)
-
-enum-known-shown : tie.Need-enum-known-shown
-enum-known-shown c = search needs
-
-enum-told : tie.Need-enum-told
-enum-told c = search needs
-
-same-length : tie.Need-same-length
-same-length c = search needs
 
 returns-2 : tie.Need-returns-2
 returns-2 c =
@@ -42,9 +27,6 @@ returns-2 c =
     let o′ = c .before .before .before .before .before .refusal-line .last .1 .0 in
     let w = subst (ShownIs o 0 (refusalLine (c .before .before .before .before .before .before .before .refusal-number .result)) o′) (c .before .shown .given .1) (c .before .before .before .before .before .refusal-line .ensures) in
     refused-written (a .e) (a .from) o o′ (c .before .shown .given .0 .0) (omega (arith, c .before .before .before .before .before .before .before .before .if1 .left)) (wrote-as (ap refusalLine (c .before .before .before .before .before .before .before .refusal-number .ensures)) w)
-
-same-length-2 : tie.Need-same-length-2
-same-length-2 c = search needs
 
 returns-3 : tie.Need-returns-3
 returns-3 c =
@@ -56,4 +38,4 @@ returns-3 c =
     refused-full (a .e) (a .from) o o′ (omega (arith, c .before .before .before .before .before .before .before .if1 .left)) (w .0) (omega (arith, w .1, ap (λ (i : ℕ). length (refusalLine i)) n))
 
 pub refused-line-spec : {M : Type 1} → statement M
-refused-line-spec = tie.close (tie.spec returns refusal-number-requires cast-number refusal-line-requires enum-known-shown enum-told same-length returns-2 same-length-2 returns-3)
+refused-line-spec = tie.close (tie.spec returns (λ c κs. search needs) (λ c. search needs) refusal-line-requires (λ c. search needs) (λ c. search needs) (λ c. search needs) returns-2 (λ c. search needs) returns-3)

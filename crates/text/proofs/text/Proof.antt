@@ -12,56 +12,11 @@ use Rattle.text.specs.TextLaws.{refused-as}
 use Rattle.text.proofs.text.Statement.{statement}
 use Rattle.text.proofs.text.Tie as tie
 
-slice-aggregate-judge : tie.Need-slice-aggregate-judge
-slice-aggregate-judge c = search needs
-
-slice-aggregate-judge-2 : tie.Need-slice-aggregate-judge-2
-slice-aggregate-judge-2 c = search needs
-
-slice-aggregate-judge-3 : tie.Need-slice-aggregate-judge-3
-slice-aggregate-judge-3 c = search needs
-
-slice-aggregate-judge-4 : tie.Need-slice-aggregate-judge-4
-slice-aggregate-judge-4 c = search needs
-
-judge-requires : tie.Need-judge-requires
-judge-requires c κs = search needs
-
-enum-told : tie.Need-enum-told
-enum-told c = search needs
-
-slice-aggregate-accepted-lines : tie.Need-slice-aggregate-accepted-lines
-slice-aggregate-accepted-lines c = search needs
-
-slice-aggregate-accepted-lines-2 : tie.Need-slice-aggregate-accepted-lines-2
-slice-aggregate-accepted-lines-2 c = search needs
-
-slice-aggregate-accepted-lines-3 : tie.Need-slice-aggregate-accepted-lines-3
-slice-aggregate-accepted-lines-3 c = search needs
-
-slice-aggregate-accepted-lines-4 : tie.Need-slice-aggregate-accepted-lines-4
-slice-aggregate-accepted-lines-4 c = search needs
-
 accepted-lines-requires : tie.Need-accepted-lines-requires
 accepted-lines-requires c κs =
     let a = c .before .before .before .before .before .before .before .before .before .before .before .before .before .before .before .before .before .before .args in
     let d = c .before .before .before .before .before .before .before .before .before .before .before .judge .last in
     subst (λ (o : Outcome). JudgeIs (a .sheet .now) programLengths (d .1 .0) (d .1 .1 .0) (d .1 .1 .1 .0) (d .1 .1 .1 .1 .0) o) (c .before .before .before .before .before .enum-told .given .1) (c .before .before .before .before .before .before .before .before .before .before .before .judge .ensures)
-
-enum-known-outcome : tie.Need-enum-known-outcome
-enum-known-outcome c = search needs
-
-refused-line-requires : tie.Need-refused-line-requires
-refused-line-requires c κs = search needs
-
-same-length : tie.Need-same-length
-same-length c = search needs
-
-returns : tie.Need-returns
-returns c = search needs
-
-same-length-2 : tie.Need-same-length-2
-same-length-2 c = search needs
 
 returns-2 : tie.Need-returns-2
 returns-2 c =
@@ -72,4 +27,4 @@ returns-2 c =
     (c .before .before .refused-line .ensures)
 
 pub text-spec : {M : Type 1} → statement M
-text-spec = tie.close (tie.spec slice-aggregate-judge slice-aggregate-judge-2 slice-aggregate-judge-3 slice-aggregate-judge-4 judge-requires enum-told slice-aggregate-accepted-lines slice-aggregate-accepted-lines-2 slice-aggregate-accepted-lines-3 slice-aggregate-accepted-lines-4 accepted-lines-requires enum-known-outcome refused-line-requires same-length returns same-length-2 returns-2)
+text-spec = tie.close (tie.spec (λ c. search needs) (λ c. search needs) (λ c. search needs) (λ c. search needs) (λ c κs. search needs) (λ c. search needs) (λ c. search needs) (λ c. search needs) (λ c. search needs) (λ c. search needs) accepted-lines-requires (λ c. search needs) (λ c κs. search needs) (λ c. search needs) (λ c. search needs) (λ c. search needs) returns-2)

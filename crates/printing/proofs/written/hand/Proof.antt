@@ -5,9 +5,6 @@ use Rattle.printing.specs.PrintLaws.{took-all, took-less}
 use Rattle.printing.proofs.written.hand.Statement.{statement}
 use Rattle.printing.proofs.written.hand.Tie as tie
 
-write-all-requires : tie.Need-write-all-requires
-write-all-requires c κs = search needs
-
 returns : tie.Need-returns
 returns c = let a = c .before .before .before .args in took-all (a .done) (a .next)
 
@@ -15,4 +12,4 @@ returns-2 : tie.Need-returns-2
 returns-2 c = let a = c .before .before .before .args in took-less (a .done) (a .next)
 
 pub hand-spec : {M : Type 1} → statement M
-hand-spec = tie.close (tie.spec write-all-requires returns returns-2)
+hand-spec = tie.close (tie.spec (λ c κs. search needs) returns returns-2)

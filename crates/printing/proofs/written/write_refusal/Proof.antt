@@ -8,9 +8,6 @@ use Rattle.printing.specs.PrintLaws.{refusal-asks, refusal-printed}
 use Rattle.printing.proofs.written.write_refusal.Statement.{statement}
 use Rattle.printing.proofs.written.write_refusal.Tie as tie
 
-nothing-written-requires : tie.Need-nothing-written-requires
-nothing-written-requires c κs = search needs
-
 hand-requires : tie.Need-hand-requires
 hand-requires c κs =
     let s = c .before .before in
@@ -25,4 +22,4 @@ returns c =
     refusal-printed (a .e) r (subst (λ (w : Written). WentOn w 1 r) (c .before .nothing-written .ensures) (c .hand .ensures))
 
 pub write-refusal-spec : {M : Type 1} → statement M
-write-refusal-spec = tie.close (tie.spec nothing-written-requires hand-requires returns)
+write-refusal-spec = tie.close (tie.spec (λ c κs. search needs) hand-requires returns)

@@ -17,48 +17,11 @@ abbrev μ-loop : tie.MeasureT-loop
 μ-loop sheet asked many kinds₀ q₀ kinds q = many - q
 
 loop-holds : tie.Need-loop-holds Inv-loop μ-loop
-loop-holds c =
-    let s = c in
-    let a = s .args in
-    let x = a .sheet .now in
-    let y = a .asked .now in
-    let k = a .kinds .now in
-    (omega arith, put-none x y k)
-
-mul-at : tie.Need-mul-at Inv-loop μ-loop
-mul-at c =
-    let s = c .before .before in
-    let a = s .args in
-    let x = a .sheet .now in
-    let y = a .asked .now in
-    let k = a .kinds .now in
-    let l = c .before .loop in
-    let some = c .loop-test .taken in
-    let o = s .pre .stands (l .q) some in
-    omega (arith, some, s .pre .few)
-
-shared-slice-read-at : tie.Need-shared-slice-read-at Inv-loop μ-loop
-shared-slice-read-at c =
-    let s = c .before .before .before in
-    let a = s .args in
-    let x = a .sheet .now in
-    let y = a .asked .now in
-    let k = a .kinds .now in
-    let l = c .before .before .loop in
-    let some = c .before .loop-test .taken in
-    let o = s .pre .stands (l .q) some in
-    omega (arith, some, s .pre .asked)
+loop-holds c = (omega arith, put-none _ _ _)
 
 cast-at : tie.Need-cast-at Inv-loop μ-loop
 cast-at c =
-    let s = c .before .before .before in
-    let a = s .args in
-    let x = a .sheet .now in
-    let y = a .asked .now in
-    let k = a .kinds .now in
     let l = c .before .before .loop in
-    let some = c .before .loop-test .taken in
-    let o = s .pre .stands (l .q) some in
     omega (arith, c .shared-slice-known .given (l .q))
 
 add-kinds : tie.Need-add-kinds Inv-loop μ-loop
@@ -67,7 +30,6 @@ add-kinds c =
     let a = s .args in
     let x = a .sheet .now in
     let y = a .asked .now in
-    let k = a .kinds .now in
     let l = c .before .before .loop in
     let some = c .before .loop-test .taken in
     let o = s .pre .stands (l .q) some in
@@ -79,47 +41,10 @@ shared-slice-read-kinds c =
     let a = s .args in
     let x = a .sheet .now in
     let y = a .asked .now in
-    let k = a .kinds .now in
     let l = c .before .before .before .loop in
     let some = c .before .before .loop-test .taken in
     let o = s .pre .stands (l .q) some in
     omega (arith, question-inside x (s .pre .sorts) (getD y (l .q) 0) o)
-
-slice-write-kinds : tie.Need-slice-write-kinds Inv-loop μ-loop
-slice-write-kinds c =
-    let s = c .before .before .before .before in
-    let a = s .args in
-    let x = a .sheet .now in
-    let y = a .asked .now in
-    let k = a .kinds .now in
-    let l = c .before .before .before .loop in
-    let some = c .before .before .loop-test .taken in
-    let o = s .pre .stands (l .q) some in
-    omega (arith, some, s .pre .room, l .inv .1 .long)
-
-add-q : tie.Need-add-q Inv-loop μ-loop
-add-q c =
-    let s = c .before .before .before .before in
-    let a = s .args in
-    let x = a .sheet .now in
-    let y = a .asked .now in
-    let k = a .kinds .now in
-    let l = c .before .before .before .loop in
-    let some = c .before .before .loop-test .taken in
-    let o = s .pre .stands (l .q) some in
-    omega (arith, some, s .pre .few)
-
-loop-less : tie.Need-loop-less Inv-loop μ-loop
-loop-less c =
-    let s = c .before .before .before .before in
-    let a = s .args in
-    let x = a .sheet .now in
-    let y = a .asked .now in
-    let k = a .kinds .now in
-    let l = c .before .before .before .loop in
-    let some = c .before .before .loop-test .taken in
-    let o = s .pre .stands (l .q) some in
-    omega (arith, some)
 
 loop-again : tie.Need-loop-again Inv-loop μ-loop
 loop-again c =
@@ -127,21 +52,9 @@ loop-again c =
     let a = s .args in
     let x = a .sheet .now in
     let y = a .asked .now in
-    let k = a .kinds .now in
     let l = c .before .before .before .loop in
     let some = c .before .before .loop-test .taken in
-    let o = s .pre .stands (l .q) some in
-    (omega (arith, some), put-one x y (l .q) k (l .kinds) (omega (arith, some, s .pre .room)) (l .inv .1) (getD x (getD y (l .q) 0 + 1) 0) refl)
-
-same-length : tie.Need-same-length Inv-loop μ-loop
-same-length c =
-    let s = c .before .before in
-    let a = s .args in
-    let x = a .sheet .now in
-    let y = a .asked .now in
-    let k = a .kinds .now in
-    let l = c .before .loop in
-    l .inv .1 .long
+    (omega (arith, some), put-one _ _ _ _ _ (omega (arith, some, s .pre .room)) (l .inv .1) (getD x (getD y (l .q) 0 + 1) 0) refl)
 
 returns : tie.Need-returns Inv-loop μ-loop
 returns c =
@@ -155,4 +68,4 @@ returns c =
     subst (λ (c′ : ℕ). Put x y c′ k (l .kinds)) e (l .inv .1)
 
 pub put-kinds-spec : {M : Type 1} → statement M
-put-kinds-spec = tie.close (tie.spec Inv-loop μ-loop loop-holds mul-at shared-slice-read-at cast-at add-kinds shared-slice-read-kinds slice-write-kinds add-q loop-less loop-again same-length returns)
+put-kinds-spec = tie.close (tie.spec Inv-loop μ-loop loop-holds (λ c. search needs) (λ c. search needs) cast-at add-kinds shared-slice-read-kinds (λ c. search needs) (λ c. search needs) (λ c. search needs) loop-again (λ c. search needs) returns)

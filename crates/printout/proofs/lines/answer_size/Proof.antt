@@ -22,20 +22,10 @@ returns c =
     (omega (arith, c .row-size .ensures .0, ap length e), c .row-size .ensures .1)
 
 returns-2 : tie.Need-returns-2
-returns-2 c =
-    let s = c .before .before .before .before in
-    let a = s .args in
-    let b = a .records .now in
-    let p = a .places .now in
-    (sym (ap length (answer-no b p (a .kind) (a .code) (c .before .if1 .left) (c .if2 .taken))), omega arith)
+returns-2 c = (sym (ap length (answer-no _ _ _ _ (c .before .if1 .left) (c .if2 .taken))), omega arith)
 
 returns-3 : tie.Need-returns-3
-returns-3 c =
-    let s = c .before .before .before .before in
-    let a = s .args in
-    let b = a .records .now in
-    let p = a .places .now in
-    (sym (ap length (answer-yes b p (a .kind) (a .code) (c .before .if1 .left) (c .if2 .left))), omega arith)
+returns-3 c = (sym (ap length (answer-yes _ _ _ _ (c .before .if1 .left) (c .if2 .left))), omega arith)
 
 pub answer-size-spec : {M : Type 1} → statement M
 answer-size-spec = tie.close (tie.spec row-size-requires returns returns-2 returns-3)

@@ -17,19 +17,8 @@ put-row-requires c κs =
     let p = a .places .now in
     (s .pre .0 (c .before .if1 .taken), omega (arith, s .pre .1, ap length (answer-row b p (a .kind) (a .code) (c .before .if1 .taken))))
 
-same-length : tie.Need-same-length
-same-length c = search needs
-
 returns : tie.Need-returns
-returns c =
-    let s = c .before .before .before .before .before .before .before .before in
-    let a = s .args in
-    let b = a .records .now in
-    let p = a .places .now in
-    wrote-as (sym (answer-row b p (a .kind) (a .code) (c .before .before .before .before .if1 .taken))) (c .before .before .put-row .ensures)
-
-slice-aggregate-put : tie.Need-slice-aggregate-put
-slice-aggregate-put c = search needs
+returns c = wrote-as (sym (answer-row _ _ _ _ (c .before .before .before .before .if1 .taken))) (c .before .before .put-row .ensures)
 
 put-requires : tie.Need-put-requires
 put-requires c κs =
@@ -39,19 +28,8 @@ put-requires c κs =
     let p = a .places .now in
     omega (arith, s .pre .1, ap length (answer-no b p (a .kind) (a .code) (c .before .before .before .if1 .left) (c .before .before .if2 .taken)))
 
-same-length-2 : tie.Need-same-length-2
-same-length-2 c = search needs
-
 returns-2 : tie.Need-returns-2
-returns-2 c =
-    let s = c .before .before .before .before .before .before .before .before .before .before in
-    let a = s .args in
-    let b = a .records .now in
-    let p = a .places .now in
-    wrote-as (sym (answer-no b p (a .kind) (a .code) (c .before .before .before .before .before .before .if1 .left) (c .before .before .before .before .before .if2 .taken))) (c .before .before .put .ensures)
-
-slice-aggregate-put-2 : tie.Need-slice-aggregate-put-2
-slice-aggregate-put-2 c = search needs
+returns-2 c = wrote-as (sym (answer-no _ _ _ _ (c .before .before .before .before .before .before .if1 .left) (c .before .before .before .before .before .if2 .taken))) (c .before .before .put .ensures)
 
 put-requires-2 : tie.Need-put-requires-2
 put-requires-2 c κs =
@@ -61,16 +39,8 @@ put-requires-2 c κs =
     let p = a .places .now in
     omega (arith, s .pre .1, ap length (answer-yes b p (a .kind) (a .code) (c .before .before .before .if1 .left) (c .before .before .if2 .left)))
 
-same-length-3 : tie.Need-same-length-3
-same-length-3 c = search needs
-
 returns-3 : tie.Need-returns-3
-returns-3 c =
-    let s = c .before .before .before .before .before .before .before .before .before .before in
-    let a = s .args in
-    let b = a .records .now in
-    let p = a .places .now in
-    wrote-as (sym (answer-yes b p (a .kind) (a .code) (c .before .before .before .before .before .before .if1 .left) (c .before .before .before .before .before .if2 .left))) (c .before .before .put2 .ensures)
+returns-3 c = wrote-as (sym (answer-yes _ _ _ _ (c .before .before .before .before .before .before .if1 .left) (c .before .before .before .before .before .if2 .left))) (c .before .before .put2 .ensures)
 
 pub put-answer-spec : {M : Type 1} → statement M
-put-answer-spec = tie.close (tie.spec put-row-requires same-length returns slice-aggregate-put put-requires same-length-2 returns-2 slice-aggregate-put-2 put-requires-2 same-length-3 returns-3)
+put-answer-spec = tie.close (tie.spec put-row-requires (λ c. search needs) returns (λ c. search needs) put-requires (λ c. search needs) returns-2 (λ c. search needs) put-requires-2 (λ c. search needs) returns-3)

@@ -29,9 +29,6 @@ put-decimal-requires c κs =
     let o = a .out .now in
     omega (arith, s .pre, label-length (a .mark) (a .v), length-set o (a .to) (a .mark))
 
-slice-aggregate-put : tie.Need-slice-aggregate-put
-slice-aggregate-put c = search needs
-
 put-requires : tie.Need-put-requires
 put-requires c κs =
     let s = c .before .before .before .before .before .before .before in
@@ -56,4 +53,4 @@ returns c =
     wrote-more (wrote-more first (c .before .before .before .before .before .before .before .put-decimal .ensures)) (c .before .before .put .ensures)
 
 pub put-label-spec : {M : Type 1} → statement M
-put-label-spec = tie.close (tie.spec slice-write-out add-put-decimal put-decimal-requires slice-aggregate-put put-requires same-length returns)
+put-label-spec = tie.close (tie.spec slice-write-out add-put-decimal put-decimal-requires (λ c. search needs) put-requires same-length returns)

@@ -8,9 +8,6 @@ use Rattle.printout.specs.Wrote.{wrote-more, wrote-long}
 use Rattle.printout.proofs.lines.put_refusal.Statement.{statement}
 use Rattle.printout.proofs.lines.put_refusal.Tie as tie
 
-slice-aggregate-put : tie.Need-slice-aggregate-put
-slice-aggregate-put c = search needs
-
 put-requires : tie.Need-put-requires
 put-requires c κs =
     let s = c .before .before .before in
@@ -23,12 +20,9 @@ put-decimal-requires c κs =
     let a = s .args in
     omega (arith, s .pre, refusal-length (a .number), c .before .before .before .put .ensures .next, wrote-long (c .before .before .before .put .ensures))
 
-same-length : tie.Need-same-length
-same-length c = search needs
-
 returns : tie.Need-returns
 unfolding refusalText
 returns c = wrote-more (c .before .before .before .before .before .before .put .ensures) (c .before .before .put-decimal .ensures)
 
 pub put-refusal-spec : {M : Type 1} → statement M
-put-refusal-spec = tie.close (tie.spec slice-aggregate-put put-requires put-decimal-requires same-length returns)
+put-refusal-spec = tie.close (tie.spec (λ c. search needs) put-requires put-decimal-requires (λ c. search needs) returns)

@@ -17,16 +17,8 @@ put-sort-requires c κs =
     let p = a .places .now in
     (s .pre .0 (c .before .if1 .taken), omega (arith, s .pre .1, ap length (row-sort b p (a .code) (c .before .if1 .taken))))
 
-same-length : tie.Need-same-length
-same-length c = search needs
-
 returns : tie.Need-returns
-returns c =
-    let s = c .before .before .before .before .before .before .before .before in
-    let a = s .args in
-    let b = a .records .now in
-    let p = a .places .now in
-    wrote-as (sym (row-sort b p (a .code) (c .before .before .before .before .if1 .taken))) (c .before .before .put-sort .ensures)
+returns c = wrote-as (sym (row-sort _ _ _ (c .before .before .before .before .if1 .taken))) (c .before .before .put-sort .ensures)
 
 put-refusal-requires : tie.Need-put-refusal-requires
 put-refusal-requires c κs =
@@ -36,16 +28,8 @@ put-refusal-requires c κs =
     let p = a .places .now in
     omega (arith, s .pre .1, ap length (row-refused b p (a .code) (c .before .if1 .left)))
 
-same-length-2 : tie.Need-same-length-2
-same-length-2 c = search needs
-
 returns-2 : tie.Need-returns-2
-returns-2 c =
-    let s = c .before .before .before .before .before .before .before .before in
-    let a = s .args in
-    let b = a .records .now in
-    let p = a .places .now in
-    wrote-as (sym (row-refused b p (a .code) (c .before .before .before .before .if1 .left))) (c .before .before .put-refusal .ensures)
+returns-2 c = wrote-as (sym (row-refused _ _ _ (c .before .before .before .before .if1 .left))) (c .before .before .put-refusal .ensures)
 
 pub put-row-spec : {M : Type 1} → statement M
-put-row-spec = tie.close (tie.spec put-sort-requires same-length returns put-refusal-requires same-length-2 returns-2)
+put-row-spec = tie.close (tie.spec put-sort-requires (λ c. search needs) returns put-refusal-requires (λ c. search needs) returns-2)

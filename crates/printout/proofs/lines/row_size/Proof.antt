@@ -23,12 +23,6 @@ returns c =
     let e = row-sort b p (a .code) (c .before .if1 .taken) in
     (omega (arith, c .text-size .ensures .is, ap length e), omega (arith, c .text-size .ensures .most, s .pre (c .before .if1 .taken) .small))
 
-digits-requires : tie.Need-digits-requires
-digits-requires c κs = search needs
-
-add-result : tie.Need-add-result
-add-result c = omega (arith, c .digits .ensures .1)
-
 returns-2 : tie.Need-returns-2
 returns-2 c =
     let s = c .before .before .before .before in
@@ -39,4 +33,4 @@ returns-2 c =
     (omega (arith, c .digits .ensures .0, ap length e, refusal-length (a .code / 65536)), omega (arith, c .digits .ensures .1))
 
 pub row-size-spec : {M : Type 1} → statement M
-row-size-spec = tie.close (tie.spec text-size-requires returns digits-requires add-result returns-2)
+row-size-spec = tie.close (tie.spec text-size-requires returns (λ c κs. search needs) (λ c. search needs) returns-2)

@@ -42,15 +42,13 @@ put-decimal-cast-digit t c =
 put-decimal-slice-write-out : (t : ℕ) → put-decimal-lts.Need-slice-write-out (put-decimal-env t) (put-decimal-at t) put-decimal.Post
 put-decimal-slice-write-out t c =
     let s = c .before .before in
-    let a = s .args in
-    let e = decimal-one (a .v) (c .if1 .taken) in
+    let e = decimal-one _ (c .if1 .taken) in
     omega (arith, s .pre .1, ap length e)
 
 put-decimal-add-result : (t : ℕ) → put-decimal-lts.Need-add-result (put-decimal-env t) (put-decimal-at t) put-decimal.Post
 put-decimal-add-result t c =
     let s = c .before .before in
-    let a = s .args in
-    let e = decimal-one (a .v) (c .if1 .taken) in
+    let e = decimal-one _ (c .if1 .taken) in
     omega (arith, s .pre .1, ap length e)
 
 put-decimal-same-length : (t : ℕ) → put-decimal-lts.Need-same-length (put-decimal-env t) (put-decimal-at t) put-decimal.Post
@@ -61,15 +59,14 @@ put-decimal-returns : (t : ℕ) → put-decimal-lts.Need-returns (put-decimal-en
 put-decimal-returns t c =
     let s = c .before .before in
     let a = s .args in
-    let o = a .out .now in
-    let e = decimal-one (a .v) (c .if1 .taken) in
-    wrote-as (sym e) (wrote-one o (a .to) (48 + a .v % 10) (omega (arith, s .pre .1, ap length e)))
+    let e = decimal-one _ (c .if1 .taken) in
+    wrote-as (sym e) (wrote-one _ _ (48 + a .v % 10) (omega (arith, s .pre .1, ap length e)))
 
 put-decimal-put-decimal-requires : (t : ℕ) → put-decimal-lts.Need-put-decimal-requires (put-decimal-env t) (put-decimal-at t) put-decimal.Post
 put-decimal-put-decimal-requires t c κs =
     let s = c .before .before .before in
     let a = s .args in
-    let e = decimal-more (a .v) (c .before .if1 .left) in
+    let e = decimal-more _ (c .before .if1 .left) in
     let l = length-append (decimal (a .v / 10)) ((48 + a .v % 10) ∷ []) in
     (omega (arith, s .pre .0, c .before .if1 .left), omega (arith, s .pre .1, ap length e, l))
 
@@ -77,7 +74,7 @@ put-decimal-slice-write-out-2 : (t : ℕ) → put-decimal-lts.Need-slice-write-o
 put-decimal-slice-write-out-2 t c =
     let s = c .before .before .before .before .before .before in
     let a = s .args in
-    let e = decimal-more (a .v) (c .before .before .before .before .if1 .left) in
+    let e = decimal-more _ (c .before .before .before .before .if1 .left) in
     let l = length-append (decimal (a .v / 10)) ((48 + a .v % 10) ∷ []) in
     omega (arith, s .pre .1, ap length e, l, c .before .before .put-decimal .ensures .next, wrote-long (c .before .before .put-decimal .ensures))
 
@@ -85,7 +82,7 @@ put-decimal-add-result-2 : (t : ℕ) → put-decimal-lts.Need-add-result-2 (put-
 put-decimal-add-result-2 t c =
     let s = c .before .before .before .before .before .before in
     let a = s .args in
-    let e = decimal-more (a .v) (c .before .before .before .before .if1 .left) in
+    let e = decimal-more _ (c .before .before .before .before .if1 .left) in
     let l = length-append (decimal (a .v / 10)) ((48 + a .v % 10) ∷ []) in
     omega (arith, s .pre .1, ap length e, l, c .before .before .put-decimal .ensures .next)
 
@@ -97,11 +94,11 @@ put-decimal-returns-2 : (t : ℕ) → put-decimal-lts.Need-returns-2 (put-decima
 put-decimal-returns-2 t c =
     let s = c .before .before .before .before .before .before in
     let a = s .args in
-    let e = decimal-more (a .v) (c .before .before .before .before .if1 .left) in
+    let e = decimal-more _ (c .before .before .before .before .if1 .left) in
     let l = length-append (decimal (a .v / 10)) ((48 + a .v % 10) ∷ []) in
     wrote-as (sym e)
     (wrote-more (c .before .before .put-decimal .ensures)
-    (wrote-one (c .before .before .put-decimal .last .0) (c .before .before .put-decimal .result) (48 + a .v % 10)
+    (wrote-one _ _ (48 + a .v % 10)
     (omega (arith, s .pre .1, ap length e, l, c .before .before .put-decimal .ensures .next, wrote-long (c .before .before .put-decimal .ensures)))))
 
 pub +put-decimal-spec : {M : Type 1} → statement M

@@ -31,18 +31,14 @@ loop-again : tie.Need-loop-again Inv-loop μ-loop
 unfolding tens
 loop-again c =
     let s = c .before .before in
-    let a = s .args in
-    digits-step (a .v) (c .before .loop .i) (s .pre) (omega (arith, c .loop-test .taken)) (c .before .loop .inv)
+    digits-step _ (c .before .loop .i) (s .pre) (omega (arith, c .loop-test .taken)) (c .before .loop .inv)
 
 add-result : tie.Need-add-result Inv-loop μ-loop
 add-result c = omega (arith, c .before .loop .inv .few)
 
 returns : tie.Need-returns Inv-loop μ-loop
 unfolding tens
-returns c =
-    let s = c .before .before in
-    let a = s .args in
-    (digits-end (a .v) (c .before .loop .i) (c .loop-test .left) (c .before .loop .inv), omega (arith, c .before .loop .inv .few))
+returns c = (digits-end _ (c .before .loop .i) (c .loop-test .left) (c .before .loop .inv), omega (arith, c .before .loop .inv .few))
 
 pub digits-spec : {M : Type 1} → statement M
 digits-spec = tie.close (tie.spec Inv-loop μ-loop loop-holds mul-loop array-read-loop add-i loop-less loop-again add-result returns)

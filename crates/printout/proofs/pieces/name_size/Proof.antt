@@ -8,10 +8,7 @@ use Rattle.printout.proofs.pieces.name_size.Statement.{statement}
 use Rattle.printout.proofs.pieces.name_size.Tie as tie
 
 returns : tie.Need-returns
-returns c =
-    let s = c .before in
-    let a = s .args in
-    (sym (ap length (name-none (a .name) (c .if1 .taken))), omega arith)
+returns c = (sym (ap length (name-none _ (c .if1 .taken))), omega arith)
 
 digits-requires : tie.Need-digits-requires
 digits-requires c κs =

@@ -47,11 +47,8 @@ loop-less c = omega (arith, c .before .before .loop-test .taken)
 
 loop-again : tie.Need-loop-again Inv-loop μ-loop
 loop-again c =
-    let s = c .before .before .before .before .before in
-    let a = s .args in
-    let b = a .records .now in
     let l = c .before .before .before .loop in
-    names-step b (a .at) (a .count) (l .sum) (l .next) (l .left) (c .before .u16-at .result) (c .name-size .result) (l .inv) (c .before .before .loop-test .taken)
+    names-step _ _ _ _ _ _ _ _ (l .inv) (c .before .before .loop-test .taken)
     (c .before .u16-at .ensures .0) (c .name-size .ensures .0) (c .name-size .ensures .1)
 
 returns : tie.Need-returns Inv-loop μ-loop

@@ -9,26 +9,14 @@ use lib.ListN.{length}
 use Rattle.printout.proofs.pieces.put_name.Statement.{statement}
 use Rattle.printout.proofs.pieces.put_name.Tie as tie
 
-slice-aggregate-put : tie.Need-slice-aggregate-put
-slice-aggregate-put c = search needs
-
 put-requires : tie.Need-put-requires
 put-requires c κs =
     let s = c .before .before .before .before in
     let a = s .args in
     omega (arith, s .pre, ap length (name-none (a .name) (c .before .before .if1 .taken)))
 
-same-length : tie.Need-same-length
-same-length c = search needs
-
 returns : tie.Need-returns
-returns c =
-    let s = c .before .before .before .before .before .before .before in
-    let a = s .args in
-    wrote-as (sym (name-none (a .name) (c .before .before .before .before .before .if1 .taken))) (c .before .before .put .ensures)
-
-slice-aggregate-put-2 : tie.Need-slice-aggregate-put-2
-slice-aggregate-put-2 c = search needs
+returns c = wrote-as (sym (name-none _ (c .before .before .before .before .before .if1 .taken))) (c .before .before .put .ensures)
 
 put-requires-2 : tie.Need-put-requires-2
 put-requires-2 c κs =
@@ -42,14 +30,8 @@ put-decimal-requires c κs =
     let a = s .args in
     omega (arith, s .pre, ap length (name-some (a .name) (c .before .before .before .before .before .before .if1 .left)), c .before .before .before .put2 .ensures .next, wrote-long (c .before .before .before .put2 .ensures))
 
-same-length-2 : tie.Need-same-length-2
-same-length-2 c = search needs
-
 returns-2 : tie.Need-returns-2
-returns-2 c =
-    let s = c .before .before .before .before .before .before .before .before .before .before .before in
-    let a = s .args in
-    wrote-as (sym (name-some (a .name) (c .before .before .before .before .before .before .before .before .before .if1 .left))) (wrote-more (c .before .before .before .before .before .before .put2 .ensures) (c .before .before .put-decimal .ensures))
+returns-2 c = wrote-as (sym (name-some _ (c .before .before .before .before .before .before .before .before .before .if1 .left))) (wrote-more (c .before .before .before .before .before .before .put2 .ensures) (c .before .before .put-decimal .ensures))
 
 pub put-name-spec : {M : Type 1} → statement M
-put-name-spec = tie.close (tie.spec slice-aggregate-put put-requires same-length returns slice-aggregate-put-2 put-requires-2 put-decimal-requires same-length-2 returns-2)
+put-name-spec = tie.close (tie.spec (λ c. search needs) put-requires (λ c. search needs) returns (λ c. search needs) put-requires-2 put-decimal-requires (λ c. search needs) returns-2)

@@ -24,16 +24,7 @@ loop-holds c =
     let s = c .before .before in
     let a = s .args in
     let b = a .records .now in
-    let o = a .out .now in
-    record { within = s .pre .0; rest = left-start o (a .to) (moreNames (numbersAt b (a .at) (a .count))) (s .pre .1) }
-
-u16-at-requires : tie.Need-u16-at-requires Inv-loop μ-loop
-u16-at-requires c κs =
-    let l = c .before .loop in
-    omega (arith, l .inv .within, c .loop-test .taken)
-
-slice-aggregate-put : tie.Need-slice-aggregate-put Inv-loop μ-loop
-slice-aggregate-put c = search needs
+    record { within = s .pre .0; rest = left-start _ _ (moreNames (numbersAt b (a .at) (a .count))) (s .pre .1) }
 
 put-requires : tie.Need-put-requires Inv-loop μ-loop
 put-requires c κs =
@@ -52,17 +43,6 @@ put-name-requires c κs =
     let e = ap (λ (k : ℕ). length (nameText k)) (c .before .before .before .before .before .before .u16-at .ensures .0) in
     omega (arith, e, put-room b (a .at) (a .count) (a .out .now) (a .to) (l .out) (l .end) (l .next) (l .left) (l .inv) (c .before .before .before .before .before .before .before .loop-test .taken), c .before .before .before .put .ensures .next, wrote-long (c .before .before .before .put .ensures))
 
-add-next : tie.Need-add-next Inv-loop μ-loop
-add-next c =
-    let l = c .before .before .before .before .before .before .before .before .before .before .before .loop in
-    omega (arith, l .inv .within, c .before .before .before .before .before .before .before .before .before .before .loop-test .taken)
-
-sub-left : tie.Need-sub-left Inv-loop μ-loop
-sub-left c = omega (arith, c .before .before .before .before .before .before .before .before .before .before .loop-test .taken)
-
-loop-less : tie.Need-loop-less Inv-loop μ-loop
-loop-less c = omega (arith, c .before .before .before .before .before .before .before .before .before .before .loop-test .taken)
-
 loop-again : tie.Need-loop-again Inv-loop μ-loop
 loop-again c =
     let s = c .before .before .before .before .before .before .before .before .before .before .before .before .before .before in
@@ -72,13 +52,8 @@ loop-again c =
     let w = wrote-as (ap (λ (k : ℕ). ascii " " ++ nameText k) (c .before .before .before .before .before .before .before .before .before .u16-at .ensures .0)) (wrote-more (c .before .before .before .before .before .before .put .ensures) (c .before .before .put-name .ensures)) in
     record {
       within = omega (arith, l .inv .within, c .before .before .before .before .before .before .before .before .before .before .loop-test .taken);
-      rest = left-step (moreNames (numbersAt b (l .next + 2) (l .left - 1))) (put-left b (a .at) (a .count) (a .out .now) (a .to) (l .out) (l .end) (l .next) (l .left) (l .inv) (c .before .before .before .before .before .before .before .before .before .before .loop-test .taken)) w;
+      rest = left-step (moreNames (numbersAt b (l .next + 2) (l .left - 1))) (put-left _ _ _ _ _ _ _ _ _ (l .inv) (c .before .before .before .before .before .before .before .before .before .before .loop-test .taken)) w;
     }
-
-same-length : tie.Need-same-length Inv-loop μ-loop
-same-length c =
-    let l = c .before .loop in
-    l .inv .rest .long
 
 returns : tie.Need-returns Inv-loop μ-loop
 returns c =
@@ -90,4 +65,4 @@ returns c =
     left-done (rw e at (l .inv .rest))
 
 pub put-names-spec : {M : Type 1} → statement M
-put-names-spec = tie.close (tie.spec Inv-loop μ-loop loop-holds u16-at-requires slice-aggregate-put put-requires put-name-requires add-next sub-left loop-less loop-again same-length returns)
+put-names-spec = tie.close (tie.spec Inv-loop μ-loop loop-holds (λ c κs. search needs) (λ c. search needs) put-requires put-name-requires (λ c. search needs) (λ c. search needs) (λ c. search needs) loop-again (λ c. search needs) returns)

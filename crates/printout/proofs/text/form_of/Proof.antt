@@ -5,22 +5,13 @@ use Rattle.printout.proofs.text.form_of.Statement.{statement}
 use Rattle.printout.proofs.text.form_of.Tie as tie
 
 returns : tie.Need-returns
-returns c =
-    let s = c .before .before in
-    let a = s .args in
-    form-bare (a .kind) (a .parts) (c .before .if1 .taken) (c .if2 .taken)
+returns c = form-bare _ _ (c .before .if1 .taken) (c .if2 .taken)
 
 returns-2 : tie.Need-returns-2
-returns-2 c =
-    let s = c .before .before in
-    let a = s .args in
-    form-atom (a .kind) (a .parts) (c .before .if1 .taken) (c .if2 .left)
+returns-2 c = form-atom _ _ (c .before .if1 .taken) (c .if2 .left)
 
 returns-3 : tie.Need-returns-3
-returns-3 c =
-    let s = c .before in
-    let a = s .args in
-    form-kind (a .kind) (a .parts) (c .if1 .left)
+returns-3 c = form-kind _ _ (c .if1 .left)
 
 pub form-of-spec : {M : Type 1} → statement M
 form-of-spec = tie.close (tie.spec returns returns-2 returns-3)

@@ -6,15 +6,9 @@ use Rattle.printout.specs.Pieces.{frames}
 use Rattle.printout.proofs.text.frame_size.Statement.{statement}
 use Rattle.printout.proofs.text.frame_size.Tie as tie
 
-mul-result : tie.Need-mul-result
-mul-result c = search needs
-
-array-read-result : tie.Need-array-read-result
-array-read-result c = search needs
-
 returns : tie.Need-returns
 unfolding frames
-returns c = refl
+returns c = search needs
 
 pub frame-size-spec : {M : Type 1} → statement M
-frame-size-spec = tie.close (tie.spec mul-result array-read-result returns)
+frame-size-spec = tie.close (tie.spec (λ c. search needs) (λ c. search needs) returns)

@@ -10,18 +10,11 @@ use Rattle.printout.specs.Wrote.{wrote-as, wrote-none, wrote-one}
 use Rattle.printout.proofs.text.put_close.Statement.{statement}
 use Rattle.printout.proofs.text.put_close.Tie as tie
 
-array-read-bracket : tie.Need-array-read-bracket
-array-read-bracket c =
-    let s = c in
-    s .pre .0
-
 returns : tie.Need-returns
 unfolding closes
 returns c =
     let s = c .before in
-    let a = s .args in
-    let o = a .out .now in
-    wrote-as (sym (close-none (a .form) (c .if1 .taken))) (wrote-none o (a .to) (omega (arith, s .pre .1)))
+    wrote-as (sym (close-none _ (c .if1 .taken))) (wrote-none _ _ (omega (arith, s .pre .1)))
 
 slice-write-out : tie.Need-slice-write-out
 unfolding closes
@@ -37,17 +30,13 @@ add-result c =
     let a = s .args in
     omega (arith, s .pre .1, ap length (close-one (a .form) (c .if1 .left)))
 
-same-length : tie.Need-same-length
-same-length c = search needs
-
 returns-2 : tie.Need-returns-2
 unfolding closes
 returns-2 c =
     let s = c .before in
     let a = s .args in
-    let o = a .out .now in
-    let e = close-one (a .form) (c .if1 .left) in
-    wrote-as (sym e) (wrote-one o (a .to) (getD closes (a .form) 0) (omega (arith, s .pre .1, ap length e)))
+    let e = close-one _ (c .if1 .left) in
+    wrote-as (sym e) (wrote-one _ _ (getD closes (a .form) 0) (omega (arith, s .pre .1, ap length e)))
 
 pub put-close-spec : {M : Type 1} → statement M
-put-close-spec = tie.close (tie.spec array-read-bracket returns slice-write-out add-result same-length returns-2)
+put-close-spec = tie.close (tie.spec (λ c. search needs) returns slice-write-out add-result (λ c. search needs) returns-2)

@@ -11,11 +11,6 @@ use Rattle.printout.specs.Wrote.{wrote-as, wrote-none}
 use Rattle.printout.proofs.text.put_inner.Statement.{statement}
 use Rattle.printout.proofs.text.put_inner.Tie as tie
 
-array-read-inner : tie.Need-array-read-inner
-array-read-inner c =
-    let s = c .before .before in
-    s .pre .0 .form
-
 put-name-requires : tie.Need-put-name-requires
 unfolding inners
 put-name-requires c κs =
@@ -40,19 +35,13 @@ put-par-names-requires c κs =
     let b = a .records .now in
     (s .pre .0 .some (c .before .match .keys3), s .pre .0 .within, omega (arith, s .pre .1, ap length (inner-names (a .form) (a .a .name) (a .a .number) (numbersAt b (a .a .names) (a .a .named)) (c .before .match .keys3))))
 
-same-length : tie.Need-same-length
-same-length c = search needs
-
 returns : tie.Need-returns
 unfolding inners
 returns c =
     let s = c .before .before .before .before .before .before .before in
     let a = s .args in
     let b = a .records .now in
-    wrote-as (sym (inner-name (a .form) (a .a .name) (a .a .number) (numbersAt b (a .a .names) (a .a .named)) (c .before .before .before .before .match .keys1))) (c .before .before .put-name .ensures)
-
-same-length-2 : tie.Need-same-length-2
-same-length-2 c = search needs
+    wrote-as (sym (inner-name _ _ _ (numbersAt b (a .a .names) (a .a .named)) (c .before .before .before .before .match .keys1))) (c .before .before .put-name .ensures)
 
 returns-2 : tie.Need-returns-2
 unfolding inners
@@ -60,10 +49,7 @@ returns-2 c =
     let s = c .before .before .before .before .before .before .before in
     let a = s .args in
     let b = a .records .now in
-    wrote-as (sym (inner-number (a .form) (a .a .name) (a .a .number) (numbersAt b (a .a .names) (a .a .named)) (c .before .before .before .before .match .keys2))) (c .before .before .put-decimal .ensures)
-
-same-length-3 : tie.Need-same-length-3
-same-length-3 c = search needs
+    wrote-as (sym (inner-number _ _ _ (numbersAt b (a .a .names) (a .a .named)) (c .before .before .before .before .match .keys2))) (c .before .before .put-decimal .ensures)
 
 returns-3 : tie.Need-returns-3
 unfolding inners
@@ -71,7 +57,7 @@ returns-3 c =
     let s = c .before .before .before .before .before .before .before in
     let a = s .args in
     let b = a .records .now in
-    wrote-as (sym (inner-names (a .form) (a .a .name) (a .a .number) (numbersAt b (a .a .names) (a .a .named)) (c .before .before .before .before .match .keys3))) (c .before .before .put-par-names .ensures)
+    wrote-as (sym (inner-names _ _ _ (numbersAt b (a .a .names) (a .a .named)) (c .before .before .before .before .match .keys3))) (c .before .before .put-par-names .ensures)
 
 returns-4 : tie.Need-returns-4
 unfolding inners
@@ -79,8 +65,7 @@ returns-4 c =
     let s = c .before .before .before in
     let a = s .args in
     let b = a .records .now in
-    let o = a .out .now in
-    wrote-as (sym (inner-none (a .form) (a .a .name) (a .a .number) (numbersAt b (a .a .names) (a .a .named)) (c .match .rest .0 .0 .1) (c .match .rest .0 .1) (c .match .rest .1))) (wrote-none o (a .to) (omega (arith, s .pre .1)))
+    wrote-as (sym (inner-none _ _ _ (numbersAt b (a .a .names) (a .a .named)) (c .match .rest .0 .0 .1) (c .match .rest .0 .1) (c .match .rest .1))) (wrote-none _ _ (omega (arith, s .pre .1)))
 
 pub put-inner-spec : {M : Type 1} → statement M
-put-inner-spec = tie.close (tie.spec array-read-inner put-name-requires put-decimal-requires put-par-names-requires same-length returns same-length-2 returns-2 same-length-3 returns-3 returns-4)
+put-inner-spec = tie.close (tie.spec (λ c. search needs) put-name-requires put-decimal-requires put-par-names-requires (λ c. search needs) returns (λ c. search needs) returns-2 (λ c. search needs) returns-3 returns-4)

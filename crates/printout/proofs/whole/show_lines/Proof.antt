@@ -18,79 +18,16 @@ Inv-loop records places rows kinds answers terms questions from out₀ total k�
 abbrev μ-loop : tie.MeasureT-loop
 μ-loop records places rows kinds answers terms questions from out₀ total k₀ to₀ out k to = total - k
 
-add-total : tie.Need-add-total Inv-loop μ-loop
-add-total c =
-    let s = c .before .before .before .before .before .before in
-    let a = s .args in
-    let b = a .records .now in
-    let p = a .places .now in
-    let w = a .rows .now in
-    let d = a .kinds .now in
-    let g = a .answers .now in
-    let t = a .terms in
-    let q = a .questions in
-    let o = a .out .now in
-    omega (arith, s .pre .judged .few, s .pre .judged .fewer)
-
 loop-holds : tie.Need-loop-holds Inv-loop μ-loop
 loop-holds c =
     let s = c .before .before .before .before .before .before in
-    let a = s .args in
-    let b = a .records .now in
-    let p = a .places .now in
-    let w = a .rows .now in
-    let d = a .kinds .now in
-    let g = a .answers .now in
-    let t = a .terms in
-    let q = a .questions in
-    let o = a .out .now in
-    (refl, showing-start b p w d g t q (a .from) (s .pre) o)
+    (refl, showing-start _ _ _ _ _ _ _ _ (s .pre) _)
 
 line-requires : tie.Need-line-requires Inv-loop μ-loop
 line-requires c κs =
     let s = c .before .before .before .before .before .before .before .before .before in
-    let a = s .args in
-    let b = a .records .now in
-    let p = a .places .now in
-    let w = a .rows .now in
-    let d = a .kinds .now in
-    let g = a .answers .now in
-    let t = a .terms in
-    let q = a .questions in
-    let o = a .out .now in
     let l = c .before .before .loop in
-    showing-asks b p w d g t q (a .from) (s .pre) o (l .out) (l .k) (l .to) (l .inv .1) (omega (arith, c .before .loop-test .taken, l .inv .0))
-
-enum-known-shown : tie.Need-enum-known-shown Inv-loop μ-loop
-enum-known-shown c = search needs
-
-add-k : tie.Need-add-k Inv-loop μ-loop
-add-k c =
-    let s = c .before .before .before .before .before .before .before .before .before .before .before .before .before .before .before in
-    let a = s .args in
-    let b = a .records .now in
-    let p = a .places .now in
-    let w = a .rows .now in
-    let d = a .kinds .now in
-    let g = a .answers .now in
-    let t = a .terms in
-    let q = a .questions in
-    let o = a .out .now in
-    omega (arith, c .before .before .before .before .before .before .before .loop-test .taken, s .pre .judged .few, s .pre .judged .fewer)
-
-loop-less : tie.Need-loop-less Inv-loop μ-loop
-loop-less c =
-    let s = c .before .before .before .before .before .before .before .before .before .before .before .before .before .before .before in
-    let a = s .args in
-    let b = a .records .now in
-    let p = a .places .now in
-    let w = a .rows .now in
-    let d = a .kinds .now in
-    let g = a .answers .now in
-    let t = a .terms in
-    let q = a .questions in
-    let o = a .out .now in
-    omega (arith, c .before .before .before .before .before .before .before .loop-test .taken)
+    showing-asks _ _ _ _ _ _ _ _ (s .pre) _ _ _ _ (l .inv .1) (omega (arith, c .before .loop-test .taken, l .inv .0))
 
 loop-again : tie.Need-loop-again Inv-loop μ-loop
 loop-again c =
@@ -103,28 +40,9 @@ loop-again c =
     let g = a .answers .now in
     let t = a .terms in
     let q = a .questions in
-    let o = a .out .now in
     let l = c .before .before .before .before .before .before .before .before .loop in
     let h = subst (λ (x : Shown). LineHas b p w d g t q (l .k) (l .out) (l .to) (c .before .before .before .before .before .line .last .1 .1 .1 .1 .1 .1 .1 .1 .0) x) (c .before .shown .given .1) (c .before .before .before .before .before .line .ensures) in
-    (l .inv .0, showing-step b p w d g t q (a .from) (s .pre) o (l .out) (l .k) (l .to) (l .inv .1) (c .before .before .before .before .before .line .last .1 .1 .1 .1 .1 .1 .1 .1 .0) (c .before .shown .given .0 .0) (omega (arith, c .before .before .before .before .before .before .before .loop-test .taken, l .inv .0)) h)
-
-enum-told : tie.Need-enum-told Inv-loop μ-loop
-enum-told c = search needs
-
-same-length : tie.Need-same-length Inv-loop μ-loop
-same-length c =
-    let s = c .before .before .before .before .before .before .before .before .before .before .before .before .before .before in
-    let a = s .args in
-    let b = a .records .now in
-    let p = a .places .now in
-    let w = a .rows .now in
-    let d = a .kinds .now in
-    let g = a .answers .now in
-    let t = a .terms in
-    let q = a .questions in
-    let o = a .out .now in
-    let l = c .before .before .before .before .before .before .before .loop in
-    c .before .before .before .before .line .kept .1 .1 .1 .1 .1 .1 .1 .1 .0 ∙ l .inv .1 .long
+    (l .inv .0, showing-step _ _ _ _ _ _ _ _ (s .pre) _ _ _ _ (l .inv .1) _ (c .before .shown .given .0 .0) (omega (arith, c .before .before .before .before .before .before .before .loop-test .taken, l .inv .0)) h)
 
 returns : tie.Need-returns Inv-loop μ-loop
 returns c =
@@ -137,40 +55,15 @@ returns c =
     let g = a .answers .now in
     let t = a .terms in
     let q = a .questions in
-    let o = a .out .now in
     let l = c .before .before .before .before .before .before .before .loop in
     let h = subst (λ (x : Shown). LineHas b p w d g t q (l .k) (l .out) (l .to) (c .before .before .before .before .line .last .1 .1 .1 .1 .1 .1 .1 .1 .0) x) (c .enum-told .given .1) (c .before .before .before .before .line .ensures) in
-    showing-full b p w d g t q (a .from) (s .pre) o (l .out) (l .k) (l .to) (l .inv .1) (c .before .before .before .before .line .last .1 .1 .1 .1 .1 .1 .1 .1 .0) h
-
-same-length-2 : tie.Need-same-length-2 Inv-loop μ-loop
-same-length-2 c =
-    let s = c .before .before .before .before .before .before .before .before in
-    let a = s .args in
-    let b = a .records .now in
-    let p = a .places .now in
-    let w = a .rows .now in
-    let d = a .kinds .now in
-    let g = a .answers .now in
-    let t = a .terms in
-    let q = a .questions in
-    let o = a .out .now in
-    let l = c .before .loop in
-    l .inv .1 .long
+    showing-full _ _ _ _ _ _ _ _ (s .pre) _ _ _ _ (l .inv .1) _ h
 
 returns-2 : tie.Need-returns-2 Inv-loop μ-loop
 returns-2 c =
     let s = c .before .before .before .before .before .before .before .before in
-    let a = s .args in
-    let b = a .records .now in
-    let p = a .places .now in
-    let w = a .rows .now in
-    let d = a .kinds .now in
-    let g = a .answers .now in
-    let t = a .terms in
-    let q = a .questions in
-    let o = a .out .now in
     let l = c .before .loop in
-    showing-end b p w d g t q (a .from) (s .pre) o (l .out) (l .k) (l .to) (l .inv .1) (omega (arith, c .loop-test .left, l .inv .0, l .inv .1 .last))
+    showing-end _ _ _ _ _ _ _ _ (s .pre) _ _ _ _ (l .inv .1) (omega (arith, c .loop-test .left, l .inv .0, l .inv .1 .last))
 
 pub show-lines-spec : {M : Type 1} → statement M
-show-lines-spec = tie.close (tie.spec Inv-loop μ-loop add-total loop-holds line-requires enum-known-shown add-k loop-less loop-again enum-told same-length returns same-length-2 returns-2)
+show-lines-spec = tie.close (tie.spec Inv-loop μ-loop (λ c. search needs) loop-holds line-requires (λ c. search needs) (λ c. search needs) (λ c. search needs) loop-again (λ c. search needs) (λ c. search needs) returns (λ c. search needs) returns-2)

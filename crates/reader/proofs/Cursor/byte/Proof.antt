@@ -6,28 +6,8 @@ use Rattle.reader.specs.Cases.{byte-short, byte-is}
 use Rattle.reader.proofs.Cursor.byte.Statement.{statement}
 use Rattle.reader.proofs.Cursor.byte.Tie as tie
 
-returns : tie.Need-returns
-returns c =
-    let a = c .before .args in
-    let s = a .s .now in
-    let x = a .self .at in
-    byte-short s x (c .if1 .taken)
-
-shared-slice-read-v : tie.Need-shared-slice-read-v
-shared-slice-read-v c = search needs
-
 cast-v : tie.Need-cast-v
 cast-v c = omega (arith, c .shared-slice-known .given (c .before .before .args .self .at))
 
-add-t5 : tie.Need-add-t5
-add-t5 c = search needs
-
-returns-2 : tie.Need-returns-2
-returns-2 c =
-    let a = c .before .before .args in
-    let s = a .s .now in
-    let x = a .self .at in
-    byte-is s x (c .before .if1 .left)
-
 pub byte-spec : {M : Type 1} → statement M
-byte-spec = tie.close (tie.spec returns shared-slice-read-v cast-v add-t5 returns-2)
+byte-spec = tie.close (tie.spec (λ c. search byte-short) (λ c. search needs) cast-v (λ c. search needs) (λ c. search byte-is))

@@ -3,85 +3,14 @@
 use native.Mathlib.Omega.{arith}
 use borrow.Author.Needs.{needs}
 use Rattle.reader.specs.Cases.{byte-inside, list-fails, list-short, list-less, list-more, list-is}
-use mathlib.Core.Path.{sym, _∙_}
 use Rattle.reader.proofs.Cursor.list.Statement.{statement}
 use Rattle.reader.proofs.Cursor.list.Tie as tie
 
-byte-requires : tie.Need-byte-requires
-byte-requires c κs = search needs
-
-enum-known-read : tie.Need-enum-known-read
-enum-known-read c = search needs
-
-sub-if1 : tie.Need-sub-if1
-sub-if1 c =
-    let a = c .before .before .before .before .before .args in
-    let s = a .s .now in
-    let x = a .self .at in
-    let r = sym (c .before .before .before .byte .ensures) ∙ c .before .read .given .1 in
-    omega (arith, byte-inside s x r)
-
-returns : tie.Need-returns
-returns c =
-    let a = c .before .before .before .before .before .before .args in
-    let s = a .s .now in
-    let x = a .self .at in
-    let r = sym (c .before .before .before .before .byte .ensures) ∙ c .before .before .read .given .1 in
-    let i = byte-inside s x r in
-    list-short s (a .least) (a .most) x r (omega (arith, i, c .if1 .taken))
-
-returns-2 : tie.Need-returns-2
-returns-2 c =
-    let a = c .before .before .before .before .before .before .before .args in
-    let s = a .s .now in
-    let x = a .self .at in
-    let r = sym (c .before .before .before .before .before .byte .ensures) ∙ c .before .before .before .read .given .1 in
-    let i = byte-inside s x r in
-    list-less s (a .least) (a .most) x r (omega (arith, i, c .before .if1 .left)) (c .if2 .taken)
-
-returns-3 : tie.Need-returns-3
-returns-3 c =
-    let a = c .before .before .before .before .before .before .before .before .args in
-    let s = a .s .now in
-    let x = a .self .at in
-    let r = sym (c .before .before .before .before .before .before .byte .ensures) ∙ c .before .before .before .before .read .given .1 in
-    let i = byte-inside s x r in
-    list-more s (a .least) (a .most) x r (omega (arith, i, c .before .before .if1 .left)) (c .before .if2 .left) (c .if3 .taken)
-
 mul-t12 : tie.Need-mul-t12
-mul-t12 c =
-    let a = c .before .before .before .before .before .before .before .before .args in
-    let s = a .s .now in
-    let x = a .self .at in
-    let r = sym (c .before .before .before .before .before .before .byte .ensures) ∙ c .before .before .before .before .read .given .1 in
-    omega (arith, byte-inside s x r)
+mul-t12 c = omega (arith, byte-inside _ _ (c .before .before .before .before .before .before .byte .ensures) (c .before .before .before .before .read .given .1))
 
 add-t13 : tie.Need-add-t13
-add-t13 c =
-    let a = c .before .before .before .before .before .before .before .before .args in
-    let s = a .s .now in
-    let x = a .self .at in
-    let r = sym (c .before .before .before .before .before .before .byte .ensures) ∙ c .before .before .before .before .read .given .1 in
-    omega (arith, byte-inside s x r)
-
-enum-known-read-2 : tie.Need-enum-known-read-2
-enum-known-read-2 c = search needs
-
-returns-4 : tie.Need-returns-4
-returns-4 c =
-    let a = c .before .before .before .before .before .before .before .before .args in
-    let s = a .s .now in
-    let x = a .self .at in
-    let r = sym (c .before .before .before .before .before .before .byte .ensures) ∙ c .before .before .before .before .read .given .1 in
-    let i = byte-inside s x r in
-    list-is s (a .least) (a .most) x r (omega (arith, i, c .before .before .if1 .left)) (c .before .if2 .left) (c .if3 .left)
-
-returns-5 : tie.Need-returns-5
-returns-5 c =
-    let a = c .before .before .before .before .before .args in
-    let s = a .s .now in
-    let x = a .self .at in
-    list-fails s (a .least) (a .most) x (sym (c .before .before .before .byte .ensures) ∙ c .before .read2 .given .1)
+add-t13 c = omega (arith, byte-inside _ _ (c .before .before .before .before .before .before .byte .ensures) (c .before .before .before .before .read .given .1))
 
 pub list-spec : {M : Type 1} → statement M
-list-spec = tie.close (tie.spec byte-requires enum-known-read sub-if1 returns returns-2 returns-3 mul-t12 add-t13 enum-known-read-2 returns-4 returns-5)
+list-spec = tie.close (tie.spec (λ c κs. search needs) (λ c. search needs) (λ c. search byte-inside) (λ c. search list-short) (λ c. search list-less) (λ c. search list-more) mul-t12 add-t13 (λ c. search needs) (λ c. search list-is) (λ c. search list-fails))

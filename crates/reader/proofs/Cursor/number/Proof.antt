@@ -2,46 +2,8 @@
 -- that what was read and the tests made lead to.
 use borrow.Author.Needs.{needs}
 use Rattle.reader.specs.Cases.{number-off, number-fails, number-over, number-is}
-use mathlib.Core.Path.{sym, _∙_}
 use Rattle.reader.proofs.Cursor.number.Statement.{statement}
 use Rattle.reader.proofs.Cursor.number.Tie as tie
 
-returns : tie.Need-returns
-returns c =
-    let a = c .before .before .args in
-    let s = a .s .now in
-    let x = a .self .at in
-    number-off s (a .map) (a .most) x (c .if1 .taken)
-
-u32-requires : tie.Need-u32-requires
-u32-requires c κs = search needs
-
-enum-known-read : tie.Need-enum-known-read
-enum-known-read c = search needs
-
-returns-2 : tie.Need-returns-2
-returns-2 c =
-    let a = c .before .before .before .before .before .before .before .args in
-    let s = a .s .now in
-    let x = a .self .at in
-    number-over s (a .map) (a .most) x (c .before .before .before .before .before .if1 .left) (sym (c .before .before .before .before .u32 .ensures) ∙ c .before .before .read .given .1) (c .if2 .taken)
-
-enum-known-read-2 : tie.Need-enum-known-read-2
-enum-known-read-2 c = search needs
-
-returns-3 : tie.Need-returns-3
-returns-3 c =
-    let a = c .before .before .before .before .before .before .before .args in
-    let s = a .s .now in
-    let x = a .self .at in
-    number-is s (a .map) (a .most) x (c .before .before .before .before .before .if1 .left) (sym (c .before .before .before .before .u32 .ensures) ∙ c .before .before .read .given .1) (c .if2 .left)
-
-returns-4 : tie.Need-returns-4
-returns-4 c =
-    let a = c .before .before .before .before .before .before .args in
-    let s = a .s .now in
-    let x = a .self .at in
-    number-fails s (a .map) (a .most) x (c .before .before .before .before .if1 .left) (sym (c .before .before .before .u32 .ensures) ∙ c .before .read2 .given .1)
-
 pub number-spec : {M : Type 1} → statement M
-number-spec = tie.close (tie.spec returns u32-requires enum-known-read returns-2 enum-known-read-2 returns-3 returns-4)
+number-spec = tie.close (tie.spec (λ c. search number-off) (λ c κs. search needs) (λ c. search needs) (λ c. search number-over) (λ c. search needs) (λ c. search number-is) (λ c. search number-fails))

@@ -2,47 +2,8 @@
 -- are their own method's promise.
 use borrow.Author.Needs.{needs}
 use Rattle.reader.specs.Cases.{question-1, question-2, question-3}
-use mathlib.Core.Path.{sym, _∙_}
 use Rattle.reader.proofs.Cursor.question.Statement.{statement}
 use Rattle.reader.proofs.Cursor.question.Tie as tie
 
-head-requires : tie.Need-head-requires
-head-requires c κs = search needs
-
-enum-known-first : tie.Need-enum-known-first
-enum-known-first c = search needs
-
-question-map-of-requires : tie.Need-question-map-of-requires
-question-map-of-requires c κs = search needs
-
-returns : tie.Need-returns
-returns c =
-    let a = c .before .before .before .before .before .before .before .args in
-    let s = a .s .now in
-    let x = a .self .at in
-    let r = sym (c .before .before .before .before .before .head .ensures) ∙ c .before .before .before .first .given .1 in
-    question-2 s (a .sorts) x r (c .before .question-map-of .ensures) (c .if1 .taken)
-
-question-fields-requires : tie.Need-question-fields-requires
-question-fields-requires c κs = search needs
-
-enum-known-first-2 : tie.Need-enum-known-first-2
-enum-known-first-2 c = search needs
-
-returns-2 : tie.Need-returns-2
-returns-2 c =
-    let a = c .before .before .before .before .before .before .before .before .args in
-    let s = a .s .now in
-    let x = a .self .at in
-    let r = sym (c .before .before .before .before .before .before .head .ensures) ∙ c .before .before .before .before .first .given .1 in
-    c .question-fields .ensures ∙ question-3 s (a .sorts) x r (c .before .before .question-map-of .ensures) (c .before .if1 .left)
-
-returns-3 : tie.Need-returns-3
-returns-3 c =
-    let a = c .before .before .before .before .before .args in
-    let s = a .s .now in
-    let x = a .self .at in
-    question-1 s (a .sorts) x (sym (c .before .before .before .head .ensures) ∙ c .before .first2 .given .1)
-
 pub question-spec : {M : Type 1} → statement M
-question-spec = tie.close (tie.spec head-requires enum-known-first question-map-of-requires returns question-fields-requires enum-known-first-2 returns-2 returns-3)
+question-spec = tie.close (tie.spec (λ c κs. search needs) (λ c. search needs) (λ c κs. search needs) (λ c. search question-2) (λ c κs. search needs) (λ c. search needs) (λ c. search question-3) (λ c. search question-1))

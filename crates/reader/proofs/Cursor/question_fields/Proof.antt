@@ -2,65 +2,17 @@
 -- gave is its promise.
 use borrow.Author.Needs.{needs}
 use Rattle.reader.specs.Cases.{question-fields-1, question-fields-2, question-fields-3}
-use mathlib.Core.Path.{sym, _∙_}
 use Rattle.reader.proofs.Cursor.question_fields.Statement.{statement}
 use Rattle.reader.proofs.Cursor.question_fields.Tie as tie
 
-question-least-of-requires : tie.Need-question-least-of-requires
-question-least-of-requires c κs = search needs
-
-question-most-of-requires : tie.Need-question-most-of-requires
-question-most-of-requires c κs = search needs
-
-references-requires : tie.Need-references-requires
-references-requires c κs = search needs
-
-enum-known-first : tie.Need-enum-known-first
-enum-known-first c = search needs
-
-names-least-of-requires : tie.Need-names-least-of-requires
-names-least-of-requires c κs = search needs
-
-names-most-of-requires : tie.Need-names-most-of-requires
-names-most-of-requires c κs = search needs
-
-names-requires : tie.Need-names-requires
-names-requires c κs = search needs
-
-enum-known-last : tie.Need-enum-known-last
-enum-known-last c = search needs
-
-enum-known-last-2 : tie.Need-enum-known-last-2
-enum-known-last-2 c = search needs
-
-enum-known-first-2 : tie.Need-enum-known-first-2
-enum-known-first-2 c = search needs
-
 returns : tie.Need-returns
 returns c =
-    let a = c .before .before .before .before .before .before .before .before .before .before .before .before .before .args in
-    let s = a .s .now in
-    let x = a .self .at in
-    let l = sym (c .before .before .before .before .before .before .before .before .before .references .ensures) ∙ c .before .before .before .before .before .before .before .first .given .1 in
-    let ns = sym (c .before .before .before .names .ensures) ∙ c .before .last .given .1 in
-    question-fields-3 s (a .map) (a .kind) (a .sorts) x (c .before .before .before .before .before .before .before .before .before .before .before .question-least-of .ensures) (c .before .before .before .before .before .before .before .before .before .before .question-most-of .ensures) l (c .before .before .before .before .before .names-least-of .ensures) (c .before .before .before .before .names-most-of .ensures) ns
-
-returns-2 : tie.Need-returns-2
-returns-2 c =
-    let a = c .before .before .before .before .before .before .before .before .before .before .before .before .before .args in
-    let s = a .s .now in
-    let x = a .self .at in
-    let l = sym (c .before .before .before .before .before .before .before .before .before .references .ensures) ∙ c .before .before .before .before .before .before .before .first .given .1 in
-    let ns = sym (c .before .before .before .names .ensures) ∙ c .before .last2 .given .1 in
-    question-fields-2 s (a .map) (a .kind) (a .sorts) x (c .before .before .before .before .before .before .before .before .before .before .before .question-least-of .ensures) (c .before .before .before .before .before .before .before .before .before .before .question-most-of .ensures) l (c .before .before .before .before .before .names-least-of .ensures) (c .before .before .before .before .names-most-of .ensures) ns
-
-returns-3 : tie.Need-returns-3
-returns-3 c =
-    let a = c .before .before .before .before .before .before .before .args in
-    let s = a .s .now in
-    let x = a .self .at in
-    let l = sym (c .before .before .before .references .ensures) ∙ c .before .first2 .given .1 in
-    question-fields-1 s (a .map) (a .kind) (a .sorts) x (c .before .before .before .before .before .question-least-of .ensures) (c .before .before .before .before .question-most-of .ensures) l
+    let names = c .before .before .before in
+    let first = names .before .before .before .before in
+    let tables = first .before .before .before in
+    question-fields-3 _ _ _ _ _ (tables .before .question-least-of .ensures) (tables .question-most-of .ensures)
+    (first .before .before .references .ensures) (first .first .given .1) (names .before .before .one-less .ensures)
+    (names .before .one-less2 .ensures) (names .names .ensures) (c .before .last .given .1)
 
 pub question-fields-spec : {M : Type 1} → statement M
-question-fields-spec = tie.close (tie.spec question-least-of-requires question-most-of-requires references-requires enum-known-first names-least-of-requires names-most-of-requires names-requires enum-known-last enum-known-last-2 enum-known-first-2 returns returns-2 returns-3)
+question-fields-spec = tie.close (tie.spec (λ c κs. search needs) (λ c κs. search needs) (λ c κs. search needs) (λ c. search needs) (λ c κs. search needs) (λ c κs. search needs) (λ c κs. search needs) (λ c. search needs) (λ c. search needs) (λ c. search needs) returns (λ c. search question-fields-2) (λ c. search question-fields-1))

@@ -2,82 +2,18 @@
 -- gave is its promise.
 use borrow.Author.Needs.{needs}
 use Rattle.reader.specs.Cases.{term-lists-1, term-lists-2, term-lists-3, term-lists-4}
-use mathlib.Core.Path.{sym, _∙_}
 use Rattle.reader.proofs.Cursor.term_lists.Statement.{statement}
 use Rattle.reader.proofs.Cursor.term_lists.Tie as tie
 
-term-least-of-requires : tie.Need-term-least-of-requires
-term-least-of-requires c κs = search needs
-
-term-most-of-requires : tie.Need-term-most-of-requires
-term-most-of-requires c κs = search needs
-
-references-requires : tie.Need-references-requires
-references-requires c κs = search needs
-
-enum-known-first : tie.Need-enum-known-first
-enum-known-first c = search needs
-
-pairs-requires : tie.Need-pairs-requires
-pairs-requires c κs = search needs
-
-enum-known-between : tie.Need-enum-known-between
-enum-known-between c = search needs
-
-second-requires : tie.Need-second-requires
-second-requires c κs = search needs
-
-enum-known-last : tie.Need-enum-known-last
-enum-known-last c = search needs
-
-with-requires : tie.Need-with-requires
-with-requires c κs = search needs
-
-enum-known-last-2 : tie.Need-enum-known-last-2
-enum-known-last-2 c = search needs
-
-enum-known-between-2 : tie.Need-enum-known-between-2
-enum-known-between-2 c = search needs
-
-enum-known-first-2 : tie.Need-enum-known-first-2
-enum-known-first-2 c = search needs
-
 returns : tie.Need-returns
 returns c =
-    let a = c .before .before .before .before .before .before .before .before .before .before .before .before .before .before .before .before .args in
-    let s = a .s .now in
-    let x = a .self .at in
-    let l = sym (c .before .before .before .before .before .before .before .before .before .before .before .before .references .ensures) ∙ c .before .before .before .before .before .before .before .before .before .before .first .given .1 in
-    let ps = sym (c .before .before .before .before .before .before .before .before .pairs .ensures) ∙ c .before .before .before .before .before .before .between .given .1 in
-    let q = sym (c .before .before .before .before .second .ensures) ∙ c .before .before .last .given .1 in
-    term-lists-4 s (a .map) (a .sorts) (a .index) (a .found) x (c .before .before .before .before .before .before .before .before .before .before .before .before .before .before .term-least-of .ensures) (c .before .before .before .before .before .before .before .before .before .before .before .before .before .term-most-of .ensures) l ps (c .with .ensures) q
-
-returns-2 : tie.Need-returns-2
-returns-2 c =
-    let a = c .before .before .before .before .before .before .before .before .before .before .before .before .before .before .before .args in
-    let s = a .s .now in
-    let x = a .self .at in
-    let l = sym (c .before .before .before .before .before .before .before .before .before .before .before .references .ensures) ∙ c .before .before .before .before .before .before .before .before .before .first .given .1 in
-    let ps = sym (c .before .before .before .before .before .before .before .pairs .ensures) ∙ c .before .before .before .before .before .between .given .1 in
-    let q = sym (c .before .before .before .second .ensures) ∙ c .before .last2 .given .1 in
-    term-lists-3 s (a .map) (a .sorts) (a .index) (a .found) x (c .before .before .before .before .before .before .before .before .before .before .before .before .before .term-least-of .ensures) (c .before .before .before .before .before .before .before .before .before .before .before .before .term-most-of .ensures) l ps q
-
-returns-3 : tie.Need-returns-3
-returns-3 c =
-    let a = c .before .before .before .before .before .before .before .before .before .before .before .args in
-    let s = a .s .now in
-    let x = a .self .at in
-    let l = sym (c .before .before .before .before .before .before .before .references .ensures) ∙ c .before .before .before .before .before .first .given .1 in
-    let ps = sym (c .before .before .before .pairs .ensures) ∙ c .before .between2 .given .1 in
-    term-lists-2 s (a .map) (a .sorts) (a .index) (a .found) x (c .before .before .before .before .before .before .before .before .before .term-least-of .ensures) (c .before .before .before .before .before .before .before .before .term-most-of .ensures) l ps
-
-returns-4 : tie.Need-returns-4
-returns-4 c =
-    let a = c .before .before .before .before .before .before .before .args in
-    let s = a .s .now in
-    let x = a .self .at in
-    let l = sym (c .before .before .before .references .ensures) ∙ c .before .first2 .given .1 in
-    term-lists-1 s (a .map) (a .sorts) (a .index) (a .found) x (c .before .before .before .before .before .term-least-of .ensures) (c .before .before .before .before .term-most-of .ensures) l
+    let last = c .before .before in
+    let between = last .before .before .before .before in
+    let first = between .before .before .before .before in
+    let tables = first .before .before .before in
+    term-lists-4 _ _ _ _ _ _ (tables .before .term-least-of .ensures) (tables .term-most-of .ensures) (first .before .before .references .ensures)
+    (first .first .given .1) (between .before .before .pairs .ensures) (between .between .given .1) (last .before .before .second .ensures)
+    (last .last .given .1) (c .with .ensures)
 
 pub term-lists-spec : {M : Type 1} → statement M
-term-lists-spec = tie.close (tie.spec term-least-of-requires term-most-of-requires references-requires enum-known-first pairs-requires enum-known-between second-requires enum-known-last with-requires enum-known-last-2 enum-known-between-2 enum-known-first-2 returns returns-2 returns-3 returns-4)
+term-lists-spec = tie.close (tie.spec (λ c κs. search needs) (λ c κs. search needs) (λ c κs. search needs) (λ c. search needs) (λ c κs. search needs) (λ c. search needs) (λ c κs. search needs) (λ c. search needs) (λ c κs. search needs) (λ c. search needs) (λ c. search needs) (λ c. search needs) returns (λ c. search term-lists-3) (λ c. search term-lists-2) (λ c. search term-lists-1))

@@ -6,47 +6,5 @@ use Rattle.reader.specs.Cases.{u32-short, u32-is}
 use Rattle.reader.proofs.Cursor.u32.Statement.{statement}
 use Rattle.reader.proofs.Cursor.u32.Tie as tie
 
-returns : tie.Need-returns
-returns c =
-    let a = c .before .before .args in
-    let s = a .s .now in
-    let x = a .self .at in
-    u32-short s x (omega arith)
-
-sub-if2 : tie.Need-sub-if2
-sub-if2 c = search needs
-
-returns-2 : tie.Need-returns-2
-returns-2 c =
-    let a = c .before .before .before .args in
-    let s = a .s .now in
-    let x = a .self .at in
-    u32-short s x (omega arith)
-
-u16-at-requires : tie.Need-u16-at-requires
-u16-at-requires c κs = search needs
-
-add-u16-at : tie.Need-add-u16-at
-add-u16-at c = search needs
-
-u16-at-requires-2 : tie.Need-u16-at-requires-2
-u16-at-requires-2 c κs = search needs
-
-mul-t9 : tie.Need-mul-t9
-mul-t9 c = search needs
-
-add-t11 : tie.Need-add-t11
-add-t11 c = search needs
-
-add-t12 : tie.Need-add-t12
-add-t12 c = search needs
-
-returns-3 : tie.Need-returns-3
-returns-3 c =
-    let a = c .before .before .before .before .before .args in
-    let s = a .s .now in
-    let x = a .self .at in
-    u32-is s x (c .before .u16-at .result) (c .u16-at2 .result) (omega arith) (c .before .u16-at .ensures .0) (c .u16-at2 .ensures .0)
-
 pub u32-spec : {M : Type 1} → statement M
-u32-spec = tie.close (tie.spec returns sub-if2 returns-2 u16-at-requires add-u16-at u16-at-requires-2 mul-t9 add-t11 add-t12 returns-3)
+u32-spec = tie.close (tie.spec (λ c. u32-short _ _ (omega arith)) (λ c. search needs) (λ c. u32-short _ _ (omega arith)) (λ c κs. search needs) (λ c. search needs) (λ c κs. search needs) (λ c. search needs) (λ c. search needs) (λ c. search needs) (λ c. u32-is _ _ _ _ (omega arith) (c .before .u16-at .ensures .0) (c .u16-at2 .ensures .0)))

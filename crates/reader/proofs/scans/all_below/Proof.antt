@@ -1,9 +1,8 @@
 -- The loop keeps that the test of the numbers left is the test of all of them; a number that decides
 -- it ends the loop, and with none left the test is that of the empty list.
-use native.Mathlib.Omega.{arith}
 use borrow.Author.Needs.{needs}
 use Rattle.reader.specs.Cases.{below-far, below-step, below-end}
-use mathlib.Core.Path.{_≡_, refl, _∙_}
+use mathlib.Core.Path.{_≡_}
 use Prim.Native.Nat.{_+_, _*_, _≤_}
 use lib.ListN.{length}
 use Rattle.record.specs.Number.{numbersAt}
@@ -17,41 +16,5 @@ Inv-loop s at count limit next₀ left₀ next left = (next + 2 * left ≤ lengt
 abbrev μ-loop : tie.MeasureT-loop
 μ-loop s at count limit next₀ left₀ next left = left
 
-loop-holds : tie.Need-loop-holds Inv-loop μ-loop
-loop-holds c = (search needs, refl)
-
-u16-at-requires : tie.Need-u16-at-requires Inv-loop μ-loop
-u16-at-requires c κs = search needs
-
-returns : tie.Need-returns Inv-loop μ-loop
-returns c =
-    let a = c .before .before .before .before .before .args in
-    let s = a .s .now in
-    let l = c .before .before .before .loop in
-    below-far s (l .next) (l .left) (a .limit) (c .before .u16-at .result) (c .before .before .loop-test .taken) (c .before .u16-at .ensures .0) (omega (arith, c .if1 .taken)) ∙ l .inv .1
-
-add-next : tie.Need-add-next Inv-loop μ-loop
-add-next c = search needs
-
-sub-left : tie.Need-sub-left Inv-loop μ-loop
-sub-left c = search needs
-
-loop-less : tie.Need-loop-less Inv-loop μ-loop
-loop-less c = search needs
-
-loop-again : tie.Need-loop-again Inv-loop μ-loop
-loop-again c =
-    let a = c .before .before .before .before .before .args in
-    let s = a .s .now in
-    let l = c .before .before .before .loop in
-    (omega arith, below-step s (l .next) (l .left) (a .limit) (c .before .u16-at .result) (c .before .before .loop-test .taken) (c .before .u16-at .ensures .0) (omega (arith, c .if1 .left)) ∙ l .inv .1)
-
-returns-2 : tie.Need-returns-2 Inv-loop μ-loop
-returns-2 c =
-    let a = c .before .before .before .args in
-    let s = a .s .now in
-    let l = c .before .loop in
-    below-end s (l .next) (l .left) (a .limit) (c .loop-test .left) ∙ l .inv .1
-
 pub all-below-spec : {M : Type 1} → statement M
-all-below-spec = tie.close (tie.spec Inv-loop μ-loop loop-holds u16-at-requires returns add-next sub-left loop-less loop-again returns-2)
+all-below-spec = tie.close (tie.spec Inv-loop μ-loop (λ c. search needs) (λ c κs. search needs) (λ c. search below-far) (λ c. search needs) (λ c. search needs) (λ c. search needs) (λ c. search (needs, below-step)) (λ c. search below-end))

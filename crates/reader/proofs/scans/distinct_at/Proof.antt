@@ -1,9 +1,8 @@
 -- The loop keeps that the numbers left are distinct exactly where all of them are: each one passed
 -- stands nowhere behind it, and one that does ends the loop.
-use native.Mathlib.Omega.{arith}
 use borrow.Author.Needs.{needs}
 use Rattle.reader.specs.Cases.{distinct-twice, distinct-step, distinct-end}
-use mathlib.Core.Path.{_≡_, refl, sym, _∙_}
+use mathlib.Core.Path.{_≡_}
 use Prim.Native.Nat.{_+_, _*_, _≤_}
 use lib.ListN.{length}
 use Rattle.record.specs.Number.{numbersAt}
@@ -17,44 +16,5 @@ Inv-loop s at count next₀ left₀ next left = (next + 2 * left ≤ length s) �
 abbrev μ-loop : tie.MeasureT-loop
 μ-loop s at count next₀ left₀ next left = left
 
-loop-holds : tie.Need-loop-holds Inv-loop μ-loop
-loop-holds c = (search needs, refl)
-
-u16-at-requires : tie.Need-u16-at-requires Inv-loop μ-loop
-u16-at-requires c κs = search needs
-
-add-next : tie.Need-add-next Inv-loop μ-loop
-add-next c = search needs
-
-sub-left : tie.Need-sub-left Inv-loop μ-loop
-sub-left c = search needs
-
-member-of-requires : tie.Need-member-of-requires Inv-loop μ-loop
-member-of-requires c κs = search needs
-
-returns : tie.Need-returns Inv-loop μ-loop
-returns c =
-    let a = c .before .before .before .before .before .before .args in
-    let s = a .s .now in
-    let l = c .before .before .before .before .loop in
-    distinct-twice s (l .next) (l .left) (c .before .before .u16-at .result) (c .before .before .before .loop-test .taken) (c .before .before .u16-at .ensures .0) (sym (c .before .member-of .ensures) ∙ c .if1 .taken) ∙ l .inv .1
-
-loop-less : tie.Need-loop-less Inv-loop μ-loop
-loop-less c = search needs
-
-loop-again : tie.Need-loop-again Inv-loop μ-loop
-loop-again c =
-    let a = c .before .before .before .before .before .before .args in
-    let s = a .s .now in
-    let l = c .before .before .before .before .loop in
-    (omega arith, distinct-step s (l .next) (l .left) (c .before .before .u16-at .result) (c .before .before .before .loop-test .taken) (c .before .before .u16-at .ensures .0) (sym (c .before .member-of .ensures) ∙ c .if1 .left) ∙ l .inv .1)
-
-returns-2 : tie.Need-returns-2 Inv-loop μ-loop
-returns-2 c =
-    let a = c .before .before .before .args in
-    let s = a .s .now in
-    let l = c .before .loop in
-    distinct-end s (l .next) (l .left) (c .loop-test .left) ∙ l .inv .1
-
 pub distinct-at-spec : {M : Type 1} → statement M
-distinct-at-spec = tie.close (tie.spec Inv-loop μ-loop loop-holds u16-at-requires add-next sub-left member-of-requires returns loop-less loop-again returns-2)
+distinct-at-spec = tie.close (tie.spec Inv-loop μ-loop (λ c. search needs) (λ c κs. search needs) (λ c. search needs) (λ c. search needs) (λ c κs. search needs) (λ c. search distinct-twice) (λ c. search needs) (λ c. search (needs, distinct-step)) (λ c. search distinct-end))
