@@ -1,0 +1,71 @@
+-- The walk that tests every node: a node by its entry, and the loop along a list.
+use Prim.Native.Nat.{ℕ, _+_, _-_, _≤_, _<_}
+use mathlib.Core.Path.{_≡_, refl, sym, ap, _∙_}
+use mathlib.Core.Bool.{Bool, true, false, _&&_}
+use mathlib.Core.List.{List}
+use native.Mathlib.Omega.{arith}
+use Rattle.record.specs.Number.{u16At}
+use Rattle.record.specs.Sort.{Sort, partsOf, size, sizes}
+use Rattle.record.specs.Decode.{sortAt}
+use Rattle.record.specs.declared.SortRecord.{SortRecord}
+use Rattle.store.specs.Entry.{EntryHas}
+use Rattle.matching.specs.Contract.{sortsAt, OneAsks, ListAsks}
+use Rattle.matching.specs.Entered.{sorts-end, sorts-more, sizes-more}
+use Rattle.matching.specs.Every.{every, everyAll, Noted, Found}
+use Rattle.matching.specs.EveryLaws.{every-parts}
+use Rattle.matching.proofs.WalkLaws.{rest-asks}
+
+---------------------------------------------------------------- a sort by its entry
+module _ {b p : List ℕ} {n k : ℕ} (a : OneAsks b p n k) (r : SortRecord) (e : EntryHas b p k r) (f : Sort → Bool) {q : Bool} (h : q ≡ f (sortAt b p n k)) where
+  pub node-fails : q ≡ false → false ≡ every f (sortAt b p n k)
+  node-fails z = sym (every-parts f (sortAt b p n k) ∙ ap (λ (t : Bool). t && everyAll f (partsOf (sortAt b p n k))) (sym h ∙ z))
+
+  module _ (z : q ≡ true) where
+    pub node-passes : {v : Bool} → v ≡ everyAll f (sortsAt b p n b (r .list) (r .count)) → v ≡ every f (sortAt b p n k)
+    node-passes g =
+        g ∙ ap (everyAll f) (e n (a .usable .stored) (a .known) .parts)
+        ∙ sym (every-parts f (sortAt b p n k) ∙ ap (λ (t : Bool). t && everyAll f (partsOf (sortAt b p n k))) (sym h ∙ z))
+
+    pub node-alone : r .count ≡ 0 → true ≡ every f (sortAt b p n k)
+    unfolding every
+    node-alone c = node-passes (sym (ap (everyAll f) (sorts-end b p n b (r .list) (r .count) c)))
+
+---------------------------------------------------------------- the loop along a list
+-- From x₀ and c₀ to x and c: what is left decides the whole.
+pub record EachInv (b p : List ℕ) (n : ℕ) (f : Sort → Bool) (x₀ c₀ : ℕ) (o : List ℕ) (x c : ℕ) : Type 0 where
+  pub asks : ListAsks b p n b x c
+  pub noted : Noted b p n f o
+  pub less : sizes (sortsAt b p n b x c) ≤ sizes (sortsAt b p n b x₀ c₀)
+  pub whole : everyAll f (sortsAt b p n b x c) ≡ everyAll f (sortsAt b p n b x₀ c₀)
+
+pub each-start : {b p : List ℕ} {n : ℕ} {f : Sort → Bool} {x c : ℕ} {o : List ℕ} → ListAsks b p n b x c → Noted b p n f o → EachInv b p n f x c o x c
+each-start a t = record { asks = a; noted = t; less = omega arith; whole = refl }
+
+module _ {b p : List ℕ} {n : ℕ} {f : Sort → Bool} {x₀ c₀ : ℕ} {o : List ℕ} {x c : ℕ} (v : EachInv b p n f x₀ c₀ o x c) where
+  pub each-end : c ≤ 0 → Found b p n f (everyAll f (sortsAt b p n b x₀ c₀)) o true
+  unfolding every
+  each-end h =
+      let z : c ≡ 0 = omega arith in
+      record { answer = sym (ap (everyAll f) (sorts-end b p n b x c z)) ∙ v .whole; noted = v .noted }
+
+  module _ (some : 0 < c) where
+    -- The first is smaller than the list.
+    pub each-fall : size (sortAt b p n (u16At b x)) ≤ sizes (sortsAt b p n b x₀ c₀)
+    each-fall = omega (arith, v .less, sizes-more b p n b x c some)
+
+    module _ {k : ℕ} {o′ : List ℕ} {q : Bool} (e : k ≡ u16At b x) (g : Found b p n f (every f (sortAt b p n k)) o′ q) where
+      first : (q && everyAll f (sortsAt b p n b (x + 2) (c - 1))) ≡ everyAll f (sortsAt b p n b x₀ c₀)
+      unfolding every
+      first = rw (g .answer, e) (sym (ap (everyAll f) (sorts-more b p n b x c some)) ∙ v .whole)
+
+      pub each-stop : q ≡ false → Found b p n f (everyAll f (sortsAt b p n b x₀ c₀)) o′ false
+      each-stop z = record { answer = rw z at first; noted = g .noted }
+
+      pub each-step : q ≡ true → EachInv b p n f x₀ c₀ o′ (x + 2) (c - 1)
+      each-step z =
+          record {
+            asks = rest-asks b p n b x c (v .asks) some;
+            noted = g .noted;
+            less = omega (arith, v .less, sizes-more b p n b x c some);
+            whole = rw z at first;
+          }
