@@ -258,7 +258,6 @@ apply-sort-image-of-requires t c κs =
     let s = c .before .before .before .before .before .before .before .before .before .before .before .before .before in
     let a = s .args in
     let b = a .records .now in let p = a .places .now in
-    let ix = a .index .now in
     let n = a .count in let u = a .used in
     let l = a .images .now in
     let k = a .k in
@@ -374,18 +373,10 @@ apply-sort-add-remember : (t : ℕ) → apply-sort-lts.Need-add-remember (apply-
 apply-sort-add-remember t c =
     let s = c .before .before .before .before .before .before .before .before .before .before .before .before .before .before .before .before .before .before .before .before .before .before .before .before .before .before .before .before .before .before .before .before .before .before .before .before .before .before .before .before .before .before .before .before .before .before .before .before .before .before .before .before in
     let a = s .args in
-    let b = a .records .now in let p = a .places .now in
-    let ix = a .index .now in
-    let n = a .count in let u = a .used in
     let l = a .images .now in
     let k = a .k in
-    let e = c .before .before .before .before .before .before .before .before .before .before .before .before .before .before .before .before .before .before .before .before .before .before .before .before .before .before .before .before .before .before .before .before .before .before .before .before .before .before .before .before .before .entry .result in
-    let is = c .before .before .before .before .before .before .before .before .before .before .before .before .before .before .before .before .before .before .before .before .before .before .before .before .before .before .before .before .before .before .before .before .before .before .before .before .before .before .before .before .before .entry .ensures n (s .pre .1 .asks .ready .good .stored) (s .pre .1 .asks .known) in
-    let o = held (c .before .before .before .before .before .before .before .before .before .before .before .before .before .before .before .before .before .before .before .before .before .before .before .before .before .before .before .before .before .before .before .before .before .before .read-numbers .last .1 .1 .1 .0) (e .count) in
     let d = c .before .before .before .before .before .before .before .before .before .before .before .before .before .before .before .before .before .before .before .before .before .before .before .before .before .before .before .apply-parts .last in
-    let r = held (d .1 .1 .1 .1 .0) (e .count) in
     let f = c .before .before .before .before .before .before .before .before .before .before .before .before .before .before .before .before .done .given .0 in
-    let w = subst (KnownAllAre b p n u o l (d .0) (d .1 .0) (d .1 .1 .0) (d .1 .1 .1 .0) r) (c .before .before .before .before .before .before .before .before .before .before .before .before .before .before .before .before .done .given .1) (c .before .before .before .before .before .before .before .before .before .before .before .before .before .before .before .before .before .before .before .before .before .before .before .before .before .before .before .apply-parts .ensures) in
     let y = c .before .before .before .before .before .before .before .before .before .before .rebuild .last in
     let v = c .before .before .made .given .0 in
     let z = subst (MadeIs (d .0) (d .1 .0) (d .1 .1 .0) (f .0) (f .1 .0) (answerAt (d .0) (d .1 .0) (f .0) l k) (y .0) (y .1 .0) (y .1 .1 .0)) (c .before .before .made .given .1) (c .before .before .before .before .before .before .before .before .before .before .rebuild .ensures) in
@@ -395,18 +386,10 @@ apply-sort-remember-requires : (t : ℕ) → apply-sort-lts.Need-remember-requir
 apply-sort-remember-requires t c κs =
     let s = c .before .before .before .before .before .before .before .before .before .before .before .before .before .before .before .before .before .before .before .before .before .before .before .before .before .before .before .before .before .before .before .before .before .before .before .before .before .before .before .before .before .before .before .before .before .before .before .before .before .before .before .before in
     let a = s .args in
-    let b = a .records .now in let p = a .places .now in
-    let ix = a .index .now in
-    let n = a .count in let u = a .used in
     let l = a .images .now in
     let k = a .k in
-    let e = c .before .before .before .before .before .before .before .before .before .before .before .before .before .before .before .before .before .before .before .before .before .before .before .before .before .before .before .before .before .before .before .before .before .before .before .before .before .before .before .before .before .entry .result in
-    let is = c .before .before .before .before .before .before .before .before .before .before .before .before .before .before .before .before .before .before .before .before .before .before .before .before .before .before .before .before .before .before .before .before .before .before .before .before .before .before .before .before .before .entry .ensures n (s .pre .1 .asks .ready .good .stored) (s .pre .1 .asks .known) in
-    let o = held (c .before .before .before .before .before .before .before .before .before .before .before .before .before .before .before .before .before .before .before .before .before .before .before .before .before .before .before .before .before .before .before .before .before .before .read-numbers .last .1 .1 .1 .0) (e .count) in
     let d = c .before .before .before .before .before .before .before .before .before .before .before .before .before .before .before .before .before .before .before .before .before .before .before .before .before .before .before .apply-parts .last in
-    let r = held (d .1 .1 .1 .1 .0) (e .count) in
     let f = c .before .before .before .before .before .before .before .before .before .before .before .before .before .before .before .before .done .given .0 in
-    let w = subst (KnownAllAre b p n u o l (d .0) (d .1 .0) (d .1 .1 .0) (d .1 .1 .1 .0) r) (c .before .before .before .before .before .before .before .before .before .before .before .before .before .before .before .before .done .given .1) (c .before .before .before .before .before .before .before .before .before .before .before .before .before .before .before .before .before .before .before .before .before .before .before .before .before .before .before .apply-parts .ensures) in
     let y = c .before .before .before .before .before .before .before .before .before .before .rebuild .last in
     let v = c .before .before .made .given .0 in
     let z = subst (MadeIs (d .0) (d .1 .0) (d .1 .1 .0) (f .0) (f .1 .0) (answerAt (d .0) (d .1 .0) (f .0) l k) (y .0) (y .1 .0) (y .1 .1 .0)) (c .before .before .made .given .1) (c .before .before .before .before .before .before .before .before .before .before .rebuild .ensures) in

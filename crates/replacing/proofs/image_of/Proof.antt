@@ -7,12 +7,6 @@ use Rattle.replacing.proofs.SortForms.{number-none, number-some}
 use Rattle.replacing.proofs.image_of.Statement.{statement}
 use Rattle.replacing.proofs.image_of.Tie as tie
 
-mul-seen : tie.Need-mul-seen
-mul-seen c = search needs
-
-shared-slice-read-seen : tie.Need-shared-slice-read-seen
-shared-slice-read-seen c = search needs
-
 cast-seen : tie.Need-cast-seen
 cast-seen c = omega (arith, c .shared-slice-known .given (c .before .args .name))
 
@@ -35,4 +29,4 @@ returns-2 c =
     number-some (getD (a .images .now) (a .name) 0) (a .k) (c .if1 .left)
 
 pub image-of-spec : {M : Type 1} → statement M
-image-of-spec = tie.close (tie.spec mul-seen shared-slice-read-seen cast-seen returns sub-result returns-2)
+image-of-spec = tie.close (tie.spec (λ c. search needs) (λ c. search needs) cast-seen returns sub-result returns-2)

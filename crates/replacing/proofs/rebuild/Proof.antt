@@ -16,9 +16,6 @@ entry-requires c κs =
     let a = s .args in
     record { placed = omega (arith, s .pre .known, s .pre .ready .good .stored .placed); held = s .pre .ready .good .stored .each (a .k) (s .pre .known) }
 
-slice-aggregate-names-left : tie.Need-slice-aggregate-names-left
-slice-aggregate-names-left c = search needs
-
 names-left-requires : tie.Need-names-left-requires
 names-left-requires c κs =
     let s = c .before .before .before .before .before .before .before .before .before .before in
@@ -27,20 +24,11 @@ names-left-requires c κs =
     let is = c .before .before .entry .ensures n (s .pre .ready .good .stored) (s .pre .known) in
     (record { read = record { within = is .place .names; few = is .named }; table = s .pre .ready .table .long }, length-replicate {A = ℕ} 64 0)
 
-wrapper-goes-requires : tie.Need-wrapper-goes-requires
-wrapper-goes-requires c κs = search needs
-
 shared-slice-read-body : tie.Need-shared-slice-read-body
 shared-slice-read-body c = omega (arith, c .before .before .before .before .before .before .before .before .before .before .before .before .before .before .before .pre .has .long)
 
 cast-body : tie.Need-cast-body
 cast-body c = omega (arith, c .shared-slice-known3 .given 0)
-
-same-length : tie.Need-same-length
-same-length c = search needs
-
-same-length-2 : tie.Need-same-length-2
-same-length-2 c = search needs
 
 returns : tie.Need-returns
 returns c =
@@ -73,12 +61,6 @@ same-numbers-requires c κs =
     let is = c .before .before .before .before .before .before .before .before .before .entry .ensures n (s .pre .ready .good .stored) (s .pre .known) in
     let o = held (c .before .before .before .before .before .before .names-left .last .1 .1 .1 .1 .0) (c .before .before .before .before .before .before .names-left .result) in
     rebuild-same-asks b p ix n u k (held (a .parts .now) (a .many)) l (s .pre) e is o (c .before .before .before .before .before .before .names-left .ensures)
-
-same-length-3 : tie.Need-same-length-3
-same-length-3 c = search needs
-
-same-length-4 : tie.Need-same-length-4
-same-length-4 c = search needs
 
 returns-2 : tie.Need-returns-2
 returns-2 c =
@@ -115,15 +97,6 @@ make-requires c κs =
     let o = held (c .before .before .before .before .before .before .before .before .before .names-left .last .1 .1 .1 .1 .0) (c .before .before .before .before .before .before .before .before .before .names-left .result) in
     rebuild-asks b p ix n u k (held (a .parts .now) (a .many)) l (s .pre) e is o (c .before .before .before .before .before .before .before .before .before .names-left .ensures) (sym (c .before .before .before .before .before .before .before .wrapper-goes .ensures) ∙ c .before .before .before .before .before .before .if1 .left)
 
-same-length-5 : tie.Need-same-length-5
-same-length-5 c = search needs
-
-same-length-6 : tie.Need-same-length-6
-same-length-6 c = search needs
-
-same-length-7 : tie.Need-same-length-7
-same-length-7 c = search needs
-
 returns-3 : tie.Need-returns-3
 returns-3 c =
     let s = c .before .before .before .before .before .before .before .before .before .before .before .before .before .before .before .before .before .before .before .before .before .before .before .before .before .before .before in
@@ -142,4 +115,4 @@ returns-3 c =
     rebuild-made b p ix n u k (held (a .parts .now) (a .many)) l (s .pre) e is o (c .before .before .before .before .before .before .before .before .before .before .before .before .before .before .before .before .names-left .ensures) (sym (c .before .before .before .before .before .before .before .before .before .before .before .before .before .before .wrapper-goes .ensures) ∙ c .before .before .before .before .before .before .before .before .before .before .before .before .before .if1 .left) (d .0) (d .1 .0) (d .1 .1 .0) (c .before .before .before .before .before .before .make .result) (c .before .before .before .before .before .before .make .ensures)
 
 pub rebuild-spec : {M : Type 1} → statement M
-rebuild-spec = tie.close (tie.spec entry-requires slice-aggregate-names-left names-left-requires wrapper-goes-requires shared-slice-read-body cast-body same-length same-length-2 returns same-numbers-requires same-length-3 same-length-4 returns-2 slice-aggregate-make make-requires same-length-5 same-length-6 same-length-7 returns-3)
+rebuild-spec = tie.close (tie.spec entry-requires (λ c. search needs) names-left-requires (λ c κs. search needs) shared-slice-read-body cast-body (λ c. search needs) (λ c. search needs) returns same-numbers-requires (λ c. search needs) (λ c. search needs) returns-2 slice-aggregate-make make-requires (λ c. search needs) (λ c. search needs) (λ c. search needs) returns-3)

@@ -6,9 +6,6 @@ use Rattle.replacing.proofs.SizeLaws.{size-gone-is, size-rest-is}
 use Rattle.replacing.proofs.whole_size.Statement.{statement}
 use Rattle.replacing.proofs.whole_size.Tie as tie
 
-wrapper-goes-requires : tie.Need-wrapper-goes-requires
-wrapper-goes-requires c κs = search needs
-
 returns : tie.Need-returns
 returns c =
     let a = c .before .before .args in
@@ -17,13 +14,10 @@ returns c =
 add-capped-at : tie.Need-add-capped-at
 add-capped-at c = omega (arith, c .before .before .pre)
 
-capped-at-requires : tie.Need-capped-at-requires
-capped-at-requires c κs = search needs
-
 returns-2 : tie.Need-returns-2
 returns-2 c =
     let a = c .before .before .before .args in
     c .capped-at .ensures ∙ size-rest-is (a .kind) (a .names) (a .sum) (sym (c .before .before .wrapper-goes .ensures) ∙ c .before .if1 .left)
 
 pub whole-size-spec : {M : Type 1} → statement M
-whole-size-spec = tie.close (tie.spec wrapper-goes-requires returns add-capped-at capped-at-requires returns-2)
+whole-size-spec = tie.close (tie.spec (λ c κs. search needs) returns add-capped-at (λ c κs. search needs) returns-2)

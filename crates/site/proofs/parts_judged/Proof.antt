@@ -10,9 +10,6 @@ gather-requires c κs =
     let s = c .before .before .before .before in
     s .pre .list
 
-same-length : tie.Need-same-length
-same-length c = search needs
-
 returns : tie.Need-returns
 returns c =
     let s = c .before .before .before .before .before .before .before .before in
@@ -22,9 +19,6 @@ returns c =
     let k = a .column in
     let r = a .term in
     parts-lacking z w k r _ (c .before .before .before .gather .result) (c .if1 .taken) (c .before .before .before .gather .ensures)
-
-same-length-2 : tie.Need-same-length-2
-same-length-2 c = search needs
 
 returns-2 : tie.Need-returns-2
 returns-2 c =
@@ -41,9 +35,6 @@ all-judged-requires c κs =
     let s = c .before .before .before .before .before .before .before .before .before in
     s .pre .indices (c .if2 .left)
 
-same-length-3 : tie.Need-same-length-3
-same-length-3 c = search needs
-
 returns-3 : tie.Need-returns-3
 returns-3 c =
     let s = c .before .before .before .before .before .before .before .before .before .before in
@@ -55,4 +46,4 @@ returns-3 c =
     parts-indexed z w k r _ (c .before .before .before .before .before .gather .result) (c .before .before .if1 .left) (c .before .before .before .before .before .gather .ensures) (s .pre .list .judged .side) (c .before .if2 .left) (c .all-judged .result) (c .all-judged .ensures)
 
 pub parts-judged-spec : {M : Type 1} → statement M
-parts-judged-spec = tie.close (tie.spec gather-requires same-length returns same-length-2 returns-2 all-judged-requires same-length-3 returns-3)
+parts-judged-spec = tie.close (tie.spec gather-requires (λ c. search needs) returns (λ c. search needs) returns-2 all-judged-requires (λ c. search needs) returns-3)

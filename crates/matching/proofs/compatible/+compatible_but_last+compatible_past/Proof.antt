@@ -393,7 +393,6 @@ compatible-past-loop-less-2 t c =
     let k = c .before .before .before .before .before .before .before .before .before .before .before .before .loop .k in
     let j = c .before .before .before .before .before .before .before .before .before .before .before .before .loop .j in
     let o = subst (FitIs b p n k j) (c .before .before .before .before .before .before .before .before .next2 .given .1) (c .before .before .before .before .before .before .before .before .before .before .next-fit .ensures) in
-    let last = c .before .before .before .before .before .before .before .before .next2 .given .0 .1 .1 .0 - 1 in
     fit-less v o (c .before .before .before .before .before .compatible-but-last .result) (c .before .before .before .before .before .compatible-but-last .ensures .0) (not-false (c .before .before .before .before .before .compatible-but-last .result) (c .before .before .if1 .left)) (c .before .before .before .before .before .compatible-but-last .last .1 .1 .1 .0) (c .before .before .before .before .before .compatible-but-last .ensures .1) (c .before .u16-at .result) (c .u16-at2 .result) (c .before .u16-at .ensures .0) (c .u16-at2 .ensures .0)
 
 compatible-past-loop-again-2 : (t : ℕ) → compatible-past-lts.Need-loop-again-2 (compatible-past-env t) (compatible-past-at t) compatible-past.Post compatible-past-Inv-loop compatible-past-μ-loop
@@ -407,7 +406,6 @@ compatible-past-loop-again-2 t c =
     let k = c .before .before .before .before .before .before .before .before .before .before .before .before .loop .k in
     let j = c .before .before .before .before .before .before .before .before .before .before .before .before .loop .j in
     let o = subst (FitIs b p n k j) (c .before .before .before .before .before .before .before .before .next2 .given .1) (c .before .before .before .before .before .before .before .before .before .before .next-fit .ensures) in
-    let last = c .before .before .before .before .before .before .before .before .next2 .given .0 .1 .1 .0 - 1 in
     fit-last v o (c .before .before .before .before .before .compatible-but-last .result) (c .before .before .before .before .before .compatible-but-last .ensures .0) (not-false (c .before .before .before .before .before .compatible-but-last .result) (c .before .before .if1 .left)) (c .before .before .before .before .before .compatible-but-last .last .1 .1 .1 .0) (c .before .before .before .before .before .compatible-but-last .ensures .1) (c .before .u16-at .result) (c .u16-at2 .result) (c .before .u16-at .ensures .0) (c .u16-at2 .ensures .0)
 
 pub +compatible-but-last+compatible-past-spec : {M : Type 1} → statement M

@@ -76,7 +76,6 @@ returns-3 : tie.Need-returns-3
 returns-3 c =
     let s = c .before .before .before .before .before .before .before .before .before .before in
     let a = s .args in
-    let p = a .places .now in
     let asks = s .pre .0 in
     let noted = s .pre .1 in
     let k = a .p in
@@ -165,9 +164,6 @@ returns-6 c =
     let g = c .before .before .before .before .before .before .entry2 .ensures in
     fit-param b p n k j asks r e q g (c .before .before .before .before .before .before .before .before .before .before .before .if1 .left) (c .before .before .before .before .before .before .before .before .before .if2 .left) (c .before .before .before .before .if4 .left) (c .before .before .if5 .left) (c .before .param-eq .result) (c .before .param-eq .ensures) (c .if6 .taken)
 
-same-head-requires : tie.Need-same-head-requires
-same-head-requires c κs = search needs
-
 returns-7 : tie.Need-returns-7
 returns-7 c =
     let s = c .before .before .before .before .before .before .before .before .before .before .before .before .before .before .before .before .before .before .before in
@@ -217,4 +213,4 @@ returns-9 c =
     fit-node b p n k j asks r e q g (c .before .before .before .before .before .before .before .before .before .before .before .before .before .before .before .if1 .left) (c .before .before .before .before .before .before .before .before .before .before .before .before .before .if2 .left) (c .before .before .before .before .before .before .before .before .if4 .left) (c .before .before .before .before .before .before .if5 .left) (c .before .before .before .before .before .param-eq .result) (c .before .before .before .before .before .param-eq .ensures) (c .before .before .before .before .if6 .left) (sym (c .before .before .before .same-head .ensures) ∙ not-false (c .before .before .before .same-head .result) (c .before .before .if7 .left)) (c .if8 .left)
 
 pub next-fit-spec : {M : Type 1} → statement M
-next-fit-spec = tie.close (tie.spec entry-requires returns u16-at-requires returns-2 is-met-requires returns-3 entry-requires-2 returns-4 u16-at-requires-2 returns-5 param-eq-requires returns-6 same-head-requires returns-7 returns-8 returns-9)
+next-fit-spec = tie.close (tie.spec entry-requires returns u16-at-requires returns-2 is-met-requires returns-3 entry-requires-2 returns-4 u16-at-requires-2 returns-5 param-eq-requires returns-6 (λ c κs. search needs) returns-7 returns-8 returns-9)

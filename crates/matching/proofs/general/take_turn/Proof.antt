@@ -16,9 +16,6 @@ is-met-requires c κs =
     let noted = s .pre .1 in
     record { long = noted .long; small = omega (arith, asks .pair .left, asks .pair .usable .count); target = omega (arith, asks .pair .right, asks .pair .usable .count) }
 
-same-length : tie.Need-same-length
-same-length c = search needs
-
 returns : tie.Need-returns
 returns c =
     let s = c .before .before .before .before .before .before .before .before .before in
@@ -43,15 +40,6 @@ next-turn-requires c κs =
     let asks = s .pre .0 in
     record { pair = asks .pair; table = asks .table }
 
-enum-told : tie.Need-enum-told
-enum-told c = search needs
-
-enum-told-2 : tie.Need-enum-told-2
-enum-told-2 c = search needs
-
-enum-known-next : tie.Need-enum-known-next
-enum-known-next c = search needs
-
 meet-with-requires : tie.Need-meet-with-requires
 meet-with-requires c κs =
     let s = c .before .before .before .before .before .before .before .before .before .before .before .before .before .before .before .before in
@@ -68,9 +56,6 @@ meet-with-requires c κs =
     let asks = s .pre .0 in
     let z = c .before .before .before .before .before .next-turn in
     meet-asks b p n prm imgs bnd m k j asks (z .result) (z .ensures) (c .before .before .before .next .given .0 .0) (c .before .before .before .next .given .1)
-
-enum-known-next-2 : tie.Need-enum-known-next-2
-enum-known-next-2 c = search needs
 
 forget-requires : tie.Need-forget-requires
 forget-requires c κs =
@@ -95,18 +80,6 @@ list-names-requires c κs =
     let z = c .before .before .before .before .before .before .before .before .next-turn in
     names-added b p n prm imgs bnd m k j asks (z .result) (z .ensures) (c .before .before .before .before .before .before .next2 .given .0 .0) (c .before .before .before .before .before .before .next2 .given .0 .1 .0) (c .before .before .before .before .before .before .next2 .given .0 .1 .1 .0) (c .before .before .before .before .before .before .next2 .given .1)
 
-enum-known-next-3 : tie.Need-enum-known-next-3
-enum-known-next-3 c = search needs
-
-enum-known-next-4 : tie.Need-enum-known-next-4
-enum-known-next-4 c = search needs
-
-same-length-2 : tie.Need-same-length-2
-same-length-2 c = search needs
-
-same-length-3 : tie.Need-same-length-3
-same-length-3 c = search needs
-
 returns-2 : tie.Need-returns-2
 returns-2 c =
     let s = c .before .before .before .before .before .before .before .before .before .before .before .before .before .before .before in
@@ -130,12 +103,6 @@ sub-t41 : tie.Need-sub-t41
 sub-t41 c =
     positive (c .before .before .next4 .given .0 .1 .1 .0) (c .if2 .left)
 
-same-length-4 : tie.Need-same-length-4
-same-length-4 c = search needs
-
-same-length-5 : tie.Need-same-length-5
-same-length-5 c = search needs
-
 returns-3 : tie.Need-returns-3
 returns-3 c =
     let s = c .before .before .before .before .before .before .before .before .before .before .before .before .before in
@@ -155,12 +122,6 @@ returns-3 c =
     let z = c .before .before .next-turn in
     move-holds b p n prm imgs bnd m k j asks l noted (z .result) (z .ensures) (c .enum-told .given .1)
 
-same-length-6 : tie.Need-same-length-6
-same-length-6 c = search needs
-
-same-length-7 : tie.Need-same-length-7
-same-length-7 c = search needs
-
 returns-4 : tie.Need-returns-4
 returns-4 c =
     let s = c .before .before .before .before .before .before .before .before .before .before .before .before .before in
@@ -179,18 +140,6 @@ returns-4 c =
     let noted = s .pre .1 in
     let z = c .before .before .next-turn in
     move-fails b p n prm imgs bnd m k j asks l noted (z .result) (z .ensures) (c .enum-told2 .given .1)
-
-same-length-8 : tie.Need-same-length-8
-same-length-8 c = search needs
-
-same-length-9 : tie.Need-same-length-9
-same-length-9 c = search needs
-
-same-length-10 : tie.Need-same-length-10
-same-length-10 c = search needs
-
-same-length-11 : tie.Need-same-length-11
-same-length-11 c = search needs
 
 returns-5 : tie.Need-returns-5
 returns-5 c =
@@ -212,12 +161,6 @@ returns-5 c =
     let w = c .before .before .before .before .meet-with in
     move-meets b p n prm imgs bnd m k j asks l noted (z .result) (z .ensures) (c .before .before .before .before .before .before .before .before .next .given .0 .0) (c .before .before .before .before .before .before .before .before .next .given .1) (w .last .1 .1 .1 .0) (w .last .1 .1 .1 .1 .0) (w .result) (w .ensures)
 
-same-length-12 : tie.Need-same-length-12
-same-length-12 c = search needs
-
-same-length-13 : tie.Need-same-length-13
-same-length-13 c = search needs
-
 returns-6 : tie.Need-returns-6
 returns-6 c =
     let s = c .before .before .before .before .before .before .before .before .before .before .before .before .before .before .before .before .before .before .before .before .before .before in
@@ -237,12 +180,6 @@ returns-6 c =
     let z = c .before .before .before .before .before .before .before .before .before .before .before .next-turn in
     move-under b p n prm imgs bnd m k j asks l noted (z .result) (z .ensures) (c .before .before .before .before .before .before .before .before .before .next2 .given .0 .0) (c .before .before .before .before .before .before .before .before .before .next2 .given .0 .1 .0) (c .before .before .before .before .before .before .before .before .before .next2 .given .0 .1 .1 .0) (c .before .before .before .before .before .before .before .before .before .next2 .given .1) (c .before .before .list-names .last .0) (c .before .before .before .before .before .before .forget .last .0) (c .before .before .list-names .ensures) (c .before .before .before .before .before .before .forget .ensures)
 
-same-length-14 : tie.Need-same-length-14
-same-length-14 c = search needs
-
-same-length-15 : tie.Need-same-length-15
-same-length-15 c = search needs
-
 returns-7 : tie.Need-returns-7
 returns-7 c =
     let s = c .before .before .before .before .before .before .before .before .before .before .before .before .before .before in
@@ -261,12 +198,6 @@ returns-7 c =
     let noted = s .pre .1 in
     let z = c .before .before .before .next-turn in
     move-past b p n prm imgs bnd m k j asks l noted (z .result) (z .ensures) (c .before .next3 .given .0 .0) (c .before .next3 .given .1)
-
-same-length-16 : tie.Need-same-length-16
-same-length-16 c = search needs
-
-same-length-17 : tie.Need-same-length-17
-same-length-17 c = search needs
 
 returns-8 : tie.Need-returns-8
 returns-8 c =
@@ -290,4 +221,4 @@ returns-8 c =
     move-parts b p n prm imgs bnd m k j asks l noted (z .result) (z .ensures) (c .before .before .next4 .given .0 .0) (c .before .before .next4 .given .0 .1 .0) (c .before .before .next4 .given .0 .1 .1 .0) (c .before .before .next4 .given .1) (c .before .before .next4 .given .0 .1 .1 .0 - 1) e
 
 pub take-turn-spec : {M : Type 1} → statement M
-take-turn-spec = tie.close (tie.spec is-met-requires same-length returns next-turn-requires enum-told enum-told-2 enum-known-next meet-with-requires enum-known-next-2 forget-requires list-names-requires enum-known-next-3 enum-known-next-4 same-length-2 same-length-3 returns-2 sub-t41 same-length-4 same-length-5 returns-3 same-length-6 same-length-7 returns-4 same-length-8 same-length-9 same-length-10 same-length-11 returns-5 same-length-12 same-length-13 returns-6 same-length-14 same-length-15 returns-7 same-length-16 same-length-17 returns-8)
+take-turn-spec = tie.close (tie.spec is-met-requires (λ c. search needs) returns next-turn-requires (λ c. search needs) (λ c. search needs) (λ c. search needs) meet-with-requires (λ c. search needs) forget-requires list-names-requires (λ c. search needs) (λ c. search needs) (λ c. search needs) (λ c. search needs) returns-2 sub-t41 (λ c. search needs) (λ c. search needs) returns-3 (λ c. search needs) (λ c. search needs) returns-4 (λ c. search needs) (λ c. search needs) (λ c. search needs) (λ c. search needs) returns-5 (λ c. search needs) (λ c. search needs) returns-6 (λ c. search needs) (λ c. search needs) returns-7 (λ c. search needs) (λ c. search needs) returns-8)

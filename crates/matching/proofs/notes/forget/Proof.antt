@@ -16,14 +16,8 @@ abbrev μ-loop : tie.MeasureT-loop
 loop-holds : tie.Need-loop-holds Inv-loop μ-loop
 loop-holds c = forget-start (c .args .met .now) (c .pre)
 
-mul-met : tie.Need-mul-met Inv-loop μ-loop
-mul-met c = search needs
-
 slice-write-met : tie.Need-slice-write-met Inv-loop μ-loop
 slice-write-met c = omega (arith, c .before .loop .inv .long, c .loop-test .taken)
-
-add-i : tie.Need-add-i Inv-loop μ-loop
-add-i c = search needs
 
 loop-less : tie.Need-loop-less Inv-loop μ-loop
 loop-less c = omega (arith, c .loop-test .taken)
@@ -38,4 +32,4 @@ returns : tie.Need-returns Inv-loop μ-loop
 returns c = forget-end (c .before .loop .met) (c .before .loop .i) (c .before .loop .inv) (c .loop-test .left)
 
 pub forget-spec : {M : Type 1} → statement M
-forget-spec = tie.close (tie.spec Inv-loop μ-loop loop-holds mul-met slice-write-met add-i loop-less loop-again same-length returns)
+forget-spec = tie.close (tie.spec Inv-loop μ-loop loop-holds (λ c. search needs) slice-write-met (λ c. search needs) loop-less loop-again same-length returns)

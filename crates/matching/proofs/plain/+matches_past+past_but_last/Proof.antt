@@ -71,9 +71,6 @@ matches-past-loop-holds t c =
 
 matches-past-next-step-requires : (t : ℕ) → matches-past-lts.Need-next-step-requires (matches-past-env t) (matches-past-at t) matches-past.Post matches-past-Inv-loop matches-past-μ-loop
 matches-past-next-step-requires t c κs =
-    let s = c .before .before .before .before .before .before .before .before in
-    let asks = s .pre .1 .0 in
-    let noted = s .pre .1 .1 in
     let w = c .before .loop in
     let v = w .inv in
     (v .asks .pair, v .noted .long)
@@ -112,7 +109,6 @@ matches-past-returns t c =
     let b = a .records .now in
     let p = a .places .now in
     let n = a .count in
-    let noted = s .pre .1 .1 in
     let w = c .before .before .before .before .loop in
     let v = w .inv in
     let k = w .k in
@@ -210,8 +206,6 @@ matches-past-returns-3 t c =
     let p = a .places .now in
     let n = a .count in
     let prm = a .params .now in
-    let asks = s .pre .1 .0 in
-    let noted = s .pre .1 .1 in
     let w = c .before .before .before .before .before .before .before .before .before .before .before .before .loop in
     let v = w .inv in
     let k = w .k in
@@ -243,7 +237,6 @@ matches-past-past-but-last-requires t c κs =
     let b = a .records .now in
     let p = a .places .now in
     let n = a .count in
-    let noted = s .pre .1 .1 in
     let w = c .before .before .before .before .before .before .before .before .loop in
     let v = w .inv in
     let k = w .k in
@@ -261,7 +254,6 @@ matches-past-mul-u16-at t c =
     let b = a .records .now in
     let p = a .places .now in
     let n = a .count in
-    let asks = s .pre .1 .0 in
     let w = c .before .before .before .before .before .before .before .before .before .before .before .before .before .before .before .before .before .before .loop in
     let k = w .k in
     let j = w .j in
@@ -275,7 +267,6 @@ matches-past-add-u16-at t c =
     let b = a .records .now in
     let p = a .places .now in
     let n = a .count in
-    let asks = s .pre .1 .0 in
     let w = c .before .before .before .before .before .before .before .before .before .before .before .before .before .before .before .before .before .before .loop in
     let k = w .k in
     let j = w .j in
@@ -289,7 +280,6 @@ matches-past-u16-at-requires t c κs =
     let b = a .records .now in
     let p = a .places .now in
     let n = a .count in
-    let asks = s .pre .1 .0 in
     let w = c .before .before .before .before .before .before .before .before .before .before .before .before .before .before .before .before .before .before .loop in
     let k = w .k in
     let j = w .j in
@@ -303,7 +293,6 @@ matches-past-mul-u16-at-2 t c =
     let b = a .records .now in
     let p = a .places .now in
     let n = a .count in
-    let asks = s .pre .1 .0 in
     let w = c .before .before .before .before .before .before .before .before .before .before .before .before .before .before .before .before .before .before .before .loop in
     let k = w .k in
     let j = w .j in
@@ -317,7 +306,6 @@ matches-past-add-u16-at-2 t c =
     let b = a .records .now in
     let p = a .places .now in
     let n = a .count in
-    let asks = s .pre .1 .0 in
     let w = c .before .before .before .before .before .before .before .before .before .before .before .before .before .before .before .before .before .before .before .loop in
     let k = w .k in
     let j = w .j in
@@ -331,7 +319,6 @@ matches-past-u16-at-requires-2 t c κs =
     let b = a .records .now in
     let p = a .places .now in
     let n = a .count in
-    let asks = s .pre .1 .0 in
     let w = c .before .before .before .before .before .before .before .before .before .before .before .before .before .before .before .before .before .before .before .loop in
     let k = w .k in
     let j = w .j in
@@ -416,8 +403,6 @@ past-but-last-loop-holds t c =
 
 past-but-last-u16-at-requires : (t : ℕ) → past-but-last-lts.Need-u16-at-requires (past-but-last-env t) (past-but-last-at t) past-but-last.Post past-but-last-Inv-loop past-but-last-μ-loop
 past-but-last-u16-at-requires t c κs =
-    let s = c .before .before .before .before .before .before .before .before in
-    let asks = s .pre .1 .0 in
     let w = c .before .loop in
     let v = w .inv in
     let some = c .loop-test .taken in
@@ -425,8 +410,6 @@ past-but-last-u16-at-requires t c κs =
 
 past-but-last-u16-at-requires-2 : (t : ℕ) → past-but-last-lts.Need-u16-at-requires-2 (past-but-last-env t) (past-but-last-at t) past-but-last.Post past-but-last-Inv-loop past-but-last-μ-loop
 past-but-last-u16-at-requires-2 t c κs =
-    let s = c .before .before .before .before .before .before .before .before .before in
-    let asks = s .pre .1 .0 in
     let w = c .before .before .loop in
     let v = w .inv in
     let some = c .before .loop-test .taken in
@@ -435,7 +418,6 @@ past-but-last-u16-at-requires-2 t c κs =
 past-but-last-matches-past-requires : (t : ℕ) → past-but-last-lts.Need-matches-past-requires (past-but-last-env t) (past-but-last-at t) past-but-last.Post past-but-last-Inv-loop past-but-last-μ-loop
 past-but-last-matches-past-requires t c κs =
     let s = c .before .before .before .before .before .before .before .before .before .before .before .before .before in
-    let noted = s .pre .1 .1 in
     let w = c .before .before .before .before .before .before .loop in
     let v = w .inv in
     let some = c .before .before .before .before .before .loop-test .taken in
@@ -446,8 +428,6 @@ past-but-last-enum-known-first t c = search needs
 
 past-but-last-note-pair-requires : (t : ℕ) → past-but-last-lts.Need-note-pair-requires (past-but-last-env t) (past-but-last-at t) past-but-last.Post past-but-last-Inv-loop past-but-last-μ-loop
 past-but-last-note-pair-requires t c κs =
-    let s = c .before .before .before .before .before .before .before .before .before .before .before .before .before .before .before .before .before .before .before .before .before .before .before .before in
-    let noted = s .pre .1 .1 in
     let w = c .before .before .before .before .before .before .before .before .before .before .before .before .before .before .before .before .before .loop in
     let v = w .inv in
     let some = c .before .before .before .before .before .before .before .before .before .before .before .before .before .before .before .before .loop-test .taken in
@@ -457,7 +437,6 @@ past-but-last-note-pair-requires t c κs =
 past-but-last-add-x : (t : ℕ) → past-but-last-lts.Need-add-x (past-but-last-env t) (past-but-last-at t) past-but-last.Post past-but-last-Inv-loop past-but-last-μ-loop
 past-but-last-add-x t c =
     let s = c .before .before .before .before .before .before .before .before .before .before .before .before .before .before .before .before .before .before .before .before .before .before .before .before .before .before .before in
-    let asks = s .pre .1 .0 in
     let w = c .before .before .before .before .before .before .before .before .before .before .before .before .before .before .before .before .before .before .before .before .loop in
     let v = w .inv in
     let some = c .before .before .before .before .before .before .before .before .before .before .before .before .before .before .before .before .before .before .before .loop-test .taken in
@@ -466,7 +445,6 @@ past-but-last-add-x t c =
 past-but-last-add-y : (t : ℕ) → past-but-last-lts.Need-add-y (past-but-last-env t) (past-but-last-at t) past-but-last.Post past-but-last-Inv-loop past-but-last-μ-loop
 past-but-last-add-y t c =
     let s = c .before .before .before .before .before .before .before .before .before .before .before .before .before .before .before .before .before .before .before .before .before .before .before .before .before .before .before in
-    let asks = s .pre .1 .0 in
     let w = c .before .before .before .before .before .before .before .before .before .before .before .before .before .before .before .before .before .before .before .before .loop in
     let v = w .inv in
     let some = c .before .before .before .before .before .before .before .before .before .before .before .before .before .before .before .before .before .before .before .loop-test .taken in
@@ -549,8 +527,6 @@ past-but-last-same-length-6 t c =
 
 past-but-last-returns-2 : (t : ℕ) → past-but-last-lts.Need-returns-2 (past-but-last-env t) (past-but-last-at t) past-but-last.Post past-but-last-Inv-loop past-but-last-μ-loop
 past-but-last-returns-2 t c =
-    let s = c .before .before .before .before .before .before .before .before in
-    let noted = s .pre .1 .1 in
     let w = c .before .loop in
     let v = w .inv in
     (past-end v (c .loop-test .left), v .noted)

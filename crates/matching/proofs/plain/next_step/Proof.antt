@@ -87,7 +87,6 @@ returns-5 : tie.Need-returns-5
 returns-5 c =
     let s = c .before .before .before .before .before .before .before .before .before .before .before .before in
     let a = s .args in
-    let p = a .places .now in
     let asks = s .pre .0 in
     let k = a .p in
     let j = a .t in
@@ -106,9 +105,6 @@ entry-requires-2 c κs =
     let j = a .t in
     let u = asks .usable in
     entry-asks b p n j (u .stored) (asks .right)
-
-same-head-requires : tie.Need-same-head-requires
-same-head-requires c κs = search needs
 
 returns-6 : tie.Need-returns-6
 returns-6 c =
@@ -143,4 +139,4 @@ returns-7 c =
     step-head b p n k j asks r e q g (c .before .before .before .before .before .before .before .before .before .if1 .left) (c .before .before .before .before .before .before .before .if2 .left) (sym (c .before .same-head .ensures) ∙ c .if6 .left)
 
 pub next-step-spec : {M : Type 1} → statement M
-next-step-spec = tie.close (tie.spec entry-requires returns returns-2 returns-3 returns-4 is-met-requires returns-5 entry-requires-2 same-head-requires returns-6 returns-7)
+next-step-spec = tie.close (tie.spec entry-requires returns returns-2 returns-3 returns-4 is-met-requires returns-5 entry-requires-2 (λ c κs. search needs) returns-6 returns-7)

@@ -11,9 +11,6 @@ use Rattle.replacing.proofs.MakeLaws.{make-tree, make-intern, make-made
 use Rattle.replacing.proofs.build.make.Statement.{statement}
 use Rattle.replacing.proofs.build.make.Tie as tie
 
-slice-aggregate-draft-of : tie.Need-slice-aggregate-draft-of
-slice-aggregate-draft-of c = search needs
-
 draft-of-requires : tie.Need-draft-of-requires
 draft-of-requires c κs =
     let s = c .before .before .before .before .before .before in
@@ -53,15 +50,6 @@ intern-requires c κs =
     let u = a .used in
     make-intern b p ix n u (fieldsIn (a .kind) (a .name) (a .number) (held (a .parts .now) (a .many)) (held (a .names .now) (a .named))) (held (a .parts .now) (a .many)) (held (a .names .now) (a .named)) (s .pre) _ (c .before .before .before .before .before .before .before .before .draft-of .ensures .is) (c .before .before .before .before .tree-size .result) (c .before .before .before .before .tree-size .ensures)
 
-same-length : tie.Need-same-length
-same-length c = search needs
-
-same-length-2 : tie.Need-same-length-2
-same-length-2 c = search needs
-
-same-length-3 : tie.Need-same-length-3
-same-length-3 c = search needs
-
 returns : tie.Need-returns
 returns c =
     let s = c .before .before .before .before .before .before .before .before .before .before .before .before .before .before .before .before .before .before .before .before .before .before in
@@ -75,4 +63,4 @@ returns c =
     make-made b p ix n u (fieldsIn (a .kind) (a .name) (a .number) (held (a .parts .now) (a .many)) (held (a .names .now) (a .named))) (held (a .parts .now) (a .many)) (held (a .names .now) (a .named)) (s .pre) _ (c .before .before .before .before .before .before .before .before .before .before .before .before .before .before .before .draft-of .ensures .is) (d .0) (d .1 .0) (d .1 .1 .0) (c .before .before .before .before .before .before .intern .result) (c .before .before .before .before .before .before .intern .ensures)
 
 pub make-spec : {M : Type 1} → statement M
-make-spec = tie.close (tie.spec slice-aggregate-draft-of draft-of-requires array-share-prefix-bytes slice-aggregate-tree-size tree-size-requires array-share-prefix-bytes-2 slice-aggregate-intern intern-requires same-length same-length-2 same-length-3 returns)
+make-spec = tie.close (tie.spec (λ c. search needs) draft-of-requires array-share-prefix-bytes slice-aggregate-tree-size tree-size-requires array-share-prefix-bytes-2 slice-aggregate-intern intern-requires (λ c. search needs) (λ c. search needs) (λ c. search needs) returns)

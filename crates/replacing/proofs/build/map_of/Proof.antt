@@ -7,12 +7,6 @@ use Rattle.record.specs.Record.{maps, mapOf}
 use Rattle.replacing.proofs.build.map_of.Statement.{statement}
 use Rattle.replacing.proofs.build.map_of.Tie as tie
 
-mul-result : tie.Need-mul-result
-mul-result c = search needs
-
-array-read-result : tie.Need-array-read-result
-array-read-result c = search needs
-
 returns : tie.Need-returns
 unfolding mapOf maps
 returns c = refl
@@ -22,4 +16,4 @@ unfolding mapOf maps
 returns-2 c = sym (List·getD-eq-default maps 0 {n = c .before .args .kind} (omega (arith, c .if1 .left)))
 
 pub map-of-spec : {M : Type 1} → statement M
-map-of-spec = tie.close (tie.spec mul-result array-read-result returns returns-2)
+map-of-spec = tie.close (tie.spec (λ c. search needs) (λ c. search needs) returns returns-2)

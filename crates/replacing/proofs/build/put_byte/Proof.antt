@@ -15,9 +15,6 @@ slice-write-bytes c = omega (arith, c .pre .room .room, c .pre .room .long)
 add-result : tie.Need-add-result
 add-result c = omega (arith, c .pre .room .room)
 
-same-length : tie.Need-same-length
-same-length c = search needs
-
 returns : tie.Need-returns
 returns c =
     let s = c in
@@ -26,4 +23,4 @@ returns c =
     byte-put d (a .v) (s .pre)
 
 pub put-byte-spec : {M : Type 1} → statement M
-put-byte-spec = tie.close (tie.spec cast-bytes slice-write-bytes add-result same-length returns)
+put-byte-spec = tie.close (tie.spec cast-bytes slice-write-bytes add-result (λ c. search needs) returns)

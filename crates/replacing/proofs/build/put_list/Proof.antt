@@ -30,7 +30,6 @@ loop-holds c =
     let s = c .before .before .before .before .before .before .before in
     let a = s .args in
     let d = draft (a .bytes .now) (a .len) in
-    let o = held (a .list .now) (a .n) in
     put-start d (a .n) (a .list .now) (draft (c .before .before .put-byte .last .0) (c .before .before .put-byte .result)) (c .before .before .put-byte .ensures)
 
 mul-v : tie.Need-mul-v Inv-loop μ-loop

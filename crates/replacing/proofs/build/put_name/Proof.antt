@@ -8,9 +8,6 @@ use Rattle.replacing.proofs.build.put_name.Tie as tie
 put-word-requires : tie.Need-put-word-requires
 put-word-requires c κs = c .before .before .before .pre
 
-same-length : tie.Need-same-length
-same-length c = search needs
-
 returns : tie.Need-returns
 returns c =
     let s = c .before .before .before .before .before .before in
@@ -26,4 +23,4 @@ returns-2 c =
     put-name-off d (a .bit) (a .v) (c .if1 .left) (s .pre .room)
 
 pub put-name-spec : {M : Type 1} → statement M
-put-name-spec = tie.close (tie.spec put-word-requires same-length returns returns-2)
+put-name-spec = tie.close (tie.spec put-word-requires (λ c. search needs) returns returns-2)

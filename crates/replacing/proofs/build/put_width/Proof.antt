@@ -16,9 +16,6 @@ put-word-requires-2 c κs =
     let d = draft (a .bytes .now) (a .len) in
     record { room = put-room d 4 2 _ (draft (c .before .before .before .put-word .last .0) (c .before .before .before .put-word .result)) 2 (s .pre .room) (omega arith) (c .before .before .before .put-word .ensures); small = omega arith }
 
-same-length : tie.Need-same-length
-same-length c = search needs
-
 returns : tie.Need-returns
 returns c =
     let s = c .before .before .before .before .before .before .before .before .before .before in
@@ -34,4 +31,4 @@ returns-2 c =
     put-width-off d (a .bit) (a .v) (c .if1 .left) (s .pre .room)
 
 pub put-width-spec : {M : Type 1} → statement M
-put-width-spec = tie.close (tie.spec put-word-requires put-word-requires-2 same-length returns returns-2)
+put-width-spec = tie.close (tie.spec put-word-requires put-word-requires-2 (λ c. search needs) returns returns-2)

@@ -16,9 +16,6 @@ put-byte-requires-2 c κs =
     let d = draft (a .bytes .now) (a .len) in
     record { room = put-room d 2 1 _ (draft (c .before .before .before .put-byte .last .0) (c .before .before .before .put-byte .result)) 1 (s .pre .room) (omega arith) (c .before .before .before .put-byte .ensures); small = omega (arith, s .pre .small) }
 
-same-length : tie.Need-same-length
-same-length c = search needs
-
 returns : tie.Need-returns
 returns c =
     let s = c .before .before .before .before .before .before .before .before .before in
@@ -27,4 +24,4 @@ returns c =
     put-trans d 1 _ (draft (c .before .before .before .before .before .before .put-byte .last .0) (c .before .before .before .before .before .before .put-byte .result)) 1 _ (draft (c .before .before .put-byte2 .last .0) (c .before .before .put-byte2 .result)) (c .before .before .before .before .before .before .put-byte .ensures) (c .before .before .put-byte2 .ensures)
 
 pub put-word-spec : {M : Type 1} → statement M
-put-word-spec = tie.close (tie.spec put-byte-requires put-byte-requires-2 same-length returns)
+put-word-spec = tie.close (tie.spec put-byte-requires put-byte-requires-2 (λ c. search needs) returns)

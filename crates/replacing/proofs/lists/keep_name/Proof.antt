@@ -26,9 +26,6 @@ slice-write-out c = omega (arith, c .before .before .pre .add .room, c .before .
 add-result : tie.Need-add-result
 add-result c = omega (arith, c .before .before .pre .add .room)
 
-same-length : tie.Need-same-length
-same-length c = search needs
-
 returns : tie.Need-returns
 returns c =
     let s = c .before .before in
@@ -44,4 +41,4 @@ returns-2 c =
     keep-bound o (a .v) (a .images .now) (c .if1 .left) (s .pre .add .has)
 
 pub keep-name-spec : {M : Type 1} → statement M
-keep-name-spec = tie.close (tie.spec mul-if1 shared-slice-read-if1 cast-out mul-out slice-write-out add-result same-length returns returns-2)
+keep-name-spec = tie.close (tie.spec mul-if1 shared-slice-read-if1 cast-out mul-out slice-write-out add-result (λ c. search needs) returns returns-2)

@@ -17,9 +17,6 @@ returns c =
     let b = a .records .now in
     names-none b (a .at) (a .n) (a .images .now) (c .if1 .taken)
 
-slice-aggregate-names-left : tie.Need-slice-aggregate-names-left
-slice-aggregate-names-left c = search needs
-
 names-left-requires : tie.Need-names-left-requires
 names-left-requires c κs = (c .before .before .before .before .pre, length-replicate {A = ℕ} 64 0)
 
@@ -31,4 +28,4 @@ returns-2 c =
     sym (has-length (held (c .before .names-left .last .1 .1 .1 .1 .0) (c .before .names-left .result)) (unbound (a .images .now) (numbersAt b (a .at) (a .n))) (c .before .names-left .ensures))
 
 pub names-kept-spec : {M : Type 1} → statement M
-names-kept-spec = tie.close (tie.spec returns slice-aggregate-names-left names-left-requires returns-2)
+names-kept-spec = tie.close (tie.spec returns (λ c. search needs) names-left-requires returns-2)

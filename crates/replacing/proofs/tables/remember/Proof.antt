@@ -15,9 +15,6 @@ mul-table c = omega (arith, c .if1 .taken, c .before .good .0)
 slice-write-table : tie.Need-slice-write-table
 slice-write-table c = c .if1 .taken
 
-same-length : tie.Need-same-length
-same-length c = search needs
-
 returns : tie.Need-returns
 returns c = refl
 
@@ -25,4 +22,4 @@ returns-2 : tie.Need-returns-2
 returns-2 c = sym (set-out (c .before .args .table .now) (c .before .args .k) (c .before .args .v) (c .if1 .left))
 
 pub remember-spec : {M : Type 1} → statement M
-remember-spec = tie.close (tie.spec cast-table mul-table slice-write-table same-length returns returns-2)
+remember-spec = tie.close (tie.spec cast-table mul-table slice-write-table (λ c. search needs) returns returns-2)
