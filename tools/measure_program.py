@@ -12,7 +12,7 @@ import sys
 import tempfile
 import time
 
-from sheets import APP, ARRAY, BITS, BV, FUN, INTEGER, LEAF, OP, PAR, SET, TUPLE, TVAR, VAR, sheet
+from sheets import APP, ARRAY, BITS, BV, FUN, INTEGER, LEAF, OP, PAR, SET, TUPLE, TVAR, VAR, equal_hashes, sheet
 
 
 def mixed(n):
@@ -118,6 +118,25 @@ def unlike(n):
     return sheet(sorts, terms + [APP(0, 1 + i % 62, 1 + i // 62) for i in range(min(n - 63, 62 * 62))])
 
 
+def read(n):
+    """As many sorts as a sheet holds, all but one of one hash."""
+    return sheet([LEAF(4)] + [PAR(names, 0) for names in equal_hashes(2047)], [INTEGER(0)] * n)
+
+
+def equal(n):
+    """Apps as in `unlike`, of 63 heads and 63 arguments: each makes 1,425 Pars over Int of one hash, that of 397 which stand on the sheet."""
+    names = equal_hashes(1822)
+    sorts = [LEAF(4), VAR(1), VAR(2)] + [PAR(those, 1) for those in names[:1425]]
+    parts = range(3, len(sorts))
+    sorts += [TUPLE(*parts[i:i + 64]) for i in range(0, len(parts), 64)]
+    sorts += [TUPLE(*range(parts.stop, len(sorts))), ARRAY(1, 2), FUN(len(sorts) + 1, len(sorts))]
+    first = len(sorts)
+    sorts += [PAR([1, 2, 3 + i], first - 1) for i in range(63)] + [ARRAY(0, i) for i in range(63)]
+    terms = [TVAR(1, i) for i in range(first, len(sorts))]
+    apps = [APP(i % 63, 63 + i // 63) for i in range(n - len(terms))]
+    return sheet(sorts + [PAR(those, 0) for those in names[1425:]], terms + apps)
+
+
 def peak(program, path):
     """The largest resident size of the program in KiB, as GNU time tells it."""
     with open(path, "rb") as stdin, open(os.devnull, "wb") as sink:
@@ -157,6 +176,8 @@ CASES = [
     ("again", again, (4096,)),
     ("turns", turns, (4096,)),
     ("unlike", unlike, (3907,)),
+    ("read", read, (1,)),
+    ("equal", equal, (256,)),
 ]
 
 
