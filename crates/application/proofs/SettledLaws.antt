@@ -25,8 +25,8 @@ some-image : (st : List Sort) (e : ℕ) → isSome (imageAt st e) ≡ not (eqb e
 some-image st zero = refl
 some-image st (suc j) = sym (ap not (ne-eqb (suc j) 0 (λ z. omega arith)))
 
-pub bound-look : {st : List Sort} {l : List ℕ} {θ : Map} → Images st l θ → (v : ℕ) → bound θ v ≡ not (eqb (getD l v 0) 0)
-bound-look {st} {l} {θ} i v = ap isSome (i .look v) ∙ some-image st (getD l v 0)
+pub bound-look : (st : List Sort) (l : List ℕ) (θ : Map) → Images st l θ → (v : ℕ) → bound θ v ≡ not (eqb (getD l v 0) 0)
+bound-look st l θ i v = ap isSome (i .look v) ∙ some-image st (getD l v 0)
 
 ---------------------------------------------------------------- along a list
 module _ (b p : List ℕ) (n : ℕ) (prm imgs : List ℕ) (x m : ℕ) where
@@ -51,7 +51,7 @@ module _ (b p : List ℕ) (n : ℕ) (prm imgs : List ℕ) (x m : ℕ) where
           images = a .images;
         }
 
-  module _ (more : 0 < m) {k : ℕ} (e : k ≡ u16At b x) (s : Bool) (h : SettledIs b p n prm imgs k s) where
+  module _ (more : 0 < m) (k : ℕ) (e : k ≡ u16At b x) (s : Bool) (h : SettledIs b p n prm imgs k s) where
     pub settled-more : s ≡ true → (r : Bool) → SettledAllIs b p n prm imgs (x + 2) (m - 1) r → SettledAllIs b p n prm imgs x m r
     unfolding settled
     settled-more q r g f t θ i = rw (sorts-more b p n b x m more, ← e, ← h f t θ i, q) (g f t θ i)
@@ -73,10 +73,10 @@ split f θ (par us c) d = sym (and-last (settled f θ c))
 split f θ (node i c w ss) d = refl
 
 -- The answer is whatever equals it.
-pub settled-as : (b p : List ℕ) (n : ℕ) (prm imgs : List ℕ) (k : ℕ) {u : Bool} (v : Bool) → u ≡ v → SettledIs b p n prm imgs k u → SettledIs b p n prm imgs k v
-settled-as b p n prm imgs k {u} v q h f t θ i = sym q ∙ h f t θ i
+pub settled-as : (b p : List ℕ) (n : ℕ) (prm imgs : List ℕ) (k : ℕ) (u v : Bool) → u ≡ v → SettledIs b p n prm imgs k u → SettledIs b p n prm imgs k v
+settled-as b p n prm imgs k u v q h f t θ i = sym q ∙ h f t θ i
 
-module _ {b p : List ℕ} {n : ℕ} {prm imgs : List ℕ} {k : ℕ} (a : SettledAsks b p n prm imgs k) (r : SortRecord) (e : EntryHas b p k r) where
+module _ (b p : List ℕ) (n : ℕ) (prm imgs : List ℕ) (k : ℕ) (a : SettledAsks b p n prm imgs k) (r : SortRecord) (e : EntryHas b p k r) where
   pub parts-ask : SettledAllAsks b p n prm imgs (r .list) (r .count)
   parts-ask =
       record {
@@ -96,7 +96,7 @@ module _ {b p : List ℕ} {n : ℕ} {prm imgs : List ℕ} {k : ℕ} (a : Settled
   pub settled-name : r .kind ≡ 2 → (getD prm (r .name) 0 ≡ 0 → ⊥) → SettledIs b p n prm imgs k (not (eqb (getD imgs (r .name) 0) 0))
   settled-name h z f t θ i =
       sym (at-var h f θ ∙ ap (λ (g : Bool). not g || bound θ (r .name)) (t (r .name) ∙ listed-some prm (r .name) z)
-      ∙ bound-look i (r .name))
+      ∙ bound-look (storeOf b p n) imgs θ i (r .name))
 
   pub settled-parts : (r .kind ≡ 2 → ⊥) → (q : Bool) → SettledAllIs b p n prm imgs (r .list) (r .count) q → SettledIs b p n prm imgs k q
   settled-parts d q g f t θ i =

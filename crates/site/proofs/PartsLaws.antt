@@ -38,12 +38,12 @@ module _ (s rows : List ℕ) (column : ℕ) (r : TermRecord) (a : List ℕ) wher
       }
 
   -- None is: t is the test of the list's rows.
-  module _ {t : Bool} (f : not t ≡ false) (g : GatherIs s (r .list) (r .count) rows column a t) (side : column ≤ 1) where
+  module _ (t : Bool) (f : not t ≡ false) (g : GatherIs s (r .list) (r .count) rows column a t) (side : column ≤ 1) where
     on : t ≡ true
     on = not-false t f
 
-    known : {n : ℕ} {tbl xs : List ℕ} → Standing n s tbl xs rows r → (j : ℕ) → j < r .count → u16At a (3 + 2 * j) < n
-    known {n} {tbl} {xs} h = gathered-known s (r .list) (r .count) rows column a t g on side (h .term) n (h .known) (h .was .references)
+    known : (n : ℕ) (tbl xs : List ℕ) → Standing n s tbl xs rows r → (j : ℕ) → j < r .count → u16At a (3 + 2 * j) < n
+    known n tbl xs h = gathered-known s (r .list) (r .count) rows column a t g on side (h .term) n (h .known) (h .was .references)
 
     -- The list has its numbers, and the index terms some sorts js.
     both : (J : Site → Verdict) (st : List Sort) (tbl xs : List ℕ) (js : Sorts) → indexSorts st s r rows column ≡ some js
@@ -62,9 +62,9 @@ module _ (s rows : List ℕ) (column : ℕ) (r : TermRecord) (a : List ℕ) wher
         }
 
     -- The index terms decide.
-    pub parts-indexed : r .kind ≡ 11 → {q : Bool} → JudgedIs s (r .second) (r .seconds) rows column q → PartsAre s rows column r a q
+    pub parts-indexed : r .kind ≡ 11 → (q : Bool) → JudgedIs s (r .second) (r .seconds) rows column q → PartsAre s rows column r a q
     unfolding termVerdict
-    parts-indexed k {q} i =
+    parts-indexed k q i =
         let on11 : (st : List Sort) → indexSorts st s r rows column ≡ argumentsOf st s (r .second) (r .seconds) rows column =
         λ st. ap (λ (j : ℕ). argumentsOf st s (r .second) (cond (eqb j 11) (r .seconds) 0) rows column) k in
         record {

@@ -17,10 +17,17 @@ returns : tie.Need-returns
 returns c =
     let s = c .before .before .before .before .before .before .before .before .before in
     let a = s .args in
+    let b = a .records .now in
+    let p = a .places .now in
+    let ix = a .index .now in
+    let n = a .count in
+    let u = a .used in
     let prm = a .params .now in
     let g = a .images .now in
     let o = a .bound .now in
-    app-refused prm g o (s .pre .good) Panics (applied-none (s .pre) (c .before .if1 .taken)) (c .refuse .ensures)
+    let d = a .args .now in
+    let t = a .total in
+    app-refused b p ix n u prm g o (s .pre .good) (inferredApp (sortsAt b p n d 3 t)) Panics (applied-none b p ix n u prm g o d t (s .pre) (c .before .if1 .taken)) (c .refuse .result) (c .refuse .ensures)
 
 sub-n : tie.Need-sub-n
 sub-n c =
@@ -38,77 +45,152 @@ head-of-requires : tie.Need-head-of-requires
 head-of-requires c κs =
     let s = c .before .before .before .before .before .before .before .before .before .before .before .before in
     let a = s .args in
+    let b = a .records .now in
+    let p = a .places .now in
+    let ix = a .index .now in
+    let n = a .count in
+    let u = a .used in
+    let prm = a .params .now in
+    let g = a .images .now in
+    let o = a .bound .now in
+    let d = a .args .now in
     let t = a .total in
-    head-asks (s .pre) (positive t (c .before .before .before .before .if1 .left)) (c .before .before .u16-at .ensures .0)
+    head-asks b p ix n u prm g o d t (s .pre) (positive t (c .before .before .before .before .if1 .left)) (c .before .before .u16-at .result) (c .before .before .u16-at .ensures .0)
 
 returns-2 : tie.Need-returns-2
 returns-2 c =
     let s = c .before .before .before .before .before .before .before .before .before .before .before .before .before .before .before .before .before .before in
     let a = s .args in
+    let b = a .records .now in
+    let p = a .places .now in
+    let ix = a .index .now in
+    let n = a .count in
+    let u = a .used in
     let prm = a .params .now in
     let g = a .images .now in
     let o = a .bound .now in
+    let d = a .args .now in
     let t = a .total in
     let v = c .before .before .before .head .given .0 in
-    app-refused prm g o (s .pre .good) Panics (applied-many (s .pre) (positive t (c .before .before .before .before .before .before .before .before .before .before .if1 .left)) (c .before .before .before .before .before .before .before .before .u16-at .ensures .0) (c .before .before .before .before .before .head-of .result) (c .before .before .before .before .before .head-of .ensures) (v .0) (v .1 .0) (v .1 .1 .0) (v .1 .1 .1 .0) (c .before .before .before .head .given .1) (c .before .if2 .taken)) (c .refuse2 .ensures)
+    app-refused b p ix n u prm g o (s .pre .good) (inferredApp (sortsAt b p n d 3 t)) Panics (applied-many b p ix n u prm g o d t (s .pre) (positive t (c .before .before .before .before .before .before .before .before .before .before .if1 .left)) (c .before .before .before .before .before .before .before .before .u16-at .result) (c .before .before .before .before .before .before .before .before .u16-at .ensures .0) (c .before .before .before .before .before .head-of .result) (c .before .before .before .before .before .head-of .ensures) (v .0) (v .1 .0) (v .1 .1 .0) (v .1 .1 .1 .0) (c .before .before .before .head .given .1) (c .before .if2 .taken)) (c .refuse2 .result) (c .refuse2 .ensures)
 
 mul-at : tie.Need-mul-at
 mul-at c =
     let s = c .before .before .before .before .before .before .before .before .before .before .before .before .before .before .before .before .before .before in
     let a = s .args in
+    let b = a .records .now in
+    let p = a .places .now in
+    let ix = a .index .now in
+    let n = a .count in
+    let u = a .used in
+    let prm = a .params .now in
+    let g = a .images .now in
+    let o = a .bound .now in
+    let d = a .args .now in
     let t = a .total in
     let v = c .before .before .before .head .given .0 in
-    omega (arith, called-asks (s .pre) (positive t (c .before .before .before .before .before .before .before .before .before .before .if1 .left)) (c .before .before .before .before .before .before .before .before .u16-at .ensures .0) (c .before .before .before .before .before .head-of .result) (c .before .before .before .before .before .head-of .ensures) (v .0) (v .1 .0) (v .1 .1 .0) (v .1 .1 .1 .0) (c .before .before .before .head .given .1) .list .within, c .before .if2 .left, s .good)
+    omega (arith, called-asks b p ix n u prm g o d t (s .pre) (positive t (c .before .before .before .before .before .before .before .before .before .before .if1 .left)) (c .before .before .before .before .before .before .before .before .u16-at .result) (c .before .before .before .before .before .before .before .before .u16-at .ensures .0) (c .before .before .before .before .before .head-of .result) (c .before .before .before .before .before .head-of .ensures) (v .0) (v .1 .0) (v .1 .1 .0) (v .1 .1 .1 .0) (c .before .before .before .head .given .1) .list .within, c .before .if2 .left, s .good)
 
 add-at : tie.Need-add-at
 add-at c =
     let s = c .before .before .before .before .before .before .before .before .before .before .before .before .before .before .before .before .before .before in
     let a = s .args in
+    let b = a .records .now in
+    let p = a .places .now in
+    let ix = a .index .now in
+    let n = a .count in
+    let u = a .used in
+    let prm = a .params .now in
+    let g = a .images .now in
+    let o = a .bound .now in
+    let d = a .args .now in
     let t = a .total in
     let v = c .before .before .before .head .given .0 in
-    omega (arith, called-asks (s .pre) (positive t (c .before .before .before .before .before .before .before .before .before .before .if1 .left)) (c .before .before .before .before .before .before .before .before .u16-at .ensures .0) (c .before .before .before .before .before .head-of .result) (c .before .before .before .before .before .head-of .ensures) (v .0) (v .1 .0) (v .1 .1 .0) (v .1 .1 .1 .0) (c .before .before .before .head .given .1) .list .within, c .before .if2 .left, s .good)
+    omega (arith, called-asks b p ix n u prm g o d t (s .pre) (positive t (c .before .before .before .before .before .before .before .before .before .before .if1 .left)) (c .before .before .before .before .before .before .before .before .u16-at .result) (c .before .before .before .before .before .before .before .before .u16-at .ensures .0) (c .before .before .before .before .before .head-of .result) (c .before .before .before .before .before .head-of .ensures) (v .0) (v .1 .0) (v .1 .1 .0) (v .1 .1 .1 .0) (c .before .before .before .head .given .1) .list .within, c .before .if2 .left, s .good)
 
 remaining-requires : tie.Need-remaining-requires
 remaining-requires c κs =
     let s = c .before .before .before .before .before .before .before .before .before .before .before .before .before .before .before .before .before .before .before .before .before .before in
     let a = s .args in
+    let b = a .records .now in
+    let p = a .places .now in
+    let ix = a .index .now in
+    let n = a .count in
+    let u = a .used in
+    let prm = a .params .now in
+    let g = a .images .now in
+    let o = a .bound .now in
+    let d = a .args .now in
     let t = a .total in
     let v = c .before .before .before .before .before .before .before .head .given .0 in
-    remaining-asks (s .pre) (positive t (c .before .before .before .before .before .before .before .before .before .before .before .before .before .before .if1 .left)) (c .before .before .before .before .before .before .before .before .before .before .before .before .u16-at .ensures .0) (c .before .before .before .before .before .before .before .before .before .head-of .result) (c .before .before .before .before .before .before .before .before .before .head-of .ensures) (v .0) (v .1 .0) (v .1 .1 .0) (v .1 .1 .1 .0) (c .before .before .before .before .before .before .before .head .given .1) (c .before .before .before .before .before .if2 .left)
+    remaining-asks b p ix n u prm g o d t (s .pre) (positive t (c .before .before .before .before .before .before .before .before .before .before .before .before .before .before .if1 .left)) (c .before .before .before .before .before .before .before .before .before .before .before .before .u16-at .result) (c .before .before .before .before .before .before .before .before .before .before .before .before .u16-at .ensures .0) (c .before .before .before .before .before .before .before .before .before .head-of .result) (c .before .before .before .before .before .before .before .before .before .head-of .ensures) (v .0) (v .1 .0) (v .1 .1 .0) (v .1 .1 .1 .0) (c .before .before .before .before .before .before .before .head .given .1) (c .before .before .before .before .before .if2 .left)
 
 returns-3 : tie.Need-returns-3
 returns-3 c =
     let s = c .before .before .before .before .before .before .before .before .before .before .before .before .before .before .before .before .before .before .before .before .before .before .before .before .before .before .before .before .before .before .before in
     let a = s .args in
+    let b = a .records .now in
+    let p = a .places .now in
+    let ix = a .index .now in
+    let n = a .count in
+    let u = a .used in
+    let prm = a .params .now in
+    let g = a .images .now in
+    let o = a .bound .now in
+    let d = a .args .now in
     let t = a .total in
     let v = c .before .before .before .before .before .before .before .before .before .before .before .before .before .before .before .before .head .given .0 in
-    record { answer = judged-as (applied-rest (s .pre) (positive t (c .before .before .before .before .before .before .before .before .before .before .before .before .before .before .before .before .before .before .before .before .before .before .before .if1 .left)) (c .before .before .before .before .before .before .before .before .before .before .before .before .before .before .before .before .before .before .before .before .before .u16-at .ensures .0) (c .before .before .before .before .before .before .before .before .before .before .before .before .before .before .before .before .before .before .head-of .result) (c .before .before .before .before .before .before .before .before .before .before .before .before .before .before .before .before .before .before .head-of .ensures) (v .0) (v .1 .0) (v .1 .1 .0) (v .1 .1 .1 .0) (c .before .before .before .before .before .before .before .before .before .before .before .before .before .before .before .before .head .given .1) (c .before .before .before .before .before .before .before .before .before .before .before .before .before .before .if2 .left) (c .before .before .before .before .before .before .before .before .before .before .before .before .before .if3 .taken)) (c .before .before .before .before .before .before .before .before .remaining .ensures); params = refl; images = refl; bound = refl }
+    record { answer = judged-as (applied-rest b p ix n u prm g o d t (s .pre) (positive t (c .before .before .before .before .before .before .before .before .before .before .before .before .before .before .before .before .before .before .before .before .before .before .before .if1 .left)) (c .before .before .before .before .before .before .before .before .before .before .before .before .before .before .before .before .before .before .before .before .before .u16-at .result) (c .before .before .before .before .before .before .before .before .before .before .before .before .before .before .before .before .before .before .before .before .before .u16-at .ensures .0) (c .before .before .before .before .before .before .before .before .before .before .before .before .before .before .before .before .before .before .head-of .result) (c .before .before .before .before .before .before .before .before .before .before .before .before .before .before .before .before .before .before .head-of .ensures) (v .0) (v .1 .0) (v .1 .1 .0) (v .1 .1 .1 .0) (c .before .before .before .before .before .before .before .before .before .before .before .before .before .before .before .before .head .given .1) (c .before .before .before .before .before .before .before .before .before .before .before .before .before .before .if2 .left) (c .before .before .before .before .before .before .before .before .before .before .before .before .before .if3 .taken)) (c .before .before .before .before .before .before .before .before .remaining .ensures); params = refl; images = refl; bound = refl }
 
 parametric-lent-requires : tie.Need-parametric-lent-requires
 parametric-lent-requires c κs =
     let s = c .before .before .before .before .before .before .before .before .before .before .before .before .before .before .before .before .before .before .before .before .before .before .before .before .before in
     let a = s .args in
+    let b = a .records .now in
+    let p = a .places .now in
+    let ix = a .index .now in
+    let n = a .count in
+    let u = a .used in
+    let prm = a .params .now in
+    let g = a .images .now in
+    let o = a .bound .now in
+    let d = a .args .now in
     let t = a .total in
     let v = c .before .before .before .before .before .before .before .before .before .before .head .given .0 in
-    parametric-asks (s .pre) (positive t (c .before .before .before .before .before .before .before .before .before .before .before .before .before .before .before .before .before .if1 .left)) (c .before .before .before .before .before .before .before .before .before .before .before .before .before .before .before .u16-at .ensures .0) (c .before .before .before .before .before .before .before .before .before .before .before .before .head-of .result) (c .before .before .before .before .before .before .before .before .before .before .before .before .head-of .ensures) (v .0) (v .1 .0) (v .1 .1 .0) (v .1 .1 .1 .0) (c .before .before .before .before .before .before .before .before .before .before .head .given .1) (c .before .before .before .before .before .before .before .before .if2 .left)
+    parametric-asks b p ix n u prm g o d t (s .pre) (positive t (c .before .before .before .before .before .before .before .before .before .before .before .before .before .before .before .before .before .if1 .left)) (c .before .before .before .before .before .before .before .before .before .before .before .before .before .before .before .u16-at .result) (c .before .before .before .before .before .before .before .before .before .before .before .before .before .before .before .u16-at .ensures .0) (c .before .before .before .before .before .before .before .before .before .before .before .before .head-of .result) (c .before .before .before .before .before .before .before .before .before .before .before .before .head-of .ensures) (v .0) (v .1 .0) (v .1 .1 .0) (v .1 .1 .1 .0) (c .before .before .before .before .before .before .before .before .before .before .head .given .1) (c .before .before .before .before .before .before .before .before .if2 .left)
 
 returns-4 : tie.Need-returns-4
 returns-4 c =
     let s = c .before .before .before .before .before .before .before .before .before .before .before .before .before .before .before .before .before .before .before .before .before .before .before .before .before .before .before .before .before .before .before .before .before .before .before .before .before .before in
     let a = s .args in
+    let b = a .records .now in
+    let p = a .places .now in
+    let ix = a .index .now in
+    let n = a .count in
+    let u = a .used in
+    let prm = a .params .now in
+    let g = a .images .now in
+    let o = a .bound .now in
+    let d = a .args .now in
     let t = a .total in
     let v = c .before .before .before .before .before .before .before .before .before .before .before .before .before .before .before .before .before .before .before .before .before .before .before .head .given .0 in
-    app-as (applied-parametric (s .pre) (positive t (c .before .before .before .before .before .before .before .before .before .before .before .before .before .before .before .before .before .before .before .before .before .before .before .before .before .before .before .before .before .before .if1 .left)) (c .before .before .before .before .before .before .before .before .before .before .before .before .before .before .before .before .before .before .before .before .before .before .before .before .before .before .before .before .u16-at .ensures .0) (c .before .before .before .before .before .before .before .before .before .before .before .before .before .before .before .before .before .before .before .before .before .before .before .before .before .head-of .result) (c .before .before .before .before .before .before .before .before .before .before .before .before .before .before .before .before .before .before .before .before .before .before .before .before .before .head-of .ensures) (v .0) (v .1 .0) (v .1 .1 .0) (v .1 .1 .1 .0) (c .before .before .before .before .before .before .before .before .before .before .before .before .before .before .before .before .before .before .before .before .before .before .before .head .given .1) (c .before .before .before .before .before .before .before .before .before .before .before .before .before .before .before .before .before .before .before .before .before .if2 .left) (c .before .before .before .before .before .before .before .before .before .before .before .before .before .before .before .before .before .before .before .before .if3 .left)) (c .before .before .before .before .before .before .before .before .before .before .before .before .parametric-lent .ensures)
+    app-as (applied-parametric b p ix n u prm g o d t (s .pre) (positive t (c .before .before .before .before .before .before .before .before .before .before .before .before .before .before .before .before .before .before .before .before .before .before .before .before .before .before .before .before .before .before .if1 .left)) (c .before .before .before .before .before .before .before .before .before .before .before .before .before .before .before .before .before .before .before .before .before .before .before .before .before .before .before .before .u16-at .result) (c .before .before .before .before .before .before .before .before .before .before .before .before .before .before .before .before .before .before .before .before .before .before .before .before .before .before .before .before .u16-at .ensures .0) (c .before .before .before .before .before .before .before .before .before .before .before .before .before .before .before .before .before .before .before .before .before .before .before .before .before .head-of .result) (c .before .before .before .before .before .before .before .before .before .before .before .before .before .before .before .before .before .before .before .before .before .before .before .before .before .head-of .ensures) (v .0) (v .1 .0) (v .1 .1 .0) (v .1 .1 .1 .0) (c .before .before .before .before .before .before .before .before .before .before .before .before .before .before .before .before .before .before .before .before .before .before .before .head .given .1) (c .before .before .before .before .before .before .before .before .before .before .before .before .before .before .before .before .before .before .before .before .before .if2 .left) (c .before .before .before .before .before .before .before .before .before .before .before .before .before .before .before .before .before .before .before .before .if3 .left)) (c .before .before .before .before .before .before .before .before .before .before .before .before .parametric-lent .ensures)
 
 returns-5 : tie.Need-returns-5
 returns-5 c =
     let s = c .before .before .before .before .before .before .before .before .before .before .before .before .before .before .before .before in
     let a = s .args in
+    let b = a .records .now in
+    let p = a .places .now in
+    let ix = a .index .now in
+    let n = a .count in
+    let u = a .used in
     let prm = a .params .now in
     let g = a .images .now in
     let o = a .bound .now in
+    let d = a .args .now in
     let t = a .total in
-    app-refused prm g o (s .pre .good) Panics (applied-other (s .pre) (positive t (c .before .before .before .before .before .before .before .before .if1 .left)) (c .before .before .before .before .before .before .u16-at .ensures .0) (c .before .before .before .head-of .result) (c .before .before .before .head-of .ensures) (c .before .enum-told .given .1)) (c .refuse3 .ensures)
+    app-refused b p ix n u prm g o (s .pre .good) (inferredApp (sortsAt b p n d 3 t)) Panics (applied-other b p ix n u prm g o d t (s .pre) (positive t (c .before .before .before .before .before .before .before .before .if1 .left)) (c .before .before .before .before .before .before .u16-at .result) (c .before .before .before .before .before .before .u16-at .ensures .0) (c .before .before .before .head-of .result) (c .before .before .before .head-of .ensures) (c .before .enum-told .given .1)) (c .refuse3 .result) (c .refuse3 .ensures)
 
 pub applied-spec : {M : Type 1} → statement M
 applied-spec = tie.close (tie.spec (λ c κs. search needs) returns sub-n u16-at-requires head-of-requires (λ c. search needs) (λ c κs. search needs) (λ c. search needs) (λ c. search needs) (λ c. search needs) returns-2 mul-at add-at remaining-requires (λ c. search needs) (λ c. search needs) (λ c. search needs) (λ c. search needs) returns-3 parametric-lent-requires (λ c. search needs) (λ c κs. search needs) (λ c. search needs) (λ c. search needs) (λ c. search needs) (λ c. search needs) (λ c. search needs) (λ c. search needs) (λ c. search needs) returns-4 (λ c. search needs) (λ c. search needs) (λ c. search needs) returns-5)

@@ -28,7 +28,7 @@ returns-2 c =
     let w = a .rows .now in
     let k = a .column in
     let r = a .term in
-    parts-plain z w k r _ (c .before .if1 .left) (c .before .before .before .before .gather .ensures) (s .pre .list .judged .side) (c .if2 .taken)
+    parts-plain z w k r _ (c .before .before .before .before .gather .result) (c .before .if1 .left) (c .before .before .before .before .gather .ensures) (s .pre .list .judged .side) (c .if2 .taken)
 
 all-judged-requires : tie.Need-all-judged-requires
 all-judged-requires c κs =
@@ -43,7 +43,7 @@ returns-3 c =
     let w = a .rows .now in
     let k = a .column in
     let r = a .term in
-    parts-indexed z w k r _ (c .before .before .if1 .left) (c .before .before .before .before .before .gather .ensures) (s .pre .list .judged .side) (c .before .if2 .left) (c .all-judged .ensures)
+    parts-indexed z w k r _ (c .before .before .before .before .before .gather .result) (c .before .before .if1 .left) (c .before .before .before .before .before .gather .ensures) (s .pre .list .judged .side) (c .before .if2 .left) (c .all-judged .result) (c .all-judged .ensures)
 
 pub parts-judged-spec : {M : Type 1} → statement M
 parts-judged-spec = tie.close (tie.spec gather-requires (λ c. search needs) returns (λ c. search needs) returns-2 all-judged-requires (λ c. search needs) returns-3)

@@ -123,7 +123,7 @@ returns-3 c =
     let y = a .names in
     let q = a .named in
     let k = a .n in
-    called-delivered b p ix n u prm g o x m y q d k (s .pre) (c .before .before .before .before .before .before .before .before .before .before .before .before .before .before .before .before .before .before .before .before .before .before .before .before .if1 .left) (c .before .before .before .before .before .before .before .before .before .before .before .before .before .before .before .before .before .before .before .before .all-values .result) (c .before .before .before .before .before .before .before .before .before .before .before .before .before .before .before .before .before .before .before .before .all-values .ensures) (c .before .before .before .before .before .before .before .before .before .before .before .before .before .before .before .before .before .before .before .if3 .taken) (c .before .before .before .before .before .before .before .before .before .before .before .before .delivered-lent .ensures)
+    called-delivered b p ix n u prm g o x m y q d k (s .pre) (c .before .before .before .before .before .before .before .before .before .before .before .before .before .before .before .before .before .before .before .before .before .before .before .before .if1 .left) (c .before .before .before .before .before .before .before .before .before .before .before .before .before .before .before .before .before .before .before .before .all-values .result) (c .before .before .before .before .before .before .before .before .before .before .before .before .before .before .before .before .before .before .before .before .all-values .ensures) (c .before .before .before .before .before .before .before .before .before .before .before .before .before .before .before .before .before .before .before .if3 .taken) (c .before .before .before .before .before .before .before .before .before .before .before .before .delivered-lent .last .0) (c .before .before .before .before .before .before .before .before .before .before .before .before .delivered-lent .last .1 .0) (c .before .before .before .before .before .before .before .before .before .before .before .before .delivered-lent .last .1 .1 .0) (c .before .before .before .before .before .before .before .before .before .before .before .before .delivered-lent .last .1 .1 .1 .1 .1 .0) (c .before .before .before .before .before .before .before .before .before .before .before .before .delivered-lent .last .1 .1 .1 .1 .1 .1 .0) (c .before .before .before .before .before .before .before .before .before .before .before .before .delivered-lent .last .1 .1 .1 .1 .1 .1 .1 .0) (c .before .before .before .before .before .before .before .before .before .before .before .before .delivered-lent .result) (c .before .before .before .before .before .before .before .before .before .before .before .before .delivered-lent .ensures)
 
 returns-4 : tie.Need-returns-4
 returns-4 c =

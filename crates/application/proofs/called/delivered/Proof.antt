@@ -59,7 +59,7 @@ rest-requires c κs =
     let y = a .names in
     let q = a .named in
     let k = a .n in
-    rest-asks b p ix n u prm g o x m y q d k (s .pre) (call-mapped b p ix n u prm g o x m y q d k (s .pre) (c .before .before .before .before .before .before .before .before .before .before .before .before .before .fit-arguments .ensures) (c .before .before .before .before .before .call .given .0 .0) (ap boundIn (c .before .before .before .before .before .call .given .1)))
+    rest-asks b p ix n u prm g o x m y q d k (s .pre) (c .before .before .before .before .before .before .before .before .before .before .before .before .before .fit-arguments .last .1 .1 .1 .1 .0) (c .before .before .before .before .before .before .before .before .before .before .before .before .before .fit-arguments .last .1 .1 .1 .1 .1 .0) (c .before .before .before .before .before .call .given .0 .0) (call-mapped b p ix n u prm g o x m y q d k (s .pre) (c .before .before .before .before .before .before .before .before .before .before .before .before .before .fit-arguments .last .1 .1 .1 .0) (c .before .before .before .before .before .before .before .before .before .before .before .before .before .fit-arguments .last .1 .1 .1 .1 .0) (c .before .before .before .before .before .before .before .before .before .before .before .before .before .fit-arguments .last .1 .1 .1 .1 .1 .0) (c .before .before .before .before .before .before .before .before .before .before .before .before .before .fit-arguments .result) (c .before .before .before .before .before .before .before .before .before .before .before .before .before .fit-arguments .ensures) (c .before .before .before .before .before .call .given .0 .0) (ap boundIn (c .before .before .before .before .before .call .given .1)))
 
 clear-requires : tie.Need-clear-requires
 clear-requires c κs =
@@ -79,7 +79,7 @@ clear-requires c κs =
     let y = a .names in
     let q = a .named in
     let k = a .n in
-    call-mapped b p ix n u prm g o x m y q d k (s .pre) (c .before .before .before .before .before .before .before .before .before .before .before .before .before .before .before .before .before .before .before .before .before .before .fit-arguments .ensures) (c .before .before .before .before .before .before .before .before .before .before .before .before .before .before .call .given .0 .0) (ap boundIn (c .before .before .before .before .before .before .before .before .before .before .before .before .before .before .call .given .1)) .tabled
+    call-mapped b p ix n u prm g o x m y q d k (s .pre) (c .before .before .before .before .before .before .before .before .before .before .before .before .before .before .before .before .before .before .before .before .before .before .fit-arguments .last .1 .1 .1 .0) (c .before .before .before .before .before .before .before .before .before .before .before .before .before .before .before .before .before .before .before .before .before .before .fit-arguments .last .1 .1 .1 .1 .0) (c .before .before .before .before .before .before .before .before .before .before .before .before .before .before .before .before .before .before .before .before .before .before .fit-arguments .last .1 .1 .1 .1 .1 .0) (c .before .before .before .before .before .before .before .before .before .before .before .before .before .before .before .before .before .before .before .before .before .before .fit-arguments .result) (c .before .before .before .before .before .before .before .before .before .before .before .before .before .before .before .before .before .before .before .before .before .before .fit-arguments .ensures) (c .before .before .before .before .before .before .before .before .before .before .before .before .before .before .call .given .0 .0) (ap boundIn (c .before .before .before .before .before .before .before .before .before .before .before .before .before .before .call .given .1)) .tabled
 
 clear-requires-2 : tie.Need-clear-requires-2
 clear-requires-2 c κs =
@@ -99,7 +99,7 @@ clear-requires-2 c κs =
     let y = a .names in
     let q = a .named in
     let k = a .n in
-    call-mapped b p ix n u prm g o x m y q d k (s .pre) (c .before .before .before .before .before .before .before .before .before .before .before .fit-arguments .ensures) (c .before .before .before .call2 .given .0 .0) (ap boundIn (c .before .before .before .call2 .given .1)) .tabled
+    call-mapped b p ix n u prm g o x m y q d k (s .pre) (c .before .before .before .before .before .before .before .before .before .before .before .fit-arguments .last .1 .1 .1 .0) (c .before .before .before .before .before .before .before .before .before .before .before .fit-arguments .last .1 .1 .1 .1 .0) (c .before .before .before .before .before .before .before .before .before .before .before .fit-arguments .last .1 .1 .1 .1 .1 .0) (c .before .before .before .before .before .before .before .before .before .before .before .fit-arguments .result) (c .before .before .before .before .before .before .before .before .before .before .before .fit-arguments .ensures) (c .before .before .before .call2 .given .0 .0) (ap boundIn (c .before .before .before .call2 .given .1)) .tabled
 
 clear-requires-3 : tie.Need-clear-requires-3
 clear-requires-3 c κs =
@@ -119,7 +119,7 @@ clear-requires-3 c κs =
     let y = a .names in
     let q = a .named in
     let k = a .n in
-    call-mapped b p ix n u prm g o x m y q d k (s .pre) (c .before .before .before .before .before .before .before .before .before .before .before .fit-arguments .ensures) (c .before .before .before .call3 .given .0 .0) (ap boundIn (c .before .before .before .call3 .given .1)) .tabled
+    call-mapped b p ix n u prm g o x m y q d k (s .pre) (c .before .before .before .before .before .before .before .before .before .before .before .fit-arguments .last .1 .1 .1 .0) (c .before .before .before .before .before .before .before .before .before .before .before .fit-arguments .last .1 .1 .1 .1 .0) (c .before .before .before .before .before .before .before .before .before .before .before .fit-arguments .last .1 .1 .1 .1 .1 .0) (c .before .before .before .before .before .before .before .before .before .before .before .fit-arguments .result) (c .before .before .before .before .before .before .before .before .before .before .before .fit-arguments .ensures) (c .before .before .before .call3 .given .0 .0) (ap boundIn (c .before .before .before .call3 .given .1)) .tabled
 
 returns : tie.Need-returns
 returns c =
@@ -139,7 +139,7 @@ returns c =
     let y = a .names in
     let q = a .named in
     let k = a .n in
-    delivered-made b p ix n u prm g o x m y q d k (s .pre) (c .before .before .before .before .before .before .before .before .before .before .before .before .before .before .before .before .before .before .before .before .before .before .before .before .before .before .before .fit-arguments .ensures) (c .before .before .before .before .clear .ensures) (c .before .before .before .before .before .before .before .before .before .before .before .before .before .before .before .before .before .before .before .call .given .0 .0) (c .before .before .before .before .before .before .before .before .before .before .before .before .before .before .before .before .before .before .before .call .given .1) (c .before .before .before .before .before .before .before .before .before .before .before .before .before .rest .last .0) (c .before .before .before .before .before .before .before .before .before .before .before .before .before .rest .last .1 .0) (c .before .before .before .before .before .before .before .before .before .before .before .before .before .rest .last .1 .1 .0) (c .before .before .before .before .before .before .before .before .before .before .before .before .before .rest .result) (c .before .before .before .before .before .before .before .before .before .before .before .before .before .rest .ensures)
+    delivered-made b p ix n u prm g o x m y q d k (s .pre) (c .before .before .before .before .before .before .before .before .before .before .before .before .before .before .before .before .before .before .before .before .before .before .before .before .before .before .before .fit-arguments .last .1 .1 .1 .0) (c .before .before .before .before .before .before .before .before .before .before .before .before .before .before .before .before .before .before .before .before .before .before .before .before .before .before .before .fit-arguments .last .1 .1 .1 .1 .0) (c .before .before .before .before .before .before .before .before .before .before .before .before .before .before .before .before .before .before .before .before .before .before .before .before .before .before .before .fit-arguments .last .1 .1 .1 .1 .1 .0) (c .before .before .before .before .before .before .before .before .before .before .before .before .before .before .before .before .before .before .before .before .before .before .before .before .before .before .before .fit-arguments .result) (c .before .before .before .before .before .before .before .before .before .before .before .before .before .before .before .before .before .before .before .before .before .before .before .before .before .before .before .fit-arguments .ensures) (c .before .before .before .before .clear .last .0) (c .before .before .before .before .clear .last .1 .0) (c .before .before .before .before .clear .ensures) (c .before .before .before .before .before .before .before .before .before .before .before .before .before .before .before .before .before .before .before .call .given .0 .0) (c .before .before .before .before .before .before .before .before .before .before .before .before .before .before .before .before .before .before .before .call .given .1) (c .before .before .before .before .before .before .before .before .before .before .before .before .before .rest .last .0) (c .before .before .before .before .before .before .before .before .before .before .before .before .before .rest .last .1 .0) (c .before .before .before .before .before .before .before .before .before .before .before .before .before .rest .last .1 .1 .0) (c .before .before .before .before .before .before .before .before .before .before .before .before .before .rest .result) (c .before .before .before .before .before .before .before .before .before .before .before .before .before .rest .ensures)
 
 returns-2 : tie.Need-returns-2
 returns-2 c =
@@ -159,7 +159,7 @@ returns-2 c =
     let y = a .names in
     let q = a .named in
     let k = a .n in
-    delivered-unsettled b p ix n u prm g o x m y q d k (s .pre) (c .before .before .before .before .before .before .before .before .before .before .before .before .before .before .before .before .before .fit-arguments .ensures) (c .before .before .before .before .before .clear2 .ensures) (c .before .before .before .before .before .before .before .before .before .call2 .given .0 .0) (c .before .before .before .before .before .before .before .before .before .call2 .given .1) (c .refuse .result) (c .refuse .ensures)
+    delivered-unsettled b p ix n u prm g o x m y q d k (s .pre) (c .before .before .before .before .before .before .before .before .before .before .before .before .before .before .before .before .before .fit-arguments .last .1 .1 .1 .0) (c .before .before .before .before .before .before .before .before .before .before .before .before .before .before .before .before .before .fit-arguments .last .1 .1 .1 .1 .0) (c .before .before .before .before .before .before .before .before .before .before .before .before .before .before .before .before .before .fit-arguments .last .1 .1 .1 .1 .1 .0) (c .before .before .before .before .before .before .before .before .before .before .before .before .before .before .before .before .before .fit-arguments .result) (c .before .before .before .before .before .before .before .before .before .before .before .before .before .before .before .before .before .fit-arguments .ensures) (c .before .before .before .before .before .clear2 .last .0) (c .before .before .before .before .before .clear2 .last .1 .0) (c .before .before .before .before .before .clear2 .ensures) (c .before .before .before .before .before .before .before .before .before .call2 .given .0 .0) (c .before .before .before .before .before .before .before .before .before .call2 .given .1) (c .refuse .result) (c .refuse .ensures)
 
 returns-3 : tie.Need-returns-3
 returns-3 c =
@@ -179,7 +179,7 @@ returns-3 c =
     let y = a .names in
     let q = a .named in
     let k = a .n in
-    delivered-fails b p ix n u prm g o x m y q d k (s .pre) (c .before .before .before .before .before .before .before .before .before .before .before .before .before .before .before .before .before .fit-arguments .ensures) (c .before .before .before .before .before .clear3 .ensures) (c .before .before .before .before .before .before .before .before .before .call3 .given .0 .0) (c .before .before .before .before .before .before .before .before .before .call3 .given .1) (c .refuse2 .result) (c .refuse2 .ensures)
+    delivered-fails b p ix n u prm g o x m y q d k (s .pre) (c .before .before .before .before .before .before .before .before .before .before .before .before .before .before .before .before .before .fit-arguments .last .1 .1 .1 .0) (c .before .before .before .before .before .before .before .before .before .before .before .before .before .before .before .before .before .fit-arguments .last .1 .1 .1 .1 .0) (c .before .before .before .before .before .before .before .before .before .before .before .before .before .before .before .before .before .fit-arguments .last .1 .1 .1 .1 .1 .0) (c .before .before .before .before .before .before .before .before .before .before .before .before .before .before .before .before .before .fit-arguments .result) (c .before .before .before .before .before .before .before .before .before .before .before .before .before .before .before .before .before .fit-arguments .ensures) (c .before .before .before .before .before .clear3 .last .0) (c .before .before .before .before .before .clear3 .last .1 .0) (c .before .before .before .before .before .clear3 .ensures) (c .before .before .before .before .before .before .before .before .before .call3 .given .0 .0) (c .before .before .before .before .before .before .before .before .before .call3 .given .1) (c .refuse2 .result) (c .refuse2 .ensures)
 
 pub delivered-spec : {M : Type 1} → statement M
 delivered-spec = tie.close (tie.spec fit-arguments-requires (λ c. search needs) mul-at add-at sub-rest rest-requires clear-requires (λ c. search needs) clear-requires-2 (λ c κs. search needs) (λ c. search needs) clear-requires-3 (λ c κs. search needs) (λ c. search needs) (λ c. search needs) (λ c. search needs) (λ c. search needs) (λ c. search needs) (λ c. search needs) returns (λ c. search needs) (λ c. search needs) (λ c. search needs) (λ c. search needs) (λ c. search needs) returns-2 (λ c. search needs) (λ c. search needs) (λ c. search needs) (λ c. search needs) (λ c. search needs) returns-3)

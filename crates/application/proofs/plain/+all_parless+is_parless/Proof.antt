@@ -129,7 +129,7 @@ all-parless-returns-2 t c =
     let x = a .at in
     let m = a .left in
     let more = positive m (c .before .before .before .before .before .before .before .before .before .before .if1 .left) in
-    (parless-more b p ix n x m more (c .before .before .before .before .before .before .before .before .before .u16-at .ensures .0) (c .before .before .before .before .before .before .before .is-parless .ensures .0) (c .before .before .before .before .if2 .taken) (c .before .before .all-parless .ensures .0), c .before .before .all-parless .ensures .1)
+    (parless-more b p ix n x m more (c .before .before .before .before .before .before .before .before .before .u16-at .result) (c .before .before .before .before .before .before .before .before .before .u16-at .ensures .0) (c .before .before .before .before .before .before .before .is-parless .result) (c .before .before .before .before .before .before .before .is-parless .ensures .0) (c .before .before .before .before .if2 .taken) (c .before .before .all-parless .result) (c .before .before .all-parless .ensures .0), c .before .before .all-parless .ensures .1)
 
 all-parless-same-length-2 : (t : ℕ) → all-parless-lts.Need-same-length-2 (all-parless-env t) (all-parless-at t) all-parless.Post
 all-parless-same-length-2 t c =
@@ -146,7 +146,7 @@ all-parless-returns-3 t c =
     let x = a .at in
     let m = a .left in
     let more = positive m (c .before .before .before .before .before .before .if1 .left) in
-    (parless-fails b p ix n x m more (c .before .before .before .before .before .u16-at .ensures .0) (c .before .before .before .is-parless .ensures .0) (c .if2 .left), c .before .before .before .is-parless .ensures .1)
+    (parless-fails b p ix n x m more (c .before .before .before .before .before .u16-at .result) (c .before .before .before .before .before .u16-at .ensures .0) (c .before .before .before .is-parless .result) (c .before .before .before .is-parless .ensures .0) (c .if2 .left), c .before .before .before .is-parless .ensures .1)
 
 is-parless-size-at-requires : (t : ℕ) → is-parless-lts.Need-size-at-requires (is-parless-env t) (is-parless-at t) is-parless.Post
 is-parless-size-at-requires t c κs =
@@ -155,9 +155,15 @@ is-parless-size-at-requires t c κs =
 is-parless-returns : (t : ℕ) → is-parless-lts.Need-returns (is-parless-env t) (is-parless-at t) is-parless.Post
 is-parless-returns t c =
     let s = c .before .before .before .before .before .before in
+    let a = s .args in
+    let b = a .records .now in
+    let p = a .places .now in
+    let ix = a .index .now in
+    let n = a .count in
     let asks = s .pre .1 .0 in
     let tab = s .pre .1 .1 in
-    (parless-leaf asks (c .before .size-at .ensures) (c .if1 .taken), tab)
+    let k = a .k in
+    (parless-leaf b p ix n k asks (c .before .size-at .result) (c .before .size-at .ensures) (c .if1 .taken), tab)
 
 is-parless-is-noted-requires : (t : ℕ) → is-parless-lts.Need-is-noted-requires (is-parless-env t) (is-parless-at t) is-parless.Post
 is-parless-is-noted-requires t c κs =
@@ -196,11 +202,17 @@ is-parless-same-length-2 t c =
 is-parless-returns-3 : (t : ℕ) → is-parless-lts.Need-returns-3 (is-parless-env t) (is-parless-at t) is-parless.Post
 is-parless-returns-3 t c =
     let s = c .before .before .before .before .before .before .before .before .before .before .before .before in
+    let a = s .args in
+    let b = a .records .now in
+    let p = a .places .now in
+    let ix = a .index .now in
+    let n = a .count in
     let asks = s .pre .1 .0 in
     let tab = s .pre .1 .1 in
+    let k = a .k in
     let r = c .before .before .entry .result in
     let e = c .before .before .entry .ensures in
-    (parless-par asks r e (c .if3 .taken), tab)
+    (parless-par b p ix n k asks r e (c .if3 .taken), tab)
 
 is-parless-all-parless-requires : (t : ℕ) → is-parless-lts.Need-all-parless-requires (is-parless-env t) (is-parless-at t) is-parless.Post
 is-parless-all-parless-requires t c κs =
@@ -208,13 +220,14 @@ is-parless-all-parless-requires t c κs =
     let a = s .args in
     let b = a .records .now in
     let p = a .places .now in
+    let ix = a .index .now in
     let n = a .count in
     let asks = s .pre .1 .0 in
     let tab = s .pre .1 .1 in
     let k = a .k in
     let r = c .before .before .before .entry .result in
     let e = c .before .before .before .entry .ensures in
-    (omega (arith, s .pre .0, entry-size b p n k (asks .one .usable) (asks .one .known) r e), (parts-ask asks r e, tab))
+    (omega (arith, s .pre .0, entry-size b p n k (asks .one .usable) (asks .one .known) r e), (parts-ask b p ix n k asks r e, tab))
 
 is-parless-note-requires : (t : ℕ) → is-parless-lts.Need-note-requires (is-parless-env t) (is-parless-at t) is-parless.Post
 is-parless-note-requires t c κs =
@@ -232,12 +245,13 @@ is-parless-returns-4 t c =
     let a = s .args in
     let b = a .records .now in
     let p = a .places .now in
+    let ix = a .index .now in
     let n = a .count in
     let asks = s .pre .1 .0 in
     let k = a .k in
     let r = c .before .before .before .before .before .before .before .before .before .before .before .entry .result in
     let e = c .before .before .before .before .before .before .before .before .before .before .before .entry .ensures in
-    let found : true ≡ parless (sortAt b p n k) = sym (c .before .before .before .before .if4 .taken) ∙ parless-parts asks r e (c .before .before .before .before .before .before .before .before .before .if3 .left) (c .before .before .before .before .before .before .before .all-parless .ensures .0) in
+    let found : true ≡ parless (sortAt b p n k) = sym (c .before .before .before .before .if4 .taken) ∙ parless-parts b p ix n k asks r e (c .before .before .before .before .before .before .before .before .before .if3 .left) (c .before .before .before .before .before .before .before .all-parless .result) (c .before .before .before .before .before .before .before .all-parless .ensures .0) in
     (found, table-put (ParlessAt b p n) (c .before .before .before .before .before .before .before .all-parless .last .1 .1 .1 .1 .0) k (c .before .before .note .last .0) (c .before .before .before .before .before .before .before .all-parless .ensures .1) (sym found) (c .before .before .note .ensures))
 
 is-parless-same-length-4 : (t : ℕ) → is-parless-lts.Need-same-length-4 (is-parless-env t) (is-parless-at t) is-parless.Post
@@ -247,10 +261,16 @@ is-parless-same-length-4 t c =
 is-parless-returns-5 : (t : ℕ) → is-parless-lts.Need-returns-5 (is-parless-env t) (is-parless-at t) is-parless.Post
 is-parless-returns-5 t c =
     let s = c .before .before .before .before .before .before .before .before .before .before .before .before .before .before .before .before .before in
+    let a = s .args in
+    let b = a .records .now in
+    let p = a .places .now in
+    let ix = a .index .now in
+    let n = a .count in
     let asks = s .pre .1 .0 in
+    let k = a .k in
     let r = c .before .before .before .before .before .before .before .entry .result in
     let e = c .before .before .before .before .before .before .before .entry .ensures in
-    (sym (c .if4 .left) ∙ parless-parts asks r e (c .before .before .before .before .before .if3 .left) (c .before .before .before .all-parless .ensures .0), c .before .before .before .all-parless .ensures .1)
+    (sym (c .if4 .left) ∙ parless-parts b p ix n k asks r e (c .before .before .before .before .before .if3 .left) (c .before .before .before .all-parless .result) (c .before .before .before .all-parless .ensures .0), c .before .before .before .all-parless .ensures .1)
 
 pub +all-parless+is-parless-spec : {M : Type 1} → statement M
 +all-parless+is-parless-spec = close μ-all-parless μ-is-parless (λ t. all-parless-lts.spec (all-parless-env t) (all-parless-at t) all-parless.Post

@@ -23,8 +23,12 @@ loop-holds c =
     let a = s .args in
     let b = a .records .now in
     let p = a .places .now in
+    let ix = a .index .now in
     let n = a .count in
-    (exact-start (s .pre), table-none (ParlessAt b p n))
+    let x = a .list in
+    let d = a .args .now in
+    let k = a .n in
+    (exact-start b p ix n x d k (s .pre), table-none (ParlessAt b p n))
 
 u16-at-requires : tie.Need-u16-at-requires Inv-loop μ-loop
 u16-at-requires c κs =
@@ -38,19 +42,51 @@ u16-at-requires-2 c κs =
 
 returns : tie.Need-returns Inv-loop μ-loop
 returns c =
+    let s = c .before .before .before .before .before .before .before .before .before in
+    let a = s .args in
+    let b = a .records .now in
+    let p = a .places .now in
+    let n = a .count in
+    let x = a .list in
+    let d = a .args .now in
+    let k = a .n in
     let l = c .before .before .before .before .loop in
-    exact-differ (l .inv .0) (c .before .before .before .loop-test .taken) (c .before .before .u16-at .ensures .0) (c .before .u16-at2 .ensures .0) (c .if1 .taken)
+    let y = l .at in
+    let w = l .to in
+    let j = l .left in
+    exact-differ b p n x d k y w j (l .inv .0) (c .before .before .before .loop-test .taken) (c .before .before .u16-at .result) (c .before .u16-at2 .result) (c .before .before .u16-at .ensures .0) (c .before .u16-at2 .ensures .0) (c .if1 .taken)
 
 is-parless-requires : tie.Need-is-parless-requires Inv-loop μ-loop
 is-parless-requires c κs =
     let s = c .before .before .before .before .before .before .before .before .before .before in
+    let a = s .args in
+    let b = a .records .now in
+    let p = a .places .now in
+    let n = a .count in
+    let x = a .list in
+    let d = a .args .now in
+    let k = a .n in
     let l = c .before .before .before .before .before .loop in
-    (record { one = record { usable = s .pre .pairs .usable; known = known-first (l .inv .0) (c .before .before .before .before .loop-test .taken) (c .before .before .before .u16-at .ensures .0) (c .before .before .u16-at2 .ensures .0) }; sized = s .pre .sized; index = s .pre .index }, l .inv .1)
+    let y = l .at in
+    let w = l .to in
+    let j = l .left in
+    (record { one = record { usable = s .pre .pairs .usable; known = known-first b p n x d k y w j (l .inv .0) (c .before .before .before .before .loop-test .taken) (c .before .before .before .u16-at .result) (c .before .before .u16-at2 .result) (c .before .before .before .u16-at .ensures .0) (c .before .before .u16-at2 .ensures .0) }; sized = s .pre .sized; index = s .pre .index }, l .inv .1)
 
 returns-2 : tie.Need-returns-2 Inv-loop μ-loop
 returns-2 c =
+    let s = c .before .before .before .before .before .before .before .before .before .before .before .before .before in
+    let a = s .args in
+    let b = a .records .now in
+    let p = a .places .now in
+    let n = a .count in
+    let x = a .list in
+    let d = a .args .now in
+    let k = a .n in
     let l = c .before .before .before .before .before .before .before .before .loop in
-    exact-par (l .inv .0) (c .before .before .before .before .before .before .before .loop-test .taken) (c .before .before .before .before .before .before .u16-at .ensures .0) (c .before .before .before .before .before .u16-at2 .ensures .0) (c .before .before .is-parless .ensures .0) (not-true (c .before .before .is-parless .result) (c .if2 .taken))
+    let y = l .at in
+    let w = l .to in
+    let j = l .left in
+    exact-par b p n x d k y w j (l .inv .0) (c .before .before .before .before .before .before .before .loop-test .taken) (c .before .before .before .before .before .before .u16-at .result) (c .before .before .before .before .before .u16-at2 .result) (c .before .before .before .before .before .before .u16-at .ensures .0) (c .before .before .before .before .before .u16-at2 .ensures .0) (c .before .before .is-parless .result) (c .before .before .is-parless .ensures .0) (not-true (c .before .before .is-parless .result) (c .if2 .taken))
 
 add-at : tie.Need-add-at Inv-loop μ-loop
 add-at c =
@@ -70,13 +106,35 @@ loop-less c = omega (arith, c .before .before .before .before .before .before .b
 
 loop-again : tie.Need-loop-again Inv-loop μ-loop
 loop-again c =
+    let s = c .before .before .before .before .before .before .before .before .before .before .before .before .before in
+    let a = s .args in
+    let b = a .records .now in
+    let p = a .places .now in
+    let n = a .count in
+    let x = a .list in
+    let d = a .args .now in
+    let k = a .n in
     let l = c .before .before .before .before .before .before .before .before .loop in
-    (exact-step (l .inv .0) (c .before .before .before .before .before .before .before .loop-test .taken) (c .before .before .before .before .before .before .u16-at .ensures .0) (c .before .before .before .before .before .u16-at2 .ensures .0) (c .before .before .is-parless .ensures .0) (c .before .before .before .before .if1 .left) (not-false (c .before .before .is-parless .result) (c .if2 .left)), c .before .before .is-parless .ensures .1)
+    let y = l .at in
+    let w = l .to in
+    let j = l .left in
+    (exact-step b p n x d k y w j (l .inv .0) (c .before .before .before .before .before .before .before .loop-test .taken) (c .before .before .before .before .before .before .u16-at .result) (c .before .before .before .before .before .u16-at2 .result) (c .before .before .before .before .before .before .u16-at .ensures .0) (c .before .before .before .before .before .u16-at2 .ensures .0) (c .before .before .is-parless .result) (c .before .before .is-parless .ensures .0) (c .before .before .before .before .if1 .left) (not-false (c .before .before .is-parless .result) (c .if2 .left)), c .before .before .is-parless .ensures .1)
 
 returns-3 : tie.Need-returns-3 Inv-loop μ-loop
 returns-3 c =
+    let s = c .before .before .before .before .before .before in
+    let a = s .args in
+    let b = a .records .now in
+    let p = a .places .now in
+    let n = a .count in
+    let x = a .list in
+    let d = a .args .now in
+    let k = a .n in
     let l = c .before .loop in
-    exact-end (l .inv .0) (c .loop-test .left)
+    let y = l .at in
+    let w = l .to in
+    let j = l .left in
+    exact-end b p n x d k y w j (l .inv .0) (c .loop-test .left)
 
 pub all-exact-spec : {M : Type 1} → statement M
 all-exact-spec = tie.close (tie.spec Inv-loop μ-loop loop-holds u16-at-requires u16-at-requires-2 returns (λ c. search needs) is-parless-requires returns-2 add-at add-to sub-left loop-less loop-again returns-3)

@@ -135,7 +135,7 @@ all-settled-returns-2 t c =
     let x = a .at in
     let m = a .left in
     let more = positive m (c .before .before .before .before .before .before .before .before .before .before .if1 .left) in
-    (settled-more b p n prm imgs x m more (c .before .before .before .before .before .before .before .before .before .u16-at .ensures .0) (c .before .before .before .before .before .before .before .is-settled .result) (c .before .before .before .before .before .before .before .is-settled .ensures .0) (c .before .before .before .before .if2 .taken) (c .before .before .all-settled .result) (c .before .before .all-settled .ensures .0), c .before .before .all-settled .ensures .1)
+    (settled-more b p n prm imgs x m more (c .before .before .before .before .before .before .before .before .before .u16-at .result) (c .before .before .before .before .before .before .before .before .before .u16-at .ensures .0) (c .before .before .before .before .before .before .before .is-settled .result) (c .before .before .before .before .before .before .before .is-settled .ensures .0) (c .before .before .before .before .if2 .taken) (c .before .before .all-settled .result) (c .before .before .all-settled .ensures .0), c .before .before .all-settled .ensures .1)
 
 all-settled-same-length-2 : (t : ℕ) → all-settled-lts.Need-same-length-2 (all-settled-env t) (all-settled-at t) all-settled.Post
 all-settled-same-length-2 t c =
@@ -153,7 +153,7 @@ all-settled-returns-3 t c =
     let x = a .at in
     let m = a .left in
     let more = positive m (c .before .before .before .before .before .before .if1 .left) in
-    (settled-fails b p n prm imgs x m more (c .before .before .before .before .before .u16-at .ensures .0) (c .before .before .before .is-settled .result) (c .before .before .before .is-settled .ensures .0) (c .if2 .left), c .before .before .before .is-settled .ensures .1)
+    (settled-fails b p n prm imgs x m more (c .before .before .before .before .before .u16-at .result) (c .before .before .before .before .before .u16-at .ensures .0) (c .before .before .before .is-settled .result) (c .before .before .before .is-settled .ensures .0) (c .if2 .left), c .before .before .before .is-settled .ensures .1)
 
 is-settled-entry-requires : (t : ℕ) → is-settled-lts.Need-entry-requires (is-settled-env t) (is-settled-at t) is-settled.Post
 is-settled-entry-requires t c κs =
@@ -195,11 +195,18 @@ is-settled-shared-slice-read-if2 t c =
 is-settled-returns : (t : ℕ) → is-settled-lts.Need-returns (is-settled-env t) (is-settled-at t) is-settled.Post
 is-settled-returns t c =
     let s = c .before .before .before .before .before .before .before .before .before .before in
+    let a = s .args in
+    let b = a .records .now in
+    let p = a .places .now in
+    let n = a .count in
     let asks = s .pre .1 .0 in
     let tab = s .pre .1 .1 in
+    let prm = a .params .now in
+    let imgs = a .images .now in
+    let k = a .k in
     let r = c .before .before .before .before .entry .result in
     let e = c .before .before .before .before .entry .ensures in
-    (settled-other asks r e (c .before .before .if1 .taken) (c .if2 .taken), tab)
+    (settled-other b p n prm imgs k asks r e (c .before .before .if1 .taken) (c .if2 .taken), tab)
 
 is-settled-mul-result : (t : ℕ) → is-settled-lts.Need-mul-result (is-settled-env t) (is-settled-at t) is-settled.Post
 is-settled-mul-result t c =
@@ -230,11 +237,18 @@ is-settled-shared-slice-read-result t c =
 is-settled-returns-2 : (t : ℕ) → is-settled-lts.Need-returns-2 (is-settled-env t) (is-settled-at t) is-settled.Post
 is-settled-returns-2 t c =
     let s = c .before .before .before .before .before .before .before .before .before .before .before in
+    let a = s .args in
+    let b = a .records .now in
+    let p = a .places .now in
+    let n = a .count in
     let asks = s .pre .1 .0 in
     let tab = s .pre .1 .1 in
+    let prm = a .params .now in
+    let imgs = a .images .now in
+    let k = a .k in
     let r = c .before .before .before .before .before .entry .result in
     let e = c .before .before .before .before .before .entry .ensures in
-    (settled-name asks r e (c .before .before .before .if1 .taken) (c .before .if2 .left), tab)
+    (settled-name b p n prm imgs k asks r e (c .before .before .before .if1 .taken) (c .before .if2 .left), tab)
 
 is-settled-returns-3 : (t : ℕ) → is-settled-lts.Need-returns-3 (is-settled-env t) (is-settled-at t) is-settled.Post
 is-settled-returns-3 t c =
@@ -247,9 +261,10 @@ is-settled-returns-3 t c =
     let tab = s .pre .1 .1 in
     let prm = a .params .now in
     let imgs = a .images .now in
+    let k = a .k in
     let r = c .before .before .before .before .entry .result in
     let e = c .before .before .before .before .entry .ensures in
-    (settled-parts asks r e (c .before .before .if1 .left) true (settled-none b p n prm imgs (r .list) (r .count) (c .if3 .taken)), tab)
+    (settled-parts b p n prm imgs k asks r e (c .before .before .if1 .left) true (settled-none b p n prm imgs (r .list) (r .count) (c .if3 .taken)), tab)
 
 is-settled-is-noted-requires : (t : ℕ) → is-settled-lts.Need-is-noted-requires (is-settled-env t) (is-settled-at t) is-settled.Post
 is-settled-is-noted-requires t c κs =
@@ -279,10 +294,12 @@ is-settled-all-settled-requires t c κs =
     let n = a .count in
     let asks = s .pre .1 .0 in
     let tab = s .pre .1 .1 in
+    let prm = a .params .now in
+    let imgs = a .images .now in
     let k = a .k in
     let r = c .before .before .before .before .before .before .before .before .entry .result in
     let e = c .before .before .before .before .before .before .before .before .entry .ensures in
-    (omega (arith, s .pre .0, entry-size b p n k (asks .one .usable) (asks .one .known) r e), (parts-ask asks r e, tab))
+    (omega (arith, s .pre .0, entry-size b p n k (asks .one .usable) (asks .one .known) r e), (parts-ask b p n prm imgs k asks r e, tab))
 
 is-settled-note-requires : (t : ℕ) → is-settled-lts.Need-note-requires (is-settled-env t) (is-settled-at t) is-settled.Post
 is-settled-note-requires t c κs =
@@ -307,7 +324,7 @@ is-settled-returns-5 t c =
     let k = a .k in
     let r = c .before .before .before .before .before .before .before .before .before .before .before .before .before .before .before .before .entry .result in
     let e = c .before .before .before .before .before .before .before .before .before .before .before .before .before .before .before .before .entry .ensures in
-    let found : SettledIs b p n prm imgs k true = settled-as b p n prm imgs k _ (c .before .before .before .before .if5 .taken) (settled-parts asks r e (c .before .before .before .before .before .before .before .before .before .before .before .before .before .before .if1 .left) (c .before .before .before .before .before .before .before .all-settled .result) (c .before .before .before .before .before .before .before .all-settled .ensures .0)) in
+    let found : SettledIs b p n prm imgs k true = settled-as b p n prm imgs k (c .before .before .before .before .before .before .before .all-settled .result) _ (c .before .before .before .before .if5 .taken) (settled-parts b p n prm imgs k asks r e (c .before .before .before .before .before .before .before .before .before .before .before .before .before .before .if1 .left) (c .before .before .before .before .before .before .before .all-settled .result) (c .before .before .before .before .before .before .before .all-settled .ensures .0)) in
     (found, table-put (SettledAt b p n prm imgs) (c .before .before .before .before .before .before .before .all-settled .last .1 .1 .1 .1 .1 .0) k (c .before .before .note .last .0) (c .before .before .before .before .before .before .before .all-settled .ensures .1) (λ f t θ i. sym (found f t θ i)) (c .before .before .note .ensures))
 
 is-settled-same-length-3 : (t : ℕ) → is-settled-lts.Need-same-length-3 (is-settled-env t) (is-settled-at t) is-settled.Post
@@ -327,7 +344,7 @@ is-settled-returns-6 t c =
     let k = a .k in
     let r = c .before .before .before .before .before .before .before .before .before .before .before .before .entry .result in
     let e = c .before .before .before .before .before .before .before .before .before .before .before .before .entry .ensures in
-    (settled-as b p n prm imgs k _ (c .if5 .left) (settled-parts asks r e (c .before .before .before .before .before .before .before .before .before .before .if1 .left) (c .before .before .before .all-settled .result) (c .before .before .before .all-settled .ensures .0)), c .before .before .before .all-settled .ensures .1)
+    (settled-as b p n prm imgs k (c .before .before .before .all-settled .result) _ (c .if5 .left) (settled-parts b p n prm imgs k asks r e (c .before .before .before .before .before .before .before .before .before .before .if1 .left) (c .before .before .before .all-settled .result) (c .before .before .before .all-settled .ensures .0)), c .before .before .before .all-settled .ensures .1)
 
 pub +all-settled+is-settled-spec : {M : Type 1} → statement M
 +all-settled+is-settled-spec = close μ-all-settled μ-is-settled (λ t. all-settled-lts.spec (all-settled-env t) (all-settled-at t) all-settled.Post

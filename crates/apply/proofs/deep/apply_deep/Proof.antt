@@ -22,7 +22,15 @@ returns c = c .before .before .before .before .before .before .before .before .a
 order-of-requires : tie.Need-order-of-requires
 order-of-requires c κs =
     let s = c .before .before .before .before .before .before .before .before .before .before .before .before in
-    deep-order (s .pre .asks)
+    let a = s .args in
+    let b = a .records .now in
+    let p = a .places .now in
+    let ix = a .index .now in
+    let n = a .count in
+    let u = a .used in
+    let l = a .images .now in
+    let k = a .k in
+    deep-order b p ix n u k l (s .pre .asks)
 
 slice-aggregate-apply-order : tie.Need-slice-aggregate-apply-order
 slice-aggregate-apply-order c = sym (c .before .before .before .before .before .before .before .order-of .kept .1 .1 .1 .0 ∙ length-replicate {A = ℕ} 4096 0)
@@ -31,9 +39,17 @@ apply-order-requires : tie.Need-apply-order-requires
 apply-order-requires c κs =
     let s = c .before .before .before .before .before .before .before .before .before .before .before .before .before .before .before .before .before .before .before .before in
     let a = s .args in
+    let b = a .records .now in
+    let p = a .places .now in
+    let ix = a .index .now in
     let ws = a .known .now in
+    let n = a .count in
+    let u = a .used in
+    let l = a .images .now in
+    let k = a .k in
     let t = c .before .before .before .before .before .before .before .order-of in
-    deep-asks (s .pre .asks) (t .ensures) ws (s .pre .known)
+    let o = held (t .last .1 .1 .1 .0) (t .result) in
+    deep-asks b p ix n u k l (s .pre .asks) (t .last .1 .1 .0) o (t .ensures) ws (s .pre .known)
 
 apply-sort-requires-2 : tie.Need-apply-sort-requires-2
 apply-sort-requires-2 c κs =
@@ -41,14 +57,17 @@ apply-sort-requires-2 c κs =
     let a = s .args in
     let b = a .records .now in
     let p = a .places .now in
+    let ix = a .index .now in
     let n = a .count in
     let u = a .used in
     let l = a .images .now in
+    let k = a .k in
     let t = c .before .before .before .before .before .before .before .before .before .before .before .before .before .before .before .before .before .before .before .before .before .before .before .order-of in
     let o = held (t .last .1 .1 .1 .0) (t .result) in
     let d = c .before .before .before .before .before .before .before .before .before .before .before .before .before .before .before .apply-order .last in
+    let v = c .before .before .before .before .before .done .given .0 in
     let w = subst (InOrderAre b p n u o l (d .0) (d .1 .0) (d .1 .1 .0) (d .1 .1 .1 .0)) (c .before .before .before .before .before .done .given .1) (c .before .before .before .before .before .before .before .before .before .before .before .before .before .before .before .apply-order .ensures) in
-    deep-last (s .pre .asks) (t .ensures) w
+    deep-last b p ix n u k l (s .pre .asks) (t .last .1 .1 .0) o (t .ensures) (d .0) (d .1 .0) (d .1 .1 .0) (d .1 .1 .1 .0) (v .0) (v .1 .0) w
 
 same-length-5 : tie.Need-same-length-5
 same-length-5 c = c .before .before .before .before .before .before .before .before .apply-sort2 .kept .0 ∙ c .before .before .before .before .before .before .before .before .before .before .before .before .before .before .before .before .before .before .before .before .before .before .before .before .apply-order .kept .0
@@ -68,15 +87,18 @@ returns-2 c =
     let a = s .args in
     let b = a .records .now in
     let p = a .places .now in
+    let ix = a .index .now in
     let n = a .count in
     let u = a .used in
     let l = a .images .now in
+    let k = a .k in
     let t = c .before .before .before .before .before .before .before .before .before .before .before .before .before .before .before .before .before .before .before .before .before .before .before .before .before .before .before .before .before .before .before .before .order-of in
     let o = held (t .last .1 .1 .1 .0) (t .result) in
     let d = c .before .before .before .before .before .before .before .before .before .before .before .before .before .before .before .before .before .before .before .before .before .before .before .before .apply-order .last in
+    let v = c .before .before .before .before .before .before .before .before .before .before .before .before .before .before .done .given .0 in
     let w = subst (InOrderAre b p n u o l (d .0) (d .1 .0) (d .1 .1 .0) (d .1 .1 .1 .0)) (c .before .before .before .before .before .before .before .before .before .before .before .before .before .before .done .given .1) (c .before .before .before .before .before .before .before .before .before .before .before .before .before .before .before .before .before .before .before .before .before .before .before .before .apply-order .ensures) in
     let e = c .before .before .before .before .before .before .before .before .apply-sort2 .last in
-    deep-is (s .pre .asks) (t .ensures) w (e .0) (e .1 .0) (e .1 .1 .0) (e .1 .1 .1 .0) (c .before .before .before .before .before .before .before .before .apply-sort2 .result) (c .before .before .before .before .before .before .before .before .apply-sort2 .ensures)
+    deep-is b p ix n u k l (s .pre .asks) (t .last .1 .1 .0) o (t .ensures) (d .0) (d .1 .0) (d .1 .1 .0) (d .1 .1 .1 .0) (v .0) (v .1 .0) w (e .0) (e .1 .0) (e .1 .1 .0) (e .1 .1 .1 .0) (c .before .before .before .before .before .before .before .before .apply-sort2 .result) (c .before .before .before .before .before .before .before .before .apply-sort2 .ensures)
 
 returns-3 : tie.Need-returns-3
 returns-3 c =
@@ -84,14 +106,17 @@ returns-3 c =
     let a = s .args in
     let b = a .records .now in
     let p = a .places .now in
+    let ix = a .index .now in
     let n = a .count in
     let u = a .used in
     let l = a .images .now in
+    let k = a .k in
     let t = c .before .before .before .before .before .before .before .before .before .before .before .before .before .before .before .before .before .before .before .order-of in
     let o = held (t .last .1 .1 .1 .0) (t .result) in
     let d = c .before .before .before .before .before .before .before .before .before .before .before .apply-order .last in
+    let v = c .before .done2 .given .0 in
     let w = subst (InOrderAre b p n u o l (d .0) (d .1 .0) (d .1 .1 .0) (d .1 .1 .1 .0)) (c .before .done2 .given .1) (c .before .before .before .before .before .before .before .before .before .before .before .apply-order .ensures) in
-    deep-stuck (s .pre .asks) (t .ensures) w
+    deep-stuck b p ix n u k l (s .pre .asks) (t .last .1 .1 .0) o (t .ensures) (d .0) (d .1 .0) (d .1 .1 .0) (v .0) (v .1 .0) w
 
 pub apply-deep-spec : {M : Type 1} → statement M
 apply-deep-spec = tie.close (tie.spec size-at-requires apply-sort-requires (λ c. search needs) (λ c. search needs) (λ c. search needs) (λ c. search needs) returns (λ c. search needs) (λ c. search needs) order-of-requires slice-aggregate-apply-order apply-order-requires (λ c. search needs) apply-sort-requires-2 (λ c. search needs) same-length-5 same-length-6 same-length-7 same-length-8 returns-2 (λ c. search needs) (λ c. search needs) (λ c. search needs) (λ c. search needs) returns-3)
