@@ -64,9 +64,11 @@ delivered-requires c κs =
 
 returns-4 : tie.Need-returns-4
 returns-4 c =
-    let c₁ = c .before .before .before .before .before .before in let c₂ = c₁ .before .before .before .before in let c₃ = c₂ .before .before .before in let c₄ = c₃ .before in let c₅ = c₄ .before .before .before in let c₆ = c₅ .before in let c₇ = c₆ .before in let c₈ = c₇ .before in
+    let c₁₀ = c .before .before .before .before .before .before in
+    let c₁ = c₁₀ in let c₂ = c₁ .before .before .before .before in let c₃ = c₂ .before .before .before in let c₄ = c₃ .before in let c₅ = c₄ .before .before .before in let c₆ = c₅ .before in let c₇ = c₆ .before in let c₈ = c₇ .before in
     let c₉ = c₈ .before in let s = c₉ .before .before .before .before .before in
-    judged-as (fit-verdict (s .pre) (c₉ .rule-of .ensures) (c₈ .is-ranked .ensures) (not-false (c₈ .is-ranked .result) (c₇ .if1 .left)) (c₆ .counts .ensures) (not-false (c₆ .counts .result) (c₅ .if2 .left)) (c₄ .all-values .result) (c₄ .all-values .ensures) (not-false (c₄ .all-values .result) (c₃ .if3 .left)) (c₂ .fit-rule .result) (c₂ .fit-rule .ensures)) (c₁ .delivered .ensures)
+    judged-as (fit-verdict (s .pre) (c₉ .rule-of .ensures) (c₈ .is-ranked .ensures) (not-false (c₈ .is-ranked .result) (c₇ .if1 .left)) (c₆ .counts .ensures) (not-false (c₆ .counts .result) (c₅ .if2 .left)) (c₄ .all-values .result) (c₄ .all-values .ensures) (not-false (c₄ .all-values .result) (c₃ .if3 .left)) (c₂ .fit-rule .result) (c₂ .fit-rule .ensures))
+    (c₁ .delivered .ensures)
 
 pub operated-spec : {M : Type 1} → statement M
 operated-spec = tie.close (tie.spec rule-of-requires (λ c κs. search needs) (λ c κs. search needs) returns (λ c κs. search needs) (λ c κs. search needs) returns-2 all-values-requires (λ c κs. search needs) (λ c. search needs) (λ c. search needs) returns-3 fit-rule-requires delivered-requires (λ c. search needs) (λ c. search needs) (λ c. search needs) returns-4)

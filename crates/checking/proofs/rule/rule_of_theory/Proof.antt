@@ -62,11 +62,14 @@ returns-13 c = keys-are Store (43 ∷ []) refl (c .before .args .op) (c .match .
 
 returns-14 : tie.Need-returns-14
 unfolding allOf
-returns-14 c = range-is (Fixed 0 3 3 3 3) ((43 ∷ []) ∷ (42 ∷ []) ∷ (23 ∷ []) ∷ (22 ∷ []) ∷ (21 ∷ []) ∷ (16 ∷ []) ∷ (15 ∷ []) ∷ (14 ∷ []) ∷ (13 ∷ []) ∷ (11 ∷ []) ∷ (10 ∷ 12 ∷ []) ∷ (9 ∷ []) ∷ (2 ∷ []) ∷ []) 0 2 refl (c .before .before .args .op) (c .before .match .rest) (omega (arith, c .before .before .pre)) (omega (arith, c .before .before .pre))
+returns-14 c =
+    range-is (Fixed 0 3 3 3 3) ((43 ∷ []) ∷ (42 ∷ []) ∷ (23 ∷ []) ∷ (22 ∷ []) ∷ (21 ∷ []) ∷ (16 ∷ []) ∷ (15 ∷ []) ∷ (14 ∷ []) ∷ (13 ∷ []) ∷ (11 ∷ []) ∷ (10 ∷ 12 ∷ []) ∷ (9 ∷ []) ∷ (2 ∷ []) ∷ []) 0 2 refl (c .before .before .args .op) (c .before .match .rest) (omega (arith, c .before .before .pre)) (omega (arith, c .before .before .pre))
 
 returns-15 : tie.Need-returns-15
 unfolding allOf
-returns-15 c = range-is (All 3 3) ((43 ∷ []) ∷ (42 ∷ []) ∷ (23 ∷ []) ∷ (22 ∷ []) ∷ (21 ∷ []) ∷ (16 ∷ []) ∷ (15 ∷ []) ∷ (14 ∷ []) ∷ (13 ∷ []) ∷ (11 ∷ []) ∷ (10 ∷ 12 ∷ []) ∷ (9 ∷ []) ∷ (2 ∷ []) ∷ []) 2 5 refl (c .before .before .before .args .op) (c .before .before .match .rest) (omega (arith, c .before .before .before .pre)) (omega (arith, c .before .before .before .pre))
+returns-15 c =
+    range-is (All 3 3) ((43 ∷ []) ∷ (42 ∷ []) ∷ (23 ∷ []) ∷ (22 ∷ []) ∷ (21 ∷ []) ∷ (16 ∷ []) ∷ (15 ∷ []) ∷ (14 ∷ []) ∷ (13 ∷ []) ∷ (11 ∷ []) ∷ (10 ∷ 12 ∷ []) ∷ (9 ∷ []) ∷ (2 ∷ []) ∷ []) 2 5 refl (c .before .before .before .args .op) (c .before .before .match .rest) (omega (arith, c .before .before .before .pre))
+    (omega (arith, c .before .before .before .pre))
 
 returns-16 : tie.Need-returns-16
 unfolding allOf
