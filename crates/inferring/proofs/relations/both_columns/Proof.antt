@@ -61,13 +61,15 @@ returns-2 c =
 
 returns-3 : tie.Need-returns-3
 returns-3 c =
-    let c₁ = c .before .before .before .before .before in let c₂ = c₁ .before .before in let c₃ = c₂ .before in let c₄ = c₃ .before in let s = c₄ .before .before .before .before in
+    let c₅ = c .before .before .before .before .before in
+    let c₁ = c₅ in let c₂ = c₁ .before .before in let c₃ = c₂ .before in let c₄ = c₃ .before in let s = c₄ .before .before .before .before in
     let a = s .args in
     let b = a .records .now in
     let p = a .places .now in
     let x = a .args .now in
     let m = a .n in
-    right-none b p x m (c₄ .if1 .left) (c₃ .u16-at .ensures .0) (c .before .before .before .u16-at2 .ensures .0) (c₁ .left .given .0 .0) (c₁ .left .given .0 .1 .0) (subst (ColumnsHas b p (c₃ .u16-at .result)) (c₁ .left .given .1) (c₂ .columns-of .ensures)) (subst (ColumnsHas b p (c .before .before .before .u16-at2 .result)) (c .enum-told .given .1) (c .before .before .columns-of2 .ensures))
+    right-none b p x m (c₄ .if1 .left) (c₃ .u16-at .ensures .0) (c .before .before .before .u16-at2 .ensures .0) (c₁ .left .given .0 .0) (c₁ .left .given .0 .1 .0) (subst (ColumnsHas b p (c₃ .u16-at .result)) (c₁ .left .given .1) (c₂ .columns-of .ensures))
+    (subst (ColumnsHas b p (c .before .before .before .u16-at2 .result)) (c .enum-told .given .1) (c .before .before .columns-of2 .ensures))
 
 returns-4 : tie.Need-returns-4
 returns-4 c =

@@ -77,7 +77,8 @@ relation-requires c κs =
 
 returns-2 : tie.Need-returns-2
 returns-2 c =
-    let c₁ = c .before .before .before .before .before .before .before .before in let c₂ = c₁ .before .before .before .before .before .before .before in let c₃ = c₂ .before .before .before .before in let c₄ = c₃ .before .before in let c₅ = c₄ .before .before .before in let c₆ = c₅ .before .before in
+    let c₇ = c .before .before .before .before .before .before .before .before in
+    let c₁ = c₇ in let c₂ = c₁ .before .before .before .before .before .before .before in let c₃ = c₂ .before .before .before .before in let c₄ = c₃ .before .before in let c₅ = c₄ .before .before .before in let c₆ = c₅ .before .before in
     let s = c₆ .before .before .before .before .before in
     let a = s .args in
     let b = a .records .now in
@@ -88,7 +89,8 @@ returns-2 c =
     let x = a .args .now in
     let m = a .n in
     let is = subst (ColumnsIs b p n (sortAt b p n (c₅ .u16-at .result))) (c₃ .left .given .1) (c₄ .columns-of .ensures n (s .pre .good .stored) (first-known (args-refer b p ix n u x m (s .pre)) (positive m (c₆ .if1 .left)) (c₅ .u16-at .ensures .0))) in
-    judged-as (trans-is (sortAt b p n (c₅ .u16-at .result)) (sortsIn b p n x 5 (m - 1)) (first-then (args-refer b p ix n u x m (s .pre)) (positive m (c₆ .if1 .left)) (c₅ .u16-at .ensures .0)) (sortsIn b p n b (c₃ .left .given .0 .0) (c₃ .left .given .0 .1 .0)) (is .0) (backwards-is p ix u (is .1) (c₂ .put-backwards .last .1 .1 .1 .0) (c₂ .put-backwards .ensures))) (c₁ .relation .ensures)
+    judged-as (trans-is (sortAt b p n (c₅ .u16-at .result)) (sortsIn b p n x 5 (m - 1)) (first-then (args-refer b p ix n u x m (s .pre)) (positive m (c₆ .if1 .left)) (c₅ .u16-at .ensures .0)) (sortsIn b p n b (c₃ .left .given .0 .0) (c₃ .left .given .0 .1 .0)) (is .0) (backwards-is p ix u (is .1) (c₂ .put-backwards .last .1 .1 .1 .0) (c₂ .put-backwards .ensures)))
+    (c₁ .relation .ensures)
 
 returns-3 : tie.Need-returns-3
 returns-3 c =
