@@ -1,119 +1,50 @@
 -- Where the arguments are the sorts in their places: what remains of the list, as it stands.
 -- Else the refusal; nothing has changed.
-use native.Mathlib.Omega.{arith}
-use borrow.Author.Needs.{needs}
 use Prim.Native.Nat.{ℕ}
+use native.Mathlib.Omega.{arith}
 use lib.ListN.{replicate, length-replicate}
+use borrow.Author.Needs.{needs}
 use Rattle.application.proofs.ExactLaws.{exact-asks, remaining-asks, plain-made, plain-refused}
 use Rattle.application.proofs.plain.plain.Statement.{statement}
 use Rattle.application.proofs.plain.plain.Tie as tie
 
 all-exact-requires : tie.Need-all-exact-requires
 all-exact-requires c κs =
-    let s = c .before .before .before .before .before .before .before .before .before in
+    let s = c .before .before .before .before .before .before .before .before in
     let a = s .args in
-    let b = a .records .now in
-    let p = a .places .now in
-    let hs = a .heads .now in
-    let nx = a .next .now in
-    let zs = a .sizes .now in
-    let n = a .count in
-    let u = a .used in
-    let x = a .list in
-    let m = a .m in
-    let d = a .args .now in
-    let k = a .n in
-    exact-asks b p hs nx zs n u x m d k (s .pre)
+    exact-asks (a .records .now) (a .places .now) (a .heads .now) (a .next .now) (a .sizes .now) (a .count) (a .used) (a .list) (a .m) (a .args .now) (a .n) (s .pre)
 
 mul-at : tie.Need-mul-at
-mul-at c = omega (arith, c .before .before .before .before .before .before .before .before .before .before .before .pre .list .within, c .before .before .before .before .before .before .before .before .before .before .before .pre .fewer, c .before .before .before .before .before .before .before .before .before .before .before .good)
+mul-at c = omega (arith, c .before .before .before .before .before .before .before .before .before .before .pre .list .within, c .before .before .before .before .before .before .before .before .before .before .pre .fewer, c .before .before .before .before .before .before .before .before .before .before .good)
 
 add-at : tie.Need-add-at
-add-at c = omega (arith, c .before .before .before .before .before .before .before .before .before .before .before .pre .list .within, c .before .before .before .before .before .before .before .before .before .before .before .pre .fewer, c .before .before .before .before .before .before .before .before .before .before .before .good)
-
-slice-aggregate-remaining : tie.Need-slice-aggregate-remaining
-slice-aggregate-remaining c = search needs
+add-at c = omega (arith, c .before .before .before .before .before .before .before .before .before .before .pre .list .within, c .before .before .before .before .before .before .before .before .before .before .pre .fewer, c .before .before .before .before .before .before .before .before .before .before .good)
 
 sub-remaining : tie.Need-sub-remaining
-sub-remaining c = omega (arith, c .before .before .before .before .before .before .before .before .before .before .before .before .before .before .before .before .before .pre .fewer)
+sub-remaining c = omega (arith, c .before .before .before .before .before .before .before .before .before .before .before .before .before .before .before .before .pre .fewer)
 
 remaining-requires : tie.Need-remaining-requires
 remaining-requires c κs =
-    let s = c .before .before .before .before .before .before .before .before .before .before .before .before .before .before .before .before .before in
+    let s = c .before .before .before .before .before .before .before .before .before .before .before .before .before .before .before .before in
     let a = s .args in
-    let b = a .records .now in
-    let p = a .places .now in
-    let hs = a .heads .now in
-    let nx = a .next .now in
-    let zs = a .sizes .now in
-    let n = a .count in
-    let u = a .used in
-    let x = a .list in
-    let m = a .m in
-    let d = a .args .now in
-    let k = a .n in
-    remaining-asks b p hs nx zs n u x m d k (s .pre) (replicate 131 0) (length-replicate {A = ℕ} 131 0)
-
-same-length : tie.Need-same-length
-same-length c = search needs
-
-same-length-2 : tie.Need-same-length-2
-same-length-2 c = search needs
-
-same-length-3 : tie.Need-same-length-3
-same-length-3 c = search needs
-
-same-length-4 : tie.Need-same-length-4
-same-length-4 c = search needs
-
-same-length-5 : tie.Need-same-length-5
-same-length-5 c = search needs
+    remaining-asks (a .records .now) (a .places .now) (a .heads .now) (a .next .now) (a .sizes .now) (a .count) (a .used) (a .list) (a .m) (a .args .now) (a .n) (s .pre) (replicate 131 0) (length-replicate {A = ℕ} 131 0)
 
 returns : tie.Need-returns
 returns c =
-    let s = c .before .before .before .before .before .before .before .before .before .before .before .before .before .before .before .before .before .before .before .before .before .before .before .before .before .before .before .before .before in
+    let s = c .before .before .before .before .before .before .before .before .before .before .before .before .before .before .before .before .before .before .before .before .before .before .before .before .before .before .before .before in
     let a = s .args in
-    let b = a .records .now in
-    let p = a .places .now in
-    let hs = a .heads .now in
-    let nx = a .next .now in
-    let zs = a .sizes .now in
-    let n = a .count in
-    let u = a .used in
-    let x = a .list in
-    let m = a .m in
-    let d = a .args .now in
-    let k = a .n in
-    plain-made b p hs nx zs n u x m d k (s .pre) (c .before .before .before .before .before .before .before .before .before .before .before .before .before .before .before .before .before .before .before .all-exact .result) (c .before .before .before .before .before .before .before .before .before .before .before .before .before .before .before .before .before .before .before .all-exact .ensures) (c .before .before .before .before .before .before .before .before .before .before .before .before .before .before .before .before .before .before .if1 .taken) (c .before .before .before .before .before .before .before .before .before .before .before .remaining .last .0) (c .before .before .before .before .before .before .before .before .before .before .before .remaining .last .1 .0) (c .before .before .before .before .before .before .before .before .before .before .before .remaining .last .1 .1 .0) (c .before .before .before .before .before .before .before .before .before .before .before .remaining .last .1 .1 .1 .0) (c .before .before .before .before .before .before .before .before .before .before .before .remaining .last .1 .1 .1 .1 .0) (c .before .before .before .before .before .before .before .before .before .before .before .remaining .result) (c .before .before .before .before .before .before .before .before .before .before .before .remaining .ensures)
-
-refuse-requires : tie.Need-refuse-requires
-refuse-requires c κs = search needs
-
-same-length-6 : tie.Need-same-length-6
-same-length-6 c = search needs
-
-same-length-7 : tie.Need-same-length-7
-same-length-7 c = search needs
-
-same-length-8 : tie.Need-same-length-8
-same-length-8 c = search needs
+    let e = c .before .before .before .before .before .before .before .before .before .before .before .before .before .before .before .before .before .before .before .all-exact in
+    let r = c .before .before .before .before .before .before .before .before .before .before .before .remaining in
+    let l = r .last in
+    let made = plain-made (a .records .now) (a .places .now) (a .heads .now) (a .next .now) (a .sizes .now) (a .count) (a .used) (a .list) (a .m) (a .args .now) (a .n) (s .pre) in
+    made (e .result) (e .ensures) (c .before .before .before .before .before .before .before .before .before .before .before .before .before .before .before .before .before .before .if1 .taken) (l .0) (l .1 .0) (l .1 .1 .0) (l .1 .1 .1 .0) (l .1 .1 .1 .1 .0) (r .result) (r .ensures)
 
 returns-2 : tie.Need-returns-2
 returns-2 c =
-    let s = c .before .before .before .before .before .before .before .before .before .before .before .before in
+    let s = c .before .before .before .before .before .before .before .before .before .before .before in
     let a = s .args in
-    let b = a .records .now in
-    let p = a .places .now in
-    let hs = a .heads .now in
-    let nx = a .next .now in
-    let zs = a .sizes .now in
-    let n = a .count in
-    let u = a .used in
-    let x = a .list in
-    let m = a .m in
-    let d = a .args .now in
-    let k = a .n in
-    plain-refused b p hs nx zs n u x m d k (s .pre) (c .before .before .all-exact .result) (c .before .before .all-exact .ensures) (c .before .if1 .left) (c .refuse .result) (c .refuse .ensures)
+    let e = c .before .before .all-exact in
+    plain-refused (a .records .now) (a .places .now) (a .heads .now) (a .next .now) (a .sizes .now) (a .count) (a .used) (a .list) (a .m) (a .args .now) (a .n) (s .pre) (e .result) (e .ensures) (c .before .if1 .left) (c .refuse .result) (c .refuse .ensures)
 
 pub plain-spec : {M : Type 1} → statement M
-plain-spec = tie.close (tie.spec all-exact-requires mul-at add-at slice-aggregate-remaining sub-remaining remaining-requires same-length same-length-2 same-length-3 same-length-4 same-length-5 returns refuse-requires same-length-6 same-length-7 same-length-8 returns-2)
+plain-spec = tie.close (tie.spec all-exact-requires mul-at add-at (λ c. search needs) sub-remaining remaining-requires (λ c. search needs) (λ c. search needs) (λ c. search needs) (λ c. search needs) (λ c. search needs) returns (λ c κs. search needs) (λ c. search needs) (λ c. search needs) returns-2)
