@@ -8,6 +8,7 @@ use matching::each::Test;
 use matching::each::each;
 use record::u16_at;
 use rows::Cause;
+use store::entries::entry;
 ghost use mathlib.Core.Path.{_≡_};
 ghost use Rattle.record.specs.Decode.{sortAt};
 ghost use Rattle.substitution.specs.Premises.{parless};
@@ -15,11 +16,15 @@ ghost use Rattle.matching.specs.Contract.{OneAsks, PairsAsk};
 ghost use Rattle.matching.specs.Notes.{Table};
 ghost use Rattle.application.specs.Contract.{ParlessAt, ExactIs, PlainAsks, PlainIs};
 
-// Whether no Par stands in the sort `k`.
+// Whether no Par stands in the sort `k`. One without parts is no Par, and needs no walk.
 pub fn is_parless(records: &[u8], places: &[u32], count: usize, seen: &mut [u16], k: usize) -> bool
     requires { ⌜ OneAsks (now records) (now places) count k × Table (ParlessAt (now records) (now places) count) (now seen) ⌝ }
     ensures { λ r. ⌜ (r ≡ parless (sortAt (now (records .entry)) (now (places .entry)) count k)) × Table (ParlessAt (now (records .entry)) (now (places .entry)) count) (now (seen .exit)) ⌝ }
 {
+    let a = entry(records, places, k);
+    if a.count == 0 {
+        return true;
+    }
     let names = [0u16; 1];
     each(
         records,
