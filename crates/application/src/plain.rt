@@ -2,10 +2,13 @@
 // if it is that sort and no Par stands in it. The test for a Par notes in `seen` the sorts that it found free of one, and goes
 // down no sort that is noted there.
 use answers::Answer;
+use answers::arguments::SECOND_AT;
 use answers::lists::remaining;
 use answers::refuse;
 use matching::each::Test;
 use matching::each::each;
+use matching::notes::NOTES;
+use record::limits::LONGEST_LISTED;
 use record::u16_at;
 use rows::Cause;
 use store::entries::entry;
@@ -52,9 +55,9 @@ pub fn all_exact(
     ensures { λ r. ⌜ ExactIs (now (records .entry)) (now (places .entry)) count list (now (args .entry)) n r ⌝ }
 {
     let mut at = list;
-    let mut to = 5;
+    let mut to = SECOND_AT;
     let mut left = n;
-    let mut seen = [0u16; 64];
+    let mut seen = [0u16; NOTES];
     while 0 < left {
         let k = u16_at(records, at);
         let t = u16_at(args, to);
@@ -89,7 +92,7 @@ pub fn plain(
 {
     if all_exact(records, places, count, list, args, n) {
         let at = list + 2 * n;
-        let mut rec = [0u8; 131];
+        let mut rec = [0u8; LONGEST_LISTED];
         return remaining(records, places, index, count, used, &mut rec, at, m - n);
     }
     refuse(Cause::Misfit, count, used)
