@@ -10,20 +10,22 @@ use lib.Dec.{eqb}
 use Rattle.record.specs.Number.{u16At, numbersAt}
 use Rattle.record.specs.Sort.{Sort, sizes}
 use Rattle.record.specs.Decode.{storeOf, sortAt, Zeros}
-use Rattle.store.specs.Good.{Good, Sized}
+use Rattle.store.specs.Good.{Good}
 use Rattle.substitution.specs.Substitution.{Map, empty, apply}
 use Rattle.substitution.specs.Matching.{keep, matchesAll, listedIn}
 use Rattle.substitution.specs.MatchWith.{matchAllWith}
 use Rattle.substitution.specs.Premises.{parless}
 use Rattle.matching.specs.declared.Matched.{Matched}
 use Rattle.matching.specs.Tables.{Told, mapOf, Mapped, Cleared, Blank, Zeroed}
-use Rattle.matching.specs.Contract.{Usable, Refs, sortsAt, OneAsks, ListAsks, PairsAsk, countOf}
+use Rattle.matching.specs.Contract.{Usable, Refs, sortsAt, ListAsks, countOf}
 use Rattle.matching.specs.Contract.{answerOf as foundBy}
+use Rattle.matching.specs.Every.{every, passing}
+use Rattle.matching.specs.declared.each.Test.the-variants.{Settled as Settles}
 use Rattle.replacing.specs.Images.{Images}
 use Rattle.rows.specs.declared.Cause.the-variants.{Misfit, Unassigned}
 use Rattle.rows.specs.Verdict.{Verdict, sort, refused}
 use Rattle.rows.specs.Lists.{remaining}
-use Rattle.checked.specs.Checked.{settled, settledAll, delivered, called}
+use Rattle.checked.specs.Checked.{settledAll, delivered, called}
 use Rattle.inferred.specs.Inferred.{substituted}
 use Rattle.answers.specs.declared.Answer.{Answer}
 use Rattle.answers.specs.Answer.{AnswerIs}
@@ -47,29 +49,19 @@ pub record AppIs (v : Verdict) (b p : List ℕ) (n : ℕ) (prm imgs bnd b′ p�
   pub bound : bnd′ ≡ bnd
 
 ---------------------------------------------------------------- settled
-pub record SettledAsks (b p : List ℕ) (n : ℕ) (prm imgs : List ℕ) (k : ℕ) : Type 0 where
-  pub one : OneAsks b p n k
-  pub table : length prm ≡ 65536
-  pub images : length imgs ≡ 65536
-
 pub record SettledAllAsks (b p : List ℕ) (n : ℕ) (prm imgs : List ℕ) (x m : ℕ) : Type 0 where
   pub list : ListAsks b p n b x m
   pub table : length prm ≡ 65536
   pub images : length imgs ≡ 65536
 
 -- For every test of names and every map that the tables stand for.
-abbrev pub SettledIs : List ℕ → List ℕ → ℕ → List ℕ → List ℕ → ℕ → Bool → Type 0
-SettledIs b p n prm imgs k r =
-    (f : ℕ → Bool) → Told prm f → (θ : Map) → Images (storeOf b p n) imgs θ → r ≡ settled f θ (sortAt b p n k)
-
 abbrev pub SettledAllIs : List ℕ → List ℕ → ℕ → List ℕ → List ℕ → ℕ → ℕ → Bool → Type 0
 SettledAllIs b p n prm imgs x m r =
     (f : ℕ → Bool) → Told prm f → (θ : Map) → Images (storeOf b p n) imgs θ → r ≡ settledAll f θ (sortsAt b p n b x m)
 
--- What is noted of the sort k: every listed name left in it is bound.
+-- What is noted of the sort k: every listed name left in it is bound, by the tables; so it is settled for all that they stand for.
 abbrev pub SettledAt : List ℕ → List ℕ → ℕ → List ℕ → List ℕ → ℕ → Type 0
-SettledAt b p n prm imgs k =
-    (f : ℕ → Bool) → Told prm f → (θ : Map) → Images (storeOf b p n) imgs θ → settled f θ (sortAt b p n k) ≡ true
+SettledAt b p n prm imgs k = every (passing Settles prm imgs) (sortAt b p n k) ≡ true
 
 ---------------------------------------------------------------- arguments at a head
 -- The m sorts of a head's Function in the store's own bytes from x on, k arguments, at most as many, and no name bound.
@@ -148,26 +140,9 @@ pub record FittedIs (b p : List ℕ) (n : ℕ) (prm : List ℕ) (x m y q : ℕ) 
 abbrev pub Plain : (ℕ → Bool) → Type 0
 Plain f = (v : ℕ) → f v ≡ false
 
--- A sort of a store whose tree sizes the table has; m of them, in the store's own bytes from x on.
-pub record ParlessAsks (b p ix : List ℕ) (n k : ℕ) : Type 0 where
-  pub one : OneAsks b p n k
-  pub sized : Sized b p ix n
-  pub index : length ix ≡ 13312
-
-pub record ParlessAllAsks (b p ix : List ℕ) (n x m : ℕ) : Type 0 where
-  pub list : ListAsks b p n b x m
-  pub sized : Sized b p ix n
-  pub index : length ix ≡ 13312
-
 -- What is noted of a sort: no Par stands in it.
 abbrev pub ParlessAt : List ℕ → List ℕ → ℕ → ℕ → Type 0
 ParlessAt b p n k = parless (sortAt b p n k) ≡ true
-
--- k arguments, and as many sorts of a head's list.
-pub record ExactAsks (b p ix : List ℕ) (n x : ℕ) (a : List ℕ) (k : ℕ) : Type 0 where
-  pub pairs : PairsAsk b p n b x a 5 k
-  pub sized : Sized b p ix n
-  pub index : length ix ≡ 13312
 
 -- THE ARGUMENTS FIT, AND NOTHING IS BOUND, or they do not.
 abbrev pub ExactIs : List ℕ → List ℕ → ℕ → ℕ → List ℕ → ℕ → Bool → Type 0

@@ -2,71 +2,43 @@
 // if it is that sort and no Par stands in it. The test for a Par notes in `seen` the sorts that it found free of one, and goes
 // down no sort that is noted there.
 use answers::Answer;
+use answers::arguments::SECOND_AT;
 use answers::lists::remaining;
 use answers::refuse;
-use matching::notes::is_noted;
-use matching::notes::note;
+use matching::each::Test;
+use matching::each::each;
+use matching::notes::NOTES;
+use record::limits::LONGEST_LISTED;
 use record::u16_at;
 use rows::Cause;
 use store::entries::entry;
-use store::entries::size_at;
 ghost use mathlib.Core.Path.{_≡_};
 ghost use Rattle.record.specs.Decode.{sortAt};
-ghost use Rattle.substitution.specs.Premises.{parless, parlessAll};
-ghost use Rattle.matching.specs.Contract.{sortsAt};
+ghost use Rattle.substitution.specs.Premises.{parless};
+ghost use Rattle.matching.specs.Contract.{OneAsks, PairsAsk};
 ghost use Rattle.matching.specs.Notes.{Table};
-ghost use Rattle.application.specs.Contract.{ParlessAt, ParlessAsks, ParlessAllAsks, ExactAsks, ExactIs, PlainAsks, PlainIs};
+ghost use Rattle.application.specs.Contract.{ParlessAt, ExactIs, PlainAsks, PlainIs};
 
-// Whether no Par stands in the sort `k`. A sort of tree size 1 has no parts, and is no Par.
-pub fn is_parless(
-    records: &[u8],
-    places: &[u32],
-    index: &[u16],
-    count: usize,
-    seen: &mut [u16],
-    k: usize,
-) -> bool
-    requires { ⌜ ParlessAsks (now records) (now places) (now index) count k × Table (ParlessAt (now records) (now places) count) (now seen) ⌝ }
+// Whether no Par stands in the sort `k`. One without parts is no Par, and needs no walk.
+pub fn is_parless(records: &[u8], places: &[u32], count: usize, seen: &mut [u16], k: usize) -> bool
+    requires { ⌜ OneAsks (now records) (now places) count k × Table (ParlessAt (now records) (now places) count) (now seen) ⌝ }
     ensures { λ r. ⌜ (r ≡ parless (sortAt (now (records .entry)) (now (places .entry)) count k)) × Table (ParlessAt (now (records .entry)) (now (places .entry)) count) (now (seen .exit)) ⌝ }
 {
-    if size_at(index, k) == 1 {
-        return true;
-    }
-    if is_noted(seen, k) {
-        return true;
-    }
     let a = entry(records, places, k);
-    if a.kind == 12 {
-        return false;
-    }
-    if all_parless(records, places, index, count, seen, a.list, a.count) {
-        note(seen, k);
+    if a.count == 0 {
         return true;
     }
-    false
-}
-
-// Whether no Par stands in any of the `left` sorts that the store names from `at` on.
-pub fn all_parless(
-    records: &[u8],
-    places: &[u32],
-    index: &[u16],
-    count: usize,
-    seen: &mut [u16],
-    at: usize,
-    left: usize,
-) -> bool
-    requires { ⌜ ParlessAllAsks (now records) (now places) (now index) count at left × Table (ParlessAt (now records) (now places) count) (now seen) ⌝ }
-    ensures { λ r. ⌜ (r ≡ parlessAll (sortsAt (now (records .entry)) (now (places .entry)) count (now (records .entry)) at left)) × Table (ParlessAt (now (records .entry)) (now (places .entry)) count) (now (seen .exit)) ⌝ }
-{
-    if left == 0 {
-        return true;
-    }
-    let k = u16_at(records, at);
-    if is_parless(records, places, index, count, seen, k) {
-        return all_parless(records, places, index, count, seen, at + 2, left - 1);
-    }
-    false
+    let names = [0u16; 1];
+    each(
+        records,
+        places,
+        count,
+        Test::Parless,
+        &names,
+        &names,
+        seen,
+        k,
+    )
 }
 
 // Whether the n arguments in `args` from byte 5 on are the sorts that the store names from `list` on, and no Par stands in
@@ -74,26 +46,25 @@ pub fn all_parless(
 pub fn all_exact(
     records: &[u8],
     places: &[u32],
-    index: &[u16],
     count: usize,
     list: usize,
     args: &[u8],
     n: usize,
 ) -> bool
-    requires { ⌜ ExactAsks (now records) (now places) (now index) count list (now args) n ⌝ }
+    requires { ⌜ PairsAsk (now records) (now places) count (now records) list (now args) 5 n ⌝ }
     ensures { λ r. ⌜ ExactIs (now (records .entry)) (now (places .entry)) count list (now (args .entry)) n r ⌝ }
 {
     let mut at = list;
-    let mut to = 5;
+    let mut to = SECOND_AT;
     let mut left = n;
-    let mut seen = [0u16; 64];
+    let mut seen = [0u16; NOTES];
     while 0 < left {
         let k = u16_at(records, at);
         let t = u16_at(args, to);
         if k != t {
             return false;
         }
-        if !is_parless(records, places, index, count, &mut seen, k) {
+        if !is_parless(records, places, count, &mut seen, k) {
             return false;
         }
         at += 2;
@@ -119,9 +90,9 @@ pub fn plain(
     requires { ⌜ PlainAsks (now records) (now places) (now index) count used list m (now args) n ⌝ }
     ensures { λ r. ⌜ PlainIs (now (records .entry)) (now (places .entry)) count list m (now (args .entry)) n (now (records .exit)) (now (places .exit)) (now (index .exit)) r ⌝ }
 {
-    if all_exact(records, places, index, count, list, args, n) {
+    if all_exact(records, places, count, list, args, n) {
         let at = list + 2 * n;
-        let mut rec = [0u8; 131];
+        let mut rec = [0u8; LONGEST_LISTED];
         return remaining(records, places, index, count, used, &mut rec, at, m - n);
     }
     refuse(Cause::Misfit, count, used)

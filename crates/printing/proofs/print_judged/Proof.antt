@@ -18,9 +18,7 @@ print-accepted-requires c κs =
 returns-2 : tie.Need-returns-2
 returns-2 c =
     let s = c .before .before .before .before .before .before .before .before .before in
-    let a = s .args in
-    let x = a .sheet .now in
-    printed-refused x programLengths (c .before .before .outcome .given .0 .0) (c .print-refusal .result) (sym (c .before .before .outcome .given .1) ∙ s .pre .outcome) (c .print-refusal .ensures)
+    printed-refused _ programLengths (c .before .before .outcome .given .0 .0) _ (sym (c .before .before .outcome .given .1) ∙ s .pre .outcome) (c .print-refusal .ensures)
 
 pub print-judged-spec : {M : Type 1} → statement M
 print-judged-spec = tie.close (tie.spec (λ c. search needs) (λ c. search needs) print-accepted-requires (λ c. search needs) (λ c κs. search needs) (λ c. search needs) returns-2)

@@ -23,23 +23,6 @@ Inv-loop sheet records places rows kinds answers terms questions out₀ total do
 abbrev μ-loop : tie.MeasureT-loop
 μ-loop sheet records places rows kinds answers terms questions out₀ total done₀ k₀ out done k = total - k
 
-add-total : tie.Need-add-total Inv-loop μ-loop
-add-total c =
-    let s = c .before .before .before .before .before .before .before in
-    let f = s .pre .left in
-    omega (arith, f .good .few, f .good .fewer)
-
-loop-holds : tie.Need-loop-holds Inv-loop μ-loop
-loop-holds c =
-    let e = c .nothing-written .ensures in (refl, omega arith, ap (λ (z : Written). z .failed) e, ap (λ (z : Written). z .lines) e, refl)
-
-show-lines-requires : tie.Need-show-lines-requires Inv-loop μ-loop
-show-lines-requires c κs =
-    let s = c .before .before .before .before .before .before .before .before .before .before .before in
-    let f = s .pre .left in
-    let l = c .before .before .loop in
-    record { many = f .many; judged = f .good; number = omega (arith, l .inv .0, l .inv .1) }
-
 slice-reshare-prefix-write-lines : tie.Need-slice-reshare-prefix-write-lines Inv-loop μ-loop
 slice-reshare-prefix-write-lines c =
     let s = c .before .before .before .before .before .before .before .before .before .before .before .before .before .before in
@@ -52,24 +35,18 @@ slice-aggregate-write-lines c =
     let s = c .before .before .before .before .before .before .before .before .before .before .before .before .before .before .before in
     let f = s .pre .left in
     let r = c .before .before .before .show-lines .ensures (f .many) (f .good) in
-    sym (length-take-le (c .before .before .before .show-lines .result .end) (c .before .before .before .show-lines .last .1 .1 .1 .1 .1 .1 .1 .1 .0) (omega (arith, r .text .next, r .text .fits, wrote-long (r .text))))
+    sym (length-take-le (c .before .before .before .show-lines .result .end) _ (omega (arith, r .text .next, r .text .fits, wrote-long (r .text))))
 
 write-lines-requires : tie.Need-write-lines-requires Inv-loop μ-loop
 write-lines-requires c κs =
     let s = c .before .before .before .before .before .before .before .before .before .before .before .before .before .before .before in
     let a = s .args in
-    let x = a .sheet .now in
-    let b = a .records .now in
-    let p = a .places .now in
-    let w = a .rows .now in
-    let d = a .kinds .now in
-    let g = a .answers .now in
     let t = a .terms in
     let q = a .questions in
     let f = s .pre .left in
     let l = c .before .before .before .before .before .before .loop in
     let r = c .before .before .before .show-lines .ensures (f .many) (f .good) in
-    piece-next x b p w d g (record { terms = t; questions = q }) f (l .done) (l .k) (l .out) (c .before .before .before .show-lines .last .1 .1 .1 .1 .1 .1 .1 .1 .0) (c .before .before .before .show-lines .result) (l .inv .2) (l .inv .3) r
+    piece-next _ _ _ _ _ _ (record { terms = t; questions = q }) f _ _ _ _ _ (l .inv .2) (l .inv .3) r
 
 same-length : tie.Need-same-length Inv-loop μ-loop
 same-length c =
@@ -86,24 +63,23 @@ returns c =
     let x = a .sheet .now in
     let f = s .pre .left in
     let l = c .before .before .before .before .before .before .before .before .before .loop in
-    printed-part (judged x programLengths) (l .done) (c .before .before .before .before .before .before .show-lines .result .next) (c .before .before .write-lines .result) (c .before .before .write-lines .ensures) (sym (c .before .has-failed .ensures) ∙ c .if1 .taken) (omega (arith, c .before .before .before .before .before .before .before .before .loop-test .taken, l .inv .0, f .count))
+    printed-part (judged x programLengths) _ (c .before .before .before .before .before .before .show-lines .result .next) _ (c .before .before .write-lines .ensures) (sym (c .before .has-failed .ensures) ∙ c .if1 .taken) (omega (arith, c .before .before .before .before .before .before .before .before .loop-test .taken, l .inv .0, f .count))
 
 loop-less : tie.Need-loop-less Inv-loop μ-loop
 loop-less c =
-    let s = c .before .before .before .before .before .before .before .before .before .before .before .before .before .before .before .before .before .before in
+    let v = c .before .before .before .before .before .before in
+    let more = v .before .before .loop-test .taken in
+    let l = v .before .before .before .loop in
+    let k = v .before .before .before .before .before .before in
+    let s = k .before .before .before .before .before .before in
     let a = s .args in
-    let b = a .records .now in
-    let p = a .places .now in
-    let w = a .rows .now in
-    let d = a .kinds .now in
-    let g = a .answers .now in
-    let t = a .terms in
-    let q = a .questions in
     let f = s .pre .left in
-    let l = c .before .before .before .before .before .before .before .before .before .loop in
-    let r = c .before .before .before .before .before .before .show-lines .ensures (f .many) (f .good) in
-    let bytes : Bytes b = λ j. omega (arith, c .before .before .before .before .before .before .before .before .before .before .before .before .before .before .before .before .shared-slice-known2 .given j) in
-    omega (arith, c .before .before .before .before .before .before .before .before .loop-test .taken, piece-goes b p w d g t q (f .many) (f .good) (f .one) bytes (λ i. omega (arith, c .before .before .before .before .before .before .before .before .before .before .before .before .before .before .shared-slice-known4 .given i)) (λ i. omega (arith, c .before .before .before .before .before .before .before .before .before .before .before .before .shared-slice-known6 .given i)) (l .k) (l .out) (c .before .before .before .before .before .before .show-lines .last .1 .1 .1 .1 .1 .1 .1 .1 .0) (c .before .before .before .before .before .before .show-lines .result) r (omega (arith, c .before .before .before .before .before .before .before .before .loop-test .taken, l .inv .0)) (omega (arith, s .pre .room, l .inv .4)))
+    let r = v .show-lines .ensures (f .many) (f .good) in
+    let bytes : Bytes (a .records .now) = λ j. omega (arith, k .before .before .before .before .shared-slice-known2 .given j) in
+    let goes = piece-goes _ _ _ _ _ _ _ (f .many) (f .good) (f .one) bytes
+    (λ i. omega (arith, k .before .before .shared-slice-known4 .given i)) (λ i. omega (arith, k .shared-slice-known6 .given i))
+    (l .k) (l .out) (v .show-lines .last .1 .1 .1 .1 .1 .1 .1 .1 .0) (v .show-lines .result) r (omega (arith, more, l .inv .0)) (omega (arith, s .pre .room, l .inv .4)) in
+    omega (arith, more, goes)
 
 loop-again : tie.Need-loop-again Inv-loop μ-loop
 loop-again c =
@@ -114,11 +90,6 @@ loop-again c =
     let good = sym (c .before .has-failed .ensures) ∙ c .if1 .left in
     (l .inv .0, omega (arith, r .last, l .inv .0), good, c .before .before .write-lines .ensures .took good, wrote-long (r .text) ∙ l .inv .4)
 
-same-length-2 : tie.Need-same-length-2 Inv-loop μ-loop
-same-length-2 c =
-    let l = c .before .loop in
-    l .inv .4
-
 returns-2 : tie.Need-returns-2 Inv-loop μ-loop
 returns-2 c =
     let s = c .before .before .before .before .before .before .before .before .before .before in
@@ -126,7 +97,7 @@ returns-2 c =
     let x = a .sheet .now in
     let f = s .pre .left in
     let l = c .before .loop in
-    printed-whole (judged x programLengths) (l .done) (l .inv .2) (omega (arith, c .loop-test .left, l .inv .0, l .inv .1, l .inv .3, f .count))
+    printed-whole (judged x programLengths) _ (l .inv .2) (omega (arith, c .loop-test .left, l .inv .0, l .inv .1, l .inv .3, f .count))
 
 pub print-lines-spec : {M : Type 1} → statement M
-print-lines-spec = tie.close (tie.spec Inv-loop μ-loop add-total (λ c κs. search needs) loop-holds show-lines-requires slice-reshare-prefix-write-lines slice-aggregate-write-lines write-lines-requires (λ c κs. search needs) same-length returns loop-less loop-again same-length-2 returns-2)
+print-lines-spec = tie.close (tie.spec Inv-loop μ-loop (λ c. search needs) (λ c κs. search needs) (λ c. search needs) (λ c κs. search needs) slice-reshare-prefix-write-lines slice-aggregate-write-lines write-lines-requires (λ c κs. search needs) same-length returns loop-less loop-again (λ c. search needs) returns-2)

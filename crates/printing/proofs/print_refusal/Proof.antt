@@ -27,12 +27,12 @@ array-share-prefix-line c =
 slice-aggregate-write-refusal : tie.Need-slice-aggregate-write-refusal
 slice-aggregate-write-refusal c =
     let w = subst (ShownIs (replicate 16 0) 0 (refusalLine (c .before .before .before .before .before .before .before .refusal-number .result)) (c .before .before .before .before .before .refusal-line .last .1 .0)) (c .before .before .shown .given .1) (c .before .before .before .before .before .refusal-line .ensures) in
-    sym (length-take-le (c .before .before .shown .given .0 .0) (c .before .before .before .before .before .refusal-line .last .1 .0) (omega (arith, w .next, w .fits, wrote-long w)))
+    sym (length-take-le (c .before .before .shown .given .0 .0) _ (omega (arith, w .next, w .fits, wrote-long w)))
 
 write-refusal-requires : tie.Need-write-refusal-requires
 write-refusal-requires c κs =
     let w = subst (ShownIs (replicate 16 0) 0 (refusalLine (c .before .before .before .before .before .before .before .refusal-number .result)) (c .before .before .before .before .before .refusal-line .last .1 .0)) (c .before .before .shown .given .1) (c .before .before .before .before .before .refusal-line .ensures) in
-    wrote-first (replicate 16 0) (refusalLine (c .before .before .before .before .before .before .before .refusal-number .result)) (c .before .before .before .before .before .refusal-line .last .1 .0) (c .before .before .shown .given .0 .0) w ∙ ap refusalLine (c .before .before .before .before .before .before .before .refusal-number .ensures)
+    wrote-first (replicate 16 0) (refusalLine (c .before .before .before .before .before .before .before .refusal-number .result)) _ (c .before .before .shown .given .0 .0) w ∙ ap refusalLine (c .before .before .before .before .before .before .before .refusal-number .ensures)
 
 returns-2 : tie.Need-returns-2
 returns-2 c =

@@ -12,4 +12,5 @@ slice-aggregate-show : tie.Need-slice-aggregate-show
 slice-aggregate-show c = sym (length-take-le (c .before .before .u16-at5 .result) (replicate 65536 0) (omega (arith, c .before .if2 .left)))
 
 pub next-spec : {M : Type 1} → statement M
-next-spec = tie.close (tie.spec (λ c. search needs) (λ c κs. search needs) (λ c. search needs) (λ c. search needs) (λ c κs. search needs) (λ c. search needs) (λ c κs. search needs) (λ c. search needs) (λ c κs. search needs) (λ c. search needs) (λ c κs. search needs) (λ c. search needs) (λ c κs. search needs) (λ c. search needs) (λ c. search needs) slice-aggregate-show (λ c κs. search needs) (λ c. search needs))
+next-spec = tie.close (tie.spec (λ c. search needs) (λ c κs. search needs) (λ c. search needs) (λ c. search needs) (λ c κs. search needs) (λ c. search needs) (λ c κs. search needs)
+    (λ c. search needs) (λ c κs. search needs) (λ c. search needs) (λ c κs. search needs) (λ c. search needs) (λ c κs. search needs) (λ c. search needs) (λ c. search needs) slice-aggregate-show (λ c κs. search needs) (λ c. search needs))

@@ -37,7 +37,7 @@ returns c =
     let k = c .before .before .question-kinds .last .1 .0 in
     let t = c .before .before .question-kinds .result in
     let l = left x b p w g (s .pre) (replicate 1024 0) k t (omega arith) (c .before .before .question-kinds .ensures) in
-    lines-none (judged x programLengths) (a .from) (a .out .now) (omega (arith, l .count, c .if1 .taken))
+    lines-none (judged x programLengths) _ _ (omega (arith, l .count, c .if1 .taken))
 
 show-lines-requires : tie.Need-show-lines-requires
 show-lines-requires c κs =

@@ -15,7 +15,7 @@ use Rattle.text.proofs.refused_line.Tie as tie
 returns : tie.Need-returns
 returns c =
     let a = c .before .before .args in
-    lines-none (refused (a .e)) (a .from) (a .out .now) (omega (arith, c .if1 .taken))
+    lines-none (refused (a .e)) _ _ (omega (arith, c .if1 .taken))
 
 refusal-line-requires : tie.Need-refusal-line-requires
 refusal-line-requires c κs = (omega (arith, c .before .refusal-number .ensures, refusal-small (c .before .before .before .before .args .e)), omega arith)
@@ -26,7 +26,7 @@ returns-2 c =
     let o = a .out .now in
     let o′ = c .before .before .before .before .before .refusal-line .last .1 .0 in
     let w = subst (ShownIs o 0 (refusalLine (c .before .before .before .before .before .before .before .refusal-number .result)) o′) (c .before .shown .given .1) (c .before .before .before .before .before .refusal-line .ensures) in
-    refused-written (a .e) (a .from) o o′ (c .before .shown .given .0 .0) (omega (arith, c .before .before .before .before .before .before .before .before .if1 .left)) (wrote-as (ap refusalLine (c .before .before .before .before .before .before .before .refusal-number .ensures)) w)
+    refused-written _ _ _ o′ (c .before .shown .given .0 .0) (omega (arith, c .before .before .before .before .before .before .before .before .if1 .left)) (wrote-as (ap refusalLine (c .before .before .before .before .before .before .before .refusal-number .ensures)) w)
 
 returns-3 : tie.Need-returns-3
 returns-3 c =
@@ -35,7 +35,7 @@ returns-3 c =
     let o′ = c .before .before .before .before .refusal-line .last .1 .0 in
     let n = c .before .before .before .before .before .before .refusal-number .ensures in
     let w = subst (ShownIs o 0 (refusalLine (c .before .before .before .before .before .before .refusal-number .result)) o′) (c .enum-told .given .1) (c .before .before .before .before .refusal-line .ensures) in
-    refused-full (a .e) (a .from) o o′ (omega (arith, c .before .before .before .before .before .before .before .if1 .left)) (w .0) (omega (arith, w .1, ap (λ (i : ℕ). length (refusalLine i)) n))
+    refused-full _ _ _ o′ (omega (arith, c .before .before .before .before .before .before .before .if1 .left)) (w .0) (omega (arith, w .1, ap (λ (i : ℕ). length (refusalLine i)) n))
 
 pub refused-line-spec : {M : Type 1} → statement M
 refused-line-spec = tie.close (tie.spec returns (λ c κs. search needs) (λ c. search needs) refusal-line-requires (λ c. search needs) (λ c. search needs) (λ c. search needs) returns-2 (λ c. search needs) returns-3)

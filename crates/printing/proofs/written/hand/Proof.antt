@@ -6,10 +6,10 @@ use Rattle.printing.proofs.written.hand.Statement.{statement}
 use Rattle.printing.proofs.written.hand.Tie as tie
 
 returns : tie.Need-returns
-returns c = let a = c .before .before .before .args in took-all (a .done) (a .next)
+returns c = let a = c .before .before .before .args in took-all _ _
 
 returns-2 : tie.Need-returns-2
-returns-2 c = let a = c .before .before .before .args in took-less (a .done) (a .next)
+returns-2 c = let a = c .before .before .before .args in took-less _ _
 
 pub hand-spec : {M : Type 1} → statement M
 hand-spec = tie.close (tie.spec (λ c κs. search needs) returns returns-2)

@@ -17,9 +17,8 @@ hand-requires c κs =
 
 returns : tie.Need-returns
 returns c =
-    let a = c .before .before .before .args in
     let r = c .hand .result in
-    refusal-printed (a .e) r (subst (λ (w : Written). WentOn w 1 r) (c .before .nothing-written .ensures) (c .hand .ensures))
+    refusal-printed _ _ (subst (λ (w : Written). WentOn w 1 r) (c .before .nothing-written .ensures) (c .hand .ensures))
 
 pub write-refusal-spec : {M : Type 1} → statement M
 write-refusal-spec = tie.close (tie.spec (λ c κs. search needs) hand-requires returns)

@@ -24,13 +24,15 @@ put-requires c κs =
 put-row-requires-2 : tie.Need-put-row-requires-2
 put-row-requires-2 c κs =
     let m = c .before .before .before .before .before .before .before .before .before .before .before .before .before .before in
-    let r = room-then (room-then (term-room (m .before .before .before .before .before .before .before .pre) (m .before .digits .ensures .0) (m .before .before .before .row-size .ensures .0) (m .before .before .row-size2 .ensures .0) (m .if1 .left)) (c .before .before .before .before .before .before .before .before .before .before .before .before .put-label .ensures)) (c .before .before .before .before .before .before .before .before .put-row .ensures) in
+    let first = term-room (m .before .before .before .before .before .before .before .pre) (m .before .digits .ensures .0) (m .before .before .before .row-size .ensures .0) (m .before .before .row-size2 .ensures .0) (m .if1 .left) in
+    let r = room-then (room-then first (c .before .before .before .before .before .before .before .before .before .before .before .before .put-label .ensures)) (c .before .before .before .before .before .before .before .before .put-row .ensures) in
     (m .before .before .before .before .before .before .before .pre .checked, room-now (room-then r (c .before .before .before .put .ensures)))
 
 put-requires-2 : tie.Need-put-requires-2
 put-requires-2 c κs =
     let m = c .before .before .before .before .before .before .before .before .before .before .before .before .before .before .before .before .before .before .before in
-    let r = room-then (room-then (term-room (m .before .before .before .before .before .before .before .pre) (m .before .digits .ensures .0) (m .before .before .before .row-size .ensures .0) (m .before .before .row-size2 .ensures .0) (m .if1 .left)) (c .before .before .before .before .before .before .before .before .before .before .before .before .before .before .before .before .before .put-label .ensures)) (c .before .before .before .before .before .before .before .before .before .before .before .before .before .put-row .ensures) in
+    let first = term-room (m .before .before .before .before .before .before .before .pre) (m .before .digits .ensures .0) (m .before .before .before .row-size .ensures .0) (m .before .before .row-size2 .ensures .0) (m .if1 .left) in
+    let r = room-then (room-then first (c .before .before .before .before .before .before .before .before .before .before .before .before .before .before .before .before .before .put-label .ensures)) (c .before .before .before .before .before .before .before .before .before .before .before .before .before .put-row .ensures) in
     room-now (room-then (room-then r (c .before .before .before .before .before .before .before .before .put .ensures)) (c .before .before .before .before .put-row2 .ensures))
 
 returns-2 : tie.Need-returns-2
