@@ -44,8 +44,8 @@ loop-again c =
     let s = c₃ .before .before .before .before .before .before .before .before .before .before .before .before .before in
     let h = s .pre .0 in
     let l = c₃ .loop in
-    let r = c₁ .term-rows .last in
-    (omega (arith, c₂ .loop-test .taken), tabling-step h (l .inv .1) (c₂ .loop-test .taken) (r .0) (r .1 .0) (r .1 .1 .0) (r .1 .1 .1 .1 .1 .0) (r .1 .1 .1 .1 .1 .1 .0) (r .1 .1 .1 .1 .1 .1 .1 .0) (r .1 .1 .1 .1 .1 .1 .1 .1 .1 .1 .1 .1 .0) (c₁ .term-rows .result) (c₁ .term-rows .ensures .0), c₁ .term-rows .ensures .1, c₁ .term-rows .kept .1 .1 .1 .1 .1 .1 .1 .1 .1 .1 .1 .1 .1 .1 .0 ∙ l .inv .3, c₁ .term-rows .kept .1 .1 .1 .1 .1 .1 .1 .1 .1 .1 .1 .1 .1 .1 .1 .0 ∙ l .inv .4)
+    let w = c₁ .term-rows in let r = w .last in let k = w .kept .1 .1 .1 .1 .1 .1 .1 .1 .1 .1 .1 .1 .1 .1 in
+    (omega (arith, c₂ .loop-test .taken), tabling-step h (l .inv .1) (c₂ .loop-test .taken) (r .0) (r .1 .0) (r .1 .1 .0) (r .1 .1 .1 .1 .1 .0) (r .1 .1 .1 .1 .1 .1 .0) (r .1 .1 .1 .1 .1 .1 .1 .0) (r .1 .1 .1 .1 .1 .1 .1 .1 .1 .1 .1 .1 .0) (w .result) (w .ensures .0), w .ensures .1, k .0 ∙ l .inv .3, k .1 .0 ∙ l .inv .4)
 
 same-length : tie.Need-same-length Inv-loop μ-loop
 same-length c = c .before .loop .inv .1 .long
