@@ -16,25 +16,25 @@ pub data Refilled (s d x y : ℕ) : Type 0 where
   made : d ≡ 54 → y ≡ s → Refilled s d x y
   left : (d ≡ 54 → ⊥) → y ≡ x → Refilled s d x y
 
-pub key-bucket : (r : List ℕ) (h : ℕ) → h ≡ hashOf r → h % 1024 ≡ bucketOf (keyOf r)
+pub key-bucket : (r : List ℕ) {h : ℕ} → h ≡ hashOf r → h % 1024 ≡ bucketOf (keyOf r)
 unfolding keyOf
-key-bucket r h e = omega (arith, e)
+key-bucket r {h} e = omega (arith, e)
 
-pub key-start : (r : List ℕ) (h : ℕ) → h ≡ hashOf r → h < 2 ^ 64 → Bits (secondOf r) 0 (h / 1024) (restOf (keyOf r))
+pub key-start : (r : List ℕ) {h : ℕ} → h ≡ hashOf r → h < 2 ^ 64 → Bits (secondOf r) 0 (h / 1024) (restOf (keyOf r))
 unfolding keyOf
-key-start r h e l = first 53 refl (omega arith) (omega (arith, e))
+key-start r {h} e l = first 53 refl (omega arith) (omega (arith, e))
 
 module _ (s : ℕ) where
-  pub bit-same : (d x r : ℕ) → Bits s d x r → x % 2 ≡ r % 2
+  pub bit-same : {d x r : ℕ} → Bits s d x r → x % 2 ≡ r % 2
   unfolding doubled
-  bit-same d x r (first m o l e) = omega (arith, e)
-  bit-same d x r (behind o e) = omega (arith, e)
+  bit-same {d} {x} {r} (first m o l e) = omega (arith, e)
+  bit-same {d} {x} {r} (behind o e) = omega (arith, e)
 
-  pub bits-next : (d x r y : ℕ) → Bits s d x r → Refilled s (d + 1) (x / 2) y → Bits s (d + 1) y (r / 2)
+  pub bits-next : {d x r y : ℕ} → Bits s d x r → Refilled s (d + 1) (x / 2) y → Bits s (d + 1) y (r / 2)
   unfolding doubled
-  bits-next d x r y (first zero o l e) (made q z) = behind (omega arith) (omega (arith, e, z))
-  bits-next d x r y (first (suc m) o l e) (made q z) = absurd (omega arith)
-  bits-next d x r y (first zero o l e) (left q z) = absurd (q (omega arith))
-  bits-next d x r y (first (suc m) o l e) (left q z) = first m (omega arith) (omega arith) (omega (arith, e, z))
-  bits-next d x r y (behind o e) (made q z) = absurd (omega arith)
-  bits-next d x r y (behind o e) (left q z) = behind (omega arith) (omega (arith, e, z))
+  bits-next {d} {x} {r} {y} (first zero o l e) (made q z) = behind (omega arith) (omega (arith, e, z))
+  bits-next {d} {x} {r} {y} (first (suc m) o l e) (made q z) = absurd (omega arith)
+  bits-next {d} {x} {r} {y} (first zero o l e) (left q z) = absurd (q (omega arith))
+  bits-next {d} {x} {r} {y} (first (suc m) o l e) (left q z) = first m (omega arith) (omega arith) (omega (arith, e, z))
+  bits-next {d} {x} {r} {y} (behind o e) (made q z) = absurd (omega arith)
+  bits-next {d} {x} {r} {y} (behind o e) (left q z) = behind (omega arith) (omega (arith, e, z))
