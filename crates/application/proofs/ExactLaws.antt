@@ -9,17 +9,19 @@ use native.Mathlib.Nat.{not-suc-le-zero}
 use lib.ListN.{length, getD}
 use Rattle.record.specs.Number.{u16At, numbersAt}
 use Rattle.record.specs.Codec.{length-numbersAt, number-at}
-use Rattle.record.specs.Sort.{Sort, Sorts, end, _then_}
+use Rattle.record.specs.Sort.{Sort, Sorts, var, par, node, end, _then_, partsOf}
 use Rattle.record.specs.Record.{Fields, leaf, sortsOf, sortOf}
 use Rattle.record.specs.Decode.{fieldsAt, Shape, Below, storeOf, sortAt, Stored}
 use Rattle.record.specs.Forms.{Which, isVar, isPar, isNode, which, sort-var, sort-par, sort-other, par-one}
 use Rattle.record.specs.Cases.{and-left}
 use Rattle.record.specs.StoreLaws.{sort-node, sorts-one}
+use Rattle.record.specs.declared.SortRecord.{SortRecord}
+use Rattle.store.specs.Entry.{EntryHas}
 use Rattle.substitution.specs.Substitution.{Map, empty}
 use Rattle.substitution.specs.SubstitutionLaws.{apply-empty}
 use Rattle.substitution.specs.Premises.{parless, anyName, named, namedAll}
 use Rattle.substitution.specs.Matching.{andThen, matches, matchesAll}
-use Rattle.matching.specs.Contract.{sortsAt, PairsAsk}
+use Rattle.matching.specs.Contract.{sortsAt, OneAsks, PairsAsk}
 use Rattle.matching.specs.Entered.{good-usable, refs-first, refs-rest, sorts-end, sorts-more}
 use Rattle.rows.specs.declared.Cause.the-variants.{Misfit, Unassigned}
 use Rattle.rows.specs.Verdict.{Verdict, sort, refused, need}
@@ -33,6 +35,18 @@ use Rattle.application.specs.Contract.{Plain, ExactIs, PlainAsks, PlainI
 use Rattle.application.proofs.ListLaws.{refs-part, refs-behind}
 use Rattle.application.proofs.PlainLaws.{fits-itself, fits-other, fits-par, values-fit, settled-plain}
 use Rattle.application.proofs.CalledLaws.{called-under}
+
+---------------------------------------------------------------- a sort without parts
+no-parts : (s : Sort) → partsOf s ≡ end → true ≡ parless s
+unfolding parless
+no-parts (var v) e = refl
+no-parts (par us c) e = let z : _≡_ {A = ℕ} 0 1 = cc in absurd (omega arith)
+no-parts (node k a w end) e = refl
+no-parts (node k a w (s then ss)) e = let z : _≡_ {A = ℕ} 0 1 = cc in absurd (omega arith)
+
+pub leaf-parless : {b p : List ℕ} {n k : ℕ} → OneAsks b p n k → (r : SortRecord) → EntryHas b p k r → r .count ≡ 0 → true ≡ parless (sortAt b p n k)
+leaf-parless {b} {p} {n} {k} a r e z =
+    no-parts (sortAt b p n k) (sym (e n (a .usable .stored) (a .known) .parts) ∙ sorts-end b p n b (r .list) (r .count) z)
 
 ---------------------------------------------------------------- the arguments, one after another
 -- What is left decides the whole.

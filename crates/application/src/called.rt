@@ -3,10 +3,12 @@ use super::lent::delivered_lent;
 use super::plain::plain;
 use super::settled::all_settled;
 use answers::Answer;
+use answers::arguments::SECOND_AT;
 use answers::refuse;
 use answers::values::all_values;
 use instance::rest;
 use matching::Matched;
+use matching::notes::NOTES;
 use matching::plain::matches_all;
 use matching::tables::clear;
 use matching::tables::list_names;
@@ -55,13 +57,13 @@ pub fn fit_listed(
         records,
         list,
         args,
-        5,
+        SECOND_AT,
         n,
     );
     match found {
         Matched::Fits(k) => {
             let at = list + 2 * n;
-            let mut seen = [0u16; 64];
+            let mut seen = [0u16; NOTES];
             if all_settled(records, places, count, params, images, &mut seen, at, m - n) {
                 return Call::Settled(k);
             }
@@ -187,7 +189,7 @@ pub fn called(
     if named == 0 {
         return plain(records, places, index, count, used, list, m, args, n);
     }
-    if all_values(records, places, args, 5, n) {
+    if all_values(records, places, args, SECOND_AT, n) {
         return delivered_lent(
             records,
             places,

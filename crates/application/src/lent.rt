@@ -4,6 +4,8 @@
 use super::called::delivered;
 use super::parametric::parametric;
 use answers::Answer;
+use record::limits::MOST_BOUND;
+use record::limits::NAMES;
 ghost use mathlib.Core.Path.{_≡_};
 ghost use Rattle.record.specs.Number.{numbersAt};
 ghost use Rattle.substitution.specs.Matching.{listedIn};
@@ -13,13 +15,13 @@ ghost use Rattle.application.specs.Contract.{AppIs, full, LentAsks, Lent
 pub fn are_full(params: usize, images: usize, bound: usize) -> bool
     ensures { λ r. ⌜ r ≡ full params images bound ⌝ }
 {
-    if params != 65536 {
+    if params != NAMES {
         return false;
     }
-    if images != 65536 {
+    if images != NAMES {
         return false;
     }
-    bound == 4096
+    bound == MOST_BOUND
 }
 
 // What `delivered` answers over the lent tables where they have all names; else what this function answers over tables of its
@@ -61,9 +63,9 @@ pub fn delivered_over(
             n,
         );
     }
-    let mut own_params = [0u16; 65536];
-    let mut own_images = [0u16; 65536];
-    let mut own_bound = [0u16; 4096];
+    let mut own_params = [0u16; NAMES];
+    let mut own_images = [0u16; NAMES];
+    let mut own_bound = [0u16; MOST_BOUND];
     delivered_over(
         records,
         places,
@@ -177,9 +179,9 @@ pub fn parametric_over(
             n,
         );
     }
-    let mut own_params = [0u16; 65536];
-    let mut own_images = [0u16; 65536];
-    let mut own_bound = [0u16; 4096];
+    let mut own_params = [0u16; NAMES];
+    let mut own_images = [0u16; NAMES];
+    let mut own_bound = [0u16; MOST_BOUND];
     parametric_over(
         records,
         places,

@@ -1,6 +1,7 @@
 // The sort of an App, inferred and checked, over the store numbers of its head and its arguments: they stand in `args` from
 // byte 3 on, the head first.
 use answers::Answer;
+use answers::arguments::FIRST_AT;
 use answers::heads::Head;
 use answers::heads::head_of;
 use answers::lists::remaining;
@@ -40,7 +41,7 @@ pub fn application(
     if total < 2 {
         return refuse(Cause::Count, count, used);
     }
-    let h = u16_at(args, 3);
+    let h = u16_at(args, FIRST_AT);
     let head = head_of(records, places, h);
     match head {
         Head::Function(list, m, names, named) => called(
@@ -85,7 +86,7 @@ pub fn applied(
         return refuse(Cause::Panics, count, used);
     }
     let n = total - 1;
-    let h = u16_at(args, 3);
+    let h = u16_at(args, FIRST_AT);
     let head = head_of(records, places, h);
     match head {
         Head::Function(list, m, names, named) => {

@@ -1,5 +1,6 @@
 // The inferred sort of an App whose head is a Par of a Function.
 use answers::Answer;
+use answers::arguments::SECOND_AT;
 use answers::refuse;
 use instance::rest;
 use matching::Matched;
@@ -41,7 +42,7 @@ pub fn match_arguments(
         records,
         list,
         args,
-        5,
+        SECOND_AT,
         n,
     );
     unlist_names(params, records, names, named);

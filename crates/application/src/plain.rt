@@ -2,12 +2,16 @@
 // if it is that sort and no Par stands in it. The test for a Par notes in `seen` the sorts that it found free of one, and goes
 // down no sort that is noted there.
 use answers::Answer;
+use answers::arguments::SECOND_AT;
 use answers::lists::remaining;
 use answers::refuse;
 use matching::each::Test;
 use matching::each::each;
+use matching::notes::NOTES;
+use record::limits::LONGEST_LISTED;
 use record::u16_at;
 use rows::Cause;
+use store::entries::entry;
 ghost use mathlib.Core.Path.{_≡_};
 ghost use Rattle.record.specs.Decode.{sortAt};
 ghost use Rattle.substitution.specs.Premises.{parless};
@@ -15,11 +19,15 @@ ghost use Rattle.matching.specs.Contract.{OneAsks, PairsAsk};
 ghost use Rattle.matching.specs.Notes.{Table};
 ghost use Rattle.application.specs.Contract.{ParlessAt, ExactIs, PlainAsks, PlainIs};
 
-// Whether no Par stands in the sort `k`.
+// Whether no Par stands in the sort `k`. One without parts is no Par, and needs no walk.
 pub fn is_parless(records: &[u8], places: &[u32], count: usize, seen: &mut [u16], k: usize) -> bool
     requires { ⌜ OneAsks (now records) (now places) count k × Table (ParlessAt (now records) (now places) count) (now seen) ⌝ }
     ensures { λ r. ⌜ (r ≡ parless (sortAt (now (records .entry)) (now (places .entry)) count k)) × Table (ParlessAt (now (records .entry)) (now (places .entry)) count) (now (seen .exit)) ⌝ }
 {
+    let a = entry(records, places, k);
+    if a.count == 0 {
+        return true;
+    }
     let names = [0u16; 1];
     each(
         records,
@@ -47,9 +55,9 @@ pub fn all_exact(
     ensures { λ r. ⌜ ExactIs (now (records .entry)) (now (places .entry)) count list (now (args .entry)) n r ⌝ }
 {
     let mut at = list;
-    let mut to = 5;
+    let mut to = SECOND_AT;
     let mut left = n;
-    let mut seen = [0u16; 64];
+    let mut seen = [0u16; NOTES];
     while 0 < left {
         let k = u16_at(records, at);
         let t = u16_at(args, to);
@@ -84,7 +92,7 @@ pub fn plain(
 {
     if all_exact(records, places, count, list, args, n) {
         let at = list + 2 * n;
-        let mut rec = [0u8; 131];
+        let mut rec = [0u8; LONGEST_LISTED];
         return remaining(records, places, index, count, used, &mut rec, at, m - n);
     }
     refuse(Cause::Misfit, count, used)

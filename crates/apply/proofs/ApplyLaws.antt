@@ -6,7 +6,7 @@ use Rattle.replacing.specs.Contract.{answerAt, SizeAsks, SizeIs, SortAsks}
 use Rattle.replacing.specs.CapLaws.{capped-over, capped-small}
 use Rattle.apply.specs.Contract.{ApplyAsks}
 
-module _ (b p ix : List ℕ) (n u k : ℕ) (l : List ℕ) (a : ApplyAsks b p ix n u k l) where
+module _ {b p ix : List ℕ} {n u k : ℕ} {l : List ℕ} (a : ApplyAsks b p ix n u k l) where
   pub apply-size : SizeAsks b p ix n k l
   apply-size =
       record {

@@ -55,7 +55,7 @@ shape-function vs h =
       once = refl;
     }
 
-module _ (b p ix : List ℕ) (n u : ℕ) (l : List ℕ) (x m : ℕ) (a : FunctionAsks b p ix n u l x m) where
+module _ {b p ix : List ℕ} {n u : ℕ} {l : List ℕ} {x m : ℕ} (a : FunctionAsks b p ix n u l x m) where
   pub function-sizes : SizesAsk b p ix n x m l
   function-sizes =
       record {
@@ -83,7 +83,7 @@ module _ (b p ix : List ℕ) (n u : ℕ) (l : List ℕ) (x m : ℕ) (a : Functio
   function-read = record { within = a .within; few = a .few }
 
 -- THE FUNCTION AFTER ITS LIST.
-module _ (b p ix : List ℕ) (n u : ℕ) (l : List ℕ) (x m : ℕ) (f : FunctionFits b p ix n u l x m) (o : Numbers) (ho : Has o (numbersAt b x m)) where
+module _ {b p ix : List ℕ} {n u : ℕ} {l : List ℕ} {x m : ℕ} (f : FunctionFits b p ix n u l x m) {o : Numbers} (ho : Has o (numbersAt b x m)) where
   abbrev a : FunctionAsks b p ix n u l x m
   a = f .asks
 
@@ -110,9 +110,9 @@ module _ (b p ix : List ℕ) (n u : ℕ) (l : List ℕ) (x m : ℕ) (f : Functio
       subst (Starts (internAll ps (storeOf b p n))) (intern-first (function ps) (storeOf b p n) (store-ordered b p n (a .ready .good .stored)))
       (starts-intern (function ps) (internAll ps (storeOf b p n)))
 
-  pub function-stuck : (c q kx : List ℕ) (m′ v : ℕ) → Halted b p n u (internAll (answersAt b p n l (numbersOf o)) (storeOf b p n)) c q kx m′ v
+  pub function-stuck : {c q kx : List ℕ} {m′ v : ℕ} → Halted b p n u (internAll (answersAt b p n l (numbersOf o)) (storeOf b p n)) c q kx m′ v
       → Halted b p n u (intern (functionAt b p n l x m) (storeOf b p n)) c q kx m′ v
-  function-stuck c q kx m′ v w =
+  function-stuck {c} {q} {kx} {m′} {v} w =
       record {
         good = w .good;
         starts = w .starts;
@@ -122,8 +122,7 @@ module _ (b p ix : List ℕ) (n u : ℕ) (l : List ℕ) (x m : ℕ) (f : Functio
         kept = w .kept;
       }
 
-  module _ (c q kx : List ℕ) (r : Numbers) (m′ v : ℕ) (w : PartsMade b p n u (answersAt b p n l (numbersOf o)) c q kx r m′ v)
-      (none : Numbers) (hn : Has none []) where
+  module _ {c q kx : List ℕ} {r : Numbers} {m′ v : ℕ} (w : PartsMade b p n u (answersAt b p n l (numbersOf o)) c q kx r m′ v) {none : Numbers} (hn : Has none []) where
     abbrev st : List Sort
     st = storeOf c q m′
 
@@ -168,10 +167,10 @@ module _ (b p ix : List ℕ) (n u : ℕ) (l : List ℕ) (x m : ℕ) (f : Functio
     interned =
         ap (intern (function ps)) added ∙ intern-first (function ps) (storeOf b p n) (store-ordered b p n (a .ready .good .stored))
 
-    pub function-made : (d t jx : List ℕ) (i k v′ : ℕ)
+    pub function-made : {d t jx : List ℕ} {i k v′ : ℕ}
         → Made c q m′ v (sortOf st (fieldsIn 0 0 0 r none)) d t jx i k v′
         → Made b p n u (functionAt b p n l x m) d t jx i k v′
-    function-made d t jx i k v′ y =
+    function-made {d} {t} {jx} {i} {k} {v′} y =
         made-over b p ix n u (a .ready .good) c q kx m′ v (w .good) starts (w .kept) (functionAt b p n l x m) interned
         d t jx i k v′ (subst (λ (s : Sort). Made c q m′ v s d t jx i k v′) function-is y)
 

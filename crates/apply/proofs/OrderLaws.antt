@@ -94,7 +94,7 @@ pub record OrderInv (b p seen₀ : List ℕ) (o₀ : Numbers) (n k : ℕ) (seen 
   pub fits : (θ : Map) → sizes (applyAll θ (sortsOf (storeOf b p n) (numbersAt b x left))) ≤ size (answer θ (storeOf b p n) k)
   pub within : (θ : Map) (z : ℕ) → size (answer θ (storeOf b p n) k) ≤ z → Within θ (storeOf b p n) z o₀ → Within θ (storeOf b p n) z o
 
-module _ (b p seen : List ℕ) (o : Numbers) (n k : ℕ) (a : OrderAsks b p seen o n k) where
+module _ {b p seen : List ℕ} {o : Numbers} {n k : ℕ} (a : OrderAsks b p seen o n k) where
   abbrev S : List Sort
   S = storeOf b p n
 
@@ -116,7 +116,7 @@ module _ (b p seen : List ℕ) (o : Numbers) (n k : ℕ) (a : OrderAsks b p seen
   pub order-noted : (getD seen k 0 ≡ 0 → ⊥) → OrderIs b p seen o n k seen o
   order-noted d = there (λ θ st w. a .covers θ st w k d)
 
-  module _ (e : SortRecord) (is : EntryIs b p n k e) where
+  module _ {e : SortRecord} (is : EntryIs b p n k e) where
     parts-are : sortsOf S (numbersAt b (e .list) (e .count)) ≡ partsOf (getD S k leaf)
     unfolding sortAt
     parts-are = is .parts
@@ -143,8 +143,8 @@ module _ (b p seen : List ℕ) (o : Numbers) (n k : ℕ) (a : OrderAsks b p seen
           within = λ θ z h w. w;
         }
 
-  module _ (seen′ : List ℕ) (o′ : Numbers) (x rest : ℕ) (i : OrderInv b p seen o n k seen′ o′ x rest) where
-    module _ (h : 0 < rest) (part : ℕ) (e : part ≡ u16At b x) where
+  module _ {seen′ : List ℕ} {o′ : Numbers} {x rest : ℕ} (i : OrderInv b p seen o n k seen′ o′ x rest) where
+    module _ (h : 0 < rest) {part : ℕ} (e : part ≡ u16At b x) where
       less : part < k
       less = let q : x + 2 * 0 ≡ x = omega arith in omega (arith, e, i .below 0 h, ap (u16At b) q)
 
@@ -168,10 +168,10 @@ module _ (b p seen : List ℕ) (o : Numbers) (n k : ℕ) (a : OrderAsks b p seen
       unfolding sortsOf applyAll size
       size-part θ = omega (arith, i .fits θ, ap (λ (vs : List ℕ). sizes (applyAll θ (sortsOf S vs))) now-more)
 
-      pub order-more : (seen″ : List ℕ) (o″ : Numbers) → OrderIs b p seen′ o′ n part seen″ o″ → length seen″ ≡ length seen′
+      pub order-more : {seen″ : List ℕ} {o″ : Numbers} → OrderIs b p seen′ o′ n part seen″ o″ → length seen″ ≡ length seen′
           → length (o″ .list) ≡ length (o′ .list) → OrderInv b p seen o n k seen″ o″ (x + 2) (rest - 1)
       unfolding sortsOf applyAll internAll
-      order-more seen″ o″ w ls lo =
+      order-more {seen″} {o″} w ls lo =
           record {
             inside = omega (arith, i .inside);
             below = λ j l.
@@ -206,9 +206,9 @@ module _ (b p seen : List ℕ) (o : Numbers) (n k : ℕ) (a : OrderAsks b p seen
       last-adds : (θ : Map) (st : List Sort) → listed θ S last st ≡ intern (answer θ S k) (listed θ S o′ st)
       last-adds θ st = ap (λ (vs : List ℕ). internAll (applyAll θ (sortsOf S vs)) st) last-is ∙ listed-more θ S (numbersOf o′) k st
 
-      parts-made : (θ : Map) (st : List Sort) → Base θ S st → listed θ S o′ st ≡ internAll (applyAll θ (partsOf (getD S k leaf))) (listed θ S o st)
+      parts-made : {θ : Map} {st : List Sort} → Base θ S st → listed θ S o′ st ≡ internAll (applyAll θ (partsOf (getD S k leaf))) (listed θ S o st)
       unfolding numbersAt sortsOf applyAll internAll
-      parts-made θ st w =
+      parts-made {θ} {st} w =
           sym (ap (λ (y : ℕ). internAll (applyAll θ (sortsOf S (numbersAt b x y))) (listed θ S o′ st)) h) ∙ i .total θ st w
 
       last-covers : Covers S (set seen′ k 1) last
@@ -243,7 +243,7 @@ module _ (b p seen : List ℕ) (o : Numbers) (n k : ℕ) (a : OrderAsks b p seen
             covers = last-covers;
             adds = λ θ st w.
                 last-adds θ st
-                ∙ ap (intern (answer θ S k)) (parts-made θ st w)
+                ∙ ap (intern (answer θ S k)) (parts-made w)
                 ∙ intern-after θ (getD S k leaf) (listed θ S o st) (ordered-intern-all (applyAll θ (sortsOf S (numbersOf o))) st (w .ordered));
             within = λ θ y l w. last-within θ y l (i .within θ y l w);
           }
@@ -256,19 +256,19 @@ image-there st l v m zero e h =
 image-there st l v m (suc j) e h =
     ap (λ (s : Sort). memb s st) (apply-var (imagesOf st l) v (getD st j leaf) (find-images st l v ∙ ap (imageAt st) e)) ∙ memb-at st leaf j h
 
-leaf-there : (st : List Sort) (l : List ℕ) → Table l (length st) → (s : Sort) → memb s st ≡ true → partsOf s ≡ end → memb (apply (imagesOf st l) s) st ≡ true
+leaf-there : (st : List Sort) {l : List ℕ} → Table l (length st) → (s : Sort) → memb s st ≡ true → partsOf s ≡ end → memb (apply (imagesOf st l) s) st ≡ true
 unfolding apply
-leaf-there st l t (var v) m e = image-there st l v m (getD l v 0) refl (t .below v)
-leaf-there st l t (par ns b) m e = let z : _≡_ {A = ℕ} 0 1 = cc in absurd (omega arith)
-leaf-there st l t (node k a w ss) m e =
+leaf-there st {l} t (var v) m e = image-there st l v m (getD l v 0) refl (t .below v)
+leaf-there st {l} t (par ns b) m e = let z : _≡_ {A = ℕ} 0 1 = cc in absurd (omega arith)
+leaf-there st {l} t (node k a w ss) m e =
     ap (λ (x : Sort). memb x st) (ap (λ (x : Sorts). node k a w (applyAll (imagesOf st l) x)) e ∙ sym (ap (node k a w) e)) ∙ m
 
-base-self : (b p : List ℕ) (n : ℕ) (l : List ℕ) → Stored b p n → Table l n → Base (imagesOf (storeOf b p n) l) (storeOf b p n) (storeOf b p n)
-base-self b p n l s t =
+base-self : {b p : List ℕ} {n : ℕ} {l : List ℕ} → Stored b p n → Table l n → Base (imagesOf (storeOf b p n) l) (storeOf b p n) (storeOf b p n)
+base-self {b} {p} {n} {l} s t =
     record {
       ordered = store-ordered b p n s;
       leaves = λ k h e.
-          leaf-there (storeOf b p n) l (subst (Table l) (sym (storeOf-length b p n)) t) (getD (storeOf b p n) k leaf) (memb-at (storeOf b p n) leaf k h) e;
+          leaf-there (storeOf b p n) (subst (Table l) (sym (storeOf-length b p n)) t) (getD (storeOf b p n) k leaf) (memb-at (storeOf b p n) leaf k h) e;
     }
 
 -- IN ORDER: the answers of the first j are made, and the table of answers stays true and as long as it was.
@@ -278,7 +278,7 @@ pub record InOrderInv (b p : List ℕ) (n u : ℕ) (o : Numbers) (l ws₀ c q ix
   pub known : Known c q m l ws
   pub lasts : length ws ≡ length ws₀
 
-module _ (b p ix ws : List ℕ) (n u : ℕ) (o : Numbers) (l : List ℕ) (a : InOrderAsk b p ix ws n u o l) where
+module _ {b p ix ws : List ℕ} {n u : ℕ} {o : Numbers} {l : List ℕ} (a : InOrderAsk b p ix ws n u o l) where
   pub in-order-start : InOrderInv b p n u o l ws b p ix ws n u 0
   in-order-start =
       record { low = omega arith; along = along-start b p ix n u (numbersOf o) l (a .ready .good); known = a .known; lasts = refl }
@@ -286,7 +286,7 @@ module _ (b p ix ws : List ℕ) (n u : ℕ) (o : Numbers) (l : List ℕ) (a : In
   all : length (numbersOf o) ≡ o .count
   all = length-take-le (o .count) (o .list) (a .many)
 
-  module _ (c q jx vs : List ℕ) (m v j : ℕ) (i : InOrderInv b p n u o l ws c q jx vs m v j) where
+  module _ {c q jx vs : List ℕ} {m v j : ℕ} (i : InOrderInv b p n u o l ws c q jx vs m v j) where
     pub in-order-done : o .count ≤ j → InOrderMade b p n u o l c q jx vs m v
     in-order-done h =
         record {
@@ -315,15 +315,15 @@ module _ (b p ix ws : List ℕ) (n u : ℕ) (o : Numbers) (l : List ℕ) (a : In
             known = i .known;
           }
 
-      pub in-order-halted : (d r kx : List ℕ) (m′ v′ : ℕ) → Halted c q m v (intern (answerAt c q m l k) (storeOf c q m)) d r kx m′ v′
+      pub in-order-halted : {d r kx : List ℕ} {m′ v′ : ℕ} → Halted c q m v (intern (answerAt c q m l k) (storeOf c q m)) d r kx m′ v′
           → Halted b p n u (internAll (answersAt b p n l (numbersOf o)) (storeOf b p n)) d r kx m′ v′
-      in-order-halted d r kx m′ v′ w =
+      in-order-halted {d} {r} {kx} {m′} {v′} w =
           along-halted b p ix n u l (a .ready) (numbersOf o) c q jx m v j (i .along) k (fit .0) (omega (arith, all)) here
           d r kx m′ v′ w
 
-      pub in-order-more : (d r kx ys′ : List ℕ) (x m′ v′ : ℕ) → Made c q m v (answerAt c q m l k) d r kx x m′ v′
+      pub in-order-more : {d r kx : List ℕ} (ys′ : List ℕ) {x m′ v′ : ℕ} → Made c q m v (answerAt c q m l k) d r kx x m′ v′
           → Known d r m′ l ys′ → length ys′ ≡ length vs → InOrderInv b p n u o l ws d r kx ys′ m′ v′ (j + 1)
-      in-order-more d r kx ys′ x m′ v′ w t e =
+      in-order-more {d} {r} {kx} ys′ {x} {m′} {v′} w t e =
           record {
             low = omega arith;
             along =
@@ -334,7 +334,7 @@ module _ (b p ix ws : List ℕ) (n u : ℕ) (o : Numbers) (l : List ℕ) (a : In
           }
 
 -- A DEEP SORT.
-module _ (b p ix : List ℕ) (n u k : ℕ) (l : List ℕ) (a : SortAsks b p ix n u k l) where
+module _ {b p ix : List ℕ} {n u k : ℕ} {l : List ℕ} (a : SortAsks b p ix n u k l) where
   abbrev blank : Numbers
   blank = held (replicate 4096 0) 0
 
@@ -349,7 +349,7 @@ module _ (b p ix : List ℕ) (n u k : ℕ) (l : List ℕ) (a : SortAsks b p ix n
         covers = λ θ st w j d. absurd (d (zeros-are 4096 j));
       }
 
-  module _ (seen′ : List ℕ) (o : Numbers) (w : OrderIs b p (replicate 4096 0) blank n k seen′ o) where
+  module _ {seen′ : List ℕ} {o : Numbers} (w : OrderIs b p (replicate 4096 0) blank n k seen′ o) where
     pub deep-asks : (ws : List ℕ) → Known b p n l ws → InOrderAsk b p ix ws n u o l
     unfolding sortAt
     deep-asks ws t =
@@ -362,13 +362,13 @@ module _ (b p ix : List ℕ) (n u k : ℕ) (l : List ℕ) (a : SortAsks b p ix n
 
     whole : internAll (answersAt b p n l (numbersOf o)) (storeOf b p n) ≡ intern (answerAt b p n l k) (storeOf b p n)
     unfolding sortAt sortsOf applyAll internAll
-    whole = w .adds (imagesOf (storeOf b p n) l) (storeOf b p n) (base-self b p n l (a .ready .good .stored) (a .ready .table))
+    whole = w .adds (imagesOf (storeOf b p n) l) (storeOf b p n) (base-self (a .ready .good .stored) (a .ready .table))
 
-    pub deep-stuck : (c q jx : List ℕ) (m v : ℕ) → Halted b p n u (internAll (answersAt b p n l (numbersOf o)) (storeOf b p n)) c q jx m v
+    pub deep-stuck : {c q jx : List ℕ} {m v : ℕ} → Halted b p n u (internAll (answersAt b p n l (numbersOf o)) (storeOf b p n)) c q jx m v
         → Halted b p n u (intern (answerAt b p n l k) (storeOf b p n)) c q jx m v
-    deep-stuck c q jx m v h = subst (λ (st : List Sort). Halted b p n u st c q jx m v) whole h
+    deep-stuck {c} {q} {jx} {m} {v} h = subst (λ (st : List Sort). Halted b p n u st c q jx m v) whole h
 
-    module _ (c q jx ws : List ℕ) (m v : ℕ) (y : InOrderMade b p n u o l c q jx ws m v) where
+    module _ {c q jx ws : List ℕ} {m v : ℕ} (y : InOrderMade b p n u o l c q jx ws m v) where
       made : storeOf c q m ≡ intern (answerAt b p n l k) (storeOf b p n)
       made = y .added ∙ whole
 

@@ -1,5 +1,6 @@
 // Substitution in a deep sort with little stack: its sorts with parts are put in order first, parts before what they stand in,
 // so that the walk that makes the answers finds those of the parts in its table.
+use record::limits::MOST_SORTS;
 use record::u16_at;
 use replacing::Parts;
 use replacing::Replaced;
@@ -101,8 +102,8 @@ pub fn apply_deep(
     if size_at(index, k) <= SHALLOW {
         return apply_sort(records, places, index, known, count, used, k, images);
     }
-    let mut seen = [0u8; 4096];
-    let mut order = [0u16; 4096];
+    let mut seen = [0u8; MOST_SORTS];
+    let mut order = [0u16; MOST_SORTS];
     let many = order_of(records, places, &mut seen, &mut order, count, 0, k);
     let done = apply_order(
         records,

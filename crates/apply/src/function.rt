@@ -2,6 +2,9 @@
 use super::Applied;
 use super::whole::answer_sizes;
 use super::whole::make_answers;
+use record::kinds::SORT_FUNCTION;
+use record::limits::LARGEST_PARTS;
+use record::limits::LONGEST_LIST;
 use replacing::Parts;
 use replacing::Replaced;
 use replacing::build::make;
@@ -26,7 +29,7 @@ pub fn make_function(
     requires { ⌜ FunctionFits (now records) (now places) (now index) count used (now images) at left ⌝ }
     ensures { λ r. ⌜ ReplacedIs (now (records .entry)) (now (places .entry)) count used (functionAt (now (records .entry)) (now (places .entry)) count (now (images .entry)) at left) (now (records .exit)) (now (places .exit)) (now (index .exit)) r ⌝ }
 {
-    let mut parts = [0u16; 64];
+    let mut parts = [0u16; LONGEST_LIST];
     read_numbers(records, at, left, &mut parts);
     let done = make_answers(
         records,
@@ -40,14 +43,14 @@ pub fn make_function(
     );
     match done {
         Parts::Are(n, u) => {
-            let none = [0u16; 64];
+            let none = [0u16; LONGEST_LIST];
             let made = make(
                 records,
                 places,
                 index,
                 n,
                 u,
-                0,
+                SORT_FUNCTION,
                 0,
                 0,
                 &parts,
@@ -82,7 +85,7 @@ pub fn apply_function(
 {
     let sum = answer_sizes(records, places, index, count, at, left, images);
     // The Function itself counts as one.
-    if 4095 < sum {
+    if LARGEST_PARTS < sum {
         return Applied::TooLarge;
     }
     let made = make_function(records, places, index, count, used, at, left, images);

@@ -3,6 +3,7 @@ pub mod deep;
 pub mod function;
 pub mod whole;
 
+use record::limits::LARGEST_TREE;
 use replacing::Replaced;
 use store::undo;
 use whole::answer_size;
@@ -34,7 +35,7 @@ pub fn apply(
     ensures { λ r. ⌜ AppliedIs (now (records .entry)) (now (places .entry)) (now (index .entry)) count used (answerAt (now (records .entry)) (now (places .entry)) count (now (images .entry)) k) (now (records .exit)) (now (places .exit)) (now (index .exit)) r ⌝ }
 {
     let size = answer_size(records, places, index, count, k, images);
-    if 4096 < size {
+    if LARGEST_TREE < size {
         return Applied::TooLarge;
     }
     let made = make_answer(records, places, index, count, used, k, images);

@@ -71,18 +71,18 @@ pair-only st tbl s x = refl
 abbrev pub Proper : List ℕ → List ℕ → ℕ → List ℕ → List ℕ → ℕ → ℕ → Type 0
 Proper b p n s tbl x i = (j : ℕ) → j < i → proper (sortAt b p n (bindingAt s x tbl j)) ≡ true
 
-module _ (b p : List ℕ) (n : ℕ) (s tbl : List ℕ) (x m : ℕ) (f : PairsAsk b p n s tbl x m) where
+module _ {b p : List ℕ} {n : ℕ} {s tbl : List ℕ} {x m : ℕ} (f : PairsAsk b p n s tbl x m) where
   pub proper-none : Proper b p n s tbl x 0
   proper-none j l = absurd (not-suc-le-zero l)
 
-  module _ (i : ℕ) (l : i < m) (v : ℕ) (e : v ≡ u16At s (x + 4 * i + 2)) where
+  module _ (i : ℕ) (l : i < m) {v : ℕ} (e : v ≡ u16At s (x + 4 * i + 2)) where
     pub pair-in : v < length tbl
     pair-in = subst (λ (k : ℕ). k < length tbl) (sym e) (f .each i l)
 
     pub pair-asks : OneAsks b p n (getD tbl v 0)
     pair-asks = record { usable = f .usable; known = subst (λ (k : ℕ). getD tbl k 0 < n) (sym e) (f .below i l) }
 
-    module _ (t : Bool) (h : t ≡ proper (sortAt b p n (getD tbl v 0))) where
+    module _ {t : Bool} (h : t ≡ proper (sortAt b p n (getD tbl v 0))) where
       pub proper-more : t ≡ true → Proper b p n s tbl x i → Proper b p n s tbl x (i + 1)
       proper-more d g =
           subst (Proper b p n s tbl x) (sym (add-one i))
@@ -103,11 +103,11 @@ module _ (b p : List ℕ) (n : ℕ) (s tbl : List ℕ) (x m : ℕ) (f : PairsAsk
 body-other : (k : ℕ) (bs : Sorts) (t : Sort) → (k ≡ 3 → ⊥) → (k ≡ 2 → ⊥) → boundBody k bs (t then end) ≡ need (ltb 0 (count bs)) Count (need (same t bool) Misfit (sort bool))
 body-other k bs t x y = rw (ne-eqb k 3 x, ne-eqb k 2 y) refl
 
-body-choice : (k : ℕ) (bs : Sorts) (t : Sort) → k ≡ 2 → boundBody k bs (t then end) ≡ need (eqb (count bs) 1) Count (need (same t bool) Misfit (sort (onlyOf bs)))
-body-choice k bs t e = ap (λ (i : ℕ). boundBody i bs (t then end)) e
+body-choice : {k : ℕ} (bs : Sorts) (t : Sort) → k ≡ 2 → boundBody k bs (t then end) ≡ need (eqb (count bs) 1) Count (need (same t bool) Misfit (sort (onlyOf bs)))
+body-choice {k} bs t e = ap (λ (i : ℕ). boundBody i bs (t then end)) e
 
-body-lambda : (k : ℕ) (bs : Sorts) (t : Sort) → k ≡ 3 → boundBody k bs (t then end) ≡ need (ltb 0 (count bs)) Count (need (value t) Misfit (sort (function (joined bs t))))
-body-lambda k bs t e = ap (λ (i : ℕ). boundBody i bs (t then end)) e
+body-lambda : {k : ℕ} (bs : Sorts) (t : Sort) → k ≡ 3 → boundBody k bs (t then end) ≡ need (ltb 0 (count bs)) Count (need (value t) Misfit (sort (function (joined bs t))))
+body-lambda {k} bs t e = ap (λ (i : ℕ). boundBody i bs (t then end)) e
 
 body-none : (k : ℕ) (bs : Sorts) (t : Sort) → count bs ≡ 0 → boundBody k bs (t then end) ≡ refused Count
 body-none k bs t e = go (eqb k 3) (eqb k 2)
@@ -119,7 +119,7 @@ body-none k bs t e = go (eqb k 3) (eqb k 2)
     go false true = ap (λ (i : ℕ). need (eqb i 1) Count (need (same t bool) Misfit (sort (onlyOf bs)))) e
     go false false = ap (λ (i : ℕ). need (ltb 0 i) Count (need (same t bool) Misfit (sort bool))) e
 
-module _ (b p : List ℕ) (n : ℕ) (s tbl : List ℕ) (x m : ℕ) (f : PairsAsk b p n s tbl x m) (body : ℕ) (l : body < n) (k : ℕ) where
+module _ {b p : List ℕ} {n : ℕ} {s tbl : List ℕ} {x m : ℕ} (f : PairsAsk b p n s tbl x m) (body : ℕ) (l : body < n) (k : ℕ) where
   pub body-entry : EntryAsks b p body
   body-entry = entry-asks b p n body (f .usable .stored) l
 
@@ -158,7 +158,7 @@ module _ (b p : List ℕ) (n : ℕ) (s tbl : List ℕ) (x m : ℕ) (f : PairsAsk
       choice-on : boundBody k (pairSorts (storeOf b p n) tbl s x m) (sortAt b p n body then end)
           ≡ need (eqb q 3) Misfit (sort (getD (storeOf b p n) (getD tbl (u16At s (x + 2)) 0) leaf))
       choice-on =
-          body-choice k (pairSorts (storeOf b p n) tbl s x m) (sortAt b p n body) two
+          body-choice (pairSorts (storeOf b p n) tbl s x m) (sortAt b p n body) two
           ∙ ap₂ (λ (c d : Bool). need c Count (need d Misfit (sort (onlyOf (pairSorts (storeOf b p n) tbl s x m)))))
           (ap (λ (i : ℕ). eqb i 1) (pair-count (storeOf b p n) tbl s x m) ∙ eq-eqb m 1 one) body-bool
           ∙ ap (λ (t : Sort). need (eqb q 3) Misfit (sort t))
@@ -168,7 +168,7 @@ module _ (b p : List ℕ) (n : ℕ) (s tbl : List ℕ) (x m : ℕ) (f : PairsAsk
       choice-no d =
           choice-on ∙ ap (λ (c : Bool). need c Misfit (sort (getD (storeOf b p n) (getD tbl (u16At s (x + 2)) 0) leaf))) (ne-eqb q 3 d)
 
-      module _ (v : ℕ) (e : v ≡ u16At s (x + 2)) where
+      module _ {v : ℕ} (e : v ≡ u16At s (x + 2)) where
         only-place : u16At s (x + 4 * 0 + 2) ≡ v
         only-place = let y : x + 4 * 0 + 2 ≡ x + 2 = omega arith in ap (u16At s) y ∙ sym e
 
@@ -188,27 +188,27 @@ module _ (b p : List ℕ) (n : ℕ) (s tbl : List ℕ) (x m : ℕ) (f : PairsAsk
     module _ (three : k ≡ 3) where
       pub lambda-no : q ≡ 12 → boundBody k (pairSorts (storeOf b p n) tbl s x m) (sortAt b p n body then end) ≡ refused Misfit
       lambda-no d =
-          body-lambda k (pairSorts (storeOf b p n) tbl s x m) (sortAt b p n body) three
+          body-lambda (pairSorts (storeOf b p n) tbl s x m) (sortAt b p n body) three
           ∙ ap₂ (λ (c e : Bool). need c Count (need e Misfit (sort (function (joined (pairSorts (storeOf b p n) tbl s x m) (sortAt b p n body)))))) some-pairs
           (stored-value b p n body (f .usable .stored) l (sym body-kind ∙ d))
 
       pub lambda-yes : (q ≡ 12 → ⊥) → boundBody k (pairSorts (storeOf b p n) tbl s x m) (sortAt b p n body then end)
           ≡ sort (function (joined (pairSorts (storeOf b p n) tbl s x m) (sortAt b p n body)))
       lambda-yes d =
-          body-lambda k (pairSorts (storeOf b p n) tbl s x m) (sortAt b p n body) three
+          body-lambda (pairSorts (storeOf b p n) tbl s x m) (sortAt b p n body) three
           ∙ ap₂ (λ (c e : Bool). need c Count (need e Misfit (sort (function (joined (pairSorts (storeOf b p n) tbl s x m) (sortAt b p n body)))))) some-pairs
           (value-kind (sortAt b p n body) (λ e. d (body-kind ∙ e)))
 
   -- Choice with another count of pairs.
   pub choice-count : k ≡ 2 → (m ≡ 1 → ⊥) → boundBody k (pairSorts (storeOf b p n) tbl s x m) (sortAt b p n body then end) ≡ refused Count
   choice-count e d =
-      body-choice k (pairSorts (storeOf b p n) tbl s x m) (sortAt b p n body) e
+      body-choice (pairSorts (storeOf b p n) tbl s x m) (sortAt b p n body) e
       ∙ ap (λ (c : Bool). need c Count (need (same (sortAt b p n body) bool) Misfit (sort (onlyOf (pairSorts (storeOf b p n) tbl s x m)))))
       (ap (λ (i : ℕ). eqb i 1) (pair-count (storeOf b p n) tbl s x m) ∙ ne-eqb m 1 d)
 
-pub lambda-asks : (b p ix : List ℕ) (n u : ℕ) (s tbl : List ℕ) (x m : ℕ) (a : List ℕ) (body : ℕ) → BodyAsks b p ix n u s tbl x m a body
+pub lambda-asks : {b p ix : List ℕ} {n u : ℕ} {s tbl : List ℕ} {x m : ℕ} {a : List ℕ} {body : ℕ} → BodyAsks b p ix n u s tbl x m a body
     → LambdaAsks b p ix n u s x m tbl a body
-lambda-asks b p ix n u s tbl x m a body f =
+lambda-asks {b} {p} {ix} {n} {u} {s} {tbl} {x} {m} {a} {body} f =
     record {
       good = f .good;
       within = f .bound .within;
@@ -220,13 +220,12 @@ lambda-asks b p ix n u s tbl x m a body f =
     }
 
 ---------------------------------------------------------------- the binder
-module _ (b p ix : List ℕ) (n u : ℕ) (s tbl : List ℕ) (x m : ℕ) (a : List ℕ) (f : BinderAsks b p ix n u s tbl x m a) (k : ℕ)
-    (t : Bool) (h : t ≡ properAll (pairSorts (storeOf b p n) tbl s x m)) where
+module _ {b p ix : List ℕ} {n u : ℕ} {s tbl : List ℕ} {x m : ℕ} {a : List ℕ} (f : BinderAsks b p ix n u s tbl x m a) (k : ℕ) {t : Bool} (h : t ≡ properAll (pairSorts (storeOf b p n) tbl s x m)) where
   pub binder-barred : t ≡ false → binder k (pairSorts (storeOf b p n) tbl s x m) (argsOf b p n a 1) ≡ refused Barred
   unfolding binder
   binder-barred e = ap (λ (c : Bool). need c Barred (boundBody k (pairSorts (storeOf b p n) tbl s x m) (argsOf b p n a 1))) (sym h ∙ e)
 
-  module _ (e : t ≡ true) (body : ℕ) (q : body ≡ u16At a 3) where
+  module _ (e : t ≡ true) {body : ℕ} (q : body ≡ u16At a 3) where
     pub body-asks : BodyAsks b p ix n u s tbl x m a body
     body-asks = record { good = f .good; bound = f .bound; few = f .few; room = f .room; known = subst (λ (i : ℕ). i < n) (sym q) (f .known) }
 

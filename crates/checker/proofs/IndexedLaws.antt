@@ -61,30 +61,30 @@ module _ (s xs : List ℕ) (x : ℕ) where
   first-is zero h e = absurd (h refl)
   first-is (suc m) h e = ap (λ (o : Option ℕ). indicesFrom (o ∷ constantsIn s xs (x + 2) m)) e
 
-  one-is : (m i : ℕ) → m ≡ 1 → some i ≡ indexAt s xs x → One i ≡ indicesFrom (constantsIn s xs x m)
+  one-is : {m : ℕ} (i : ℕ) → m ≡ 1 → some i ≡ indexAt s xs x → One i ≡ indicesFrom (constantsIn s xs x m)
   unfolding numbersAt constantsFrom
-  one-is m i h e = ap (λ (o : Option ℕ). indicesFrom (o ∷ [])) e ∙ ap (λ (j : ℕ). indicesFrom (constantsIn s xs x j)) (sym h)
+  one-is {m} i h e = ap (λ (o : Option ℕ). indicesFrom (o ∷ [])) e ∙ ap (λ (j : ℕ). indicesFrom (constantsIn s xs x j)) (sym h)
 
   two-are : (m : ℕ) (r : Indices) (o q : Option ℕ) → m ≡ 2 → o ≡ indexAt s xs x → q ≡ indexAt s xs (x + 2) → r ≡ indicesFrom (o ∷ q ∷ []) → r ≡ indicesFrom (constantsIn s xs x m)
   unfolding numbersAt constantsFrom
   two-are m r o q h e f g =
       g ∙ ap₂ (λ (i j : Option ℕ). indicesFrom (i ∷ j ∷ [])) e f ∙ ap (λ (j : ℕ). indicesFrom (constantsIn s xs x j)) (sym h)
 
-  pub indices-zero : (m : ℕ) → m ≡ 0 → IndicesAre s xs x m Wrong
-  indices-zero m e = record { are = zero-is m e; small = tt }
+  pub indices-zero : {m : ℕ} → m ≡ 0 → IndicesAre s xs x m Wrong
+  indices-zero {m} e = record { are = zero-is m e; small = tt }
 
   pub indices-many : (m : ℕ) → 2 < m → IndicesAre s xs x m Wrong
   indices-many m l = record { are = many-is m l; small = tt }
 
-  module _ (r : Constant) (h : IndexIs s xs x r) (m : ℕ) where
+  module _ {r : Constant} (h : IndexIs s xs x r) (m : ℕ) where
     pub indices-other : (m ≡ 0 → ⊥) → r ≡ Other → IndicesAre s xs x m Wrong
     indices-other d e = record { are = first-is m d (sym (ap integerOf e) ∙ h .is); small = tt }
 
     module _ (i : ℕ) (e : r ≡ Integer i) where
       pub indices-one : m ≡ 1 → IndicesAre s xs x m (One i)
-      indices-one d = record { are = one-is m i d (sym (ap integerOf e) ∙ h .is); small = h .small i e }
+      indices-one d = record { are = one-is i d (sym (ap integerOf e) ∙ h .is); small = h .small i e }
 
-      module _ (l : m ≤ 2) (more : 1 < m) (q : Constant) (g : IndexIs s xs (x + 2) q) where
+      module _ (l : m ≤ 2) (more : 1 < m) {q : Constant} (g : IndexIs s xs (x + 2) q) where
         two : m ≡ 2
         two = omega arith
 
@@ -122,7 +122,7 @@ one-other op i s (inl l) x y z =
 one-other op i s (inr l) x y z =
     rw (ne-eqb op 3 (λ e. absurd (omega arith)), ne-eqb op 4 (λ e. absurd (omega arith)), ne-eqb op 5 (λ e. absurd (omega arith)), ne-eqb op 6 (λ e. absurd (omega arith)), ne-eqb op 7 x, ne-eqb op 9 y, ne-eqb op 10 z) refl
 
-module _ (b p ix : List ℕ) (n u a : ℕ) (f : KnownAsks b p ix n u a) where
+module _ {b p ix : List ℕ} {n u a : ℕ} (f : KnownAsks b p ix n u a) where
   pub argument-entry : EntryAsks b p a
   argument-entry = entry-asks b p n a (f .good .stored) (f .known)
 
@@ -173,21 +173,21 @@ module _ (b p ix : List ℕ) (n u a : ℕ) (f : KnownAsks b p ix n u a) where
         ap (λ (t : Bool). need t Misfit (sort (bitvec (numberIn S)))) v ∙ ap sort (sym (same-sound S (bitvec (numberIn S)) v)))
         (λ d. ap (λ (t : Bool). need t Misfit (sort (bitvec (numberIn S)))) (vector-by ∙ ne-eqb (r .kind) 9 d)))
 
-    pub repeat-none : (op i : ℕ) → op ≡ 7 → i ≡ 0 → indexed₁ op i (sortAt b p n a) ≡ refused Count
-    repeat-none op i e z = ap₂ (λ (k j : ℕ). indexed₁ k j (sortAt b p n a)) e z
+    pub repeat-none : {op i : ℕ} → op ≡ 7 → i ≡ 0 → indexed₁ op i (sortAt b p n a) ≡ refused Count
+    repeat-none {op} {i} e z = ap₂ (λ (k j : ℕ). indexed₁ k j (sortAt b p n a)) e z
 
-    pub repeat-is : (op i : ℕ) → op ≡ 7 → (i ≡ 0 → ⊥) → indexed₁ op i (sortAt b p n a) ≡ widenedVerdict (r .kind) 9 (i * r .number)
-    repeat-is op i e z =
+    pub repeat-is : {op : ℕ} (i : ℕ) → op ≡ 7 → (i ≡ 0 → ⊥) → indexed₁ op i (sortAt b p n a) ≡ widenedVerdict (r .kind) 9 (i * r .number)
+    repeat-is {op} i e z =
         ap (λ (k : ℕ). indexed₁ k i (sortAt b p n a)) e
         ∙ ap (λ (t : Bool). resized t (sortAt b p n a) (i * numberIn (sortAt b p n a))) (lt-ltb 0 i (omega (arith, z)))
         ∙ ap₂ (λ (t : Bool) (w : ℕ). need t Misfit (sort (bitvec (i * w)))) vector-by (sym (read .number))
 
-    pub int-none : (op i : ℕ) → op ≡ 9 → i ≡ 0 → indexed₁ op i (sortAt b p n a) ≡ refused Count
-    int-none op i e z = ap₂ (λ (k j : ℕ). indexed₁ k j (sortAt b p n a)) e z
+    pub int-none : {op i : ℕ} → op ≡ 9 → i ≡ 0 → indexed₁ op i (sortAt b p n a) ≡ refused Count
+    int-none {op} {i} e z = ap₂ (λ (k j : ℕ). indexed₁ k j (sortAt b p n a)) e z
 
-    pub int-is : (op i : ℕ) → op ≡ 9 → (i ≡ 0 → ⊥) → indexed₁ op i (sortAt b p n a) ≡ widenedVerdict (r .kind) 4 i
+    pub int-is : {op : ℕ} (i : ℕ) → op ≡ 9 → (i ≡ 0 → ⊥) → indexed₁ op i (sortAt b p n a) ≡ widenedVerdict (r .kind) 4 i
     unfolding mapOf maps
-    int-is op i e z =
+    int-is {op} i e z =
         ap (λ (k : ℕ). indexed₁ k i (sortAt b p n a)) e
         ∙ ap₂ (λ (t v : Bool). need t Count (need v Misfit (sort (bitvec i)))) (lt-ltb 0 i (omega (arith, z))) (plain-by 4 refl)
 
@@ -202,11 +202,11 @@ module _ (b p ix : List ℕ) (n u a : ℕ) (f : KnownAsks b p ix n u a) where
         ap (λ (t : Bool). need t Misfit (sort reglan)) v ∙ ap sort (sym (same-sound S reglan v)))
         (λ d. ap (λ (t : Bool). need t Misfit (sort reglan)) (plain-by 7 refl ∙ ne-eqb (r .kind) 7 d))
 
-    pub power-is : (op i : ℕ) → op ≡ 10 → AnswerIs b p n (indexed₁ op i (sortAt b p n a)) b p ix (keptAs n u a (r .kind) 7)
-    power-is op i e = judged-as (ap (λ (k : ℕ). indexed₁ k i (sortAt b p n a)) e) text-kept
+    pub power-is : {op : ℕ} (i : ℕ) → op ≡ 10 → AnswerIs b p n (indexed₁ op i (sortAt b p n a)) b p ix (keptAs n u a (r .kind) 7)
+    power-is {op} i e = judged-as (ap (λ (k : ℕ). indexed₁ k i (sortAt b p n a)) e) text-kept
 
-    pub loop-is : (op i j : ℕ) → op ≡ 11 → AnswerIs b p n (indexed₂ op i j (sortAt b p n a)) b p ix (keptAs n u a (r .kind) 7)
-    loop-is op i j e = judged-as (ap (λ (k : ℕ). indexed₂ k i j (sortAt b p n a)) e) text-kept
+    pub loop-is : {op : ℕ} (i j : ℕ) → op ≡ 11 → AnswerIs b p n (indexed₂ op i j (sortAt b p n a)) b p ix (keptAs n u a (r .kind) 7)
+    loop-is {op} i j e = judged-as (ap (λ (k : ℕ). indexed₂ k i j (sortAt b p n a)) e) text-kept
 
   module _ (i j : ℕ) where
     pub extract-order : i < j → indexed₂ 0 i j (sortAt b p n a) ≡ refused Count
@@ -240,8 +240,8 @@ module _ (b p ix : List ℕ) (n u a : ℕ) (f : KnownAsks b p ix n u a) where
 pub two-other : (op i j : ℕ) (s : Sort) → (op ≡ 0 → ⊥) → (op ≡ 11 → ⊥) → indexed₂ op i j s ≡ refused Count
 two-other op i j s x y = rw (ne-eqb op 0 x, ne-eqb op 11 y) refl
 
-pub two-extract : (op i j : ℕ) (s : Sort) → op ≡ 0 → indexed₂ op i j s ≡ indexed₂ 0 i j s
-two-extract op i j s e = ap (λ (k : ℕ). indexed₂ k i j s) e
+pub two-extract : {op : ℕ} (i j : ℕ) (s : Sort) → op ≡ 0 → indexed₂ op i j s ≡ indexed₂ 0 i j s
+two-extract {op} i j s e = ap (λ (k : ℕ). indexed₂ k i j s) e
 
 ---------------------------------------------------------------- the operator
 indexed-by : (op : ℕ) (is : List (Option ℕ)) (s : Sort) → indexedBy op is s ≡ indexedWith op (indicesFrom is) s
@@ -276,13 +276,12 @@ module _ (op : ℕ) (is : List (Option ℕ)) (ts : Sorts) where
     unfolding indexing
     indexed-on z = rw (ne-eqb op 1 x, ne-eqb op 2 y, ne-eqb op 8 z) refl
 
-module _ (b p ix : List ℕ) (n u : ℕ) (s xs : List ℕ) (x y : ℕ) (a : List ℕ) (m : ℕ) (f : IndexingAsks b p ix n u s xs x y a m)
-    (op : ℕ) (h1 : op ≡ 1 → ⊥) (h2 : op ≡ 2 → ⊥) (h8 : op ≡ 8 → ⊥) where
+module _ {b p ix : List ℕ} {n u : ℕ} {s xs : List ℕ} {x y : ℕ} {a : List ℕ} {m : ℕ} (f : IndexingAsks b p ix n u s xs x y a m) {op : ℕ} (h1 : op ≡ 1 → ⊥) (h2 : op ≡ 2 → ⊥) (h8 : op ≡ 8 → ⊥) where
   pub indexing-count : (m ≡ 1 → ⊥) → indexing op (constantsIn s xs x y) (argsOf b p n a m) ≡ refused Count
   indexing-count d =
       indexed-on op (constantsIn s xs x y) (argsOf b p n a m) h1 h2 h8 ∙ indexed-count op (constantsIn s xs x y) (storeOf b p n) a m d
 
-  module _ (e : m ≡ 1) (r : Indices) (g : IndicesAre s xs x y r) (k : ℕ) (ek : k ≡ u16At a 3) where
+  module _ (e : m ≡ 1) {r : Indices} (g : IndicesAre s xs x y r) {k : ℕ} (ek : k ≡ u16At a 3) where
     pub indexed-asks : IndexedAsks b p ix n u r k
     indexed-asks = record { good = f .good; known = subst (λ (i : ℕ). i < n) (sym ek) (f .below 0 (omega arith)); small = g .small }
 

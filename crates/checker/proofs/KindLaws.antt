@@ -94,7 +94,7 @@ module _ (k w : ℕ) (own : Sort) (ts : Sorts) where
   pub known-none : (k ≡ 9 → ⊥) → (k ≡ 5 → ⊥) → (k ≡ 12 → ⊥) → knownVerdict k w own ts ≡ refused NoRank
   known-none h9 h5 h12 = rw (ne-eqb k 5 h5, ne-eqb k 9 h9, ne-eqb k 12 h12) refl
 
-module _ (b p : List ℕ) (n : ℕ) (tbl : List ℕ) (r : TermRecord) (a : List ℕ) (f : KnownAsks b p n tbl r a) where
+module _ {b p : List ℕ} {n : ℕ} {tbl : List ℕ} {r : TermRecord} {a : List ℕ} (f : KnownAsks b p n tbl r a) where
   pub let-is : r .kind ≡ 9 → knownVerdict (r .kind) (r .number) (ownOver (storeOf b p n) tbl r) (argsOf b p n a (r .count)) ≡ letting (argsOf b p n a (r .count))
   let-is e = known-let (r .kind) (r .number) (ownOver (storeOf b p n) tbl r) (argsOf b p n a (r .count)) e
 
@@ -115,7 +115,7 @@ module _ (b p : List ℕ) (n : ℕ) (tbl : List ℕ) (r : TermRecord) (a : List 
       ∙ ap (λ (t : Sort). qualified (r .number) t (argsOf b p n a (r .count))) (f .typed e .is)
 
 ---------------------------------------------------------------- sorts that are made
-module _ (b p ix : List ℕ) (n u : ℕ) (s tbl xs : List ℕ) (r : TermRecord) (a : List ℕ) (f : ComposedAsks b p ix n u s tbl xs r a) where
+module _ {b p ix : List ℕ} {n u : ℕ} {s tbl xs : List ℕ} {r : TermRecord} {a : List ℕ} (f : ComposedAsks b p ix n u s tbl xs r a) where
   few : r .count ≤ 64
   few = count-few (f .standing)
 

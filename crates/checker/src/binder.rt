@@ -1,10 +1,15 @@
 // The checked sort of a Binder: n pairs of the sheet from `pairs` on bind names to sorts, by way of the table of sheet numbers,
 // over one body.
 use answers::Answer;
+use answers::arguments::FIRST_AT;
 use answers::found;
 use answers::lists::lambda;
 use answers::refuse;
 use matching::premises::is_proper;
+use record::kinds::BINDER_CHOICE;
+use record::kinds::BINDER_LAMBDA;
+use record::kinds::SORT_BOOL;
+use record::kinds::SORT_PAR;
 use record::u16_at;
 use rows::Cause;
 use store::entries::kind_at;
@@ -66,8 +71,8 @@ pub fn quantified(
     if n == 0 {
         return refuse(Cause::Count, count, used);
     }
-    if number != 2 {
-        if kind_at(records, places, body) != 3 {
+    if number != BINDER_CHOICE {
+        if kind_at(records, places, body) != SORT_BOOL {
             return refuse(Cause::Misfit, count, used);
         }
         return found(body, count, used);
@@ -75,7 +80,7 @@ pub fn quantified(
     if n != 1 {
         return refuse(Cause::Count, count, used);
     }
-    if kind_at(records, places, body) != 3 {
+    if kind_at(records, places, body) != SORT_BOOL {
         return refuse(Cause::Misfit, count, used);
     }
     let v = u16_at(sheet, pairs + 2);
@@ -102,7 +107,7 @@ pub fn bound_body(
     requires { ⌜ BodyAsks (now records) (now places) (now index) count used (now sheet) (now table) pairs n (now args) body ⌝ }
     ensures { λ r. ⌜ AnswerIs (now (records .entry)) (now (places .entry)) count (boundBody number (sortsOf (storeOf (now (records .entry)) (now (places .entry)) count) (boundNumbers (now (table .entry)) (now (sheet .entry)) pairs n)) (sortAt (now (records .entry)) (now (places .entry)) count body then end)) (now (records .exit)) (now (places .exit)) (now (index .exit)) r ⌝ }
 {
-    if number != 3 {
+    if number != BINDER_LAMBDA {
         return quantified(
             records,
             places,
@@ -119,7 +124,7 @@ pub fn bound_body(
     if n == 0 {
         return refuse(Cause::Count, count, used);
     }
-    if kind_at(records, places, body) == 12 {
+    if kind_at(records, places, body) == SORT_PAR {
         return refuse(Cause::Misfit, count, used);
     }
     lambda(
@@ -155,7 +160,7 @@ pub fn binder(
     ensures { λ r. ⌜ AnswerIs (now (records .entry)) (now (places .entry)) count (binder number (sortsOf (storeOf (now (records .entry)) (now (places .entry)) count) (boundNumbers (now (table .entry)) (now (sheet .entry)) pairs n)) (argsOf (now (records .entry)) (now (places .entry)) count (now (args .entry)) 1)) (now (records .exit)) (now (places .exit)) (now (index .exit)) r ⌝ }
 {
     if all_proper(records, places, count, sheet, table, pairs, n) {
-        let body = u16_at(args, 3);
+        let body = u16_at(args, FIRST_AT);
         return bound_body(
             records,
             places,

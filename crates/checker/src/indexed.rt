@@ -2,10 +2,26 @@
 // arguments, whose sorts are in `args` from byte 3 on.
 use answers::Answer;
 use answers::arguments::Constant;
+use answers::arguments::FIRST_AT;
 use answers::arguments::index_at;
 use answers::bit_vector;
 use answers::found;
 use answers::refuse;
+use record::kinds::PARAM_BIT_OF;
+use record::kinds::PARAM_BV_CONST;
+use record::kinds::PARAM_EXTRACT;
+use record::kinds::PARAM_INT_OF;
+use record::kinds::PARAM_INT_TO_BV;
+use record::kinds::PARAM_RE_LOOP;
+use record::kinds::PARAM_RE_POWER;
+use record::kinds::PARAM_REPEAT;
+use record::kinds::PARAM_ROTATE_LEFT;
+use record::kinds::PARAM_ROTATE_RIGHT;
+use record::kinds::PARAM_SIGN_EXTEND;
+use record::kinds::PARAM_ZERO_EXTEND;
+use record::kinds::SORT_BIT_VEC;
+use record::kinds::SORT_INT;
+use record::kinds::SORT_REG_LAN;
 use record::u16_at;
 use rows::Cause;
 use store::entries::entry;
@@ -102,21 +118,39 @@ pub fn with_one(
     let kind = e.kind;
     let w = e.number;
     match op {
-        3 | 4 => widened(records, places, index, count, used, kind, 9, w + i),
-        5 | 6 => kept(count, used, a, kind, 9),
-        7 => {
+        PARAM_ZERO_EXTEND | PARAM_SIGN_EXTEND => widened(
+            records,
+            places,
+            index,
+            count,
+            used,
+            kind,
+            SORT_BIT_VEC,
+            w + i,
+        ),
+        PARAM_ROTATE_LEFT | PARAM_ROTATE_RIGHT => kept(count, used, a, kind, SORT_BIT_VEC),
+        PARAM_REPEAT => {
             if i == 0 {
                 return refuse(Cause::Count, count, used);
             }
-            widened(records, places, index, count, used, kind, 9, i * w)
+            widened(
+                records,
+                places,
+                index,
+                count,
+                used,
+                kind,
+                SORT_BIT_VEC,
+                i * w,
+            )
         }
-        9 => {
+        PARAM_INT_TO_BV => {
             if i == 0 {
                 return refuse(Cause::Count, count, used);
             }
-            widened(records, places, index, count, used, kind, 4, i)
+            widened(records, places, index, count, used, kind, SORT_INT, i)
         }
-        10 => kept(count, used, a, kind, 7),
+        PARAM_RE_POWER => kept(count, used, a, kind, SORT_REG_LAN),
         _ => refuse(Cause::Count, count, used),
     }
 }
@@ -139,7 +173,7 @@ pub fn extracted(
     if i < j {
         return refuse(Cause::Count, count, used);
     }
-    if e.kind != 9 {
+    if e.kind != SORT_BIT_VEC {
         return refuse(Cause::Misfit, count, used);
     }
     if e.number <= i {
@@ -163,12 +197,12 @@ pub fn with_two(
     requires { ⌜ KnownAsks (now records) (now places) (now index) count used a ⌝ }
     ensures { λ r. ⌜ AnswerIs (now (records .entry)) (now (places .entry)) count (indexed₂ op i j (sortAt (now (records .entry)) (now (places .entry)) count a)) (now (records .exit)) (now (places .exit)) (now (index .exit)) r ⌝ }
 {
-    if op == 0 {
+    if op == PARAM_EXTRACT {
         return extracted(records, places, index, count, used, i, j, a);
     }
-    if op == 11 {
+    if op == PARAM_RE_LOOP {
         let e = entry(records, places, a);
-        return kept(count, used, a, e.kind, 7);
+        return kept(count, used, a, e.kind, SORT_REG_LAN);
     }
     refuse(Cause::Count, count, used)
 }
@@ -212,19 +246,19 @@ pub fn indexing(
     requires { ⌜ IndexingAsks (now records) (now places) (now index) count used (now sheet) (now starts) second seconds (now args) n ⌝ }
     ensures { λ r. ⌜ AnswerIs (now (records .entry)) (now (places .entry)) count (indexing op (constantsIn (now (sheet .entry)) (now (starts .entry)) second seconds) (argsOf (now (records .entry)) (now (places .entry)) count (now (args .entry)) n)) (now (records .exit)) (now (places .exit)) (now (index .exit)) r ⌝ }
 {
-    if op == 1 {
+    if op == PARAM_BIT_OF {
         return refuse(Cause::NoRank, count, used);
     }
-    if op == 2 {
+    if op == PARAM_INT_OF {
         return refuse(Cause::NoRank, count, used);
     }
-    if op == 8 {
+    if op == PARAM_BV_CONST {
         return refuse(Cause::NoRank, count, used);
     }
     if n != 1 {
         return refuse(Cause::Count, count, used);
     }
     let indices = indices_of(sheet, starts, second, seconds);
-    let a = u16_at(args, 3);
+    let a = u16_at(args, FIRST_AT);
     indexed_by(records, places, index, count, used, op, indices, a)
 }

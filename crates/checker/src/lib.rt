@@ -3,6 +3,7 @@ pub mod binder;
 pub mod indexed;
 
 use answers::Answer;
+use answers::arguments::CHECKED;
 use answers::refuse;
 use application::application;
 use binder::binder;
@@ -13,6 +14,13 @@ use checking::single::qualified;
 use checking::single::variable;
 use indexed::indexing;
 use reader::TermRecord;
+use record::kinds::TERM_APP;
+use record::kinds::TERM_AS_OP;
+use record::kinds::TERM_BINDER;
+use record::kinds::TERM_LET;
+use record::kinds::TERM_OP;
+use record::kinds::TERM_PARAM_OP;
+use record::kinds::TERM_VAR;
 use rows::Cause;
 use site::parts_judged;
 ghost use Rattle.record.specs.Decode.{storeOf};
@@ -40,14 +48,14 @@ pub fn known_site(
     let kind = term.kind;
     let n = term.count;
     let v = term.sort;
-    if kind == 9 {
+    if kind == TERM_LET {
         return letting(records, places, count, used, args, n);
     }
-    if kind == 5 {
+    if kind == TERM_VAR {
         let k = table[v] as usize;
         return variable(records, places, count, used, k);
     }
-    if kind == 12 {
+    if kind == TERM_AS_OP {
         let number = term.number;
         let k = table[v] as usize;
         return qualified(records, places, count, used, number, k, args, n);
@@ -75,10 +83,10 @@ pub fn composed_site(
     let kind = term.kind;
     let number = term.number;
     let n = term.count;
-    if kind == 7 {
+    if kind == TERM_OP {
         return operated(records, places, index, count, used, number, args, n);
     }
-    if kind == 8 {
+    if kind == TERM_BINDER {
         let pairs = term.pairs;
         let paired = term.paired;
         return binder(
@@ -95,7 +103,7 @@ pub fn composed_site(
             args,
         );
     }
-    if kind == 11 {
+    if kind == TERM_PARAM_OP {
         let second = term.second;
         let seconds = term.seconds;
         return indexing(
@@ -136,11 +144,11 @@ pub fn gathered_site(
     ensures { λ r. ⌜ SiteIs (checked smtLib) (now (records .entry)) (now (places .entry)) count (now (params .entry)) (now (images .entry)) (now (bound .entry)) (now (sheet .entry)) (now (table .entry)) (now (starts .entry)) term (now (args .entry)) (now (records .exit)) (now (places .exit)) (now (index .exit)) (now (params .exit)) (now (images .exit)) (now (bound .exit)) r ⌝ }
 {
     let kind = term.kind;
-    if kind < 5 {
+    if kind < TERM_VAR {
         let number = term.number;
         return constant(records, places, index, count, used, kind, number);
     }
-    if kind == 6 {
+    if kind == TERM_APP {
         let n = term.count;
         return application(
             records,
@@ -190,7 +198,7 @@ pub fn check(
     requires { ⌜ TermAsks (now records) (now places) (now index) count used (now params) (now images) (now bound) (now sheet) (now table) (now starts) (now rows) term (now args) ⌝ }
     ensures { λ r. ⌜ TermIs (checked smtLib) 1 (now (records .entry)) (now (places .entry)) count (now (params .entry)) (now (images .entry)) (now (bound .entry)) (now (sheet .entry)) (now (table .entry)) (now (starts .entry)) (now (rows .entry)) term (now (records .exit)) (now (places .exit)) (now (index .exit)) (now (params .exit)) (now (images .exit)) (now (bound .exit)) r ⌝ }
 {
-    if parts_judged(sheet, rows, 1, term, args) {
+    if parts_judged(sheet, rows, CHECKED, term, args) {
         return gathered_site(
             records,
             places,

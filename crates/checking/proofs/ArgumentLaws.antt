@@ -74,17 +74,17 @@ module _ (b p a : List ℕ) where
   kind-here P i v q e h t n s l =
       subst (λ (k : ℕ). P (kindOf (sortAt b p n k))) e (subst P (h n s (omega arith)) t)
 
-  pub seen-more : (P : ℕ → Type 0) (i v q : ℕ) → v ≡ argAt a i → KindHas b p v q → P q → Seen b p a P i → Seen b p a P (i + 1)
-  seen-more P i v q e h t g =
+  pub seen-more : (P : ℕ → Type 0) (i : ℕ) {v : ℕ} (q : ℕ) → v ≡ argAt a i → KindHas b p v q → P q → Seen b p a P i → Seen b p a P (i + 1)
+  seen-more P i {v} q e h t g =
       subst (Seen b p a P) (sym (add-one i))
       (below-suc (λ (j : ℕ). (n : ℕ) → Stored b p n → argAt a j < n → P (kindOf (sortAt b p n (argAt a j)))) i g (kind-here P i v q e h t))
 
-  pub arg-asks : (m i v : ℕ) → ArgsAsk b p a m → i < m → v ≡ argAt a i → EntryAsks b p v
-  arg-asks m i v k l e = subst (EntryAsks b p) (sym e) (entry-asks b p (k .many) (argAt a i) (k .over .stored) (k .over .below i l))
+  pub arg-asks : {m : ℕ} (i : ℕ) {v : ℕ} → ArgsAsk b p a m → i < m → v ≡ argAt a i → EntryAsks b p v
+  arg-asks {m} i {v} k l e = subst (EntryAsks b p) (sym e) (entry-asks b p (k .many) (argAt a i) (k .over .stored) (k .over .below i l))
 
-  pub kinds-no : (m k i v q : ℕ) → i < m → v ≡ argAt a i → KindHas b p v q → (q ≡ k → ⊥) → KindsHave b p a m k false
+  pub kinds-no : (m k i : ℕ) {v : ℕ} (q : ℕ) → i < m → v ≡ argAt a i → KindHas b p v q → (q ≡ k → ⊥) → KindsHave b p a m k false
   unfolding sortAt
-  kinds-no m k i v q l e h t n o map =
+  kinds-no m k i {v} q l e h t n o map =
       let s = sortAt b p n (argAt a i) in
       let d = kind-here (λ (j : ℕ). j ≡ k → ⊥) i v q e h t n (o .stored) (o .below i l) in
       sym (same-by (plainSort k) (argsOf b p n a m)
@@ -103,8 +103,8 @@ module _ (b p a : List ℕ) where
   pub kind-missing : (m i k : ℕ) → m ≤ i → KindAtHas b p a m i k true
   kind-missing m i k l n o map = sym (ap (_|| same (plainSort k) (sortAt b p n (argAt a i))) (le-leb m i l))
 
-  pub kind-there : (m i k v q : ℕ) → i < m → v ≡ argAt a i → KindHas b p v q → KindAtHas b p a m i k (eqb q k)
-  kind-there m i k v q l e h n o map =
+  pub kind-there : (m i k : ℕ) {v : ℕ} (q : ℕ) → i < m → v ≡ argAt a i → KindHas b p v q → KindAtHas b p a m i k (eqb q k)
+  kind-there m i k {v} q l e h n o map =
       ap (λ (x : ℕ). eqb x k) (kind-here (λ (j : ℕ). q ≡ j) i v q e h refl n (o .stored) (o .below i l))
       ∙ sym (kind-same b p n (argAt a i) (o .stored) (o .below i l) k map)
       ∙ sym (ap (_|| same (plainSort k) (sortAt b p n (argAt a i))) (lt-leb m i l))
@@ -118,14 +118,14 @@ module _ (b p a : List ℕ) where
   pub same-none : (j : ℕ) → j < 1 → argAt a j ≡ argAt a 0
   same-none j l = let e : j ≡ 0 = omega arith in ap (argAt a) e
 
-  pub same-more : (i v w : ℕ) → v ≡ argAt a i → w ≡ argAt a 0 → v ≡ w → ((j : ℕ) → j < i → argAt a j ≡ argAt a 0) → (j : ℕ) → j < i + 1 → argAt a j ≡ argAt a 0
-  same-more i v w e f q g =
+  pub same-more : (i : ℕ) {v w : ℕ} → v ≡ argAt a i → w ≡ argAt a 0 → v ≡ w → ((j : ℕ) → j < i → argAt a j ≡ argAt a 0) → (j : ℕ) → j < i + 1 → argAt a j ≡ argAt a 0
+  same-more i {v} {w} e f q g =
       subst (λ (m : ℕ). (j : ℕ) → j < m → argAt a j ≡ argAt a 0) (sym (add-one i))
       (below-suc (λ (j : ℕ). argAt a j ≡ argAt a 0) i g (sym e ∙ q ∙ f))
 
-  pub same-no : (m i v w : ℕ) → i < m → v ≡ argAt a i → w ≡ argAt a 0 → (v ≡ w → ⊥) → SameHas b p a m false
+  pub same-no : (m i : ℕ) {v w : ℕ} → i < m → v ≡ argAt a i → w ≡ argAt a 0 → (v ≡ w → ⊥) → SameHas b p a m false
   unfolding sortAt
-  same-no m i v w l e f d n o =
+  same-no m i {v} {w} l e f d n o =
       let s = sortAt b p n (argAt a 0) in
       sym (ap (λ (x : Sort). allSame x (argsOf b p n a m)) (first-is m n (omega arith)) ∙ same-by s (argsOf b p n a m)
       ∙ by-one (λ x. same s x) (storeOf b p n) a 3 m i l

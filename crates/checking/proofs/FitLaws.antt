@@ -29,11 +29,11 @@ use Rattle.checking.specs.Contract.{argAt, Over, ArgsAsk, argsOf, KindsH
 use Rattle.checking.specs.Contract.{KindHas as KindAtHas}
 use Rattle.checking.specs.KindLaws.{vector-small, vector-not, kind-vector}
 
-need-yes : (b : Bool) (v : Verdict) → b ≡ true → v ≡ need b Misfit v
-need-yes b v e = sym (ap (λ (t : Bool). need t Misfit v) e)
+need-yes : {b : Bool} (v : Verdict) → b ≡ true → v ≡ need b Misfit v
+need-yes {b} v e = sym (ap (λ (t : Bool). need t Misfit v) e)
 
-need-no : (b : Bool) (v : Verdict) → b ≡ false → refused Misfit ≡ need b Misfit v
-need-no b v e = sym (ap (λ (t : Bool). need t Misfit v) e)
+need-no : {b : Bool} (v : Verdict) → b ≡ false → refused Misfit ≡ need b Misfit v
+need-no {b} v e = sym (ap (λ (t : Bool). need t Misfit v) e)
 
 plain-map : (k : ℕ) → plainKind k ≡ true → mapOf k ≡ 1
 plain-map k e = eqb-true (mapOf k) 1 e
@@ -43,21 +43,21 @@ and-one true = refl
 and-one false = refl
 
 -- Two numbers of a store are the same sort where they are equal.
-pub numbers-same : (b p : List ℕ) (n i j : ℕ) → Stored b p n → Distinct b p n → i < n → j < n → same (sortAt b p n i) (sortAt b p n j) ≡ eqb i j
-numbers-same b p n i j s d hi hj =
+pub numbers-same : {b p : List ℕ} {n : ℕ} (i j : ℕ) → Stored b p n → Distinct b p n → i < n → j < n → same (sortAt b p n i) (sortAt b p n j) ≡ eqb i j
+numbers-same {b} {p} {n} i j s d hi hj =
     both-ways (same (sortAt b p n i) (sortAt b p n j)) (eqb i j)
     (λ e. eq-eqb i j (sorts-one b p n s d i j hi hj (same-sound (sortAt b p n i) (sortAt b p n j) e)))
     (λ e. same-complete (sortAt b p n i) (sortAt b p n j) (ap (sortAt b p n) (eqb-true i j e)))
 
 ---------------------------------------------------------------- three arguments or fewer
 module _ (b p : List ℕ) (n : ℕ) (a : List ℕ) where
-  pub two-args : (m : ℕ) → m ≡ 2 → argsOf b p n a m ≡ sortAt b p n (u16At a 3) then sortAt b p n (u16At a 5) then end
+  pub two-args : {m : ℕ} → m ≡ 2 → argsOf b p n a m ≡ sortAt b p n (u16At a 3) then sortAt b p n (u16At a 5) then end
   unfolding sortAt sortsOf numbersAt
-  two-args m e = ap (argsOf b p n a) e
+  two-args {m} e = ap (argsOf b p n a) e
 
-  pub three-args : (m : ℕ) → m ≡ 3 → argsOf b p n a m ≡ sortAt b p n (u16At a 3) then sortAt b p n (u16At a 5) then sortAt b p n (u16At a 7) then end
+  pub three-args : {m : ℕ} → m ≡ 3 → argsOf b p n a m ≡ sortAt b p n (u16At a 3) then sortAt b p n (u16At a 5) then sortAt b p n (u16At a 7) then end
   unfolding sortAt sortsOf numbersAt
-  three-args m e = ap (argsOf b p n a) e
+  three-args {m} e = ap (argsOf b p n a) e
 
   first-arg : (m : ℕ) → 0 < m → onlyOf (argsOf b p n a m) ≡ sortAt b p n (u16At a 3)
   unfolding sortAt sortsOf numbersAt
@@ -80,19 +80,19 @@ result-kind (suc r) s h = refl
 
 ---------------------------------------------------------------- the rules
 module _ (b p a : List ℕ) (m : ℕ) where
-  pub all-yes : (k r : ℕ) → FitAsks b p a m (All k r) → (t : Bool) → KindsHave b p a m k t → t ≡ true → FitHas b p a m (All k r) (Plain r)
+  pub all-yes : (k r : ℕ) → FitAsks b p a m (All k r) → {t : Bool} → KindsHave b p a m k t → t ≡ true → FitHas b p a m (All k r) (Plain r)
   unfolding fitted wellRule
-  all-yes k r f t h e n o =
+  all-yes k r f {t} h e n o =
       record {
-        is = need-yes (allSame (plainSort k) (argsOf b p n a m)) (sort (plainSort r)) (sym (h n o (plain-map k (and-left (plainKind k) (plainKind r) (f .well)))) ∙ e);
+        is = need-yes (sort (plainSort r)) (sym (h n o (plain-map k (and-left (plainKind k) (plainKind r) (f .well)))) ∙ e);
         ok = plain-map r (and-right (plainKind k) (plainKind r) (f .well));
       }
 
-  pub all-no : (k r : ℕ) → FitAsks b p a m (All k r) → (t : Bool) → KindsHave b p a m k t → t ≡ false → FitHas b p a m (All k r) Nothing
+  pub all-no : (k r : ℕ) → FitAsks b p a m (All k r) → {t : Bool} → KindsHave b p a m k t → t ≡ false → FitHas b p a m (All k r) Nothing
   unfolding fitted wellRule
-  all-no k r f t h e n o =
+  all-no k r f {t} h e n o =
       record {
-        is = need-no (allSame (plainSort k) (argsOf b p n a m)) (sort (plainSort r)) (sym (h n o (plain-map k (and-left (plainKind k) (plainKind r) (f .well)))) ∙ e);
+        is = need-no (sort (plainSort r)) (sym (h n o (plain-map k (and-left (plainKind k) (plainKind r) (f .well)))) ∙ e);
         ok = tt;
       }
 
@@ -117,7 +117,7 @@ module _ (b p a : List ℕ) (m : ℕ) where
 
     fixed-fails : (n : ℕ) → sameAll (fixedOf m x y z) (argsOf b p n a m) ≡ false → FitIs n (storeOf b p n) (fitted (Fixed m x y z r) (argsOf b p n a m)) Nothing
     unfolding fitted
-    fixed-fails n e = record { is = need-no (sameAll (fixedOf m x y z) (argsOf b p n a m)) (sort (plainSort r)) e; ok = tt }
+    fixed-fails n e = record { is = need-no (sort (plainSort r)) e; ok = tt }
 
     module _ (t : Bool) (h : KindAtHas b p a m 0 x t) where
       pub fixed-no : t ≡ false → FitHas b p a m (Fixed m x y z r) Nothing
@@ -142,7 +142,7 @@ module _ (b p a : List ℕ) (m : ℕ) where
           unfolding fitted
           fixed-yes et eu ev n o =
               record {
-                is = need-yes (sameAll (fixedOf m x y z) (argsOf b p n a m)) (sort (plainSort r))
+                is = need-yes (sort (plainSort r))
                     (fixed-is n ∙ ap₂ _&&_ (sym (h n o (fixed-kinds .0)) ∙ et) (ap₂ _&&_ (sym (i n o (fixed-kinds .1)) ∙ eu) (sym (j n o (fixed-kinds .2)) ∙ ev)));
                 ok = fixed-kinds .3;
               }
@@ -154,68 +154,68 @@ module _ (b p a : List ℕ) (m : ℕ) where
     numbers-kind h = or-cases (eqb r 0) (plainKind r) (and-right (oneOrTwo 1) (eqb r 0 || plainKind r) (f .well)) (λ e. absurd (h (eqb-true r 0 e))) (λ e. plain-map r e)
 
     module _ (t : Bool) (h : KindsHave b p a m 4 t) where
-      ints : (n : ℕ) → Over b p n a m → t ≡ allSame int (argsOf b p n a m)
+      ints : {n : ℕ} → Over b p n a m → t ≡ allSame int (argsOf b p n a m)
       unfolding mapOf maps
-      ints n o = h n o refl
+      ints {n} o = h n o refl
 
       pub numbers-int : t ≡ true → (k : ℕ) → numbersResult r int ≡ plainSort k → mapOf k ≡ 1 → FitHas b p a m (Numbers 1 r) (Plain k)
       unfolding fitted
       numbers-int e k q g n o =
           record {
-            is = ap sort (sym q) ∙ sym (ap (λ (c : Bool). cond c (sort (numbersResult r int)) (need (allSame real (argsOf b p n a m)) Misfit (sort (numbersResult r real)))) (sym (ints n o) ∙ e));
+            is = ap sort (sym q) ∙ sym (ap (λ (c : Bool). cond c (sort (numbersResult r int)) (need (allSame real (argsOf b p n a m)) Misfit (sort (numbersResult r real)))) (sym (ints o) ∙ e));
             ok = g;
           }
 
       module _ (u : Bool) (i : KindsHave b p a m 5 u) where
-        reals : (n : ℕ) → Over b p n a m → u ≡ allSame real (argsOf b p n a m)
+        reals : {n : ℕ} → Over b p n a m → u ≡ allSame real (argsOf b p n a m)
         unfolding mapOf maps
-        reals n o = i n o refl
+        reals {n} o = i n o refl
 
-        second : (n : ℕ) → Over b p n a m → t ≡ false → fitted (Numbers 1 r) (argsOf b p n a m) ≡ need u Misfit (sort (numbersResult r real))
+        second : {n : ℕ} → Over b p n a m → t ≡ false → fitted (Numbers 1 r) (argsOf b p n a m) ≡ need u Misfit (sort (numbersResult r real))
         unfolding fitted
-        second n o e =
-            ap₂ (λ (c d : Bool). cond c (sort (numbersResult r int)) (need d Misfit (sort (numbersResult r real)))) (sym (ints n o) ∙ e) (sym (reals n o))
+        second {n} o e =
+            ap₂ (λ (c d : Bool). cond c (sort (numbersResult r int)) (need d Misfit (sort (numbersResult r real)))) (sym (ints o) ∙ e) (sym (reals o))
 
         pub numbers-real : t ≡ false → u ≡ true → (k : ℕ) → numbersResult r real ≡ plainSort k → mapOf k ≡ 1 → FitHas b p a m (Numbers 1 r) (Plain k)
-        numbers-real e d k q g n o = record { is = ap sort (sym q) ∙ need-yes u (sort (numbersResult r real)) d ∙ sym (second n o e); ok = g }
+        numbers-real e d k q g n o = record { is = ap sort (sym q) ∙ need-yes (sort (numbersResult r real)) d ∙ sym (second o e); ok = g }
 
         pub numbers-no : t ≡ false → u ≡ false → FitHas b p a m (Numbers 1 r) Nothing
-        numbers-no e d n o = record { is = need-no u (sort (numbersResult r real)) d ∙ sym (second n o e); ok = tt }
+        numbers-no e d n o = record { is = need-no (sort (numbersResult r real)) d ∙ sym (second o e); ok = tt }
 
-  pub equal-yes : (t : Bool) → SameHas b p a m t → t ≡ true → FitHas b p a m Equal (Plain 3)
+  pub equal-yes : {t : Bool} → SameHas b p a m t → t ≡ true → FitHas b p a m Equal (Plain 3)
   unfolding fitted mapOf maps
-  equal-yes t h e n o = record { is = need-yes (allSame (onlyOf (argsOf b p n a m)) (argsOf b p n a m)) (sort bool) (sym (h n o) ∙ e); ok = refl }
+  equal-yes {t} h e n o = record { is = need-yes (sort bool) (sym (h n o) ∙ e); ok = refl }
 
-  pub equal-no : (t : Bool) → SameHas b p a m t → t ≡ false → FitHas b p a m Equal Nothing
+  pub equal-no : {t : Bool} → SameHas b p a m t → t ≡ false → FitHas b p a m Equal Nothing
   unfolding fitted
-  equal-no t h e n o = record { is = need-no (allSame (onlyOf (argsOf b p n a m)) (argsOf b p n a m)) (sort bool) (sym (h n o) ∙ e); ok = tt }
+  equal-no {t} h e n o = record { is = need-no (sort bool) (sym (h n o) ∙ e); ok = tt }
 
   -- Bool A A.
   module _ (three : m ≡ 3) (t : Bool) (h : KindAtHas b p a m 0 3 t) where
-    chosen : (n : ℕ) → Over b p n a m → fitted Choose (argsOf b p n a m)
+    chosen : {n : ℕ} → Over b p n a m → fitted Choose (argsOf b p n a m)
         ≡ need (t && same (sortAt b p n (u16At a 5)) (sortAt b p n (u16At a 7))) Misfit (sort (sortAt b p n (u16At a 5)))
     unfolding fitted mapOf maps
-    chosen n o =
+    chosen {n} o =
         let q : t ≡ same bool (sortAt b p n (u16At a 3)) = h n o refl ∙ ap (λ (c : ℕ). leb c 0 || same bool (sortAt b p n (u16At a 3))) three in
-        ap choosing (three-args b p n a m three)
+        ap choosing (three-args b p n a three)
         ∙ ap (λ (c : Bool). need (c && same (sortAt b p n (u16At a 5)) (sortAt b p n (u16At a 7))) Misfit (sort (sortAt b p n (u16At a 5)))) (sym q)
 
     pub choose-no : t ≡ false → FitHas b p a m Choose Nothing
     choose-no e n o =
         record {
-          is = sym (chosen n o ∙ ap (λ (c : Bool). need (c && same (sortAt b p n (u16At a 5)) (sortAt b p n (u16At a 7))) Misfit (sort (sortAt b p n (u16At a 5)))) e);
+          is = sym (chosen o ∙ ap (λ (c : Bool). need (c && same (sortAt b p n (u16At a 5)) (sortAt b p n (u16At a 7))) Misfit (sort (sortAt b p n (u16At a 5)))) e);
           ok = tt;
         }
 
-    second-third : (n : ℕ) → Over b p n a m → same (sortAt b p n (u16At a 5)) (sortAt b p n (u16At a 7)) ≡ eqb (u16At a 5) (u16At a 7)
-    second-third n o = numbers-same b p n (u16At a 5) (u16At a 7) (o .stored) (o .distinct) (o .below 1 (omega arith)) (o .below 2 (omega arith))
+    second-third : {n : ℕ} → Over b p n a m → same (sortAt b p n (u16At a 5)) (sortAt b p n (u16At a 7)) ≡ eqb (u16At a 5) (u16At a 7)
+    second-third {n} o = numbers-same (u16At a 5) (u16At a 7) (o .stored) (o .distinct) (o .below 1 (omega arith)) (o .below 2 (omega arith))
 
-    module _ (i j : ℕ) (ei : i ≡ u16At a 5) (ej : j ≡ u16At a 7) where
+    module _ {i j : ℕ} (ei : i ≡ u16At a 5) (ej : j ≡ u16At a 7) where
       pub choose-no-2 : t ≡ true → (i ≡ j → ⊥) → FitHas b p a m Choose Nothing
       choose-no-2 e d n o =
           record {
-            is = sym (chosen n o ∙ ap₂ (λ (c x : Bool). need (c && x) Misfit (sort (sortAt b p n (u16At a 5)))) e
-                (second-third n o ∙ ne-eqb (u16At a 5) (u16At a 7) (λ q. d (ei ∙ q ∙ sym ej))));
+            is = sym (chosen o ∙ ap₂ (λ (c x : Bool). need (c && x) Misfit (sort (sortAt b p n (u16At a 5)))) e
+                (second-third o ∙ ne-eqb (u16At a 5) (u16At a 7) (λ q. d (ei ∙ q ∙ sym ej))));
             ok = tt;
           }
 
@@ -223,14 +223,14 @@ module _ (b p a : List ℕ) (m : ℕ) where
       unfolding sortAt
       choose-yes e d n o =
           record {
-            is = ap (λ (k : ℕ). sort (sortAt b p n k)) ei ∙ sym (chosen n o ∙ ap₂ (λ (c x : Bool). need (c && x) Misfit (sort (sortAt b p n (u16At a 5)))) e
-                (second-third n o ∙ eq-eqb (u16At a 5) (u16At a 7) (sym ei ∙ d ∙ ej)));
+            is = ap (λ (k : ℕ). sort (sortAt b p n k)) ei ∙ sym (chosen o ∙ ap₂ (λ (c x : Bool). need (c && x) Misfit (sort (sortAt b p n (u16At a 5)))) e
+                (second-third o ∙ eq-eqb (u16At a 5) (u16At a 7) (sym ei ∙ d ∙ ej)));
             ok = subst (λ (k : ℕ). k < n) (sym ei) (o .below 1 (omega arith));
           }
 
 ---------------------------------------------------------------- vectors and arrays
 -- What the record of an Array stands for.
-module _ (b p : List ℕ) (n k : ℕ) (s : Stored b p n) (l : k < n) (r : SortRecord) (e : EntryIs b p n k r) where
+module _ {b p : List ℕ} {n k : ℕ} (s : Stored b p n) (l : k < n) {r : SortRecord} (e : EntryIs b p n k r) where
   read-kind : fieldsAt b (getD p k 0) .kind ≡ r .kind
   read-kind = ap (λ (f : Fields). f .kind) (e .place .same)
 
@@ -256,13 +256,13 @@ module _ (b p : List ℕ) (n k : ℕ) (s : Stored b p n) (l : k < n) (r : SortRe
       ∙ ap (λ (i : ℕ). node 8 0 0 (sortsOf st (numbersAt b (r .list) i))) (array-two h)
 
 -- Vectors of one width.
-module _ (b p a : List ℕ) (m r : ℕ) (f : FitAsks b p a m (Vectors 1 1 r)) where
+module _ {b p a : List ℕ} {m : ℕ} (r : ℕ) (f : FitAsks b p a m (Vectors 1 1 r)) where
   pub vectors-some : 0 < m
   vectors-some = leb-true 1 m (f .counted)
 
-  module _ (k q : ℕ) (ek : k ≡ u16At a 3) (h : KindHas b p k q) where
-    first-kind : (n : ℕ) → Over b p n a m → q ≡ kindOf (onlyOf (argsOf b p n a m))
-    first-kind n o =
+  module _ {k : ℕ} (q : ℕ) (ek : k ≡ u16At a 3) (h : KindHas b p k q) where
+    first-kind : {n : ℕ} → Over b p n a m → q ≡ kindOf (onlyOf (argsOf b p n a m))
+    first-kind {n} o =
         h n (o .stored) (subst (λ (i : ℕ). i < n) (sym ek) (o .below 0 vectors-some)) ∙ ap (λ (i : ℕ). kindOf (sortAt b p n i)) ek
         ∙ ap kindOf (sym (first-arg b p n a m vectors-some))
 
@@ -271,7 +271,7 @@ module _ (b p a : List ℕ) (m r : ℕ) (f : FitAsks b p a m (Vectors 1 1 r)) wh
     vectors-other d n o =
         let s = onlyOf (argsOf b p n a m) in
         record {
-          is = sym (ap (λ (c : Bool). need (c && allSame s (argsOf b p n a m)) Misfit (sort (vectorsResult r s))) (vector-not s (λ e. d (first-kind n o ∙ e))));
+          is = sym (ap (λ (c : Bool). need (c && allSame s (argsOf b p n a m)) Misfit (sort (vectorsResult r s))) (vector-not s (λ e. d (first-kind o ∙ e))));
           ok = tt;
         }
 
@@ -287,55 +287,55 @@ module _ (b p a : List ℕ) (m r : ℕ) (f : FitAsks b p a m (Vectors 1 1 r)) wh
           }
 
       module _ (nine : q ≡ 9) (e : t ≡ true) where
-        vectors-fit : (n : ℕ) → Over b p n a m → fitted (Vectors 1 1 r) (argsOf b p n a m) ≡ sort (vectorsResult r (sortAt b p n k))
+        vectors-fit : {n : ℕ} → Over b p n a m → fitted (Vectors 1 1 r) (argsOf b p n a m) ≡ sort (vectorsResult r (sortAt b p n k))
         unfolding fitted
-        vectors-fit n o =
+        vectors-fit {n} o =
             let l : u16At a 3 < n = o .below 0 vectors-some in
             let s = onlyOf (argsOf b p n a m) in
             let w : s ≡ sortAt b p n (u16At a 3) = first-arg b p n a m vectors-some in
             ap₂ (λ (c d : Bool). need (c && d) Misfit (sort (vectorsResult r s)))
-            (ap vector w ∙ kind-vector b p n (u16At a 3) (o .stored) l (ap kindOf (sym w) ∙ sym (first-kind n o) ∙ nine)) (sym (g n o) ∙ e)
+            (ap vector w ∙ kind-vector b p n (u16At a 3) (o .stored) l (ap kindOf (sym w) ∙ sym (first-kind o) ∙ nine)) (sym (g n o) ∙ e)
             ∙ ap (λ (x : Sort). sort (vectorsResult r x)) (w ∙ ap (sortAt b p n) (sym ek))
 
         pub vectors-same : r ≡ 0 → FitHas b p a m (Vectors 1 1 r) (Known k)
         unfolding sortAt
         vectors-same z n o =
             record {
-              is = sym (vectors-fit n o ∙ ap (λ (i : ℕ). sort (vectorsResult i (sortAt b p n k))) z);
+              is = sym (vectors-fit o ∙ ap (λ (i : ℕ). sort (vectorsResult i (sortAt b p n k))) z);
               ok = subst (λ (i : ℕ). i < n) (sym ek) (o .below 0 vectors-some);
             }
 
         pub vectors-bit : r ≡ 9 → FitHas b p a m (Vectors 1 1 r) (Width 1)
-        vectors-bit z n o = record { is = sym (vectors-fit n o ∙ ap (λ (i : ℕ). sort (vectorsResult i (sortAt b p n k))) z); ok = tt }
+        vectors-bit z n o = record { is = sym (vectors-fit o ∙ ap (λ (i : ℕ). sort (vectorsResult i (sortAt b p n k))) z); ok = tt }
 
         pub vectors-kind : (r ≡ 0 → ⊥) → (r ≡ 9 → ⊥) → FitHas b p a m (Vectors 1 1 r) (Plain r)
         unfolding wellRule
         vectors-kind x y n o =
             record {
-              is = sym (vectors-fit n o
+              is = sym (vectors-fit o
                   ∙ ap₂ (λ (c d : Bool). sort (cond c (sortAt b p n k) (cond d (bitvec 1) (plainSort r)))) (ne-eqb r 0 x) (ne-eqb r 9 y));
               ok = or-cases (eqb r 0 || eqb r 9) (plainKind r) (and-right (oneOrTwo 1) (eqb r 0 || eqb r 9 || plainKind r) (f .well))
                   (λ c. or-cases (eqb r 0) (eqb r 9) c (λ d. absurd (x (eqb-true r 0 d))) (λ d. absurd (y (eqb-true r 9 d)))) (λ c. plain-map r c);
             }
 
 -- Two vectors joined.
-module _ (b p a : List ℕ) (m : ℕ) (f : FitAsks b p a m Concat) where
+module _ {b p a : List ℕ} {m : ℕ} (f : FitAsks b p a m Concat) where
   pub concat-two : m ≡ 2
   concat-two = eqb-true m 2 (f .counted)
 
-  module _ (i j : ℕ) (ei : i ≡ u16At a 3) (ej : j ≡ u16At a 5) where
+  module _ {i j : ℕ} (ei : i ≡ u16At a 3) (ej : j ≡ u16At a 5) where
     concat-is : (n : ℕ) → fitted Concat (argsOf b p n a m)
         ≡ need (vector (sortAt b p n i) && vector (sortAt b p n j)) Misfit (sort (bitvec (numberIn (sortAt b p n i) + numberIn (sortAt b p n j))))
     unfolding fitted
     concat-is n =
-        ap concatenated (two-args b p n a m concat-two)
+        ap concatenated (two-args b p n a concat-two)
         ∙ ap₂ (λ (x y : ℕ). need (vector (sortAt b p n x) && vector (sortAt b p n y)) Misfit (sort (bitvec (numberIn (sortAt b p n x) + numberIn (sortAt b p n y))))) (sym ei) (sym ej)
 
-    pub concat-first : (n : ℕ) → Over b p n a m → i < n
-    concat-first n o = subst (λ (x : ℕ). x < n) (sym ei) (o .below 0 (omega (arith, concat-two)))
+    pub concat-first : {n : ℕ} → Over b p n a m → i < n
+    concat-first {n} o = subst (λ (x : ℕ). x < n) (sym ei) (o .below 0 (omega (arith, concat-two)))
 
-    pub concat-second : (n : ℕ) → Over b p n a m → j < n
-    concat-second n o = subst (λ (x : ℕ). x < n) (sym ej) (o .below 1 (omega (arith, concat-two)))
+    pub concat-second : {n : ℕ} → Over b p n a m → j < n
+    concat-second {n} o = subst (λ (x : ℕ). x < n) (sym ej) (o .below 1 (omega (arith, concat-two)))
 
     module _ (x y : SortRecord) (hx : EntryHas b p i x) (hy : EntryHas b p j y) where
       pub concat-no : (x .kind ≡ 9 → ⊥) → FitHas b p a m Concat Nothing
@@ -343,7 +343,7 @@ module _ (b p a : List ℕ) (m : ℕ) (f : FitAsks b p a m Concat) where
           record {
             is = sym (concat-is n
                 ∙ ap (λ (c : Bool). need (c && vector (sortAt b p n j)) Misfit (sort (bitvec (numberIn (sortAt b p n i) + numberIn (sortAt b p n j)))))
-                (vector-not (sortAt b p n i) (λ e. d (hx n (o .stored) (concat-first n o) .kind ∙ e))));
+                (vector-not (sortAt b p n i) (λ e. d (hx n (o .stored) (concat-first o) .kind ∙ e))));
             ok = tt;
           }
 
@@ -353,15 +353,15 @@ module _ (b p a : List ℕ) (m : ℕ) (f : FitAsks b p a m Concat) where
           record {
             is = sym (concat-is n
                 ∙ ap (λ (c : Bool). need (vector (sortAt b p n i) && c) Misfit W)
-                (vector-not (sortAt b p n j) (λ e. d (hy n (o .stored) (concat-second n o) .kind ∙ e)))
+                (vector-not (sortAt b p n j) (λ e. d (hy n (o .stored) (concat-second o) .kind ∙ e)))
                 ∙ ap (λ (c : Bool). need c Misfit W) (false-second (vector (sortAt b p n i)) false refl));
             ok = tt;
           }
 
       pub concat-yes : x .kind ≡ 9 → y .kind ≡ 9 → FitHas b p a m Concat (Width (x .number + y .number))
       concat-yes ex ey n o =
-          let li = concat-first n o in
-          let lj = concat-second n o in
+          let li = concat-first o in
+          let lj = concat-second o in
           let hi = hx n (o .stored) li in
           let hj = hy n (o .stored) lj in
           record {
@@ -377,6 +377,6 @@ module _ (b p a : List ℕ) (m : ℕ) (f : FitAsks b p a m Concat) where
           let o = k .over in
           omega (
             arith,
-            vector-small b p n i (o .stored) (concat-first n o) x (hx n (o .stored) (concat-first n o)),
-            vector-small b p n j (o .stored) (concat-second n o) y (hy n (o .stored) (concat-second n o)),
+            vector-small b p n i (o .stored) (concat-first o) x (hx n (o .stored) (concat-first o)),
+            vector-small b p n j (o .stored) (concat-second o) y (hy n (o .stored) (concat-second o)),
           )

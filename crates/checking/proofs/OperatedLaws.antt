@@ -50,80 +50,80 @@ store-other (node k n w (i then (e then end))) j d h =
     ap (λ (c : Bool). need (c && eqb 0 n && eqb 0 w && (same i j && same e d)) Misfit (sort (array i e))) (ne-eqb 8 k (λ q. h (sym q)))
 store-other (node k n w (i then (e then (r then rs)))) j d h = refl
 
-module _ (b p a : List ℕ) (m : ℕ) (f : ArrayAsks b p a m) where
+module _ {b p a : List ℕ} {m : ℕ} (f : ArrayAsks b p a m) where
   pub array-many : 2 ≤ m
   array-many = ⊎-elim (λ (e : m ≡ 2). omega arith) (λ (e : m ≡ 3). omega arith) (f .few)
 
   pub array-rest : (m ≡ 2 → ⊥) → m ≡ 3
   array-rest h = ⊎-elim (λ (e : m ≡ 2). absurd (h e)) (λ (e : m ≡ 3). e) (f .few)
 
-  module _ (k : ℕ) (ek : k ≡ u16At a 3) (r : SortRecord) (h : EntryHas b p k r) where
-    array-known : (n : ℕ) → Over b p n a m → k < n
-    array-known n o = subst (λ (i : ℕ). i < n) (sym ek) (o .below 0 (omega (arith, array-many)))
+  module _ {k : ℕ} (ek : k ≡ u16At a 3) (r : SortRecord) (h : EntryHas b p k r) where
+    array-known : {n : ℕ} → Over b p n a m → k < n
+    array-known {n} o = subst (λ (i : ℕ). i < n) (sym ek) (o .below 0 (omega (arith, array-many)))
 
-    read : (n : ℕ) → Over b p n a m → EntryIs b p n k r
-    read n o = h n (o .stored) (array-known n o)
+    read : {n : ℕ} → Over b p n a m → EntryIs b p n k r
+    read {n} o = h n (o .stored) (array-known o)
 
     pub array-place : r .kind ≡ 8 → r .list + 4 ≤ length b
     array-place e =
         let n = f .args .many in
         let o = f .args .over in
-        omega (arith, read n o .place .list, array-two b p n k (o .stored) (array-known n o) r (read n o) e)
+        omega (arith, read o .place .list, array-two (o .stored) (array-known o) (read o) e)
 
     select-is : (n : ℕ) → m ≡ 2 → fitted Select (argsOf b p n a m) ≡ selecting (sortAt b p n k) (sortAt b p n (u16At a 5))
     unfolding fitted
-    select-is n e = ap selected (two-args b p n a m e) ∙ ap (λ (i : ℕ). selecting (sortAt b p n i) (sortAt b p n (u16At a 5))) (sym ek)
+    select-is n e = ap selected (two-args b p n a e) ∙ ap (λ (i : ℕ). selecting (sortAt b p n i) (sortAt b p n (u16At a 5))) (sym ek)
 
     store-is : (n : ℕ) → m ≡ 3 → fitted Store (argsOf b p n a m) ≡ storing (sortAt b p n k) (sortAt b p n (u16At a 5)) (sortAt b p n (u16At a 7))
     unfolding fitted
-    store-is n e = ap stored (three-args b p n a m e) ∙ ap (λ (i : ℕ). storing (sortAt b p n i) (sortAt b p n (u16At a 5)) (sortAt b p n (u16At a 7))) (sym ek)
+    store-is n e = ap stored (three-args b p n a e) ∙ ap (λ (i : ℕ). storing (sortAt b p n i) (sortAt b p n (u16At a 5)) (sortAt b p n (u16At a 7))) (sym ek)
 
     pub array-other : (r .kind ≡ 8 → ⊥) → ArrayHas b p a m Nothing
     array-other d n o =
-        let g : kindOf (sortAt b p n k) ≡ 8 → ⊥ = λ e. d (read n o .kind ∙ e) in
+        let g : kindOf (sortAt b p n k) ≡ 8 → ⊥ = λ e. d (read o .kind ∙ e) in
         record {
           two = λ e. record { is = sym (select-is n e ∙ select-other (sortAt b p n k) (sortAt b p n (u16At a 5)) g); ok = tt };
           three = λ e. record { is = sym (store-is n e ∙ store-other (sortAt b p n k) (sortAt b p n (u16At a 5)) (sortAt b p n (u16At a 7)) g); ok = tt };
         }
 
-    module _ (kind : r .kind ≡ 8) (i e v : ℕ) (ei : i ≡ u16At b (r .list)) (ee : e ≡ u16At b (r .list + 2)) (ev : v ≡ u16At a 5) where
-      sort-is : (n : ℕ) → Over b p n a m → sortAt b p n k ≡ array (sortAt b p n i) (sortAt b p n e)
-      sort-is n o =
-          array-sort b p n k (o .stored) (array-known n o) r (read n o) kind
+    module _ (kind : r .kind ≡ 8) {i e v : ℕ} (ei : i ≡ u16At b (r .list)) (ee : e ≡ u16At b (r .list + 2)) (ev : v ≡ u16At a 5) where
+      sort-is : {n : ℕ} → Over b p n a m → sortAt b p n k ≡ array (sortAt b p n i) (sortAt b p n e)
+      sort-is {n} o =
+          array-sort (o .stored) (array-known o) (read o) kind
           ∙ ap₂ (λ (x y : ℕ). array (sortAt b p n x) (sortAt b p n y)) (sym ei) (sym ee)
 
-      index-known : (n : ℕ) → Over b p n a m → i < n
-      index-known n o =
+      index-known : {n : ℕ} → Over b p n a m → i < n
+      index-known {n} o =
           let q : r .list + 2 * 0 ≡ r .list = omega arith in
-          omega (arith, ei, ap (u16At b) q, read n o .below 0 (omega (arith, array-two b p n k (o .stored) (array-known n o) r (read n o) kind)), array-known n o)
+          omega (arith, ei, ap (u16At b) q, read o .below 0 (omega (arith, array-two (o .stored) (array-known o) (read o) kind)), array-known o)
 
-      element-known : (n : ℕ) → Over b p n a m → e < n
-      element-known n o =
+      element-known : {n : ℕ} → Over b p n a m → e < n
+      element-known {n} o =
           let q : r .list + 2 * 1 ≡ r .list + 2 = omega arith in
-          omega (arith, ee, ap (u16At b) q, read n o .below 1 (omega (arith, array-two b p n k (o .stored) (array-known n o) r (read n o) kind)), array-known n o)
+          omega (arith, ee, ap (u16At b) q, read o .below 1 (omega (arith, array-two (o .stored) (array-known o) (read o) kind)), array-known o)
 
-      index-same : (n : ℕ) → Over b p n a m → same (sortAt b p n i) (sortAt b p n (u16At a 5)) ≡ eqb i v
-      index-same n o =
-          numbers-same b p n i (u16At a 5) (o .stored) (o .distinct) (index-known n o) (o .below 1 (omega (arith, array-many))) ∙ ap (eqb i) (sym ev)
+      index-same : {n : ℕ} → Over b p n a m → same (sortAt b p n i) (sortAt b p n (u16At a 5)) ≡ eqb i v
+      index-same {n} o =
+          numbers-same i (u16At a 5) (o .stored) (o .distinct) (index-known o) (o .below 1 (omega (arith, array-many))) ∙ ap (eqb i) (sym ev)
 
-      selects : (n : ℕ) → Over b p n a m → m ≡ 2 → fitted Select (argsOf b p n a m) ≡ need (eqb i v) Misfit (sort (sortAt b p n e))
-      selects n o q =
-          select-is n q ∙ ap (λ (s : Sort). selecting s (sortAt b p n (u16At a 5))) (sort-is n o)
-          ∙ ap (λ (c : Bool). need c Misfit (sort (sortAt b p n e))) (index-same n o)
+      selects : {n : ℕ} → Over b p n a m → m ≡ 2 → fitted Select (argsOf b p n a m) ≡ need (eqb i v) Misfit (sort (sortAt b p n e))
+      selects {n} o q =
+          select-is n q ∙ ap (λ (s : Sort). selecting s (sortAt b p n (u16At a 5))) (sort-is o)
+          ∙ ap (λ (c : Bool). need c Misfit (sort (sortAt b p n e))) (index-same o)
 
-      stores : (n : ℕ) → Over b p n a m → m ≡ 3 → fitted Store (argsOf b p n a m)
+      stores : {n : ℕ} → Over b p n a m → m ≡ 3 → fitted Store (argsOf b p n a m)
           ≡ need (eqb i v && same (sortAt b p n e) (sortAt b p n (u16At a 7))) Misfit (sort (array (sortAt b p n i) (sortAt b p n e)))
-      stores n o q =
-          store-is n q ∙ ap (λ (s : Sort). storing s (sortAt b p n (u16At a 5)) (sortAt b p n (u16At a 7))) (sort-is n o)
-          ∙ ap (λ (c : Bool). need (c && same (sortAt b p n e) (sortAt b p n (u16At a 7))) Misfit (sort (array (sortAt b p n i) (sortAt b p n e)))) (index-same n o)
+      stores {n} o q =
+          store-is n q ∙ ap (λ (s : Sort). storing s (sortAt b p n (u16At a 5)) (sortAt b p n (u16At a 7))) (sort-is o)
+          ∙ ap (λ (c : Bool). need (c && same (sortAt b p n e) (sortAt b p n (u16At a 7))) Misfit (sort (array (sortAt b p n i) (sortAt b p n e)))) (index-same o)
 
       pub array-differs : (v ≡ i → ⊥) → ArrayHas b p a m Nothing
       array-differs d n o =
           let g = ne-eqb i v (λ q. d (sym q)) in
           record {
-            two = λ q. record { is = sym (selects n o q ∙ ap (λ (c : Bool). need c Misfit (sort (sortAt b p n e))) g); ok = tt };
+            two = λ q. record { is = sym (selects o q ∙ ap (λ (c : Bool). need c Misfit (sort (sortAt b p n e))) g); ok = tt };
             three = λ q. record {
-              is = sym (stores n o q ∙ ap (λ (c : Bool). need (c && same (sortAt b p n e) (sortAt b p n (u16At a 7))) Misfit (sort (array (sortAt b p n i) (sortAt b p n e)))) g);
+              is = sym (stores o q ∙ ap (λ (c : Bool). need (c && same (sortAt b p n e) (sortAt b p n (u16At a 7))) Misfit (sort (array (sortAt b p n i) (sortAt b p n e)))) g);
               ok = tt;
             };
           }
@@ -132,23 +132,23 @@ module _ (b p a : List ℕ) (m : ℕ) (f : ArrayAsks b p a m) where
       unfolding sortAt
       array-selects d two n o =
           record {
-            two = λ q. record { is = sym (selects n o q ∙ ap (λ (c : Bool). need c Misfit (sort (sortAt b p n e))) (eq-eqb i v (sym d))); ok = element-known n o };
+            two = λ q. record { is = sym (selects o q ∙ ap (λ (c : Bool). need c Misfit (sort (sortAt b p n e))) (eq-eqb i v (sym d))); ok = element-known o };
             three = λ q. absurd (omega arith);
           }
 
-      module _ (x : ℕ) (ex : x ≡ u16At a 7) (d : v ≡ i) (h3 : m ≡ 3) where
-        stores-by : (n : ℕ) → Over b p n a m → fitted Store (argsOf b p n a m) ≡ need (eqb e x) Misfit (sort (sortAt b p n k))
-        stores-by n o =
-            stores n o h3
+      module _ {x : ℕ} (ex : x ≡ u16At a 7) (d : v ≡ i) (h3 : m ≡ 3) where
+        stores-by : {n : ℕ} → Over b p n a m → fitted Store (argsOf b p n a m) ≡ need (eqb e x) Misfit (sort (sortAt b p n k))
+        stores-by {n} o =
+            stores o h3
             ∙ ap₂ (λ (c y : Bool). need (c && y) Misfit (sort (array (sortAt b p n i) (sortAt b p n e)))) (eq-eqb i v (sym d))
-            (numbers-same b p n e (u16At a 7) (o .stored) (o .distinct) (element-known n o) (o .below 2 (omega arith)) ∙ ap (eqb e) (sym ex))
-            ∙ ap (λ (s : Sort). need (eqb e x) Misfit (sort s)) (sym (sort-is n o))
+            (numbers-same e (u16At a 7) (o .stored) (o .distinct) (element-known o) (o .below 2 (omega arith)) ∙ ap (eqb e) (sym ex))
+            ∙ ap (λ (s : Sort). need (eqb e x) Misfit (sort s)) (sym (sort-is o))
 
         pub array-element : (x ≡ e → ⊥) → ArrayHas b p a m Nothing
         array-element g n o =
             record {
               two = λ q. absurd (omega arith);
-              three = λ q. record { is = sym (stores-by n o ∙ ap (λ (c : Bool). need c Misfit (sort (sortAt b p n k))) (ne-eqb e x (λ y. g (sym y)))); ok = tt };
+              three = λ q. record { is = sym (stores-by o ∙ ap (λ (c : Bool). need c Misfit (sort (sortAt b p n k))) (ne-eqb e x (λ y. g (sym y)))); ok = tt };
             }
 
         pub array-stores : x ≡ e → ArrayHas b p a m (Known k)
@@ -156,7 +156,7 @@ module _ (b p a : List ℕ) (m : ℕ) (f : ArrayAsks b p a m) where
         array-stores g n o =
             record {
               two = λ q. absurd (omega arith);
-              three = λ q. record { is = sym (stores-by n o ∙ ap (λ (c : Bool). need c Misfit (sort (sortAt b p n k))) (eq-eqb e x (sym g))); ok = array-known n o };
+              three = λ q. record { is = sym (stores-by o ∙ ap (λ (c : Bool). need c Misfit (sort (sortAt b p n k))) (eq-eqb e x (sym g))); ok = array-known o };
             }
 
 ---------------------------------------------------------------- any rule
@@ -226,7 +226,7 @@ plain-small k e = go (decLt k 16)
     go (yes t) = t
     go (no t) = let z : _≡_ {A = ℕ} 0 1 = sym (List·getD-eq-default maps 0 {n = k} (omega arith)) ∙ e in absurd (omega arith)
 
-module _ (b p ix : List ℕ) (n u op : ℕ) (a : List ℕ) (m : ℕ) (f : OperatedAsks b p ix n u op a m) where
+module _ {b p ix : List ℕ} {n u op : ℕ} {a : List ℕ} {m : ℕ} (f : OperatedAsks b p ix n u op a m) where
   pub args-over : Over b p n a m
   args-over = record { stored = f .good .stored; distinct = f .good .distinct; below = f .below }
 
@@ -239,7 +239,7 @@ module _ (b p ix : List ℕ) (n u op : ℕ) (a : List ℕ) (m : ℕ) (f : Operat
   args-count : count (argsOf b p n a m) ≡ m
   args-count = count-sorts (storeOf b p n) (numbersAt a 3 m) ∙ length-numbersAt a 3 m
 
-  module _ (r : Rule) (er : r ≡ ruleOf op) where
+  module _ {r : Rule} (er : r ≡ ruleOf op) where
     verdict-is : operated smtLib op (argsOf b p n a m) ≡ ruled r (argsOf b p n a m)
     verdict-is = operated-ruled op (argsOf b p n a m) ∙ ap (λ (x : Rule). ruled x (argsOf b p n a m)) (sym er)
 
@@ -248,13 +248,13 @@ module _ (b p ix : List ℕ) (n u op : ℕ) (a : List ℕ) (m : ℕ) (f : Operat
     ruled-by =
         ap (λ (c : ℕ). need (isRanked r) NoRank (need (countsFor r c) Count (need (values (argsOf b p n a m)) Misfit (fitted r (argsOf b p n a m))))) args-count
 
-    module _ (t : Bool) (et : t ≡ isRanked r) where
+    module _ {t : Bool} (et : t ≡ isRanked r) where
       pub no-rank : t ≡ false → operated smtLib op (argsOf b p n a m) ≡ refused NoRank
       no-rank e =
           verdict-is ∙ ruled-by
           ∙ ap (λ (c : Bool). need c NoRank (need (countsFor r m) Count (need (values (argsOf b p n a m)) Misfit (fitted r (argsOf b p n a m))))) (sym et ∙ e)
 
-      module _ (go : t ≡ true) (c : Bool) (ec : c ≡ countsFor r m) where
+      module _ (go : t ≡ true) {c : Bool} (ec : c ≡ countsFor r m) where
         pub no-count : c ≡ false → operated smtLib op (argsOf b p n a m) ≡ refused Count
         no-count e =
             verdict-is ∙ ruled-by

@@ -95,8 +95,8 @@ range-is f kss lo (suc n) e o m h k =
     (eq-or-lt-of-le h)
 
 ---------------------------------------------------------------- counts of vectors
-pub vectors-more : (r : Rule) (n m o q : ℕ) → r ≡ Vectors m o q → o ≡ 1 → leb m n ≡ countsFor r n
-vectors-more r n m o q e h = sym (ap (λ (s : Rule). countsFor s n) e ∙ ap (λ (t : Bool). cond t (leb m n) (eqb n m)) (eq-eqb o 1 h))
+pub vectors-more : {r : Rule} (n m : ℕ) {o : ℕ} (q : ℕ) → r ≡ Vectors m o q → o ≡ 1 → leb m n ≡ countsFor r n
+vectors-more {r} n m {o} q e h = sym (ap (λ (s : Rule). countsFor s n) e ∙ ap (λ (t : Bool). cond t (leb m n) (eqb n m)) (eq-eqb o 1 h))
 
-pub vectors-only : (r : Rule) (n m o q : ℕ) → r ≡ Vectors m o q → (o ≡ 1 → ⊥) → eqb n m ≡ countsFor r n
-vectors-only r n m o q e h = sym (ap (λ (s : Rule). countsFor s n) e ∙ ap (λ (t : Bool). cond t (leb m n) (eqb n m)) (ne-eqb o 1 h))
+pub vectors-only : {r : Rule} (n m o q : ℕ) → r ≡ Vectors m o q → (o ≡ 1 → ⊥) → eqb n m ≡ countsFor r n
+vectors-only {r} n m o q e h = sym (ap (λ (s : Rule). countsFor s n) e ∙ ap (λ (t : Bool). cond t (leb m n) (eqb n m)) (ne-eqb o 1 h))

@@ -49,8 +49,8 @@ constant-other : (k w : ℕ) → 4 ≤ k → constantVerdict k w ≡ need (not (
 constant-other k w l =
     rw (ne-eqb k 0 (λ e. absurd (omega arith)), ne-eqb k 1 (λ e. absurd (omega arith)), ne-eqb k 2 (λ e. absurd (omega arith)), ne-eqb k 3 (λ e. absurd (omega arith))) refl
 
-pub constant-zero : (k w : ℕ) → 4 ≤ k → w ≡ 0 → constantVerdict k w ≡ refused Barred
-constant-zero k w l e = constant-other k w l ∙ ap (λ (c : Bool). need (not c) Barred (sort (bitvec w))) (eq-eqb w 0 e)
+pub constant-zero : (k : ℕ) {w : ℕ} → 4 ≤ k → w ≡ 0 → constantVerdict k w ≡ refused Barred
+constant-zero k {w} l e = constant-other k w l ∙ ap (λ (c : Bool). need (not c) Barred (sort (bitvec w))) (eq-eqb w 0 e)
 
 pub constant-vector : (k w : ℕ) → 4 ≤ k → (w ≡ 0 → ⊥) → constantVerdict k w ≡ sort (bitvec w)
 constant-vector k w l h = constant-other k w l ∙ ap (λ (c : Bool). need (not c) Barred (sort (bitvec w))) (ne-eqb w 0 h)
@@ -74,7 +74,7 @@ carried-none (n ∷ ns) (var v) h = refl
 carried-none (n ∷ ns) (par ms b) h = refl
 carried-none (n ∷ ns) (node k a w ss) h = sym (ap (λ (c : Bool). c && proper (node k a w ss)) (ne-eqb k 0 h))
 
-module _ (b p : List ℕ) (n k : ℕ) (f : OneAsks b p n k) where
+module _ {b p : List ℕ} {n k : ℕ} (f : OneAsks b p n k) where
   own-stored : Stored b p n
   own-stored = f .usable .stored
 
@@ -85,8 +85,8 @@ module _ (b p : List ℕ) (n k : ℕ) (f : OneAsks b p n k) where
     own-read : EntryIs b p n k r
     own-read = h n own-stored (f .known)
 
-    pub carried-plain : (r .kind ≡ 12 → ⊥) → (t : Bool) → t ≡ proper (sortAt b p n k) → t ≡ carried (sortAt b p n k)
-    carried-plain d t e = e ∙ carried-other (sortAt b p n k) (λ q. d (own-read .kind ∙ q))
+    pub carried-plain : (r .kind ≡ 12 → ⊥) → {t : Bool} → t ≡ proper (sortAt b p n k) → t ≡ carried (sortAt b p n k)
+    carried-plain d {t} e = e ∙ carried-other (sortAt b p n k) (λ q. d (own-read .kind ∙ q))
 
     module _ (e : r .kind ≡ 12) where
       pub body-place : r .list + 2 ≤ length b
@@ -108,7 +108,7 @@ module _ (b p : List ℕ) (n k : ℕ) (f : OneAsks b p n k) where
             ap (λ (x : Fields). length (x .names)) (own-read .place .same),
           )
 
-      module _ (i : ℕ) (ei : i ≡ u16At b (r .list)) where
+      module _ {i : ℕ} (ei : i ≡ u16At b (r .list)) where
         pub body-asks : OneAsks b p n i
         body-asks = record { usable = f .usable; known = subst (λ (x : ℕ). x < n) (sym ei) body-below }
 
@@ -123,16 +123,16 @@ module _ (b p : List ℕ) (n k : ℕ) (f : OneAsks b p n k) where
           carried-no d =
               carried-none (numbersAt b (r .names) (r .named)) (sortAt b p n (u16At b (r .list))) (λ x. d (body-kind ∙ x)) ∙ ap carried (sym own-par)
 
-          pub carried-par : q ≡ 0 → (t : Bool) → t ≡ proper (sortAt b p n i) → t ≡ carried (sortAt b p n k)
-          carried-par d t x =
+          pub carried-par : q ≡ 0 → {t : Bool} → t ≡ proper (sortAt b p n i) → t ≡ carried (sortAt b p n k)
+          carried-par d {t} x =
               x ∙ ap (λ (y : ℕ). proper (sortAt b p n y)) ei
               ∙ carried-body (numbersAt b (r .names) (r .named)) (sortAt b p n (u16At b (r .list))) names-some (sym body-kind ∙ d) ∙ ap carried (sym own-par)
 
-pub need-taken : (t : Bool) (v : Verdict) (s : Bool) → t ≡ s → t ≡ true → need s Barred v ≡ v
-need-taken t v s e h = ap (λ (c : Bool). need c Barred v) (sym e ∙ h)
+pub need-taken : {t : Bool} (v : Verdict) (s : Bool) → t ≡ s → t ≡ true → need s Barred v ≡ v
+need-taken {t} v s e h = ap (λ (c : Bool). need c Barred v) (sym e ∙ h)
 
-pub need-left : (t : Bool) (v : Verdict) (s : Bool) → t ≡ s → t ≡ false → need s Barred v ≡ refused Barred
-need-left t v s e h = ap (λ (c : Bool). need c Barred v) (sym e ∙ h)
+pub need-left : {t : Bool} (v : Verdict) (s : Bool) → t ≡ s → t ≡ false → need s Barred v ≡ refused Barred
+need-left {t} v s e h = ap (λ (c : Bool). need c Barred v) (sym e ∙ h)
 
 ---------------------------------------------------------------- Let
 last-read : (st : List Sort) (s : Sort) (a : List ℕ) (x m : ℕ) → lastOf s (sortsOf st (numbersAt a x (suc m))) ≡ getD st (u16At a (x + 2 * m)) leaf
@@ -150,7 +150,7 @@ inner-read st a (suc (suc m)) l =
     let e : 3 + 2 + 2 * m ≡ 3 + 2 * (suc (suc m) - 1) = omega arith in
     ap sort (last-read st (getD st (u16At a 3) leaf) a (3 + 2) m ∙ ap (λ (i : ℕ). getD st (u16At a i) leaf) e)
 
-module _ (b p : List ℕ) (n : ℕ) (a : List ℕ) (m : ℕ) (f : OverAsks b p n a m) where
+module _ {b p : List ℕ} {n : ℕ} {a : List ℕ} {m : ℕ} (f : OverAsks b p n a m) where
   pub over-values : ValuesAsk b p a 3 m
   over-values = record { many = n; stored = f .over .stored; refs = args-refs b p a n m (f .within) (f .over) }
 
@@ -171,14 +171,14 @@ module _ (b p : List ℕ) (n : ℕ) (a : List ℕ) (m : ℕ) (f : OverAsks b p n
     pub letting-par : v ≡ false → letting (argsOf b p n a m) ≡ refused Misfit
     letting-par e = letting-on ∙ ap (λ (c : Bool). need c Misfit (innerOf (argsOf b p n a m))) e
 
-    pub letting-inner : v ≡ true → (k : ℕ) → k ≡ u16At a (3 + 2 * (m - 1)) → letting (argsOf b p n a m) ≡ sort (sortAt b p n k)
+    pub letting-inner : v ≡ true → {k : ℕ} → k ≡ u16At a (3 + 2 * (m - 1)) → letting (argsOf b p n a m) ≡ sort (sortAt b p n k)
     unfolding sortAt
-    letting-inner e k q =
+    letting-inner e {k} q =
         letting-on ∙ ap (λ (c : Bool). need c Misfit (innerOf (argsOf b p n a m))) e ∙ inner-read (storeOf b p n) a m l
         ∙ ap (λ (i : ℕ). sort (getD (storeOf b p n) i leaf)) (sym q)
 
-    pub inner-known : (k : ℕ) → k ≡ u16At a (3 + 2 * (m - 1)) → k < n
-    inner-known k q = subst (λ (i : ℕ). i < n) (sym q) (f .over .below (m - 1) (omega arith))
+    pub inner-known : {k : ℕ} → k ≡ u16At a (3 + 2 * (m - 1)) → k < n
+    inner-known {k} q = subst (λ (i : ℕ). i < n) (sym q) (f .over .below (m - 1) (omega arith))
 
 ---------------------------------------------------------------- (as const)
 constant-count : (s : Sort) (st : List Sort) (a : List ℕ) (m : ℕ) → (m ≡ 1 → ⊥) → constantArray s (sortsOf st (numbersAt a 3 m)) ≡ refused Count
@@ -197,12 +197,12 @@ constant-kind (node k n w (i then (e then end))) t h =
     ap (λ (c : Bool). need (c && eqb n 0 && eqb w 0 && (same i i && (same e e && true)) && same t e) Misfit (sort (array i e))) (ne-eqb k 8 h)
 constant-kind (node k n w (i then (e then (r then rs)))) t h = refl
 
-module _ (b p : List ℕ) (n k : ℕ) (a : List ℕ) (m : ℕ) (f : QualifiedAsks b p n k a m) (q : ℕ) where
+module _ {b p : List ℕ} {n k : ℕ} {a : List ℕ} {m : ℕ} (f : QualifiedAsks b p n k a m) (q : ℕ) where
   pub qualified-other : (q ≡ 0 → ⊥) → qualified q (sortAt b p n k) (argsOf b p n a m) ≡ refused NoRank
   unfolding qualified
   qualified-other h = ap (λ (c : Bool). need c NoRank (need (proper (sortAt b p n k)) Barred (constantArray (sortAt b p n k) (argsOf b p n a m)))) (ne-eqb q 0 h)
 
-  module _ (z : q ≡ 0) (t : Bool) (et : t ≡ proper (sortAt b p n k)) where
+  module _ (z : q ≡ 0) {t : Bool} (et : t ≡ proper (sortAt b p n k)) where
     qualified-by : qualified q (sortAt b p n k) (argsOf b p n a m) ≡ need t Barred (constantArray (sortAt b p n k) (argsOf b p n a m))
     unfolding qualified
     qualified-by = ap₂ (λ (c d : Bool). need c NoRank (need d Barred (constantArray (sortAt b p n k) (argsOf b p n a m)))) (eq-eqb q 0 z) (sym et)
@@ -231,12 +231,12 @@ module _ (b p : List ℕ) (n k : ℕ) (a : List ℕ) (m : ℕ) (f : QualifiedAsk
 
         module _ (x : r .kind ≡ 8) where
           array-count : r .count ≡ 2
-          array-count = array-two b p n k (f .own .usable .stored) (f .own .known) r array-read x
+          array-count = array-two (f .own .usable .stored) (f .own .known) array-read x
 
           pub element-place : r .list + 4 ≤ length b
           element-place = omega (arith, array-read .place .list, array-count)
 
-          module _ (i j : ℕ) (ei : i ≡ u16At b (r .list + 2)) (ej : j ≡ u16At a 3) where
+          module _ {i j : ℕ} (ei : i ≡ u16At b (r .list + 2)) (ej : j ≡ u16At a 3) where
             element-below : i < n
             element-below =
                 let y : r .list + 2 * 1 ≡ r .list + 2 = omega arith in
@@ -246,7 +246,7 @@ module _ (b p : List ℕ) (n k : ℕ) (a : List ℕ) (m : ℕ) (f : QualifiedAsk
             argument-below = subst (λ (y : ℕ). y < n) (sym ej) (f .args .over .below 0 (omega arith))
 
             array-is : sortAt b p n k ≡ array (sortAt b p n (u16At b (r .list))) (sortAt b p n i)
-            array-is = array-sort b p n k (f .own .usable .stored) (f .own .known) r array-read x ∙ ap (λ (y : ℕ). array (sortAt b p n (u16At b (r .list))) (sortAt b p n y)) (sym ei)
+            array-is = array-sort (f .own .usable .stored) (f .own .known) array-read x ∙ ap (λ (y : ℕ). array (sortAt b p n (u16At b (r .list))) (sortAt b p n y)) (sym ei)
 
             const-is : (s u t : Sort) → constantArray (array s u) (t then end) ≡ need (same t u) Misfit (sort (array s u))
             const-is s u t = ap (λ (c : Bool). need (c && same t u) Misfit (sort (array s u))) (same-refl (array s u))
@@ -256,7 +256,7 @@ module _ (b p : List ℕ) (n k : ℕ) (a : List ℕ) (m : ℕ) (f : QualifiedAsk
                 qualified-on ∙ ap₂ constantArray array-is (one-arg ∙ ap (λ (y : ℕ). sortAt b p n y then end) (sym ej))
                 ∙ const-is (sortAt b p n (u16At b (r .list))) (sortAt b p n i) (sortAt b p n j)
                 ∙ ap₂ (λ (c : Bool) (s : Sort). need c Misfit (sort s))
-                (numbers-same b p n j i (f .own .usable .stored) (f .own .usable .distinct) argument-below element-below) (sym array-is)
+                (numbers-same j i (f .own .usable .stored) (f .own .usable .distinct) argument-below element-below) (sym array-is)
 
             pub qualified-misfit : (j ≡ i → ⊥) → qualified q (sortAt b p n k) (argsOf b p n a m) ≡ refused Misfit
             qualified-misfit d = qualified-array ∙ ap (λ (c : Bool). need c Misfit (sort (sortAt b p n k))) (ne-eqb j i d)

@@ -1,14 +1,23 @@
 // The checked sort of an operator at n arguments, whose sorts are in `args` from byte 3 on.
 use super::rule::Rule;
+use super::rule::THEIRS;
 use super::rule::counts;
 use super::rule::is_ranked;
 use super::rule::rule_of;
 use answers::Answer;
+use answers::arguments::FIRST_AT;
+use answers::arguments::SECOND_AT;
+use answers::arguments::THIRD_AT;
 use answers::bit_vector;
 use answers::found;
 use answers::leaf;
 use answers::refuse;
 use answers::values::all_values;
+use record::kinds::SORT_ARRAY;
+use record::kinds::SORT_BIT_VEC;
+use record::kinds::SORT_BOOL;
+use record::kinds::SORT_INT;
+use record::kinds::SORT_REAL;
 use record::u16_at;
 use rows::Cause;
 use store::entries::entry;
@@ -36,7 +45,7 @@ pub fn all_kind(records: &[u8], places: &[u32], args: &[u8], n: usize, kind: usi
 {
     let mut i = 0;
     while i < n {
-        let k = u16_at(args, 3 + 2 * i);
+        let k = u16_at(args, FIRST_AT + 2 * i);
         if kind_at(records, places, k) != kind {
             return false;
         }
@@ -52,7 +61,7 @@ pub fn all_same(records: &[u8], places: &[u32], args: &[u8], n: usize) -> bool
 {
     let mut i = 1;
     while i < n {
-        if u16_at(args, 3 + 2 * i) != u16_at(args, 3) {
+        if u16_at(args, FIRST_AT + 2 * i) != u16_at(args, FIRST_AT) {
             return false;
         }
         i += 1;
@@ -68,7 +77,7 @@ pub fn is_kind(records: &[u8], places: &[u32], args: &[u8], n: usize, i: usize, 
     if n <= i {
         return true;
     }
-    let k = u16_at(args, 3 + 2 * i);
+    let k = u16_at(args, FIRST_AT + 2 * i);
     kind_at(records, places, k) == kind
 }
 
@@ -121,15 +130,15 @@ pub fn fit_numbers(records: &[u8], places: &[u32], args: &[u8], n: usize, result
     requires { ⌜ FitAsks (now records) (now places) (now args) n (Numbers 1 result) ⌝ }
     ensures { λ r. ⌜ FitHas (now (records .entry)) (now (places .entry)) (now (args .entry)) n (Numbers 1 result) r ⌝ }
 {
-    if all_kind(records, places, args, n, 4) {
-        if result == 0 {
-            return Fit::Plain(4);
+    if all_kind(records, places, args, n, SORT_INT) {
+        if result == THEIRS {
+            return Fit::Plain(SORT_INT);
         }
         return Fit::Plain(result);
     }
-    if all_kind(records, places, args, n, 5) {
-        if result == 0 {
-            return Fit::Plain(5);
+    if all_kind(records, places, args, n, SORT_REAL) {
+        if result == THEIRS {
+            return Fit::Plain(SORT_REAL);
         }
         return Fit::Plain(result);
     }
@@ -142,7 +151,7 @@ pub fn fit_equal(records: &[u8], places: &[u32], args: &[u8], n: usize) -> Fit
     ensures { λ r. ⌜ FitHas (now (records .entry)) (now (places .entry)) (now (args .entry)) n Equal r ⌝ }
 {
     if all_same(records, places, args, n) {
-        return Fit::Plain(3);
+        return Fit::Plain(SORT_BOOL);
     }
     Fit::Nothing
 }
@@ -152,11 +161,11 @@ pub fn fit_choose(records: &[u8], places: &[u32], args: &[u8], n: usize) -> Fit
     requires { ⌜ FitAsks (now records) (now places) (now args) n Choose ⌝ }
     ensures { λ r. ⌜ FitHas (now (records .entry)) (now (places .entry)) (now (args .entry)) n Choose r ⌝ }
 {
-    if !is_kind(records, places, args, n, 0, 3) {
+    if !is_kind(records, places, args, n, 0, SORT_BOOL) {
         return Fit::Nothing;
     }
-    let a = u16_at(args, 5);
-    let b = u16_at(args, 7);
+    let a = u16_at(args, SECOND_AT);
+    let b = u16_at(args, THIRD_AT);
     if a != b {
         return Fit::Nothing;
     }
@@ -168,21 +177,21 @@ pub fn fit_array(records: &[u8], places: &[u32], args: &[u8], n: usize) -> Fit
     requires { ⌜ ArrayAsks (now records) (now places) (now args) n ⌝ }
     ensures { λ r. ⌜ ArrayHas (now (records .entry)) (now (places .entry)) (now (args .entry)) n r ⌝ }
 {
-    let k = u16_at(args, 3);
+    let k = u16_at(args, FIRST_AT);
     let a = entry(records, places, k);
-    if a.kind != 8 {
+    if a.kind != SORT_ARRAY {
         return Fit::Nothing;
     }
     let list = a.list;
     let index = u16_at(records, list);
     let element = u16_at(records, list + 2);
-    if u16_at(args, 5) != index {
+    if u16_at(args, SECOND_AT) != index {
         return Fit::Nothing;
     }
     if n == 2 {
         return Fit::Known(element);
     }
-    if u16_at(args, 7) != element {
+    if u16_at(args, THIRD_AT) != element {
         return Fit::Nothing;
     }
     Fit::Known(k)
@@ -193,17 +202,17 @@ pub fn fit_vectors(records: &[u8], places: &[u32], args: &[u8], n: usize, result
     requires { ⌜ FitAsks (now records) (now places) (now args) n (Vectors 1 1 result) ⌝ }
     ensures { λ r. ⌜ FitHas (now (records .entry)) (now (places .entry)) (now (args .entry)) n (Vectors 1 1 result) r ⌝ }
 {
-    let k = u16_at(args, 3);
-    if kind_at(records, places, k) != 9 {
+    let k = u16_at(args, FIRST_AT);
+    if kind_at(records, places, k) != SORT_BIT_VEC {
         return Fit::Nothing;
     }
     if !all_same(records, places, args, n) {
         return Fit::Nothing;
     }
-    if result == 0 {
+    if result == THEIRS {
         return Fit::Known(k);
     }
-    if result == 9 {
+    if result == SORT_BIT_VEC {
         return Fit::Width(1);
     }
     Fit::Plain(result)
@@ -214,14 +223,14 @@ pub fn fit_concat(records: &[u8], places: &[u32], args: &[u8], n: usize) -> Fit
     requires { ⌜ FitAsks (now records) (now places) (now args) n Concat ⌝ }
     ensures { λ r. ⌜ FitHas (now (records .entry)) (now (places .entry)) (now (args .entry)) n Concat r ⌝ }
 {
-    let i = u16_at(args, 3);
-    let j = u16_at(args, 5);
+    let i = u16_at(args, FIRST_AT);
+    let j = u16_at(args, SECOND_AT);
     let a = entry(records, places, i);
     let b = entry(records, places, j);
-    if a.kind != 9 {
+    if a.kind != SORT_BIT_VEC {
         return Fit::Nothing;
     }
-    if b.kind != 9 {
+    if b.kind != SORT_BIT_VEC {
         return Fit::Nothing;
     }
     Fit::Width(a.number + b.number)
@@ -288,7 +297,7 @@ pub fn operated(
     if !counts(rule, n) {
         return refuse(Cause::Count, count, used);
     }
-    if !all_values(records, places, args, 3, n) {
+    if !all_values(records, places, args, FIRST_AT, n) {
         return refuse(Cause::Misfit, count, used);
     }
     let made = fit_rule(records, places, rule, args, n);

@@ -1,7 +1,33 @@
-// The rules of the ranked operators, by families of ranks. Kinds of sorts: 3 Bool, 4 Int, 5 Real, 6 String, 7 RegLan.
+// The rules of the ranked operators, by families of ranks.
+use record::kinds::SORT_BIT_VEC;
+use record::kinds::SORT_BOOL;
+use record::kinds::SORT_INT;
+use record::kinds::SORT_REAL;
+use record::kinds::SORT_REG_LAN;
+use record::kinds::SORT_STRING;
+use record::operators::*;
 ghost use mathlib.Core.Path.{_≡_};
 ghost use Prim.Native.Nat.{_≤_};
 ghost use Rattle.checking.specs.Rule.{ruleOf, isRanked, countsFor};
+
+// The kinds of sorts that ranks name.
+const BOOL: usize = SORT_BOOL;
+
+const INT: usize = SORT_INT;
+
+const REAL: usize = SORT_REAL;
+
+const STRING: usize = SORT_STRING;
+
+const REG_LAN: usize = SORT_REG_LAN;
+
+const BIT_VEC: usize = SORT_BIT_VEC;
+
+// In the place of the kind of an argument that a rule does not have.
+const NONE: usize = SORT_BOOL;
+
+// In the place of the result's kind: the result is of the arguments' sort.
+pub const THEIRS: usize = 0;
 
 // What arguments an operator takes and what sort it then has.
 pub enum Rule {
@@ -10,9 +36,9 @@ pub enum Rule {
     // Two or more of the first kind; the second kind is the result's.
     All(usize, usize),
     // As many as the first number says, at most three, of the next three kinds; the last kind is the result's. A kind that
-    // the count leaves out is 3.
+    // the count leaves out is NONE.
     Fixed(usize, usize, usize, usize, usize),
-    // At least so many, one or two, all Int or all Real; the result is of this kind, or theirs where it is 0.
+    // At least so many, one or two, all Int or all Real; the result is of this kind, or THEIRS.
     Numbers(usize, usize),
     // Two or more of one sort; the result is Bool.
     Equal,
@@ -21,8 +47,8 @@ pub enum Rule {
     // (Array X Y) X gives Y; (Array X Y) X Y gives (Array X Y).
     Select,
     Store,
-    // So many vectors of one width, one or two, or more where the second number is 1; the result is of this kind (9: one
-    // bit), or theirs where it is 0.
+    // So many vectors of one width, one or two, or more where the second number is 1; the result is of this kind (a vector has
+    // one bit), or THEIRS.
     Vectors(usize, usize, usize),
     // Two vectors; the result is as wide as both.
     Concat,
@@ -34,23 +60,23 @@ pub fn rule_of_theory(op: usize) -> Rule
     ensures { λ r. ⌜ r ≡ ruleOf op ⌝ }
 {
     match op {
-        0..=1 => Rule::Fixed(0, 3, 3, 3, 3),
-        2 => Rule::Fixed(1, 3, 3, 3, 3),
-        3..=6 => Rule::All(3, 3),
-        7..=8 => Rule::Equal,
-        9 => Rule::Choose,
-        10 | 12 => Rule::Numbers(2, 0),
-        11 => Rule::Numbers(1, 0),
-        13 => Rule::All(4, 4),
-        14 => Rule::All(5, 5),
-        15 => Rule::Fixed(2, 4, 4, 3, 4),
-        16 => Rule::Fixed(1, 4, 3, 3, 4),
-        17..=20 => Rule::Numbers(2, 3),
-        21 => Rule::Fixed(1, 4, 3, 3, 5),
-        22 => Rule::Fixed(1, 5, 3, 3, 4),
-        23 => Rule::Fixed(1, 5, 3, 3, 3),
-        42 => Rule::Select,
-        43 => Rule::Store,
+        OP_TRUE..=OP_FALSE => Rule::Fixed(0, NONE, NONE, NONE, BOOL),
+        OP_NOT => Rule::Fixed(1, BOOL, NONE, NONE, BOOL),
+        OP_IMPLIES..=OP_XOR => Rule::All(BOOL, BOOL),
+        OP_EQUALS..=OP_DISTINCT => Rule::Equal,
+        OP_ITE => Rule::Choose,
+        OP_ADD | OP_MULT => Rule::Numbers(2, THEIRS),
+        OP_SUB => Rule::Numbers(1, THEIRS),
+        OP_INT_DIV => Rule::All(INT, INT),
+        OP_REAL_DIV => Rule::All(REAL, REAL),
+        OP_MOD => Rule::Fixed(2, INT, INT, NONE, INT),
+        OP_ABS => Rule::Fixed(1, INT, NONE, NONE, INT),
+        OP_LESS_THAN..=OP_GREATER_EQ => Rule::Numbers(2, BOOL),
+        OP_TO_REAL => Rule::Fixed(1, INT, NONE, NONE, REAL),
+        OP_TO_INT => Rule::Fixed(1, REAL, NONE, NONE, INT),
+        OP_IS_INT => Rule::Fixed(1, REAL, NONE, NONE, BOOL),
+        OP_SELECT => Rule::Select,
+        OP_STORE => Rule::Store,
         _ => Rule::Unranked,
     }
 }
@@ -61,23 +87,29 @@ pub fn rule_of_text(op: usize) -> Rule
     ensures { λ r. ⌜ r ≡ ruleOf op ⌝ }
 {
     match op {
-        44 => Rule::All(6, 6),
-        45 | 60 | 62 => Rule::Fixed(1, 6, 3, 3, 4),
-        46..=47 => Rule::All(6, 3),
-        48 => Rule::Fixed(2, 6, 4, 3, 6),
-        49 => Rule::Fixed(3, 6, 4, 4, 6),
-        50..=52 => Rule::Fixed(2, 6, 6, 3, 3),
-        53 => Rule::Fixed(3, 6, 6, 4, 4),
-        55..=56 => Rule::Fixed(3, 6, 6, 6, 6),
-        57..=58 => Rule::Fixed(3, 6, 7, 6, 6),
-        59 => Rule::Fixed(1, 6, 3, 3, 3),
-        61 | 63 => Rule::Fixed(1, 4, 3, 3, 6),
-        64 => Rule::Fixed(1, 6, 3, 3, 7),
-        65 => Rule::Fixed(2, 6, 7, 3, 3),
-        66..=68 => Rule::Fixed(0, 3, 3, 3, 7),
-        69..=71 | 74 => Rule::All(7, 7),
-        72..=73 | 75..=76 => Rule::Fixed(1, 7, 3, 3, 7),
-        77 => Rule::Fixed(2, 6, 6, 3, 7),
+        OP_STR_CONCAT => Rule::All(STRING, STRING),
+        OP_STR_LEN | OP_STR_TO_CODE | OP_STR_TO_INT => Rule::Fixed(1, STRING, NONE, NONE, INT),
+        OP_STR_LESS_THAN..=OP_STR_LESS_EQ => Rule::All(STRING, BOOL),
+        OP_CHAR_AT => Rule::Fixed(2, STRING, INT, NONE, STRING),
+        OP_SUBSTRING => Rule::Fixed(3, STRING, INT, INT, STRING),
+        OP_PREFIX_OF..=OP_CONTAINS => Rule::Fixed(2, STRING, STRING, NONE, BOOL),
+        OP_INDEX_OF => Rule::Fixed(3, STRING, STRING, INT, INT),
+        OP_REPLACE..=OP_REPLACE_ALL => Rule::Fixed(3, STRING, STRING, STRING, STRING),
+        OP_REPLACE_RE..=OP_REPLACE_RE_ALL => Rule::Fixed(3, STRING, REG_LAN, STRING, STRING),
+        OP_STR_IS_DIGIT => Rule::Fixed(1, STRING, NONE, NONE, BOOL),
+        OP_STR_FROM_CODE | OP_STR_FROM_INT => Rule::Fixed(1, INT, NONE, NONE, STRING),
+        OP_STR_TO_RE => Rule::Fixed(1, STRING, NONE, NONE, REG_LAN),
+        OP_STR_IN_RE => Rule::Fixed(2, STRING, REG_LAN, NONE, BOOL),
+        OP_RE_NONE..=OP_RE_ALL_CHAR => Rule::Fixed(0, NONE, NONE, NONE, REG_LAN),
+        OP_RE_CONCAT..=OP_RE_INTERSECTION | OP_RE_DIFF => Rule::All(REG_LAN, REG_LAN),
+        OP_RE_KLEENE_CLOSURE..=OP_RE_COMPLEMENT | OP_RE_KLEENE_CROSS..=OP_RE_OPTION => Rule::Fixed(
+            1,
+            REG_LAN,
+            NONE,
+            NONE,
+            REG_LAN,
+        ),
+        OP_RE_RANGE => Rule::Fixed(2, STRING, STRING, NONE, REG_LAN),
         _ => Rule::Unranked,
     }
 }
@@ -88,15 +120,19 @@ pub fn rule_of(op: usize) -> Rule
     ensures { λ r. ⌜ r ≡ ruleOf op ⌝ }
 {
     match op {
-        0..=43 => rule_of_theory(op),
-        44..=78 => rule_of_text(op),
-        79..=80 => Rule::Vectors(1, 0, 0),
-        81..=84 => Rule::Vectors(2, 1, 0),
-        85..=88 | 91..=94 | 96..=100 => Rule::Vectors(2, 0, 0),
-        89 | 101..=107 => Rule::Vectors(2, 0, 3),
-        90 => Rule::Concat,
-        95 => Rule::Vectors(2, 0, 9),
-        108..=109 => Rule::Vectors(1, 0, 4),
+        OP_TRUE..=OP_STORE => rule_of_theory(op),
+        OP_STR_CONCAT..=OP_RE_FROM_AUTOMATON => rule_of_text(op),
+        OP_BV_NOT..=OP_BV_NEG => Rule::Vectors(1, 0, THEIRS),
+        OP_BV_AND..=OP_BV_MUL => Rule::Vectors(2, 1, THEIRS),
+        OP_BV_UDIV..=OP_BV_LSHR | OP_BV_NAND..=OP_BV_XNOR | OP_BV_SUB..=OP_BV_ASHR => Rule::Vectors(
+            2,
+            0,
+            THEIRS,
+        ),
+        OP_BV_ULT | OP_BV_ULE..=OP_BV_SGE => Rule::Vectors(2, 0, BOOL),
+        OP_BV_CONCAT => Rule::Concat,
+        OP_BV_COMP => Rule::Vectors(2, 0, BIT_VEC),
+        OP_UBV_TO_INT..=OP_SBV_TO_INT => Rule::Vectors(1, 0, INT),
         _ => Rule::Unranked,
     }
 }

@@ -1,11 +1,18 @@
 // The checked sort of a constant, a Var, a Let and an (as const).
 use answers::Answer;
+use answers::arguments::FIRST_AT;
 use answers::bit_vector;
 use answers::found;
 use answers::leaf;
 use answers::refuse;
 use answers::values::all_values;
 use matching::premises::is_proper;
+use record::kinds::AS_CONST;
+use record::kinds::SORT_ARRAY;
+use record::kinds::SORT_FUNCTION;
+use record::kinds::SORT_INT;
+use record::kinds::SORT_PAR;
+use record::kinds::TERM_BIT_VECTOR;
 use record::u16_at;
 use rows::Cause;
 use store::entries::entry;
@@ -31,8 +38,8 @@ pub fn constant(
     requires { ⌜ ConstantAsks (now records) (now places) (now index) count used ⌝ }
     ensures { λ r. ⌜ AnswerIs (now (records .entry)) (now (places .entry)) count (constantVerdict kind number) (now (records .exit)) (now (places .exit)) (now (index .exit)) r ⌝ }
 {
-    if kind < 4 {
-        return leaf(records, places, index, count, used, (kind + 4) as u8);
+    if kind < TERM_BIT_VECTOR {
+        return leaf(records, places, index, count, used, (kind + SORT_INT) as u8);
     }
     if number == 0 {
         return refuse(Cause::Barred, count, used);
@@ -46,12 +53,12 @@ pub fn is_carried(records: &[u8], places: &[u32], count: usize, k: usize) -> boo
     ensures { λ r. ⌜ r ≡ carried (sortAt (now (records .entry)) (now (places .entry)) count k) ⌝ }
 {
     let a = entry(records, places, k);
-    if a.kind != 12 {
+    if a.kind != SORT_PAR {
         return is_proper(records, places, count, k);
     }
     let list = a.list;
     let body = u16_at(records, list);
-    if kind_at(records, places, body) != 0 {
+    if kind_at(records, places, body) != SORT_FUNCTION {
         return false;
     }
     is_proper(records, places, count, body)
@@ -83,10 +90,10 @@ pub fn letting(
     if n < 2 {
         return refuse(Cause::Count, count, used);
     }
-    if !all_values(records, places, args, 3, n) {
+    if !all_values(records, places, args, FIRST_AT, n) {
         return refuse(Cause::Misfit, count, used);
     }
-    let k = u16_at(args, 3 + 2 * (n - 1));
+    let k = u16_at(args, FIRST_AT + 2 * (n - 1));
     found(k, count, used)
 }
 
@@ -105,7 +112,7 @@ pub fn qualified(
     requires { ⌜ QualifiedAsks (now records) (now places) count k (now args) n ⌝ }
     ensures { λ r. ⌜ ReadIs (now (records .entry)) (now (places .entry)) count used (qualified number (sortAt (now (records .entry)) (now (places .entry)) count k) (argsOf (now (records .entry)) (now (places .entry)) count (now (args .entry)) n)) r ⌝ }
 {
-    if number != 0 {
+    if number != AS_CONST {
         return refuse(Cause::NoRank, count, used);
     }
     if !is_proper(records, places, count, k) {
@@ -115,12 +122,12 @@ pub fn qualified(
         return refuse(Cause::Count, count, used);
     }
     let a = entry(records, places, k);
-    if a.kind != 8 {
+    if a.kind != SORT_ARRAY {
         return refuse(Cause::Misfit, count, used);
     }
     let list = a.list;
     let element = u16_at(records, list + 2);
-    if u16_at(args, 3) != element {
+    if u16_at(args, FIRST_AT) != element {
         return refuse(Cause::Misfit, count, used);
     }
     found(k, count, used)

@@ -59,8 +59,8 @@ module _ (s xs : List ℕ) (x q i : ℕ) where
       let e : q - 1 ≡ 0 = omega arith in
       ap (λ (is : List (Option ℕ)). extracted (some i ∷ is)) (constants-none s xs (x + 2) (q - 1) e)
 
-  pub extract-second : 2 ≤ q → (o : Constant) → IndexIs s xs (x + 2) o → extracted (some i ∷ constantsIn s xs (x + 2) (q - 1)) ≡ extractBy i (integerOf o)
-  extract-second l o h =
+  pub extract-second : 2 ≤ q → {o : Constant} → IndexIs s xs (x + 2) o → extracted (some i ∷ constantsIn s xs (x + 2) (q - 1)) ≡ extractBy i (integerOf o)
+  extract-second l {o} h =
       ap (λ (is : List (Option ℕ)). extracted (some i ∷ is)) (constants-first s xs (x + 2) (q - 1) (omega arith))
       ∙ extract-by i (indexAt s xs (x + 2)) (constantsIn s xs (x + 2 + 2) (q - 1 - 1))
       ∙ ap (extractBy i) (sym (h .is))
@@ -75,7 +75,7 @@ resize-unknown f t ss h = rw (ne-eqb (kindOf t) 9 (λ (e : kindOf t ≡ 9). absu
 resize-other : (f : ℕ → ℕ) (t : Sort) (ss : Sorts) → (kindOf t ≡ 9 → ⊥) → (kindOf t ≡ 10 → ⊥) → resizedOf f (t then ss) ≡ refused Panics
 resize-other f t ss h d = rw (ne-eqb (kindOf t) 9 h, param-kind t, ne-eqb (kindOf t) 10 d) refl
 
-module _ (b p : List ℕ) (n : ℕ) (a : List ℕ) (m : ℕ) (h : Referring b p n a 3 m) (some : 0 < m) (k : ℕ) (e : k ≡ u16At a 3) (r : SortRecord) (q : EntryHas b p k r) where
+module _ {b p : List ℕ} {n : ℕ} {a : List ℕ} {m : ℕ} (h : Referring b p n a 3 m) (some : 0 < m) {k : ℕ} (e : k ≡ u16At a 3) (r : SortRecord) (q : EntryHas b p k r) where
   read : EntryIs b p n k r
   read = q n (h .stored) (first-known b p n a m h some k e)
 
@@ -109,31 +109,31 @@ after k op l d = ⊎-elim (λ (e : k ≡ op). absurd (d (sym e))) (λ (o : k < o
 
 ---------------------------------------------------------------- which operator
 module _ (is : List (Option ℕ)) (ss : Sorts) where
-  at-op : (op k : ℕ) → op ≡ k → indexed op is ss ≡ indexed k is ss
-  at-op op k e = ap (λ (o : ℕ). indexed o is ss) e
+  at-op : {op : ℕ} (k : ℕ) → op ≡ k → indexed op is ss ≡ indexed k is ss
+  at-op {op} k e = ap (λ (o : ℕ). indexed o is ss) e
 
-  pub bit-of : (op : ℕ) → op ≡ 1 → indexed op is ss ≡ sort bool
+  pub bit-of : {op : ℕ} → op ≡ 1 → indexed op is ss ≡ sort bool
   unfolding indexed
-  bit-of op e = at-op op 1 e
+  bit-of {op} e = at-op 1 e
 
-  pub int-of : (op : ℕ) → op ≡ 2 → indexed op is ss ≡ sort int
+  pub int-of : {op : ℕ} → op ≡ 2 → indexed op is ss ≡ sort int
   unfolding indexed
-  int-of op e = at-op op 2 e
+  int-of {op} e = at-op 2 e
 
   pub rotates : (op : ℕ) → 5 ≤ op → op < 7 → indexed op is ss ≡ firstOf ss
   unfolding indexed
-  rotates op l h = ⊎-elim (λ (e : 5 ≡ op). at-op op 5 (sym e)) (λ (o : 5 < op). let e : op ≡ 6 = omega arith in at-op op 6 e) (eq-or-lt-of-le l)
+  rotates op l h = ⊎-elim (λ (e : 5 ≡ op). at-op 5 (sym e)) (λ (o : 5 < op). let e : op ≡ 6 = omega arith in at-op 6 e) (eq-or-lt-of-le l)
 
   pub regular : (op : ℕ) → 9 ≤ op → op < 12 → (OneOf (0 ∷ 7 ∷ 9 ∷ []) op → ⊥) → indexed op is ss ≡ sort reglan
   unfolding indexed
   regular op l h d =
       ⊎-elim (λ (e : 9 ≡ op). absurd (d (inr (inr (sym e)))))
       (λ (o : 9 < op).
-      ⊎-elim (λ (e : 10 ≡ op). at-op op 10 (sym e)) (λ (z : 10 < op). let e : op ≡ 11 = omega arith in at-op op 11 e) (eq-or-lt-of-le o)) (eq-or-lt-of-le l)
+      ⊎-elim (λ (e : 10 ≡ op). at-op 10 (sym e)) (λ (z : 10 < op). let e : op ≡ 11 = omega arith in at-op 11 e) (eq-or-lt-of-le o)) (eq-or-lt-of-le l)
 
   pub unwritten : (op : ℕ) → 7 ≤ op → op < 9 → (OneOf (0 ∷ 7 ∷ 9 ∷ []) op → ⊥) → indexed op is ss ≡ refused Panics
   unfolding indexed
-  unwritten op l h d = ⊎-elim (λ (e : 7 ≡ op). absurd (d (inr (inl (sym e))))) (λ (o : 7 < op). let e : op ≡ 8 = omega arith in at-op op 8 e) (eq-or-lt-of-le l)
+  unwritten op l h d = ⊎-elim (λ (e : 7 ≡ op). absurd (d (inr (inl (sym e))))) (λ (o : 7 < op). let e : op ≡ 8 = omega arith in at-op 8 e) (eq-or-lt-of-le l)
 
   other : (op k : ℕ) → 12 ≤ op → k < 12 → eqb op k ≡ false
   other op k l h = ne-eqb op k (λ (e : op ≡ k). absurd (omega arith))
@@ -157,62 +157,62 @@ module _ (is : List (Option ℕ)) (ss : Sorts) where
       refl
 
 -- The operators that look at their first index: none is there, it is no integer, and it is i.
-pub looks-none : (op : ℕ) (ss : Sorts) → Indexing op → indexed op [] ss ≡ refused Panics
+pub looks-none : {op : ℕ} (ss : Sorts) → Indexing op → indexed op [] ss ≡ refused Panics
 unfolding indexed
-looks-none op ss (extracts e) = at-op [] ss op 0 e
-looks-none op ss (zeroes e) = at-op [] ss op 3 e
-looks-none op ss (signs e) = at-op [] ss op 4 e
-looks-none op ss (repeats e) = at-op [] ss op 7 e
-looks-none op ss (converts e) = at-op [] ss op 9 e
+looks-none {op} ss (extracts e) = at-op [] ss 0 e
+looks-none {op} ss (zeroes e) = at-op [] ss 3 e
+looks-none {op} ss (signs e) = at-op [] ss 4 e
+looks-none {op} ss (repeats e) = at-op [] ss 7 e
+looks-none {op} ss (converts e) = at-op [] ss 9 e
 
-pub looks-unknown : (op : ℕ) (is : List (Option ℕ)) (ss : Sorts) → Indexing op → indexed op (none ∷ is) ss ≡ sort paramBitVec
+pub looks-unknown : {op : ℕ} (is : List (Option ℕ)) (ss : Sorts) → Indexing op → indexed op (none ∷ is) ss ≡ sort paramBitVec
 unfolding indexed
-looks-unknown op is ss (extracts e) = at-op (none ∷ is) ss op 0 e
-looks-unknown op is ss (zeroes e) = at-op (none ∷ is) ss op 3 e
-looks-unknown op is ss (signs e) = at-op (none ∷ is) ss op 4 e
-looks-unknown op is ss (repeats e) = at-op (none ∷ is) ss op 7 e
-looks-unknown op is ss (converts e) = at-op (none ∷ is) ss op 9 e
+looks-unknown {op} is ss (extracts e) = at-op (none ∷ is) ss 0 e
+looks-unknown {op} is ss (zeroes e) = at-op (none ∷ is) ss 3 e
+looks-unknown {op} is ss (signs e) = at-op (none ∷ is) ss 4 e
+looks-unknown {op} is ss (repeats e) = at-op (none ∷ is) ss 7 e
+looks-unknown {op} is ss (converts e) = at-op (none ∷ is) ss 9 e
 
 module _ (i : ℕ) (is : List (Option ℕ)) (ss : Sorts) where
-  pub given-extract : (op : ℕ) → op ≡ 0 → indexed op (some i ∷ is) ss ≡ extracted (some i ∷ is)
+  pub given-extract : {op : ℕ} → op ≡ 0 → indexed op (some i ∷ is) ss ≡ extracted (some i ∷ is)
   unfolding indexed
-  given-extract op e = at-op (some i ∷ is) ss op 0 e
+  given-extract {op} e = at-op (some i ∷ is) ss 0 e
 
   pub given-extend : (op : ℕ) → 3 ≤ op → op < 5 → indexed op (some i ∷ is) ss ≡ resizedOf (resizing true i) ss
   unfolding indexed
   given-extend op l h =
-      ⊎-elim (λ (e : 3 ≡ op). at-op (some i ∷ is) ss op 3 (sym e))
-      (λ (o : 3 < op). let e : op ≡ 4 = omega arith in at-op (some i ∷ is) ss op 4 e) (eq-or-lt-of-le l)
+      ⊎-elim (λ (e : 3 ≡ op). at-op (some i ∷ is) ss 3 (sym e))
+      (λ (o : 3 < op). let e : op ≡ 4 = omega arith in at-op (some i ∷ is) ss 4 e) (eq-or-lt-of-le l)
 
-  pub given-repeat : (op : ℕ) → op ≡ 7 → indexed op (some i ∷ is) ss ≡ resizedOf (resizing false i) ss
+  pub given-repeat : {op : ℕ} → op ≡ 7 → indexed op (some i ∷ is) ss ≡ resizedOf (resizing false i) ss
   unfolding indexed
-  given-repeat op e = at-op (some i ∷ is) ss op 7 e
+  given-repeat {op} e = at-op (some i ∷ is) ss 7 e
 
-  pub given-convert : (op : ℕ) → op ≡ 9 → indexed op (some i ∷ is) ss ≡ sort (bitvec i)
+  pub given-convert : {op : ℕ} → op ≡ 9 → indexed op (some i ∷ is) ss ≡ sort (bitvec i)
   unfolding indexed
-  given-convert op e = at-op (some i ∷ is) ss op 9 e
+  given-convert {op} e = at-op (some i ∷ is) ss 9 e
 
 -- With the first index that was found.
-module _ (s xs : List ℕ) (x q : ℕ) (some : 0 < q) (o : Constant) (h : IndexIs s xs x o) (op : ℕ) (ss : Sorts) where
+module _ {s xs : List ℕ} {x : ℕ} (q : ℕ) (some : 0 < q) {o : Constant} (h : IndexIs s xs x o) (op : ℕ) (ss : Sorts) where
   pub looks-first : indexed op (constantsIn s xs x q) ss ≡ indexed op (integerOf o ∷ constantsIn s xs (x + 2) (q - 1)) ss
   looks-first =
       ap (λ (is : List (Option ℕ)). indexed op is ss)
       (constants-first s xs x q some ∙ ap (λ (c : Option ℕ). c ∷ constantsIn s xs (x + 2) (q - 1)) (sym (h .is)))
 
 -- Which are left when the arms told them apart: neither below 3 nor over 4, or between.
-pub convert-low : (op : ℕ) → Indexing op → (op ≡ 0 → ⊥) → op < 3 → op ≡ 9
-convert-low op (extracts e) z h = absurd (z e)
-convert-low op (zeroes e) z h = absurd (omega arith)
-convert-low op (signs e) z h = absurd (omega arith)
-convert-low op (repeats e) z h = absurd (omega arith)
-convert-low op (converts e) z h = e
+pub convert-low : {op : ℕ} → Indexing op → (op ≡ 0 → ⊥) → op < 3 → op ≡ 9
+convert-low {op} (extracts e) z h = absurd (z e)
+convert-low {op} (zeroes e) z h = absurd (omega arith)
+convert-low {op} (signs e) z h = absurd (omega arith)
+convert-low {op} (repeats e) z h = absurd (omega arith)
+convert-low {op} (converts e) z h = e
 
-pub convert-high : (op : ℕ) → Indexing op → (op ≡ 7 → ⊥) → 5 ≤ op → op ≡ 9
-convert-high op (extracts e) z h = absurd (omega arith)
-convert-high op (zeroes e) z h = absurd (omega arith)
-convert-high op (signs e) z h = absurd (omega arith)
-convert-high op (repeats e) z h = absurd (z e)
-convert-high op (converts e) z h = e
+pub convert-high : {op : ℕ} → Indexing op → (op ≡ 7 → ⊥) → 5 ≤ op → op ≡ 9
+convert-high {op} (extracts e) z h = absurd (omega arith)
+convert-high {op} (zeroes e) z h = absurd (omega arith)
+convert-high {op} (signs e) z h = absurd (omega arith)
+convert-high {op} (repeats e) z h = absurd (z e)
+convert-high {op} (converts e) z h = e
 
 pub looks-keys : (op : ℕ) → OneOf (0 ∷ 7 ∷ 9 ∷ []) op → Indexing op
 looks-keys op h =

@@ -110,13 +110,13 @@ module _ {b p : List ℕ} {n : ℕ} {tbl : List ℕ} {r : TermRecord} (l : 5 ≤
   plain-is (qualified e o) s xs a = site-as (siteOver (storeOf b p n) s tbl xs a r) e ∙ ap sort (o .is)
 
 ---------------------------------------------------------------- binders
-lambda-of : (k : ℕ) (bs : List Binding) (ss : Sorts) → k ≡ 3 → bound k bs ss ≡ lambda bs ss
+lambda-of : {k : ℕ} (bs : List Binding) (ss : Sorts) → k ≡ 3 → bound k bs ss ≡ lambda bs ss
 unfolding bound
-lambda-of k bs ss e = rw e refl
+lambda-of {k} bs ss e = rw e refl
 
-choice-of : (k : ℕ) (bs : List Binding) (ss : Sorts) → k ≡ 2 → bound k bs ss ≡ chosen bs
+choice-of : {k : ℕ} (bs : List Binding) (ss : Sorts) → k ≡ 2 → bound k bs ss ≡ chosen bs
 unfolding bound
-choice-of k bs ss e = rw e refl
+choice-of {k} bs ss e = rw e refl
 
 pub truth-of : (k : ℕ) (bs : List Binding) (ss : Sorts) → (k ≡ 3 → ⊥) → (k ≡ 2 → ⊥) → bound k bs ss ≡ sort bool
 unfolding bound
@@ -124,21 +124,21 @@ truth-of k bs ss c d = rw (ne-eqb k 3 c, ne-eqb k 2 d) refl
 
 module _ (b p : List ℕ) (n : ℕ) (s tbl : List ℕ) (r : TermRecord) (a : List ℕ) where
   -- The body is the first argument.
-  pub lambda-is : Referring b p n a 3 (r .count) → 0 < r .count → (k : ℕ) → k ≡ u16At a 3 → r .number ≡ 3
+  pub lambda-is : Referring b p n a 3 (r .count) → 0 < r .count → {k : ℕ} → k ≡ u16At a 3 → r .number ≡ 3
       → bound (r .number) (bindingsOver (storeOf b p n) tbl s r) (sortsIn b p n a 3 (r .count))
       ≡ sort (function (joined (sortsOf (storeOf b p n) (boundNumbers tbl s (r .pairs) (r .paired))) (sortAt b p n k)))
-  lambda-is h some k e q =
-      lambda-of (r .number) (bindingsOver (storeOf b p n) tbl s r) (sortsIn b p n a 3 (r .count)) q
+  lambda-is h some {k} e q =
+      lambda-of (bindingsOver (storeOf b p n) tbl s r) (sortsIn b p n a 3 (r .count)) q
       ∙ ap (lambda (bindingsOver (storeOf b p n) tbl s r)) (first-then b p n a (r .count) h some k e)
       ∙ ap (λ (ss : Sorts). sort (function (joined ss (sortAt b p n k)))) (bindings-sorts (storeOf b p n) tbl s r)
 
   pub choice-none : r .number ≡ 2 → r .paired ≡ 0 → bound (r .number) (bindingsOver (storeOf b p n) tbl s r) (sortsIn b p n a 3 (r .count)) ≡ refused Panics
   choice-none q z =
-      choice-of (r .number) (bindingsOver (storeOf b p n) tbl s r) (sortsIn b p n a 3 (r .count)) q
+      choice-of (bindingsOver (storeOf b p n) tbl s r) (sortsIn b p n a 3 (r .count)) q
       ∙ ap chosen (bindings-none (storeOf b p n) tbl s r z)
 
   -- The first pair's sort stands two bytes behind its name.
-  module _ (h : Bound n s tbl r) (some : 0 < r .paired) (v : ℕ) (e : v ≡ u16At s (r .pairs + 2)) where
+  module _ (h : Bound n s tbl r) (some : 0 < r .paired) {v : ℕ} (e : v ≡ u16At s (r .pairs + 2)) where
     place : r .pairs + 4 * 0 + 2 ≡ r .pairs + 2
     place = omega arith
 
@@ -154,7 +154,7 @@ module _ (b p : List ℕ) (n : ℕ) (s tbl : List ℕ) (r : TermRecord) (a : Lis
         → bound (r .number) (bindingsOver (storeOf b p n) tbl s r) (sortsIn b p n a 3 (r .count)) ≡ sort (sortAt b p n (getD tbl v 0))
     unfolding sortAt
     choice-is q =
-        choice-of (r .number) (bindingsOver (storeOf b p n) tbl s r) (sortsIn b p n a 3 (r .count)) q
+        choice-of (bindingsOver (storeOf b p n) tbl s r) (sortsIn b p n a 3 (r .count)) q
         ∙ ap chosen (bindings-first (storeOf b p n) tbl s r some)
         ∙ ap (λ (y : ℕ). sort (sortAt b p n (getD tbl (u16At s y) 0))) place
         ∙ ap (λ (i : ℕ). sort (sortAt b p n (getD tbl i 0))) (sym e)

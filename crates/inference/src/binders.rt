@@ -1,10 +1,14 @@
 // The inferred sort of a Binder.
 use answers::Answer;
+use answers::arguments::FIRST_AT;
 use answers::found;
 use answers::leaf;
 use answers::lists::lambda;
 use answers::refuse;
 use reader::TermRecord;
+use record::kinds::BINDER_CHOICE;
+use record::kinds::BINDER_LAMBDA;
+use record::kinds::BYTE_BOOL;
 use record::u16_at;
 use rows::Cause;
 ghost use Rattle.record.specs.Decode.{storeOf};
@@ -33,8 +37,8 @@ pub fn bound(
     let number = term.number;
     let pairs = term.pairs;
     let paired = term.paired;
-    if number == 3 {
-        let body = u16_at(args, 3);
+    if number == BINDER_LAMBDA {
+        let body = u16_at(args, FIRST_AT);
         return lambda(
             records,
             places,
@@ -49,8 +53,8 @@ pub fn bound(
             body,
         );
     }
-    if number != 2 {
-        return leaf(records, places, index, count, used, 3);
+    if number != BINDER_CHOICE {
+        return leaf(records, places, index, count, used, BYTE_BOOL);
     }
     if paired == 0 {
         return refuse(Cause::Panics, count, used);

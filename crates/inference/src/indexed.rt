@@ -2,11 +2,29 @@
 // arguments, whose sorts are in `args` from byte 3 on.
 use answers::Answer;
 use answers::arguments::Constant;
+use answers::arguments::FIRST_AT;
 use answers::arguments::index_at;
 use answers::bit_vector;
 use answers::leaf;
 use answers::refuse;
 use inferring::single::argument;
+use record::kinds::BYTE_BOOL;
+use record::kinds::BYTE_INT;
+use record::kinds::BYTE_PARAM_BIT_VEC;
+use record::kinds::BYTE_REG_LAN;
+use record::kinds::PARAM_BIT_OF;
+use record::kinds::PARAM_EXTRACT;
+use record::kinds::PARAM_INT_OF;
+use record::kinds::PARAM_INT_TO_BV;
+use record::kinds::PARAM_RE_LOOP;
+use record::kinds::PARAM_RE_POWER;
+use record::kinds::PARAM_REPEAT;
+use record::kinds::PARAM_ROTATE_LEFT;
+use record::kinds::PARAM_ROTATE_RIGHT;
+use record::kinds::PARAM_SIGN_EXTEND;
+use record::kinds::PARAM_ZERO_EXTEND;
+use record::kinds::SORT_BIT_VEC;
+use record::kinds::SORT_PARAM_BIT_VEC;
 use record::u16_at;
 use rows::Cause;
 use store::entries::entry;
@@ -47,7 +65,7 @@ pub fn extracted(
             }
             bit_vector(records, places, index, count, used, i - j + 1)
         }
-        Constant::Other => leaf(records, places, index, count, used, 10),
+        Constant::Other => leaf(records, places, index, count, used, BYTE_PARAM_BIT_VEC),
     }
 }
 
@@ -70,14 +88,14 @@ pub fn resized(
     if n == 0 {
         return refuse(Cause::Panics, count, used);
     }
-    let k = u16_at(args, 3);
+    let k = u16_at(args, FIRST_AT);
     let a = entry(records, places, k);
     let kind = a.kind;
     let width = a.number;
-    if kind == 10 {
-        return leaf(records, places, index, count, used, 10);
+    if kind == SORT_PARAM_BIT_VEC {
+        return leaf(records, places, index, count, used, BYTE_PARAM_BIT_VEC);
     }
-    if kind != 9 {
+    if kind != SORT_BIT_VEC {
         return refuse(Cause::Panics, count, used);
     }
     if adds {
@@ -106,7 +124,7 @@ pub fn by_index(
     ensures { λ r. ⌜ AnswerIs (now (records .entry)) (now (places .entry)) count (indexed op (some i ∷ constantsIn (now (sheet .entry)) (now (starts .entry)) (second + 2) (seconds - 1)) (sortsIn (now (records .entry)) (now (places .entry)) count (now (args .entry)) 3 n)) (now (records .exit)) (now (places .exit)) (now (index .exit)) r ⌝ }
 {
     match op {
-        0 => extracted(
+        PARAM_EXTRACT => extracted(
             records,
             places,
             index,
@@ -118,8 +136,18 @@ pub fn by_index(
             seconds,
             i,
         ),
-        3 | 4 => resized(records, places, index, count, used, args, n, i, true),
-        7 => resized(records, places, index, count, used, args, n, i, false),
+        PARAM_ZERO_EXTEND | PARAM_SIGN_EXTEND => resized(
+            records,
+            places,
+            index,
+            count,
+            used,
+            args,
+            n,
+            i,
+            true,
+        ),
+        PARAM_REPEAT => resized(records, places, index, count, used, args, n, i, false),
         _ => bit_vector(records, places, index, count, used, i),
     }
 }
@@ -162,7 +190,7 @@ pub fn first_index(
             n,
             i,
         ),
-        Constant::Other => leaf(records, places, index, count, used, 10),
+        Constant::Other => leaf(records, places, index, count, used, BYTE_PARAM_BIT_VEC),
     }
 }
 
@@ -186,24 +214,25 @@ pub fn indexed(
     ensures { λ r. ⌜ AnswerIs (now (records .entry)) (now (places .entry)) count (indexed op (constantsIn (now (sheet .entry)) (now (starts .entry)) second seconds) (sortsIn (now (records .entry)) (now (places .entry)) count (now (args .entry)) 3 n)) (now (records .exit)) (now (places .exit)) (now (index .exit)) r ⌝ }
 {
     match op {
-        0 | 3 | 4 | 7 | 9 => first_index(
-            records,
-            places,
-            index,
-            count,
-            used,
-            sheet,
-            starts,
-            second,
-            seconds,
-            op,
-            args,
-            n,
-        ),
-        1 => leaf(records, places, index, count, used, 3),
-        2 => leaf(records, places, index, count, used, 4),
-        5 | 6 => argument(count, used, args, n, 0),
-        10 | 11 => leaf(records, places, index, count, used, 7),
+        PARAM_EXTRACT | PARAM_ZERO_EXTEND | PARAM_SIGN_EXTEND | PARAM_REPEAT | PARAM_INT_TO_BV =>
+            first_index(
+                records,
+                places,
+                index,
+                count,
+                used,
+                sheet,
+                starts,
+                second,
+                seconds,
+                op,
+                args,
+                n,
+            ),
+        PARAM_BIT_OF => leaf(records, places, index, count, used, BYTE_BOOL),
+        PARAM_INT_OF => leaf(records, places, index, count, used, BYTE_INT),
+        PARAM_ROTATE_LEFT | PARAM_ROTATE_RIGHT => argument(count, used, args, n, 0),
+        PARAM_RE_POWER | PARAM_RE_LOOP => leaf(records, places, index, count, used, BYTE_REG_LAN),
         _ => refuse(Cause::Panics, count, used),
     }
 }

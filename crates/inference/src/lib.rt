@@ -4,6 +4,7 @@ pub mod binders;
 pub mod indexed;
 
 use answers::Answer;
+use answers::arguments::INFERRED;
 use answers::bit_vector;
 use answers::found;
 use answers::leaf;
@@ -14,6 +15,21 @@ use indexed::indexed;
 use inferring::op::operated;
 use inferring::single::last_of;
 use reader::TermRecord;
+use record::kinds::BYTE_INT;
+use record::kinds::BYTE_REAL;
+use record::kinds::BYTE_REG_LAN;
+use record::kinds::BYTE_STRING;
+use record::kinds::TERM_APP;
+use record::kinds::TERM_BINDER;
+use record::kinds::TERM_BIT_VECTOR;
+use record::kinds::TERM_INTEGER;
+use record::kinds::TERM_LET;
+use record::kinds::TERM_MATCH;
+use record::kinds::TERM_OP;
+use record::kinds::TERM_PARAM_OP;
+use record::kinds::TERM_REAL;
+use record::kinds::TERM_REG_LAN;
+use record::kinds::TERM_STRING;
 use rows::Cause;
 use site::parts_judged;
 ghost use Rattle.record.specs.Decode.{storeOf};
@@ -40,11 +56,11 @@ pub fn plain(
     let number = term.number;
     let sort = term.sort;
     match kind {
-        0 => leaf(records, places, index, count, used, 4),
-        1 => leaf(records, places, index, count, used, 5),
-        2 => leaf(records, places, index, count, used, 6),
-        3 => leaf(records, places, index, count, used, 7),
-        4 => bit_vector(records, places, index, count, used, number),
+        TERM_INTEGER => leaf(records, places, index, count, used, BYTE_INT),
+        TERM_REAL => leaf(records, places, index, count, used, BYTE_REAL),
+        TERM_STRING => leaf(records, places, index, count, used, BYTE_STRING),
+        TERM_REG_LAN => leaf(records, places, index, count, used, BYTE_REG_LAN),
+        TERM_BIT_VECTOR => bit_vector(records, places, index, count, used, number),
         _ => {
             let k = table[sort] as usize;
             found(k, count, used)
@@ -76,7 +92,7 @@ pub fn composed(
     let second = term.second;
     let seconds = term.seconds;
     match kind {
-        7 => operated(
+        TERM_OP => operated(
             records,
             places,
             index,
@@ -89,7 +105,7 @@ pub fn composed(
             args,
             n,
         ),
-        8 => bound(
+        TERM_BINDER => bound(
             records,
             places,
             index,
@@ -100,8 +116,8 @@ pub fn composed(
             term,
             args,
         ),
-        9 => last_of(count, used, args, n, 0),
-        10 => last_of(count, used, args, n, 1),
+        TERM_LET => last_of(count, used, args, n, 0),
+        TERM_MATCH => last_of(count, used, args, n, 1),
         _ => indexed(
             records,
             places,
@@ -141,13 +157,13 @@ pub fn infer(
     requires { ⌜ TermAsks (now records) (now places) (now index) count used (now params) (now images) (now bound) (now sheet) (now table) (now starts) (now rows) term (now args) ⌝ }
     ensures { λ r. ⌜ TermIs inferred 0 (now (records .entry)) (now (places .entry)) count (now (params .entry)) (now (images .entry)) (now (bound .entry)) (now (sheet .entry)) (now (table .entry)) (now (starts .entry)) (now (rows .entry)) term (now (records .exit)) (now (places .exit)) (now (index .exit)) (now (params .exit)) (now (images .exit)) (now (bound .exit)) r ⌝ }
 {
-    if !parts_judged(sheet, rows, 0, term, args) {
+    if !parts_judged(sheet, rows, INFERRED, term, args) {
         return refuse(Cause::Below, count, used);
     }
     let kind = term.kind;
     let n = term.count;
     match kind {
-        6 => applied(
+        TERM_APP => applied(
             records,
             places,
             index,
@@ -159,7 +175,7 @@ pub fn infer(
             args,
             n,
         ),
-        7..=11 => composed(
+        TERM_OP..=TERM_PARAM_OP => composed(
             records,
             places,
             index,

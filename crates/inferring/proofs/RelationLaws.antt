@@ -52,9 +52,9 @@ module _ (b p : List ℕ) (k : ℕ) (r : SortRecord) (q : EntryHas b p k r) wher
 
   -- The sort inside a Set, by the number that was read.
   module _ (i : r .kind ≡ 14) where
-    one-part : (n : ℕ) → Stored b p n → k < n → 1 ≤ r .count
+    one-part : {n : ℕ} → Stored b p n → k < n → 1 ≤ r .count
     unfolding leastOf leasts
-    one-part n st l =
+    one-part {n} st l =
         let f = fieldsAt b (getD p k 0) in
         let e = q n st l .place .same in
         let kind : f .kind ≡ 14 = ap (λ (g : Fields). g .kind) e ∙ i in
@@ -62,38 +62,38 @@ module _ (b p : List ℕ) (k : ℕ) (r : SortRecord) (q : EntryHas b p k r) wher
         omega (arith, ap (λ (g : Fields). length (g .list)) e, length-numbersAt b (r .list) (r .count))
 
     pub inner-place : HeadAsks b p k → r .list + 2 ≤ length b
-    inner-place (n, h) = omega (arith, one-part n (h .stored) (h .known), q n (h .stored) (h .known) .place .list)
+    inner-place (n, h) = omega (arith, one-part (h .stored) (h .known), q n (h .stored) (h .known) .place .list)
 
-    module _ (v : ℕ) (z : v ≡ u16At b (r .list)) where
-      inner-below : (n : ℕ) → Stored b p n → k < n → v < n
-      inner-below n st l =
+    module _ {v : ℕ} (z : v ≡ u16At b (r .list)) where
+      inner-below : {n : ℕ} → Stored b p n → k < n → v < n
+      inner-below {n} st l =
           let o : r .list + 2 * 0 ≡ r .list = omega arith in
-          let h = subst (λ (y : ℕ). u16At b y < k) o (q n st l .below 0 (one-part n st l)) in
+          let h = subst (λ (y : ℕ). u16At b y < k) o (q n st l .below 0 (one-part st l)) in
           omega arith
 
       pub inner-entry : HeadAsks b p k → EntryAsks b p v
-      inner-entry (n, h) = entry-asks b p n v (h .stored) (inner-below n (h .stored) (h .known))
+      inner-entry (n, h) = entry-asks b p n v (h .stored) (inner-below (h .stored) (h .known))
 
-      inner-sort : (n : ℕ) → Stored b p n → k < n → sortAt b p n k ≡ node 14 (r .name) (r .number) (sortAt b p n v then sortsIn b p n b (r .list + 2) (r .count - 1))
+      inner-sort : {n : ℕ} → Stored b p n → k < n → sortAt b p n k ≡ node 14 (r .name) (r .number) (sortAt b p n v then sortsIn b p n b (r .list + 2) (r .count - 1))
       unfolding sortAt
-      inner-sort n st l =
+      inner-sort {n} st l =
           walk-node b p n k st l r (q n st l) (λ y. absurd (omega arith)) (λ y. absurd (omega arith))
           ∙ ap₂ (λ (j : ℕ) (ss : Sorts). node j (r .name) (r .number) ss) i
-          (parts-more (storeOf b p n) b (r .list) (r .count) (one-part n st l)
+          (parts-more (storeOf b p n) b (r .list) (r .count) (one-part st l)
           ∙ ap (λ (j : ℕ). getD (storeOf b p n) j leaf then sortsIn b p n b (r .list + 2) (r .count - 1)) (sym z))
 
       module _ (c : SortRecord) (d : EntryHas b p v c) where
         pub tuple-none : (c .kind ≡ 15 → ⊥) → ColumnsHas b p k NoColumns
         tuple-none h n st l =
-            ap columns (inner-sort n st l)
-            ∙ not-tuple (r .name) (r .number) (sortAt b p n v) (sortsIn b p n b (r .list + 2) (r .count - 1)) (λ y. h (d n st (inner-below n st l) .kind ∙ y))
+            ap columns (inner-sort st l)
+            ∙ not-tuple (r .name) (r .number) (sortAt b p n v) (sortsIn b p n b (r .list + 2) (r .count - 1)) (λ y. h (d n st (inner-below st l) .kind ∙ y))
 
         pub columns-list : c .kind ≡ 15 → ColumnsHas b p k (Are (c .list) (c .count))
         columns-list h n st l =
-            let o = inner-below n st l in
+            let o = inner-below st l in
             let e = d n st o in
             let cs = sortsIn b p n b (c .list) (c .count) in (
-              ap columns (inner-sort n st l)
+              ap columns (inner-sort st l)
                   ∙ ap (λ (t : Sort). columns (node 14 (r .name) (r .number) (t then sortsIn b p n b (r .list + 2) (r .count - 1))))
                   (walk-node b p n v st o c e (λ y. absurd (omega arith)) (λ y. absurd (omega arith))
                   ∙ ap (λ (j : ℕ). node j (c .name) (c .number) cs) h),
@@ -161,15 +161,15 @@ but-last st b x (suc m) = ap (λ (ss : Sorts). getD st (u16At b x) leaf then ss)
 pub put-none : (b : List ℕ) (x : ℕ) (a : List ℕ) (i : ℕ) → PutHas b x 0 a i a
 put-none b x a i f h e = let o : i ≡ i + 0 = omega arith in subst (λ (m : ℕ). Filled a f m) o h
 
-pub put-more : (b : List ℕ) (x m : ℕ) (a : List ℕ) (i : ℕ) (c : List ℕ) (v : ℕ) → 3 + 2 * (i + m) + 2 ≤ length c → v ≡ u16At b (x + 2 * m)
+pub put-more : (b : List ℕ) (x m : ℕ) (a : List ℕ) (i : ℕ) (c : List ℕ) {v : ℕ} → 3 + 2 * (i + m) + 2 ≤ length c → v ≡ u16At b (x + 2 * m)
     → PutHas b x m a i c → PutHas b x (m + 1) a i (putAt c (3 + 2 * (i + m)) v)
-put-more b x m a i c v room z h f g e =
+put-more b x m a i c {v} room z h f g e =
     let o : i + m + 1 ≡ i + (m + 1) = omega arith in
     subst (λ (j : ℕ). Filled (putAt c (3 + 2 * (i + m)) v) f j) o
     (filled-more c f (i + m) v room (z ∙ e m (omega arith)) (h f g (λ j l. e j (omega arith))))
 
 ---------------------------------------------------------------- the columns backwards
-module _ (b p ix : List ℕ) (n u : ℕ) (x m : ℕ) (st : Standing b n x m) (c : List ℕ) (h : BackwardsIs b x m c) where
+module _ {b : List ℕ} (p ix : List ℕ) {n : ℕ} (u : ℕ) {x m : ℕ} (st : Standing b n x m) (c : List ℕ) (h : BackwardsIs b x m c) where
   pub backwards-asks : Good b p ix n u → 131 ≤ length c → ListAsks b p ix n u c m
   backwards-asks g room = record { good = g; room = room; below = λ j l. omega (arith, h j l, st .below (m - 1 - j) (omega arith)) }
 
@@ -180,12 +180,12 @@ module _ (b p ix : List ℕ) (n u : ℕ) (x m : ℕ) (st : Standing b n x m) (c 
       ap (λ (i : ℕ). sortsIn b p n c 3 i) e ∙ sorts-back (storeOf b p n) c b 3 x m 0 h
 
 -- RelTranspose of a sort by its columns.
-module _ (ss : Sorts) (s : Sort) (rest : Sorts) (e : ss ≡ s then rest) where
+module _ {ss : Sorts} (s : Sort) (rest : Sorts) (e : ss ≡ s then rest) where
   pub trans-none : columns s ≡ none → transposeOf ss ≡ refused Panics
   trans-none h = ap transposeOf e ∙ ap (overColumns (λ xs. relation (backwards xs end))) h
 
-  pub trans-is : (cs ds : Sorts) → columns s ≡ some cs → ds ≡ backwards cs end → transposeOf ss ≡ sort (set (tuple ds))
-  trans-is cs ds h d = ap transposeOf e ∙ ap (overColumns (λ xs. relation (backwards xs end))) h ∙ ap (λ (i : Sorts). sort (set (tuple i))) (sym d)
+  pub trans-is : (cs : Sorts) {ds : Sorts} → columns s ≡ some cs → ds ≡ backwards cs end → transposeOf ss ≡ sort (set (tuple ds))
+  trans-is cs {ds} h d = ap transposeOf e ∙ ap (overColumns (λ xs. relation (backwards xs end))) h ∙ ap (λ (i : Sorts). sort (set (tuple i))) (sym d)
 
 ---------------------------------------------------------------- side by side
 abbrev sideBy : Bool → ℕ → ℕ → ℕ
@@ -204,7 +204,7 @@ side-high b x m y j =
     let e : m + j - m ≡ j = omega arith in
     rw (lt-leb (suc (m + j)) m (omega arith)) (ap (λ (i : ℕ). u16At b (y + 2 * i)) e)
 
-module _ (b p ix : List ℕ) (n u : ℕ) (a : List ℕ) (x m y q : ℕ) (asks : SideAsks b p ix n u a x m y q) where
+module _ {b p ix : List ℕ} {n u : ℕ} {a : List ℕ} {x m y q : ℕ} (asks : SideAsks b p ix n u a x m y q) where
   pub side-first : PutAsks b x m a 0
   side-first = record { within = asks .left .within; room = omega (arith, asks .left .few, asks .room); low = omega arith; few = asks .left .few }
 
@@ -307,53 +307,53 @@ module _ (b p a : List ℕ) (m : ℕ) where
   pub both-few : m < 2 → BothHas b p a m Lack
   both-few l n h f = none-both f (storeOf b p n) a 3 m l
 
-  module _ (l : 2 ≤ m) (k : ℕ) (e : k ≡ u16At a 3) where
-    left-known : (n : ℕ) → Referring b p n a 3 m → k < n
-    left-known n h = subst (λ (i : ℕ). i < n) (sym e) (refer-first b p n a 3 m h (omega arith))
+  module _ (l : 2 ≤ m) {k : ℕ} (e : k ≡ u16At a 3) where
+    left-known : {n : ℕ} → Referring b p n a 3 m → k < n
+    left-known {n} h = subst (λ (i : ℕ). i < n) (sym e) (refer-first b p n a 3 m h (omega arith))
 
     pub left-asks : ReadAsks b p a 3 m → HeadAsks b p k
-    left-asks (n, h) = (n, record { stored = h .stored; known = left-known n h })
+    left-asks (n, h) = (n, record { stored = h .stored; known = left-known h })
 
-    two-sorts : (n : ℕ) → Referring b p n a 3 m → sortsIn b p n a 3 m ≡ sortAt b p n k then (sortAt b p n (u16At a 5) then sortsIn b p n a 7 (m - 1 - 1))
-    two-sorts n h =
+    two-sorts : {n : ℕ} → Referring b p n a 3 m → sortsIn b p n a 3 m ≡ sortAt b p n k then (sortAt b p n (u16At a 5) then sortsIn b p n a 7 (m - 1 - 1))
+    two-sorts {n} h =
         let more : 0 < m = omega arith in
         sorts-first b p n a 3 m h more
         ∙ ap₂ (λ (i : ℕ) (ss : Sorts). sortAt b p n i then ss) (sym e) (sorts-first b p n a 5 (m - 1) (refer-rest b p n a 3 m h more) (omega arith))
 
     pub left-none : ColumnsHas b p k NoColumns → BothHas b p a m Lack
     left-none c n h f =
-        ap (overBoth f) (two-sorts n h)
-        ∙ over-left f (sortAt b p n k) (sortAt b p n (u16At a 5)) (sortsIn b p n a 7 (m - 1 - 1)) (c n (h .stored) (left-known n h))
+        ap (overBoth f) (two-sorts h)
+        ∙ over-left f (sortAt b p n k) (sortAt b p n (u16At a 5)) (sortsIn b p n a 7 (m - 1 - 1)) (c n (h .stored) (left-known h))
 
-    module _ (v : ℕ) (z : v ≡ u16At a 5) where
-      right-known : (n : ℕ) → Referring b p n a 3 m → v < n
-      right-known n h =
+    module _ {v : ℕ} (z : v ≡ u16At a 5) where
+      right-known : {n : ℕ} → Referring b p n a 3 m → v < n
+      right-known {n} h =
           let more : 0 < m = omega arith in
           subst (λ (i : ℕ). i < n) (sym z) (refer-first b p n a 5 (m - 1) (refer-rest b p n a 3 m h more) (omega arith))
 
       pub right-asks : ReadAsks b p a 3 m → HeadAsks b p v
-      right-asks (n, h) = (n, record { stored = h .stored; known = right-known n h })
+      right-asks (n, h) = (n, record { stored = h .stored; known = right-known h })
 
       module _ (x c : ℕ) (left : ColumnsHas b p k (Are x c)) where
         pub right-none : ColumnsHas b p v NoColumns → BothHas b p a m Lack
         right-none r n h f =
-            ap (overBoth f) (two-sorts n h ∙ ap (λ (i : ℕ). sortAt b p n k then (sortAt b p n i then sortsIn b p n a 7 (m - 1 - 1))) (sym z))
-            ∙ over-right f (sortAt b p n k) (sortAt b p n v) (sortsIn b p n a 7 (m - 1 - 1)) (sortsIn b p n b x c) (left n (h .stored) (left-known n h) .0) (r n (h .stored) (right-known n h))
+            ap (overBoth f) (two-sorts h ∙ ap (λ (i : ℕ). sortAt b p n k then (sortAt b p n i then sortsIn b p n a 7 (m - 1 - 1))) (sym z))
+            ∙ over-right f (sortAt b p n k) (sortAt b p n v) (sortsIn b p n a 7 (m - 1 - 1)) (sortsIn b p n b x c) (left n (h .stored) (left-known h) .0) (r n (h .stored) (right-known h))
 
         pub both-have : (y d : ℕ) → ColumnsHas b p v (Are y d) → BothHas b p a m (Have x c y d)
         both-have y d r n h =
-            let one = left n (h .stored) (left-known n h) in
-            let two = r n (h .stored) (right-known n h) in
+            let one = left n (h .stored) (left-known h) in
+            let two = r n (h .stored) (right-known h) in
             record {
               is = λ f.
-                  ap (overBoth f) (two-sorts n h ∙ ap (λ (i : ℕ). sortAt b p n k then (sortAt b p n i then sortsIn b p n a 7 (m - 1 - 1))) (sym z))
+                  ap (overBoth f) (two-sorts h ∙ ap (λ (i : ℕ). sortAt b p n k then (sortAt b p n i then sortsIn b p n a 7 (m - 1 - 1))) (sym z))
                   ∙ over-two f (sortAt b p n k) (sortAt b p n v) (sortsIn b p n a 7 (m - 1 - 1)) (sortsIn b p n b x c) (sortsIn b p n b y d) (one .0) (two .0);
               left = one .1;
               right = two .1;
             }
 
-pub side-of : (b p ix : List ℕ) (n u : ℕ) (a : List ℕ) (m : ℕ) → ArgsAsks b p ix n u a m → (x c y d : ℕ) → Having b p n (sortsIn b p n a 3 m) x c y d → SideAsks b p ix n u a x c y d
-side-of b p ix n u a m h x c y d e = record { good = h .good; room = h .room; left = e .left; right = e .right }
+pub side-of : {b p ix : List ℕ} {n u : ℕ} {a : List ℕ} {m : ℕ} → ArgsAsks b p ix n u a m → {x c y d : ℕ} → Having b p n (sortsIn b p n a 3 m) x c y d → SideAsks b p ix n u a x c y d
+side-of {b} {p} {ix} {n} {u} {a} {m} h {x} {c} {y} {d} e = record { good = h .good; room = h .room; left = e .left; right = e .right }
 
 pub known-entry : {b p : List ℕ} {k : ℕ} → HeadAsks b p k → EntryAsks b p k
 known-entry {b} {p} {k} (n, h) = entry-asks b p n k (h .stored) (h .known)

@@ -75,8 +75,8 @@ module _ (b p : List ℕ) (n : ℕ) (a : List ℕ) where
       let e : 3 + 2 * m ≡ 1 + 2 * suc m = omega arith in
       last-behind 3 m i h ∙ ap (λ (y : ℕ). sort (sortAt b p n (u16At a y))) e
 
-pub last-known : (b p : List ℕ) (n : ℕ) (a : List ℕ) (m : ℕ) → Referring b p n a 3 m → 0 < m → u16At a (1 + 2 * m) < n
-last-known b p n a m h more =
+pub last-known : {b p : List ℕ} {n : ℕ} {a : List ℕ} {m : ℕ} → Referring b p n a 3 m → 0 < m → u16At a (1 + 2 * m) < n
+last-known {b} {p} {n} {a} {m} h more =
     let e : 3 + 2 * (m - 1) ≡ 1 + 2 * m = omega arith in
     subst (λ (y : ℕ). u16At a y < n) e (h .below (m - 1) (omega arith))
 
@@ -98,9 +98,9 @@ real-plain (node k a w ss) f h =
     let nl : ss ≡ end = no-parts ss (sym (length-indices ss []) ∙ ap length (f .shape .proper .noList (ap (bit 16) one))) in
     ap (λ (i : ℕ). node i a w ss) h ∙ ap (λ (i : ℕ). node 5 i w ss) na ∙ ap (λ (i : ℕ). node 5 0 i ss) nw ∙ ap (λ (i : Sorts). node 5 0 0 i) nl
 
-real-same : (s : Sort) → Formed s → kindOf s ≡ 5 → same s real ≡ true
+real-same : {s : Sort} → Formed s → kindOf s ≡ 5 → same s real ≡ true
 unfolding same
-real-same s f h = ap (λ (t : Sort). same t real) (real-plain s f h)
+real-same {s} f h = ap (λ (t : Sort). same t real) (real-plain s f h)
 
 real-other : (s : Sort) → (kindOf s ≡ 5 → ⊥) → same s real ≡ false
 unfolding same
@@ -108,8 +108,8 @@ real-other (var v) h = refl
 real-other (par ns b) h = refl
 real-other (node k a w ss) h = rw (ne-eqb k 5 h) refl
 
-stored-formed : (b p : List ℕ) (n k : ℕ) → Stored b p n → k < n → Formed (sortAt b p n k)
-stored-formed b p n k st l = subst Formed (sym (sort-node b p n k st l)) (sort-formed (storeOf b p n) (fieldsAt b (getD p k 0)) (st .each k l .shape))
+stored-formed : {b p : List ℕ} {n : ℕ} (k : ℕ) → Stored b p n → k < n → Formed (sortAt b p n k)
+stored-formed {b} {p} {n} k st l = subst Formed (sym (sort-node b p n k st l)) (sort-formed (storeOf b p n) (fieldsAt b (getD p k 0)) (st .each k l .shape))
 
 some-here : (s : Sort) (ss : Sorts) → same s real ≡ true → someReal (s then ss) ≡ true
 unfolding someReal
@@ -122,19 +122,19 @@ some-on s ss h = rw h refl
 module _ {b p a : List ℕ} {m at left : ℕ} (w : Walking Bool someReal someReal b p a 3 m at left) where
   pub real-none : left ≡ 0 → RealHas b p a m false
   unfolding someReal
-  real-none z n h = walk-end w z n h
+  real-none z n h = walk-end w z h
 
-  module _ (some : 0 < left) (k : ℕ) (e : k ≡ u16At a at) (kind : ℕ) (q : KindHas b p k kind) where
+  module _ (some : 0 < left) {k : ℕ} (e : k ≡ u16At a at) (kind : ℕ) (q : KindHas b p k kind) where
     pub real-found : kind ≡ 5 → RealHas b p a m true
     real-found i n h =
-        walk-here w some k e n h
+        walk-here w some e h
         ∙ some-here (sortAt b p n k) (sortsIn b p n a (at + 2) (left - 1))
-        (real-same (sortAt b p n k) (stored-formed b p n k (h .stored) (walk-known w some k e n h)) (sym (walk-kind w some k e kind q n h) ∙ i))
+        (real-same (stored-formed k (h .stored) (walk-known w some e h)) (sym (walk-kind w some e kind q h) ∙ i))
 
     pub real-more : (kind ≡ 5 → ⊥) → Walking Bool someReal someReal b p a 3 m (at + 2) (left - 1)
     real-more i =
-        walk-on w some k e someReal
-        (λ n h ss. some-on (sortAt b p n k) ss (real-other (sortAt b p n k) (λ z. i (walk-kind w some k e kind q n h ∙ z))))
+        walk-on w some e someReal
+        (λ n h ss. some-on (sortAt b p n k) ss (real-other (sortAt b p n k) (λ z. i (walk-kind w some e kind q h ∙ z))))
 
 ---------------------------------------------------------------- no argument, and the first
 module _ (b p : List ℕ) (n : ℕ) (a : List ℕ) (m : ℕ) where
@@ -143,7 +143,7 @@ module _ (b p : List ℕ) (n : ℕ) (a : List ℕ) (m : ℕ) where
   sorts-none z = ap (λ (i : ℕ). sortsIn b p n a 3 i) z
 
 -- THE FIRST ARGUMENT, by the number that was read there.
-module _ (b p : List ℕ) (n : ℕ) (a : List ℕ) (m : ℕ) (h : Referring b p n a 3 m) (some : 0 < m) (k : ℕ) (e : k ≡ u16At a 3) where
+module _ {b p : List ℕ} {n : ℕ} {a : List ℕ} {m : ℕ} (h : Referring b p n a 3 m) (some : 0 < m) {k : ℕ} (e : k ≡ u16At a 3) where
   pub first-known : k < n
   first-known = subst (λ (i : ℕ). i < n) (sym e) (refer-first b p n a 3 m h some)
 
@@ -169,8 +169,8 @@ module _ (b p : List ℕ) (n : ℕ) (a : List ℕ) (m : ℕ) (h : Referring b p 
     pub element-in : r .kind ≡ 8 → r .list + 2 + 2 ≤ length b
     element-in i = omega (arith, two-parts i, read .place .list)
 
-    pub element-known : r .kind ≡ 8 → (v : ℕ) → v ≡ u16At b (r .list + 2) → v < n
-    element-known i v z =
+    pub element-known : r .kind ≡ 8 → {v : ℕ} → v ≡ u16At b (r .list + 2) → v < n
+    element-known i {v} z =
         let o : r .list + 2 * 1 ≡ r .list + 2 = omega arith in
         let l = subst (λ (y : ℕ). u16At b y < k) o (read .below 1 (omega (arith, two-parts i))) in
         omega (arith, first-known)
@@ -181,9 +181,9 @@ module _ (b p : List ℕ) (n : ℕ) (a : List ℕ) (m : ℕ) (h : Referring b p 
     element-of st x (suc zero) l = absurd (omega arith)
     element-of st x (suc (suc c)) l = refl
 
-    pub element-is : (i : r .kind ≡ 8) (v : ℕ) → v ≡ u16At b (r .list + 2) → selected (sortsIn b p n a 3 m) ≡ sort (sortAt b p n v)
+    pub element-is : (i : r .kind ≡ 8) {v : ℕ} → v ≡ u16At b (r .list + 2) → selected (sortsIn b p n a 3 m) ≡ sort (sortAt b p n v)
     unfolding sortAt
-    element-is i v z =
+    element-is i {v} z =
         ap selected first-then
         ∙ ap elementOf (walk-node b p n k (h .stored) first-known r read (λ y. absurd (omega arith)) (λ y. absurd (omega arith))
         ∙ ap (λ (j : ℕ). node j (r .name) (r .number) (sortsOf (storeOf b p n) (numbersAt b (r .list) (r .count)))) i)
@@ -206,7 +206,7 @@ abbrev pub widthIn : Option ℕ → Verdict
 widthIn none = sort paramBitVec
 widthIn (some w) = sort (bitvec w)
 
-module _ (sheet starts : List ℕ) (x m : ℕ) (h : ConstantsAsk sheet starts x m) where
+module _ {sheet starts : List ℕ} {x m : ℕ} (h : ConstantsAsk sheet starts x m) where
   pub written-none : m < 2 → constantWidth (constantsIn sheet starts x m) ≡ refused Panics
   unfolding constantsFrom numbersAt
   written-none l = go m l
@@ -226,7 +226,7 @@ module _ (sheet starts : List ℕ) (x m : ℕ) (h : ConstantsAsk sheet starts x 
       go none cs = refl
       go (some w) cs = refl
 
-  module _ (l : 2 ≤ m) (t : ℕ) (e : t ≡ u16At sheet (x + 2)) where
+  module _ (l : 2 ≤ m) {t : ℕ} (e : t ≡ u16At sheet (x + 2)) where
     place : x + 2 * 1 ≡ x + 2
     place = omega arith
 

@@ -33,28 +33,28 @@ pub record Walking (T : Type 0) (f g : Sorts → T) (b p a : List ℕ) (x m at l
 pub walk-start : (T : Type 0) (f : Sorts → T) (b p a : List ℕ) (x m : ℕ) → Walking T f f b p a x m x m
 walk-start T f b p a x m = record { each = λ n h. h; rest = λ n h. refl }
 
-no-sorts : (b p : List ℕ) (n : ℕ) (a : List ℕ) (x m : ℕ) → m ≡ 0 → sortsIn b p n a x m ≡ end
+no-sorts : (b p : List ℕ) (n : ℕ) (a : List ℕ) (x : ℕ) {m : ℕ} → m ≡ 0 → sortsIn b p n a x m ≡ end
 unfolding sortsOf numbersAt
-no-sorts b p n a x m z = ap (λ (i : ℕ). sortsIn b p n a x i) z
+no-sorts b p n a x {m} z = ap (λ (i : ℕ). sortsIn b p n a x i) z
 
 module _ {T : Type 0} {f g : Sorts → T} {b p a : List ℕ} {x m at left : ℕ} (w : Walking T f g b p a x m at left) where
-  pub walk-end : left ≡ 0 → (n : ℕ) → Referring b p n a x m → g (sortsIn b p n a x m) ≡ f end
-  walk-end z n h = sym (w .rest n h) ∙ ap f (no-sorts b p n a at left z)
+  pub walk-end : left ≡ 0 → {n : ℕ} → Referring b p n a x m → g (sortsIn b p n a x m) ≡ f end
+  walk-end z {n} h = sym (w .rest n h) ∙ ap f (no-sorts b p n a at z)
 
   module _ (some : 0 < left) where
     pub walk-in : ReadAsks b p a x m → at + 2 ≤ length a
     walk-in r = omega (arith, w .each (r .0) (r .1) .within)
 
-    module _ (k : ℕ) (e : k ≡ u16At a at) where
-      pub walk-known : (n : ℕ) → Referring b p n a x m → k < n
-      walk-known n h = subst (λ (i : ℕ). i < n) (sym e) (refer-first b p n a at left (w .each n h) some)
+    module _ {k : ℕ} (e : k ≡ u16At a at) where
+      pub walk-known : {n : ℕ} → Referring b p n a x m → k < n
+      walk-known {n} h = subst (λ (i : ℕ). i < n) (sym e) (refer-first b p n a at left (w .each n h) some)
 
       pub walk-entry : ReadAsks b p a x m → EntryAsks b p k
-      walk-entry r = entry-asks b p (r .0) k (r .1 .stored) (walk-known (r .0) (r .1))
+      walk-entry r = entry-asks b p (r .0) k (r .1 .stored) (walk-known (r .1))
 
       -- The argument that is looked at, before the others.
-      pub walk-here : (n : ℕ) → Referring b p n a x m → g (sortsIn b p n a x m) ≡ f (sortAt b p n k then sortsIn b p n a (at + 2) (left - 1))
-      walk-here n h =
+      pub walk-here : {n : ℕ} → Referring b p n a x m → g (sortsIn b p n a x m) ≡ f (sortAt b p n k then sortsIn b p n a (at + 2) (left - 1))
+      walk-here {n} h =
           sym (w .rest n h)
           ∙ ap f (sorts-first b p n a at left (w .each n h) some ∙ ap (λ (i : ℕ). sortAt b p n i then sortsIn b p n a (at + 2) (left - 1)) (sym e))
 
@@ -62,14 +62,14 @@ module _ {T : Type 0} {f g : Sorts → T} {b p a : List ℕ} {x m at left : ℕ}
       walk-on d step =
           record {
             each = λ n h. refer-rest b p n a at left (w .each n h) some;
-            rest = λ n h. sym (step n h (sortsIn b p n a (at + 2) (left - 1))) ∙ sym (walk-here n h);
+            rest = λ n h. sym (step n h (sortsIn b p n a (at + 2) (left - 1))) ∙ sym (walk-here h);
           }
 
-      pub walk-kind : (kind : ℕ) → KindHas b p k kind → (n : ℕ) → Referring b p n a x m → kind ≡ kindOf (sortAt b p n k)
-      walk-kind kind q n h = q n (h .stored) (walk-known n h)
+      pub walk-kind : (kind : ℕ) → KindHas b p k kind → {n : ℕ} → Referring b p n a x m → kind ≡ kindOf (sortAt b p n k)
+      walk-kind kind q {n} h = q n (h .stored) (walk-known h)
 
-      pub walk-read : (r : SortRecord) → EntryHas b p k r → (n : ℕ) → Referring b p n a x m → EntryIs b p n k r
-      walk-read r q n h = q n (h .stored) (walk-known n h)
+      pub walk-read : (r : SortRecord) → EntryHas b p k r → {n : ℕ} → Referring b p n a x m → EntryIs b p n k r
+      walk-read r q {n} h = q n (h .stored) (walk-known h)
 
 pub none-left : (i : ℕ) → i ≤ 0 → i ≡ 0
 none-left i h = omega arith
@@ -81,8 +81,8 @@ pub few-of : {b p a : List ℕ} {m : ℕ} → WidthAsks b p a m → m ≤ 64
 few-of (n, f) = f .few
 
 ---------------------------------------------------------------- one argument of a vector operator
-apart : (k i j : ℕ) → k ≡ i → (i ≡ j → ⊥) → k ≡ j → ⊥
-apart k i j e d q = d (sym e ∙ q)
+apart : {k : ℕ} (i j : ℕ) → k ≡ i → (i ≡ j → ⊥) → k ≡ j → ⊥
+apart {k} i j e d q = d (sym e ∙ q)
 
 nine-ten : _≡_ {A = ℕ} 10 9 → ⊥
 nine-ten e = omega arith
@@ -93,7 +93,7 @@ first-known s ss h = rw (eq-eqb (kindOf s) 9 h) refl
 
 first-unknown : (s : Sort) (ss : Sorts) → kindOf s ≡ 10 → firstVector (s then ss) ≡ firstVector ss
 unfolding firstVector
-first-unknown s ss h = rw (ne-eqb (kindOf s) 9 (apart (kindOf s) 10 9 h nine-ten), param-kind s, eq-eqb (kindOf s) 10 h) refl
+first-unknown s ss h = rw (ne-eqb (kindOf s) 9 (apart 10 9 h nine-ten), param-kind s, eq-eqb (kindOf s) 10 h) refl
 
 first-other : (s : Sort) (ss : Sorts) → (kindOf s ≡ 9 → ⊥) → (kindOf s ≡ 10 → ⊥) → firstVector (s then ss) ≡ refused Panics
 unfolding firstVector
@@ -105,7 +105,7 @@ cat-known w s ss h = rw (eq-eqb (kindOf s) 9 h) refl
 
 cat-unknown : (w : ℕ) (s : Sort) (ss : Sorts) → kindOf s ≡ 10 → concatFrom w (s then ss) ≡ concatUnknown ss
 unfolding concatFrom
-cat-unknown w s ss h = rw (ne-eqb (kindOf s) 9 (apart (kindOf s) 10 9 h nine-ten), param-kind s, eq-eqb (kindOf s) 10 h) refl
+cat-unknown w s ss h = rw (ne-eqb (kindOf s) 9 (apart 10 9 h nine-ten), param-kind s, eq-eqb (kindOf s) 10 h) refl
 
 cat-other : (w : ℕ) (s : Sort) (ss : Sorts) → (kindOf s ≡ 9 → ⊥) → (kindOf s ≡ 10 → ⊥) → concatFrom w (s then ss) ≡ refused Panics
 unfolding concatFrom
@@ -132,37 +132,37 @@ unknown-other s ss h d = rw (vector-kind s, ne-eqb (kindOf s) 9 h, ne-eqb (kindO
 module _ {b p a : List ℕ} {m at left : ℕ} (w : Walking Verdict firstVector firstVector b p a 3 m at left) where
   pub scan-none : left ≡ 0 → ScanHas b p a m Nothing
   unfolding firstVector
-  scan-none z n h = walk-end w z n h
+  scan-none z n h = walk-end w z h
 
-  module _ (some : 0 < left) (k : ℕ) (e : k ≡ u16At a at) (kind : ℕ) (q : KindHas b p k kind) where
+  module _ (some : 0 < left) {k : ℕ} (e : k ≡ u16At a at) (kind : ℕ) (q : KindHas b p k kind) where
     pub scan-found : kind ≡ 9 → ScanHas b p a m (Vector k)
     scan-found i n h =
-        (walk-known w some k e n h, walk-here w some k e n h ∙ first-known (sortAt b p n k) (sortsIn b p n a (at + 2) (left - 1)) (sym (walk-kind w some k e kind q n h) ∙ i))
+        (walk-known w some e h, walk-here w some e h ∙ first-known (sortAt b p n k) (sortsIn b p n a (at + 2) (left - 1)) (sym (walk-kind w some e kind q h) ∙ i))
 
     pub scan-other : (kind ≡ 9 → ⊥) → (kind ≡ 10 → ⊥) → ScanHas b p a m Other
     scan-other i j n h =
-        let o = walk-kind w some k e kind q n h in
-        walk-here w some k e n h ∙ first-other (sortAt b p n k) (sortsIn b p n a (at + 2) (left - 1)) (λ z. i (o ∙ z)) (λ z. j (o ∙ z))
+        let o = walk-kind w some e kind q h in
+        walk-here w some e h ∙ first-other (sortAt b p n k) (sortsIn b p n a (at + 2) (left - 1)) (λ z. i (o ∙ z)) (λ z. j (o ∙ z))
 
     pub scan-more : kind ≡ 10 → Walking Verdict firstVector firstVector b p a 3 m (at + 2) (left - 1)
-    scan-more i = walk-on w some k e firstVector (λ n h ss. first-unknown (sortAt b p n k) ss (sym (walk-kind w some k e kind q n h) ∙ i))
+    scan-more i = walk-on w some e firstVector (λ n h ss. first-unknown (sortAt b p n k) ss (sym (walk-kind w some e kind q h) ∙ i))
 
 ---------------------------------------------------------------- adding widths
 module _ {b p a : List ℕ} {x m at left : ℕ} (w : Walking Verdict concatUnknown concatUnknown b p a x m at left) where
   pub vectors-all : left ≡ 0 → VectorsHas b p a x m true
   unfolding concatUnknown
-  vectors-all z n h = walk-end w z n h
+  vectors-all z n h = walk-end w z h
 
-  module _ (some : 0 < left) (k : ℕ) (e : k ≡ u16At a at) (kind : ℕ) (q : KindHas b p k kind) where
+  module _ (some : 0 < left) {k : ℕ} (e : k ≡ u16At a at) (kind : ℕ) (q : KindHas b p k kind) where
     pub vectors-other : (kind ≡ 9 → ⊥) → (kind ≡ 10 → ⊥) → VectorsHas b p a x m false
     vectors-other i j n h =
-        let o = walk-kind w some k e kind q n h in
-        walk-here w some k e n h ∙ unknown-other (sortAt b p n k) (sortsIn b p n a (at + 2) (left - 1)) (λ z. i (o ∙ z)) (λ z. j (o ∙ z))
+        let o = walk-kind w some e kind q h in
+        walk-here w some e h ∙ unknown-other (sortAt b p n k) (sortsIn b p n a (at + 2) (left - 1)) (λ z. i (o ∙ z)) (λ z. j (o ∙ z))
 
     pub vectors-more : 9 ≤ kind → kind ≤ 10 → Walking Verdict concatUnknown concatUnknown b p a x m (at + 2) (left - 1)
     vectors-more l h =
-        walk-on w some k e concatUnknown
-        (λ n i ss. let o = walk-kind w some k e kind q n i in unknown-on (sortAt b p n k) ss (omega arith) (omega arith))
+        walk-on w some e concatUnknown
+        (λ n i ss. let o = walk-kind w some e kind q i in unknown-on (sortAt b p n k) ss (omega arith) (omega arith))
 
 -- The sum so far, of at most 65,535 for each argument.
 pub record Adding (b p a : List ℕ) (m at left sum : ℕ) : Type 0 where
@@ -175,45 +175,45 @@ adding-start b p a m = record { walk = walk-start Verdict (concatFrom 0) b p a 3
 module _ {b p a : List ℕ} {m at left sum : ℕ} (v : Adding b p a m at left sum) where
   pub widths-all : left ≡ 0 → WidthsHas b p a m (Sum sum)
   unfolding concatFrom
-  widths-all z n h = walk-end (v .walk) z n h
+  widths-all z n h = walk-end (v .walk) z h
 
-  module _ (some : 0 < left) (k : ℕ) (e : k ≡ u16At a at) (r : SortRecord) (q : EntryHas b p k r) where
-    read : (n : ℕ) → Referring b p n a 3 m → EntryIs b p n k r
-    read n h = walk-read (v .walk) some k e r q n h
+  module _ (some : 0 < left) {k : ℕ} (e : k ≡ u16At a at) (r : SortRecord) (q : EntryHas b p k r) where
+    read : {n : ℕ} → Referring b p n a 3 m → EntryIs b p n k r
+    read {n} h = walk-read (v .walk) some e r q h
 
     pub widths-other : (r .kind ≡ 9 → ⊥) → (r .kind ≡ 10 → ⊥) → WidthsHas b p a m NoVector
     widths-other i j n h =
-        let o = read n h .kind in
-        walk-here (v .walk) some k e n h ∙ cat-other sum (sortAt b p n k) (sortsIn b p n a (at + 2) (left - 1)) (λ z. i (o ∙ z)) (λ z. j (o ∙ z))
+        let o = read h .kind in
+        walk-here (v .walk) some e h ∙ cat-other sum (sortAt b p n k) (sortsIn b p n a (at + 2) (left - 1)) (λ z. i (o ∙ z)) (λ z. j (o ∙ z))
 
     -- A width is unknown: the others are only looked at.
     module _ (i : r .kind ≡ 10) where
       pub rest-asks : WidthAsks b p a m → ReadAsks b p a (at + 2) (left - 1)
       rest-asks (n, f) = (n, refer-rest b p n a at left (v .walk .each n (f .refer)) some)
 
-      rest-is : (t : Bool) → VectorsHas b p a (at + 2) (left - 1) t → (n : ℕ) → (h : Referring b p n a 3 m) → concatFrom 0 (sortsIn b p n a 3 m) ≡ concatUnknown (sortsIn b p n a (at + 2) (left - 1))
-      rest-is t u n h =
-          walk-here (v .walk) some k e n h
-          ∙ cat-unknown sum (sortAt b p n k) (sortsIn b p n a (at + 2) (left - 1)) (sym (read n h .kind) ∙ i)
+      rest-is : (t : Bool) → VectorsHas b p a (at + 2) (left - 1) t → {n : ℕ} → (h : Referring b p n a 3 m) → concatFrom 0 (sortsIn b p n a 3 m) ≡ concatUnknown (sortsIn b p n a (at + 2) (left - 1))
+      rest-is t u {n} h =
+          walk-here (v .walk) some e h
+          ∙ cat-unknown sum (sortAt b p n k) (sortsIn b p n a (at + 2) (left - 1)) (sym (read h .kind) ∙ i)
 
       pub widths-unknown : VectorsHas b p a (at + 2) (left - 1) true → WidthsHas b p a m Unknown
-      widths-unknown u n h = rest-is true u n h ∙ u n (refer-rest b p n a at left (v .walk .each n h) some)
+      widths-unknown u n h = rest-is true u h ∙ u n (refer-rest b p n a at left (v .walk .each n h) some)
 
       pub widths-none : VectorsHas b p a (at + 2) (left - 1) false → WidthsHas b p a m NoVector
-      widths-none u n h = rest-is false u n h ∙ u n (refer-rest b p n a at left (v .walk .each n h) some)
+      widths-none u n h = rest-is false u h ∙ u n (refer-rest b p n a at left (v .walk .each n h) some)
 
     pub width-small : WidthAsks b p a m → r .number ≤ 65535
     width-small (n, f) =
-        let l = walk-known (v .walk) some k e n (f .refer) in
-        let o = read n (f .refer) in
+        let l = walk-known (v .walk) some e (f .refer) in
+        let o = read (f .refer) in
         let s = f .refer .stored .each k l .shape .number in
         omega (arith, s, ap (λ (g : Fields). g .number) (o .place .same))
 
     pub widths-more : WidthAsks b p a m → r .kind ≡ 9 → Adding b p a m (at + 2) (left - 1) (sum + r .number)
     widths-more asks i =
         record {
-          walk = walk-on (v .walk) some k e (concatFrom (sum + r .number))
+          walk = walk-on (v .walk) some e (concatFrom (sum + r .number))
               (λ n h ss.
-              cat-known sum (sortAt b p n k) ss (sym (read n h .kind) ∙ i) ∙ ap (λ (j : ℕ). concatFrom (sum + j) ss) (sym (read n h .number)));
+              cat-known sum (sortAt b p n k) ss (sym (read h .kind) ∙ i) ∙ ap (λ (j : ℕ). concatFrom (sum + j) ss) (sym (read h .number)));
           low = omega (arith, width-small asks, v .low);
         }

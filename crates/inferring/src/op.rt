@@ -19,6 +19,7 @@ use answers::bit_vector;
 use answers::leaf;
 use answers::lists::listed;
 use inferred::Family;
+use record::kinds::BYTE_TUPLE;
 ghost use Rattle.inferred.specs.Family.{familyOf};
 ghost use Rattle.inferred.specs.Inferred.{operatedBy};
 ghost use Rattle.answers.specs.Answer.{AnswerIs};
@@ -42,8 +43,8 @@ pub fn gathered(
 {
     match family {
         Family::Singleton => singleton(records, places, index, count, used, args, n),
-        Family::Tuple => listed(records, places, index, count, used, 15, args, n),
-        Family::UnitTuple => listed(records, places, index, count, used, 15, args, 0),
+        Family::Tuple => listed(records, places, index, count, used, BYTE_TUPLE, args, n),
+        Family::UnitTuple => listed(records, places, index, count, used, BYTE_TUPLE, args, 0),
         Family::Transpose => transpose(records, places, index, count, used, args, n),
         Family::Join => join(records, places, index, count, used, args, n),
         _ => product(records, places, index, count, used, args, n),

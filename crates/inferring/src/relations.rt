@@ -1,9 +1,13 @@
 // The operators of relations, over n arguments whose sorts are in `args` from byte 3 on. The columns of an answer are put
 // together there.
 use answers::Answer;
+use answers::arguments::FIRST_AT;
+use answers::arguments::SECOND_AT;
 use answers::arguments::put_u16;
 use answers::lists::relation;
 use answers::refuse;
+use record::kinds::SORT_SET;
+use record::kinds::SORT_TUPLE;
 use record::u16_at;
 use rows::Cause;
 use store::entries::entry;
@@ -34,12 +38,12 @@ pub fn columns_of(records: &[u8], places: &[u32], k: usize) -> Columns
     let a = entry(records, places, k);
     let kind = a.kind;
     let list = a.list;
-    if kind != 14 {
+    if kind != SORT_SET {
         return Columns::NoColumns;
     }
     let inner = u16_at(records, list);
     let b = entry(records, places, inner);
-    if b.kind != 15 {
+    if b.kind != SORT_TUPLE {
         return Columns::NoColumns;
     }
     Columns::Are(b.list, b.count)
@@ -53,7 +57,7 @@ pub fn put_columns(records: &[u8], at: usize, n: usize, args: &mut [u8], from: u
     let mut i = 0;
     while i < n {
         let k = u16_at(records, at + 2 * i);
-        put_u16(args, 3 + 2 * (from + i), k);
+        put_u16(args, FIRST_AT + 2 * (from + i), k);
         i += 1;
     }
 }
@@ -66,7 +70,7 @@ pub fn put_backwards(records: &[u8], at: usize, n: usize, args: &mut [u8])
     let mut i = 0;
     while i < n {
         let k = u16_at(records, at + 2 * (n - 1 - i));
-        put_u16(args, 3 + 2 * i, k);
+        put_u16(args, FIRST_AT + 2 * i, k);
         i += 1;
     }
 }
@@ -87,7 +91,7 @@ pub fn transpose(
     if n == 0 {
         return refuse(Cause::Panics, count, used);
     }
-    let k = u16_at(args, 3);
+    let k = u16_at(args, FIRST_AT);
     let left = columns_of(records, places, k);
     match left {
         Columns::Are(at, m) => {
@@ -175,11 +179,11 @@ pub fn both_columns(records: &[u8], places: &[u32], args: &[u8], n: usize) -> Bo
     if n < 2 {
         return Both::Lack;
     }
-    let a = u16_at(args, 3);
+    let a = u16_at(args, FIRST_AT);
     let left = columns_of(records, places, a);
     match left {
         Columns::Are(at, m) => {
-            let b = u16_at(args, 5);
+            let b = u16_at(args, SECOND_AT);
             let right = columns_of(records, places, b);
             match right {
                 Columns::Are(to, q) => Both::Have(at, m, to, q),

@@ -1,6 +1,7 @@
 // The operators that look at one argument, or at the sorts of all, over n arguments whose sorts are in `args` from byte 3 on.
 use answers::Answer;
 use answers::arguments::Constant;
+use answers::arguments::FIRST_AT;
 use answers::arguments::constant_at;
 use answers::bit_vector;
 use answers::found;
@@ -8,6 +9,11 @@ use answers::leaf;
 use answers::lists::set_of;
 use answers::refuse;
 use answers::variable;
+use record::kinds::BYTE_INT;
+use record::kinds::BYTE_PARAM_BIT_VEC;
+use record::kinds::BYTE_REAL;
+use record::kinds::SORT_ARRAY;
+use record::kinds::SORT_REAL;
 use record::u16_at;
 use rows::Cause;
 use store::entries::entry;
@@ -27,7 +33,7 @@ pub fn argument(count: usize, used: usize, args: &[u8], n: usize, i: usize) -> A
     if n <= i {
         return refuse(Cause::Panics, count, used);
     }
-    let k = u16_at(args, 3 + 2 * i);
+    let k = u16_at(args, FIRST_AT + 2 * i);
     found(k, count, used)
 }
 
@@ -48,12 +54,12 @@ pub fn some_real(records: &[u8], places: &[u32], args: &[u8], n: usize) -> bool
     requires { ⌜ ReadAsks (now records) (now places) (now args) 3 n ⌝ }
     ensures { λ r. ⌜ RealHas (now (records .entry)) (now (places .entry)) (now (args .entry)) n r ⌝ }
 {
-    let mut at = 3;
+    let mut at = FIRST_AT;
     let mut left = n;
     while 0 < left {
         let k = u16_at(args, at);
         let kind = kind_at(records, places, k);
-        if kind == 5 {
+        if kind == SORT_REAL {
             return true;
         }
         at += 2;
@@ -76,9 +82,9 @@ pub fn sum(
     ensures { λ r. ⌜ AnswerIs (now (records .entry)) (now (places .entry)) count (sumOf (someReal (sortsIn (now (records .entry)) (now (places .entry)) count (now (args .entry)) 3 n))) (now (records .exit)) (now (places .exit)) (now (index .exit)) r ⌝ }
 {
     if some_real(records, places, args, n) {
-        return leaf(records, places, index, count, used, 5);
+        return leaf(records, places, index, count, used, BYTE_REAL);
     }
-    leaf(records, places, index, count, used, 4)
+    leaf(records, places, index, count, used, BYTE_INT)
 }
 
 // Select: the second part of the first argument, an Array; else Panics.
@@ -96,10 +102,10 @@ pub fn element(
     if n == 0 {
         return refuse(Cause::Panics, count, used);
     }
-    let k = u16_at(args, 3);
+    let k = u16_at(args, FIRST_AT);
     let a = entry(records, places, k);
     let kind = a.kind;
-    if kind != 8 {
+    if kind != SORT_ARRAY {
         return refuse(Cause::Panics, count, used);
     }
     let list = a.list;
@@ -123,7 +129,7 @@ pub fn rare_list(
     if n == 0 {
         return variable(records, places, index, count, used, 0);
     }
-    let k = u16_at(args, 3);
+    let k = u16_at(args, FIRST_AT);
     found(k, count, used)
 }
 
@@ -143,7 +149,7 @@ pub fn singleton(
     if n == 0 {
         return refuse(Cause::Panics, count, used);
     }
-    let k = u16_at(args, 3);
+    let k = u16_at(args, FIRST_AT);
     set_of(records, places, index, count, used, k)
 }
 
@@ -171,6 +177,6 @@ pub fn constant_width(
     let second = constant_at(sheet, at);
     match second {
         Constant::Integer(w) => bit_vector(records, places, index, count, used, w),
-        Constant::Other => leaf(records, places, index, count, used, 10),
+        Constant::Other => leaf(records, places, index, count, used, BYTE_PARAM_BIT_VEC),
     }
 }

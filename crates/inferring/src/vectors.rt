@@ -1,9 +1,13 @@
 // The operators of vectors, over n arguments whose sorts are in `args` from byte 3 on: the group of nineteen, and BvConcat.
 use answers::Answer;
+use answers::arguments::FIRST_AT;
 use answers::bit_vector;
 use answers::found;
 use answers::leaf;
 use answers::refuse;
+use record::kinds::BYTE_PARAM_BIT_VEC;
+use record::kinds::SORT_BIT_VEC;
+use record::kinds::SORT_PARAM_BIT_VEC;
 use record::u16_at;
 use rows::Cause;
 use store::entries::entry;
@@ -34,7 +38,7 @@ pub fn scan_vectors(records: &[u8], places: &[u32], args: &[u8], n: usize) -> Sc
     requires { ⌜ ReadAsks (now records) (now places) (now args) 3 n ⌝ }
     ensures { λ r. ⌜ ScanHas (now (records .entry)) (now (places .entry)) (now (args .entry)) n r ⌝ }
 {
-    let mut at = 3;
+    let mut at = FIRST_AT;
     let mut left = n;
     let found = 'scan: loop {
         if left == 0 {
@@ -42,10 +46,10 @@ pub fn scan_vectors(records: &[u8], places: &[u32], args: &[u8], n: usize) -> Sc
         }
         let k = u16_at(args, at);
         let kind = kind_at(records, places, k);
-        if kind == 9 {
+        if kind == SORT_BIT_VEC {
             break 'scan Scan::Vector(k);
         }
-        if kind != 10 {
+        if kind != SORT_PARAM_BIT_VEC {
             break 'scan Scan::Other;
         }
         at += 2;
@@ -70,7 +74,7 @@ pub fn first_vector(
     let scan = scan_vectors(records, places, args, n);
     match scan {
         Scan::Vector(k) => found(k, count, used),
-        Scan::Nothing => leaf(records, places, index, count, used, 10),
+        Scan::Nothing => leaf(records, places, index, count, used, BYTE_PARAM_BIT_VEC),
         Scan::Other => refuse(Cause::Panics, count, used),
     }
 }
@@ -85,10 +89,10 @@ pub fn all_vectors(records: &[u8], places: &[u32], args: &[u8], start: usize, ma
     while 0 < left {
         let k = u16_at(args, at);
         let kind = kind_at(records, places, k);
-        if kind < 9 {
+        if kind < SORT_BIT_VEC {
             return false;
         }
-        if 10 < kind {
+        if SORT_PARAM_BIT_VEC < kind {
             return false;
         }
         at += 2;
@@ -102,20 +106,20 @@ pub fn add_widths(records: &[u8], places: &[u32], args: &[u8], n: usize) -> Widt
     requires { ⌜ WidthAsks (now records) (now places) (now args) n ⌝ }
     ensures { λ r. ⌜ WidthsHas (now (records .entry)) (now (places .entry)) (now (args .entry)) n r ⌝ }
 {
-    let mut at = 3;
+    let mut at = FIRST_AT;
     let mut left = n;
     let mut sum = 0;
     while 0 < left {
         let k = u16_at(args, at);
         let a = entry(records, places, k);
         let kind = a.kind;
-        if kind == 10 {
+        if kind == SORT_PARAM_BIT_VEC {
             if all_vectors(records, places, args, at + 2, left - 1) {
                 return Widths::Unknown;
             }
             return Widths::NoVector;
         }
-        if kind != 9 {
+        if kind != SORT_BIT_VEC {
             return Widths::NoVector;
         }
         sum += a.number;
@@ -141,7 +145,7 @@ pub fn concat(
     let widths = add_widths(records, places, args, n);
     match widths {
         Widths::Sum(w) => bit_vector(records, places, index, count, used, w),
-        Widths::Unknown => leaf(records, places, index, count, used, 10),
+        Widths::Unknown => leaf(records, places, index, count, used, BYTE_PARAM_BIT_VEC),
         Widths::NoVector => refuse(Cause::Panics, count, used),
     }
 }

@@ -64,7 +64,7 @@ module _ {b p : List ℕ} {n : ℕ} {f : Sort → Bool} {x₀ c₀ : ℕ} {o : L
       pub each-step : q ≡ true → EachInv b p n f x₀ c₀ o′ (x + 2) (c - 1)
       each-step z =
           record {
-            asks = rest-asks b p n b x c (v .asks) some;
+            asks = rest-asks (v .asks) some;
             noted = g .noted;
             less = omega (arith, v .less, sizes-more b p n b x c some);
             whole = rw z at first;

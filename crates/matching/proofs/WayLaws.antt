@@ -81,40 +81,40 @@ added-none : (prm : List ℕ) → Added prm [] prm
 unfolding times
 added-none prm = record { long = refl; each = λ v. omega arith }
 
-none-added : (prm prm′ : List ℕ) → Added prm [] prm′ → prm′ ≡ prm
+none-added : {prm prm′ : List ℕ} → Added prm [] prm′ → prm′ ≡ prm
 unfolding times
-none-added prm prm′ a = ext-getD 0 prm′ prm (a .long) (λ v h. omega (arith, a .each v))
+none-added {prm} {prm′} a = ext-getD 0 prm′ prm (a .long) (λ v h. omega (arith, a .each v))
 
-added-then : (prm us prm′ ws prm″ : List ℕ) → Added prm us prm′ → Added prm′ ws prm″ → Added prm (us ++ ws) prm″
-added-then prm us prm′ ws prm″ a c =
+added-then : {prm us prm′ ws prm″ : List ℕ} → Added prm us prm′ → Added prm′ ws prm″ → Added prm (us ++ ws) prm″
+added-then {prm} {us} {prm′} {ws} {prm″} a c =
     record { long = c .long ∙ a .long; each = λ v. omega (arith, a .each v, c .each v, times-append v us ws) }
 
 ---------------------------------------------------------------- a turn
-module _ (b p : List ℕ) (n : ℕ) (prm imgs bnd : List ℕ) (m k j : ℕ) (a : WithAsks b p n prm imgs bnd m k j) (l : List ℕ) (w : WithBefore b p n prm imgs bnd m l) where
+module _ {b p : List ℕ} {n : ℕ} {prm imgs bnd : List ℕ} {m k j : ℕ} (a : WithAsks b p n prm imgs bnd m k j) (l : List ℕ) (w : WithBefore b p n prm imgs bnd m l) where
   pub move-met : getD l (k % 32) 0 ≡ pairOf k j → MoveIs b p n prm imgs bnd m k j prm imgs bnd l (Ends (Fits m))
-  move-met e = (with-fits b p n prm imgs bnd m k j l a (omega (arith, a .pair .right, a .pair .usable .count)) w e, w)
+  move-met e = (with-fits l a (omega (arith, a .pair .right, a .pair .usable .count)) w e, w)
 
   module _ (z : Turn) (g : TurnIs b p n prm k j z) where
     pub move-holds : z ≡ Holds → MoveIs b p n prm imgs bnd m k j prm imgs bnd l (Ends (Fits m))
-    move-holds e = (general-holds b p n prm imgs bnd m k j a z g e, w)
+    move-holds e = (general-holds a z g e, w)
 
     pub move-fails : z ≡ Fails → MoveIs b p n prm imgs bnd m k j prm imgs bnd l (Ends (Misfits m))
-    move-fails e = (general-fails b p n prm imgs bnd m k j a z g e, tt)
+    move-fails e = (general-fails a z g e, tt)
 
     pub move-meets : (v : ℕ) → z ≡ Meets v → (imgs′ bnd′ : List ℕ) (q : Matched) → MeetWithIs b p n imgs bnd m v j imgs′ bnd′ q
         → MoveIs b p n prm imgs bnd m k j prm imgs′ bnd′ l (Ends q)
     move-meets v e imgs′ bnd′ q h =
-        let f = general-met b p n prm imgs bnd m k j a z g v e imgs′ bnd′ q h in
+        let f = general-met a z g v e imgs′ bnd′ q h in
         (f, with-same b p n prm imgs bnd m k j prm imgs′ bnd′ l q w f)
 
-    pub move-under : (i x c : ℕ) → z ≡ Under i x c → (prm′ l′ : List ℕ) → Added prm (numbersAt b x c) prm′ → l′ ≡ replicate 32 0
+    pub move-under : (i x c : ℕ) → z ≡ Under i x c → {prm′ l′ : List ℕ} → Added prm (numbersAt b x c) prm′ → l′ ≡ replicate 32 0
         → MoveIs b p n prm imgs bnd m k j prm′ imgs bnd l′ (Down i)
     unfolding count lastOf
-    move-under i x c e prm′ l′ s f =
-        let o = under b p n prm imgs bnd m k j a z g i x c e in (
+    move-under i x c e {prm′} {l′} s f =
+        let o = under a z g i x c e in (
           record {
             added = subst (λ (us : List ℕ). Added prm us prm′) (sym (o .names)) s;
-            asks = body-asks b p n prm imgs bnd m k j a z g i x c e prm′ s;
+            asks = body-asks a z g i x c e s;
             noted = subst (WithBefore b p n prm′ imgs bnd m) (sym f) (pairs-none (MatchedWith b p n prm′ (mapOf (storeOf b p n) imgs bnd m)));
             whole = λ ns h.
                 ap (λ (us : List ℕ). PairWith b p n imgs bnd m i j (ns ++ us)) (o .names)
@@ -129,10 +129,10 @@ module _ (b p : List ℕ) (n : ℕ) (prm imgs bnd : List ℕ) (m k j : ℕ) (a :
 
     pub move-past : (i : ℕ) → z ≡ Past i → MoveIs b p n prm imgs bnd m k j prm imgs bnd l (Through i)
     move-past i e =
-        let o = through b p n prm imgs bnd m k j a z g i e in (
+        let o = through a z g i e in (
           record {
             added = added-none prm;
-            asks = target-asks b p n prm imgs bnd m k j a z g i e;
+            asks = target-asks a z g i e;
             noted = w;
             whole = λ ns h.
                 ap (λ (us : List ℕ). PairWith b p n imgs bnd m k i us) (append-nil ns)
@@ -144,14 +144,14 @@ module _ (b p : List ℕ) (n : ℕ) (prm imgs bnd : List ℕ) (m k j : ℕ) (a :
     module _ (x y c : ℕ) (e : z ≡ Parts x y c) where
       pub move-empty : c ≡ 0 → MoveIs b p n prm imgs bnd m k j prm imgs bnd l (Ends (Fits m))
       move-empty f = (
-        general-parts b p n prm imgs bnd m k j a z g x y c e prm imgs bnd (Fits m)
-            (general-none b p n prm imgs bnd m b x b y c (parts-ask b p n prm imgs bnd m k j a z g x y c e) f),
+        general-parts a z g x y c e
+            (general-none (parts-ask a z g x y c e) f),
         w,
       )
 
       pub move-parts : (d : ℕ) → c ≡ suc d → MoveIs b p n prm imgs bnd m k j prm imgs bnd l (Several x y d)
       move-parts d f =
-          let o = subst (λ (i : ℕ). TurnIs b p n prm k j (Parts x y i)) f (parted b p n prm imgs bnd m k j a z g x y c e) in
+          let o = subst (λ (i : ℕ). TurnIs b p n prm k j (Parts x y i)) f (parted a z g x y c e) in
           record {
             params = refl;
             asks =
@@ -179,12 +179,12 @@ module _ (b p : List ℕ) (n : ℕ) (prm imgs bnd : List ℕ) (m k j : ℕ) (a :
           }
 
 ---------------------------------------------------------------- turn after turn
-instead-then : (b p : List ℕ) (n : ℕ) (prm imgs bnd : List ℕ) (m k j : ℕ) (us prm₁ imgs₁ bnd₁ : List ℕ) (m₁ k₁ j₁ : ℕ) (l₁ ws prm₂ imgs₂ bnd₂ : List ℕ) (m₂ k₂ j₂ : ℕ) (l₂ : List ℕ)
+instead-then : {b p : List ℕ} {n : ℕ} {prm imgs bnd : List ℕ} {m k j : ℕ} {us prm₁ imgs₁ bnd₁ : List ℕ} {m₁ k₁ j₁ : ℕ} {l₁ ws prm₂ imgs₂ bnd₂ : List ℕ} {m₂ k₂ j₂ : ℕ} {l₂ : List ℕ}
     → Instead b p n prm imgs bnd m k j us prm₁ imgs₁ bnd₁ m₁ k₁ j₁ l₁ → Instead b p n prm₁ imgs₁ bnd₁ m₁ k₁ j₁ ws prm₂ imgs₂ bnd₂ m₂ k₂ j₂ l₂
     → Instead b p n prm imgs bnd m k j (us ++ ws) prm₂ imgs₂ bnd₂ m₂ k₂ j₂ l₂
-instead-then b p n prm imgs bnd m k j us prm₁ imgs₁ bnd₁ m₁ k₁ j₁ l₁ ws prm₂ imgs₂ bnd₂ m₂ k₂ j₂ l₂ f g =
+instead-then {b} {p} {n} {prm} {imgs} {bnd} {m} {k} {j} {us} {prm₁} {imgs₁} {bnd₁} {m₁} {k₁} {j₁} {l₁} {ws} {prm₂} {imgs₂} {bnd₂} {m₂} {k₂} {j₂} {l₂} f g =
     record {
-      added = added-then prm us prm₁ ws prm₂ (f .added) (g .added);
+      added = added-then (f .added) (g .added);
       asks = g .asks;
       noted = g .noted;
       whole = λ ns h.
@@ -203,10 +203,10 @@ pub record Walking (b p : List ℕ) (n : ℕ) (prm imgs bnd : List ℕ) (m k j :
   pub far : steps + size (sortAt b p n k₁) ≤ size (sortAt b p n k)
   pub less : size (sortAt b p n k₁) + size (sortAt b p n j₁) ≤ size (sortAt b p n k) + size (sortAt b p n j)
 
-pub walking-start : (b p : List ℕ) (n : ℕ) (prm imgs bnd : List ℕ) (m k j : ℕ) (l : List ℕ) → WithAsks b p n prm imgs bnd m k j → WithBefore b p n prm imgs bnd m l
+pub walking-start : {b p : List ℕ} {n : ℕ} {prm imgs bnd : List ℕ} {m k j : ℕ} (l : List ℕ) → WithAsks b p n prm imgs bnd m k j → WithBefore b p n prm imgs bnd m l
     → Walking b p n prm imgs bnd m k j prm imgs bnd l m k j 0 0
 unfolding wayEnd wayNames
-walking-start b p n prm imgs bnd m k j l a w =
+walking-start {b} {p} {n} {prm} {imgs} {bnd} {m} {k} {j} l a w =
     record {
       instead = record { added = added-none prm; asks = a; noted = w; whole = λ ns h. ap (PairWith b p n imgs bnd m k j) (append-nil ns) };
       ends = refl;
@@ -221,15 +221,14 @@ walking-start b p n prm imgs bnd m k j l a w =
 way-deep : (s : Sort) (i : ℕ) → Deep s i → 0 < count (partsOf (wayEnd s i)) → Deep s (suc i)
 way-deep s i d q h l = below-suc (λ (h : ℕ). 0 < count (partsOf (wayEnd s h))) i (λ h r. d h r) q h l
 
-module _ (b p : List ℕ) (n : ℕ) (prm imgs bnd : List ℕ) (m k j : ℕ) (prm₁ imgs₁ bnd₁ l₁ : List ℕ) (m₁ k₁ j₁ steps down : ℕ)
-    (a : Walking b p n prm imgs bnd m k j prm₁ imgs₁ bnd₁ l₁ m₁ k₁ j₁ steps down) where
-  step-deep : (i : ℕ) → Leads b p n k₁ i → Deep (sortAt b p n k) (suc steps)
-  step-deep i e =
+module _ {b p : List ℕ} {n : ℕ} {prm imgs bnd : List ℕ} {m k j : ℕ} {prm₁ imgs₁ bnd₁ l₁ : List ℕ} {m₁ k₁ j₁ steps down : ℕ} (a : Walking b p n prm imgs bnd m k j prm₁ imgs₁ bnd₁ l₁ m₁ k₁ j₁ steps down) where
+  step-deep : {i : ℕ} → Leads b p n k₁ i → Deep (sortAt b p n k) (suc steps)
+  step-deep {i} e =
       way-deep (sortAt b p n k) steps (a .deep) (subst (λ (s : Sort). 0 < count (partsOf s)) (sym (a .ends)) (e .some))
 
-  step-ends : (i : ℕ) → Leads b p n k₁ i → wayEnd (sortAt b p n k) (suc steps) ≡ sortAt b p n i
+  step-ends : {i : ℕ} → Leads b p n k₁ i → wayEnd (sortAt b p n k) (suc steps) ≡ sortAt b p n i
   unfolding wayEnd
-  step-ends i e = ap (λ (s : Sort). lastOf (partsOf s)) (a .ends) ∙ e .last
+  step-ends {i} e = ap (λ (s : Sort). lastOf (partsOf s)) (a .ends) ∙ e .last
 
   step-names : wayNames (sortAt b p n k) (suc steps) ≡ wayNames (sortAt b p n k) down ++ namesOf (sortAt b p n k₁)
   unfolding wayNames
@@ -237,33 +236,33 @@ module _ (b p : List ℕ) (n : ℕ) (prm imgs bnd : List ℕ) (m k j : ℕ) (prm
       ap (λ (us : List ℕ). us ++ namesOf (wayEnd (sortAt b p n k) steps)) (a .names)
       ∙ ap (λ (s : Sort). wayNames (sortAt b p n k) down ++ namesOf s) (a .ends)
 
-  pub walking-under : (prm₂ imgs₂ bnd₂ l₂ : List ℕ) (i z : ℕ) → MoveIs b p n prm₁ imgs₁ bnd₁ m₁ k₁ j₁ prm₂ imgs₂ bnd₂ l₂ (Down i) → z ≡ suc steps
+  pub walking-under : (prm₂ imgs₂ bnd₂ l₂ : List ℕ) (i : ℕ) {z : ℕ} → MoveIs b p n prm₁ imgs₁ bnd₁ m₁ k₁ j₁ prm₂ imgs₂ bnd₂ l₂ (Down i) → z ≡ suc steps
       → Walking b p n prm imgs bnd m k j prm₂ imgs₂ bnd₂ l₂ m₁ i j₁ z z
-  walking-under prm₂ imgs₂ bnd₂ l₂ i z (f, e) q =
+  walking-under prm₂ imgs₂ bnd₂ l₂ i {z} (f, e) q =
       rw q (record {
         instead =
             subst (λ (us : List ℕ). Instead b p n prm imgs bnd m k j us prm₂ imgs₂ bnd₂ m₁ i j₁ l₂) (sym step-names)
-            (instead-then b p n prm imgs bnd m k j (wayNames (sortAt b p n k) down) prm₁ imgs₁ bnd₁ m₁ k₁ j₁ l₁ (namesOf (sortAt b p n k₁)) prm₂ imgs₂ bnd₂ m₁ i j₁ l₂ (a .instead) f);
-        ends = step-ends i e;
+            (instead-then (a .instead) f);
+        ends = step-ends e;
         names = refl;
-        deep = step-deep i e;
+        deep = step-deep e;
         low = omega arith;
         far = omega (arith, a .far, e .less);
         less = omega (arith, a .less, e .less);
       })
 
   -- The names stay where a pair takes the place of another without a Par of the pattern.
-  instead-on : (prm₂ imgs₂ bnd₂ : List ℕ) (m₂ k₂ j₂ : ℕ) (l₂ : List ℕ) → Instead b p n prm₁ imgs₁ bnd₁ m₁ k₁ j₁ [] prm₂ imgs₂ bnd₂ m₂ k₂ j₂ l₂
+  instead-on : {prm₂ imgs₂ bnd₂ : List ℕ} {m₂ k₂ j₂ : ℕ} {l₂ : List ℕ} → Instead b p n prm₁ imgs₁ bnd₁ m₁ k₁ j₁ [] prm₂ imgs₂ bnd₂ m₂ k₂ j₂ l₂
       → Instead b p n prm imgs bnd m k j (wayNames (sortAt b p n k) down) prm₂ imgs₂ bnd₂ m₂ k₂ j₂ l₂
-  instead-on prm₂ imgs₂ bnd₂ m₂ k₂ j₂ l₂ f =
+  instead-on {prm₂} {imgs₂} {bnd₂} {m₂} {k₂} {j₂} {l₂} f =
       subst (λ (us : List ℕ). Instead b p n prm imgs bnd m k j us prm₂ imgs₂ bnd₂ m₂ k₂ j₂ l₂) (append-nil (wayNames (sortAt b p n k) down))
-      (instead-then b p n prm imgs bnd m k j (wayNames (sortAt b p n k) down) prm₁ imgs₁ bnd₁ m₁ k₁ j₁ l₁ [] prm₂ imgs₂ bnd₂ m₂ k₂ j₂ l₂ (a .instead) f)
+      (instead-then (a .instead) f)
 
   pub walking-past : (prm₂ imgs₂ bnd₂ l₂ : List ℕ) (i : ℕ) → MoveIs b p n prm₁ imgs₁ bnd₁ m₁ k₁ j₁ prm₂ imgs₂ bnd₂ l₂ (Through i)
       → Walking b p n prm imgs bnd m k j prm₂ imgs₂ bnd₂ l₂ m₁ k₁ i steps down
   walking-past prm₂ imgs₂ bnd₂ l₂ i (f, e) =
       record {
-        instead = instead-on prm₂ imgs₂ bnd₂ m₁ k₁ i l₂ f;
+        instead = instead-on f;
         ends = a .ends;
         names = a .names;
         deep = a .deep;
@@ -285,18 +284,17 @@ module _ (b p : List ℕ) (n : ℕ) (prm imgs bnd : List ℕ) (m k j : ℕ) (prm
             f .result (ns ++ wayNames (sortAt b p n k) down) (lists-added prm ns (wayNames (sortAt b p n k) down) prm₁ h (a .instead .added))
             ∙ a .instead .whole ns h;
         noted = λ e.
-            with-back b p n prm prm₁ imgs₂ bnd₂ l₂ q
-            (none-added prm prm₁ (subst (λ (i : ℕ). Added prm (wayNames (sortAt b p n k) i) prm₁) e (a .instead .added))) t;
+            with-back b p n prm imgs₂ bnd₂ l₂ q
+            (none-added (subst (λ (i : ℕ). Added prm (wayNames (sortAt b p n k) i) prm₁) e (a .instead .added))) t;
       }
 
   ---------------------------------------------------------------- the parts
-  module _ (prm₂ imgs₂ bnd₂ l₂ : List ℕ) (x y c : ℕ) (s : Split b p n prm₁ imgs₁ bnd₁ m₁ k₁ j₁ prm₂ imgs₂ bnd₂ l₂ x y c) (prm₃ imgs₃ bnd₃ l₃ : List ℕ) (z : Matched)
-      (g : WithIs b p n prm₂ prm₃ imgs₃ bnd₃ z (PairsWith b p n imgs₂ bnd₂ m₁ b x b y c)) where
+  module _ {prm₂ imgs₂ bnd₂ l₂ : List ℕ} {x y c : ℕ} (s : Split b p n prm₁ imgs₁ bnd₁ m₁ k₁ j₁ prm₂ imgs₂ bnd₂ l₂ x y c) {prm₃ imgs₃ bnd₃ : List ℕ} (l₃ : List ℕ) {z : Matched} (g : WithIs b p n prm₂ prm₃ imgs₃ bnd₃ z (PairsWith b p n imgs₂ bnd₂ m₁ b x b y c)) where
     -- All but the last, then the last, from what is found for the first.
-    parts-on : (ns : List ℕ) → Lists prm₁ ns
+    parts-on : {ns : List ℕ} → Lists prm₁ ns
         → andThen (answerOf (storeOf b p n) imgs₃ bnd₃ z) (λ θ. matchWith ns (sortAt b p n (u16At b (x + 2 * c))) (sortAt b p n (u16At b (y + 2 * c))) θ)
         ≡ PairWith b p n imgs₁ bnd₁ m₁ k₁ j₁ ns
-    parts-on ns h =
+    parts-on {ns} h =
         ap (λ (o : Option Map). andThen o (λ θ. matchWith ns (sortAt b p n (u16At b (x + 2 * c))) (sortAt b p n (u16At b (y + 2 * c))) θ))
         (g .result ns (subst (λ (l : List ℕ). Lists l ns) (sym (s .params)) h))
         ∙ s .whole ns h
@@ -312,7 +310,7 @@ module _ (b p : List ℕ) (n : ℕ) (prm imgs bnd : List ℕ) (m k j : ℕ) (prm
             mapped = subst (λ (q : Matched). Mapped b p n imgs₃ bnd₃ (countOf q)) e (g .mapped);
             result = λ ns h.
                 sym (ap (λ (q : Matched). andThen (answerOf (storeOf b p n) imgs₃ bnd₃ q) (λ θ. matchWith ns (sortAt b p n (u16At b (x + 2 * c))) (sortAt b p n (u16At b (y + 2 * c))) θ)) e)
-                ∙ parts-on ns h;
+                ∙ parts-on h;
           },
           tt,
         )
@@ -329,37 +327,36 @@ module _ (b p : List ℕ) (n : ℕ) (prm imgs bnd : List ℕ) (m k j : ℕ) (prm
                   room = λ v. omega (arith, a .instead .asks .room v, s .leads .less, ap (λ (l : List ℕ). getD l v 0) same-params);
                   mapped = subst (λ (q : Matched). Mapped b p n imgs₃ bnd₃ (countOf q)) e (g .mapped);
                 };
-            noted = with-next b p n prm₂ prm₃ imgs₃ bnd₃ l₃ z i (g .params) e w;
+            noted = with-next b p n prm₂ imgs₃ bnd₃ l₃ i (g .params) e w;
             whole = λ ns h.
                 ap (PairWith b p n imgs₃ bnd₃ i (u16At b (x + 2 * c)) (u16At b (y + 2 * c))) (append-nil ns)
                 ∙ sym (ap (λ (q : Matched). andThen (answerOf (storeOf b p n) imgs₃ bnd₃ q) (λ θ. matchWith ns (sortAt b p n (u16At b (x + 2 * c))) (sortAt b p n (u16At b (y + 2 * c))) θ)) e)
-                ∙ parts-on ns h;
+                ∙ parts-on h;
           }
 
-      pub walking-parts : (k₂ j₂ v : ℕ) → k₂ ≡ u16At b (x + 2 * c) → j₂ ≡ u16At b (y + 2 * c) → v ≡ suc steps
+      pub walking-parts : {k₂ j₂ v : ℕ} → k₂ ≡ u16At b (x + 2 * c) → j₂ ≡ u16At b (y + 2 * c) → v ≡ suc steps
           → Walking b p n prm imgs bnd m k j prm₃ imgs₃ bnd₃ l₃ i k₂ j₂ v down
-      walking-parts k₂ j₂ v ek ej ev =
+      walking-parts {k₂} {j₂} {v} ek ej ev =
           rw (ek, ej, ev) (record {
-            instead = instead-on prm₃ imgs₃ bnd₃ i (u16At b (x + 2 * c)) (u16At b (y + 2 * c)) l₃ last-instead;
-            ends = step-ends (u16At b (x + 2 * c)) (s .leads);
+            instead = instead-on last-instead;
+            ends = step-ends (s .leads);
             names =
                 step-names ∙ ap (λ (us : List ℕ). wayNames (sortAt b p n k) down ++ us) (s .nameless)
                 ∙ append-nil (wayNames (sortAt b p n k) down);
-            deep = step-deep (u16At b (x + 2 * c)) (s .leads);
+            deep = step-deep (s .leads);
             low = omega (arith, a .low);
             far = omega (arith, a .far, s .leads .less);
             less = omega (arith, a .less, s .falls);
           })
 
 ---------------------------------------------------------------- behind a walk
-module _ (b p : List ℕ) (n : ℕ) (prm imgs bnd : List ℕ) (m k j : ℕ) (a : WithAsks b p n prm imgs bnd m k j) (prm₁ imgs₁ bnd₁ l₁ : List ℕ) (r : Walked)
-    (w : WalkIs b p n prm imgs bnd m k j prm₁ imgs₁ bnd₁ l₁ r) where
+module _ {b p : List ℕ} {n : ℕ} {prm imgs bnd : List ℕ} {m k j : ℕ} (a : WithAsks b p n prm imgs bnd m k j) {prm₁ imgs₁ bnd₁ l₁ : List ℕ} {r : Walked} (w : WalkIs b p n prm imgs bnd m k j prm₁ imgs₁ bnd₁ l₁ r) where
   pub match-plain : r .down ≡ 0
       → WithIs b p n prm prm₁ imgs₁ bnd₁ (r .found) (PairWith b p n imgs bnd m k j) × WithAfter b p n prm imgs₁ bnd₁ l₁ (r .found)
   unfolding wayNames
   match-plain e = (
     record {
-      params = none-added prm prm₁ (subst (λ (i : ℕ). Added prm (wayNames (sortAt b p n k) i) prm₁) e (w .added));
+      params = none-added (subst (λ (i : ℕ). Added prm (wayNames (sortAt b p n k) i) prm₁) e (w .added));
       mapped = w .mapped;
       result = w .result;
     },
@@ -375,9 +372,9 @@ module _ (b p : List ℕ) (n : ℕ) (prm imgs bnd : List ℕ) (m k j : ℕ) (a :
         there = λ v. omega (arith, w .added .each v);
       }
 
-  pub match-closed : (prm₂ l₂ : List ℕ) → CloseIs b p n prm₁ k (r .down) prm₂ → l₂ ≡ replicate 32 0
+  pub match-closed : (prm₂ : List ℕ) {l₂ : List ℕ} → CloseIs b p n prm₁ k (r .down) prm₂ → l₂ ≡ replicate 32 0
       → WithIs b p n prm prm₂ imgs₁ bnd₁ (r .found) (PairWith b p n imgs bnd m k j) × WithAfter b p n prm imgs₁ bnd₁ l₂ (r .found)
-  match-closed prm₂ l₂ t e = (
+  match-closed prm₂ {l₂} t e = (
     record {
       params = added-back prm (wayNames (sortAt b p n k) (r .down)) prm₁ prm₂ (w .added) t;
       mapped = w .mapped;
@@ -406,11 +403,11 @@ pub record Closing (b p : List ℕ) (n : ℕ) (prm : List ℕ) (k i : ℕ) (prm�
   pub taken : Added prm₁ (wayNames (sortAt b p n k) h) prm
   pub low : h ≤ i
 
-pub closing-start : (b p : List ℕ) (n : ℕ) (prm : List ℕ) (k i : ℕ) → CloseAsks b p n prm k i → Closing b p n prm k i prm k 0
+pub closing-start : {b p : List ℕ} {n : ℕ} {prm : List ℕ} {k i : ℕ} → CloseAsks b p n prm k i → Closing b p n prm k i prm k 0
 unfolding wayEnd wayNames
-closing-start b p n prm k i a = record { known = a .one .known; ends = refl; taken = added-none prm; low = omega arith }
+closing-start {b} {p} {n} {prm} {k} {i} a = record { known = a .one .known; ends = refl; taken = added-none prm; low = omega arith }
 
-module _ (b p : List ℕ) (n : ℕ) (prm : List ℕ) (k i : ℕ) (a : CloseAsks b p n prm k i) (prm₁ : List ℕ) (k₁ h : ℕ) (c : Closing b p n prm k i prm₁ k₁ h) where
+module _ {b p : List ℕ} {n : ℕ} {prm : List ℕ} {k i : ℕ} (a : CloseAsks b p n prm k i) {prm₁ : List ℕ} {k₁ h : ℕ} (c : Closing b p n prm k i prm₁ k₁ h) where
   pub closing-entry : EntryAsks b p k₁
   closing-entry =
       record {
@@ -447,10 +444,10 @@ module _ (b p : List ℕ) (n : ℕ) (prm : List ℕ) (k i : ℕ) (a : CloseAsks 
           there = λ v. omega (arith, a .there v, c .taken .each v, closing-names v, times-way v (sortAt b p n k) (suc h) i l);
         }
 
-    pub closing-step : (prm₂ : List ℕ) (k₂ : ℕ) → Added prm₂ (numbersAt b (r .names) (r .named)) prm₁ → k₂ ≡ u16At b (r .list + 2 * (r .count - 1))
+    pub closing-step : {prm₂ : List ℕ} {k₂ : ℕ} → Added prm₂ (numbersAt b (r .names) (r .named)) prm₁ → k₂ ≡ u16At b (r .list + 2 * (r .count - 1))
         → Closing b p n prm k i prm₂ k₂ (suc h)
     unfolding wayEnd
-    closing-step prm₂ k₂ t q =
+    closing-step {prm₂} {k₂} t q =
         let f : r .count ≡ suc (r .count - 1) = omega (arith, closing-some) in
         record {
           known = omega (arith, q, entry-refs b p n k₁ (a .one .usable) (c .known) r e .below (r .count - 1) (omega (arith, closing-some)));
@@ -464,6 +461,6 @@ module _ (b p : List ℕ) (n : ℕ) (prm : List ℕ) (k i : ℕ) (a : CloseAsks 
           low = l;
         }
 
-pub closing-end : (b p : List ℕ) (n : ℕ) (prm : List ℕ) (k i : ℕ) (prm₁ : List ℕ) (k₁ h : ℕ) → Closing b p n prm k i prm₁ k₁ h → i ≤ h → CloseIs b p n prm k i prm₁
-closing-end b p n prm k i prm₁ k₁ h c l =
+pub closing-end : {b p : List ℕ} {n : ℕ} {prm : List ℕ} {k i : ℕ} {prm₁ : List ℕ} {k₁ h : ℕ} → Closing b p n prm k i prm₁ k₁ h → i ≤ h → CloseIs b p n prm k i prm₁
+closing-end {b} {p} {n} {prm} {k} {i} {prm₁} {k₁} {h} c l =
     let e : h ≡ i = omega (arith, c .low) in subst (λ (u : ℕ). Added prm₁ (wayNames (sortAt b p n k) u) prm) e (c .taken)

@@ -4,6 +4,11 @@ use super::notes::is_noted;
 use super::notes::note;
 use super::tables::none_listed;
 use record::SortRecord;
+use record::kinds::SORT_BIT_VEC;
+use record::kinds::SORT_PAR;
+use record::kinds::SORT_PARAM_BIT_VEC;
+use record::kinds::SORT_TYPE;
+use record::kinds::SORT_VAR;
 use record::u16_at;
 use store::entries::entry;
 ghost use mathlib.Core.Path.{_≡_};
@@ -99,10 +104,10 @@ pub fn passes(test: Test, params: &[u16], images: &[u16], records: &[u8], a: Sor
     requires { ⌜ PassAsks test (now params) (now images) (now records) a ⌝ }
     ensures { λ r. ⌜ PassIs test (now (params .entry)) (now (images .entry)) (now (records .entry)) a r ⌝ }
 {
-    if a.kind == 2 {
+    if a.kind == SORT_VAR {
         return var_passes(test, params, images, a.name);
     }
-    if a.kind == 12 {
+    if a.kind == SORT_PAR {
         return par_passes(test, params, records, a.names, a.named);
     }
     node_passes(test, a.kind, a.number)
@@ -146,7 +151,7 @@ pub fn node_passes(test: Test, kind: usize, number: usize) -> bool
     ensures { λ r. ⌜ r ≡ onNode test kind number ⌝ }
 {
     match test {
-        Test::Known => kind != 10,
+        Test::Known => kind != SORT_PARAM_BIT_VEC,
         Test::Proper => is_usual(kind, number),
         Test::Unlisted => true,
         Test::Settled => true,
@@ -158,13 +163,13 @@ pub fn node_passes(test: Test, kind: usize, number: usize) -> bool
 pub fn is_usual(kind: usize, number: usize) -> bool
     ensures { λ r. ⌜ r ≡ usual kind number ⌝ }
 {
-    if kind == 10 {
+    if kind == SORT_PARAM_BIT_VEC {
         return false;
     }
-    if kind == 13 {
+    if kind == SORT_TYPE {
         return false;
     }
-    if kind == 9 {
+    if kind == SORT_BIT_VEC {
         return number != 0;
     }
     true

@@ -24,7 +24,7 @@ use Rattle.questions.specs.Fill.{FillAsks, FilledIs, EmptyAsks, emptied,
 use Rattle.questions.specs.Contract.{ApplyAsks, ApplyIs}
 use Rattle.questions.specs.Asked.{sortsBy, sorts-first, sorts-rest, mapped-known}
 
-module _ (b p ix : List ℕ) (n u : ℕ) (imgs s tbl : List ℕ) (q : QuestionRecord) (h : ApplyAsks b p ix n u imgs s tbl q) where
+module _ {b p ix : List ℕ} {n u : ℕ} {imgs s tbl : List ℕ} {q : QuestionRecord} (h : ApplyAsks b p ix n u imgs s tbl q) where
   later : (j : ℕ) → j < q .named → getD tbl (u16At s (q .list + 2 + 2 * j)) 0 < n
   later j o =
       let e : q .list + 2 * (j + 1) ≡ q .list + 2 + 2 * j = omega arith in
@@ -42,7 +42,7 @@ module _ (b p ix : List ℕ) (n u : ℕ) (imgs s tbl : List ℕ) (q : QuestionRe
         small = λ j o. omega (arith, later j o, h .good .indexed .count);
       }
 
-  module _ (l : List ℕ) (f : FilledIs imgs s tbl (q .names) (q .list + 2) (q .named) l) where
+  module _ {l : List ℕ} (f : FilledIs imgs s tbl (q .names) (q .list + 2) (q .named) l) where
     pub filled-map : Images (storeOf b p n) l (imagesOf (numbersAt s (q .names) (q .named)) (sortsBy (storeOf b p n) tbl s (q .list + 2) (q .named)))
     filled-map =
         let vs = numbersAt s (q .names) (q .named) in
@@ -72,10 +72,10 @@ module _ (b p ix : List ℕ) (n u : ℕ) (imgs s tbl : List ℕ) (q : QuestionRe
     pub empty-asks : EmptyAsks l s (q .names) (q .named)
     empty-asks = record { table = filled-map .table .long; names = h .asked .names }
 
-    pub apply-is : (k : ℕ) → k ≡ getD tbl (u16At s (q .list)) 0 → (b′ p′ ix′ : List ℕ) (r : Answer) → InstanceIs b p n l k b′ p′ ix′ r
-        → (l′ : List ℕ) → l′ ≡ emptied l (numbersAt s (q .names) (q .named)) → ApplyIs b p n imgs s tbl q b′ p′ ix′ l′ r
+    pub apply-is : {k : ℕ} → k ≡ getD tbl (u16At s (q .list)) 0 → (b′ p′ ix′ : List ℕ) (r : Answer) → InstanceIs b p n l k b′ p′ ix′ r
+        → {l′ : List ℕ} → l′ ≡ emptied l (numbersAt s (q .names) (q .named)) → ApplyIs b p n imgs s tbl q b′ p′ ix′ l′ r
     unfolding applyAnswer sortAt
-    apply-is k e b′ p′ ix′ r a l′ d =
+    apply-is {k} e b′ p′ ix′ r a {l′} d =
         let st = storeOf b p n in
         let vs = numbersAt s (q .names) (q .named) in
         let c : q .count - 1 ≡ q .named = omega (arith, h .count) in

@@ -44,7 +44,7 @@ pub match-barred : (vs : List ℕ) (p t r : Sort) → false ≡ premise vs p t �
 match-barred vs p t r e = match-by vs p t r false (matches (listedIn vs) p t empty) e refl
 
 ---------------------------------------------------------------- with the names listed
-module _ (b p ix : List ℕ) (n u : ℕ) (prm imgs bnd : List ℕ) (k j i : ℕ) (h : ListedAsks b p ix n u prm imgs bnd k j i) where
+module _ {b p ix : List ℕ} {n u : ℕ} {prm imgs bnd : List ℕ} {k j i : ℕ} (h : ListedAsks b p ix n u prm imgs bnd k j i) where
   pub pair-asks : PairAsks b p n k j
   pair-asks = record { usable = good-usable b p ix n u (h .good); left = h .pattern; right = h .target }
 
@@ -54,9 +54,9 @@ module _ (b p ix : List ℕ) (n u : ℕ) (prm imgs bnd : List ℕ) (k j i : ℕ)
   pub plain-asks : PlainAsks b p n prm imgs bnd 0 k j
   plain-asks = record { pair = pair-asks; table = h .table; mapped = cleared-mapped b p n imgs bnd (h .cleared) }
 
-  pub listed-barred : (t : Bool) → PremiseIs b p n prm k j t → not t ≡ true → (r : Answer) → r ≡ refusing Barred n u
+  pub listed-barred : (t : Bool) → PremiseIs b p n prm k j t → not t ≡ true → {r : Answer} → r ≡ refusing Barred n u
       → ListedIs b p n prm imgs bnd k j i b p ix imgs bnd r
-  listed-barred t q e r d =
+  listed-barred t q e {r} d =
       record {
         answer = λ vs ls.
             judged-as (match-barred vs (sortAt b p n k) (sortAt b p n j) (sortAt b p n i) (sym (not-true t e) ∙ q vs ls))
@@ -70,8 +70,8 @@ module _ (b p ix : List ℕ) (n u : ℕ) (prm imgs bnd : List ℕ) (k j i : ℕ)
     told : Told prm (listed prm)
     told v = refl
 
-    found-by : (vs : List ℕ) → Lists prm vs → Answered b p n l m x (matches (listedIn vs) (sortAt b p n k) (sortAt b p n j) empty)
-    found-by vs ls =
+    found-by : {vs : List ℕ} → Lists prm vs → Answered b p n l m x (matches (listedIn vs) (sortAt b p n k) (sortAt b p n j) empty)
+    found-by {vs} ls =
         subst (λ (y : Map). Answered b p n l m x (matches (listedIn vs) (sortAt b p n k) (sortAt b p n j) y)) (cleared-map (storeOf b p n) imgs bnd)
         (w (listedIn vs) (listed-is prm vs ls))
 
@@ -86,7 +86,7 @@ module _ (b p ix : List ℕ) (n u : ℕ) (prm imgs bnd : List ℕ) (k j i : ℕ)
         let d = fits-mapped c e in
         record { ready = record { good = h .good; table = record { long = d .tabled .names; below = d .below } }; known = h .result }
 
-    module _ (t : Bool) (q : PremiseIs b p n prm k j t) (o : not t ≡ false) (l′ m′ : List ℕ) (z : Cleared l′ m′) where
+    module _ (t : Bool) (q : PremiseIs b p n prm k j t) (o : not t ≡ false) {l′ m′ : List ℕ} (z : Cleared l′ m′) where
       pub listed-fits : (c : ℕ) → x ≡ Fits c → (b′ p′ ix′ : List ℕ) (r : Answer) → InstanceIs b p n l i b′ p′ ix′ r
           → ListedIs b p n prm imgs bnd k j i b′ p′ ix′ l′ m′ r
       listed-fits c e b′ p′ ix′ r a =
@@ -95,26 +95,26 @@ module _ (b p ix : List ℕ) (n u : ℕ) (prm imgs bnd : List ℕ) (k j i : ℕ)
             answer = λ vs ls.
                 judged-as
                 (match-by vs (sortAt b p n k) (sortAt b p n j) (sortAt b p n i) true (some θ) (sym (not-false t o) ∙ q vs ls)
-                (subst (λ (y : Matched). Answered b p n l m y (matches (listedIn vs) (sortAt b p n k) (sortAt b p n j) empty)) e (found-by vs ls) .result))
+                (subst (λ (y : Matched). Answered b p n l m y (matches (listedIn vs) (sortAt b p n k) (sortAt b p n j) empty)) e (found-by ls) .result))
                 (a θ (mapped-images b p n l m c (fits-mapped c e)));
             images = cleared-images imgs bnd l′ m′ (h .cleared) z;
             bound = cleared-bound imgs bnd l′ m′ (h .cleared) z;
           }
 
-      pub listed-misfits : (c : ℕ) → x ≡ Misfits c → (r : Answer) → r ≡ refusing NoAssignment n u → ListedIs b p n prm imgs bnd k j i b p ix l′ m′ r
-      listed-misfits c e r d =
+      pub listed-misfits : (c : ℕ) → x ≡ Misfits c → {r : Answer} → r ≡ refusing NoAssignment n u → ListedIs b p n prm imgs bnd k j i b p ix l′ m′ r
+      listed-misfits c e {r} d =
           record {
             answer = λ vs ls.
                 judged-as
                 (match-by vs (sortAt b p n k) (sortAt b p n j) (sortAt b p n i) true none (sym (not-false t o) ∙ q vs ls)
-                (subst (λ (y : Matched). Answered b p n l m y (matches (listedIn vs) (sortAt b p n k) (sortAt b p n j) empty)) e (found-by vs ls) .result))
+                (subst (λ (y : Matched). Answered b p n l m y (matches (listedIn vs) (sortAt b p n k) (sortAt b p n j) empty)) e (found-by ls) .result))
                 (answered-as d (answer-refused b p ix n u (h .good) NoAssignment));
             images = cleared-images imgs bnd l′ m′ (h .cleared) z;
             bound = cleared-bound imgs bnd l′ m′ (h .cleared) z;
           }
 
 ---------------------------------------------------------------- listing the names and taking them off
-module _ (b p ix : List ℕ) (n u : ℕ) (prm imgs bnd s tbl : List ℕ) (q : QuestionRecord) (h : MatchAsks b p ix n u prm imgs bnd s tbl q) where
+module _ {b p ix : List ℕ} {n u : ℕ} {prm imgs bnd s tbl : List ℕ} {q : QuestionRecord} (h : MatchAsks b p ix n u prm imgs bnd s tbl q) where
   pub add-asks : AddAsks prm s (q .names) (q .named)
   add-asks =
       record {
@@ -123,7 +123,7 @@ module _ (b p ix : List ℕ) (n u : ℕ) (prm imgs bnd s tbl : List ℕ) (q : Qu
             omega (arith, h .zeros v (omega arith), times-few v (numbersAt s (q .names) (q .named)), length-numbersAt s (q .names) (q .named), h .asked .few);
       }
 
-  module _ (m : List ℕ) (a : Added prm (numbersAt s (q .names) (q .named)) m) where
+  module _ {m : List ℕ} (a : Added prm (numbersAt s (q .names) (q .named)) m) where
     pub listed-asks : (k j i : ℕ) → k < n → j < n → i < n → ListedAsks b p ix n u m imgs bnd k j i
     listed-asks k j i x y z =
         record { good = h .good; table = a .long ∙ h .table; cleared = h .cleared; pattern = x; target = y; result = z }
@@ -135,11 +135,11 @@ module _ (b p ix : List ℕ) (n u : ℕ) (prm imgs bnd s tbl : List ℕ) (q : Qu
           there = λ v. omega (arith, a .each v);
         }
 
-    pub match-is : (k j i : ℕ) → k ≡ getD tbl (u16At s (q .list)) 0 → j ≡ getD tbl (u16At s (q .list + 2)) 0 → i ≡ getD tbl (u16At s (q .list + 4)) 0
-        → (b′ p′ ix′ l′ m′ prm′ : List ℕ) (r : Answer) → ListedIs b p n m imgs bnd k j i b′ p′ ix′ l′ m′ r
+    pub match-is : {k j i : ℕ} → k ≡ getD tbl (u16At s (q .list)) 0 → j ≡ getD tbl (u16At s (q .list + 2)) 0 → i ≡ getD tbl (u16At s (q .list + 4)) 0
+        → {b′ p′ ix′ l′ m′ prm′ : List ℕ} {r : Answer} → ListedIs b p n m imgs bnd k j i b′ p′ ix′ l′ m′ r
         → Added prm′ (numbersAt s (q .names) (q .named)) m → MatchIs b p n prm imgs bnd s tbl q b′ p′ ix′ prm′ l′ m′ r
     unfolding sortAt
-    match-is k j i ek ej ei b′ p′ ix′ l′ m′ prm′ r w d =
+    match-is {k} {j} {i} ek ej ei {b′} {p′} {ix′} {l′} {m′} {prm′} {r} w d =
         let st = storeOf b p n in
         let vs = numbersAt s (q .names) (q .named) in
         let S = sortsBy st tbl s (q .list) (q .count) in

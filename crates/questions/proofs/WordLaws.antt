@@ -44,20 +44,20 @@ applyCase l st tbl s q =
     outcome l st
     (applyAnswer (numbersAt s (q .names) (q .named)) (firstOf (sortsBy st tbl s (q .list) (q .count))) (restOf (sortsBy st tbl s (q .list) (q .count))))
 
-pick-0 : (A B C : Outcome) (k : ℕ) → k ≡ 0 → cond (eqb k 0) A (cond (eqb k 1) B C) ≡ A
-pick-0 A B C k e = ap (λ (t : Bool). cond t A (cond (eqb k 1) B C)) (eq-eqb k 0 e)
+pick-0 : (A B C : Outcome) {k : ℕ} → k ≡ 0 → cond (eqb k 0) A (cond (eqb k 1) B C) ≡ A
+pick-0 A B C {k} e = ap (λ (t : Bool). cond t A (cond (eqb k 1) B C)) (eq-eqb k 0 e)
 
-pick-1 : (A B C : Outcome) (k : ℕ) → k ≡ 1 → cond (eqb k 0) A (cond (eqb k 1) B C) ≡ B
-pick-1 A B C k e = ap₂ (λ (t v : Bool). cond t A (cond v B C)) (ne-eqb k 0 (λ z. omega arith)) (eq-eqb k 1 e)
+pick-1 : (A B C : Outcome) {k : ℕ} → k ≡ 1 → cond (eqb k 0) A (cond (eqb k 1) B C) ≡ B
+pick-1 A B C {k} e = ap₂ (λ (t v : Bool). cond t A (cond v B C)) (ne-eqb k 0 (λ z. omega arith)) (eq-eqb k 1 e)
 
 pick-2 : (A B C : Outcome) (k : ℕ) → (k ≡ 0 → ⊥) → (k ≡ 1 → ⊥) → cond (eqb k 0) A (cond (eqb k 1) B C) ≡ C
 pick-2 A B C k d e = ap₂ (λ (t v : Bool). cond t A (cond v B C)) (ne-eqb k 0 d) (ne-eqb k 1 e)
 
-worded : (c q ix : List ℕ) (r : Answer) (w : Word) → WordIs r w → Good c q ix (r .count) (r .used) → Good c q ix (w .count) (w .used)
-worded c q ix r w e g =
+worded : {c q ix : List ℕ} {r : Answer} {w : Word} → WordIs r w → Good c q ix (r .count) (r .used) → Good c q ix (w .count) (w .used)
+worded {c} {q} {ix} {r} {w} e g =
     subst (λ (i : ℕ). Good c q ix i (w .used)) (sym (e .count)) (subst (λ (i : ℕ). Good c q ix (r .count) i) (sym (e .used)) g)
 
-module _ (b p ix : List ℕ) (n u : ℕ) (prm imgs bnd s tbl : List ℕ) (q : QuestionRecord) (h : QuestionAsks b p ix n u prm imgs bnd s tbl q) where
+module _ {b p ix : List ℕ} {n u : ℕ} {prm imgs bnd s tbl : List ℕ} {q : QuestionRecord} (h : QuestionAsks b p ix n u prm imgs bnd s tbl q) where
   pub match-part : q .kind ≡ 1 → MatchAsks b p ix n u prm imgs bnd s tbl q
   match-part e =
       record { good = h .good; table = h .table; zeros = h .zeros; cleared = h .cleared; asked = h .asked; count = h .three e }
@@ -72,10 +72,10 @@ module _ (b p ix : List ℕ) (n u : ℕ) (prm imgs bnd s tbl : List ℕ) (q : Qu
   pub pair-part : (k j : ℕ) → k < n → j < n → PairAsks b p n k j
   pair-part k j x y = record { usable = good-usable b p ix n u (h .good); left = x; right = y }
 
-  pub answered-0 : q .kind ≡ 0 → (k j v : ℕ) → k ≡ getD tbl (u16At s (q .list)) 0 → j ≡ getD tbl (u16At s (q .list + 2)) 0
+  pub answered-0 : q .kind ≡ 0 → {k j v : ℕ} → k ≡ getD tbl (u16At s (q .list)) 0 → j ≡ getD tbl (u16At s (q .list + 2)) 0
       → v ≡ yesNo (compatible (sortAt b p n k) (sortAt b p n j)) → QuestionIs b p n prm imgs bnd s tbl q b p ix prm imgs bnd (record { code = v; count = n; used = u })
   unfolding answerOf questionOver sortAt
-  answered-0 e k j v ek ej ev =
+  answered-0 e {k} {j} {v} ek ej ev =
       let st = storeOf b p n in
       let e1 : firstOf (sortsBy st tbl s (q .list) (q .count)) ≡ getD st k leaf =
       sorts-first st tbl s (q .list) (q .count) (omega (arith, h .two e)) ∙ ap (λ (x : ℕ). getD st x leaf) (sym ek) in
@@ -86,7 +86,7 @@ module _ (b p ix : List ℕ) (n u : ℕ) (prm imgs bnd s tbl : List ℕ) (q : Qu
         long = refl;
         wide = refl;
         is = λ l x y.
-            pick-0 (compatibleCase (storeOf b p n) tbl s q) (matchCase l (storeOf b p n) tbl s q) (applyCase l (storeOf b p n) tbl s q) (q .kind) e
+            pick-0 (compatibleCase (storeOf b p n) tbl s q) (matchCase l (storeOf b p n) tbl s q) (applyCase l (storeOf b p n) tbl s q) e
             ∙ ap (λ (i : ℕ). record { store = st; code = i }) (ap₂ (λ (x y : Sort). yesNo (compatible x y)) e1 e2 ∙ sym ev);
         starts = starts-self st;
         params = refl;
@@ -94,17 +94,17 @@ module _ (b p ix : List ℕ) (n u : ℕ) (prm imgs bnd s tbl : List ℕ) (q : Qu
         bound = refl;
       }
 
-  module _ (b′ p′ ix′ prm′ imgs′ bnd′ : List ℕ) (r : Answer) (w : Word) (e : WordIs r w) where
+  module _ (b′ p′ ix′ prm′ imgs′ bnd′ : List ℕ) {r : Answer} {w : Word} (e : WordIs r w) where
     pub answered-1 : q .kind ≡ 1 → MatchIs b p n prm imgs bnd s tbl q b′ p′ ix′ prm′ imgs′ bnd′ r
         → QuestionIs b p n prm imgs bnd s tbl q b′ p′ ix′ prm′ imgs′ bnd′ w
     unfolding answerOf questionOver
     answered-1 k a =
         record {
-          good = worded b′ p′ ix′ r w e (a .answer .good);
+          good = worded e (a .answer .good);
           long = a .answer .long;
           wide = a .answer .wide;
           is = λ l x y.
-              pick-1 (compatibleCase (storeOf b p n) tbl s q) (matchCase l (storeOf b p n) tbl s q) (applyCase l (storeOf b p n) tbl s q) (q .kind) k ∙ a .answer .is l x y
+              pick-1 (compatibleCase (storeOf b p n) tbl s q) (matchCase l (storeOf b p n) tbl s q) (applyCase l (storeOf b p n) tbl s q) k ∙ a .answer .is l x y
               ∙ ap₂ (λ (c d : ℕ). record { store = storeOf b′ p′ c; code = d }) (sym (e .count)) (sym (e .code));
           starts = subst (λ (c : ℕ). Starts (storeOf b p n) (storeOf b′ p′ c)) (sym (e .count)) (a .answer .starts);
           params = a .params;
@@ -117,7 +117,7 @@ module _ (b p ix : List ℕ) (n u : ℕ) (prm imgs bnd s tbl : List ℕ) (q : Qu
     unfolding answerOf questionOver
     answered-2 d k a ep eb =
         record {
-          good = worded b′ p′ ix′ r w e (a .answer .good);
+          good = worded e (a .answer .good);
           long = a .answer .long;
           wide = a .answer .wide;
           is = λ l x y.

@@ -10,6 +10,8 @@ use images::sort_at;
 use matched::answer_match;
 use matching::compatible::is_compatible;
 use reader::QuestionRecord;
+use record::kinds::QUESTION_COMPATIBLE;
+use record::kinds::QUESTION_MATCH;
 ghost use mathlib.Core.Path.{_≡_};
 ghost use Rattle.record.specs.Decode.{sortAt};
 ghost use Rattle.substitution.specs.Compatible.{compatible};
@@ -69,7 +71,7 @@ pub fn answer_question(
 {
     let kind = question.kind;
     let list = question.list;
-    if kind == 0 {
+    if kind == QUESTION_COMPATIBLE {
         let p = sort_at(sheet, list, table);
         let t = sort_at(sheet, list + 2, table);
         let word = answer_compatible(records, places, count, p, t);
@@ -79,7 +81,7 @@ pub fn answer_question(
             used,
         };
     }
-    if kind == 1 {
+    if kind == QUESTION_MATCH {
         let found = answer_match(
             records,
             places,

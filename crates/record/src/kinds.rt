@@ -1,5 +1,5 @@
 // The kinds of records by name (document 01, "Sort records and the store", "Term records" and "Questions"), and the numbers of
-// the term records that name an operation.
+// the term records that name an operation. operators.rt has the numbers of an Op.
 
 // The kinds of sorts, in the order of the reference's enum Sort.
 pub const SORT_FUNCTION: usize = 0;
@@ -33,6 +33,38 @@ pub const SORT_TYPE: usize = 13;
 pub const SORT_SET: usize = 14;
 
 pub const SORT_TUPLE: usize = 15;
+
+// The kinds of sorts that answers are made of, as they stand in a record.
+pub const BYTE_FUNCTION: u8 = SORT_FUNCTION as u8;
+
+pub const BYTE_VAR: u8 = SORT_VAR as u8;
+
+pub const BYTE_BOOL: u8 = SORT_BOOL as u8;
+
+pub const BYTE_INT: u8 = SORT_INT as u8;
+
+pub const BYTE_REAL: u8 = SORT_REAL as u8;
+
+pub const BYTE_STRING: u8 = SORT_STRING as u8;
+
+pub const BYTE_REG_LAN: u8 = SORT_REG_LAN as u8;
+
+pub const BYTE_BIT_VEC: u8 = SORT_BIT_VEC as u8;
+
+pub const BYTE_PARAM_BIT_VEC: u8 = SORT_PARAM_BIT_VEC as u8;
+
+pub const BYTE_SET: u8 = SORT_SET as u8;
+
+pub const BYTE_TUPLE: u8 = SORT_TUPLE as u8;
+
+// The bit maps of their records: the kind alone, or with a name, a number or a list.
+pub const MAP_KIND: u8 = 1;
+
+pub const MAP_NAME: u8 = 3;
+
+pub const MAP_NUMBER: u8 = 5;
+
+pub const MAP_LIST: u8 = 17;
 
 // The kinds of terms: five of constants, then the others.
 pub const TERM_INTEGER: usize = 0;

@@ -1,5 +1,8 @@
-// Numbers in bytes, and the fields of a sort record. kinds.rt has the names of the kinds, tables.rt the bit map of each.
+// Numbers in bytes, and the fields of a sort record. kinds.rt has the names of the kinds, operators.rt those of the operators,
+// limits.rt the limits, tables.rt the bit map of each kind of sort.
 pub mod kinds;
+pub mod limits;
+pub mod operators;
 pub mod tables;
 
 ghost use mathlib.Core.Path.{_≡_};

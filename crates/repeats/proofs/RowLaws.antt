@@ -47,7 +47,7 @@ use Rattle.repeats.specs.Again.{outcome-settled}
 use Rattle.repeats.specs.PastLaws.{past-grown, sorts-grown}
 
 ---------------------------------------------------------------- the head
-module _ (b p : List ℕ) (n : ℕ) (s : List ℕ) (at : ℕ) (rows : List ℕ) (column : ℕ) (h : HeadAsks b p n s at rows column) (t k : ℕ) (et : t ≡ u16At s at) (ek : k ≡ getD rows (2 * t + column) 0) where
+module _ (b p : List ℕ) (n : ℕ) (s : List ℕ) (at : ℕ) (rows : List ℕ) (column : ℕ) (h : HeadAsks b p n s at rows column) {t k : ℕ} (et : t ≡ u16At s at) (ek : k ≡ getD rows (2 * t + column) 0) where
   head-row : k ≡ headRow s at rows column
   head-row = ek ∙ ap (λ (i : ℕ). getD rows (2 * i + column) 0) et
 
@@ -129,13 +129,13 @@ last-cause n l h d₀ d₁ d₂ d₃ d₄ d₅ d₆ d₇ d₈ =
     omega (arith, z, h)
 
 -- The row of a code.
-pub again-sort : (c n u : ℕ) (w : Answer) → c < 65536 → w ≡ accepting c n u → AgainIs c n u w
-again-sort c n u w l e =
+pub again-sort : (c n u : ℕ) {w : Answer} → c < 65536 → w ≡ accepting c n u → AgainIs c n u w
+again-sort c n u {w} l e =
     subst (AgainIs c n u) (sym e)
     (record { code = refl; small = λ k q. let z : c ≡ k = cc in omega (arith, l, z); count = refl; used = refl })
 
-pub again-refused : (c n u : ℕ) (x : Cause) (w : Answer) → Coded c → 65536 ≤ c → numberOf x ≡ c / 65536 → w ≡ refusing x n u → AgainIs c n u w
-again-refused c n u x w h l ex e =
+pub again-refused : {c : ℕ} (n u : ℕ) (x : Cause) {w : Answer} → Coded c → 65536 ≤ c → numberOf x ≡ c / 65536 → w ≡ refusing x n u → AgainIs c n u w
+again-refused {c} n u x {w} h l ex e =
     subst (AgainIs c n u) (sym e)
     (record { code = ap (λ (i : ℕ). i * 65536) ex ∙ h .whole l; small = λ k q. let z : _≡_ {A = ℕ} 0 1 = cc in absurd (omega arith); count = refl; used = refl })
 
@@ -144,7 +144,7 @@ again-refused c n u x w h l ex e =
 abbrev lent : List ℕ → List ℕ → Lengths
 lent b p = record { records = length b; places = length p; rows = 0; answers = 0 }
 
-module _ (b p ix : List ℕ) (n u : ℕ) (g : Good b p ix n u) (v : Verdict) where
+module _ {b p ix : List ℕ} {n u : ℕ} (g : Good b p ix n u) (v : Verdict) where
   abbrev here : List Sort
   here = storeOf b p n
 
@@ -156,9 +156,9 @@ module _ (b p ix : List ℕ) (n u : ℕ) (g : Good b p ix n u) (v : Verdict) whe
   again-left (Refused c) small e = refl
 
   -- AN OUTCOME THAT ADDS NOTHING is the answer, over the store as it was.
-  pub answer-again : (c : ℕ) (w : Answer) → AgainIs c n u w
+  pub answer-again : {c : ℕ} {w : Answer} → AgainIs c n u w
       → ((l : Lengths) → l .records ≡ length b → l .places ≡ length p → outcome l here v ≡ record { store = here; code = c }) → AnswerIs b p n v b p ix w
-  answer-again c w i e =
+  answer-again {c} {w} i e =
       let is : (l : Lengths) → l .records ≡ length b → l .places ≡ length p → outcome l here v ≡ record { store = here; code = codeOf (w .verdict) } =
       λ l x y. e l x y ∙ ap (λ (k : ℕ). record { store = here; code = k }) (sym (i .code)) in
       let same : w ≡ record { verdict = w .verdict; count = n; used = u } =
@@ -250,7 +250,7 @@ module _ {column : ℕ} {b p ix : List ℕ} {n u : ℕ} {prm imgs bnd s tbl xs r
               record {
                 answer =
                     judged-as (verdict-is (subst (Looked s rows column r key) e (l .looked)))
-                    (answer-again b p ix n u (h .asks .good) (judgingApp column (sortsOf (storeOf b p n) (numbersAt key 3 (r .count)))) c w i (told-here .is));
+                    (answer-again (h .asks .good) (judgingApp column (sortsOf (storeOf b p n) (numbersAt key 3 (r .count)))) i (told-here .is));
                 params = refl;
                 images = refl;
                 bound = refl;

@@ -44,9 +44,9 @@ part-long : (l : List ℕ) (x k : ℕ) → x + k ≤ length l → length (take k
 part-long l x k o = length-take-le k (drop x l) (omega (arith, length-drop x l))
 
 -- WHAT IS RECALLED: a slot with as many terms and their numbers.
-pub recalled-is : (ws a : List ℕ) (n at v : ℕ) → SlotAsks ws at a n → getD ws at 0 ≡ n → take (2 * n) (drop (at + 4) ws) ≡ take (2 * n) (drop 3 a) → v ≡ codeAt ws at → v < codeEnd
+pub recalled-is : {ws a : List ℕ} {n at v : ℕ} → SlotAsks ws at a n → getD ws at 0 ≡ n → take (2 * n) (drop (at + 4) ws) ≡ take (2 * n) (drop 3 a) → v ≡ codeAt ws at → v < codeEnd
     → RecalledIs ws a n (v + 1)
-recalled-is ws a n at v h en key ev small =
+recalled-is {ws} {a} {n} {at} {v} h en key ev small =
     let i = h .here .slot in
     let ei = h .here .place in
     let count : getD ws (i * slotSize) 0 ≡ n = subst (λ (x : ℕ). getD ws x 0 ≡ n) ei en in
@@ -86,7 +86,7 @@ says-kept ws ws′ key c s h =
     }
 
 -- THE OTHER SLOTS say what they said, where the bytes before and behind one slot are as they were.
-module _ (ws ws′ : List ℕ) (at : ℕ) (h : SlotAt ws at) (early : (y : ℕ) → y < at → getD ws′ y 0 ≡ getD ws y 0) (late : (y : ℕ) → at + slotSize ≤ y → getD ws′ y 0 ≡ getD ws y 0) where
+module _ {ws : List ℕ} (ws′ : List ℕ) {at : ℕ} (h : SlotAt ws at) (early : (y : ℕ) → y < at → getD ws′ y 0 ≡ getD ws y 0) (late : (y : ℕ) → at + slotSize ≤ y → getD ws′ y 0 ≡ getD ws y 0) where
   other-said : (key : List ℕ) (c : ℕ) (s : Says ws′ key c) → (s .slot ≡ h .slot → ⊥) → Says ws key c
   other-said key c s ne =
       says-kept ws ws′ key c s (λ y o.
@@ -94,7 +94,7 @@ module _ (ws ws′ : List ℕ) (at : ℕ) (h : SlotAt ws at) (early : (y : ℕ) 
       (λ q. late (s .slot * slotSize + y) (omega (arith, h .place, ltb-false (s .slot) (h .slot) q, ne))))
 
 ---------------------------------------------------------------- a slot opened
-module _ (ws : List ℕ) (at : ℕ) (a : List ℕ) (n : ℕ) (h : SlotAsks ws at a n) where
+module _ {ws : List ℕ} {at : ℕ} {a : List ℕ} {n : ℕ} (h : SlotAsks ws at a n) where
   abbrev terms : List ℕ
   terms = take (2 * n) (drop 3 a)
 
@@ -150,7 +150,7 @@ module _ (ws : List ℕ) (at : ℕ) (a : List ℕ) (n : ℕ) (h : SlotAsks ws at
             (λ q.
             let e : s .slot * slotSize ≡ at = omega (arith, h .here .place, eqb-true (s .slot) (h .here .slot) q) in
             absurd (s .full (ap (λ (x : ℕ). getD filled x 0) e ∙ filled-empty)))
-            (λ q. other-said ws filled at (h .here) filled-early filled-late key c s (eqb-false (s .slot) (h .here .slot) q));
+            (λ q. other-said filled (h .here) filled-early filled-late key c s (eqb-false (s .slot) (h .here .slot) q));
       }
 
   -- The same over what the calls leave, whose bytes to copy are told by an end.
@@ -160,7 +160,7 @@ module _ (ws : List ℕ) (at : ℕ) (a : List ℕ) (n : ℕ) (h : SlotAsks ws at
   pub open-fits : at + 4 + length (take (3 + 2 * n - 3) (drop 3 a)) ≤ length (set ws at 0)
   open-fits = omega (arith, ap (λ (m : ℕ). length (take m (drop 3 a))) ended, terms-fit)
 
-  module _ (y : List ℕ) (ey : y ≡ written (set ws at 0) (at + 4) (take (3 + 2 * n - 3) (drop 3 a))) where
+  module _ {y : List ℕ} (ey : y ≡ written (set ws at 0) (at + 4) (take (3 + 2 * n - 3) (drop 3 a))) where
     is-filled : y ≡ filled
     is-filled = ey ∙ ap (λ (m : ℕ). written emptied (at + 4) (take m (drop 3 a))) ended
 
@@ -171,7 +171,7 @@ module _ (ws : List ℕ) (at : ℕ) (a : List ℕ) (n : ℕ) (h : SlotAsks ws at
     open-is = subst (OpenedIs ws at a n) (sym is-filled) filled-is
 
 ---------------------------------------------------------------- a code noted
-module _ (ws : List ℕ) (at n c : ℕ) (h : NoteAsks ws at n c) where
+module _ {ws : List ℕ} {at n c : ℕ} (h : NoteAsks ws at n c) where
   abbrev counted : List ℕ
   counted = set ws at n
 
@@ -232,10 +232,10 @@ module _ (ws : List ℕ) (at n c : ℕ) (h : NoteAsks ws at n c) where
         s .code ∙ ap (codeAt coded) e ∙ coded-is,
       ))
       (λ q.
-      inl (other-said ws coded at (h .here) coded-early (λ y o. coded-far y (λ z. absurd (omega (arith, z))) (omega arith)) key d s (eqb-false (s .slot) (h .here .slot) q)))
+      inl (other-said coded (h .here) coded-early (λ y o. coded-far y (λ z. absurd (omega (arith, z))) (omega arith)) key d s (eqb-false (s .slot) (h .here .slot) q)))
 
   -- The same over what the calls leave.
-  module _ (x : List ℕ) (ex : x ≡ putAt (set ws at n) (at + 1) (c % 65536)) where
+  module _ {x : List ℕ} (ex : x ≡ putAt (set ws at n) (at + 1) (c % 65536)) where
     pub note-long : length x ≡ length ws
     note-long = ap length ex ∙ numbered-long
 

@@ -2,11 +2,16 @@
 // by the sorts of its head and its arguments alone, and what then had no room in the store has none now, since the store only grows.
 // So its row, a sort or a refusal, is what an App of the same sorts was found to be.
 use answers::Answer;
+use answers::arguments::CHECKED;
+use answers::arguments::INFERRED;
+use answers::arguments::REFUSED;
 use answers::found;
 use answers::refuse;
 use checker::check;
 use inference::infer;
 use reader::TermRecord;
+use record::kinds::SORT_PAR;
+use record::kinds::TERM_APP;
 use record::u16_at;
 use rows::Cause;
 use site::parts_judged;
@@ -36,10 +41,10 @@ pub fn head_is_par(
 {
     let t = u16_at(sheet, at);
     let k = rows[2 * t + column] as usize;
-    if 65536 <= k {
+    if REFUSED <= k {
         return false;
     }
-    kind_at(records, places, k) == 12
+    kind_at(records, places, k) == SORT_PAR
 }
 
 // The cause with this number.
@@ -66,10 +71,10 @@ pub fn row_again(row: usize, count: usize, used: usize) -> Answer
     requires { ⌜ Coded row ⌝ }
     ensures { λ r. ⌜ AgainIs row count used r ⌝ }
 {
-    if row < 65536 {
+    if row < REFUSED {
         return found(row, count, used);
     }
-    let c = cause_of(row / 65536);
+    let c = cause_of(row / REFUSED);
     refuse(c, count, used)
 }
 
@@ -92,7 +97,7 @@ pub fn looked_up(
     let kind = term.kind;
     let n = term.count;
     let at = term.list;
-    if kind != 6 {
+    if kind != TERM_APP {
         return Look::Apart;
     }
     if n < 2 {
@@ -130,7 +135,17 @@ pub fn inferred_row(
     ensures { λ r. ⌜ PastIs 0 (now (records .entry)) (now (places .entry)) count (now (params .entry)) (now (images .entry)) (now (bound .entry)) (now (sheet .entry)) (now (table .entry)) (now (starts .entry)) (now (rows .entry)) term (now (records .exit)) (now (places .exit)) (now (index .exit)) (now (params .exit)) (now (images .exit)) (now (bound .exit)) r (now (past .exit)) ⌝ }
 {
     let n = term.count;
-    let look = looked_up(records, places, count, sheet, rows, 0, term, args, past);
+    let look = looked_up(
+        records,
+        places,
+        count,
+        sheet,
+        rows,
+        INFERRED,
+        term,
+        args,
+        past,
+    );
     if let Look::Noted(row) = look {
         return row_again(row, count, used);
     }
@@ -177,7 +192,17 @@ pub fn checked_row(
     ensures { λ r. ⌜ PastIs 1 (now (records .entry)) (now (places .entry)) count (now (params .entry)) (now (images .entry)) (now (bound .entry)) (now (sheet .entry)) (now (table .entry)) (now (starts .entry)) (now (rows .entry)) term (now (records .exit)) (now (places .exit)) (now (index .exit)) (now (params .exit)) (now (images .exit)) (now (bound .exit)) r (now (past .exit)) ⌝ }
 {
     let n = term.count;
-    let look = looked_up(records, places, count, sheet, rows, 1, term, args, past);
+    let look = looked_up(
+        records,
+        places,
+        count,
+        sheet,
+        rows,
+        CHECKED,
+        term,
+        args,
+        past,
+    );
     if let Look::Noted(row) = look {
         return row_again(row, count, used);
     }

@@ -1,6 +1,9 @@
 // What an App was found to be, noted in a lent table by the numbers of its head and its arguments. The table has 128 slots of 132
 // bytes, or fewer where it is shorter: how many terms (0 in an empty slot), the row's code in three bytes, a number of the store and
 // a cause, and from byte 4 on the numbers of the terms' sorts, two bytes each. A slot keeps the last App that was looked up there.
+use answers::arguments::FIRST_AT;
+use answers::arguments::REFUSED;
+use answers::arguments::SECOND_AT;
 use answers::arguments::put_u16;
 use answers::code;
 use check::same;
@@ -11,10 +14,12 @@ ghost use mathlib.Core.Path.{_≡_};
 ghost use Prim.Native.Nat.{_≤_, _<_};
 ghost use Rattle.repeats.specs.Past.{slotOf, KeyAsks, SlotAsks, RecalledIs, OpenedIs, SeekIs, NoteAsks, NotedIs, RowNoteAsks, RowNotedIs};
 
-// The bytes of a slot, and of the whole table.
+// How many slots there are, the bytes of a slot, and of the whole table.
+const SLOTS: usize = 128;
+
 pub const SLOT: usize = 132;
 
-pub const TABLE: usize = 128 * SLOT;
+pub const TABLE: usize = SLOTS * SLOT;
 
 // What a look-up gave.
 pub enum Look {
@@ -31,10 +36,10 @@ pub fn slot_of(args: &[u8], n: usize) -> usize
     requires { ⌜ KeyAsks (now args) n ⌝ }
     ensures { λ r. ⌜ r ≡ slotOf (now (args .entry)) n ⌝ }
 {
-    let head = u16_at(args, 3);
-    let first = u16_at(args, 5);
+    let head = u16_at(args, FIRST_AT);
+    let first = u16_at(args, SECOND_AT);
     let last = u16_at(args, 1 + 2 * n);
-    (head * 31 + first * 6 + last) % 128 * SLOT
+    (head * 31 + first * 6 + last) % SLOTS * SLOT
 }
 
 // One more than the code in the slot at `at`, where that has noted the `n` terms whose numbers are in `args` from byte 3 on; else 0.
@@ -47,9 +52,9 @@ pub fn recalled(past: &[u8], at: usize, args: &[u8], n: usize) -> usize
     }
     let from = at + 4;
     let to = from + 2 * n;
-    let end = 3 + 2 * n;
-    if same(&past[from..to], &args[3..end]) {
-        return past[at + 3] as usize * 65536 + u16_at(past, at + 1) + 1;
+    let end = FIRST_AT + 2 * n;
+    if same(&past[from..to], &args[FIRST_AT..end]) {
+        return past[at + 3] as usize * REFUSED + u16_at(past, at + 1) + 1;
     }
     0
 }
@@ -60,8 +65,8 @@ pub fn opened(past: &mut [u8], at: usize, args: &[u8], n: usize)
     ensures { λ _. ⌜ OpenedIs (now (past .entry)) at (now (args .entry)) n (now (past .exit)) ⌝ }
 {
     past[at] = 0;
-    let end = 3 + 2 * n;
-    copy_at(past, at + 4, &args[3..end]);
+    let end = FIRST_AT + 2 * n;
+    copy_at(past, at + 4, &args[FIRST_AT..end]);
 }
 
 // Looks up an App of the `n` terms whose numbers are in `args` from byte 3 on: its code, or its slot, which is emptied and has the
@@ -88,8 +93,8 @@ pub fn noted(past: &mut [u8], at: usize, n: usize, row: usize)
     ensures { λ _. ⌜ NotedIs (now (past .entry)) at n row (now (past .exit)) ⌝ }
 {
     past[at] = n as u8;
-    put_u16(past, at + 1, row % 65536);
-    past[at + 3] = (row / 65536) as u8;
+    put_u16(past, at + 1, row % REFUSED);
+    past[at + 3] = (row / REFUSED) as u8;
 }
 
 // Notes a row of `n` terms where the look-up left a slot for it; else the table stays as it was.

@@ -17,8 +17,8 @@ use Rattle.replacing.specs.Lists.{Numbers, numbersOf}
 use Rattle.replacing.specs.Draft.{Draft, drafted, Room, Put, ByteAsks, ListAsks, fieldsIn, Drafted}
 use Rattle.replacing.specs.HeldLaws.{has-length}
 
-pub byte-put : (d : Draft) (v : ℕ) → ByteAsks d v → Put d 1 (v ∷ []) (record { bytes = set (d .bytes) (d .len) v; len = d .len + 1 })
-byte-put d v a =
+pub byte-put : {d : Draft} {v : ℕ} → ByteAsks d v → Put d 1 (v ∷ []) (record { bytes = set (d .bytes) (d .len) v; len = d .len + 1 })
+byte-put {d} {v} a =
     record {
       long = length-set (d .bytes) (d .len) v ∙ a .room .long;
       most = omega arith;
@@ -27,34 +27,34 @@ byte-put d v a =
           ∙ take-suc-set (d .bytes) (d .len) v (omega (arith, a .room .long, a .room .room));
     }
 
-pub put-room : (d : Draft) (x e : ℕ) (s : List ℕ) (r : Draft) (y : ℕ) → Room d x → e + y ≤ x → Put d e s r → Room r y
-put-room d x e s r y m h p = record { long = p .long; room = omega (arith, m .room, p .most) }
+pub put-room : {d : Draft} {x e : ℕ} {s : List ℕ} {r : Draft} (y : ℕ) → Room d x → e + y ≤ x → Put d e s r → Room r y
+put-room {d} {x} {e} {s} {r} y m h p = record { long = p .long; room = omega (arith, m .room, p .most) }
 
-pub put-trans : (d : Draft) (e : ℕ) (s : List ℕ) (r : Draft) (x : ℕ) (t : List ℕ) (q : Draft) → Put d e s r → Put r x t q → Put d (e + x) (s ++ t) q
-put-trans d e s r x t q p o =
+pub put-trans : {d : Draft} {e : ℕ} {s : List ℕ} {r : Draft} {x : ℕ} {t : List ℕ} {q : Draft} → Put d e s r → Put r x t q → Put d (e + x) (s ++ t) q
+put-trans {d} {e} {s} {r} {x} {t} {q} p o =
     record {
       long = o .long;
       most = omega (arith, p .most, o .most);
       is = o .is ∙ ap (λ (l : List ℕ). l ++ t) (p .is) ∙ append-assoc (drafted d) s t;
     }
 
-pub put-none : (d : Draft) (x e : ℕ) → Room d x → Put d e [] d
-put-none d x e m = record { long = m .long; most = omega arith; is = sym (append-nil (drafted d)) }
+pub put-none : {d : Draft} {x : ℕ} (e : ℕ) → Room d x → Put d e [] d
+put-none {d} {x} e m = record { long = m .long; most = omega arith; is = sym (append-nil (drafted d)) }
 
-pub put-as : (d : Draft) (e : ℕ) (s t : List ℕ) (r : Draft) → s ≡ t → Put d e s r → Put d e t r
-put-as d e s t r q p = subst (λ (x : List ℕ). Put d e x r) q p
+pub put-as : {d : Draft} {e : ℕ} {s : List ℕ} (t : List ℕ) {r : Draft} → s ≡ t → Put d e s r → Put d e t r
+put-as {d} {e} {s} t {r} q p = subst (λ (x : List ℕ). Put d e x r) q p
 
-name-on : (bit v : ℕ) → bit ≡ 1 → u16Bytes v ≡ nameBytes (isOne bit) v
-name-on bit v e = rw (eq-eqb bit 1 e)
+name-on : {bit : ℕ} (v : ℕ) → bit ≡ 1 → u16Bytes v ≡ nameBytes (isOne bit) v
+name-on {bit} v e = rw (eq-eqb bit 1 e)
 
 name-off : (bit v : ℕ) → (bit ≡ 1 → ⊥) → [] ≡ nameBytes (isOne bit) v
 name-off bit v e = rw (ne-eqb bit 1 e)
 
-pub put-name-on : (d : Draft) (bit v : ℕ) (r : Draft) → bit ≡ 1 → Put d 2 (u16Bytes v) r → Put d 2 (nameBytes (isOne bit) v) r
-put-name-on d bit v r e p = put-as d 2 (u16Bytes v) (nameBytes (isOne bit) v) r (name-on bit v e) p
+pub put-name-on : {d : Draft} {bit : ℕ} (v : ℕ) {r : Draft} → bit ≡ 1 → Put d 2 (u16Bytes v) r → Put d 2 (nameBytes (isOne bit) v) r
+put-name-on {d} {bit} v {r} e p = put-as (nameBytes (isOne bit) v) (name-on v e) p
 
-pub put-name-off : (d : Draft) (bit v : ℕ) → (bit ≡ 1 → ⊥) → Room d 2 → Put d 2 (nameBytes (isOne bit) v) d
-put-name-off d bit v e m = put-as d 2 [] (nameBytes (isOne bit) v) d (name-off bit v e) (put-none d 2 2 m)
+pub put-name-off : {d : Draft} (bit v : ℕ) → (bit ≡ 1 → ⊥) → Room d 2 → Put d 2 (nameBytes (isOne bit) v) d
+put-name-off {d} bit v e m = put-as (nameBytes (isOne bit) v) (name-off bit v e) (put-none 2 m)
 
 -- A number of four bytes that fits two.
 width-bytes : (v : ℕ) → v < 65536 → u16Bytes v ++ u16Bytes 0 ≡ u32Bytes v
@@ -65,36 +65,36 @@ width-bytes v h =
     ap (λ (i : ℕ). v % 256 ∷ i ∷ 0 ∷ 0 ∷ []) e
     ∙ ap₂ (λ (i j : ℕ). v % 256 ∷ v / 256 % 256 ∷ i ∷ j ∷ []) f g
 
-width-on : (bit v : ℕ) → bit ≡ 1 → u32Bytes v ≡ numberBytes (isOne bit) v
-width-on bit v e = rw (eq-eqb bit 1 e)
+width-on : {bit : ℕ} (v : ℕ) → bit ≡ 1 → u32Bytes v ≡ numberBytes (isOne bit) v
+width-on {bit} v e = rw (eq-eqb bit 1 e)
 
 width-off : (bit v : ℕ) → (bit ≡ 1 → ⊥) → [] ≡ numberBytes (isOne bit) v
 width-off bit v e = rw (ne-eqb bit 1 e)
 
-pub put-width-on : (d : Draft) (bit v : ℕ) (r q : Draft) → bit ≡ 1 → v < 65536 → Put d 2 (u16Bytes v) r → Put r 2 (u16Bytes 0) q → Put d 4 (numberBytes (isOne bit) v) q
-put-width-on d bit v r q e h p o =
-    put-as d 4 (u16Bytes v ++ u16Bytes 0) (numberBytes (isOne bit) v) q (width-bytes v h ∙ width-on bit v e) (put-trans d 2 (u16Bytes v) r 2 (u16Bytes 0) q p o)
+pub put-width-on : {d : Draft} {bit : ℕ} (v : ℕ) {r q : Draft} → bit ≡ 1 → v < 65536 → Put d 2 (u16Bytes v) r → Put r 2 (u16Bytes 0) q → Put d 4 (numberBytes (isOne bit) v) q
+put-width-on {d} {bit} v {r} {q} e h p o =
+    put-as (numberBytes (isOne bit) v) (width-bytes v h ∙ width-on v e) (put-trans p o)
 
-pub put-width-off : (d : Draft) (bit v : ℕ) → (bit ≡ 1 → ⊥) → Room d 4 → Put d 4 (numberBytes (isOne bit) v) d
-put-width-off d bit v e m = put-as d 4 [] (numberBytes (isOne bit) v) d (width-off bit v e) (put-none d 4 4 m)
+pub put-width-off : {d : Draft} (bit v : ℕ) → (bit ≡ 1 → ⊥) → Room d 4 → Put d 4 (numberBytes (isOne bit) v) d
+put-width-off {d} bit v e m = put-as (numberBytes (isOne bit) v) (width-off bit v e) (put-none 4 m)
 
 -- A list behind its length: the numbers so far.
 pub record PutInv (r : Draft) (n : ℕ) (l : List ℕ) (out : Draft) (j : ℕ) : Type 0 where
   pub low : j ≤ n
   pub put : Put r (2 * j) (numbersBytes (take j l)) out
 
-list-on : (bit : ℕ) (vs : List ℕ) → bit ≡ 1 → length vs ∷ numbersBytes vs ≡ listBytes (isOne bit) vs
-list-on bit vs e = rw (eq-eqb bit 1 e)
+list-on : {bit : ℕ} (vs : List ℕ) → bit ≡ 1 → length vs ∷ numbersBytes vs ≡ listBytes (isOne bit) vs
+list-on {bit} vs e = rw (eq-eqb bit 1 e)
 
 list-off : (bit : ℕ) (vs : List ℕ) → (bit ≡ 1 → ⊥) → [] ≡ listBytes (isOne bit) vs
 list-off bit vs e = rw (ne-eqb bit 1 e)
 
-pub put-list-off : (d : Draft) (bit : ℕ) (o : Numbers) → (bit ≡ 1 → ⊥) → Room d 129 → Put d 129 (listBytes (isOne bit) (numbersOf o)) d
-put-list-off d bit o e m = put-as d 129 [] (listBytes (isOne bit) (numbersOf o)) d (list-off bit (numbersOf o) e) (put-none d 129 129 m)
+pub put-list-off : {d : Draft} (bit : ℕ) (o : Numbers) → (bit ≡ 1 → ⊥) → Room d 129 → Put d 129 (listBytes (isOne bit) (numbersOf o)) d
+put-list-off {d} bit o e m = put-as (listBytes (isOne bit) (numbersOf o)) (list-off bit (numbersOf o) e) (put-none 129 m)
 
-pub put-start : (d : Draft) (n : ℕ) (l : List ℕ) (r : Draft) → Put d 1 (n ∷ []) r → PutInv r n l r 0
+pub put-start : {d : Draft} (n : ℕ) (l : List ℕ) {r : Draft} → Put d 1 (n ∷ []) r → PutInv r n l r 0
 unfolding numbersBytes
-put-start d n l r p = record { low = omega arith; put = record { long = p .long; most = omega arith; is = sym (append-nil (drafted r)) } }
+put-start {d} n l {r} p = record { low = omega arith; put = record { long = p .long; most = omega arith; is = sym (append-nil (drafted r)) } }
 
 numbers-append : (vs : List ℕ) (v : ℕ) → numbersBytes (vs ++ (v ∷ [])) ≡ numbersBytes vs ++ u16Bytes v
 unfolding numbersBytes
@@ -105,13 +105,13 @@ numbers-step : (l : List ℕ) (j : ℕ) → j < length l → numbersBytes (take 
 numbers-step l j h =
     sym (ap (λ (i : ℕ). numbersBytes (take i l)) (add-one j) ∙ ap numbersBytes (take-suc l j 0 h) ∙ numbers-append (take j l) (getD l j 0))
 
-module _ (d : Draft) (o : Numbers) (a : ListAsks d o) (r : Draft) (f : Put d 1 (o .count ∷ []) r) (out : Draft) (j : ℕ) (i : PutInv r (o .count) (o .list) out j) where
+module _ {d : Draft} {o : Numbers} (a : ListAsks d o) {r : Draft} (f : Put d 1 (o .count ∷ []) r) {out : Draft} {j : ℕ} (i : PutInv r (o .count) (o .list) out j) where
   pub put-word-room : j < o .count → Room out 2
   put-word-room h = record { long = i .put .long; room = omega (arith, a .room .room, f .most, i .put .most, a .has .few) }
 
-  pub put-again : j < o .count → (q : Draft) → Put out 2 (u16Bytes (getD (o .list) j 0)) q → PutInv r (o .count) (o .list) q (j + 1)
-  put-again h q p =
-      let t = put-trans r (2 * j) (numbersBytes (take j (o .list))) out 2 (u16Bytes (getD (o .list) j 0)) q (i .put) p in
+  pub put-again : j < o .count → {q : Draft} → Put out 2 (u16Bytes (getD (o .list) j 0)) q → PutInv r (o .count) (o .list) q (j + 1)
+  put-again h {q} p =
+      let t = put-trans (i .put) p in
       record {
         low = omega arith;
         put =
@@ -122,11 +122,11 @@ module _ (d : Draft) (o : Numbers) (a : ListAsks d o) (r : Draft) (f : Put d 1 (
             };
       }
 
-  pub put-end : (bit : ℕ) → bit ≡ 1 → o .count ≤ j → Put d 129 (listBytes (isOne bit) (numbersOf o)) out
-  put-end bit e h =
+  pub put-end : {bit : ℕ} → bit ≡ 1 → o .count ≤ j → Put d 129 (listBytes (isOne bit) (numbersOf o)) out
+  put-end {bit} e h =
       let q : j ≡ o .count = omega (arith, i .low) in
       let n : o .count ≡ length (numbersOf o) = sym (has-length o (numbersOf o) (a .has)) in
-      let t = put-trans d 1 (o .count ∷ []) r (2 * j) (numbersBytes (take j (o .list))) out f (i .put) in
+      let t = put-trans f (i .put) in
       record {
         long = i .put .long;
         most = omega (arith, t .most, a .has .few);
@@ -134,7 +134,7 @@ module _ (d : Draft) (o : Numbers) (a : ListAsks d o) (r : Draft) (f : Put d 1 (
             t .is
             ∙ ap (λ (k : ℕ). drafted d ++ (o .count ∷ numbersBytes (take k (o .list)))) q
             ∙ ap (λ (k : ℕ). drafted d ++ (k ∷ numbersBytes (numbersOf o))) n
-            ∙ ap (λ (s : List ℕ). drafted d ++ s) (list-on bit (numbersOf o) e);
+            ∙ ap (λ (s : List ℕ). drafted d ++ s) (list-on (numbersOf o) e);
       }
 
 -- Every map is a byte.
@@ -147,12 +147,12 @@ map-small k l = ltb→lt (mapOf k) 256 (at small-map maps tt k l)
 
 -- THE WHOLE RECORD: the six steps, one behind the other.
 module _ (k a w : ℕ) (ps ns : Numbers) where
-  pub whole : (m : ℕ) → m ≡ mapOf k → (d d1 d2 d3 d4 d5 d6 : Draft) → d .len ≡ 0 → Put d 1 (m ∷ []) d1 → Put d1 1 (k ∷ []) d2
+  pub whole : {m : ℕ} → m ≡ mapOf k → {d d1 d2 d3 d4 d5 d6 : Draft} → d .len ≡ 0 → Put d 1 (m ∷ []) d1 → Put d1 1 (k ∷ []) d2
       → Put d2 2 (nameBytes (isOne (m / 2 % 2)) a) d3 → Put d3 4 (numberBytes (isOne (m / 4 % 2)) w) d4
       → Put d4 129 (listBytes (isOne (m / 16 % 2)) (numbersOf ps)) d5 → Put d5 129 (listBytes (isOne (m / 64 % 2)) (numbersOf ns)) d6
       → Drafted d6 (recordBytes (fieldsIn k a w ps ns))
   unfolding recordBytes bit
-  whole m e d d1 d2 d3 d4 d5 d6 z p1 p2 p3 p4 p5 p6 =
+  whole {m} e {d} {d1} {d2} {d3} {d4} {d5} {d6} z p1 p2 p3 p4 p5 p6 =
       let n2 = nameBytes (isOne (m / 2 % 2)) a in
       let n4 = numberBytes (isOne (m / 4 % 2)) w in
       let n16 = listBytes (isOne (m / 16 % 2)) (numbersOf ps) in

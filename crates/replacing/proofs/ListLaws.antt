@@ -14,8 +14,8 @@ use Rattle.record.specs.Codec.{length-numbersAt, numbers-more}
 use Rattle.replacing.specs.Lists.{Numbers, numbersOf, held, unbound, Has, AddAsks, KeepAsks, ReadAsks, NamesAsk, SameAsks}
 use Rattle.replacing.specs.HeldLaws.{has-length, has-own, none-has}
 
-pub add-has : (o : Numbers) (v : ℕ) → AddAsks o v → Has (record { list = set (o .list) (o .count) v; count = o .count + 1 }) (numbersOf o ++ (v ∷ []))
-add-has o v a =
+pub add-has : {o : Numbers} {v : ℕ} → AddAsks o v → Has (record { list = set (o .list) (o .count) v; count = o .count + 1 }) (numbersOf o ++ (v ∷ []))
+add-has {o} {v} a =
     record {
       long = length-set (o .list) (o .count) v ∙ a .has .long;
       few = omega (arith, a .room);
@@ -45,12 +45,12 @@ read-start b x n a l e =
       whole = refl;
     }
 
-module _ (b : List ℕ) (x n : ℕ) (out : Numbers) (y m : ℕ) (i : ReadInv b x n out y m) (l : 0 < m) where
+module _ {b : List ℕ} {x n : ℕ} {out : Numbers} {y m : ℕ} (i : ReadInv b x n out y m) (l : 0 < m) where
   pub read-asks : (v : ℕ) → v < 65536 → AddAsks out v
   read-asks v s = record { has = i .has; room = omega (arith, i .few); small = s }
 
-  pub read-more : (v : ℕ) → v ≡ u16At b y → (r : Numbers) → Has r (numbersOf out ++ (v ∷ [])) → ReadInv b x n r (y + 2) (m - 1)
-  read-more v e r h =
+  pub read-more : {v : ℕ} → v ≡ u16At b y → {r : Numbers} → Has r (numbersOf out ++ (v ∷ [])) → ReadInv b x n r (y + 2) (m - 1)
+  read-more {v} e {r} h =
       record {
         has = has-own r (numbersOf out ++ (v ∷ [])) h;
         within = omega (arith, i .within);
@@ -63,8 +63,8 @@ module _ (b : List ℕ) (x n : ℕ) (out : Numbers) (y m : ℕ) (i : ReadInv b x
             ∙ i .whole;
       }
 
-pub read-end : (b : List ℕ) (x n : ℕ) (l : List ℕ) (j y m : ℕ) → ReadInv b x n (held l j) y m → m ≤ 0 → Has (held l n) (numbersAt b x n)
-read-end b x n l j y m i h =
+pub read-end : {b : List ℕ} {x n : ℕ} (l : List ℕ) (j : ℕ) {y m : ℕ} → ReadInv b x n (held l j) y m → m ≤ 0 → Has (held l n) (numbersAt b x n)
+read-end {b} {x} {n} l j {y} {m} i h =
     let all : Has (held l j) (numbersAt b x n) =
     record {
       long = i .has .long;
@@ -79,14 +79,14 @@ pub record SameInv (b : List ℕ) (x : ℕ) (l : List ℕ) (n y j : ℕ) : Type 
   pub within : y + 2 * (n - j) ≤ length b
   pub whole : take j l ++ numbersAt b y (n - j) ≡ numbersAt b x n
 
-pub same-start : (b : List ℕ) (x : ℕ) (l : List ℕ) (n : ℕ) → SameAsks b x l n → SameInv b x l n x 0
-same-start b x l n a =
+pub same-start : {b : List ℕ} {x : ℕ} {l : List ℕ} {n : ℕ} → SameAsks b x l n → SameInv b x l n x 0
+same-start {b} {x} {l} {n} a =
     let e : n - 0 ≡ n = omega arith in
     record { low = omega arith; within = omega (arith, a .within); whole = ap (numbersAt b x) e }
 
-pub same-more : (b : List ℕ) (x : ℕ) (l : List ℕ) (n y j : ℕ) → SameInv b x l n y j → j < n → j < length l → u16At b y ≡ getD l j 0
+pub same-more : {b : List ℕ} {x : ℕ} {l : List ℕ} {n y j : ℕ} → SameInv b x l n y j → j < n → j < length l → u16At b y ≡ getD l j 0
     → SameInv b x l n (y + 2) (j + 1)
-same-more b x l n y j i h k q =
+same-more {b} {x} {l} {n} {y} {j} i h k q =
     let e : n - (j + 1) ≡ n - j - 1 = omega arith in
     record {
       low = omega arith;
@@ -100,8 +100,8 @@ same-more b x l n y j i h k q =
           ∙ i .whole;
     }
 
-pub same-end : (b : List ℕ) (x : ℕ) (l : List ℕ) (n y j : ℕ) → SameInv b x l n y j → n ≤ j → take n l ≡ numbersAt b x n
-same-end b x l n y j i h =
+pub same-end : {b : List ℕ} {x : ℕ} {l : List ℕ} {n y j : ℕ} → SameInv b x l n y j → n ≤ j → take n l ≡ numbersAt b x n
+same-end {b} {x} {l} {n} {y} {j} i h =
     let e : n ≡ j = omega (arith, i .low) in
     ap (λ (c : ℕ). take c l) e ∙ sym (append-nil (take j l))
     ∙ ap (λ (vs : List ℕ). take j l ++ vs) (sym (numbers-none b y (n - j) (omega arith))) ∙ i .whole
@@ -115,11 +115,11 @@ pub unbound-bound : (l : List ℕ) (v : ℕ) → (getD l v 0 ≡ 0 → ⊥) → 
 unfolding unbound
 unbound-bound l v e = rw (ne-eqb (getD l v 0) 0 e)
 
-pub keep-free : (o : Numbers) (v : ℕ) (l : List ℕ) (r : Numbers) → getD l v 0 ≡ 0 → Has r (numbersOf o ++ (v ∷ [])) → Has r (numbersOf o ++ unbound l (v ∷ []))
-keep-free o v l r e h = subst (λ (vs : List ℕ). Has r (numbersOf o ++ vs)) (sym (unbound-free l v e)) h
+pub keep-free : (o : Numbers) (v : ℕ) (l : List ℕ) {r : Numbers} → getD l v 0 ≡ 0 → Has r (numbersOf o ++ (v ∷ [])) → Has r (numbersOf o ++ unbound l (v ∷ []))
+keep-free o v l {r} e h = subst (λ (vs : List ℕ). Has r (numbersOf o ++ vs)) (sym (unbound-free l v e)) h
 
-pub keep-bound : (o : Numbers) (v : ℕ) (l : List ℕ) → (getD l v 0 ≡ 0 → ⊥) → Has o (numbersOf o) → Has o (numbersOf o ++ unbound l (v ∷ []))
-keep-bound o v l e h =
+pub keep-bound : {o : Numbers} (v : ℕ) (l : List ℕ) → (getD l v 0 ≡ 0 → ⊥) → Has o (numbersOf o) → Has o (numbersOf o ++ unbound l (v ∷ []))
+keep-bound {o} v l e h =
     record {
       long = h .long;
       few = h .few;
@@ -169,8 +169,8 @@ pub record NamesInv (b : List ℕ) (x n : ℕ) (l : List ℕ) (out : Numbers) (y
   pub few : out .count + m ≤ 64
   pub whole : numbersOf out ++ unbound l (numbersAt b y m) ≡ unbound l (numbersAt b x n)
 
-pub names-start : (b : List ℕ) (x n : ℕ) (l : List ℕ) → NamesAsk b x n l → (o : List ℕ) → length o ≡ 64 → NamesInv b x n l (held o 0) x n
-names-start b x n l a o e =
+pub names-start : {b : List ℕ} {x n : ℕ} {l : List ℕ} → NamesAsk b x n l → (o : List ℕ) → length o ≡ 64 → NamesInv b x n l (held o 0) x n
+names-start {b} {x} {n} {l} a o e =
     record {
       has = none-has o e;
       within = a .read .within;
@@ -178,12 +178,12 @@ names-start b x n l a o e =
       whole = refl;
     }
 
-module _ (b : List ℕ) (x n : ℕ) (l : List ℕ) (out : Numbers) (y m : ℕ) (i : NamesInv b x n l out y m) (some : 0 < m) where
+module _ {b : List ℕ} {x n : ℕ} {l : List ℕ} {out : Numbers} {y m : ℕ} (i : NamesInv b x n l out y m) (some : 0 < m) where
   pub names-asks : (v : ℕ) → v < 65536 → length l ≡ 65536 → KeepAsks out v l
   names-asks v s t = record { add = record { has = i .has; room = omega (arith, i .few); small = s }; table = t }
 
-  pub names-more : (v : ℕ) → v ≡ u16At b y → (r : Numbers) → Has r (numbersOf out ++ unbound l (v ∷ [])) → NamesInv b x n l r (y + 2) (m - 1)
-  names-more v e r h =
+  pub names-more : {v : ℕ} → v ≡ u16At b y → {r : Numbers} → Has r (numbersOf out ++ unbound l (v ∷ [])) → NamesInv b x n l r (y + 2) (m - 1)
+  names-more {v} e {r} h =
       let rest = numbersAt b (y + 2) (m - 1) in
       record {
         has = has-own r (numbersOf out ++ unbound l (v ∷ [])) h;
@@ -197,9 +197,9 @@ module _ (b : List ℕ) (x n : ℕ) (l : List ℕ) (out : Numbers) (y m : ℕ) (
             ∙ i .whole;
       }
 
-pub names-end : (b : List ℕ) (x n : ℕ) (l : List ℕ) (out : Numbers) (y m : ℕ) → NamesInv b x n l out y m → m ≤ 0 → Has out (unbound l (numbersAt b x n))
+pub names-end : {b : List ℕ} {x n : ℕ} {l : List ℕ} {out : Numbers} {y m : ℕ} → NamesInv b x n l out y m → m ≤ 0 → Has out (unbound l (numbersAt b x n))
 unfolding unbound
-names-end b x n l out y m i h =
+names-end {b} {x} {n} {l} {out} {y} {m} i h =
     record {
       long = i .has .long;
       few = i .has .few;
@@ -208,6 +208,6 @@ names-end b x n l out y m i h =
           ∙ ap (λ (vs : List ℕ). numbersOf out ++ unbound l vs) (sym (numbers-none b y m h)) ∙ i .whole;
     }
 
-pub names-none : (b : List ℕ) (x n : ℕ) (l : List ℕ) → n ≡ 0 → 0 ≡ length (unbound l (numbersAt b x n))
+pub names-none : (b : List ℕ) (x : ℕ) {n : ℕ} (l : List ℕ) → n ≡ 0 → 0 ≡ length (unbound l (numbersAt b x n))
 unfolding unbound
-names-none b x n l e = sym (ap (λ (vs : List ℕ). length (unbound l vs)) (numbers-none b x n (omega arith)))
+names-none b x {n} l e = sym (ap (λ (vs : List ℕ). length (unbound l vs)) (numbers-none b x n (omega arith)))

@@ -20,7 +20,7 @@ use Rattle.store.specs.declared.Interned.the-variants.{Is, NoRoom}
 use Rattle.replacing.specs.Lists.{Numbers}
 use Rattle.replacing.specs.Made.{MakeAsks, MadeIs}
 
-module _ (b p ix : List ℕ) (n u : ℕ) (f : Fields) (ps ms : Numbers) (a : MakeAsks b p ix n u f ps ms) (r : List ℕ) (e : r ≡ recordBytes f) where
+module _ {b p ix : List ℕ} {n u : ℕ} {f : Fields} {ps ms : Numbers} (a : MakeAsks b p ix n u f ps ms) {r : List ℕ} (e : r ≡ recordBytes f) where
   rec-fresh : Fresh r n
   rec-fresh = subst (λ (s : List ℕ). Fresh s n) (sym e) (fresh-of f n (a .shape) (a .below))
 

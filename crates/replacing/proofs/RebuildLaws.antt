@@ -33,16 +33,15 @@ use Rattle.replacing.proofs.SortForms.{headOf, rebuilt, rebuilt-gone, r
 use Rattle.replacing.specs.InternLaws.{sorts-back, indices-below}
 
 -- The one part's number, where the list of numbers is that of one sort.
-head-there : (ps : Sorts) (st : List Sort) → ps ≡ headOf ps then end → membAll ps st ≡ true → memb (headOf ps) st ≡ true
+head-there : {ps : Sorts} (st : List Sort) → ps ≡ headOf ps then end → membAll ps st ≡ true → memb (headOf ps) st ≡ true
 unfolding membAll
-head-there ps st e m = and-left (memb (headOf ps) st) true (sym (ap (λ (x : Sorts). membAll x st) e) ∙ m)
+head-there {ps} st e m = and-left (memb (headOf ps) st) true (sym (ap (λ (x : Sorts). membAll x st) e) ∙ m)
 
-head-index : (ps : Sorts) (st : List Sort) → ps ≡ headOf ps then end → indicesOf ps st ≡ indexOf (headOf ps) st ∷ []
+head-index : {ps : Sorts} (st : List Sort) → ps ≡ headOf ps then end → indicesOf ps st ≡ indexOf (headOf ps) st ∷ []
 unfolding indicesOf
-head-index ps st e = ap (λ (x : Sorts). indicesOf x st) e
+head-index {ps} st e = ap (λ (x : Sorts). indicesOf x st) e
 
-module _ (b p ix : List ℕ) (n u k : ℕ) (parts : Numbers) (l : List ℕ) (a : RebuildAsks b p ix n u k parts l) (r : SortRecord)
-    (e : EntryIs b p n k r) (o : Numbers) (ho : Has o (unbound l (numbersAt b (r .names) (r .named)))) where
+module _ {b p ix : List ℕ} {n u k : ℕ} {parts : Numbers} {l : List ℕ} (a : RebuildAsks b p ix n u k parts l) {r : SortRecord} (e : EntryIs b p n k r) {o : Numbers} (ho : Has o (unbound l (numbersAt b (r .names) (r .named)))) where
   abbrev ps : Sorts
   ps = applyAll (imagesOf (storeOf b p n) l) (partsOf (sortAt b p n k))
 
@@ -53,10 +52,10 @@ module _ (b p ix : List ℕ) (n u k : ℕ) (parts : Numbers) (l : List ℕ) (a :
   other q = a .other (sym (e .kind) ∙ q)
 
   answer-is : answerAt b p n l k ≡ rebuilt (r .kind) (r .name) (r .number) names ps
-  answer-is = answer-rebuilt b p n l (a .ready .good .stored) (a .ready .table) k (a .known) r e other
+  answer-is = answer-rebuilt (a .ready .good .stored) (a .ready .table) (a .known) e other
 
   one : r .kind ≡ 12 → count ps ≡ 1
-  one = parts-one b p n l (a .ready .good .stored) (a .ready .table) k (a .known) r e
+  one = parts-one (a .ready .good .stored) (a .ready .table) (a .known) e
 
   goes-at : (t : Bool) → goes (r .kind) (o .count) ≡ t → goes (r .kind) (length names) ≡ t
   goes-at t g = ap (goes (r .kind)) (has-length o names ho) ∙ g
@@ -82,8 +81,8 @@ module _ (b p ix : List ℕ) (n u k : ℕ) (parts : Numbers) (l : List ℕ) (a :
   pub rebuild-gone : goes (r .kind) (o .count) ≡ true → Made b p n u (answerAt b p n l k) b p ix (getD (parts .list) 0 0) n u
   rebuild-gone g =
       let single = one-part ps (one (goes-par (r .kind) (o .count) g .0)) in
-      let there = head-there ps (storeOf b p n) single (a .there) in
-      let index = head-index ps (storeOf b p n) single in
+      let there = head-there (storeOf b p n) single (a .there) in
+      let index = head-index (storeOf b p n) single in
       let some : 0 < parts .count = omega (arith, has-length parts (indicesOf ps (storeOf b p n)) (a .has), ap length index) in
       subst (λ (s : Sort). Made b p n u s b p ix (getD (parts .list) 0 0) n u)
       (sym (answer-is ∙ rebuilt-gone (r .kind) (r .name) (r .number) names ps (goes-at true g)))
@@ -111,7 +110,7 @@ module _ (b p ix : List ℕ) (n u k : ℕ) (parts : Numbers) (l : List ℕ) (a :
         let ns-same : numbersOf o ≡ own =
         ho .is ∙ unbound-all l own (has-length o names ho ∙ en ∙ sym (length-numbersAt b (r .names) (r .named))) in
         subst (λ (s : Sort). Made b p n u s b p ix k n u)
-        (entry-sort b p n l (a .ready .good .stored) (a .ready .table) k (a .known) r e
+        (entry-sort (a .ready .good .stored) (a .ready .table) (a .known) e
         ∙ sym (ap₂ (λ (x y : List ℕ). sortOf (storeOf b p n) (fields (r .kind) (r .name) (r .number) x y))
         (ep ∙ ap (numbersAt b (r .list)) count-same) ns-same)
         ∙ rebuild-is)
@@ -124,10 +123,10 @@ module _ (b p ix : List ℕ) (n u k : ℕ) (parts : Numbers) (l : List ℕ) (a :
           parts = has-own parts (indicesOf ps (storeOf b p n)) (a .has);
           names = has-own o names ho;
           shape =
-              shape-left (fields (r .kind) (r .name) (r .number) (numbersAt b (r .list) (r .count)) (numbersAt b (r .names) (r .named)))
-              (entry-shape b p n l (a .ready .good .stored) (a .ready .table) k (a .known) r e) (imagesOf (storeOf b p n) l) (numbersOf parts) (numbersOf o)
+              shape-left
+              (entry-shape (a .ready .good .stored) (a .ready .table) (a .known) e) (imagesOf (storeOf b p n) l) (numbersOf parts)
               as-many (ho .is ∙ unbound-left (storeOf b p n) l (numbersAt b (r .names) (r .named)))
-              (λ q z. goes-some (r .kind) (o .count) g q (sym (has-length o (numbersOf o) (has-own o names ho)) ∙ z));
+              (λ q z. goes-some g q (sym (has-length o (numbersOf o) (has-own o names ho)) ∙ z));
           below =
               subst (λ (vs : List ℕ). (j : ℕ) → j < length vs → getD vs j 0 < n) (sym (a .has .is))
               (λ j h. omega (arith, indices-below ps (storeOf b p n) (a .there) j h, storeOf-length b p n));

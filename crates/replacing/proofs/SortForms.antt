@@ -43,13 +43,13 @@ pub goes-par : (k m : ℕ) → goes k m ≡ true → (k ≡ 12) × (m ≡ 0)
 unfolding goes
 goes-par k m e = (eqb-true k 12 (and-left (eqb k 12) (eqb m 0) e), eqb-true m 0 (and-right (eqb k 12) (eqb m 0) e))
 
-pub goes-some : (k m : ℕ) → goes k m ≡ false → k ≡ 12 → m ≡ 0 → ⊥
+pub goes-some : {k m : ℕ} → goes k m ≡ false → k ≡ 12 → m ≡ 0 → ⊥
 unfolding goes
-goes-some k m e p z = clash (ap₂ _&&_ (eq-eqb k 12 p) (eq-eqb m 0 z)) e
+goes-some {k} {m} e p z = clash (ap₂ _&&_ (eq-eqb k 12 p) (eq-eqb m 0 z)) e
 
-rebuilt-par : (k a w : ℕ) (ns : List ℕ) (ps : Sorts) → k ≡ 12 → rebuilt k a w ns ps ≡ under ns (headOf ps)
+rebuilt-par : {k : ℕ} (a w : ℕ) (ns : List ℕ) (ps : Sorts) → k ≡ 12 → rebuilt k a w ns ps ≡ under ns (headOf ps)
 unfolding rebuilt
-rebuilt-par k a w ns ps e = rw (eq-eqb k 12 e)
+rebuilt-par {k} a w ns ps e = rw (eq-eqb k 12 e)
 
 rebuilt-node : (k a w : ℕ) (ns : List ℕ) (ps : Sorts) → (k ≡ 12 → ⊥) → rebuilt k a w ns ps ≡ node k a w ps
 unfolding rebuilt
@@ -72,7 +72,7 @@ one-part (s then (t then ss)) e = absurd (omega arith)
 -- Where the wrapper goes it is the one part, else a sort over the parts.
 pub rebuilt-gone : (k a w : ℕ) (ns : List ℕ) (ps : Sorts) → goes k (length ns) ≡ true → rebuilt k a w ns ps ≡ headOf ps
 rebuilt-gone k a w ns ps g =
-    let q = goes-par k (length ns) g in rebuilt-par k a w ns ps (q .0) ∙ none-left ns (headOf ps) (q .1)
+    let q = goes-par k (length ns) g in rebuilt-par a w ns ps (q .0) ∙ none-left ns (headOf ps) (q .1)
 
 size-one : (ps : Sorts) → count ps ≡ 1 → size (headOf ps) ≡ sizes ps
 unfolding size count headOf
@@ -90,7 +90,7 @@ size-stays k a w ns ps d one g = go (which k)
     go : Which k → size (rebuilt k a w ns ps) ≡ 1 + sizes ps
     go (isVar e) = absurd (d e)
     go (isPar e) =
-        ap size (rebuilt-par k a w ns ps e ∙ some-left ns (headOf ps) (λ z. goes-some k (length ns) g e z))
+        ap size (rebuilt-par a w ns ps e ∙ some-left ns (headOf ps) (λ z. goes-some g e z))
         ∙ ap (λ (i : ℕ). 1 + i) (size-one ps (one e))
     go (isNode q o) = ap size (rebuilt-node k a w ns ps o)
 
@@ -112,8 +112,8 @@ rebuilt-sort st k a w rs ns d one g = go (which k)
     go (isPar e) =
         sort-par st (fields k a w rs ns) e
         ∙ ap (par ns) (sym (ap (λ (x : List ℕ). headOf (sortsOf st x)) (one-element rs (one e))))
-        ∙ sym (some-left ns (headOf (sortsOf st rs)) (λ z. goes-some k (length ns) g e z))
-        ∙ sym (rebuilt-par k a w ns (sortsOf st rs) e)
+        ∙ sym (some-left ns (headOf (sortsOf st rs)) (λ z. goes-some g e z))
+        ∙ sym (rebuilt-par a w ns (sortsOf st rs) e)
     go (isNode q o) = sort-other st (fields k a w rs ns) q o ∙ sym (rebuilt-node k a w ns (sortsOf st rs) o)
 
 -- INTERNING IT AFTER ITS PARTS is interning it.
@@ -127,7 +127,7 @@ intern-rebuilt k a w ns ps st o d one = go (which k)
     go (isPar e) =
         let h = headOf ps in
         let q : internAll ps st ≡ intern h st = ap (λ (x : Sorts). internAll x st) (one-part ps (one e)) in
-        let z = rebuilt-par k a w ns ps e in
+        let z = rebuilt-par a w ns ps e in
         ap₂ intern z q ∙ intern-under ns h st o ∙ sym (ap (λ (x : Sort). intern x st) z)
     go (isNode q r) =
         let z = rebuilt-node k a w ns ps r in
@@ -156,10 +156,10 @@ left-distinct m (n ∷ ns) e =
     (left-distinct m ns (and-right (not (member n ns)) (distinct ns) e))
 
 -- The shape of a record with other references as many, and the names that are left.
-pub shape-left : (f : Fields) → Shape f → (m : Map) (rs ns : List ℕ) → length rs ≡ length (f .list) → ns ≡ left m (f .names) → (f .kind ≡ 12 → length ns ≡ 0 → ⊥)
+pub shape-left : {f : Fields} → Shape f → (m : Map) (rs : List ℕ) {ns : List ℕ} → length rs ≡ length (f .list) → ns ≡ left m (f .names) → (f .kind ≡ 12 → length ns ≡ 0 → ⊥)
     → Shape (fields (f .kind) (f .name) (f .number) rs ns)
 unfolding left
-shape-left f s m rs ns e q filled =
+shape-left {f} s m rs {ns} e q filled =
     record {
       known = s .known;
       proper =
@@ -187,7 +187,7 @@ unfolding headOf
 head-one x = refl
 
 -- A SORT OF THE STORE by its record.
-module _ (b p : List ℕ) (n : ℕ) (l : List ℕ) (stored : Stored b p n) (t : Table l n) (k : ℕ) (known : k < n) (r : SortRecord) (e : EntryIs b p n k r) where
+module _ {b p : List ℕ} {n : ℕ} {l : List ℕ} (stored : Stored b p n) (t : Table l n) {k : ℕ} (known : k < n) {r : SortRecord} (e : EntryIs b p n k r) where
   abbrev refsIn : List ℕ
   refsIn = numbersAt b (r .list) (r .count)
 
@@ -242,7 +242,7 @@ module _ (b p : List ℕ) (n : ℕ) (l : List ℕ) (stored : Stored b p n) (t : 
           let θ = imagesOf (storeOf b p n) l in
           ap (apply θ) s
           ∙ ap (λ (ns : List ℕ). under ns (apply θ body)) (sym (unbound-left (storeOf b p n) l namesIn))
-          ∙ sym (rebuilt-par (r .kind) (r .name) (r .number) (unbound l namesIn) (applyAll θ (partsOf (sortAt b p n k))) h
+          ∙ sym (rebuilt-par (r .name) (r .number) (unbound l namesIn) (applyAll θ (partsOf (sortAt b p n k))) h
           ∙ ap (λ (x : Sort). under (unbound l namesIn) (headOf (applyAll θ (partsOf x)))) s
           ∙ ap (under (unbound l namesIn)) (head-one (apply θ body)))
       go (isNode q o) =
@@ -278,14 +278,14 @@ size-parts (par ns b) = omega arith
 size-parts (node k a w ss) = refl
 
 -- The size of a sort of the store by its references.
-pub size-refs : (b p : List ℕ) (n k : ℕ) (r : SortRecord) → EntryIs b p n k r
+pub size-refs : {b p : List ℕ} {n k : ℕ} {r : SortRecord} → EntryIs b p n k r
     → size (sortAt b p n k) ≡ 1 + sizes (sortsOf (storeOf b p n) (numbersAt b (r .list) (r .count)))
-size-refs b p n k r e = size-parts (sortAt b p n k) ∙ ap (λ (ss : Sorts). 1 + sizes ss) (sym (e .parts))
+size-refs {b} {p} {n} {k} {r} e = size-parts (sortAt b p n k) ∙ ap (λ (ss : Sorts). 1 + sizes ss) (sym (e .parts))
 
 -- The tests of the code.
-pub goes-is : (k m : ℕ) → k ≡ 12 → eqb m 0 ≡ goes k m
+pub goes-is : {k : ℕ} (m : ℕ) → k ≡ 12 → eqb m 0 ≡ goes k m
 unfolding goes
-goes-is k m e = rw (eq-eqb k 12 e)
+goes-is {k} m e = rw (eq-eqb k 12 e)
 
 pub goes-not : (k m : ℕ) → (k ≡ 12 → ⊥) → false ≡ goes k m
 unfolding goes

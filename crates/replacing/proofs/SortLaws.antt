@@ -28,24 +28,24 @@ use Rattle.replacing.specs.KnownLaws.{map-same, sort-same, answer-same, 
 use Rattle.replacing.proofs.SortForms.{rebuilt, image-is, image-known, answer-rebuilt, answer-leaf, parts-one, intern-rebuilt, starts-rebuilt, sizes-within, size-refs}
 
 -- A WHOLE SORT.
-module _ (b p ix : List ℕ) (n u k : ℕ) (l : List ℕ) (a : SortAsks b p ix n u k l) (e : SortRecord) (is : EntryIs b p n k e) where
-  pub sort-image : e .kind ≡ 2 → (i : ℕ) → i ≡ imageNumber (getD l (e .name) 0) k → Made b p n u (answerAt b p n l k) b p ix i n u
-  sort-image h i q =
+module _ {b p ix : List ℕ} {n u k : ℕ} {l : List ℕ} (a : SortAsks b p ix n u k l) {e : SortRecord} (is : EntryIs b p n k e) where
+  pub sort-image : e .kind ≡ 2 → {i : ℕ} → i ≡ imageNumber (getD l (e .name) 0) k → Made b p n u (answerAt b p n l k) b p ix i n u
+  sort-image h {i} q =
       subst (λ (s : Sort). Made b p n u s b p ix i n u)
-      (ap (sortAt b p n) q ∙ image-is b p n l (a .ready .good .stored) (a .ready .table) k (a .known) e is h)
+      (ap (sortAt b p n) q ∙ image-is (a .ready .good .stored) (a .ready .table) (a .known) is h)
       (made-known-sort b p ix n u (a .ready .good) i
-      (omega (arith, q, image-known b p n l (a .ready .good .stored) (a .ready .table) k (a .known) e is)))
+      (omega (arith, q, image-known (a .ready .good .stored) (a .ready .table) (a .known) is)))
 
   pub sort-leaf : (e .kind ≡ 2 → ⊥) → e .count ≡ 0 → Made b p n u (answerAt b p n l k) b p ix k n u
   sort-leaf d z =
       subst (λ (s : Sort). Made b p n u s b p ix k n u)
-      (answer-leaf b p n l (a .ready .good .stored) (a .ready .table) k (a .known) e is d z)
+      (answer-leaf (a .ready .good .stored) (a .ready .table) (a .known) is d z)
       (made-known-sort b p ix n u (a .ready .good) k (a .known))
 
   pub sort-read : ReadAsks b (e .list) (e .count)
   sort-read = record { within = is .place .list; few = is .few }
 
-  module _ (other : e .kind ≡ 2 → ⊥) (o : Numbers) (ho : Has o (numbersAt b (e .list) (e .count))) where
+  module _ (other : e .kind ≡ 2 → ⊥) {o : Numbers} (ho : Has o (numbersAt b (e .list) (e .count))) where
     abbrev ps : Sorts
     ps = applyAll (imagesOf (storeOf b p n) l) (partsOf (sortAt b p n k))
 
@@ -53,10 +53,10 @@ module _ (b p ix : List ℕ) (n u k : ℕ) (l : List ℕ) (a : SortAsks b p ix n
     names = unbound l (numbersAt b (e .names) (e .named))
 
     answer-is : answerAt b p n l k ≡ rebuilt (e .kind) (e .name) (e .number) names ps
-    answer-is = answer-rebuilt b p n l (a .ready .good .stored) (a .ready .table) k (a .known) e is other
+    answer-is = answer-rebuilt (a .ready .good .stored) (a .ready .table) (a .known) is other
 
     one : e .kind ≡ 12 → count ps ≡ 1
-    one = parts-one b p n l (a .ready .good .stored) (a .ready .table) k (a .known) e is
+    one = parts-one (a .ready .good .stored) (a .ready .table) (a .known) is
 
     refs-are : sortsOf (storeOf b p n) (numbersOf o) ≡ partsOf (sortAt b p n k)
     refs-are = ap (sortsOf (storeOf b p n)) (ho .is) ∙ is .parts
@@ -69,7 +69,7 @@ module _ (b p ix : List ℕ) (n u k : ℕ) (l : List ℕ) (a : SortAsks b p ix n
 
     pub sort-falls : 2 * sizes (sortsOf (storeOf b p n) (numbersOf o)) + 1 < 2 * size (sortAt b p n k)
     sort-falls =
-        omega (arith, size-refs b p n k e is, ap (λ (vs : List ℕ). sizes (sortsOf (storeOf b p n) vs)) (ho .is))
+        omega (arith, size-refs is, ap (λ (vs : List ℕ). sizes (sortsOf (storeOf b p n) vs)) (ho .is))
 
     pub sort-parts-ask : PartsAsk b p ix n u o l
     sort-parts-ask =
@@ -88,9 +88,9 @@ module _ (b p ix : List ℕ) (n u k : ℕ) (l : List ℕ) (a : SortAsks b p ix n
               omega (arith, ap sizes answers-are, ap size answer-is, a .small, sizes-within (e .kind) (e .name) (e .number) names ps other one);
         }
 
-    pub sort-stuck : (c q kx : List ℕ) (m v : ℕ) → Halted b p n u (internAll (answersAt b p n l (numbersOf o)) (storeOf b p n)) c q kx m v
+    pub sort-stuck : {c q kx : List ℕ} {m v : ℕ} → Halted b p n u (internAll (answersAt b p n l (numbersOf o)) (storeOf b p n)) c q kx m v
         → Halted b p n u (intern (answerAt b p n l k) (storeOf b p n)) c q kx m v
-    sort-stuck c q kx m v w =
+    sort-stuck {c} {q} {kx} {m} {v} w =
         record {
           good = w .good;
           starts = w .starts;
@@ -102,7 +102,7 @@ module _ (b p ix : List ℕ) (n u k : ℕ) (l : List ℕ) (a : SortAsks b p ix n
           kept = w .kept;
         }
 
-    module _ (c q kx : List ℕ) (r : Numbers) (m v : ℕ) (w : PartsMade b p n u (answersAt b p n l (numbersOf o)) c q kx r m v) where
+    module _ {c q kx : List ℕ} {r : Numbers} {m v : ℕ} (w : PartsMade b p n u (answersAt b p n l (numbersOf o)) c q kx r m v) where
       added : storeOf c q m ≡ internAll ps (storeOf b p n)
       added = w .added ∙ ap (λ (ss : Sorts). internAll ss (storeOf b p n)) answers-are
 
@@ -138,16 +138,16 @@ module _ (b p ix : List ℕ) (n u k : ℕ) (l : List ℕ) (a : SortAsks b p ix n
           ∙ intern-rebuilt (e .kind) (e .name) (e .number) names ps (storeOf b p n) (store-ordered b p n (a .ready .good .stored)) other one
           ∙ sym (ap (λ (s : Sort). intern s (storeOf b p n)) answer-is)
 
-      pub sort-made : (d t jx′ : List ℕ) (i m′ v′ : ℕ) → Made c q m v (answerAt c q m l k) d t jx′ i m′ v′
+      pub sort-made : {d t jx′ : List ℕ} {i m′ v′ : ℕ} → Made c q m v (answerAt c q m l k) d t jx′ i m′ v′
           → Made b p n u (answerAt b p n l k) d t jx′ i m′ v′
-      sort-made d t jx′ i m′ v′ y =
+      sort-made {d} {t} {jx′} {i} {m′} {v′} y =
           made-over b p ix n u (a .ready .good) c q kx m v (w .good) starts (w .kept) (answerAt b p n l k) interned
           d t jx′ i m′ v′ (subst (λ (s : Sort). Made c q m v s d t jx′ i m′ v′) ans-same y)
 
       -- The table has it too.
-      pub sort-known : (d t jx′ : List ℕ) (i m′ v′ : ℕ) → Made c q m v (answerAt c q m l k) d t jx′ i m′ v′
+      pub sort-known : {d t jx′ : List ℕ} {i m′ v′ : ℕ} → Made c q m v (answerAt c q m l k) d t jx′ i m′ v′
           → (ws : List ℕ) → Known c q m l ws → Known d t m′ l (set ws k (i + 1))
-      sort-known d t jx′ i m′ v′ y ws h =
+      sort-known {d} {t} {jx′} {i} {m′} {v′} y ws h =
           known-added c q m v k l d t jx′ i m′ v′ y (sort-rebuild .ready .table) (sort-rebuild .known) ws h
 
       pub sort-full : (d t jx′ : List ℕ)

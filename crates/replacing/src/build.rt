@@ -1,4 +1,5 @@
 // A sort made from its fields: the record's bytes, put together from left to right, and interned.
+use record::limits::LONGEST_RECORD;
 use store::Interned;
 use store::entries::tree_size;
 use store::intern;
@@ -127,7 +128,7 @@ pub fn make(
     requires { ⌜ MakeAsks (now records) (now places) (now index) count used (fieldsIn kind name number (held (now parts) many) (held (now names) named)) (held (now parts) many) (held (now names) named) ⌝ }
     ensures { λ r. ⌜ MadeIs (now (records .entry)) (now (places .entry)) (now (index .entry)) count used (sortOf (storeOf (now (records .entry)) (now (places .entry)) count) (fieldsIn kind name number (held (now (parts .entry)) many) (held (now (names .entry)) named))) (now (records .exit)) (now (places .exit)) (now (index .exit)) r ⌝ }
 {
-    let mut bytes = [0u8; 266];
+    let mut bytes = [0u8; LONGEST_RECORD];
     let len = draft_of(&mut bytes, kind, name, number, parts, many, names, named);
     let weight = tree_size(index, &bytes[..len]);
     intern(records, places, index, count, used, &bytes[..len], weight)

@@ -9,6 +9,10 @@ use lists::names_kept;
 use lists::names_left;
 use lists::read_numbers;
 use lists::same_numbers;
+use record::kinds::SORT_PAR;
+use record::kinds::SORT_VAR;
+use record::limits::LARGEST_TREE;
+use record::limits::LONGEST_LIST;
 use record::u16_at;
 use store::Interned;
 use store::entries::entry;
@@ -39,12 +43,15 @@ pub enum Parts {
     Stuck(usize, usize),
 }
 
+// The size of each tree that is over the limit.
+const TOO_LARGE: usize = LARGEST_TREE + 1;
+
 // A size, or 4,097 for each that is larger than 4,096.
 pub fn capped_at(v: usize) -> usize
     ensures { λ r. ⌜ r ≡ capped v ⌝ }
 {
-    if 4096 < v {
-        return 4097;
+    if LARGEST_TREE < v {
+        return TOO_LARGE;
     }
     v
 }
@@ -53,7 +60,7 @@ pub fn capped_at(v: usize) -> usize
 pub fn wrapper_goes(kind: usize, names: usize) -> bool
     ensures { λ r. ⌜ r ≡ goes kind names ⌝ }
 {
-    if kind == 12 {
+    if kind == SORT_PAR {
         return names == 0;
     }
     false
@@ -101,7 +108,7 @@ pub fn applied_size(
         return seen;
     }
     let e = entry(records, places, k);
-    if e.kind == 2 {
+    if e.kind == SORT_VAR {
         let i = image_of(images, e.name, k);
         return size_at(index, i);
     }
@@ -169,7 +176,7 @@ pub fn rebuild(
     ensures { λ r. ⌜ MadeIs (now (records .entry)) (now (places .entry)) (now (index .entry)) count used (answerAt (now (records .entry)) (now (places .entry)) count (now (images .entry)) k) (now (records .exit)) (now (places .exit)) (now (index .exit)) r ⌝ }
 {
     let e = entry(records, places, k);
-    let mut names = [0u16; 64];
+    let mut names = [0u16; LONGEST_LIST];
     let kept = names_left(records, e.names, e.named, images, &mut names);
     if wrapper_goes(e.kind, kept) {
         let body = parts[0] as usize;
@@ -216,14 +223,14 @@ pub fn apply_sort(
         return Replaced::Is(seen - 1, count, used);
     }
     let e = entry(records, places, k);
-    if e.kind == 2 {
+    if e.kind == SORT_VAR {
         let i = image_of(images, e.name, k);
         return Replaced::Is(i, count, used);
     }
     if e.count == 0 {
         return Replaced::Is(k, count, used);
     }
-    let mut parts = [0u16; 64];
+    let mut parts = [0u16; LONGEST_LIST];
     let many = e.count;
     read_numbers(records, e.list, many, &mut parts);
     let done = apply_parts(

@@ -1,4 +1,5 @@
 // Lists of at most 64 numbers in lent arrays: the references of a record, and the names of a Par that a table of images leaves.
+use record::limits::LONGEST_LIST;
 use record::u16_at;
 ghost use mathlib.Core.Path.{_≡_};
 ghost use mathlib.Core.Bool.{true};
@@ -81,6 +82,6 @@ pub fn names_kept(records: &[u8], at: usize, n: usize, images: &[u16]) -> usize
     if n == 0 {
         return 0;
     }
-    let mut names = [0u16; 64];
+    let mut names = [0u16; LONGEST_LIST];
     names_left(records, at, n, images, &mut names)
 }

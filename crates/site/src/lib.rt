@@ -2,6 +2,7 @@
 use answers::arguments::all_judged;
 use answers::arguments::gather;
 use reader::TermRecord;
+use record::kinds::TERM_PARAM_OP;
 ghost use Rattle.site.specs.Site.{PartsAsk, PartsAre};
 
 // Writes the store numbers of the sorts of the record's arguments into `args` from byte 3 on, by their rows in a column; false
@@ -22,7 +23,7 @@ pub fn parts_judged(
     if !gather(sheet, list, count, rows, column, args) {
         return false;
     }
-    if kind != 11 {
+    if kind != TERM_PARAM_OP {
         return true;
     }
     let second = term.second;

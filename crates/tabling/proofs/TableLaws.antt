@@ -70,15 +70,15 @@ module _ (st : List Sort) (rows rows′ : List ℕ) (column t : ℕ) (same : (i 
       omega (arith, number-at s at n j y, h j y))
 
 -- The references that a record's rows are read by.
-second-below : (s : List ℕ) (m t x : ℕ) (r : TermRecord) (c : Cursor) → TermWas s m t x r c
+second-below : {s : List ℕ} {m t x : ℕ} {r : TermRecord} {c : Cursor} → TermWas s m t x r c
     → (j : ℕ) → j < cond (eqb (r .kind) 11) (r .seconds) 0 → u16At s (r .second + 2 * j) < t
-second-below s m t x r c w j =
+second-below {s} {m} {t} {x} {r} {c} w j =
     byTest (eqb (r .kind) 11)
     (λ q. rw q (λ o. let e = eqb-true (r .kind) 11 q in w .indices (λ z. absurd (omega (arith, e, z))) j o))
     (λ q. rw q (λ o. absurd (not-suc-le-zero o)))
 
 -- THE VERDICT ON A STANDING RECORD is read off the rows before its own.
-module _ (n : ℕ) (s tbl xs rows : List ℕ) (r : TermRecord) (h : Standing n s tbl xs rows r) (J : Site → Verdict) (st : List Sort) (column : ℕ) (side : column ≤ 1) where
+module _ {n : ℕ} {s tbl xs rows : List ℕ} {r : TermRecord} (h : Standing n s tbl xs rows r) (J : Site → Verdict) (st : List Sort) (column : ℕ) (side : column ≤ 1) where
   abbrev before : List ℕ
   before = take (2 * h .term) rows
 
@@ -92,7 +92,7 @@ module _ (n : ℕ) (s tbl xs rows : List ℕ) (r : TermRecord) (h : Standing n s
       (λ (o q : Option Sorts). overParts J (r .kind) (r .number) (ownOver st tbl r) (bindingsOver st tbl s r) (constantsOver s xs r) (indicesOver s xs r) o q)
       (arguments-agree st rows before column (h .term) taken s (r .list) (r .count) (h .was .references))
       (arguments-agree st rows before column (h .term) taken s (r .second) (cond (eqb (r .kind) 11) (r .seconds) 0)
-      (second-below s (h .sorts) (h .term) (h .place) r (h .next) (h .was)))
+      (second-below (h .was)))
 
   -- It stands before those rows alone.
   standing-taken : Standing n s tbl xs before r
@@ -117,12 +117,12 @@ module _ (n : ℕ) (s tbl xs rows : List ℕ) (r : TermRecord) (h : Standing n s
   row-is l = ap (outcome l st) (sym (verdict-taken ∙ verdict-at standing-taken st J column))
 
 -- The sheet's sorts have numbers of a store that has grown.
-numbered-grown : (n n′ : ℕ) (s tbl : List ℕ) (m : ℕ) → n ≤ n′ → Numbered n s tbl m → Numbered n′ s tbl m
-numbered-grown n n′ s tbl m le h = record { inside = h .inside; known = λ j o. omega (arith, h .known j o); short = h .short }
+numbered-grown : {n : ℕ} (n′ : ℕ) {s tbl : List ℕ} {m : ℕ} → n ≤ n′ → Numbered n s tbl m → Numbered n′ s tbl m
+numbered-grown {n} n′ {s} {tbl} {m} le h = record { inside = h .inside; known = λ j o. omega (arith, h .known j o); short = h .short }
 
 -- Tables of names that are as they were are zeros still.
-zeroed-as : (prm imgs bnd prm′ imgs′ bnd′ : List ℕ) → prm′ ≡ prm → imgs′ ≡ imgs → bnd′ ≡ bnd → Zeroed prm imgs bnd → Zeroed prm′ imgs′ bnd′
-zeroed-as prm imgs bnd prm′ imgs′ bnd′ ep ei eb h =
+zeroed-as : {prm imgs bnd prm′ imgs′ bnd′ : List ℕ} → prm′ ≡ prm → imgs′ ≡ imgs → bnd′ ≡ bnd → Zeroed prm imgs bnd → Zeroed prm′ imgs′ bnd′
+zeroed-as {prm} {imgs} {bnd} {prm′} {imgs′} {bnd′} ep ei eb h =
     subst (λ (t : List ℕ). Zeroed t imgs′ bnd′) (sym ep)
     (subst (λ (t : List ℕ). Zeroed prm t bnd′) (sym ei) (subst (λ (t : List ℕ). Zeroed prm imgs t) (sym eb) h))
 
@@ -135,7 +135,7 @@ standing-grown n n′ s tbl xs rows r le h =
       place = h .place;
       next = h .next;
       was = h .was;
-      numbered = numbered-grown n n′ s tbl (h .sorts) le (h .numbered);
+      numbered = numbered-grown n′ le (h .numbered);
       before = h .before;
       starts = h .starts;
       lent = h .lent;
@@ -143,9 +143,9 @@ standing-grown n n′ s tbl xs rows r le h =
     }
 
 -- A row's code that is no refusal is a number of the store.
-code-known : (b p : List ℕ) (n : ℕ) (v : Verdict) (b′ p′ ix′ : List ℕ) (q : Answer) → AnswerIs b p n v b′ p′ ix′ q
+code-known : {b p : List ℕ} {n : ℕ} {v : Verdict} {b′ p′ ix′ : List ℕ} {q : Answer} → AnswerIs b p n v b′ p′ ix′ q
     → codeOf (q .verdict) < 65536 → codeOf (q .verdict) < q .count
-code-known b p n v b′ p′ ix′ q a = go (q .verdict) refl
+code-known {b} {p} {n} {v} {b′} {p′} {ix′} {q} a = go (q .verdict) refl
   where
     go : (w : RowVerdict) → q .verdict ≡ w → codeOf w < 65536 → codeOf w < q .count
     go (Number k) e o = answer-number b p n v b′ p′ ix′ q a k e .0
@@ -185,13 +185,12 @@ module _ (rows : List ℕ) (k x y : ℕ) where
       (old i (below-other i k (below-other i (suc k) (omega arith) (λ e. eqb-false i (k + 1) q (omega (arith, e)))) (eqb-false i k w))))))
 
 ---------------------------------------------------------------- both rows of a record
-module _ (b p ix : List ℕ) (n u : ℕ) (prm imgs bnd s tbl xs rows : List ℕ) (r : TermRecord) (t : ℕ)
-    (h : BothAsk b p ix n u prm imgs bnd s tbl xs rows r t) where
+module _ {b p ix : List ℕ} {n u : ℕ} {prm imgs bnd s tbl xs rows : List ℕ} {r : TermRecord} {t : ℕ} (h : BothAsk b p ix n u prm imgs bnd s tbl xs rows r t) where
   -- What the inferred row asks, and the checked one behind it.
   pub first-asks : (a : List ℕ) → 259 ≤ length a → TermAsks b p ix n u prm imgs bnd s tbl xs rows r a
   first-asks a o = record { good = h .good; zeroed = h .zeroed; standing = h .standing; room = o }
 
-  module _ (c q jx prm₁ imgs₁ bnd₁ : List ℕ) (v : Answer) (f : TermIs inferred 0 b p n prm imgs bnd s tbl xs rows r c q jx prm₁ imgs₁ bnd₁ v) where
+  module _ {c q jx prm₁ imgs₁ bnd₁ : List ℕ} {v : Answer} (f : TermIs inferred 0 b p n prm imgs bnd s tbl xs rows r c q jx prm₁ imgs₁ bnd₁ v) where
     more : n ≤ v .count
     more = answer-more b p n (termVerdict inferred (storeOf b p n) s tbl xs rows 0 r) c q jx v (f .answer)
 
@@ -199,14 +198,12 @@ module _ (b p ix : List ℕ) (n u : ℕ) (prm imgs bnd s tbl xs rows : List ℕ)
     second-asks a o =
         record {
           good = f .answer .good;
-          zeroed = zeroed-as prm imgs bnd prm₁ imgs₁ bnd₁ (f .params) (f .images) (f .bound) (h .zeroed);
+          zeroed = zeroed-as (f .params) (f .images) (f .bound) (h .zeroed);
           standing = standing-grown n (v .count) s tbl xs rows r more (h .standing);
           room = o;
         }
 
-    module _ (b′ p′ ix′ prm′ imgs′ bnd′ : List ℕ) (w : Answer)
-        (g : TermIs (checked smtLib) 1 c q (v .count) prm₁ imgs₁ bnd₁ s tbl xs rows r b′ p′ ix′ prm′ imgs′ bnd′ w)
-        (x y : ℕ) (ex : x ≡ codeOf (v .verdict)) (ey : y ≡ codeOf (w .verdict)) where
+    module _ {b′ p′ ix′ prm′ imgs′ bnd′ : List ℕ} {w : Answer} (g : TermIs (checked smtLib) 1 c q (v .count) prm₁ imgs₁ bnd₁ s tbl xs rows r b′ p′ ix′ prm′ imgs′ bnd′ w) {x y : ℕ} (ex : x ≡ codeOf (v .verdict)) (ey : y ≡ codeOf (w .verdict)) where
       abbrev st : List Sort
       st = storeOf b p n
 
@@ -229,7 +226,7 @@ module _ (b p ix : List ℕ) (n u : ℕ) (prm imgs bnd s tbl xs rows : List ℕ)
 
         inferred-is : rowOf inferred 0 l (terms (treesOf st tbl (k .sorts))) (termFields s (treesOf st tbl (k .sorts)) r) so-far st ≡ record { store = st₁; code = x }
         inferred-is =
-            row-is n s tbl xs rows r k inferred st 0 (omega arith) l ∙ f .answer .is l el ep ∙ ap (λ (i : ℕ). record { store = st₁; code = i }) (sym ex)
+            row-is k inferred st 0 (omega arith) l ∙ f .answer .is l el ep ∙ ap (λ (i : ℕ). record { store = st₁; code = i }) (sym ex)
 
         checked-is : rowOf (checked smtLib) 1 l (terms (treesOf st tbl (k .sorts))) (termFields s (treesOf st tbl (k .sorts)) r) so-far st₁ ≡ record { store = st′; code = y }
         unfolding standing-grown
@@ -237,7 +234,7 @@ module _ (b p ix : List ℕ) (n u : ℕ) (prm imgs bnd s tbl xs rows : List ℕ)
             let kept : treesOf st₁ tbl (k .sorts) ≡ treesOf st tbl (k .sorts) =
             trees-starts st st₁ tbl (k .sorts) (f .answer .starts) (λ j o. omega (arith, k .numbered .known j o, storeOf-length b p n)) in
             ap (λ (ts : List Sort). rowOf (checked smtLib) 1 l (terms ts) (termFields s ts r) so-far st₁) (sym kept)
-            ∙ row-is (v .count) s tbl xs rows r (standing-grown n (v .count) s tbl xs rows r more k) (checked smtLib) st₁ 1 (omega arith) l
+            ∙ row-is (standing-grown n (v .count) s tbl xs rows r more k) (checked smtLib) st₁ 1 (omega arith) l
             ∙ g .answer .is l (el ∙ sym (f .answer .long)) (ep ∙ sym (f .answer .wide))
             ∙ ap (λ (i : ℕ). record { store = st′; code = i }) (sym ey)
 
@@ -265,8 +262,8 @@ module _ (b p ix : List ℕ) (n u : ℕ) (prm imgs bnd s tbl xs rows : List ℕ)
             known = λ i o.
                 two-known rows (2 * t) x y (w .count) (h .room)
                 (λ j z d. omega (arith, h .standing .known j (omega (arith, h .here)) d, more, further))
-                (λ d. omega (arith, code-known b p n (termVerdict inferred st s tbl xs rows 0 r) c q jx v (f .answer) (omega (arith, ex)), ex, further))
-                (λ d. omega (arith, code-known c q (v .count) (termVerdict (checked smtLib) st₁ s tbl xs rows 1 r) b′ p′ ix′ w (g .answer) (omega (arith, ey)), ey))
+                (λ d. omega (arith, code-known (f .answer) (omega (arith, ex)), ex, further))
+                (λ d. omega (arith, code-known (g .answer) (omega (arith, ey)), ey))
                 i (omega arith);
             starts = starts-trans st st₁ st′ (f .answer .starts) (g .answer .starts);
             params = g .params ∙ f .params;
@@ -275,8 +272,7 @@ module _ (b p ix : List ℕ) (n u : ℕ) (prm imgs bnd s tbl xs rows : List ℕ)
           }
 
 ---------------------------------------------------------------- a record at its place
-module _ (b p ix : List ℕ) (n u : ℕ) (prm imgs bnd s tbl : List ℕ) (m : ℕ) (xs rows : List ℕ) (t : ℕ)
-    (h : TurnAsks b p ix n u prm imgs bnd s tbl m xs rows t) where
+module _ {b p ix : List ℕ} {n u : ℕ} {prm imgs bnd s tbl : List ℕ} {m : ℕ} {xs rows : List ℕ} {t : ℕ} (h : TurnAsks b p ix n u prm imgs bnd s tbl m xs rows t) where
   pub stands-here : TermStands s m t (getD xs t 0)
   stands-here = h .stands t (omega arith)
 
@@ -300,9 +296,9 @@ module _ (b p ix : List ℕ) (n u : ℕ) (prm imgs bnd s tbl : List ℕ) (m : �
     pub both-asks : BothAsk b p ix n u prm imgs bnd s tbl xs rows r t
     both-asks = record { good = h .good; zeroed = h .zeroed; standing = standing; here = refl; room = h .room; few = h .few }
 
-    pub turn-is : (b′ p′ ix′ prm′ imgs′ bnd′ rows′ : List ℕ) (q : Counts) → BothAre b p n prm imgs bnd s tbl xs rows r t b′ p′ ix′ prm′ imgs′ bnd′ rows′ q
+    pub turn-is : {b′ p′ ix′ prm′ imgs′ bnd′ rows′ : List ℕ} {q : Counts} → BothAre b p n prm imgs bnd s tbl xs rows r t b′ p′ ix′ prm′ imgs′ bnd′ rows′ q
         → TurnIs b p n prm imgs bnd s tbl m xs rows t b′ p′ ix′ prm′ imgs′ bnd′ rows′ q
-    turn-is b′ p′ ix′ prm′ imgs′ bnd′ rows′ q a =
+    turn-is {b′} {p′} {ix′} {prm′} {imgs′} {bnd′} {rows′} {q} a =
         let st = storeOf b p n in
         let ts = treesOf st tbl m in
         record {
@@ -338,8 +334,7 @@ pub record Tabling (b p : List ℕ) (n : ℕ) (prm imgs bnd s tbl : List ℕ) (m
   pub rest : drop (2 * i) rows′ ≡ drop (2 * i) rows
   pub known : Known rows′ i n′
 
-module _ (b p ix : List ℕ) (n u : ℕ) (prm imgs bnd s tbl : List ℕ) (m : ℕ) (xs : List ℕ) (c : ℕ) (rows : List ℕ)
-    (h : RowsAsk b p ix n u prm imgs bnd s tbl m xs c rows) where
+module _ {b p ix : List ℕ} {n u : ℕ} {prm imgs bnd s tbl : List ℕ} {m : ℕ} {xs : List ℕ} {c : ℕ} {rows : List ℕ} (h : RowsAsk b p ix n u prm imgs bnd s tbl m xs c rows) where
   pub tabling-start : Tabling b p n prm imgs bnd s tbl m xs rows b p ix prm imgs bnd rows n u 0
   unfolding rowsOf eachAt
   tabling-start =
@@ -357,7 +352,7 @@ module _ (b p ix : List ℕ) (n u : ℕ) (prm imgs bnd s tbl : List ℕ) (m : �
         known = λ i o. absurd (not-suc-le-zero o);
       }
 
-  module _ (b′ p′ ix′ prm′ imgs′ bnd′ rows′ : List ℕ) (n′ u′ i : ℕ) (a : Tabling b p n prm imgs bnd s tbl m xs rows b′ p′ ix′ prm′ imgs′ bnd′ rows′ n′ u′ i) where
+  module _ {b′ p′ ix′ prm′ imgs′ bnd′ rows′ : List ℕ} {n′ u′ i : ℕ} (a : Tabling b p n prm imgs bnd s tbl m xs rows b′ p′ ix′ prm′ imgs′ bnd′ rows′ n′ u′ i) where
     grown : n ≤ n′
     grown = omega (arith, starts-count (storeOf b p n) (storeOf b′ p′ n′) (a .starts), storeOf-length b p n, storeOf-length b′ p′ n′)
 
@@ -365,8 +360,8 @@ module _ (b p ix : List ℕ) (n u : ℕ) (prm imgs bnd s tbl : List ℕ) (m : �
     turn-asks o =
         record {
           good = a .good;
-          zeroed = zeroed-as prm imgs bnd prm′ imgs′ bnd′ (a .params) (a .images) (a .bound) (h .zeroed);
-          numbered = numbered-grown n n′ s tbl m grown (h .numbered);
+          zeroed = zeroed-as (a .params) (a .images) (a .bound) (h .zeroed);
+          numbered = numbered-grown n′ grown (h .numbered);
           stands = λ j z. h .stands j (omega arith);
           placed = omega (arith, h .placed);
           room = omega (arith, h .room, a .lent);

@@ -4,6 +4,8 @@ use questions::all::Counts;
 use reader::Cursor;
 use reader::ReadTerm;
 use reader::TermRecord;
+use record::limits::LONGEST_RECORD;
+use record::limits::NAMES;
 use repeats::checked_row;
 use repeats::inferred_row;
 use repeats::slots::TABLE;
@@ -32,7 +34,7 @@ pub fn rows_of(
     requires { ⌜ BothAsk (now records) (now places) (now index) count used (now params) (now images) (now bound) (now sheet) (now table) (now starts) (now rows) term t × Pasts (now records) (now places) count (now inferences) (now checks) ⌝ }
     ensures { λ r. ⌜ BothAre (now (records .entry)) (now (places .entry)) count (now (params .entry)) (now (images .entry)) (now (bound .entry)) (now (sheet .entry)) (now (table .entry)) (now (starts .entry)) (now (rows .entry)) term t (now (records .exit)) (now (places .exit)) (now (index .exit)) (now (params .exit)) (now (images .exit)) (now (bound .exit)) (now (rows .exit)) r × Pasts (now (records .exit)) (now (places .exit)) (r .count) (now (inferences .exit)) (now (checks .exit)) ⌝ }
 {
-    let mut args = [0u8; 266];
+    let mut args = [0u8; LONGEST_RECORD];
     let one = inferred_row(
         records,
         places,
@@ -200,7 +202,7 @@ pub fn rows_all(
     requires { ⌜ RowsAsk (now records) (now places) (now index) count used (now params) (now images) (now bound) (now sheet) (now table) sorts (now starts) terms (now rows) ⌝ }
     ensures { λ r. ⌜ RowsAre (now (records .entry)) (now (places .entry)) count (now (params .entry)) (now (images .entry)) (now (bound .entry)) (now (sheet .entry)) (now (table .entry)) sorts (now (starts .entry)) terms (now (rows .entry)) (now (records .exit)) (now (places .exit)) (now (index .exit)) (now (params .exit)) (now (images .exit)) (now (bound .exit)) (now (rows .exit)) r ⌝ }
 {
-    if params.len() < 65536 {
+    if params.len() < NAMES {
         let mut few = [0u8; 1];
         let mut none = [0u8; 1];
         return rows_past(

@@ -40,9 +40,9 @@ drop-zeros k w z =
     (λ i h. getD-drop k w i 0 ∙ z (k + i) (omega arith) ∙ sym (zeros-all (length w - k) i (omega arith)))
 
 -- Values written over zeros are those values, padded.
-over-zeros : (vs w w′ : List ℕ) (k : ℕ) → w ≡ replicate (length w) 0 → length vs ≡ k → w′ ≡ vs ++ drop k w → w′ ≡ padded (length w) vs
+over-zeros : (vs : List ℕ) {w w′ : List ℕ} (k : ℕ) → w ≡ replicate (length w) 0 → length vs ≡ k → w′ ≡ vs ++ drop k w → w′ ≡ padded (length w) vs
 unfolding padded
-over-zeros vs w w′ k z e h =
+over-zeros vs {w} {w′} k z e h =
     h ∙ ap (λ (r : List ℕ). vs ++ r) (drop-zeros k w (subst (λ (r : List ℕ). Zeros r 0) (sym z) (zeros-all (length w))))
     ∙ ap (λ (j : ℕ). vs ++ replicate (length w - j) 0) (sym e)
 
@@ -82,8 +82,8 @@ unfolding judged judgedBy
 judged-by s l r e = ap (judgedSheet smtLib l) e
 
 -- A good store is read back.
-reads-good : (b p ix : List ℕ) (n u : ℕ) → Good b p ix n u → (st : List Sort) → storeOf b p n ≡ st → Reads b p st
-reads-good b p ix n u g st e =
+reads-good : {b p ix : List ℕ} {n u : ℕ} → Good b p ix n u → (st : List Sort) → storeOf b p n ≡ st → Reads b p st
+reads-good {b} {p} {ix} {n} {u} g st e =
     let c : n ≡ length st = sym (storeOf-length b p n) ∙ ap length e in
     record {
       stored = subst (λ (m : ℕ). Stored b p m) c (g .stored);
@@ -92,9 +92,9 @@ reads-good b p ix n u g st e =
     }
 
 -- The promise for a judgement that is known.
-judge-as : (s : List ℕ) (l : Lengths) (j : Judgement) (b p rw an : List ℕ) → judged s l ≡ j → b ≡ recordsAfter l j → p ≡ placesAfter l j → rw ≡ rowsAfter l j
+judge-as : (s : List ℕ) (l : Lengths) (j : Judgement) {b p rw an : List ℕ} → judged s l ≡ j → b ≡ recordsAfter l j → p ≡ placesAfter l j → rw ≡ rowsAfter l j
     → an ≡ answersAfter l j → ReadsBack j b p → JudgeIs s l b p rw an (outcomeOf j)
-judge-as s l j b p rw an e eb ep er ea back =
+judge-as s l j {b} {p} {rw} {an} e eb ep er ea back =
     let f = sym e in
     record {
       outcome = ap outcomeOf f;
@@ -109,7 +109,7 @@ judge-as s l j b p rw an e eb ep er ea back =
     }
 
 ---------------------------------------------------------------- the rows and answers of a sheet that was read
-module _ (s b p ix tbl xs ys : List ℕ) (c : SheetCounts) (rw an : List ℕ) (a : AcceptedAsks s b p ix tbl xs ys c rw an) where
+module _ {s b p ix tbl xs ys : List ℕ} {c : SheetCounts} {rw an : List ℕ} (a : AcceptedAsks s b p ix tbl xs ys c rw an) where
   abbrev lengths : Lengths
   lengths = lengthsOf b p rw an
 
@@ -126,9 +126,9 @@ module _ (s b p ix tbl xs ys : List ℕ) (c : SheetCounts) (rw an : List ℕ) (a
   abbrev questions : List QuestionFields
   questions = questionsAt s sorts ys (c .questions)
 
-  pub rows-ask : (prm imgs bnd : List ℕ) → Zeroed prm imgs bnd
+  pub rows-ask : {prm imgs bnd : List ℕ} → Zeroed prm imgs bnd
       → RowsAsk b p ix (c .count) (c .used) prm imgs bnd s tbl (c .sorts) xs (c .terms) rw
-  rows-ask prm imgs bnd zeroed =
+  rows-ask {prm} {imgs} {bnd} zeroed =
       record {
         good = stands .good;
         zeroed = zeroed;
@@ -141,18 +141,17 @@ module _ (s b p ix tbl xs ys : List ℕ) (c : SheetCounts) (rw an : List ℕ) (a
       }
 
   -- After the rows.
-  module _ (prm imgs bnd b₁ p₁ ix₁ prm₁ imgs₁ bnd₁ rw₁ : List ℕ) (r : Counts)
-      (t : RowsAre b p (c .count) prm imgs bnd s tbl (c .sorts) xs (c .terms) rw b₁ p₁ ix₁ prm₁ imgs₁ bnd₁ rw₁ r) where
+  module _ {prm imgs bnd b₁ p₁ ix₁ prm₁ imgs₁ bnd₁ rw₁ : List ℕ} {r : Counts} (t : RowsAre b p (c .count) prm imgs bnd s tbl (c .sorts) xs (c .terms) rw b₁ p₁ ix₁ prm₁ imgs₁ bnd₁ rw₁ r) where
     -- Over any tables of all names.
-    asks-over : (g l d : List ℕ) → Blank g l d → AllAsks b₁ p₁ ix₁ (r .count) (r .used) g l d s tbl (c .sorts) ys (c .questions) an
-    asks-over g l d blank =
+    asks-over : {g l d : List ℕ} → Blank g l d → AllAsks b₁ p₁ ix₁ (r .count) (r .used) g l d s tbl (c .sorts) ys (c .questions) an
+    asks-over {g} {l} {d} blank =
         stands-asks s b p ix tbl xs ys c stands b₁ p₁ ix₁ (r .count) (r .used) (t .good) (t .starts) g l d an blank
         (omega (arith, a .table, a .accepted .fewSorts)) (omega (arith, a .questions, a .accepted .fewQuestions)) (a .accepted .lentAnswers)
         (a .accepted .fewQuestions) (a .accepted .short)
 
     pub answers-ask : Blank prm imgs bnd → AllAsks b₁ p₁ ix₁ (r .count) (r .used) prm₁ imgs₁ bnd₁ s tbl (c .sorts) ys (c .questions) an
     answers-ask blank =
-        asks-over prm₁ imgs₁ bnd₁
+        asks-over
         (subst (λ (z : List ℕ). Blank z imgs₁ bnd₁) (sym (t .params))
         (subst (λ (z : List ℕ). Blank prm z bnd₁) (sym (t .images)) (subst (λ (z : List ℕ). Blank prm imgs z) (sym (t .bound)) blank)))
 
@@ -170,8 +169,7 @@ module _ (s b p ix tbl xs ys : List ℕ) (c : SheetCounts) (rw an : List ℕ) (a
         (λ j o. omega (arith, stands .known j o, storeOf-length b p (c .count))))
 
     -- After the answers: THE JUDGEMENT.
-    module _ (g l d b₂ p₂ ix₂ prm₂ imgs₂ bnd₂ an₂ : List ℕ) (q : Counts)
-        (o : AllIs b₁ p₁ (r .count) g l d s tbl (c .sorts) ys (c .questions) an b₂ p₂ ix₂ prm₂ imgs₂ bnd₂ an₂ q) where
+    module _ {g l d b₂ p₂ ix₂ prm₂ imgs₂ bnd₂ an₂ : List ℕ} {q : Counts} (o : AllIs b₁ p₁ (r .count) g l d s tbl (c .sorts) ys (c .questions) an b₂ p₂ ix₂ prm₂ imgs₂ bnd₂ an₂ q) where
       abbrev answered : Answered
       answered = answersOf lengths (tabled .store) questions
 
@@ -192,26 +190,26 @@ module _ (s b p ix tbl xs ys : List ℕ) (c : SheetCounts) (rw an : List ℕ) (a
       pub judge-written : JudgeIs s lengths b₂ p₂ rw₁ an₂ Accepted
       unfolding recordsAfter placesAfter rowsAfter answersAfter
       judge-written =
-          judge-as s lengths (accepted (sheetIn s b p tbl xs ys c) (answered .store) (tabled .rows) (answered .answers)) b₂ p₂ rw₁ an₂ judgement
+          judge-as s lengths (accepted (sheetIn s b p tbl xs ys c) (answered .store) (tabled .rows) (answered .answers)) judgement
           (good-bytes b₂ p₂ ix₂ (q .count) (q .used) (o .good)
           ∙ ap₂ storeBytes (o .long ∙ t .long) left-store)
           (good-places b₂ p₂ ix₂ (q .count) (q .used) (o .good)
           ∙ ap₂ storePlaces (o .wide ∙ t .wide) left-store)
-          (over-zeros (tabled .rows) rw rw₁ (2 * c .terms) (a .cleared .rows)
+          (over-zeros (tabled .rows) (2 * c .terms) (a .cleared .rows)
           (rows-count smtLib lengths (storeOf b p (c .count)) terms ∙ ap (λ (k : ℕ). 2 * k) (each-length (termAt s sorts) xs (c .terms)))
           (t .written lengths refl refl))
-          (over-zeros (answered .answers) an an₂ (c .questions) (a .cleared .answers)
+          (over-zeros (answered .answers) (c .questions) (a .cleared .answers)
           (answers-count lengths (tabled .store) questions ∙ each-length (questionAt s sorts) ys (c .questions))
           left-answers)
-          (reads-good b₂ p₂ ix₂ (q .count) (q .used) (o .good) (answered .store) left-store)
+          (reads-good (o .good) (answered .store) left-store)
 
     -- Without questions the rows are all there is to write.
     pub judge-unasked : c .questions ≡ 0 → JudgeIs s lengths b₁ p₁ rw₁ an Accepted
     judge-unasked e =
         let g : List ℕ = replicate 65536 0 in
         let d : List ℕ = replicate 4096 0 in
-        let h = asks-over g g d blank-tables in
-        judge-written g g d b₁ p₁ ix₁ g g d an (record { count = r .count; used = r .used })
+        let h = asks-over blank-tables in
+        judge-written
         (answering-end b₁ p₁ ix₁ (r .count) (r .used) g g d s tbl (c .sorts) ys (c .questions) an h b₁ p₁ ix₁ g g d an (r .count) (r .used) 0
         (answering-start b₁ p₁ ix₁ (r .count) (r .used) g g d s tbl (c .sorts) ys (c .questions) an h)
         (sym e))
@@ -225,11 +223,11 @@ lengths-same b p rw an b₁ p₁ rw₁ an₁ eb ep er ea =
     ∙ ap₂ (λ (i j : ℕ). record { records = length b; places = length p; rows = i; answers = j }) er ea
 
 -- WHAT THE READER PROMISES of an accepted sheet is what its judgement asks.
-pub accepted-ask : (s b p rw an : List ℕ) → ClearedAsks rw an → (b₁ p₁ ix tbl xs ys : List ℕ) (c : SheetCounts)
+pub accepted-ask : {s : List ℕ} (b p : List ℕ) {rw an : List ℕ} → ClearedAsks rw an → {b₁ p₁ ix tbl xs ys : List ℕ} {c : SheetCounts}
     → SheetAccepted s (lengthsOf b p rw an) b₁ p₁ ix tbl xs ys c
     → length tbl ≡ length {A = ℕ} (replicate 2048 0) → length xs ≡ length {A = ℕ} (replicate 4096 0) → length ys ≡ length {A = ℕ} (replicate 1024 0)
     → AcceptedAsks s b₁ p₁ ix tbl xs ys c rw an
-accepted-ask s b p rw an z b₁ p₁ ix tbl xs ys c a et ex ey =
+accepted-ask {s} b p {rw} {an} z {b₁} {p₁} {ix} {tbl} {xs} {ys} {c} a et ex ey =
     record {
       accepted =
           subst (λ (l : Lengths). SheetAccepted s l b₁ p₁ ix tbl xs ys c)
@@ -241,28 +239,28 @@ accepted-ask s b p rw an z b₁ p₁ ix tbl xs ys c a et ex ey =
     }
 
 -- A REFUSED SHEET, whose two buffers of the store are zeroed again.
-pub refused-is : (s b p rw an : List ℕ) → ClearedAsks rw an → (e : Refusal) (b₁ p₁ b₂ p₂ : List ℕ)
+pub refused-is : (s b p : List ℕ) {rw an : List ℕ} → ClearedAsks rw an → (e : Refusal) (b₁ p₁ : List ℕ) {b₂ p₂ : List ℕ}
     → (readSheet s (lengthsOf b p rw an) ≡ unread e) × (length b₁ ≡ length b) × (length p₁ ≡ length p)
     → b₂ ≡ replicate (length b₁) 0 → p₂ ≡ replicate (length p₁) 0 → JudgeIs s (lengthsOf b p rw an) b₂ p₂ rw an (Refused e)
 unfolding recordsAfter placesAfter rowsAfter answersAfter
-refused-is s b p rw an z e b₁ p₁ b₂ p₂ h eb ep =
+refused-is s b p {rw} {an} z e b₁ p₁ {b₂} {p₂} h eb ep =
     let l = lengthsOf b p rw an in
-    judge-as s l (refused e) b₂ p₂ rw an (judged-by s l (unread e) (h .0)) (eb ∙ ap (λ (n : ℕ). replicate n 0) (h .1))
+    judge-as s l (refused e) (judged-by s l (unread e) (h .0)) (eb ∙ ap (λ (n : ℕ). replicate n 0) (h .1))
     (ep ∙ ap (λ (n : ℕ). replicate n 0) (h .2)) (z .rows) (z .answers) tt
 
 -- THE PROMISE is over lengths alone: those at entry, where buffers were written on the way.
-pub judge-over : (s b p rw an b₁ p₁ rw₁ an₁ b₂ p₂ rw₂ an₂ : List ℕ) (o : Outcome) → length b₁ ≡ length b → length p₁ ≡ length p
+pub judge-over : {s : List ℕ} (b p rw an b₁ p₁ rw₁ an₁ : List ℕ) {b₂ p₂ rw₂ an₂ : List ℕ} {o : Outcome} → length b₁ ≡ length b → length p₁ ≡ length p
     → length rw₁ ≡ length rw → length an₁ ≡ length an
     → JudgeIs s (lengthsOf b₁ p₁ rw₁ an₁) b₂ p₂ rw₂ an₂ o → JudgeIs s (lengthsOf b p rw an) b₂ p₂ rw₂ an₂ o
-judge-over s b p rw an b₁ p₁ rw₁ an₁ b₂ p₂ rw₂ an₂ o eb ep er ea j =
+judge-over {s} b p rw an b₁ p₁ rw₁ an₁ {b₂} {p₂} {rw₂} {an₂} {o} eb ep er ea j =
     subst (λ (l : Lengths). JudgeIs s l b₂ p₂ rw₂ an₂ o) (lengths-same b p rw an b₁ p₁ rw₁ an₁ eb ep er ea) j
 
 -- Rows and answers that were zeroed.
-pub cleared-asks : (rw an rw₁ an₁ : List ℕ) → length rw₁ ≡ length rw → length an₁ ≡ length an → rw₁ ≡ replicate (length rw) 0 → an₁ ≡ replicate (length an) 0
+pub cleared-asks : (rw an : List ℕ) {rw₁ an₁ : List ℕ} → length rw₁ ≡ length rw → length an₁ ≡ length an → rw₁ ≡ replicate (length rw) 0 → an₁ ≡ replicate (length an) 0
     → ClearedAsks rw₁ an₁
-cleared-asks rw an rw₁ an₁ lr la er ea =
+cleared-asks rw an {rw₁} {an₁} lr la er ea =
     record { rows = er ∙ ap (λ (n : ℕ). replicate n 0) (sym lr); answers = ea ∙ ap (λ (n : ℕ). replicate n 0) (sym la) }
 
 ---------------------------------------------------------------- the number
-pub number-is : (s : List ℕ) (l : Lengths) (b p rw an : List ℕ) (o : Outcome) (r : ℕ) → JudgeIs s l b p rw an o → r ≡ numberOf o → NumberIs s l b p rw an r
-number-is s l b p rw an o r j e = record { number = e ∙ judge-number j; buffers = j .buffers }
+pub number-is : {s : List ℕ} {l : Lengths} {b p rw an : List ℕ} {o : Outcome} {r : ℕ} → JudgeIs s l b p rw an o → r ≡ numberOf o → NumberIs s l b p rw an r
+number-is {s} {l} {b} {p} {rw} {an} {o} {r} j e = record { number = e ∙ judge-number j; buffers = j .buffers }

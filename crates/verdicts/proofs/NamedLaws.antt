@@ -17,7 +17,7 @@ NoPar b p n k = (i : ℕ) → i < k → kindOf (sortAt b p n i) ≡ 12 → ⊥
 pub par-none : (b p : List ℕ) (n : ℕ) → NoPar b p n 0
 par-none b p n i l e = omega arith
 
-module _ (b p : List ℕ) (n : ℕ) (s : Stored b p n) (k : ℕ) (l : k < n) (q : ℕ) (h : KindHas b p k q) where
+module _ {b p : List ℕ} {n : ℕ} (s : Stored b p n) (k : ℕ) (l : k < n) (q : ℕ) (h : KindHas b p k q) where
   pub par-here : q ≡ 12 → ParIn b p n true
   par-here e = (k, l, sym (h n s l) ∙ e)
 
@@ -31,9 +31,9 @@ par-end b p n k l w i o = w i (omega arith)
 pub uses-asked : (b p : List ℕ) (n q : ℕ) → (q ≡ 0 → ⊥) → UsesNames b p n q true
 uses-asked b p n q d e = absurd (d e)
 
-pub uses-par : (b p : List ℕ) (n q : ℕ) (t : Bool) → q ≡ 0 → ParIn b p n t → UsesNames b p n q t
-uses-par b p n q true e w = λ z. w
-uses-par b p n q false e w = (e, w)
+pub uses-par : (b p : List ℕ) (n : ℕ) {q : ℕ} (t : Bool) → q ≡ 0 → ParIn b p n t → UsesNames b p n q t
+uses-par b p n {q} true e w = λ z. w
+uses-par b p n {q} false e w = (e, w)
 
-pub none-asked : (b p : List ℕ) (n q : ℕ) (t : Bool) → UsesNames b p n q t → t ≡ false → q ≡ 0
-none-asked b p n q t w e = subst (UsesNames b p n q) e w .0
+pub none-asked : (b p : List ℕ) (n q : ℕ) {t : Bool} → UsesNames b p n q t → t ≡ false → q ≡ 0
+none-asked b p n q {t} w e = subst (UsesNames b p n q) e w .0

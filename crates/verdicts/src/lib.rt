@@ -6,11 +6,16 @@ pub mod named;
 use named::judge_named;
 use named::uses_names;
 use reader::Refusal;
+use record::limits::LONGEST_RECORD;
+use record::limits::MOST_QUESTIONS;
+use record::limits::MOST_SORT_RECORDS;
+use record::limits::MOST_TERMS;
 use sheet::SheetCounts;
 use sheet::SheetRead;
 use sheet::read_sheet;
 use store::buffers::zero_bytes;
 use store::buffers::zero_words;
+use store::slots::INDEX_LENGTH;
 use tabling::rows_all;
 ghost use mathlib.Core.Path.{_≡_};
 ghost use Rattle.reader.specs.Reader.{refusalNumber};
@@ -107,11 +112,11 @@ pub fn judge_cleared(
     requires { ⌜ ClearedAsks (now rows) (now answers) ⌝ }
     ensures { λ r. ⌜ JudgeIs (now (sheet .entry)) (lengthsOf (now (records .entry)) (now (places .entry)) (now (rows .entry)) (now (answers .entry))) (now (records .exit)) (now (places .exit)) (now (rows .exit)) (now (answers .exit)) r ⌝ }
 {
-    let mut index = [0u16; 13312];
-    let mut table = [0u16; 2048];
-    let mut starts = [0u16; 4096];
-    let mut asked = [0u16; 1024];
-    let mut scratch = [0u8; 266];
+    let mut index = [0u16; INDEX_LENGTH];
+    let mut table = [0u16; MOST_SORT_RECORDS];
+    let mut starts = [0u16; MOST_TERMS];
+    let mut asked = [0u16; MOST_QUESTIONS];
+    let mut scratch = [0u8; LONGEST_RECORD];
     let read = read_sheet(
         sheet,
         records,

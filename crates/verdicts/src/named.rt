@@ -1,6 +1,9 @@
 // Sheets whose judgement may look up a name: those with a Par among their sorts, or with questions. Only these are judged over
 // tables of all names.
 use questions::all::answer_all;
+use record::kinds::SORT_PAR;
+use record::limits::MOST_BOUND;
+use record::limits::NAMES;
 use sheet::SheetCounts;
 use store::entries::kind_at;
 use tabling::rows_all;
@@ -16,7 +19,7 @@ pub fn has_par(records: &[u8], places: &[u32], count: usize) -> bool
 {
     let mut k = 0;
     while k < count {
-        if kind_at(records, places, k) == 12 {
+        if kind_at(records, places, k) == SORT_PAR {
             return true;
         }
         k += 1;
@@ -51,9 +54,9 @@ pub fn judge_named(
     requires { ⌜ AcceptedAsks (now sheet) (now records) (now places) (now index) (now table) (now starts) (now asked) counts (now rows) (now answers) ⌝ }
     ensures { λ _. ⌜ JudgeIs (now (sheet .entry)) (lengthsOf (now (records .entry)) (now (places .entry)) (now (rows .entry)) (now (answers .entry))) (now (records .exit)) (now (places .exit)) (now (rows .exit)) (now (answers .exit)) Accepted ⌝ }
 {
-    let mut params = [0u16; 65536];
-    let mut images = [0u16; 65536];
-    let mut bound = [0u16; 4096];
+    let mut params = [0u16; NAMES];
+    let mut images = [0u16; NAMES];
+    let mut bound = [0u16; MOST_BOUND];
     let sorts = counts.sorts;
     let done = rows_all(
         records,

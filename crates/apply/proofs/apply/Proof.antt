@@ -12,41 +12,17 @@ use Rattle.apply.proofs.apply.Tie as tie
 answer-size-requires : tie.Need-answer-size-requires
 answer-size-requires c κs =
     let s = c .before .before .before .before .before .before .before in
-    let a = s .args in
-    let b = a .records .now in
-    let p = a .places .now in
-    let ix = a .index .now in
-    let n = a .count in
-    let u = a .used in
-    let l = a .images .now in
-    let k = a .k in
-    apply-size b p ix n u k l (s .pre)
+    apply-size (s .pre)
 
 returns : tie.Need-returns
 returns c =
     let s = c .before .before .before .before .before .before .before .before .before in
-    let a = s .args in
-    let b = a .records .now in
-    let p = a .places .now in
-    let ix = a .index .now in
-    let n = a .count in
-    let u = a .used in
-    let l = a .images .now in
-    let k = a .k in
-    (apply-over b p ix n u k l (s .pre) (c .before .answer-size .result) (c .before .answer-size .ensures) (c .if1 .taken), (refl, refl, refl))
+    (apply-over (s .pre) (c .before .answer-size .result) (c .before .answer-size .ensures) (c .if1 .taken), (refl, refl, refl))
 
 make-answer-requires : tie.Need-make-answer-requires
 make-answer-requires c κs =
     let s = c .before .before .before .before .before .before .before .before .before .before .before .before in
-    let a = s .args in
-    let b = a .records .now in
-    let p = a .places .now in
-    let ix = a .index .now in
-    let n = a .count in
-    let u = a .used in
-    let l = a .images .now in
-    let k = a .k in
-    apply-asks b p ix n u k l (s .pre) (c .before .before .before .before .answer-size .result) (c .before .before .before .before .answer-size .ensures) (c .before .before .before .if1 .left)
+    apply-asks (s .pre) (c .before .before .before .before .answer-size .result) (c .before .before .before .before .answer-size .ensures) (c .before .before .before .if1 .left)
 
 undo-requires : tie.Need-undo-requires
 undo-requires c κs =
@@ -54,15 +30,13 @@ undo-requires c κs =
     let a = s .args in
     let b = a .records .now in
     let p = a .places .now in
-    let ix = a .index .now in
     let n = a .count in
     let u = a .used in
     let l = a .images .now in
     let k = a .k in
     let d = c .before .before .before .before .before .before .before .before .before .before .before .before .make-answer .last in
-    let v = c .before .before .before .before .made2 .given .0 in
     let w = subst (ReplacedIs b p n u (answerAt b p n l k) (d .0) (d .1 .0) (d .1 .1 .0)) (c .before .before .before .before .made2 .given .1) (c .before .before .before .before .before .before .before .before .before .before .before .before .make-answer .ensures) in
-    undo-asks b p ix n u (s .pre .ready .good) (intern (answerAt b p n l k) (storeOf b p n)) (d .0) (d .1 .0) (d .1 .1 .0) (v .0) (v .1 .0) w
+    undo-asks (s .pre .ready .good) w
 
 returns-2 : tie.Need-returns-2
 returns-2 c =
@@ -70,14 +44,13 @@ returns-2 c =
     let a = s .args in
     let b = a .records .now in
     let p = a .places .now in
-    let ix = a .index .now in
     let n = a .count in
     let u = a .used in
     let l = a .images .now in
     let k = a .k in
     let d = c .before .before .before .before .before .before .before .before .before .make-answer .last in
     let w = subst (ReplacedIs b p n u (answerAt b p n l k) (d .0) (d .1 .0) (d .1 .1 .0)) (c .before .made .given .1) (c .before .before .before .before .before .before .before .before .before .make-answer .ensures) in
-    record { small = apply-small b p ix n u k l (s .pre) (c .before .before .before .before .before .before .before .before .before .before .before .before .before .before .answer-size .result) (c .before .before .before .before .before .before .before .before .before .before .before .before .before .before .answer-size .ensures) (c .before .before .before .before .before .before .before .before .before .before .before .before .before .if1 .left); made = w }
+    record { small = apply-small (s .pre) (c .before .before .before .before .before .before .before .before .before .before .before .before .before .before .answer-size .result) (c .before .before .before .before .before .before .before .before .before .before .before .before .before .before .answer-size .ensures) (c .before .before .before .before .before .before .before .before .before .before .before .before .before .if1 .left); made = w }
 
 returns-3 : tie.Need-returns-3
 returns-3 c =
@@ -85,16 +58,13 @@ returns-3 c =
     let a = s .args in
     let b = a .records .now in
     let p = a .places .now in
-    let ix = a .index .now in
     let n = a .count in
     let u = a .used in
     let l = a .images .now in
     let k = a .k in
     let d = c .before .before .before .before .before .before .before .before .before .before .before .before .before .before .before .before .before .before .before .make-answer .last in
-    let v = c .before .before .before .before .before .before .before .before .before .before .before .made2 .given .0 in
     let w = subst (ReplacedIs b p n u (answerAt b p n l k) (d .0) (d .1 .0) (d .1 .1 .0)) (c .before .before .before .before .before .before .before .before .before .before .before .made2 .given .1) (c .before .before .before .before .before .before .before .before .before .before .before .before .before .before .before .before .before .before .before .make-answer .ensures) in
-    let e = c .before .before .before .before .before .before .undo .last in
-    (apply-small b p ix n u k l (s .pre) (c .before .before .before .before .before .before .before .before .before .before .before .before .before .before .before .before .before .before .before .before .before .before .before .before .answer-size .result) (c .before .before .before .before .before .before .before .before .before .before .before .before .before .before .before .before .before .before .before .before .before .before .before .before .answer-size .ensures) (c .before .before .before .before .before .before .before .before .before .before .before .before .before .before .before .before .before .before .before .before .before .before .before .if1 .left), w .full, undo-back b p ix n u (s .pre .ready .good) (intern (answerAt b p n l k) (storeOf b p n)) (d .0) (d .1 .0) (d .1 .1 .0) (v .0) (v .1 .0) w (e .0) (e .1 .0) (e .1 .1 .0) (c .before .before .before .before .before .before .undo .result) (c .before .before .before .before .before .before .undo .ensures))
+    (apply-small (s .pre) (c .before .before .before .before .before .before .before .before .before .before .before .before .before .before .before .before .before .before .before .before .before .before .before .before .answer-size .result) (c .before .before .before .before .before .before .before .before .before .before .before .before .before .before .before .before .before .before .before .before .before .before .before .before .answer-size .ensures) (c .before .before .before .before .before .before .before .before .before .before .before .before .before .before .before .before .before .before .before .before .before .before .before .if1 .left), w .full, undo-back (s .pre .ready .good) w (c .before .before .before .before .before .before .undo .ensures))
 
 pub apply-spec : {M : Type 1} → statement M
 apply-spec = tie.close (tie.spec answer-size-requires (λ c. search needs) (λ c. search needs) (λ c. search needs) returns make-answer-requires (λ c. search needs) (λ c. search needs) undo-requires (λ c. search needs) (λ c. search needs) (λ c. search needs) returns-2 (λ c. search needs) (λ c. search needs) (λ c. search needs) returns-3)

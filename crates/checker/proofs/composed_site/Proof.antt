@@ -9,18 +9,7 @@ use Rattle.checker.proofs.composed_site.Tie as tie
 operated-requires : tie.Need-operated-requires
 operated-requires c κs =
     let s = c .before .before .before .before .before .before .before .before .before .before .before .before in
-    let q = s .args in
-    let b = q .records .now in
-    let p = q .places .now in
-    let ix = q .index .now in
-    let n = q .count in
-    let u = q .used in
-    let z = q .sheet .now in
-    let xs = q .starts .now in
-    let tbl = q .table .now in
-    let a = q .args .now in
-    let r = q .term in
-    op-asks b p ix n u z tbl xs r a (s .pre) (c .before .before .before .before .if1 .taken)
+    op-asks (s .pre) (c .before .before .before .before .if1 .taken)
 
 returns : tie.Need-returns
 returns c =
@@ -28,31 +17,13 @@ returns c =
     let q = s .args in
     let b = q .records .now in
     let p = q .places .now in
-    let ix = q .index .now in
     let n = q .count in
-    let u = q .used in
-    let z = q .sheet .now in
-    let xs = q .starts .now in
-    let tbl = q .table .now in
-    let a = q .args .now in
-    let r = q .term in
-    judged-as {b = b} {p = p} {n = n} (op-is b p ix n u z tbl xs r a (s .pre) (c .before .before .before .before .before .before .before .before .before .before .before .if1 .taken)) (c .before .before .before .before .before .before .operated .ensures)
+    judged-as {b = b} {p = p} {n = n} (op-is (s .pre) (c .before .before .before .before .before .before .before .before .before .before .before .if1 .taken)) (c .before .before .before .before .before .before .operated .ensures)
 
 binder-requires : tie.Need-binder-requires
 binder-requires c κs =
     let s = c .before .before .before .before .before .before .before .before .before .before .before .before .before in
-    let q = s .args in
-    let b = q .records .now in
-    let p = q .places .now in
-    let ix = q .index .now in
-    let n = q .count in
-    let u = q .used in
-    let z = q .sheet .now in
-    let xs = q .starts .now in
-    let tbl = q .table .now in
-    let a = q .args .now in
-    let r = q .term in
-    binder-asks b p ix n u z tbl xs r a (s .pre) (c .before .before .before .before .if2 .taken)
+    binder-asks (s .pre) (c .before .before .before .before .if2 .taken)
 
 returns-2 : tie.Need-returns-2
 returns-2 c =
@@ -60,31 +31,13 @@ returns-2 c =
     let q = s .args in
     let b = q .records .now in
     let p = q .places .now in
-    let ix = q .index .now in
     let n = q .count in
-    let u = q .used in
-    let z = q .sheet .now in
-    let xs = q .starts .now in
-    let tbl = q .table .now in
-    let a = q .args .now in
-    let r = q .term in
-    judged-as {b = b} {p = p} {n = n} (binder-kind b p ix n u z tbl xs r a (s .pre) (c .before .before .before .before .before .before .before .before .before .before .before .before .before .if2 .taken)) (c .before .before .before .before .before .before .before .before .binder .ensures)
+    judged-as {b = b} {p = p} {n = n} (binder-kind (s .pre) (c .before .before .before .before .before .before .before .before .before .before .before .before .before .if2 .taken)) (c .before .before .before .before .before .before .before .before .binder .ensures)
 
 indexing-requires : tie.Need-indexing-requires
 indexing-requires c κs =
     let s = c .before .before .before .before .before .before .before .before .before .before .before .before .before .before in
-    let q = s .args in
-    let b = q .records .now in
-    let p = q .places .now in
-    let ix = q .index .now in
-    let n = q .count in
-    let u = q .used in
-    let z = q .sheet .now in
-    let xs = q .starts .now in
-    let tbl = q .table .now in
-    let a = q .args .now in
-    let r = q .term in
-    index-asks b p ix n u z tbl xs r a (s .pre) (c .before .before .before .before .if3 .taken)
+    index-asks (s .pre) (c .before .before .before .before .if3 .taken)
 
 returns-3 : tie.Need-returns-3
 returns-3 c =
@@ -92,31 +45,13 @@ returns-3 c =
     let q = s .args in
     let b = q .records .now in
     let p = q .places .now in
-    let ix = q .index .now in
     let n = q .count in
-    let u = q .used in
-    let z = q .sheet .now in
-    let xs = q .starts .now in
-    let tbl = q .table .now in
-    let a = q .args .now in
-    let r = q .term in
-    judged-as {b = b} {p = p} {n = n} (index-kind b p ix n u z tbl xs r a (s .pre) (c .before .before .before .before .before .before .before .before .before .before .before .if3 .taken)) (c .before .before .before .before .before .before .indexing .ensures)
+    judged-as {b = b} {p = p} {n = n} (index-kind (s .pre) (c .before .before .before .before .before .before .before .before .before .before .before .if3 .taken)) (c .before .before .before .before .before .before .indexing .ensures)
 
 known-site-requires : tie.Need-known-site-requires
 known-site-requires c κs =
     let s = c .before .before .before .before .before .before .before .before .before .before .before .before .before in
-    let q = s .args in
-    let b = q .records .now in
-    let p = q .places .now in
-    let ix = q .index .now in
-    let n = q .count in
-    let u = q .used in
-    let z = q .sheet .now in
-    let xs = q .starts .now in
-    let tbl = q .table .now in
-    let a = q .args .now in
-    let r = q .term in
-    known-asks b p ix n u z tbl xs r a (s .pre)
+    known-asks (s .pre)
 
 returns-4 : tie.Need-returns-4
 returns-4 c =
@@ -126,13 +61,7 @@ returns-4 c =
     let p = q .places .now in
     let ix = q .index .now in
     let n = q .count in
-    let u = q .used in
-    let z = q .sheet .now in
-    let xs = q .starts .now in
-    let tbl = q .table .now in
-    let a = q .args .now in
-    let r = q .term in
-    judged-as {b = b} {p = p} {n = n} (known-is b p ix n u z tbl xs r a (s .pre) (c .before .before .before .before .before .before .if1 .left) (c .before .before .before .before .before .if2 .left) (c .before .before .before .before .if3 .left)) (c .known-site .ensures ix (s .pre .good))
+    judged-as {b = b} {p = p} {n = n} (known-is (s .pre) (c .before .before .before .before .before .before .if1 .left) (c .before .before .before .before .before .if2 .left) (c .before .before .before .before .if3 .left)) (c .known-site .ensures ix (s .pre .good))
 
 pub composed-site-spec : {M : Type 1} → statement M
 composed-site-spec = tie.close (tie.spec operated-requires (λ c. search needs) (λ c. search needs) (λ c. search needs) (λ c. search needs) returns binder-requires (λ c. search needs) (λ c. search needs) (λ c. search needs) (λ c. search needs) returns-2 indexing-requires (λ c. search needs) (λ c. search needs) (λ c. search needs) (λ c. search needs) returns-3 known-site-requires (λ c. search needs) (λ c. search needs) (λ c. search needs) returns-4)

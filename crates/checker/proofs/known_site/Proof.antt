@@ -19,14 +19,7 @@ letting-requires c κs =
 returns : tie.Need-returns
 returns c =
     let s = c .before .before .before .before .before .before in
-    let q = s .args in
-    let b = q .records .now in
-    let p = q .places .now in
-    let n = q .count in
-    let tbl = q .table .now in
-    let a = q .args .now in
-    let r = q .term in
-    λ ix g. judged-as (let-is b p n tbl r a (s .pre) (c .before .if1 .taken)) (c .letting .ensures ix g)
+    λ ix g. judged-as (let-is (s .pre) (c .before .if1 .taken)) (c .letting .ensures ix g)
 
 mul-k : tie.Need-mul-k
 mul-k c =
@@ -48,26 +41,12 @@ cast-k c =
 variable-requires : tie.Need-variable-requires
 variable-requires c κs =
     let s = c .before .before .before .before .before .before .before in
-    let q = s .args in
-    let b = q .records .now in
-    let p = q .places .now in
-    let n = q .count in
-    let tbl = q .table .now in
-    let a = q .args .now in
-    let r = q .term in
-    var-asks b p n tbl r a (s .pre) (c .before .if2 .taken)
+    var-asks (s .pre) (c .before .if2 .taken)
 
 returns-2 : tie.Need-returns-2
 returns-2 c =
     let s = c .before .before .before .before .before .before .before .before in
-    let q = s .args in
-    let b = q .records .now in
-    let p = q .places .now in
-    let n = q .count in
-    let tbl = q .table .now in
-    let a = q .args .now in
-    let r = q .term in
-    λ ix g. judged-as (var-is b p n tbl r a (s .pre) (c .before .before .if2 .taken)) (c .variable .ensures ix g)
+    λ ix g. judged-as (var-is (s .pre) (c .before .before .if2 .taken)) (c .variable .ensures ix g)
 
 mul-k-2 : tie.Need-mul-k-2
 mul-k-2 c =
@@ -89,26 +68,12 @@ cast-k-2 c =
 qualified-requires : tie.Need-qualified-requires
 qualified-requires c κs =
     let s = c .before .before .before .before .before .before .before .before in
-    let q = s .args in
-    let b = q .records .now in
-    let p = q .places .now in
-    let n = q .count in
-    let tbl = q .table .now in
-    let a = q .args .now in
-    let r = q .term in
-    as-asks b p n tbl r a (s .pre) (c .before .if3 .taken)
+    as-asks (s .pre) (c .before .if3 .taken)
 
 returns-3 : tie.Need-returns-3
 returns-3 c =
     let s = c .before .before .before .before .before .before .before .before .before in
-    let q = s .args in
-    let b = q .records .now in
-    let p = q .places .now in
-    let n = q .count in
-    let tbl = q .table .now in
-    let a = q .args .now in
-    let r = q .term in
-    λ ix g. judged-as (as-is b p n tbl r a (s .pre) (c .before .before .if3 .taken)) (c .qualified .ensures ix g)
+    λ ix g. judged-as (as-is (s .pre) (c .before .before .if3 .taken)) (c .qualified .ensures ix g)
 
 returns-4 : tie.Need-returns-4
 returns-4 c =

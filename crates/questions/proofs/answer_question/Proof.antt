@@ -39,54 +39,23 @@ answer-compatible-requires : tie.Need-answer-compatible-requires
 answer-compatible-requires c κs =
     let s = c .before .before .before .before .before .before .before .before .before .before .before .before .before in
     let a = s .args in
-    let b = a .records .now in
-    let p = a .places .now in
-    let ix = a .index .now in
     let n = a .count in
-    let u = a .used in
-    let m = a .params .now in
-    let g = a .images .now in
-    let o = a .bound .now in
     let d = a .sheet .now in
     let t = a .table .now in
     let q = a .question in
-    pair-part b p ix n u m g o d t q (s .pre) (c .before .before .before .sort-at .result) (c .before .before .sort-at2 .result)
+    pair-part (s .pre) (c .before .before .before .sort-at .result) (c .before .before .sort-at2 .result)
     (sort-known n d t q (s .pre .asked) 0 (q .list) (omega (arith, s .pre .two (c .before .before .before .before .if1 .taken))) (omega arith) (c .before .before .before .sort-at .result) (c .before .before .before .sort-at .ensures))
     (sort-known n d t q (s .pre .asked) 1 (q .list + 2) (omega (arith, s .pre .two (c .before .before .before .before .if1 .taken))) (omega arith) (c .before .before .sort-at2 .result) (c .before .before .sort-at2 .ensures))
 
 returns : tie.Need-returns
 returns c =
     let s = c .before .before .before .before .before .before .before .before .before .before .before .before .before .before in
-    let a = s .args in
-    let b = a .records .now in
-    let p = a .places .now in
-    let ix = a .index .now in
-    let n = a .count in
-    let u = a .used in
-    let m = a .params .now in
-    let g = a .images .now in
-    let o = a .bound .now in
-    let d = a .sheet .now in
-    let t = a .table .now in
-    let q = a .question in
-    answered-0 b p ix n u m g o d t q (s .pre) (c .before .before .before .before .before .if1 .taken) (c .before .before .before .before .sort-at .result) (c .before .before .before .sort-at2 .result) (c .answer-compatible .result) (c .before .before .before .before .sort-at .ensures) (c .before .before .before .sort-at2 .ensures) (c .answer-compatible .ensures)
+    answered-0 (s .pre) (c .before .before .before .before .before .if1 .taken) (c .before .before .before .before .sort-at .ensures) (c .before .before .before .sort-at2 .ensures) (c .answer-compatible .ensures)
 
 answer-match-requires : tie.Need-answer-match-requires
 answer-match-requires c κs =
     let s = c .before .before .before .before .before .before .before .before .before .before .before .before .before .before .before .before in
-    let a = s .args in
-    let b = a .records .now in
-    let p = a .places .now in
-    let ix = a .index .now in
-    let n = a .count in
-    let u = a .used in
-    let m = a .params .now in
-    let g = a .images .now in
-    let o = a .bound .now in
-    let d = a .sheet .now in
-    let t = a .table .now in
-    let q = a .question in
-    match-part b p ix n u m g o d t q (s .pre) (c .before .before .before .before .before .before .if2 .taken)
+    match-part (s .pre) (c .before .before .before .before .before .before .if2 .taken)
 
 word-of-requires : tie.Need-word-of-requires
 word-of-requires c κs =
@@ -101,37 +70,13 @@ word-of-requires c κs =
 returns-2 : tie.Need-returns-2
 returns-2 c =
     let s = c .before .before .before .before .before .before .before .before .before .before .before .before .before .before .before .before .before .before .before .before .before .before .before .before .before .before .before .before .before .before in
-    let a = s .args in
-    let b = a .records .now in
-    let p = a .places .now in
-    let ix = a .index .now in
-    let n = a .count in
-    let u = a .used in
-    let m = a .params .now in
-    let g = a .images .now in
-    let o = a .bound .now in
-    let d = a .sheet .now in
-    let t = a .table .now in
-    let q = a .question in
     let r = c .before .before .before .before .before .before .before .before .before .before .before .before .before .answer-match .last in
-    answered-1 b p ix n u m g o d t q (s .pre) (r .0) (r .1 .0) (r .1 .1 .0) (r .1 .1 .1 .1 .1 .0) (r .1 .1 .1 .1 .1 .1 .0) (r .1 .1 .1 .1 .1 .1 .1 .0) (c .before .before .before .before .before .before .before .before .before .before .before .before .before .answer-match .result) (c .word-of .result) (c .word-of .ensures) (c .before .before .before .before .before .before .before .before .before .before .before .before .before .before .before .before .before .before .before .before .if2 .taken) (c .before .before .before .before .before .before .before .before .before .before .before .before .before .answer-match .ensures)
+    answered-1 (s .pre) (r .0) (r .1 .0) (r .1 .1 .0) (r .1 .1 .1 .1 .1 .0) (r .1 .1 .1 .1 .1 .1 .0) (r .1 .1 .1 .1 .1 .1 .1 .0) (c .word-of .ensures) (c .before .before .before .before .before .before .before .before .before .before .before .before .before .before .before .before .before .before .before .before .if2 .taken) (c .before .before .before .before .before .before .before .before .before .before .before .before .before .answer-match .ensures)
 
 answer-apply-requires : tie.Need-answer-apply-requires
 answer-apply-requires c κs =
     let s = c .before .before .before .before .before .before .before .before .before .before .before .before .before .before in
-    let a = s .args in
-    let b = a .records .now in
-    let p = a .places .now in
-    let ix = a .index .now in
-    let n = a .count in
-    let u = a .used in
-    let m = a .params .now in
-    let g = a .images .now in
-    let o = a .bound .now in
-    let d = a .sheet .now in
-    let t = a .table .now in
-    let q = a .question in
-    apply-part b p ix n u m g o d t q (s .pre) (c .before .before .before .before .before .if1 .left) (c .before .before .before .before .if2 .left)
+    apply-part (s .pre) (c .before .before .before .before .before .if1 .left) (c .before .before .before .before .if2 .left)
 
 word-of-requires-2 : tie.Need-word-of-requires-2
 word-of-requires-2 c κs =
@@ -147,19 +92,10 @@ returns-3 : tie.Need-returns-3
 returns-3 c =
     let s = c .before .before .before .before .before .before .before .before .before .before .before .before .before .before .before .before .before .before .before .before .before .before .before .before in
     let a = s .args in
-    let b = a .records .now in
-    let p = a .places .now in
-    let ix = a .index .now in
-    let n = a .count in
-    let u = a .used in
     let m = a .params .now in
-    let g = a .images .now in
     let o = a .bound .now in
-    let d = a .sheet .now in
-    let t = a .table .now in
-    let q = a .question in
     let r = c .before .before .before .before .before .before .before .before .before .answer-apply .last in
-    answered-2 b p ix n u m g o d t q (s .pre) (r .0) (r .1 .0) (r .1 .1 .0) m (r .1 .1 .1 .1 .1 .0) o (c .before .before .before .before .before .before .before .before .before .answer-apply .result) (c .word-of2 .result) (c .word-of2 .ensures) (c .before .before .before .before .before .before .before .before .before .before .before .before .before .before .before .if1 .left) (c .before .before .before .before .before .before .before .before .before .before .before .before .before .before .if2 .left) (c .before .before .before .before .before .before .before .before .before .answer-apply .ensures) refl refl
+    answered-2 (s .pre) (r .0) (r .1 .0) (r .1 .1 .0) m (r .1 .1 .1 .1 .1 .0) o (c .word-of2 .ensures) (c .before .before .before .before .before .before .before .before .before .before .before .before .before .before .before .if1 .left) (c .before .before .before .before .before .before .before .before .before .before .before .before .before .before .if2 .left) (c .before .before .before .before .before .before .before .before .before .answer-apply .ensures) refl refl
 
 pub answer-question-spec : {M : Type 1} → statement M
 answer-question-spec = tie.close (tie.spec sort-at-requires add-sort-at sort-at-requires-2 answer-compatible-requires (λ c. search needs) (λ c. search needs) returns answer-match-requires word-of-requires (λ c. search needs) (λ c. search needs) (λ c. search needs) (λ c. search needs) (λ c. search needs) (λ c. search needs) returns-2 answer-apply-requires word-of-requires-2 (λ c. search needs) (λ c. search needs) (λ c. search needs) (λ c. search needs) returns-3)

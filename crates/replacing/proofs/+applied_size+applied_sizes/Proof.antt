@@ -100,24 +100,14 @@ applied-size-image-of-requires : (t : ℕ) → applied-size-lts.Need-image-of-re
 applied-size-image-of-requires t c κs =
     let s = c .before .before .before .before .before .before .before .before .before .before .before in
     let a = s .args in
-    let b = a .records .now in
-    let p = a .places .now in
     let n = a .count in
-    let l = a .images .now in
-    let e = c .before .before .entry .result in
-    omega (arith, name-small b p n l (s .pre .1 .asks .reading .stored) (s .pre .1 .asks .reading .table) (a .k) (s .pre .1 .asks .known) e (c .before .before .entry .ensures n (s .pre .1 .asks .reading .stored) (s .pre .1 .asks .known)), s .pre .1 .asks .reading .table .long)
+    omega (arith, name-small (s .pre .1 .asks .reading .stored) (s .pre .1 .asks .reading .table) (s .pre .1 .asks .known) (c .before .before .entry .ensures n (s .pre .1 .asks .reading .stored) (s .pre .1 .asks .known)), s .pre .1 .asks .reading .table .long)
 
 applied-size-size-at-requires : (t : ℕ) → applied-size-lts.Need-size-at-requires (applied-size-env t) (applied-size-at t) applied-size.Post
 applied-size-size-at-requires t c κs =
     let s = c .before .before .before .before .before .before .before .before .before .before .before .before in
-    let a = s .args in
-    let b = a .records .now in
-    let p = a .places .now in
-    let ix = a .index .now in
-    let n = a .count in
-    let l = a .images .now in
     let e = c .before .before .before .entry .result in
-    size-image-known b p ix n (a .k) l (s .pre .1 .asks) e (c .before .before .before .entry .ensures) (c .image-of .result) (c .image-of .ensures)
+    size-image-known (s .pre .1 .asks) e (c .before .before .before .entry .ensures) (c .image-of .ensures)
 
 applied-size-same-length-2 : (t : ℕ) → applied-size-lts.Need-same-length-2 (applied-size-env t) (applied-size-at t) applied-size.Post
 applied-size-same-length-2 t c = search needs
@@ -125,11 +115,8 @@ applied-size-same-length-2 t c = search needs
 applied-size-returns-2 : (t : ℕ) → applied-size-lts.Need-returns-2 (applied-size-env t) (applied-size-at t) applied-size.Post
 applied-size-returns-2 t c =
     let s = c .before .before .before .before .before .before .before .before .before .before .before .before .before in
-    let a = s .args in
-    let b = a .records .now in let p = a .places .now in let ix = a .index .now in
-    let n = a .count in let l = a .images .now in
     let e = c .before .before .before .before .entry .result in
-    record { is = size-image b p ix n (a .k) l (s .pre .1 .asks) e (c .before .before .before .before .entry .ensures) (c .before .before .if2 .taken) (c .before .image-of .result) (c .before .image-of .ensures) (c .size-at .result) (c .size-at .ensures); weighed = s .pre .1 .weighed }
+    record { is = size-image (s .pre .1 .asks) e (c .before .before .before .before .entry .ensures) (c .before .before .if2 .taken) (c .before .image-of .ensures) (c .size-at .result) (c .size-at .ensures); weighed = s .pre .1 .weighed }
 
 applied-size-same-length-3 : (t : ℕ) → applied-size-lts.Need-same-length-3 (applied-size-env t) (applied-size-at t) applied-size.Post
 applied-size-same-length-3 t c = search needs
@@ -137,29 +124,20 @@ applied-size-same-length-3 t c = search needs
 applied-size-returns-3 : (t : ℕ) → applied-size-lts.Need-returns-3 (applied-size-env t) (applied-size-at t) applied-size.Post
 applied-size-returns-3 t c =
     let s = c .before .before .before .before .before .before .before .before .before .before .before .before .before in
-    let a = s .args in
-    let b = a .records .now in let p = a .places .now in let ix = a .index .now in
-    let n = a .count in let l = a .images .now in
     let e = c .before .before .before .before .entry .result in
-    record { is = size-leaf b p ix n (a .k) l (s .pre .1 .asks) e (c .before .before .before .before .entry .ensures) (c .before .before .if2 .left) (c .if3 .taken); weighed = s .pre .1 .weighed }
+    record { is = size-leaf (s .pre .1 .asks) e (c .before .before .before .before .entry .ensures) (c .before .before .if2 .left) (c .if3 .taken); weighed = s .pre .1 .weighed }
 
 applied-size-applied-sizes-requires : (t : ℕ) → applied-size-lts.Need-applied-sizes-requires (applied-size-env t) (applied-size-at t) applied-size.Post
 applied-size-applied-sizes-requires t c κs =
     let s = c .before .before .before .before .before .before .before .before .before .before .before .before .before .before in
-    let a = s .args in
-    let b = a .records .now in let p = a .places .now in let ix = a .index .now in
-    let n = a .count in let l = a .images .now in
     let e = c .before .before .before .before .before .entry .result in
-    (omega (arith, s .pre .0, size-falls b p ix n (a .k) l (s .pre .1 .asks) e (c .before .before .before .before .before .entry .ensures)), record { asks = sizes-asks b p ix n (a .k) l (s .pre .1 .asks) e (c .before .before .before .before .before .entry .ensures); weighed = s .pre .1 .weighed })
+    (omega (arith, s .pre .0, size-falls (s .pre .1 .asks) e (c .before .before .before .before .before .entry .ensures)), record { asks = sizes-asks (s .pre .1 .asks) e (c .before .before .before .before .before .entry .ensures); weighed = s .pre .1 .weighed })
 
 applied-size-names-kept-requires : (t : ℕ) → applied-size-lts.Need-names-kept-requires (applied-size-env t) (applied-size-at t) applied-size.Post
 applied-size-names-kept-requires t c κs =
     let s = c .before .before .before .before .before .before .before .before .before .before .before .before .before .before .before .before .before in
-    let a = s .args in
-    let b = a .records .now in let p = a .places .now in let ix = a .index .now in
-    let n = a .count in let l = a .images .now in
     let e = c .before .before .before .before .before .before .before .before .entry .result in
-    names-ask b p ix n (a .k) l (s .pre .1 .asks) e (c .before .before .before .before .before .before .before .before .entry .ensures)
+    names-ask (s .pre .1 .asks) e (c .before .before .before .before .before .before .before .before .entry .ensures)
 
 applied-size-whole-size-requires : (t : ℕ) → applied-size-lts.Need-whole-size-requires (applied-size-env t) (applied-size-at t) applied-size.Post
 applied-size-whole-size-requires t c κs =
@@ -177,7 +155,7 @@ applied-size-remember-requires t c κs =
     let b = a .records .now in let p = a .places .now in let ix = a .index .now in
     let n = a .count in let l = a .images .now in
     let e = c .before .before .before .before .before .before .before .before .before .before .before .entry .result in
-    let is = size-whole b p ix n (a .k) l (s .pre .1 .asks) e (c .before .before .before .before .before .before .before .before .before .before .before .entry .ensures) (c .before .before .before .before .before .before .before .before .before .if2 .left) (c .before .before .names-kept .result) (c .before .before .names-kept .ensures) (c .before .before .before .before .before .applied-sizes .result) (c .before .before .before .before .before .applied-sizes .ensures .are) (goes (e .kind) (c .before .before .names-kept .result)) refl (c .before .whole-size .result) (c .before .whole-size .ensures) in
+    let is = size-whole (s .pre .1 .asks) e (c .before .before .before .before .before .before .before .before .before .before .before .entry .ensures) (c .before .before .before .before .before .before .before .before .before .if2 .left) (c .before .before .names-kept .ensures) (c .before .before .before .before .before .applied-sizes .result) (c .before .before .before .before .before .applied-sizes .ensures .are) (goes (e .kind) (c .before .before .names-kept .result)) refl (c .before .whole-size .ensures) in
     omega (arith, is, capped-most (size (answerAt b p n l (a .k))))
 
 applied-size-same-length-4 : (t : ℕ) → applied-size-lts.Need-same-length-4 (applied-size-env t) (applied-size-at t) applied-size.Post
@@ -190,16 +168,13 @@ applied-size-returns-4 t c =
     let b = a .records .now in let p = a .places .now in let ix = a .index .now in
     let n = a .count in let l = a .images .now in
     let e = c .before .before .before .before .before .before .before .before .before .before .before .before .before .before .entry .result in
-    let is = size-whole b p ix n (a .k) l (s .pre .1 .asks) e (c .before .before .before .before .before .before .before .before .before .before .before .before .before .before .entry .ensures) (c .before .before .before .before .before .before .before .before .before .before .before .before .if2 .left) (c .before .before .before .before .before .names-kept .result) (c .before .before .before .before .before .names-kept .ensures) (c .before .before .before .before .before .before .before .before .applied-sizes .result) (c .before .before .before .before .before .before .before .before .applied-sizes .ensures .are) (goes (e .kind) (c .before .before .before .before .before .names-kept .result)) refl (c .before .before .before .before .whole-size .result) (c .before .before .before .before .whole-size .ensures) in
+    let is = size-whole (s .pre .1 .asks) e (c .before .before .before .before .before .before .before .before .before .before .before .before .before .before .entry .ensures) (c .before .before .before .before .before .before .before .before .before .before .before .before .if2 .left) (c .before .before .before .before .before .names-kept .ensures) (c .before .before .before .before .before .before .before .before .applied-sizes .result) (c .before .before .before .before .before .before .before .before .applied-sizes .ensures .are) (goes (e .kind) (c .before .before .before .before .before .names-kept .result)) refl (c .before .before .before .before .whole-size .ensures) in
     record { is = is; weighed = subst (Weighed b p n l) (sym (c .before .before .remember .ensures)) (weighed-set b p n l (c .before .before .before .before .before .before .before .before .applied-sizes .last .1 .1 .1 .0) (a .k) (c .before .before .before .before .whole-size .result) (c .before .before .before .before .before .before .before .before .applied-sizes .ensures .weighed) is) }
 
 applied-sizes-loop-holds : (t : ℕ) → applied-sizes-lts.Need-loop-holds (applied-sizes-env t) (applied-sizes-at t) applied-sizes.Post applied-sizes-Inv-loop applied-sizes-μ-loop
 applied-sizes-loop-holds t c =
     let s = c .before .before .before .before .before in
-    let a = s .args in
-    let b = a .records .now in let p = a .places .now in let ix = a .index .now in
-    let n = a .count in let l = a .images .now in
-    record { sums = sum-start b p ix n (a .at) (a .n) l (s .pre .1 .asks); weighed = s .pre .1 .weighed; long = refl }
+    record { sums = sum-start (s .pre .1 .asks); weighed = s .pre .1 .weighed; long = refl }
 
 applied-sizes-u16-at-requires : (t : ℕ) → applied-sizes-lts.Need-u16-at-requires (applied-sizes-env t) (applied-sizes-at t) applied-sizes.Post applied-sizes-Inv-loop applied-sizes-μ-loop
 applied-sizes-u16-at-requires t c κs = omega (arith, c .before .loop .inv .sums .asks .within, c .loop-test .taken)
@@ -207,14 +182,8 @@ applied-sizes-u16-at-requires t c κs = omega (arith, c .before .loop .inv .sums
 applied-sizes-applied-size-requires : (t : ℕ) → applied-sizes-lts.Need-applied-size-requires (applied-sizes-env t) (applied-sizes-at t) applied-sizes.Post applied-sizes-Inv-loop applied-sizes-μ-loop
 applied-sizes-applied-size-requires t c κs =
     let s = c .before .before .before .before .before .before .before .before .before in
-    let a = s .args in
-    let b = a .records .now in
-    let p = a .places .now in
-    let ix = a .index .now in
-    let n = a .count in
-    let l = a .images .now in
     let i = c .before .before .before .loop in
-    let q = sum-asks b p ix n (a .at) (a .n) l (i .sum) (i .next) (i .left) (i .inv .sums) (c .before .before .loop-test .taken) (c .before .u16-at .result) (c .before .u16-at .ensures .0) in
+    let q = sum-asks (i .inv .sums) (c .before .before .loop-test .taken) (c .before .u16-at .ensures .0) in
     (omega (arith, s .pre .0, q .0), record { asks = q .1; weighed = i .inv .weighed })
 
 applied-sizes-add-capped-at : (t : ℕ) → applied-sizes-lts.Need-add-capped-at (applied-sizes-env t) (applied-sizes-at t) applied-sizes.Post applied-sizes-Inv-loop applied-sizes-μ-loop
@@ -242,30 +211,16 @@ applied-sizes-loop-less t c = omega (arith, c .before .before .before .before .b
 
 applied-sizes-loop-again : (t : ℕ) → applied-sizes-lts.Need-loop-again (applied-sizes-env t) (applied-sizes-at t) applied-sizes.Post applied-sizes-Inv-loop applied-sizes-μ-loop
 applied-sizes-loop-again t c =
-    let s = c .before .before .before .before .before .before .before .before .before .before .before .before .before in
-    let a = s .args in
-    let b = a .records .now in
-    let p = a .places .now in
-    let ix = a .index .now in
-    let n = a .count in
-    let l = a .images .now in
     let i = c .before .before .before .before .before .before .before .loop in
-    record { sums = sum-more b p ix n (a .at) (a .n) l (i .sum) (i .next) (i .left) (i .inv .sums) (c .before .before .before .before .before .before .loop-test .taken) (c .before .before .before .before .before .u16-at .result) (c .before .before .before .before .before .u16-at .ensures .0) (c .before .before .before .applied-size .result) (c .before .before .before .applied-size .ensures .is) (c .capped-at .result) (c .capped-at .ensures); weighed = c .before .before .before .applied-size .ensures .weighed; long = c .before .before .before .applied-size .kept .1 .1 .1 .0 ∙ i .inv .long }
+    record { sums = sum-more (i .inv .sums) (c .before .before .before .before .before .before .loop-test .taken) (c .before .before .before .before .before .u16-at .ensures .0) (c .before .before .before .applied-size .result) (c .before .before .before .applied-size .ensures .is) (c .capped-at .ensures); weighed = c .before .before .before .applied-size .ensures .weighed; long = c .before .before .before .applied-size .kept .1 .1 .1 .0 ∙ i .inv .long }
 
 applied-sizes-same-length : (t : ℕ) → applied-sizes-lts.Need-same-length (applied-sizes-env t) (applied-sizes-at t) applied-sizes.Post applied-sizes-Inv-loop applied-sizes-μ-loop
 applied-sizes-same-length t c = c .before .loop .inv .long
 
 applied-sizes-returns : (t : ℕ) → applied-sizes-lts.Need-returns (applied-sizes-env t) (applied-sizes-at t) applied-sizes.Post applied-sizes-Inv-loop applied-sizes-μ-loop
 applied-sizes-returns t c =
-    let s = c .before .before .before .before .before .before .before in
-    let a = s .args in
-    let b = a .records .now in
-    let p = a .places .now in
-    let ix = a .index .now in
-    let n = a .count in
-    let l = a .images .now in
     let i = c .before .loop in
-    record { are = sum-end b p ix n (a .at) (a .n) l (i .sum) (i .next) (i .left) (i .inv .sums) (c .loop-test .left); weighed = i .inv .weighed }
+    record { are = sum-end (i .inv .sums) (c .loop-test .left); weighed = i .inv .weighed }
 
 pub +applied-size+applied-sizes-spec : {M : Type 1} → statement M
 +applied-size+applied-sizes-spec = close μ-applied-size μ-applied-sizes (λ t. applied-size-lts.spec (applied-size-env t) (applied-size-at t) applied-size.Post (applied-size-recall-requires t) (applied-size-same-length t) (applied-size-returns t) (applied-size-entry-requires t) (applied-size-image-of-requires t) (applied-size-size-at-requires t) (applied-size-same-length-2 t) (applied-size-returns-2 t) (applied-size-same-length-3 t) (applied-size-returns-3 t) (applied-size-applied-sizes-requires t) (applied-size-names-kept-requires t) (applied-size-whole-size-requires t) (applied-size-remember-requires t) (applied-size-same-length-4 t) (applied-size-returns-4 t)) (λ t. applied-sizes-lts.spec (applied-sizes-env t) (applied-sizes-at t) applied-sizes.Post applied-sizes-Inv-loop applied-sizes-μ-loop (applied-sizes-loop-holds t) (applied-sizes-u16-at-requires t) (applied-sizes-applied-size-requires t) (applied-sizes-add-capped-at t) (applied-sizes-capped-at-requires t) (applied-sizes-add-next t) (applied-sizes-sub-left t) (applied-sizes-loop-less t) (applied-sizes-loop-again t) (applied-sizes-same-length t) (applied-sizes-returns t))

@@ -257,13 +257,9 @@ apply-sort-image-of-requires : (t : ℕ) → apply-sort-lts.Need-image-of-requir
 apply-sort-image-of-requires t c κs =
     let s = c .before .before .before .before .before .before .before .before .before .before .before .before .before in
     let a = s .args in
-    let b = a .records .now in let p = a .places .now in
     let n = a .count in let u = a .used in
-    let l = a .images .now in
-    let k = a .k in
-    let e = c .before .before .entry .result in
     let is = c .before .before .entry .ensures n (s .pre .1 .asks .ready .good .stored) (s .pre .1 .asks .known) in
-    omega (arith, name-small b p n l (s .pre .1 .asks .ready .good .stored) (s .pre .1 .asks .ready .table) k (s .pre .1 .asks .known) e is, s .pre .1 .asks .ready .table .long)
+    omega (arith, name-small (s .pre .1 .asks .ready .good .stored) (s .pre .1 .asks .ready .table) (s .pre .1 .asks .known) is, s .pre .1 .asks .ready .table .long)
 
 apply-sort-same-length-2 : (t : ℕ) → apply-sort-lts.Need-same-length-2 (apply-sort-env t) (apply-sort-at t) apply-sort.Post
 apply-sort-same-length-2 t c = search needs
@@ -278,14 +274,9 @@ apply-sort-returns-2 : (t : ℕ) → apply-sort-lts.Need-returns-2 (apply-sort-e
 apply-sort-returns-2 t c =
     let s = c .before .before .before .before .before .before .before .before .before .before .before .before .before .before in
     let a = s .args in
-    let b = a .records .now in let p = a .places .now in
-    let ix = a .index .now in
     let n = a .count in let u = a .used in
-    let l = a .images .now in
-    let k = a .k in
-    let e = c .before .before .before .entry .result in
     let is = c .before .before .before .entry .ensures n (s .pre .1 .asks .ready .good .stored) (s .pre .1 .asks .known) in
-    record { made = sort-image b p ix n u k l (s .pre .1 .asks) e is (c .before .if2 .taken) (c .image-of .result) (c .image-of .ensures); known = s .pre .1 .known }
+    record { made = sort-image (s .pre .1 .asks) is (c .before .if2 .taken) (c .image-of .ensures); known = s .pre .1 .known }
 
 apply-sort-same-length-5 : (t : ℕ) → apply-sort-lts.Need-same-length-5 (apply-sort-env t) (apply-sort-at t) apply-sort.Post
 apply-sort-same-length-5 t c = search needs
@@ -300,14 +291,9 @@ apply-sort-returns-3 : (t : ℕ) → apply-sort-lts.Need-returns-3 (apply-sort-e
 apply-sort-returns-3 t c =
     let s = c .before .before .before .before .before .before .before .before .before .before .before .before .before .before .before in
     let a = s .args in
-    let b = a .records .now in let p = a .places .now in
-    let ix = a .index .now in
     let n = a .count in let u = a .used in
-    let l = a .images .now in
-    let k = a .k in
-    let e = c .before .before .before .before .entry .result in
     let is = c .before .before .before .before .entry .ensures n (s .pre .1 .asks .ready .good .stored) (s .pre .1 .asks .known) in
-    record { made = sort-leaf b p ix n u k l (s .pre .1 .asks) e is (c .before .before .if2 .left) (c .if3 .taken); known = s .pre .1 .known }
+    record { made = sort-leaf (s .pre .1 .asks) is (c .before .before .if2 .left) (c .if3 .taken); known = s .pre .1 .known }
 
 apply-sort-slice-aggregate-read-numbers : (t : ℕ) → apply-sort-lts.Need-slice-aggregate-read-numbers (apply-sort-env t) (apply-sort-at t) apply-sort.Post
 apply-sort-slice-aggregate-read-numbers t c = search needs
@@ -316,14 +302,9 @@ apply-sort-read-numbers-requires : (t : ℕ) → apply-sort-lts.Need-read-number
 apply-sort-read-numbers-requires t c κs =
     let s = c .before .before .before .before .before .before .before .before .before .before .before .before .before .before .before .before .before in
     let a = s .args in
-    let b = a .records .now in let p = a .places .now in
-    let ix = a .index .now in
     let n = a .count in let u = a .used in
-    let l = a .images .now in
-    let k = a .k in
-    let e = c .before .before .before .before .before .before .entry .result in
     let is = c .before .before .before .before .before .before .entry .ensures n (s .pre .1 .asks .ready .good .stored) (s .pre .1 .asks .known) in
-    (sort-read b p ix n u k l (s .pre .1 .asks) e is, length-replicate {A = ℕ} 64 0)
+    (sort-read (s .pre .1 .asks) is, length-replicate {A = ℕ} 64 0)
 
 apply-sort-slice-aggregate-apply-parts : (t : ℕ) → apply-sort-lts.Need-slice-aggregate-apply-parts (apply-sort-env t) (apply-sort-at t) apply-sort.Post
 apply-sort-slice-aggregate-apply-parts t c = sym (c .before .before .before .before .before .before .read-numbers .ensures .long)
@@ -332,15 +313,9 @@ apply-sort-apply-parts-requires : (t : ℕ) → apply-sort-lts.Need-apply-parts-
 apply-sort-apply-parts-requires t c κs =
     let s = c .before .before .before .before .before .before .before .before .before .before .before .before .before .before .before .before .before .before .before .before .before .before .before .before in
     let a = s .args in
-    let b = a .records .now in let p = a .places .now in
-    let ix = a .index .now in
     let n = a .count in let u = a .used in
-    let l = a .images .now in
-    let k = a .k in
-    let e = c .before .before .before .before .before .before .before .before .before .before .before .before .before .entry .result in
     let is = c .before .before .before .before .before .before .before .before .before .before .before .before .before .entry .ensures n (s .pre .1 .asks .ready .good .stored) (s .pre .1 .asks .known) in
-    let o = held (c .before .before .before .before .before .before .read-numbers .last .1 .1 .1 .0) (e .count) in
-    (omega (arith, s .pre .0, sort-falls b p ix n u k l (s .pre .1 .asks) e is (c .before .before .before .before .before .before .before .before .before .before .before .if2 .left) o (c .before .before .before .before .before .before .read-numbers .ensures)), record { asks = sort-parts-ask b p ix n u k l (s .pre .1 .asks) e is (c .before .before .before .before .before .before .before .before .before .before .before .if2 .left) o (c .before .before .before .before .before .before .read-numbers .ensures); known = s .pre .1 .known })
+    (omega (arith, s .pre .0, sort-falls (s .pre .1 .asks) is (c .before .before .before .before .before .before .before .before .before .before .before .if2 .left) (c .before .before .before .before .before .before .read-numbers .ensures)), record { asks = sort-parts-ask (s .pre .1 .asks) is (c .before .before .before .before .before .before .before .before .before .before .before .if2 .left) (c .before .before .before .before .before .before .read-numbers .ensures); known = s .pre .1 .known })
 
 apply-sort-enum-known-done : (t : ℕ) → apply-sort-lts.Need-enum-known-done (apply-sort-env t) (apply-sort-at t) apply-sort.Post
 apply-sort-enum-known-done t c = search needs
@@ -353,18 +328,15 @@ apply-sort-rebuild-requires t c κs =
     let s = c .before .before .before .before .before .before .before .before .before .before .before .before .before .before .before .before .before .before .before .before .before .before .before .before .before .before .before .before .before .before .before .before .before .before .before .before .before .before .before .before .before in
     let a = s .args in
     let b = a .records .now in let p = a .places .now in
-    let ix = a .index .now in
     let n = a .count in let u = a .used in
     let l = a .images .now in
-    let k = a .k in
     let e = c .before .before .before .before .before .before .before .before .before .before .before .before .before .before .before .before .before .before .before .before .before .before .before .before .before .before .before .before .before .before .entry .result in
     let is = c .before .before .before .before .before .before .before .before .before .before .before .before .before .before .before .before .before .before .before .before .before .before .before .before .before .before .before .before .before .before .entry .ensures n (s .pre .1 .asks .ready .good .stored) (s .pre .1 .asks .known) in
     let o = held (c .before .before .before .before .before .before .before .before .before .before .before .before .before .before .before .before .before .before .before .before .before .before .before .read-numbers .last .1 .1 .1 .0) (e .count) in
     let d = c .before .before .before .before .before .before .before .before .before .before .before .before .before .before .before .before .apply-parts .last in
     let r = held (d .1 .1 .1 .1 .0) (e .count) in
-    let f = c .before .before .before .before .before .done .given .0 in
     let w = subst (KnownAllAre b p n u o l (d .0) (d .1 .0) (d .1 .1 .0) (d .1 .1 .1 .0) r) (c .before .before .before .before .before .done .given .1) (c .before .before .before .before .before .before .before .before .before .before .before .before .before .before .before .before .apply-parts .ensures) in
-    sort-rebuild b p ix n u k l (s .pre .1 .asks) e is (c .before .before .before .before .before .before .before .before .before .before .before .before .before .before .before .before .before .before .before .before .before .before .before .before .before .before .before .before .if2 .left) o (c .before .before .before .before .before .before .before .before .before .before .before .before .before .before .before .before .before .before .before .before .before .before .before .read-numbers .ensures) (d .0) (d .1 .0) (d .1 .1 .0) r (f .0) (f .1 .0) (w .made)
+    sort-rebuild (s .pre .1 .asks) is (c .before .before .before .before .before .before .before .before .before .before .before .before .before .before .before .before .before .before .before .before .before .before .before .before .before .before .before .before .if2 .left) (c .before .before .before .before .before .before .before .before .before .before .before .before .before .before .before .before .before .before .before .before .before .before .before .read-numbers .ensures) (w .made)
 
 apply-sort-enum-known-made : (t : ℕ) → apply-sort-lts.Need-enum-known-made (apply-sort-env t) (apply-sort-at t) apply-sort.Post
 apply-sort-enum-known-made t c = search needs
@@ -418,7 +390,6 @@ apply-sort-returns-4 t c =
     let s = c .before .before .before .before .before .before .before .before .before .before .before .before .before .before .before .before .before .before .before .before .before .before .before .before .before .before .before .before .before .before .before .before .before .before .before .before .before .before .before .before .before .before .before .before .before .before .before .before .before .before .before .before .before .before .before in
     let a = s .args in
     let b = a .records .now in let p = a .places .now in
-    let ix = a .index .now in
     let n = a .count in let u = a .used in
     let l = a .images .now in
     let k = a .k in
@@ -432,7 +403,7 @@ apply-sort-returns-4 t c =
     let y = c .before .before .before .before .before .before .before .before .before .before .before .before .before .rebuild .last in
     let v = c .before .before .before .before .before .made .given .0 in
     let z = subst (MadeIs (d .0) (d .1 .0) (d .1 .1 .0) (f .0) (f .1 .0) (answerAt (d .0) (d .1 .0) (f .0) l k) (y .0) (y .1 .0) (y .1 .1 .0)) (c .before .before .before .before .before .made .given .1) (c .before .before .before .before .before .before .before .before .before .before .before .before .before .rebuild .ensures) in
-    record { made = sort-made b p ix n u k l (s .pre .1 .asks) e is (c .before .before .before .before .before .before .before .before .before .before .before .before .before .before .before .before .before .before .before .before .before .before .before .before .before .before .before .before .before .before .before .before .before .before .before .before .before .before .before .before .before .before .if2 .left) o (c .before .before .before .before .before .before .before .before .before .before .before .before .before .before .before .before .before .before .before .before .before .before .before .before .before .before .before .before .before .before .before .before .before .before .before .before .before .read-numbers .ensures) (d .0) (d .1 .0) (d .1 .1 .0) r (f .0) (f .1 .0) (w .made) (y .0) (y .1 .0) (y .1 .1 .0) (v .0) (v .1 .0) (v .1 .1 .0) z; known = subst (Known (y .0) (y .1 .0) (v .1 .0) l) (sym (c .before .before .remember .ensures)) (sort-known b p ix n u k l (s .pre .1 .asks) e is (c .before .before .before .before .before .before .before .before .before .before .before .before .before .before .before .before .before .before .before .before .before .before .before .before .before .before .before .before .before .before .before .before .before .before .before .before .before .before .before .before .before .before .if2 .left) o (c .before .before .before .before .before .before .before .before .before .before .before .before .before .before .before .before .before .before .before .before .before .before .before .before .before .before .before .before .before .before .before .before .before .before .before .before .before .read-numbers .ensures) (d .0) (d .1 .0) (d .1 .1 .0) r (f .0) (f .1 .0) (w .made) (y .0) (y .1 .0) (y .1 .1 .0) (v .0) (v .1 .0) (v .1 .1 .0) z (d .1 .1 .1 .0) (w .known)) }
+    record { made = sort-made (s .pre .1 .asks) is (c .before .before .before .before .before .before .before .before .before .before .before .before .before .before .before .before .before .before .before .before .before .before .before .before .before .before .before .before .before .before .before .before .before .before .before .before .before .before .before .before .before .before .if2 .left) (c .before .before .before .before .before .before .before .before .before .before .before .before .before .before .before .before .before .before .before .before .before .before .before .before .before .before .before .before .before .before .before .before .before .before .before .before .before .read-numbers .ensures) (w .made) z; known = subst (Known (y .0) (y .1 .0) (v .1 .0) l) (sym (c .before .before .remember .ensures)) (sort-known (s .pre .1 .asks) is (c .before .before .before .before .before .before .before .before .before .before .before .before .before .before .before .before .before .before .before .before .before .before .before .before .before .before .before .before .before .before .before .before .before .before .before .before .before .before .before .before .before .before .if2 .left) (c .before .before .before .before .before .before .before .before .before .before .before .before .before .before .before .before .before .before .before .before .before .before .before .before .before .before .before .before .before .before .before .before .before .before .before .before .before .read-numbers .ensures) (w .made) z (d .1 .1 .1 .0) (w .known)) }
 
 apply-sort-same-length-12 : (t : ℕ) → apply-sort-lts.Need-same-length-12 (apply-sort-env t) (apply-sort-at t) apply-sort.Post
 apply-sort-same-length-12 t c = c .before .before .before .before .before .before .before .before .rebuild .kept .0 ∙ c .before .before .before .before .before .before .before .before .before .before .before .before .before .before .before .before .before .before .before .before .before .before .before .before .before .apply-parts .kept .0
@@ -451,7 +422,6 @@ apply-sort-returns-5 t c =
     let s = c .before .before .before .before .before .before .before .before .before .before .before .before .before .before .before .before .before .before .before .before .before .before .before .before .before .before .before .before .before .before .before .before .before .before .before .before .before .before .before .before .before .before .before .before .before .before .before .before .before .before in
     let a = s .args in
     let b = a .records .now in let p = a .places .now in
-    let ix = a .index .now in
     let n = a .count in let u = a .used in
     let l = a .images .now in
     let k = a .k in
@@ -463,7 +433,7 @@ apply-sort-returns-5 t c =
     let f = c .before .before .before .before .before .before .before .before .before .before .before .before .before .before .done .given .0 in
     let w = subst (KnownAllAre b p n u o l (d .0) (d .1 .0) (d .1 .1 .0) (d .1 .1 .1 .0) r) (c .before .before .before .before .before .before .before .before .before .before .before .before .before .before .done .given .1) (c .before .before .before .before .before .before .before .before .before .before .before .before .before .before .before .before .before .before .before .before .before .before .before .before .before .apply-parts .ensures) in
     let y = c .before .before .before .before .before .before .before .before .rebuild .last in
-    sort-full b p ix n u k l (s .pre .1 .asks) e is (c .before .before .before .before .before .before .before .before .before .before .before .before .before .before .before .before .before .before .before .before .before .before .before .before .before .before .before .before .before .before .before .before .before .before .before .before .before .if2 .left) o (c .before .before .before .before .before .before .before .before .before .before .before .before .before .before .before .before .before .before .before .before .before .before .before .before .before .before .before .before .before .before .before .before .read-numbers .ensures) (d .0) (d .1 .0) (d .1 .1 .0) r (f .0) (f .1 .0) (w .made) (y .0) (y .1 .0) (y .1 .1 .0) (subst (MadeIs (d .0) (d .1 .0) (d .1 .1 .0) (f .0) (f .1 .0) (answerAt (d .0) (d .1 .0) (f .0) l k) (y .0) (y .1 .0) (y .1 .1 .0)) (c .enum-told .given .1) (c .before .before .before .before .before .before .before .before .rebuild .ensures))
+    sort-full (s .pre .1 .asks) is (c .before .before .before .before .before .before .before .before .before .before .before .before .before .before .before .before .before .before .before .before .before .before .before .before .before .before .before .before .before .before .before .before .before .before .before .before .before .if2 .left) (c .before .before .before .before .before .before .before .before .before .before .before .before .before .before .before .before .before .before .before .before .before .before .before .before .before .before .before .before .before .before .before .before .read-numbers .ensures) (w .made) (y .0) (y .1 .0) (y .1 .1 .0) (subst (MadeIs (d .0) (d .1 .0) (d .1 .1 .0) (f .0) (f .1 .0) (answerAt (d .0) (d .1 .0) (f .0) l k) (y .0) (y .1 .0) (y .1 .1 .0)) (c .enum-told .given .1) (c .before .before .before .before .before .before .before .before .rebuild .ensures))
 
 apply-sort-same-length-16 : (t : ℕ) → apply-sort-lts.Need-same-length-16 (apply-sort-env t) (apply-sort-at t) apply-sort.Post
 apply-sort-same-length-16 t c = c .before .before .before .before .before .before .before .before .before .before .before .before .apply-parts .kept .0
@@ -482,18 +452,15 @@ apply-sort-returns-6 t c =
     let s = c .before .before .before .before .before .before .before .before .before .before .before .before .before .before .before .before .before .before .before .before .before .before .before .before .before .before .before .before .before .before .before .before .before .before .before .before .before in
     let a = s .args in
     let b = a .records .now in let p = a .places .now in
-    let ix = a .index .now in
     let n = a .count in let u = a .used in
     let l = a .images .now in
-    let k = a .k in
     let e = c .before .before .before .before .before .before .before .before .before .before .before .before .before .before .before .before .before .before .before .before .before .before .before .before .before .before .entry .result in
     let is = c .before .before .before .before .before .before .before .before .before .before .before .before .before .before .before .before .before .before .before .before .before .before .before .before .before .before .entry .ensures n (s .pre .1 .asks .ready .good .stored) (s .pre .1 .asks .known) in
     let o = held (c .before .before .before .before .before .before .before .before .before .before .before .before .before .before .before .before .before .before .before .read-numbers .last .1 .1 .1 .0) (e .count) in
     let d = c .before .before .before .before .before .before .before .before .before .before .before .before .apply-parts .last in
     let r = held (d .1 .1 .1 .1 .0) (e .count) in
-    let f = c .before .done2 .given .0 in
     let w = subst (KnownAllAre b p n u o l (d .0) (d .1 .0) (d .1 .1 .0) (d .1 .1 .1 .0) r) (c .before .done2 .given .1) (c .before .before .before .before .before .before .before .before .before .before .before .before .apply-parts .ensures) in
-    sort-stuck b p ix n u k l (s .pre .1 .asks) e is (c .before .before .before .before .before .before .before .before .before .before .before .before .before .before .before .before .before .before .before .before .before .before .before .before .if2 .left) o (c .before .before .before .before .before .before .before .before .before .before .before .before .before .before .before .before .before .before .before .read-numbers .ensures) (d .0) (d .1 .0) (d .1 .1 .0) (f .0) (f .1 .0) w
+    sort-stuck (s .pre .1 .asks) is (c .before .before .before .before .before .before .before .before .before .before .before .before .before .before .before .before .before .before .before .before .before .before .before .before .if2 .left) (c .before .before .before .before .before .before .before .before .before .before .before .before .before .before .before .before .before .before .before .read-numbers .ensures) w
 
 pub +apply-parts+apply-sort-spec : {M : Type 1} → statement M
 +apply-parts+apply-sort-spec = close μ-apply-parts μ-apply-sort (λ t. apply-parts-lts.spec (apply-parts-env t) (apply-parts-at t) apply-parts.Post apply-parts-Inv-loop apply-parts-μ-loop (apply-parts-loop-holds t) (apply-parts-mul-k t) (apply-parts-slice-read-k t) (apply-parts-cast-k t) (apply-parts-apply-sort-requires t) (apply-parts-enum-known-made t) (apply-parts-cast-parts t) (apply-parts-mul-parts t) (apply-parts-slice-write-parts t) (apply-parts-enum-known-made-2 t) (apply-parts-same-length t) (apply-parts-same-length-2 t) (apply-parts-same-length-3 t) (apply-parts-same-length-4 t) (apply-parts-same-length-5 t) (apply-parts-returns t) (apply-parts-add-j t) (apply-parts-loop-less t) (apply-parts-loop-again t) (apply-parts-same-length-6 t) (apply-parts-same-length-7 t) (apply-parts-same-length-8 t) (apply-parts-same-length-9 t) (apply-parts-same-length-10 t) (apply-parts-returns-2 t)) (λ t. apply-sort-lts.spec (apply-sort-env t) (apply-sort-at t) apply-sort.Post (apply-sort-recall-requires t) (apply-sort-sub-t26 t) (apply-sort-same-length t) (apply-sort-returns t) (apply-sort-entry-requires t) (apply-sort-image-of-requires t) (apply-sort-same-length-2 t) (apply-sort-same-length-3 t) (apply-sort-same-length-4 t) (apply-sort-returns-2 t) (apply-sort-same-length-5 t) (apply-sort-same-length-6 t) (apply-sort-same-length-7 t) (apply-sort-returns-3 t) (apply-sort-slice-aggregate-read-numbers t) (apply-sort-read-numbers-requires t) (apply-sort-slice-aggregate-apply-parts t) (apply-sort-apply-parts-requires t) (apply-sort-enum-known-done t) (apply-sort-slice-aggregate-rebuild t) (apply-sort-rebuild-requires t) (apply-sort-enum-known-made t) (apply-sort-add-remember t) (apply-sort-remember-requires t) (apply-sort-enum-told t) (apply-sort-enum-known-done-2 t) (apply-sort-same-length-8 t) (apply-sort-same-length-9 t) (apply-sort-same-length-10 t) (apply-sort-same-length-11 t) (apply-sort-returns-4 t) (apply-sort-same-length-12 t) (apply-sort-same-length-13 t) (apply-sort-same-length-14 t) (apply-sort-same-length-15 t) (apply-sort-returns-5 t) (apply-sort-same-length-16 t) (apply-sort-same-length-17 t) (apply-sort-same-length-18 t) (apply-sort-same-length-19 t) (apply-sort-returns-6 t))

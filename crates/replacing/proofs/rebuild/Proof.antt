@@ -34,49 +34,25 @@ returns : tie.Need-returns
 returns c =
     let s = c .before .before .before .before .before .before .before .before .before .before .before .before .before .before .before in
     let a = s .args in
-    let b = a .records .now in
-    let p = a .places .now in
-    let ix = a .index .now in
     let n = a .count in
-    let u = a .used in
-    let l = a .images .now in
-    let k = a .k in
-    let e = c .before .before .before .before .before .before .before .entry .result in
     let is = c .before .before .before .before .before .before .before .entry .ensures n (s .pre .ready .good .stored) (s .pre .known) in
-    let o = held (c .before .before .before .before .names-left .last .1 .1 .1 .1 .0) (c .before .before .before .before .names-left .result) in
-    rebuild-gone b p ix n u k (held (a .parts .now) (a .many)) l (s .pre) e is o (c .before .before .before .before .names-left .ensures) (sym (c .before .before .wrapper-goes .ensures) ∙ c .before .if1 .taken)
+    rebuild-gone (s .pre) is (c .before .before .before .before .names-left .ensures) (sym (c .before .before .wrapper-goes .ensures) ∙ c .before .if1 .taken)
 
 same-numbers-requires : tie.Need-same-numbers-requires
 same-numbers-requires c κs =
     let s = c .before .before .before .before .before .before .before .before .before .before .before .before .before .before .before .before .before in
     let a = s .args in
-    let b = a .records .now in
-    let p = a .places .now in
-    let ix = a .index .now in
     let n = a .count in
-    let u = a .used in
-    let l = a .images .now in
-    let k = a .k in
-    let e = c .before .before .before .before .before .before .before .before .before .entry .result in
     let is = c .before .before .before .before .before .before .before .before .before .entry .ensures n (s .pre .ready .good .stored) (s .pre .known) in
-    let o = held (c .before .before .before .before .before .before .names-left .last .1 .1 .1 .1 .0) (c .before .before .before .before .before .before .names-left .result) in
-    rebuild-same-asks b p ix n u k (held (a .parts .now) (a .many)) l (s .pre) e is o (c .before .before .before .before .before .before .names-left .ensures)
+    rebuild-same-asks (s .pre) is (c .before .before .before .before .before .before .names-left .ensures)
 
 returns-2 : tie.Need-returns-2
 returns-2 c =
     let s = c .before .before .before .before .before .before .before .before .before .before .before .before .before .before .before .before .before .before .before in
     let a = s .args in
-    let b = a .records .now in
-    let p = a .places .now in
-    let ix = a .index .now in
     let n = a .count in
-    let u = a .used in
-    let l = a .images .now in
-    let k = a .k in
-    let e = c .before .before .before .before .before .before .before .before .before .before .before .entry .result in
     let is = c .before .before .before .before .before .before .before .before .before .before .before .entry .ensures n (s .pre .ready .good .stored) (s .pre .known) in
-    let o = held (c .before .before .before .before .before .before .before .before .names-left .last .1 .1 .1 .1 .0) (c .before .before .before .before .before .before .before .before .names-left .result) in
-    rebuild-same b p ix n u k (held (a .parts .now) (a .many)) l (s .pre) e is o (c .before .before .before .before .before .before .before .before .names-left .ensures) (sym (c .before .before .before .before .before .before .wrapper-goes .ensures) ∙ c .before .before .before .before .before .if1 .left) (c .before .before .before .if2 .taken) (c .before .same-numbers .ensures (c .if3 .taken))
+    rebuild-same (s .pre) is (c .before .before .before .before .before .before .before .before .names-left .ensures) (sym (c .before .before .before .before .before .before .wrapper-goes .ensures) ∙ c .before .before .before .before .before .if1 .left) (c .before .before .before .if2 .taken) (c .before .same-numbers .ensures (c .if3 .taken))
 
 slice-aggregate-make : tie.Need-slice-aggregate-make
 slice-aggregate-make c = sym (c .before .before .before .before .before .before .before .before .before .names-left .ensures .long)
@@ -85,34 +61,18 @@ make-requires : tie.Need-make-requires
 make-requires c κs =
     let s = c .before .before .before .before .before .before .before .before .before .before .before .before .before .before .before .before .before .before .before .before in
     let a = s .args in
-    let b = a .records .now in
-    let p = a .places .now in
-    let ix = a .index .now in
     let n = a .count in
-    let u = a .used in
-    let l = a .images .now in
-    let k = a .k in
-    let e = c .before .before .before .before .before .before .before .before .before .before .before .before .entry .result in
     let is = c .before .before .before .before .before .before .before .before .before .before .before .before .entry .ensures n (s .pre .ready .good .stored) (s .pre .known) in
-    let o = held (c .before .before .before .before .before .before .before .before .before .names-left .last .1 .1 .1 .1 .0) (c .before .before .before .before .before .before .before .before .before .names-left .result) in
-    rebuild-asks b p ix n u k (held (a .parts .now) (a .many)) l (s .pre) e is o (c .before .before .before .before .before .before .before .before .before .names-left .ensures) (sym (c .before .before .before .before .before .before .before .wrapper-goes .ensures) ∙ c .before .before .before .before .before .before .if1 .left)
+    rebuild-asks (s .pre) is (c .before .before .before .before .before .before .before .before .before .names-left .ensures) (sym (c .before .before .before .before .before .before .before .wrapper-goes .ensures) ∙ c .before .before .before .before .before .before .if1 .left)
 
 returns-3 : tie.Need-returns-3
 returns-3 c =
     let s = c .before .before .before .before .before .before .before .before .before .before .before .before .before .before .before .before .before .before .before .before .before .before .before .before .before .before .before in
     let a = s .args in
-    let b = a .records .now in
-    let p = a .places .now in
-    let ix = a .index .now in
     let n = a .count in
-    let u = a .used in
-    let l = a .images .now in
-    let k = a .k in
-    let e = c .before .before .before .before .before .before .before .before .before .before .before .before .before .before .before .before .before .before .before .entry .result in
     let is = c .before .before .before .before .before .before .before .before .before .before .before .before .before .before .before .before .before .before .before .entry .ensures n (s .pre .ready .good .stored) (s .pre .known) in
-    let o = held (c .before .before .before .before .before .before .before .before .before .before .before .before .before .before .before .before .names-left .last .1 .1 .1 .1 .0) (c .before .before .before .before .before .before .before .before .before .before .before .before .before .before .before .before .names-left .result) in
     let d = c .before .before .before .before .before .before .make .last in
-    rebuild-made b p ix n u k (held (a .parts .now) (a .many)) l (s .pre) e is o (c .before .before .before .before .before .before .before .before .before .before .before .before .before .before .before .before .names-left .ensures) (sym (c .before .before .before .before .before .before .before .before .before .before .before .before .before .before .wrapper-goes .ensures) ∙ c .before .before .before .before .before .before .before .before .before .before .before .before .before .if1 .left) (d .0) (d .1 .0) (d .1 .1 .0) (c .before .before .before .before .before .before .make .result) (c .before .before .before .before .before .before .make .ensures)
+    rebuild-made (s .pre) is (c .before .before .before .before .before .before .before .before .before .before .before .before .before .before .before .before .names-left .ensures) (sym (c .before .before .before .before .before .before .before .before .before .before .before .before .before .before .wrapper-goes .ensures) ∙ c .before .before .before .before .before .before .before .before .before .before .before .before .before .if1 .left) (d .0) (d .1 .0) (d .1 .1 .0) (c .before .before .before .before .before .before .make .result) (c .before .before .before .before .before .before .make .ensures)
 
 pub rebuild-spec : {M : Type 1} → statement M
 rebuild-spec = tie.close (tie.spec entry-requires (λ c. search needs) names-left-requires (λ c κs. search needs) shared-slice-read-body cast-body (λ c. search needs) (λ c. search needs) returns same-numbers-requires (λ c. search needs) (λ c. search needs) returns-2 slice-aggregate-make make-requires (λ c. search needs) (λ c. search needs) (λ c. search needs) returns-3)

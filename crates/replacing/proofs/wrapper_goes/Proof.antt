@@ -7,7 +7,7 @@ returns : tie.Need-returns
 returns c =
     let s = c .before in
     let a = s .args in
-    goes-is (a .kind) (a .names) (c .if1 .taken)
+    goes-is (a .names) (c .if1 .taken)
 
 returns-2 : tie.Need-returns-2
 returns-2 c =

@@ -13,47 +13,17 @@ use Rattle.tabling.proofs.rows_of.Tie as tie
 inferred-row-requires : tie.Need-inferred-row-requires
 inferred-row-requires c κs =
     let s = c .before .before .before .before .before .before .before .before .before .before .before .before .before .before .before .before .before .before .before .before .before in
-    let a = s .args in
-    let b = a .records .now in
-    let p = a .places .now in
-    let ix = a .index .now in
-    let n = a .count in
-    let u = a .used in
-    let m = a .params .now in
-    let g = a .images .now in
-    let o = a .bound .now in
-    let d = a .sheet .now in
-    let t = a .table .now in
-    let x = a .starts .now in
-    let w = a .rows .now in
     let h = s .pre .0 in
-    let e = a .inferences .now in
-    let f = a .checks .now in
     let y = s .pre .1 in
-    inferred-asks b p ix n u m g o d t x w (a .term) (a .t) h e f y (replicate 266 0) (omega (arith, length-replicate {A = ℕ} 266 0))
+    inferred-asks h y (replicate 266 0) (omega (arith, length-replicate {A = ℕ} 266 0))
 
 checked-row-requires : tie.Need-checked-row-requires
 checked-row-requires c κs =
     let s = c .before .before .before .before .before .before .before .before .before .before .before .before .before .before .before .before .before .before .before .before .before .before .before .before .before .before .before .before .before .before .before .before .before .before .before .before .before .before .before .before .before .before .before .before .before .before in
-    let a = s .args in
-    let b = a .records .now in
-    let p = a .places .now in
-    let ix = a .index .now in
-    let n = a .count in
-    let u = a .used in
-    let m = a .params .now in
-    let g = a .images .now in
-    let o = a .bound .now in
-    let d = a .sheet .now in
-    let t = a .table .now in
-    let x = a .starts .now in
-    let w = a .rows .now in
     let h = s .pre .0 in
-    let e = a .inferences .now in
-    let f = a .checks .now in
     let y = s .pre .1 in
     let i = c .before .before .before .before .before .before .before .before .before .before .before .before .before .before .before .before .before .before .before .before .before .before .before .before .inferred-row .last in
-    checked-asks b p ix n u m g o d t x w (a .term) (a .t) h e f y (i .0) (i .1 .0) (i .1 .1 .0) (i .1 .1 .1 .1 .1 .0) (i .1 .1 .1 .1 .1 .1 .0) (i .1 .1 .1 .1 .1 .1 .1 .0) (c .before .before .before .before .before .before .before .before .before .before .before .before .before .before .before .before .before .before .before .before .before .before .before .before .inferred-row .result) (i .1 .1 .1 .1 .1 .1 .1 .1 .1 .1 .1 .1 .1 .1 .0) (c .before .before .before .before .before .before .before .before .before .before .before .before .before .before .before .before .before .before .before .before .before .before .before .before .inferred-row .ensures) (i .1 .1 .1 .1 .1 .1 .1 .1 .1 .1 .1 .1 .1 .0) (omega (arith, c .before .before .before .before .before .before .before .before .before .before .before .before .before .before .before .before .before .before .before .before .before .before .before .before .inferred-row .kept .1 .1 .1 .1 .1 .1 .1 .1 .1 .1 .1 .1 .1 .0))
+    checked-asks h y (c .before .before .before .before .before .before .before .before .before .before .before .before .before .before .before .before .before .before .before .before .before .before .before .before .inferred-row .ensures) (i .1 .1 .1 .1 .1 .1 .1 .1 .1 .1 .1 .1 .1 .0) (omega (arith, c .before .before .before .before .before .before .before .before .before .before .before .before .before .before .before .before .before .before .before .before .before .before .before .before .inferred-row .kept .1 .1 .1 .1 .1 .1 .1 .1 .1 .1 .1 .1 .1 .0))
 
 code-requires : tie.Need-code-requires
 code-requires c κs = answer-code _ _ _ _ _ _ _ _ (c .before .before .before .before .before .before .before .before .before .before .before .before .before .before .before .before .before .before .before .before .before .before .before .before .before .before .before .before .before .before .before .before .before .before .before .before .before .before .before .before .inferred-row .ensures .row .answer)
@@ -113,26 +83,9 @@ same-length-9 c = c .before .before .before .before .before .before .before .bef
 returns : tie.Need-returns
 returns c =
     let s = c .before .before .before .before .before .before .before .before .before .before .before .before .before .before .before .before .before .before .before .before .before .before .before .before .before .before .before .before .before .before .before .before .before .before .before .before .before .before .before .before .before .before .before .before .before .before .before .before .before .before .before .before .before .before .before .before .before .before .before .before .before .before .before .before in
-    let a = s .args in
-    let b = a .records .now in
-    let p = a .places .now in
-    let ix = a .index .now in
-    let n = a .count in
-    let u = a .used in
-    let m = a .params .now in
-    let g = a .images .now in
-    let o = a .bound .now in
-    let d = a .sheet .now in
-    let t = a .table .now in
-    let x = a .starts .now in
-    let w = a .rows .now in
     let h = s .pre .0 in
-    let e = a .inferences .now in
-    let f = a .checks .now in
     let y = s .pre .1 in
-    let i = c .before .before .before .before .before .before .before .before .before .before .before .before .before .before .before .before .before .before .before .before .before .before .before .before .before .before .before .before .before .before .before .before .before .before .before .before .before .before .before .before .before .before .inferred-row .last in
-    let k = c .before .before .before .before .before .before .before .before .before .before .before .before .before .before .before .before .before .checked-row .last in
-    (rows-written b p ix n u m g o d t x w (a .term) (a .t) h e f y (i .0) (i .1 .0) (i .1 .1 .0) (i .1 .1 .1 .1 .1 .0) (i .1 .1 .1 .1 .1 .1 .0) (i .1 .1 .1 .1 .1 .1 .1 .0) (c .before .before .before .before .before .before .before .before .before .before .before .before .before .before .before .before .before .before .before .before .before .before .before .before .before .before .before .before .before .before .before .before .before .before .before .before .before .before .before .before .before .before .inferred-row .result) (i .1 .1 .1 .1 .1 .1 .1 .1 .1 .1 .1 .1 .1 .1 .0) (c .before .before .before .before .before .before .before .before .before .before .before .before .before .before .before .before .before .before .before .before .before .before .before .before .before .before .before .before .before .before .before .before .before .before .before .before .before .before .before .before .before .before .inferred-row .ensures) (k .0) (k .1 .0) (k .1 .1 .0) (k .1 .1 .1 .1 .1 .0) (k .1 .1 .1 .1 .1 .1 .0) (k .1 .1 .1 .1 .1 .1 .1 .0) (c .before .before .before .before .before .before .before .before .before .before .before .before .before .before .before .before .before .checked-row .result) (k .1 .1 .1 .1 .1 .1 .1 .1 .1 .1 .1 .1 .1 .1 .0) (c .before .before .before .before .before .before .before .before .before .before .before .before .before .before .before .before .before .checked-row .ensures) (c .before .code .result) (c .code2 .result) (c .before .code .ensures) (c .code2 .ensures), pasts-after b p ix n u m g o d t x w (a .term) (a .t) h e f y (i .0) (i .1 .0) (i .1 .1 .0) (i .1 .1 .1 .1 .1 .0) (i .1 .1 .1 .1 .1 .1 .0) (i .1 .1 .1 .1 .1 .1 .1 .0) (c .before .before .before .before .before .before .before .before .before .before .before .before .before .before .before .before .before .before .before .before .before .before .before .before .before .before .before .before .before .before .before .before .before .before .before .before .before .before .before .before .before .before .inferred-row .result) (i .1 .1 .1 .1 .1 .1 .1 .1 .1 .1 .1 .1 .1 .1 .0) (c .before .before .before .before .before .before .before .before .before .before .before .before .before .before .before .before .before .before .before .before .before .before .before .before .before .before .before .before .before .before .before .before .before .before .before .before .before .before .before .before .before .before .inferred-row .ensures) (k .0) (k .1 .0) (k .1 .1 .0) (k .1 .1 .1 .1 .1 .0) (k .1 .1 .1 .1 .1 .1 .0) (k .1 .1 .1 .1 .1 .1 .1 .0) (c .before .before .before .before .before .before .before .before .before .before .before .before .before .before .before .before .before .checked-row .result) (k .1 .1 .1 .1 .1 .1 .1 .1 .1 .1 .1 .1 .1 .1 .0) (c .before .before .before .before .before .before .before .before .before .before .before .before .before .before .before .before .before .checked-row .ensures) (c .before .code .result) (c .code2 .result) (c .before .code .ensures) (c .code2 .ensures))
+    (rows-written h y (c .before .before .before .before .before .before .before .before .before .before .before .before .before .before .before .before .before .before .before .before .before .before .before .before .before .before .before .before .before .before .before .before .before .before .before .before .before .before .before .before .before .before .inferred-row .ensures) (c .before .before .before .before .before .before .before .before .before .before .before .before .before .before .before .before .before .checked-row .ensures) (c .before .code .ensures) (c .code2 .ensures), pasts-after h y (c .before .before .before .before .before .before .before .before .before .before .before .before .before .before .before .before .before .before .before .before .before .before .before .before .before .before .before .before .before .before .before .before .before .before .before .before .before .before .before .before .before .before .inferred-row .ensures) (c .before .before .before .before .before .before .before .before .before .before .before .before .before .before .before .before .before .checked-row .ensures) (c .before .code .ensures) (c .code2 .ensures))
 
 pub rows-of-spec : {M : Type 1} → statement M
 rows-of-spec = tie.close (tie.spec (λ c. search needs) inferred-row-requires (λ c. search needs) checked-row-requires code-requires mul-rows mul-rows-2 slice-write-rows code-requires-2 mul-rows-3 add-rows mul-rows-4 slice-write-rows-2 same-length same-length-2 same-length-3 same-length-4 same-length-5 same-length-6 (λ c. search needs) same-length-8 same-length-9 returns)

@@ -18,45 +18,15 @@ abbrev μ-loop : tie.MeasureT-loop
 loop-holds : tie.Need-loop-holds Inv-loop μ-loop
 loop-holds c =
     let s = c .before .before .before .before .before .before .before .before .before .before .before .before in
-    let a = s .args in
-    let b = a .records .now in
-    let p = a .places .now in
-    let ix = a .index .now in
-    let n = a .count in
-    let u = a .used in
-    let m = a .params .now in
-    let g = a .images .now in
-    let o = a .bound .now in
-    let d = a .sheet .now in
-    let t = a .table .now in
-    let x = a .starts .now in
-    let w = a .rows .now in
-    let k = a .sorts in
-    let e = a .terms in
     let h = s .pre .0 in
-    (omega arith, tabling-start b p ix n u m g o d t k x e w h, s .pre .1, refl, refl)
+    (omega arith, tabling-start h, s .pre .1, refl, refl)
 
 term-rows-requires : tie.Need-term-rows-requires Inv-loop μ-loop
 term-rows-requires c κs =
     let s = c .before .before .before .before .before .before .before .before .before .before .before .before .before .before .before .before .before .before .before .before .before .before .before in
-    let a = s .args in
-    let b = a .records .now in
-    let p = a .places .now in
-    let ix = a .index .now in
-    let n = a .count in
-    let u = a .used in
-    let m = a .params .now in
-    let g = a .images .now in
-    let o = a .bound .now in
-    let d = a .sheet .now in
-    let t = a .table .now in
-    let x = a .starts .now in
-    let w = a .rows .now in
-    let k = a .sorts in
-    let e = a .terms in
     let h = s .pre .0 in
     let l = c .before .before .before .before .before .before .before .before .before .before .loop in
-    (turn-asks b p ix n u m g o d t k x e w h (l .records) (l .places) (l .index) (l .params) (l .images) (l .bound) (l .rows) (l .n) (l .u) (l .t) (l .inv .1) (c .before .before .before .before .before .before .before .before .before .loop-test .taken), l .inv .2)
+    (turn-asks h (l .inv .1) (c .before .before .before .before .before .before .before .before .before .loop-test .taken), l .inv .2)
 
 add-t : tie.Need-add-t Inv-loop μ-loop
 add-t c = omega (arith, c .before .before .before .before .before .before .before .before .before .before .before .before .before .before .before .before .before .before .before .before .before .before .before .before .before .before .before .before .loop-test .taken, c .before .before .before .before .before .before .before .before .before .before .before .before .before .before .before .before .before .before .before .before .before .before .before .before .before .before .before .before .before .before .before .before .before .before .before .before .before .before .before .before .before .before .pre .0 .few)
@@ -67,25 +37,10 @@ loop-less c = omega (arith, c .before .before .before .before .before .before .b
 loop-again : tie.Need-loop-again Inv-loop μ-loop
 loop-again c =
     let s = c .before .before .before .before .before .before .before .before .before .before .before .before .before .before .before .before .before .before .before .before .before .before .before .before .before .before .before .before .before .before .before .before .before .before .before .before .before .before .before .before .before .before in
-    let a = s .args in
-    let b = a .records .now in
-    let p = a .places .now in
-    let ix = a .index .now in
-    let n = a .count in
-    let u = a .used in
-    let m = a .params .now in
-    let g = a .images .now in
-    let o = a .bound .now in
-    let d = a .sheet .now in
-    let t = a .table .now in
-    let x = a .starts .now in
-    let w = a .rows .now in
-    let k = a .sorts in
-    let e = a .terms in
     let h = s .pre .0 in
     let l = c .before .before .before .before .before .before .before .before .before .before .before .before .before .before .before .before .before .before .before .before .before .before .before .before .before .before .before .before .before .loop in
     let r = c .before .before .before .before .before .before .before .before .before .before .before .before .before .before .before .before .before .before .term-rows .last in
-    (omega (arith, c .before .before .before .before .before .before .before .before .before .before .before .before .before .before .before .before .before .before .before .before .before .before .before .before .before .before .before .before .loop-test .taken), tabling-step b p ix n u m g o d t k x e w h (l .records) (l .places) (l .index) (l .params) (l .images) (l .bound) (l .rows) (l .n) (l .u) (l .t) (l .inv .1) (c .before .before .before .before .before .before .before .before .before .before .before .before .before .before .before .before .before .before .before .before .before .before .before .before .before .before .before .before .loop-test .taken) (r .0) (r .1 .0) (r .1 .1 .0) (r .1 .1 .1 .1 .1 .0) (r .1 .1 .1 .1 .1 .1 .0) (r .1 .1 .1 .1 .1 .1 .1 .0) (r .1 .1 .1 .1 .1 .1 .1 .1 .1 .1 .1 .1 .0) (c .before .before .before .before .before .before .before .before .before .before .before .before .before .before .before .before .before .before .term-rows .result) (c .before .before .before .before .before .before .before .before .before .before .before .before .before .before .before .before .before .before .term-rows .ensures .0), c .before .before .before .before .before .before .before .before .before .before .before .before .before .before .before .before .before .before .term-rows .ensures .1, c .before .before .before .before .before .before .before .before .before .before .before .before .before .before .before .before .before .before .term-rows .kept .1 .1 .1 .1 .1 .1 .1 .1 .1 .1 .1 .1 .1 .1 .0 ∙ l .inv .3, c .before .before .before .before .before .before .before .before .before .before .before .before .before .before .before .before .before .before .term-rows .kept .1 .1 .1 .1 .1 .1 .1 .1 .1 .1 .1 .1 .1 .1 .1 .0 ∙ l .inv .4)
+    (omega (arith, c .before .before .before .before .before .before .before .before .before .before .before .before .before .before .before .before .before .before .before .before .before .before .before .before .before .before .before .before .loop-test .taken), tabling-step h (l .inv .1) (c .before .before .before .before .before .before .before .before .before .before .before .before .before .before .before .before .before .before .before .before .before .before .before .before .before .before .before .before .loop-test .taken) (r .0) (r .1 .0) (r .1 .1 .0) (r .1 .1 .1 .1 .1 .0) (r .1 .1 .1 .1 .1 .1 .0) (r .1 .1 .1 .1 .1 .1 .1 .0) (r .1 .1 .1 .1 .1 .1 .1 .1 .1 .1 .1 .1 .0) (c .before .before .before .before .before .before .before .before .before .before .before .before .before .before .before .before .before .before .term-rows .result) (c .before .before .before .before .before .before .before .before .before .before .before .before .before .before .before .before .before .before .term-rows .ensures .0), c .before .before .before .before .before .before .before .before .before .before .before .before .before .before .before .before .before .before .term-rows .ensures .1, c .before .before .before .before .before .before .before .before .before .before .before .before .before .before .before .before .before .before .term-rows .kept .1 .1 .1 .1 .1 .1 .1 .1 .1 .1 .1 .1 .1 .1 .0 ∙ l .inv .3, c .before .before .before .before .before .before .before .before .before .before .before .before .before .before .before .before .before .before .term-rows .kept .1 .1 .1 .1 .1 .1 .1 .1 .1 .1 .1 .1 .1 .1 .1 .0 ∙ l .inv .4)
 
 same-length : tie.Need-same-length Inv-loop μ-loop
 same-length c = c .before .loop .inv .1 .long
@@ -117,24 +72,9 @@ same-length-9 c = c .before .loop .inv .4
 returns : tie.Need-returns Inv-loop μ-loop
 returns c =
     let s = c .before .before .before .before .before .before .before .before .before .before .before .before .before .before in
-    let a = s .args in
-    let b = a .records .now in
-    let p = a .places .now in
-    let ix = a .index .now in
-    let n = a .count in
-    let u = a .used in
-    let m = a .params .now in
-    let g = a .images .now in
-    let o = a .bound .now in
-    let d = a .sheet .now in
-    let t = a .table .now in
-    let x = a .starts .now in
-    let w = a .rows .now in
-    let k = a .sorts in
-    let e = a .terms in
     let h = s .pre .0 in
     let l = c .before .loop in
-    (tabling-end b p ix n u m g o d t k x e w h (l .records) (l .places) (l .index) (l .params) (l .images) (l .bound) (l .rows) (l .n) (l .u) (l .t) (l .inv .1) (omega (arith, l .inv .0, c .loop-test .left)), l .inv .2)
+    (tabling-end h (l .inv .1) (omega (arith, l .inv .0, c .loop-test .left)), l .inv .2)
 
 pub rows-past-spec : {M : Type 1} → statement M
 rows-past-spec = tie.close (tie.spec Inv-loop μ-loop loop-holds term-rows-requires add-t loop-less loop-again same-length same-length-2 same-length-3 same-length-4 same-length-5 same-length-6 same-length-7 same-length-8 same-length-9 returns)

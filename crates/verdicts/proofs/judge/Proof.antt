@@ -12,19 +12,17 @@ judge-cleared-requires c κs =
     let a = w .args in
     let rw₀ = a .rows .now in
     let an₀ = a .answers .now in
-    cleared-asks rw₀ an₀ (c .before .before .before .before .before .before .before .before .before .before .zero-words .last .0) (c .before .before .before .before .before .before .zero-words2 .last .0) (c .before .before .before .before .before .before .before .before .before .before .zero-words .kept .0) (c .before .before .before .before .before .before .zero-words2 .kept .0) (c .before .before .before .before .before .before .before .before .before .before .zero-words .ensures) (c .before .before .before .before .before .before .zero-words2 .ensures)
+    cleared-asks rw₀ an₀ (c .before .before .before .before .before .before .before .before .before .before .zero-words .kept .0) (c .before .before .before .before .before .before .zero-words2 .kept .0) (c .before .before .before .before .before .before .before .before .before .before .zero-words .ensures) (c .before .before .before .before .before .before .zero-words2 .ensures)
 
 returns : tie.Need-returns
 returns c =
     let w = c .before .before .before .before .before .before .before .before .before .before .before .before .before .before .before .before .before .before .before .before .before .before .before .before .before .before in
     let a = w .args in
-    let s = a .sheet .now in
     let b = a .records .now in
     let p = a .places .now in
     let rw₀ = a .rows .now in
     let an₀ = a .answers .now in
-    let d = c .before .before .before .before .before .before .before .before .judge-cleared .last in
-    judge-over s b p rw₀ an₀ b p (c .before .before .before .before .before .before .before .before .before .before .before .before .before .before .before .before .before .before .before .zero-words .last .0) (c .before .before .before .before .before .before .before .before .before .before .before .before .before .before .before .zero-words2 .last .0) (d .1 .0) (d .1 .1 .0) (d .1 .1 .1 .0) (d .1 .1 .1 .1 .0) (c .before .before .before .before .before .before .before .before .judge-cleared .result) refl refl (c .before .before .before .before .before .before .before .before .before .before .before .before .before .before .before .before .before .before .before .zero-words .kept .0) (c .before .before .before .before .before .before .before .before .before .before .before .before .before .before .before .zero-words2 .kept .0) (c .before .before .before .before .before .before .before .before .judge-cleared .ensures)
+    judge-over b p rw₀ an₀ b p (c .before .before .before .before .before .before .before .before .before .before .before .before .before .before .before .before .before .before .before .zero-words .last .0) (c .before .before .before .before .before .before .before .before .before .before .before .before .before .before .before .zero-words2 .last .0) refl refl (c .before .before .before .before .before .before .before .before .before .before .before .before .before .before .before .before .before .before .before .zero-words .kept .0) (c .before .before .before .before .before .before .before .before .before .before .before .before .before .before .before .zero-words2 .kept .0) (c .before .before .before .before .before .before .before .before .judge-cleared .ensures)
 
 pub judge-spec : {M : Type 1} → statement M
 judge-spec = tie.close (tie.spec (λ c κs. search needs) (λ c κs. search needs) judge-cleared-requires (λ c. search needs) (λ c. search needs) (λ c. search needs) (λ c. search needs) returns)

@@ -19,35 +19,16 @@ returns c = c .before .before .before .before .before .before .before .before .b
 rows-all-requires : tie.Need-rows-all-requires
 rows-all-requires c κs =
     let w = c .before .before .before .before .before .before .before .before .before .before .before .before .before .before .before .before .before .before .before .before in
-    let a = w .args in
-    let s = a .sheet .now in
-    let b = a .records .now in
-    let p = a .places .now in
-    let ix = a .index .now in
-    let tbl = a .table .now in
-    let xs = a .starts .now in
-    let ys = a .asked .now in
-    let k = a .counts in
-    let rw₀ = a .rows .now in
-    let an₀ = a .answers .now in
-    rows-ask s b p ix tbl xs ys k rw₀ an₀ (w .pre) (replicate 1 0) (replicate 1 0) (replicate 1 0) short-tables
+    rows-ask (w .pre) short-tables
 
 returns-2 : tie.Need-returns-2
 returns-2 c =
     let w = c .before .before .before .before .before .before .before .before .before .before .before .before .before .before .before .before .before .before .before .before .before .before .before .before .before .before .before .before .before .before .before .before in
     let a = w .args in
-    let s = a .sheet .now in
     let b = a .records .now in
     let p = a .places .now in
-    let ix = a .index .now in
-    let tbl = a .table .now in
-    let xs = a .starts .now in
-    let ys = a .asked .now in
     let k = a .counts in
-    let rw₀ = a .rows .now in
-    let an₀ = a .answers .now in
-    let d = c .before .before .before .before .before .before .before .before .before .before .before .rows-all .last in
-    judge-unasked s b p ix tbl xs ys k rw₀ an₀ (w .pre) (replicate 1 0) (replicate 1 0) (replicate 1 0) (d .0) (d .1 .0) (d .1 .1 .0) (d .1 .1 .1 .1 .1 .0) (d .1 .1 .1 .1 .1 .1 .0) (d .1 .1 .1 .1 .1 .1 .1 .0) (d .1 .1 .1 .1 .1 .1 .1 .1 .1 .1 .1 .1 .1 .0) (c .before .before .before .before .before .before .before .before .before .before .before .rows-all .result) (c .before .before .before .before .before .before .before .before .before .before .before .rows-all .ensures) (none-asked b p (k .count) (k .questions) (c .before .before .before .before .before .before .before .before .before .before .before .before .before .before .before .before .before .before .before .before .uses-names .result) (c .before .before .before .before .before .before .before .before .before .before .before .before .before .before .before .before .before .before .before .before .uses-names .ensures) (c .before .before .before .before .before .before .before .before .before .before .before .before .before .before .before .before .before .before .before .if1 .left))
+    judge-unasked (w .pre) (c .before .before .before .before .before .before .before .before .before .before .before .rows-all .ensures) (none-asked b p (k .count) (k .questions) (c .before .before .before .before .before .before .before .before .before .before .before .before .before .before .before .before .before .before .before .before .uses-names .ensures) (c .before .before .before .before .before .before .before .before .before .before .before .before .before .before .before .before .before .before .before .if1 .left))
 
 pub judge-accepted-spec : {M : Type 1} → statement M
 judge-accepted-spec = tie.close (tie.spec uses-names-requires judge-named-requires (λ c. search needs) (λ c. search needs) (λ c. search needs) (λ c. search needs) (λ c. search needs) returns (λ c. search needs) (λ c. search needs) (λ c. search needs) rows-all-requires (λ c. search needs) (λ c. search needs) (λ c. search needs) (λ c. search needs) returns-2)

@@ -23,7 +23,7 @@ judge-accepted-requires c κs =
     let an₀ = a .answers .now in
     let d = c .before .before .before .before .before .before .before .before .before .before .before .before .before .before .before .before .before .before .before .before .read-sheet .last in
     let f = subst (ReadSheetIs s (lent b p (length rw₀) (length an₀)) (d .1 .0) (d .1 .1 .0) (d .1 .1 .1 .1 .1 .0) (d .1 .1 .1 .1 .1 .1 .0) (d .1 .1 .1 .1 .1 .1 .1 .0) (d .1 .1 .1 .1 .1 .1 .1 .1 .0)) (c .before .before .before .before .before .before .before .before .before .read .given .1) (c .before .before .before .before .before .before .before .before .before .before .before .before .before .before .before .before .before .before .before .before .read-sheet .ensures) in
-    accepted-ask s b p rw₀ an₀ (w .pre) (d .1 .0) (d .1 .1 .0) (d .1 .1 .1 .1 .1 .0) (d .1 .1 .1 .1 .1 .1 .0) (d .1 .1 .1 .1 .1 .1 .1 .0) (d .1 .1 .1 .1 .1 .1 .1 .1 .0) (c .before .before .before .before .before .before .before .before .before .read .given .0 .0) f (c .before .before .before .before .before .before .before .before .before .before .before .before .before .before .before .before .before .before .before .before .read-sheet .kept .1 .1 .1 .1 .1 .1 .0) (c .before .before .before .before .before .before .before .before .before .before .before .before .before .before .before .before .before .before .before .before .read-sheet .kept .1 .1 .1 .1 .1 .1 .1 .0) (c .before .before .before .before .before .before .before .before .before .before .before .before .before .before .before .before .before .before .before .before .read-sheet .kept .1 .1 .1 .1 .1 .1 .1 .1 .0)
+    accepted-ask b p (w .pre) f (c .before .before .before .before .before .before .before .before .before .before .before .before .before .before .before .before .before .before .before .before .read-sheet .kept .1 .1 .1 .1 .1 .1 .0) (c .before .before .before .before .before .before .before .before .before .before .before .before .before .before .before .before .before .before .before .before .read-sheet .kept .1 .1 .1 .1 .1 .1 .1 .0) (c .before .before .before .before .before .before .before .before .before .before .before .before .before .before .before .before .before .before .before .before .read-sheet .kept .1 .1 .1 .1 .1 .1 .1 .1 .0)
 
 same-length : tie.Need-same-length
 same-length c = (c .before .before .before .before .before .before .before .before .before .judge-accepted .kept .1 .0) ∙ c .before .before .before .before .before .before .before .before .before .before .before .before .before .before .before .before .before .before .before .before .before .before .before .before .before .before .before .before .before .before .read-sheet .kept .1 .0
@@ -41,14 +41,12 @@ returns : tie.Need-returns
 returns c =
     let w = c .before .before .before .before .before .before .before .before .before .before .before .before .before .before .before .before .before .before .before .before .before .before .before .before .before .before .before .before .before .before .before .before .before .before .before .before .before .before .before .before .before .before .before in
     let a = w .args in
-    let s = a .sheet .now in
     let b = a .records .now in
     let p = a .places .now in
     let rw₀ = a .rows .now in
     let an₀ = a .answers .now in
     let d = c .before .before .before .before .before .before .before .before .before .before .before .before .before .before .before .before .before .before .before .before .before .before .before .before .before .before .before .before .before .before .read-sheet .last in
-    let o = c .before .before .before .before .before .before .before .before .before .judge-accepted .last in
-    judge-over s b p rw₀ an₀ (d .1 .0) (d .1 .1 .0) rw₀ an₀ (o .1 .0) (o .1 .1 .0) (o .1 .1 .1 .1 .1 .1 .1 .1 .0) (o .1 .1 .1 .1 .1 .1 .1 .1 .1 .0) Accepted (c .before .before .before .before .before .before .before .before .before .before .before .before .before .before .before .before .before .before .before .before .before .before .before .before .before .before .before .before .before .before .read-sheet .kept .1 .0) (c .before .before .before .before .before .before .before .before .before .before .before .before .before .before .before .before .before .before .before .before .before .before .before .before .before .before .before .before .before .before .read-sheet .kept .1 .1 .0) refl refl (c .before .before .before .before .before .before .before .before .before .judge-accepted .ensures)
+    judge-over b p rw₀ an₀ (d .1 .0) (d .1 .1 .0) rw₀ an₀ (c .before .before .before .before .before .before .before .before .before .before .before .before .before .before .before .before .before .before .before .before .before .before .before .before .before .before .before .before .before .before .read-sheet .kept .1 .0) (c .before .before .before .before .before .before .before .before .before .before .before .before .before .before .before .before .before .before .before .before .before .before .before .before .before .before .before .before .before .before .read-sheet .kept .1 .1 .0) refl refl (c .before .before .before .before .before .before .before .before .before .judge-accepted .ensures)
 
 same-length-5 : tie.Need-same-length-5
 same-length-5 c = (c .before .before .before .before .before .before .zero-bytes .kept .0) ∙ c .before .before .before .before .before .before .before .before .before .before .before .before .before .before .before .before .before .before .before .before .read-sheet .kept .1 .0
@@ -67,7 +65,7 @@ returns-2 c =
     let an₀ = a .answers .now in
     let d = c .before .before .before .before .before .before .before .before .before .before .before .before .before .before .before .before .before .before .before .before .read-sheet .last in
     let f = subst (ReadSheetIs s (lent b p (length rw₀) (length an₀)) (d .1 .0) (d .1 .1 .0) (d .1 .1 .1 .1 .1 .0) (d .1 .1 .1 .1 .1 .1 .0) (d .1 .1 .1 .1 .1 .1 .1 .0) (d .1 .1 .1 .1 .1 .1 .1 .1 .0)) (c .before .before .before .before .before .before .before .before .before .read2 .given .1) (c .before .before .before .before .before .before .before .before .before .before .before .before .before .before .before .before .before .before .before .before .read-sheet .ensures) in
-    refused-is s b p rw₀ an₀ (w .pre) (c .before .before .before .before .before .before .before .before .before .read2 .given .0 .0) (d .1 .0) (d .1 .1 .0) (c .before .before .before .before .before .before .zero-bytes .last .0) (c .before .before .zero-words .last .0) f (c .before .before .before .before .before .before .zero-bytes .ensures) (c .before .before .zero-words .ensures)
+    refused-is s b p (w .pre) (c .before .before .before .before .before .before .before .before .before .read2 .given .0 .0) (d .1 .0) (d .1 .1 .0) f (c .before .before .before .before .before .before .zero-bytes .ensures) (c .before .before .zero-words .ensures)
 
 pub judge-cleared-spec : {M : Type 1} → statement M
 judge-cleared-spec = tie.close (tie.spec (λ c. search needs) (λ c. search needs) (λ c. search needs) (λ c. search needs) (λ c. search needs) read-sheet-requires (λ c. search needs) (λ c. search needs) (λ c. search needs) (λ c. search needs) (λ c. search needs) judge-accepted-requires (λ c. search needs) (λ c κs. search needs) (λ c κs. search needs) same-length same-length-2 same-length-3 same-length-4 returns same-length-5 same-length-6 returns-2)

@@ -52,13 +52,8 @@ order-of-returns : (t : ℕ) → order-of-lts.Need-returns (order-of-env t) (ord
 order-of-returns t c =
     let s = c .before .before .before .before .before .before .before in
     let a = s .args in
-    let b = a .records .now in
-    let p = a .places .now in
-    let z = a .seen .now in
-    let o = held (a .order .now) (a .n) in
     let n = a .count in
-    let k = a .k in
-    order-leaf b p z o n k (s .pre .1) (c .before .before .entry .result) (c .before .before .entry .ensures n (s .pre .1 .stored) (s .pre .1 .known)) (c .if1 .taken)
+    order-leaf (s .pre .1) (c .before .before .entry .ensures n (s .pre .1 .stored) (s .pre .1 .known)) (c .if1 .taken)
 
 -- src/deep.rt:34:8
 order-of-slice-read-if2 : (t : ℕ) → order-of-lts.Need-slice-read-if2 (order-of-env t) (order-of-at t) order-of.Post order-of-Inv-loop order-of-μ-loop
@@ -69,27 +64,15 @@ order-of-slice-read-if2 t c =
 order-of-returns-2 : (t : ℕ) → order-of-lts.Need-returns-2 (order-of-env t) (order-of-at t) order-of.Post order-of-Inv-loop order-of-μ-loop
 order-of-returns-2 t c =
     let s = c .before .before .before .before .before .before .before .before .before in
-    let a = s .args in
-    let b = a .records .now in
-    let p = a .places .now in
-    let z = a .seen .now in
-    let o = held (a .order .now) (a .n) in
-    let n = a .count in
-    let k = a .k in
-    order-noted b p z o n k (s .pre .1) (c .if2 .taken)
+    order-noted (s .pre .1) (c .if2 .taken)
 
 -- src/deep.rt:40:5
 order-of-loop-holds : (t : ℕ) → order-of-lts.Need-loop-holds (order-of-env t) (order-of-at t) order-of.Post order-of-Inv-loop order-of-μ-loop
 order-of-loop-holds t c =
     let s = c .before .before .before .before .before .before .before .before .before in
     let a = s .args in
-    let b = a .records .now in
-    let p = a .places .now in
-    let z = a .seen .now in
-    let o = held (a .order .now) (a .n) in
     let n = a .count in
-    let k = a .k in
-    order-start b p z o n k (s .pre .1) (c .before .before .before .before .entry .result) (c .before .before .before .before .entry .ensures n (s .pre .1 .stored) (s .pre .1 .known))
+    order-start (s .pre .1) (c .before .before .before .before .entry .ensures n (s .pre .1 .stored) (s .pre .1 .known))
 
 -- src/deep.rt:41:13
 order-of-u16-at-requires : (t : ℕ) → order-of-lts.Need-u16-at-requires (order-of-env t) (order-of-at t) order-of.Post order-of-Inv-loop order-of-μ-loop
@@ -100,15 +83,8 @@ order-of-u16-at-requires t c κs =
 order-of-order-of-requires : (t : ℕ) → order-of-lts.Need-order-of-requires (order-of-env t) (order-of-at t) order-of.Post order-of-Inv-loop order-of-μ-loop
 order-of-order-of-requires t c κs =
     let s = c .before .before .before .before .before .before .before .before .before .before .before .before .before .before in
-    let a = s .args in
-    let b = a .records .now in
-    let p = a .places .now in
-    let z = a .seen .now in
-    let o = held (a .order .now) (a .n) in
-    let n = a .count in
-    let k = a .k in
     let i = c .before .before .before .before .loop in
-    let q = order-asks b p z o n k (s .pre .1) (i .seen) (held (i .order) (i .m)) (i .at) (i .left) (i .inv) (c .before .before .before .loop-test .taken) (c .before .before .u16-at .result) (c .before .before .u16-at .ensures .0) in
+    let q = order-asks (s .pre .1) (i .inv) (c .before .before .before .loop-test .taken) (c .before .before .u16-at .ensures .0) in
     (omega (arith, s .pre .0, q .0), q .1)
 
 -- src/deep.rt:43:9
@@ -130,16 +106,9 @@ order-of-loop-less t c =
 order-of-loop-again : (t : ℕ) → order-of-lts.Need-loop-again (order-of-env t) (order-of-at t) order-of.Post order-of-Inv-loop order-of-μ-loop
 order-of-loop-again t c =
     let s = c .before .before .before .before .before .before .before .before .before .before .before .before .before .before .before .before .before .before .before in
-    let a = s .args in
-    let b = a .records .now in
-    let p = a .places .now in
-    let z = a .seen .now in
-    let o = held (a .order .now) (a .n) in
-    let n = a .count in
-    let k = a .k in
     let i = c .before .before .before .before .before .before .before .before .before .loop in
     let w = c .before .before .before .before .order-of in
-    order-more b p z o n k (s .pre .1) (i .seen) (held (i .order) (i .m)) (i .at) (i .left) (i .inv) (c .before .before .before .before .before .before .before .before .loop-test .taken) (c .before .before .before .before .before .before .before .u16-at .result) (c .before .before .before .before .before .before .before .u16-at .ensures .0) (w .last .1 .1 .0) (held (w .last .1 .1 .1 .0) (w .result)) (w .ensures) (w .kept .1 .1 .0) (w .kept .1 .1 .1 .0)
+    order-more (s .pre .1) (i .inv) (c .before .before .before .before .before .before .before .before .loop-test .taken) (c .before .before .before .before .before .before .before .u16-at .ensures .0) (w .ensures) (w .kept .1 .1 .0) (w .kept .1 .1 .1 .0)
 
 -- src/deep.rt:46:5
 order-of-slice-write-seen : (t : ℕ) → order-of-lts.Need-slice-write-seen (order-of-env t) (order-of-at t) order-of.Post order-of-Inv-loop order-of-μ-loop
@@ -155,43 +124,22 @@ order-of-cast-order t c =
 order-of-mul-order : (t : ℕ) → order-of-lts.Need-mul-order (order-of-env t) (order-of-at t) order-of.Post order-of-Inv-loop order-of-μ-loop
 order-of-mul-order t c =
     let s = c .before .before .before .before .before .before .before .before .before .before .before in
-    let a = s .args in
-    let b = a .records .now in
-    let p = a .places .now in
-    let z = a .seen .now in
-    let o = held (a .order .now) (a .n) in
-    let n = a .count in
-    let k = a .k in
     let i = c .before .loop in
-    omega (arith, order-free b p z o n k (s .pre .1) (i .seen) (held (i .order) (i .m)) (i .at) (i .left) (i .inv) (c .before .before .if2 .left), i .inv .wide, s .good .1 .1 .1 .0)
+    omega (arith, order-free (s .pre .1) (i .inv) (c .before .before .if2 .left), i .inv .wide, s .good .1 .1 .1 .0)
 
 -- src/deep.rt:47:5
 order-of-slice-write-order : (t : ℕ) → order-of-lts.Need-slice-write-order (order-of-env t) (order-of-at t) order-of.Post order-of-Inv-loop order-of-μ-loop
 order-of-slice-write-order t c =
     let s = c .before .before .before .before .before .before .before .before .before .before .before in
-    let a = s .args in
-    let b = a .records .now in
-    let p = a .places .now in
-    let z = a .seen .now in
-    let o = held (a .order .now) (a .n) in
-    let n = a .count in
-    let k = a .k in
     let i = c .before .loop in
-    order-free b p z o n k (s .pre .1) (i .seen) (held (i .order) (i .m)) (i .at) (i .left) (i .inv) (c .before .before .if2 .left)
+    order-free (s .pre .1) (i .inv) (c .before .before .if2 .left)
 
 -- src/deep.rt:48:5
 order-of-add-result : (t : ℕ) → order-of-lts.Need-add-result (order-of-env t) (order-of-at t) order-of.Post order-of-Inv-loop order-of-μ-loop
 order-of-add-result t c =
     let s = c .before .before .before .before .before .before .before .before .before .before .before in
-    let a = s .args in
-    let b = a .records .now in
-    let p = a .places .now in
-    let z = a .seen .now in
-    let o = held (a .order .now) (a .n) in
-    let n = a .count in
-    let k = a .k in
     let i = c .before .loop in
-    omega (arith, order-free b p z o n k (s .pre .1) (i .seen) (held (i .order) (i .m)) (i .at) (i .left) (i .inv) (c .before .before .if2 .left), i .inv .wide, s .good .1 .1 .1 .0)
+    omega (arith, order-free (s .pre .1) (i .inv) (c .before .before .if2 .left), i .inv .wide, s .good .1 .1 .1 .0)
 
 -- src/deep.rt:18:1
 order-of-same-length : (t : ℕ) → order-of-lts.Need-same-length (order-of-env t) (order-of-at t) order-of.Post order-of-Inv-loop order-of-μ-loop
@@ -207,15 +155,8 @@ order-of-same-length-2 t c =
 order-of-returns-3 : (t : ℕ) → order-of-lts.Need-returns-3 (order-of-env t) (order-of-at t) order-of.Post order-of-Inv-loop order-of-μ-loop
 order-of-returns-3 t c =
     let s = c .before .before .before .before .before .before .before .before .before .before .before in
-    let a = s .args in
-    let b = a .records .now in
-    let p = a .places .now in
-    let z = a .seen .now in
-    let o = held (a .order .now) (a .n) in
-    let n = a .count in
-    let k = a .k in
     let i = c .before .loop in
-    order-last b p z o n k (s .pre .1) (i .seen) (held (i .order) (i .m)) (i .at) (i .left) (i .inv) (c .before .before .if2 .left) (omega (arith, c .loop-test .left))
+    order-last (s .pre .1) (i .inv) (c .before .before .if2 .left) (omega (arith, c .loop-test .left))
 
 pub +order-of-spec : {M : Type 1} → statement M
 +order-of-spec = close μ-order-of λ t. order-of-lts.spec (order-of-env t) (order-of-at t) order-of.Post

@@ -22,15 +22,7 @@ returns c = c .before .before .before .before .before .before .before .before .a
 order-of-requires : tie.Need-order-of-requires
 order-of-requires c κs =
     let s = c .before .before .before .before .before .before .before .before .before .before .before .before in
-    let a = s .args in
-    let b = a .records .now in
-    let p = a .places .now in
-    let ix = a .index .now in
-    let n = a .count in
-    let u = a .used in
-    let l = a .images .now in
-    let k = a .k in
-    deep-order b p ix n u k l (s .pre .asks)
+    deep-order (s .pre .asks)
 
 slice-aggregate-apply-order : tie.Need-slice-aggregate-apply-order
 slice-aggregate-apply-order c = sym (c .before .before .before .before .before .before .before .order-of .kept .1 .1 .1 .0 ∙ length-replicate {A = ℕ} 4096 0)
@@ -39,17 +31,9 @@ apply-order-requires : tie.Need-apply-order-requires
 apply-order-requires c κs =
     let s = c .before .before .before .before .before .before .before .before .before .before .before .before .before .before .before .before .before .before .before .before in
     let a = s .args in
-    let b = a .records .now in
-    let p = a .places .now in
-    let ix = a .index .now in
     let ws = a .known .now in
-    let n = a .count in
-    let u = a .used in
-    let l = a .images .now in
-    let k = a .k in
     let t = c .before .before .before .before .before .before .before .order-of in
-    let o = held (t .last .1 .1 .1 .0) (t .result) in
-    deep-asks b p ix n u k l (s .pre .asks) (t .last .1 .1 .0) o (t .ensures) ws (s .pre .known)
+    deep-asks (s .pre .asks) (t .ensures) ws (s .pre .known)
 
 apply-sort-requires-2 : tie.Need-apply-sort-requires-2
 apply-sort-requires-2 c κs =
@@ -57,17 +41,14 @@ apply-sort-requires-2 c κs =
     let a = s .args in
     let b = a .records .now in
     let p = a .places .now in
-    let ix = a .index .now in
     let n = a .count in
     let u = a .used in
     let l = a .images .now in
-    let k = a .k in
     let t = c .before .before .before .before .before .before .before .before .before .before .before .before .before .before .before .before .before .before .before .before .before .before .before .order-of in
     let o = held (t .last .1 .1 .1 .0) (t .result) in
     let d = c .before .before .before .before .before .before .before .before .before .before .before .before .before .before .before .apply-order .last in
-    let v = c .before .before .before .before .before .done .given .0 in
     let w = subst (InOrderAre b p n u o l (d .0) (d .1 .0) (d .1 .1 .0) (d .1 .1 .1 .0)) (c .before .before .before .before .before .done .given .1) (c .before .before .before .before .before .before .before .before .before .before .before .before .before .before .before .apply-order .ensures) in
-    deep-last b p ix n u k l (s .pre .asks) (t .last .1 .1 .0) o (t .ensures) (d .0) (d .1 .0) (d .1 .1 .0) (d .1 .1 .1 .0) (v .0) (v .1 .0) w
+    deep-last (s .pre .asks) (t .ensures) w
 
 same-length-5 : tie.Need-same-length-5
 same-length-5 c = c .before .before .before .before .before .before .before .before .apply-sort2 .kept .0 ∙ c .before .before .before .before .before .before .before .before .before .before .before .before .before .before .before .before .before .before .before .before .before .before .before .before .apply-order .kept .0
@@ -87,18 +68,15 @@ returns-2 c =
     let a = s .args in
     let b = a .records .now in
     let p = a .places .now in
-    let ix = a .index .now in
     let n = a .count in
     let u = a .used in
     let l = a .images .now in
-    let k = a .k in
     let t = c .before .before .before .before .before .before .before .before .before .before .before .before .before .before .before .before .before .before .before .before .before .before .before .before .before .before .before .before .before .before .before .before .order-of in
     let o = held (t .last .1 .1 .1 .0) (t .result) in
     let d = c .before .before .before .before .before .before .before .before .before .before .before .before .before .before .before .before .before .before .before .before .before .before .before .before .apply-order .last in
-    let v = c .before .before .before .before .before .before .before .before .before .before .before .before .before .before .done .given .0 in
     let w = subst (InOrderAre b p n u o l (d .0) (d .1 .0) (d .1 .1 .0) (d .1 .1 .1 .0)) (c .before .before .before .before .before .before .before .before .before .before .before .before .before .before .done .given .1) (c .before .before .before .before .before .before .before .before .before .before .before .before .before .before .before .before .before .before .before .before .before .before .before .before .apply-order .ensures) in
     let e = c .before .before .before .before .before .before .before .before .apply-sort2 .last in
-    deep-is b p ix n u k l (s .pre .asks) (t .last .1 .1 .0) o (t .ensures) (d .0) (d .1 .0) (d .1 .1 .0) (d .1 .1 .1 .0) (v .0) (v .1 .0) w (e .0) (e .1 .0) (e .1 .1 .0) (e .1 .1 .1 .0) (c .before .before .before .before .before .before .before .before .apply-sort2 .result) (c .before .before .before .before .before .before .before .before .apply-sort2 .ensures)
+    deep-is (s .pre .asks) (t .ensures) w (e .0) (e .1 .0) (e .1 .1 .0) (e .1 .1 .1 .0) (c .before .before .before .before .before .before .before .before .apply-sort2 .result) (c .before .before .before .before .before .before .before .before .apply-sort2 .ensures)
 
 returns-3 : tie.Need-returns-3
 returns-3 c =
@@ -106,17 +84,14 @@ returns-3 c =
     let a = s .args in
     let b = a .records .now in
     let p = a .places .now in
-    let ix = a .index .now in
     let n = a .count in
     let u = a .used in
     let l = a .images .now in
-    let k = a .k in
     let t = c .before .before .before .before .before .before .before .before .before .before .before .before .before .before .before .before .before .before .before .order-of in
     let o = held (t .last .1 .1 .1 .0) (t .result) in
     let d = c .before .before .before .before .before .before .before .before .before .before .before .apply-order .last in
-    let v = c .before .done2 .given .0 in
     let w = subst (InOrderAre b p n u o l (d .0) (d .1 .0) (d .1 .1 .0) (d .1 .1 .1 .0)) (c .before .done2 .given .1) (c .before .before .before .before .before .before .before .before .before .before .before .apply-order .ensures) in
-    deep-stuck b p ix n u k l (s .pre .asks) (t .last .1 .1 .0) o (t .ensures) (d .0) (d .1 .0) (d .1 .1 .0) (v .0) (v .1 .0) w
+    deep-stuck (s .pre .asks) (t .ensures) w
 
 pub apply-deep-spec : {M : Type 1} → statement M
 apply-deep-spec = tie.close (tie.spec size-at-requires apply-sort-requires (λ c. search needs) (λ c. search needs) (λ c. search needs) (λ c. search needs) returns (λ c. search needs) (λ c. search needs) order-of-requires slice-aggregate-apply-order apply-order-requires (λ c. search needs) apply-sort-requires-2 (λ c. search needs) same-length-5 same-length-6 same-length-7 same-length-8 returns-2 (λ c. search needs) (λ c. search needs) (λ c. search needs) (λ c. search needs) returns-3)

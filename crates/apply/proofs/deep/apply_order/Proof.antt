@@ -19,15 +19,7 @@ abbrev μ-loop : tie.MeasureT-loop
 loop-holds : tie.Need-loop-holds Inv-loop μ-loop
 loop-holds c =
     let s = c .before .before .before .before .before .before in
-    let a = s .args in
-    let b = a .records .now in
-    let p = a .places .now in
-    let ix = a .index .now in
-    let ws = a .known .now in
-    let n = a .count in
-    let u = a .used in
-    let l = a .images .now in
-    in-order-start b p ix ws n u (held (a .order .now) (a .many)) l (s .pre)
+    in-order-start (s .pre)
 
 mul-k : tie.Need-mul-k Inv-loop μ-loop
 mul-k c = let s = c .before .before .before .before .before .before .before .before in omega (arith, c .loop-test .taken, s .pre .many, s .good .1 .1 .1 .1 .1 .1 .0)
@@ -41,17 +33,8 @@ cast-k c = omega (arith, c .shared-slice-known3 .given (c .before .before .loop 
 apply-sort-requires : tie.Need-apply-sort-requires Inv-loop μ-loop
 apply-sort-requires c κs =
     let s = c .before .before .before .before .before .before .before .before .before .before .before .before .before in
-    let a = s .args in
-    let b = a .records .now in
-    let p = a .places .now in
-    let ix = a .index .now in
-    let ws = a .known .now in
-    let n = a .count in
-    let u = a .used in
-    let l = a .images .now in
-    let o = held (a .order .now) (a .many) in
     let i = c .before .before .before .before .before .before .loop in
-    in-order-asks b p ix ws n u o l (s .pre) (i .records) (i .places) (i .index) (i .known) (i .n) (i .u) (i .j) (i .inv) (c .before .before .before .before .before .loop-test .taken)
+    in-order-asks (s .pre) (i .inv) (c .before .before .before .before .before .loop-test .taken)
 
 same-length : tie.Need-same-length Inv-loop μ-loop
 same-length c = let i = c .before .before .before .before .before .before .before .before .before .before .before .before .before .before .before .before .before .before .loop in c .before .before .before .before .before .before .before .before .before .before .before .apply-sort .kept .0 ∙ i .inv .along .kept .long
@@ -69,19 +52,12 @@ returns : tie.Need-returns Inv-loop μ-loop
 returns c =
     let s = c .before .before .before .before .before .before .before .before .before .before .before .before .before .before .before .before .before .before .before .before .before .before .before .before .before in
     let a = s .args in
-    let b = a .records .now in
-    let p = a .places .now in
-    let ix = a .index .now in
-    let ws = a .known .now in
-    let n = a .count in
-    let u = a .used in
     let l = a .images .now in
     let o = held (a .order .now) (a .many) in
     let i = c .before .before .before .before .before .before .before .before .before .before .before .before .before .before .before .before .before .before .loop in
     let d = c .before .before .before .before .before .before .before .before .before .before .before .apply-sort .last in
-    let v = c .before .made2 .given .0 in
     let w = subst (KnownIs (i .records) (i .places) (i .n) (i .u) (getD (o .list) (i .j) 0) l (d .0) (d .1 .0) (d .1 .1 .0) (d .1 .1 .1 .0)) (c .before .made2 .given .1) (c .before .before .before .before .before .before .before .before .before .before .before .apply-sort .ensures) in
-    in-order-halted b p ix ws n u o l (s .pre) (i .records) (i .places) (i .index) (i .known) (i .n) (i .u) (i .j) (i .inv) (c .before .before .before .before .before .before .before .before .before .before .before .before .before .before .before .before .before .loop-test .taken) (d .0) (d .1 .0) (d .1 .1 .0) (v .0) (v .1 .0) w
+    in-order-halted (s .pre) (i .inv) (c .before .before .before .before .before .before .before .before .before .before .before .before .before .before .before .before .before .loop-test .taken) w
 
 add-j : tie.Need-add-j Inv-loop μ-loop
 add-j c = let s = c .before .before .before .before .before .before .before .before .before .before .before .before .before .before .before .before .before .before .before .before .before .before .before .before .before in omega (arith, c .before .before .before .before .before .before .before .before .before .before .before .before .before .before .before .before .before .loop-test .taken, s .pre .many, s .good .1 .1 .1 .1 .1 .1 .0)
@@ -93,19 +69,12 @@ loop-again : tie.Need-loop-again Inv-loop μ-loop
 loop-again c =
     let s = c .before .before .before .before .before .before .before .before .before .before .before .before .before .before .before .before .before .before .before .before .before .before .before .before .before in
     let a = s .args in
-    let b = a .records .now in
-    let p = a .places .now in
-    let ix = a .index .now in
-    let ws = a .known .now in
-    let n = a .count in
-    let u = a .used in
     let l = a .images .now in
     let o = held (a .order .now) (a .many) in
     let i = c .before .before .before .before .before .before .before .before .before .before .before .before .before .before .before .before .before .before .loop in
     let d = c .before .before .before .before .before .before .before .before .before .before .before .apply-sort .last in
-    let v = c .before .made .given .0 in
     let w = subst (KnownIs (i .records) (i .places) (i .n) (i .u) (getD (o .list) (i .j) 0) l (d .0) (d .1 .0) (d .1 .1 .0) (d .1 .1 .1 .0)) (c .before .made .given .1) (c .before .before .before .before .before .before .before .before .before .before .before .apply-sort .ensures) in
-    in-order-more b p ix ws n u o l (s .pre) (i .records) (i .places) (i .index) (i .known) (i .n) (i .u) (i .j) (i .inv) (c .before .before .before .before .before .before .before .before .before .before .before .before .before .before .before .before .before .loop-test .taken) (d .0) (d .1 .0) (d .1 .1 .0) (d .1 .1 .1 .0) (v .0) (v .1 .0) (v .1 .1 .0) (w .made) (w .known) (c .before .before .before .before .before .before .before .before .before .before .before .apply-sort .kept .1 .1 .1 .0)
+    in-order-more (s .pre) (i .inv) (c .before .before .before .before .before .before .before .before .before .before .before .before .before .before .before .before .before .loop-test .taken) (d .1 .1 .1 .0) (w .made) (w .known) (c .before .before .before .before .before .before .before .before .before .before .before .apply-sort .kept .1 .1 .1 .0)
 
 same-length-5 : tie.Need-same-length-5 Inv-loop μ-loop
 same-length-5 c = let i = c .before .loop in i .inv .along .kept .long
@@ -122,17 +91,8 @@ same-length-8 c = let i = c .before .loop in i .inv .lasts
 returns-2 : tie.Need-returns-2 Inv-loop μ-loop
 returns-2 c =
     let s = c .before .before .before .before .before .before .before .before in
-    let a = s .args in
-    let b = a .records .now in
-    let p = a .places .now in
-    let ix = a .index .now in
-    let ws = a .known .now in
-    let n = a .count in
-    let u = a .used in
-    let l = a .images .now in
-    let o = held (a .order .now) (a .many) in
     let i = c .before .loop in
-    in-order-done b p ix ws n u o l (s .pre) (i .records) (i .places) (i .index) (i .known) (i .n) (i .u) (i .j) (i .inv) (c .loop-test .left)
+    in-order-done (s .pre) (i .inv) (c .loop-test .left)
 
 pub apply-order-spec : {M : Type 1} → statement M
 apply-order-spec = tie.close (tie.spec Inv-loop μ-loop loop-holds mul-k shared-slice-read-k cast-k apply-sort-requires (λ c. search needs) (λ c. search needs) same-length same-length-2 same-length-3 same-length-4 returns add-j loop-less loop-again same-length-5 same-length-6 same-length-7 same-length-8 returns-2)

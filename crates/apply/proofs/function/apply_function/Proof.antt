@@ -14,44 +14,17 @@ use Rattle.apply.proofs.function.apply_function.Tie as tie
 answer-sizes-requires : tie.Need-answer-sizes-requires
 answer-sizes-requires c κs =
     let s = c .before .before .before .before .before .before .before in
-    let a = s .args in
-    let b = a .records .now in
-    let p = a .places .now in
-    let ix = a .index .now in
-    let n = a .count in
-    let u = a .used in
-    let l = a .images .now in
-    let x = a .at in
-    let m = a .left in
-    function-sizes b p ix n u l x m (s .pre)
+    function-sizes (s .pre)
 
 returns : tie.Need-returns
 returns c =
     let s = c .before .before .before .before .before .before .before .before .before in
-    let a = s .args in
-    let b = a .records .now in
-    let p = a .places .now in
-    let ix = a .index .now in
-    let n = a .count in
-    let u = a .used in
-    let l = a .images .now in
-    let x = a .at in
-    let m = a .left in
-    (function-over b p ix n u l x m (s .pre) (c .before .answer-sizes .result) (c .before .answer-sizes .ensures) (c .if1 .taken), (refl, refl, refl))
+    (function-over (s .pre) (c .before .answer-sizes .result) (c .before .answer-sizes .ensures) (c .if1 .taken), (refl, refl, refl))
 
 make-function-requires : tie.Need-make-function-requires
 make-function-requires c κs =
     let s = c .before .before .before .before .before .before .before .before .before .before .before .before in
-    let a = s .args in
-    let b = a .records .now in
-    let p = a .places .now in
-    let ix = a .index .now in
-    let n = a .count in
-    let u = a .used in
-    let l = a .images .now in
-    let x = a .at in
-    let m = a .left in
-    function-fits b p ix n u l x m (s .pre) (c .before .before .before .before .answer-sizes .result) (c .before .before .before .before .answer-sizes .ensures) (c .before .before .before .if1 .left)
+    function-fits (s .pre) (c .before .before .before .before .answer-sizes .result) (c .before .before .before .before .answer-sizes .ensures) (c .before .before .before .if1 .left)
 
 undo-requires : tie.Need-undo-requires
 undo-requires c κs =
@@ -59,7 +32,6 @@ undo-requires c κs =
     let a = s .args in
     let b = a .records .now in
     let p = a .places .now in
-    let ix = a .index .now in
     let n = a .count in
     let u = a .used in
     let l = a .images .now in
@@ -67,8 +39,7 @@ undo-requires c κs =
     let m = a .left in
     let d = c .before .before .before .before .before .before .before .before .before .before .before .before .make-function .last in
     let w = subst (ReplacedIs b p n u (functionAt b p n l x m) (d .0) (d .1 .0) (d .1 .1 .0)) (c .before .before .before .before .made2 .given .1) (c .before .before .before .before .before .before .before .before .before .before .before .before .make-function .ensures) in
-    let v = c .before .before .before .before .made2 .given .0 in
-    undo-asks b p ix n u (s .pre .ready .good) (intern (functionAt b p n l x m) (storeOf b p n)) (d .0) (d .1 .0) (d .1 .1 .0) (v .0) (v .1 .0) w
+    undo-asks (s .pre .ready .good) w
 
 returns-2 : tie.Need-returns-2
 returns-2 c =
@@ -76,7 +47,6 @@ returns-2 c =
     let a = s .args in
     let b = a .records .now in
     let p = a .places .now in
-    let ix = a .index .now in
     let n = a .count in
     let u = a .used in
     let l = a .images .now in
@@ -84,7 +54,7 @@ returns-2 c =
     let m = a .left in
     let d = c .before .before .before .before .before .before .before .before .before .make-function .last in
     let w = subst (ReplacedIs b p n u (functionAt b p n l x m) (d .0) (d .1 .0) (d .1 .1 .0)) (c .before .made .given .1) (c .before .before .before .before .before .before .before .before .before .make-function .ensures) in
-    record { small = function-fits b p ix n u l x m (s .pre) (c .before .before .before .before .before .before .before .before .before .before .before .before .before .before .answer-sizes .result) (c .before .before .before .before .before .before .before .before .before .before .before .before .before .before .answer-sizes .ensures) (c .before .before .before .before .before .before .before .before .before .before .before .before .before .if1 .left) .small; made = w }
+    record { small = function-fits (s .pre) (c .before .before .before .before .before .before .before .before .before .before .before .before .before .before .answer-sizes .result) (c .before .before .before .before .before .before .before .before .before .before .before .before .before .before .answer-sizes .ensures) (c .before .before .before .before .before .before .before .before .before .before .before .before .before .if1 .left) .small; made = w }
 
 returns-3 : tie.Need-returns-3
 returns-3 c =
@@ -92,7 +62,6 @@ returns-3 c =
     let a = s .args in
     let b = a .records .now in
     let p = a .places .now in
-    let ix = a .index .now in
     let n = a .count in
     let u = a .used in
     let l = a .images .now in
@@ -100,9 +69,7 @@ returns-3 c =
     let m = a .left in
     let d = c .before .before .before .before .before .before .before .before .before .before .before .before .before .before .before .before .before .before .before .make-function .last in
     let w = subst (ReplacedIs b p n u (functionAt b p n l x m) (d .0) (d .1 .0) (d .1 .1 .0)) (c .before .before .before .before .before .before .before .before .before .before .before .made2 .given .1) (c .before .before .before .before .before .before .before .before .before .before .before .before .before .before .before .before .before .before .before .make-function .ensures) in
-    let v = c .before .before .before .before .before .before .before .before .before .before .before .made2 .given .0 in
-    let e = c .before .before .before .before .before .before .undo .last in
-    (function-fits b p ix n u l x m (s .pre) (c .before .before .before .before .before .before .before .before .before .before .before .before .before .before .before .before .before .before .before .before .before .before .before .before .answer-sizes .result) (c .before .before .before .before .before .before .before .before .before .before .before .before .before .before .before .before .before .before .before .before .before .before .before .before .answer-sizes .ensures) (c .before .before .before .before .before .before .before .before .before .before .before .before .before .before .before .before .before .before .before .before .before .before .before .if1 .left) .small, w .full, undo-back b p ix n u (s .pre .ready .good) (intern (functionAt b p n l x m) (storeOf b p n)) (d .0) (d .1 .0) (d .1 .1 .0) (v .0) (v .1 .0) w (e .0) (e .1 .0) (e .1 .1 .0) (c .before .before .before .before .before .before .undo .result) (c .before .before .before .before .before .before .undo .ensures))
+    (function-fits (s .pre) (c .before .before .before .before .before .before .before .before .before .before .before .before .before .before .before .before .before .before .before .before .before .before .before .before .answer-sizes .result) (c .before .before .before .before .before .before .before .before .before .before .before .before .before .before .before .before .before .before .before .before .before .before .before .before .answer-sizes .ensures) (c .before .before .before .before .before .before .before .before .before .before .before .before .before .before .before .before .before .before .before .before .before .before .before .if1 .left) .small, w .full, undo-back (s .pre .ready .good) w (c .before .before .before .before .before .before .undo .ensures))
 
 pub apply-function-spec : {M : Type 1} → statement M
 apply-function-spec = tie.close (tie.spec answer-sizes-requires (λ c. search needs) (λ c. search needs) (λ c. search needs) returns make-function-requires (λ c. search needs) (λ c. search needs) undo-requires (λ c. search needs) (λ c. search needs) (λ c. search needs) returns-2 (λ c. search needs) (λ c. search needs) (λ c. search needs) returns-3)

@@ -18,13 +18,7 @@ use Rattle.apply.proofs.function.make_function.Tie as tie
 read-numbers-requires : tie.Need-read-numbers-requires
 read-numbers-requires c κs =
     let s = c .before .before .before .before .before .before in
-    let a = s .args in
-    let b = a .records .now in let p = a .places .now in
-    let ix = a .index .now in
-    let n = a .count in let u = a .used in
-    let l = a .images .now in
-    let x = a .at in let m = a .left in
-    (function-read b p ix n u l x m (s .pre .asks), length-replicate {A = ℕ} 64 0)
+    (function-read (s .pre .asks), length-replicate {A = ℕ} 64 0)
 
 slice-aggregate-make-answers : tie.Need-slice-aggregate-make-answers
 slice-aggregate-make-answers c = sym (c .before .before .before .before .before .read-numbers .ensures .long)
@@ -32,14 +26,7 @@ slice-aggregate-make-answers c = sym (c .before .before .before .before .before 
 make-answers-requires : tie.Need-make-answers-requires
 make-answers-requires c κs =
     let s = c .before .before .before .before .before .before .before .before .before .before .before .before in
-    let a = s .args in
-    let b = a .records .now in let p = a .places .now in
-    let ix = a .index .now in
-    let n = a .count in let u = a .used in
-    let l = a .images .now in
-    let x = a .at in let m = a .left in
-    let o = held (c .before .before .before .before .before .read-numbers .last .1 .1 .1 .0) m in
-    function-parts b p ix n u l x m (s .pre) o (c .before .before .before .before .before .read-numbers .ensures)
+    function-parts (s .pre) (c .before .before .before .before .before .read-numbers .ensures)
 
 slice-aggregate-make : tie.Need-slice-aggregate-make
 slice-aggregate-make c = sym (c .before .before .before .before .before .before .before .before .before .before .before .before .before .before .make-answers .kept .1 .1 .1 .0 ∙ c .before .before .before .before .before .before .before .before .before .before .before .before .before .before .before .before .before .before .before .before .read-numbers .ensures .long)
@@ -49,17 +36,15 @@ make-requires c κs =
     let s = c .before .before .before .before .before .before .before .before .before .before .before .before .before .before .before .before .before .before .before .before .before .before .before .before .before .before .before .before in
     let a = s .args in
     let b = a .records .now in let p = a .places .now in
-    let ix = a .index .now in
     let n = a .count in let u = a .used in
     let l = a .images .now in
-    let x = a .at in let m = a .left in
+    let m = a .left in
     let o = held (c .before .before .before .before .before .before .before .before .before .before .before .before .before .before .before .before .before .before .before .before .before .read-numbers .last .1 .1 .1 .0) m in
     let d = c .before .before .before .before .before .before .before .before .before .before .before .before .before .before .before .make-answers .last in
     let r = held (d .1 .1 .1 .0) m in
-    let f = c .before .before .before .before .before .before .done .given .0 in
     let w = subst (PartsAre b p n u o l (d .0) (d .1 .0) (d .1 .1 .0) r) (c .before .before .before .before .before .before .done .given .1) (c .before .before .before .before .before .before .before .before .before .before .before .before .before .before .before .make-answers .ensures) in
     let none = held (replicate 64 0) 0 in
-    function-make b p ix n u l x m (s .pre) o (c .before .before .before .before .before .before .before .before .before .before .before .before .before .before .before .before .before .before .before .before .before .read-numbers .ensures) (d .0) (d .1 .0) (d .1 .1 .0) r (f .0) (f .1 .0) w none (none-has (replicate 64 0) (length-replicate {A = ℕ} 64 0))
+    function-make (s .pre) (c .before .before .before .before .before .before .before .before .before .before .before .before .before .before .before .before .before .before .before .before .before .read-numbers .ensures) w (none-has (replicate 64 0) (length-replicate {A = ℕ} 64 0))
 
 same-length : tie.Need-same-length
 same-length c = c .before .before .before .before .before .before .before .before .before .make .kept .0 ∙ c .before .before .before .before .before .before .before .before .before .before .before .before .before .before .before .before .before .before .before .before .before .before .before .before .before .make-answers .kept .0
@@ -75,10 +60,9 @@ returns c =
     let s = c .before .before .before .before .before .before .before .before .before .before .before .before .before .before .before .before .before .before .before .before .before .before .before .before .before .before .before .before .before .before .before .before .before .before .before .before .before .before in
     let a = s .args in
     let b = a .records .now in let p = a .places .now in
-    let ix = a .index .now in
     let n = a .count in let u = a .used in
     let l = a .images .now in
-    let x = a .at in let m = a .left in
+    let m = a .left in
     let o = held (c .before .before .before .before .before .before .before .before .before .before .before .before .before .before .before .before .before .before .before .before .before .before .before .before .before .before .before .before .before .before .before .read-numbers .last .1 .1 .1 .0) m in
     let d = c .before .before .before .before .before .before .before .before .before .before .before .before .before .before .before .before .before .before .before .before .before .before .before .before .before .make-answers .last in
     let r = held (d .1 .1 .1 .0) m in
@@ -86,8 +70,7 @@ returns c =
     let w = subst (PartsAre b p n u o l (d .0) (d .1 .0) (d .1 .1 .0) r) (c .before .before .before .before .before .before .before .before .before .before .before .before .before .before .before .before .done .given .1) (c .before .before .before .before .before .before .before .before .before .before .before .before .before .before .before .before .before .before .before .before .before .before .before .before .before .make-answers .ensures) in
     let none = held (replicate 64 0) 0 in
     let y = c .before .before .before .before .before .before .before .before .before .make .last in
-    let v = c .before .made .given .0 in
-    function-made b p ix n u l x m (s .pre) o (c .before .before .before .before .before .before .before .before .before .before .before .before .before .before .before .before .before .before .before .before .before .before .before .before .before .before .before .before .before .before .before .read-numbers .ensures) (d .0) (d .1 .0) (d .1 .1 .0) r (f .0) (f .1 .0) w none (none-has (replicate 64 0) (length-replicate {A = ℕ} 64 0)) (y .0) (y .1 .0) (y .1 .1 .0) (v .0) (v .1 .0) (v .1 .1 .0) (subst (MadeIs (d .0) (d .1 .0) (d .1 .1 .0) (f .0) (f .1 .0) (sortOf (storeOf (d .0) (d .1 .0) (f .0)) (fieldsIn 0 0 0 r none)) (y .0) (y .1 .0) (y .1 .1 .0)) (c .before .made .given .1) (c .before .before .before .before .before .before .before .before .before .make .ensures))
+    function-made (s .pre) (c .before .before .before .before .before .before .before .before .before .before .before .before .before .before .before .before .before .before .before .before .before .before .before .before .before .before .before .before .before .before .before .read-numbers .ensures) w (none-has (replicate 64 0) (length-replicate {A = ℕ} 64 0)) (subst (MadeIs (d .0) (d .1 .0) (d .1 .1 .0) (f .0) (f .1 .0) (sortOf (storeOf (d .0) (d .1 .0) (f .0)) (fieldsIn 0 0 0 r none)) (y .0) (y .1 .0) (y .1 .1 .0)) (c .before .made .given .1) (c .before .before .before .before .before .before .before .before .before .make .ensures))
 
 same-length-4 : tie.Need-same-length-4
 same-length-4 c = c .before .before .before .before .before .before .before .before .make .kept .0 ∙ c .before .before .before .before .before .before .before .before .before .before .before .before .before .before .before .before .before .before .before .before .before .before .before .before .make-answers .kept .0
@@ -103,10 +86,9 @@ returns-2 c =
     let s = c .before .before .before .before .before .before .before .before .before .before .before .before .before .before .before .before .before .before .before .before .before .before .before .before .before .before .before .before .before .before .before .before .before .before .before .before .before in
     let a = s .args in
     let b = a .records .now in let p = a .places .now in
-    let ix = a .index .now in
     let n = a .count in let u = a .used in
     let l = a .images .now in
-    let x = a .at in let m = a .left in
+    let m = a .left in
     let o = held (c .before .before .before .before .before .before .before .before .before .before .before .before .before .before .before .before .before .before .before .before .before .before .before .before .before .before .before .before .before .before .read-numbers .last .1 .1 .1 .0) m in
     let d = c .before .before .before .before .before .before .before .before .before .before .before .before .before .before .before .before .before .before .before .before .before .before .before .before .make-answers .last in
     let r = held (d .1 .1 .1 .0) m in
@@ -114,7 +96,7 @@ returns-2 c =
     let w = subst (PartsAre b p n u o l (d .0) (d .1 .0) (d .1 .1 .0) r) (c .before .before .before .before .before .before .before .before .before .before .before .before .before .before .before .done .given .1) (c .before .before .before .before .before .before .before .before .before .before .before .before .before .before .before .before .before .before .before .before .before .before .before .before .make-answers .ensures) in
     let none = held (replicate 64 0) 0 in
     let y = c .before .before .before .before .before .before .before .before .make .last in
-    function-full b p ix n u l x m (s .pre) o (c .before .before .before .before .before .before .before .before .before .before .before .before .before .before .before .before .before .before .before .before .before .before .before .before .before .before .before .before .before .before .read-numbers .ensures) (d .0) (d .1 .0) (d .1 .1 .0) r (f .0) (f .1 .0) w none (none-has (replicate 64 0) (length-replicate {A = ℕ} 64 0)) (y .0) (y .1 .0) (y .1 .1 .0) (subst (MadeIs (d .0) (d .1 .0) (d .1 .1 .0) (f .0) (f .1 .0) (sortOf (storeOf (d .0) (d .1 .0) (f .0)) (fieldsIn 0 0 0 r none)) (y .0) (y .1 .0) (y .1 .1 .0)) (c .enum-told .given .1) (c .before .before .before .before .before .before .before .before .make .ensures))
+    function-full (s .pre) (c .before .before .before .before .before .before .before .before .before .before .before .before .before .before .before .before .before .before .before .before .before .before .before .before .before .before .before .before .before .before .read-numbers .ensures) w (none-has (replicate 64 0) (length-replicate {A = ℕ} 64 0)) (y .0) (y .1 .0) (y .1 .1 .0) (subst (MadeIs (d .0) (d .1 .0) (d .1 .1 .0) (f .0) (f .1 .0) (sortOf (storeOf (d .0) (d .1 .0) (f .0)) (fieldsIn 0 0 0 r none)) (y .0) (y .1 .0) (y .1 .1 .0)) (c .enum-told .given .1) (c .before .before .before .before .before .before .before .before .make .ensures))
 
 same-length-7 : tie.Need-same-length-7
 same-length-7 c = c .before .before .before .before .before .before .before .before .before .before .make-answers .kept .0
@@ -130,16 +112,14 @@ returns-3 c =
     let s = c .before .before .before .before .before .before .before .before .before .before .before .before .before .before .before .before .before .before .before .before .before .before .before in
     let a = s .args in
     let b = a .records .now in let p = a .places .now in
-    let ix = a .index .now in
     let n = a .count in let u = a .used in
     let l = a .images .now in
-    let x = a .at in let m = a .left in
+    let m = a .left in
     let o = held (c .before .before .before .before .before .before .before .before .before .before .before .before .before .before .before .before .read-numbers .last .1 .1 .1 .0) m in
     let d = c .before .before .before .before .before .before .before .before .before .before .make-answers .last in
     let r = held (d .1 .1 .1 .0) m in
-    let f = c .before .done2 .given .0 in
     let w = subst (PartsAre b p n u o l (d .0) (d .1 .0) (d .1 .1 .0) r) (c .before .done2 .given .1) (c .before .before .before .before .before .before .before .before .before .before .make-answers .ensures) in
-    function-stuck b p ix n u l x m (s .pre) o (c .before .before .before .before .before .before .before .before .before .before .before .before .before .before .before .before .read-numbers .ensures) (d .0) (d .1 .0) (d .1 .1 .0) (f .0) (f .1 .0) w
+    function-stuck (s .pre) (c .before .before .before .before .before .before .before .before .before .before .before .before .before .before .before .before .read-numbers .ensures) w
 
 pub make-function-spec : {M : Type 1} → statement M
 make-function-spec = tie.close (tie.spec (λ c. search needs) read-numbers-requires slice-aggregate-make-answers make-answers-requires (λ c. search needs) slice-aggregate-make (λ c. search needs) make-requires (λ c. search needs) (λ c. search needs) (λ c. search needs) same-length same-length-2 same-length-3 returns same-length-4 same-length-5 same-length-6 returns-2 same-length-7 same-length-8 same-length-9 returns-3)

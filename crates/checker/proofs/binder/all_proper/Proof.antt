@@ -15,13 +15,7 @@ abbrev μ-loop : tie.MeasureT-loop
 loop-holds : tie.Need-loop-holds Inv-loop μ-loop
 loop-holds c =
     let s = c .before .before .before .before in
-    let q = s .args in
-    let b = q .records .now in
-    let p = q .places .now in
-    let n = q .count in
-    let z = q .sheet .now in
-    let tbl = q .table .now in
-    (omega arith, proper-none b p n z tbl (q .pairs) (q .n) (s .pre))
+    (omega arith, proper-none (s .pre))
 
 mul-u16-at : tie.Need-mul-u16-at Inv-loop μ-loop
 mul-u16-at c =
@@ -49,14 +43,8 @@ mul-k c = omega (arith, c .u16-at .ensures .1)
 shared-slice-read-k : tie.Need-shared-slice-read-k Inv-loop μ-loop
 shared-slice-read-k c =
     let s = c .before .before .before .before .before .before .before .before in
-    let q = s .args in
-    let b = q .records .now in
-    let p = q .places .now in
-    let n = q .count in
-    let z = q .sheet .now in
-    let tbl = q .table .now in
     let l = c .before .before .before .loop in
-    pair-in b p n z tbl (q .pairs) (q .n) (s .pre) (l .i) (c .before .before .loop-test .taken) (c .before .u16-at .result) (c .before .u16-at .ensures .0)
+    pair-in (s .pre) (l .i) (c .before .before .loop-test .taken) (c .before .u16-at .ensures .0)
 
 cast-k : tie.Need-cast-k Inv-loop μ-loop
 cast-k c = omega (arith, c .shared-slice-known5 .given (c .before .u16-at .result))
@@ -64,14 +52,8 @@ cast-k c = omega (arith, c .shared-slice-known5 .given (c .before .u16-at .resul
 is-proper-requires : tie.Need-is-proper-requires Inv-loop μ-loop
 is-proper-requires c κs =
     let s = c .before .before .before .before .before .before .before .before in
-    let q = s .args in
-    let b = q .records .now in
-    let p = q .places .now in
-    let n = q .count in
-    let z = q .sheet .now in
-    let tbl = q .table .now in
     let l = c .before .before .before .loop in
-    pair-asks b p n z tbl (q .pairs) (q .n) (s .pre) (l .i) (c .before .before .loop-test .taken) (c .before .u16-at .result) (c .before .u16-at .ensures .0)
+    pair-asks (s .pre) (l .i) (c .before .before .loop-test .taken) (c .before .u16-at .ensures .0)
 
 add-i : tie.Need-add-i Inv-loop μ-loop
 add-i c =
@@ -84,40 +66,22 @@ loop-less c = omega (arith, c .before .before .before .before .loop-test .taken)
 loop-again : tie.Need-loop-again Inv-loop μ-loop
 loop-again c =
     let s = c .before .before .before .before .before .before .before .before .before .before in
-    let q = s .args in
-    let b = q .records .now in
-    let p = q .places .now in
-    let n = q .count in
-    let z = q .sheet .now in
-    let tbl = q .table .now in
     let l = c .before .before .before .before .before .loop in
     let w = l .inv in
-    (omega (arith, c .before .before .before .before .loop-test .taken), proper-more b p n z tbl (q .pairs) (q .n) (s .pre) (l .i) (c .before .before .before .before .loop-test .taken) (c .before .before .before .u16-at .result) (c .before .before .before .u16-at .ensures .0) (c .before .is-proper .result) (c .before .is-proper .ensures) (c .if1 .taken) (w .1))
+    (omega (arith, c .before .before .before .before .loop-test .taken), proper-more (s .pre) (l .i) (c .before .before .before .before .loop-test .taken) (c .before .before .before .u16-at .ensures .0) (c .before .is-proper .ensures) (c .if1 .taken) (w .1))
 
 returns : tie.Need-returns Inv-loop μ-loop
 returns c =
     let s = c .before .before .before .before .before .before .before .before .before .before in
-    let q = s .args in
-    let b = q .records .now in
-    let p = q .places .now in
-    let n = q .count in
-    let z = q .sheet .now in
-    let tbl = q .table .now in
     let l = c .before .before .before .before .before .loop in
-    proper-no b p n z tbl (q .pairs) (q .n) (s .pre) (l .i) (c .before .before .before .before .loop-test .taken) (c .before .before .before .u16-at .result) (c .before .before .before .u16-at .ensures .0) (c .before .is-proper .result) (c .before .is-proper .ensures) (c .if1 .left)
+    proper-no (s .pre) (l .i) (c .before .before .before .before .loop-test .taken) (c .before .before .before .u16-at .ensures .0) (c .before .is-proper .ensures) (c .if1 .left)
 
 returns-2 : tie.Need-returns-2 Inv-loop μ-loop
 returns-2 c =
     let s = c .before .before .before .before .before .before in
-    let q = s .args in
-    let b = q .records .now in
-    let p = q .places .now in
-    let n = q .count in
-    let z = q .sheet .now in
-    let tbl = q .table .now in
     let l = c .before .loop in
     let w = l .inv in
-    proper-yes b p n z tbl (q .pairs) (q .n) (s .pre) (l .i) (c .loop-test .left) (w .1)
+    proper-yes (s .pre) (l .i) (c .loop-test .left) (w .1)
 
 pub all-proper-spec : {M : Type 1} → statement M
 all-proper-spec = tie.close (tie.spec Inv-loop μ-loop loop-holds mul-u16-at add-u16-at add-u16-at-2 u16-at-requires mul-k shared-slice-read-k cast-k is-proper-requires add-i loop-less loop-again returns returns-2)

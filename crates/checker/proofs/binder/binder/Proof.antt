@@ -22,15 +22,7 @@ bound-body-requires : tie.Need-bound-body-requires
 bound-body-requires c κs =
     let s = c .before .before .before .before .before .before .before .before .before .before .before .before .before .before .before .before in
     let q = s .args in
-    let b = q .records .now in
-    let p = q .places .now in
-    let ix = q .index .now in
-    let n = q .count in
-    let u = q .used in
-    let z = q .sheet .now in
-    let tbl = q .table .now in
-    let a = q .args .now in
-    body-asks b p ix n u z tbl (q .pairs) (q .n) a (s .pre) (q .number) (c .before .before .before .before .before .before .before .all-proper .result) (c .before .before .before .before .before .before .before .all-proper .ensures) (c .before .before .before .before .before .before .if1 .taken) (c .before .before .before .before .u16-at .result) (c .before .before .before .before .u16-at .ensures .0)
+    body-asks (s .pre) (q .number) (c .before .before .before .before .before .before .before .all-proper .ensures) (c .before .before .before .before .before .before .if1 .taken) (c .before .before .before .before .u16-at .ensures .0)
 
 returns : tie.Need-returns
 returns c =
@@ -38,13 +30,8 @@ returns c =
     let q = s .args in
     let b = q .records .now in
     let p = q .places .now in
-    let ix = q .index .now in
     let n = q .count in
-    let u = q .used in
-    let z = q .sheet .now in
-    let tbl = q .table .now in
-    let a = q .args .now in
-    judged-as {b = b} {p = p} {n = n} (binder-is b p ix n u z tbl (q .pairs) (q .n) a (s .pre) (q .number) (c .before .before .before .before .before .before .before .before .before .before .before .before .before .before .before .before .all-proper .result) (c .before .before .before .before .before .before .before .before .before .before .before .before .before .before .before .before .all-proper .ensures) (c .before .before .before .before .before .before .before .before .before .before .before .before .before .before .before .if1 .taken) (c .before .before .before .before .before .before .before .before .before .before .before .before .before .u16-at .result) (c .before .before .before .before .before .before .before .before .before .before .before .before .before .u16-at .ensures .0)) (c .before .before .before .before .before .before .before .before .bound-body .ensures)
+    judged-as {b = b} {p = p} {n = n} (binder-is (s .pre) (q .number) (c .before .before .before .before .before .before .before .before .before .before .before .before .before .before .before .before .all-proper .ensures) (c .before .before .before .before .before .before .before .before .before .before .before .before .before .before .before .if1 .taken) (c .before .before .before .before .before .before .before .before .before .before .before .before .before .u16-at .ensures .0)) (c .before .before .before .before .before .before .before .before .bound-body .ensures)
 
 returns-2 : tie.Need-returns-2
 returns-2 c =
@@ -55,10 +42,7 @@ returns-2 c =
     let ix = q .index .now in
     let n = q .count in
     let u = q .used in
-    let z = q .sheet .now in
-    let tbl = q .table .now in
-    let a = q .args .now in
-    judged-as (binder-barred b p ix n u z tbl (q .pairs) (q .n) a (s .pre) (q .number) (c .before .before .all-proper .result) (c .before .before .all-proper .ensures) (c .before .if1 .left)) (answered-as (c .refuse .ensures) (answer-refused b p ix n u (s .pre .good) Barred))
+    judged-as (binder-barred (s .pre) (q .number) (c .before .before .all-proper .ensures) (c .before .if1 .left)) (answered-as (c .refuse .ensures) (answer-refused b p ix n u (s .pre .good) Barred))
 
 pub binder-spec : {M : Type 1} → statement M
 binder-spec = tie.close (tie.spec all-proper-requires u16-at-requires bound-body-requires (λ c. search needs) (λ c. search needs) (λ c. search needs) (λ c. search needs) returns (λ c κs. search needs) (λ c. search needs) (λ c. search needs) returns-2)

@@ -28,20 +28,13 @@ returns-2 c =
     let ix = q .index .now in
     let n = q .count in
     let u = q .used in
-    let z = q .sheet .now in
-    let tbl = q .table .now in
-    judged-as (bound-none b p n z tbl (q .pairs) (q .n) (s .pre .bound) (q .body) (s .pre .known) (q .number) (c .before .if2 .taken)) (answered-as (c .refuse .ensures) (answer-refused b p ix n u (s .pre .good) Count))
+    judged-as (bound-none (s .pre .bound) (q .body) (s .pre .known) (q .number) (c .before .if2 .taken)) (answered-as (c .refuse .ensures) (answer-refused b p ix n u (s .pre .good) Count))
 
 kind-at-requires : tie.Need-kind-at-requires
 kind-at-requires c κs =
     let s = c .before .before .before .before .before .before .before .before .before .before in
     let q = s .args in
-    let b = q .records .now in
-    let p = q .places .now in
-    let n = q .count in
-    let z = q .sheet .now in
-    let tbl = q .table .now in
-    body-entry b p n z tbl (q .pairs) (q .n) (s .pre .bound) (q .body) (s .pre .known) (q .number)
+    body-entry (s .pre .bound) (q .body) (s .pre .known) (q .number)
 
 returns-3 : tie.Need-returns-3
 returns-3 c =
@@ -52,23 +45,12 @@ returns-3 c =
     let ix = q .index .now in
     let n = q .count in
     let u = q .used in
-    let z = q .sheet .now in
-    let tbl = q .table .now in
-    judged-as (lambda-no b p n z tbl (q .pairs) (q .n) (s .pre .bound) (q .body) (s .pre .known) (q .number) (c .before .before .before .before .before .if2 .left) (c .before .before .kind-at .result) (c .before .before .kind-at .ensures) (c .before .before .before .before .before .before .if1 .left) (c .before .if3 .taken)) (answered-as (c .refuse2 .ensures) (answer-refused b p ix n u (s .pre .good) Misfit))
+    judged-as (lambda-no (s .pre .bound) (q .body) (s .pre .known) (q .number) (c .before .before .before .before .before .if2 .left) (c .before .before .kind-at .result) (c .before .before .kind-at .ensures) (c .before .before .before .before .before .before .if1 .left) (c .before .if3 .taken)) (answered-as (c .refuse2 .ensures) (answer-refused b p ix n u (s .pre .good) Misfit))
 
 lambda-requires : tie.Need-lambda-requires
 lambda-requires c κs =
     let s = c .before .before .before .before .before .before .before .before .before .before .before .before .before .before .before .before in
-    let q = s .args in
-    let b = q .records .now in
-    let p = q .places .now in
-    let ix = q .index .now in
-    let n = q .count in
-    let u = q .used in
-    let z = q .sheet .now in
-    let tbl = q .table .now in
-    let a = q .args .now in
-    lambda-asks b p ix n u z tbl (q .pairs) (q .n) a (q .body) (s .pre)
+    lambda-asks (s .pre)
 
 returns-4 : tie.Need-returns-4
 returns-4 c =
@@ -77,9 +59,7 @@ returns-4 c =
     let b = q .records .now in
     let p = q .places .now in
     let n = q .count in
-    let z = q .sheet .now in
-    let tbl = q .table .now in
-    judged-as {b = b} {p = p} {n = n} (lambda-yes b p n z tbl (q .pairs) (q .n) (s .pre .bound) (q .body) (s .pre .known) (q .number) (c .before .before .before .before .before .before .before .before .before .before .before .before .before .before .before .before .before .if2 .left) (c .before .before .before .before .before .before .before .before .before .before .before .before .before .before .kind-at .result) (c .before .before .before .before .before .before .before .before .before .before .before .before .before .before .kind-at .ensures) (c .before .before .before .before .before .before .before .before .before .before .before .before .before .before .before .before .before .before .if1 .left) (c .before .before .before .before .before .before .before .before .before .before .before .before .before .if3 .left)) (c .before .before .before .before .before .before .before .before .lambda .ensures)
+    judged-as {b = b} {p = p} {n = n} (lambda-yes (s .pre .bound) (q .body) (s .pre .known) (q .number) (c .before .before .before .before .before .before .before .before .before .before .before .before .before .before .before .before .before .if2 .left) (c .before .before .before .before .before .before .before .before .before .before .before .before .before .before .kind-at .result) (c .before .before .before .before .before .before .before .before .before .before .before .before .before .before .kind-at .ensures) (c .before .before .before .before .before .before .before .before .before .before .before .before .before .before .before .before .before .before .if1 .left) (c .before .before .before .before .before .before .before .before .before .before .before .before .before .if3 .left)) (c .before .before .before .before .before .before .before .before .lambda .ensures)
 
 pub bound-body-spec : {M : Type 1} → statement M
 bound-body-spec = tie.close (tie.spec quantified-requires (λ c. search needs) (λ c. search needs) returns (λ c κs. search needs) returns-2 kind-at-requires (λ c κs. search needs) (λ c. search needs) (λ c. search needs) returns-3 lambda-requires (λ c. search needs) (λ c. search needs) (λ c. search needs) (λ c. search needs) returns-4)

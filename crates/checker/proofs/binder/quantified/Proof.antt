@@ -17,20 +17,13 @@ returns c =
     let p = q .places .now in
     let n = q .count in
     let u = q .used in
-    let z = q .sheet .now in
-    let tbl = q .table .now in
-    λ ix g. judged-as (bound-none b p n z tbl (q .pairs) (q .n) (s .pre .bound) (q .body) (s .pre .known) (q .number) (c .before .if1 .taken)) (answered-as (c .refuse .ensures) (answer-refused b p ix n u g Count))
+    λ ix g. judged-as (bound-none (s .pre .bound) (q .body) (s .pre .known) (q .number) (c .before .if1 .taken)) (answered-as (c .refuse .ensures) (answer-refused b p ix n u g Count))
 
 kind-at-requires : tie.Need-kind-at-requires
 kind-at-requires c κs =
     let s = c .before .before .before .before .before .before in
     let q = s .args in
-    let b = q .records .now in
-    let p = q .places .now in
-    let n = q .count in
-    let z = q .sheet .now in
-    let tbl = q .table .now in
-    body-entry b p n z tbl (q .pairs) (q .n) (s .pre .bound) (q .body) (s .pre .known) (q .number)
+    body-entry (s .pre .bound) (q .body) (s .pre .known) (q .number)
 
 returns-2 : tie.Need-returns-2
 returns-2 c =
@@ -40,9 +33,7 @@ returns-2 c =
     let p = q .places .now in
     let n = q .count in
     let u = q .used in
-    let z = q .sheet .now in
-    let tbl = q .table .now in
-    λ ix g. judged-as (quantified-no b p n z tbl (q .pairs) (q .n) (s .pre .bound) (q .body) (s .pre .known) (q .number) (c .before .before .before .before .if1 .left) (c .before .before .kind-at .result) (c .before .before .kind-at .ensures) (s .pre .other) (c .before .before .before .if2 .taken) (c .before .if3 .taken)) (answered-as (c .refuse2 .ensures) (answer-refused b p ix n u g Misfit))
+    λ ix g. judged-as (quantified-no (s .pre .bound) (q .body) (s .pre .known) (q .number) (c .before .before .before .before .if1 .left) (c .before .before .kind-at .result) (c .before .before .kind-at .ensures) (s .pre .other) (c .before .before .before .if2 .taken) (c .before .if3 .taken)) (answered-as (c .refuse2 .ensures) (answer-refused b p ix n u g Misfit))
 
 returns-3 : tie.Need-returns-3
 returns-3 c =
@@ -52,9 +43,7 @@ returns-3 c =
     let p = q .places .now in
     let n = q .count in
     let u = q .used in
-    let z = q .sheet .now in
-    let tbl = q .table .now in
-    λ ix g. judged-as (quantified-yes b p n z tbl (q .pairs) (q .n) (s .pre .bound) (q .body) (s .pre .known) (q .number) (c .before .before .before .before .if1 .left) (c .before .before .kind-at .result) (c .before .before .kind-at .ensures) (s .pre .other) (c .before .before .before .if2 .taken) (c .before .if3 .left)) (answered-as (c .found .ensures) (answer-known b p ix n u g (q .body) (s .pre .known)))
+    λ ix g. judged-as (quantified-yes (s .pre .bound) (q .body) (s .pre .known) (q .number) (c .before .before .before .before .if1 .left) (c .before .before .kind-at .result) (c .before .before .kind-at .ensures) (s .pre .other) (c .before .before .before .if2 .taken) (c .before .if3 .left)) (answered-as (c .found .ensures) (answer-known b p ix n u g (q .body) (s .pre .known)))
 
 returns-4 : tie.Need-returns-4
 returns-4 c =
@@ -64,20 +53,13 @@ returns-4 c =
     let p = q .places .now in
     let n = q .count in
     let u = q .used in
-    let z = q .sheet .now in
-    let tbl = q .table .now in
-    λ ix g. judged-as (choice-count b p n z tbl (q .pairs) (q .n) (s .pre .bound) (q .body) (s .pre .known) (q .number) (c .before .before .if2 .left) (c .before .if4 .taken)) (answered-as (c .refuse3 .ensures) (answer-refused b p ix n u g Count))
+    λ ix g. judged-as (choice-count (s .pre .bound) (q .body) (s .pre .known) (q .number) (c .before .before .if2 .left) (c .before .if4 .taken)) (answered-as (c .refuse3 .ensures) (answer-refused b p ix n u g Count))
 
 kind-at-requires-2 : tie.Need-kind-at-requires-2
 kind-at-requires-2 c κs =
     let s = c .before .before .before .before .before .before .before in
     let q = s .args in
-    let b = q .records .now in
-    let p = q .places .now in
-    let n = q .count in
-    let z = q .sheet .now in
-    let tbl = q .table .now in
-    body-entry b p n z tbl (q .pairs) (q .n) (s .pre .bound) (q .body) (s .pre .known) (q .number)
+    body-entry (s .pre .bound) (q .body) (s .pre .known) (q .number)
 
 returns-5 : tie.Need-returns-5
 returns-5 c =
@@ -87,9 +69,7 @@ returns-5 c =
     let p = q .places .now in
     let n = q .count in
     let u = q .used in
-    let z = q .sheet .now in
-    let tbl = q .table .now in
-    λ ix g. judged-as (choice-no b p n z tbl (q .pairs) (q .n) (s .pre .bound) (q .body) (s .pre .known) (q .number) (c .before .before .before .before .before .if1 .left) (c .before .before .kind-at2 .result) (c .before .before .kind-at2 .ensures) (c .before .before .before .before .if2 .left) (c .before .before .before .if4 .left) (c .before .if5 .taken)) (answered-as (c .refuse4 .ensures) (answer-refused b p ix n u g Misfit))
+    λ ix g. judged-as (choice-no (s .pre .bound) (q .body) (s .pre .known) (q .number) (c .before .before .before .before .before .if1 .left) (c .before .before .kind-at2 .result) (c .before .before .kind-at2 .ensures) (c .before .before .before .before .if2 .left) (c .before .before .before .if4 .left) (c .before .if5 .taken)) (answered-as (c .refuse4 .ensures) (answer-refused b p ix n u g Misfit))
 
 add-u16-at : tie.Need-add-u16-at
 add-u16-at c =
@@ -108,12 +88,7 @@ shared-slice-read-k : tie.Need-shared-slice-read-k
 shared-slice-read-k c =
     let s = c .before .before .before .before .before .before .before .before .before .before .before in
     let q = s .args in
-    let b = q .records .now in
-    let p = q .places .now in
-    let n = q .count in
-    let z = q .sheet .now in
-    let tbl = q .table .now in
-    only-in b p n z tbl (q .pairs) (q .n) (s .pre .bound) (q .body) (s .pre .known) (q .number) (c .before .before .before .before .before .before .if1 .left) (c .before .before .before .kind-at2 .result) (c .before .before .before .kind-at2 .ensures) (c .before .before .before .before .before .if2 .left) (c .before .before .before .before .if4 .left) (c .before .u16-at .result) (c .before .u16-at .ensures .0)
+    only-in (s .pre .bound) (q .body) (s .pre .known) (q .number) (c .before .before .before .before .before .before .if1 .left) (c .before .before .before .kind-at2 .result) (c .before .before .before .kind-at2 .ensures) (c .before .before .before .before .before .if2 .left) (c .before .before .before .before .if4 .left) (c .before .u16-at .ensures .0)
 
 cast-k : tie.Need-cast-k
 cast-k c = omega (arith, c .shared-slice-known5 .given (c .before .u16-at .result))
@@ -126,9 +101,8 @@ returns-6 c =
     let p = q .places .now in
     let n = q .count in
     let u = q .used in
-    let z = q .sheet .now in
     let tbl = q .table .now in
-    λ ix g. judged-as (choice-yes b p n z tbl (q .pairs) (q .n) (s .pre .bound) (q .body) (s .pre .known) (q .number) (c .before .before .before .before .before .before .before .if1 .left) (c .before .before .before .before .kind-at2 .result) (c .before .before .before .before .kind-at2 .ensures) (c .before .before .before .before .before .before .if2 .left) (c .before .before .before .before .before .if4 .left) (c .before .before .u16-at .result) (c .before .before .u16-at .ensures .0) (c .before .before .before .if5 .left)) (answered-as (c .found2 .ensures) (answer-known b p ix n u g (getD tbl (c .before .before .u16-at .result) 0) (only-known b p n z tbl (q .pairs) (q .n) (s .pre .bound) (q .body) (s .pre .known) (q .number) (c .before .before .before .before .before .before .before .if1 .left) (c .before .before .before .before .kind-at2 .result) (c .before .before .before .before .kind-at2 .ensures) (c .before .before .before .before .before .before .if2 .left) (c .before .before .before .before .before .if4 .left) (c .before .before .u16-at .result) (c .before .before .u16-at .ensures .0))))
+    λ ix g. judged-as (choice-yes (s .pre .bound) (q .body) (s .pre .known) (q .number) (c .before .before .before .before .before .before .before .if1 .left) (c .before .before .before .before .kind-at2 .result) (c .before .before .before .before .kind-at2 .ensures) (c .before .before .before .before .before .before .if2 .left) (c .before .before .before .before .before .if4 .left) (c .before .before .u16-at .ensures .0) (c .before .before .before .if5 .left)) (answered-as (c .found2 .ensures) (answer-known b p ix n u g (getD tbl (c .before .before .u16-at .result) 0) (only-known (s .pre .bound) (q .body) (s .pre .known) (q .number) (c .before .before .before .before .before .before .before .if1 .left) (c .before .before .before .before .kind-at2 .result) (c .before .before .before .before .kind-at2 .ensures) (c .before .before .before .before .before .before .if2 .left) (c .before .before .before .before .before .if4 .left) (c .before .before .u16-at .ensures .0))))
 
 pub quantified-spec : {M : Type 1} → statement M
 quantified-spec = tie.close (tie.spec (λ c κs. search needs) returns kind-at-requires (λ c κs. search needs) returns-2 (λ c κs. search needs) returns-3 (λ c κs. search needs) returns-4 kind-at-requires-2 (λ c κs. search needs) returns-5 add-u16-at u16-at-requires mul-k shared-slice-read-k cast-k (λ c κs. search needs) returns-6)

@@ -11,13 +11,7 @@ use Rattle.checker.proofs.indexed.extracted.Tie as tie
 entry-requires : tie.Need-entry-requires
 entry-requires c κs =
     let s = c .before .before .before .before .before in
-    let q = s .args in
-    let b = q .records .now in
-    let p = q .places .now in
-    let ix = q .index .now in
-    let n = q .count in
-    let u = q .used in
-    argument-entry b p ix n u (q .a) (s .pre)
+    argument-entry (s .pre)
 
 returns : tie.Need-returns
 returns c =
@@ -28,7 +22,7 @@ returns c =
     let ix = q .index .now in
     let n = q .count in
     let u = q .used in
-    judged-as (extract-order b p ix n u (q .a) (s .pre) (q .i) (q .j) (c .before .if1 .taken)) (answered-as (c .refuse .ensures) (answer-refused b p ix n u (s .pre .good) Count))
+    judged-as (extract-order (s .pre) (q .i) (q .j) (c .before .if1 .taken)) (answered-as (c .refuse .ensures) (answer-refused b p ix n u (s .pre .good) Count))
 
 returns-2 : tie.Need-returns-2
 returns-2 c =
@@ -39,7 +33,7 @@ returns-2 c =
     let ix = q .index .now in
     let n = q .count in
     let u = q .used in
-    judged-as (extract-kind b p ix n u (q .a) (s .pre) (q .i) (q .j) (c .before .before .before .if1 .left) (c .before .before .before .before .entry .result) (c .before .before .before .before .entry .ensures) (c .before .if2 .taken)) (answered-as (c .refuse2 .ensures) (answer-refused b p ix n u (s .pre .good) Misfit))
+    judged-as (extract-kind (s .pre) (q .i) (q .j) (c .before .before .before .if1 .left) (c .before .before .before .before .entry .result) (c .before .before .before .before .entry .ensures) (c .before .if2 .taken)) (answered-as (c .refuse2 .ensures) (answer-refused b p ix n u (s .pre .good) Misfit))
 
 returns-3 : tie.Need-returns-3
 returns-3 c =
@@ -50,18 +44,12 @@ returns-3 c =
     let ix = q .index .now in
     let n = q .count in
     let u = q .used in
-    judged-as (extract-wide b p ix n u (q .a) (s .pre) (q .i) (q .j) (c .before .before .before .before .before .if1 .left) (c .before .before .before .before .before .before .entry .result) (c .before .before .before .before .before .before .entry .ensures) (c .before .before .before .if2 .left) (c .before .if3 .taken)) (answered-as (c .refuse3 .ensures) (answer-refused b p ix n u (s .pre .good) Count))
+    judged-as (extract-wide (s .pre) (q .i) (q .j) (c .before .before .before .before .before .if1 .left) (c .before .before .before .before .before .before .entry .result) (c .before .before .before .before .before .before .entry .ensures) (c .before .before .before .if2 .left) (c .before .if3 .taken)) (answered-as (c .refuse3 .ensures) (answer-refused b p ix n u (s .pre .good) Count))
 
 add-bit-vector : tie.Need-add-bit-vector
 add-bit-vector c =
     let s = c .before .before .before .before .before .before .before .before .before .before .before .before .before .before in
-    let q = s .args in
-    let b = q .records .now in
-    let p = q .places .now in
-    let ix = q .index .now in
-    let n = q .count in
-    let u = q .used in
-    omega (arith, number-small b p ix n u (q .a) (s .pre) (c .before .before .before .before .before .before .before .before .entry .result) (c .before .before .before .before .before .before .before .before .entry .ensures), c .before .before .before .if3 .left)
+    omega (arith, number-small (s .pre) (c .before .before .before .before .before .before .before .before .entry .result) (c .before .before .before .before .before .before .before .before .entry .ensures), c .before .before .before .if3 .left)
 
 bit-vector-requires : tie.Need-bit-vector-requires
 bit-vector-requires c κs =
@@ -72,12 +60,7 @@ returns-4 : tie.Need-returns-4
 returns-4 c =
     let s = c .before .before .before .before .before .before .before .before .before .before .before .before .before .before .before .before .before .before .before .before .before in
     let q = s .args in
-    let b = q .records .now in
-    let p = q .places .now in
-    let ix = q .index .now in
-    let n = q .count in
-    let u = q .used in
-    judged-as (extract-fits b p ix n u (q .a) (s .pre) (q .i) (q .j) (c .before .before .before .before .before .before .before .before .before .before .before .before .before .before .if1 .left) (c .before .before .before .before .before .before .before .before .before .before .before .before .before .before .before .entry .result) (c .before .before .before .before .before .before .before .before .before .before .before .before .before .before .before .entry .ensures) (c .before .before .before .before .before .before .before .before .before .before .before .before .if2 .left) (c .before .before .before .before .before .before .before .before .before .before .if3 .left)) (c .before .before .before .before .before .before .bit-vector .ensures)
+    judged-as (extract-fits (s .pre) (q .i) (q .j) (c .before .before .before .before .before .before .before .before .before .before .before .before .before .before .if1 .left) (c .before .before .before .before .before .before .before .before .before .before .before .before .before .before .before .entry .result) (c .before .before .before .before .before .before .before .before .before .before .before .before .before .before .before .entry .ensures) (c .before .before .before .before .before .before .before .before .before .before .before .before .if2 .left) (c .before .before .before .before .before .before .before .before .before .before .if3 .left)) (c .before .before .before .before .before .before .bit-vector .ensures)
 
 pub extracted-spec : {M : Type 1} → statement M
 extracted-spec = tie.close (tie.spec entry-requires (λ c κs. search needs) (λ c. search needs) (λ c. search needs) returns (λ c κs. search needs) (λ c. search needs) (λ c. search needs) returns-2 (λ c κs. search needs) (λ c. search needs) (λ c. search needs) returns-3 add-bit-vector bit-vector-requires (λ c. search needs) (λ c. search needs) (λ c. search needs) returns-4)

@@ -61,10 +61,7 @@ returns-4 c =
     let ix = q .index .now in
     let n = q .count in
     let u = q .used in
-    let z = q .sheet .now in
-    let xs = q .starts .now in
-    let a = q .args .now in
-    judged-as (indexing-count b p ix n u z xs (q .second) (q .seconds) a (q .n) (s .pre) (q .op) (c .before .before .before .before .if1 .left) (c .before .before .before .if2 .left) (c .before .before .if3 .left) (c .before .if4 .taken)) (answered-as (c .refuse4 .ensures) (answer-refused b p ix n u (s .pre .good) Count))
+    judged-as (indexing-count (s .pre) (c .before .before .before .before .if1 .left) (c .before .before .before .if2 .left) (c .before .before .if3 .left) (c .before .if4 .taken)) (answered-as (c .refuse4 .ensures) (answer-refused b p ix n u (s .pre .good) Count))
 
 indices-of-requires : tie.Need-indices-of-requires
 indices-of-requires c κs =
@@ -79,30 +76,12 @@ u16-at-requires c κs =
 indexed-by-requires : tie.Need-indexed-by-requires
 indexed-by-requires c κs =
     let s = c .before .before .before .before .before .before .before .before .before .before .before .before .before .before .before in
-    let q = s .args in
-    let b = q .records .now in
-    let p = q .places .now in
-    let ix = q .index .now in
-    let n = q .count in
-    let u = q .used in
-    let z = q .sheet .now in
-    let xs = q .starts .now in
-    let a = q .args .now in
-    indexed-asks b p ix n u z xs (q .second) (q .seconds) a (q .n) (s .pre) (q .op) (c .before .before .before .before .before .before .before .before .if1 .left) (c .before .before .before .before .before .before .before .if2 .left) (c .before .before .before .before .before .before .if3 .left) (c .before .before .before .before .before .if4 .left) (c .before .before .before .before .indices-of .result) (c .before .before .before .before .indices-of .ensures) (c .before .before .before .u16-at .result) (c .before .before .before .u16-at .ensures .0)
+    indexed-asks (s .pre) (c .before .before .before .before .before .before .before .before .if1 .left) (c .before .before .before .before .before .before .before .if2 .left) (c .before .before .before .before .before .before .if3 .left) (c .before .before .before .before .before .if4 .left) (c .before .before .before .before .indices-of .ensures) (c .before .before .before .u16-at .ensures .0)
 
 returns-5 : tie.Need-returns-5
 returns-5 c =
     let s = c .before .before .before .before .before .before .before .before .before .before .before .before .before .before .before .before .before .before .before .before .before .before in
-    let q = s .args in
-    let b = q .records .now in
-    let p = q .places .now in
-    let ix = q .index .now in
-    let n = q .count in
-    let u = q .used in
-    let z = q .sheet .now in
-    let xs = q .starts .now in
-    let a = q .args .now in
-    judged-as (indexing-is b p ix n u z xs (q .second) (q .seconds) a (q .n) (s .pre) (q .op) (c .before .before .before .before .before .before .before .before .before .before .before .before .before .before .before .if1 .left) (c .before .before .before .before .before .before .before .before .before .before .before .before .before .before .if2 .left) (c .before .before .before .before .before .before .before .before .before .before .before .before .before .if3 .left) (c .before .before .before .before .before .before .before .before .before .before .before .before .if4 .left) (c .before .before .before .before .before .before .before .before .before .before .before .indices-of .result) (c .before .before .before .before .before .before .before .before .before .before .before .indices-of .ensures) (c .before .before .before .before .before .before .before .before .before .before .u16-at .result) (c .before .before .before .before .before .before .before .before .before .before .u16-at .ensures .0)) (c .before .before .before .before .before .before .indexed-by .ensures)
+    judged-as (indexing-is (s .pre) (c .before .before .before .before .before .before .before .before .before .before .before .before .before .before .before .if1 .left) (c .before .before .before .before .before .before .before .before .before .before .before .before .before .before .if2 .left) (c .before .before .before .before .before .before .before .before .before .before .before .before .before .if3 .left) (c .before .before .before .before .before .before .before .before .before .before .before .before .if4 .left) (c .before .before .before .before .before .before .before .before .before .before .before .indices-of .ensures) (c .before .before .before .before .before .before .before .before .before .before .u16-at .ensures .0)) (c .before .before .before .before .before .before .indexed-by .ensures)
 
 pub indexing-spec : {M : Type 1} → statement M
 indexing-spec = tie.close (tie.spec (λ c κs. search needs) returns (λ c κs. search needs) returns-2 (λ c κs. search needs) returns-3 (λ c κs. search needs) returns-4 indices-of-requires u16-at-requires indexed-by-requires (λ c. search needs) (λ c. search needs) (λ c. search needs) returns-5)

@@ -14,7 +14,7 @@ returns c =
     let q = s .args in
     let z = q .sheet .now in
     let xs = q .starts .now in
-    indices-zero z xs (q .second) (q .seconds) (c .if1 .taken)
+    indices-zero z xs (q .second) (c .if1 .taken)
 
 returns-2 : tie.Need-returns-2
 returns-2 c =
@@ -38,7 +38,7 @@ returns-3 c =
     let q = s .args in
     let z = q .sheet .now in
     let xs = q .starts .now in
-    indices-one z xs (q .second) (c .before .before .before .before .index-at .result) (c .before .before .before .before .index-at .ensures) (q .seconds) (c .before .before .first .given .0 .0) (c .before .before .first .given .1) (c .if3 .taken)
+    indices-one z xs (q .second) (c .before .before .before .before .index-at .ensures) (q .seconds) (c .before .before .first .given .0 .0) (c .before .before .first .given .1) (c .if3 .taken)
 
 add-index-at : tie.Need-add-index-at
 add-index-at c =
@@ -59,7 +59,7 @@ returns-4 c =
     let q = s .args in
     let z = q .sheet .now in
     let xs = q .starts .now in
-    indices-two z xs (q .second) (c .before .before .before .before .before .before .before .before .index-at .result) (c .before .before .before .before .before .before .before .before .index-at .ensures) (q .seconds) (c .before .before .before .before .before .before .first .given .0 .0) (c .before .before .before .before .before .before .first .given .1) (c .before .before .before .before .before .before .before .before .before .if2 .left) (omega (arith, c .before .before .before .before .before .before .before .before .before .before .if1 .left, c .before .before .before .before .if3 .left)) (c .before .before .before .index-at2 .result) (c .before .before .before .index-at2 .ensures) (c .before .last .given .0 .0) (c .before .last .given .1)
+    indices-two z xs (q .second) (c .before .before .before .before .before .before .before .before .index-at .ensures) (q .seconds) (c .before .before .before .before .before .before .first .given .0 .0) (c .before .before .before .before .before .before .first .given .1) (c .before .before .before .before .before .before .before .before .before .if2 .left) (omega (arith, c .before .before .before .before .before .before .before .before .before .before .if1 .left, c .before .before .before .before .if3 .left)) (c .before .before .before .index-at2 .ensures) (c .before .last .given .0 .0) (c .before .last .given .1)
 
 returns-5 : tie.Need-returns-5
 returns-5 c =
@@ -67,7 +67,7 @@ returns-5 c =
     let q = s .args in
     let z = q .sheet .now in
     let xs = q .starts .now in
-    indices-wrong z xs (q .second) (c .before .before .before .before .before .before .before .index-at .result) (c .before .before .before .before .before .before .before .index-at .ensures) (q .seconds) (c .before .before .before .before .before .first .given .0 .0) (c .before .before .before .before .before .first .given .1) (c .before .before .before .before .before .before .before .before .if2 .left) (omega (arith, c .before .before .before .before .before .before .before .before .before .if1 .left, c .before .before .before .if3 .left)) (c .before .before .index-at2 .result) (c .before .before .index-at2 .ensures) (c .enum-told .given .1)
+    indices-wrong z xs (q .second) (c .before .before .before .before .before .before .before .index-at .ensures) (q .seconds) (c .before .before .before .before .before .first .given .0 .0) (c .before .before .before .before .before .first .given .1) (c .before .before .before .before .before .before .before .before .if2 .left) (omega (arith, c .before .before .before .before .before .before .before .before .before .if1 .left, c .before .before .before .if3 .left)) (c .before .before .index-at2 .ensures) (c .enum-told .given .1)
 
 returns-6 : tie.Need-returns-6
 returns-6 c =
@@ -75,7 +75,7 @@ returns-6 c =
     let q = s .args in
     let z = q .sheet .now in
     let xs = q .starts .now in
-    indices-other z xs (q .second) (c .before .before .index-at .result) (c .before .before .index-at .ensures) (q .seconds) (c .before .before .before .before .if1 .left) (c .enum-told2 .given .1)
+    indices-other z xs (q .second) (c .before .before .index-at .ensures) (q .seconds) (c .before .before .before .before .if1 .left) (c .enum-told2 .given .1)
 
 pub indices-of-spec : {M : Type 1} → statement M
 indices-of-spec = tie.close (tie.spec returns returns-2 index-at-requires (λ c. search needs) returns-3 add-index-at index-at-requires-2 (λ c. search needs) (λ c. search needs) (λ c. search needs) returns-4 returns-5 returns-6)

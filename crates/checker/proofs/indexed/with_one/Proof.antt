@@ -14,13 +14,7 @@ use Rattle.checker.proofs.indexed.with_one.Tie as tie
 entry-requires : tie.Need-entry-requires
 entry-requires c κs =
     let s = c .before .before .before .before .before in
-    let q = s .args in
-    let b = q .records .now in
-    let p = q .places .now in
-    let ix = q .index .now in
-    let n = q .count in
-    let u = q .used in
-    argument-entry b p ix n u (q .a) (record { good = s .pre .good; known = s .pre .known })
+    argument-entry (record { good = s .pre .good; known = s .pre .known })
 
 returns : tie.Need-returns
 returns c =
@@ -31,18 +25,13 @@ returns c =
     let ix = q .index .now in
     let n = q .count in
     let u = q .used in
-    judged-as (repeat-none b p ix n u (q .a) (record { good = s .pre .good; known = s .pre .known }) (c .before .before .before .entry .result) (c .before .before .before .entry .ensures) (q .op) (q .i) (c .before .before .match .keys1) (c .before .if1 .taken)) (answered-as (c .refuse .ensures) (answer-refused b p ix n u (s .pre .good) Count))
+    judged-as (repeat-none (record { good = s .pre .good; known = s .pre .known }) (c .before .before .before .entry .result) (c .before .before .before .entry .ensures) (c .before .before .match .keys1) (c .before .if1 .taken)) (answered-as (c .refuse .ensures) (answer-refused b p ix n u (s .pre .good) Count))
 
 mul-widened : tie.Need-mul-widened
 mul-widened c =
     let s = c .before .before .before .before .before .before .before .before .before .before .before in
     let q = s .args in
-    let b = q .records .now in
-    let p = q .places .now in
-    let ix = q .index .now in
-    let n = q .count in
-    let u = q .used in
-    omega (arith, product-small b p ix n u (q .a) (record { good = s .pre .good; known = s .pre .known }) (c .before .before .before .before .before .entry .result) (c .before .before .before .before .before .entry .ensures) (q .i) (s .pre .small))
+    omega (arith, product-small (record { good = s .pre .good; known = s .pre .known }) (c .before .before .before .before .before .entry .result) (c .before .before .before .before .before .entry .ensures) (q .i) (s .pre .small))
 
 widened-requires : tie.Need-widened-requires
 widened-requires c κs =
@@ -58,7 +47,7 @@ returns-2 c =
     let ix = q .index .now in
     let n = q .count in
     let u = q .used in
-    judged-as (int-none b p ix n u (q .a) (record { good = s .pre .good; known = s .pre .known }) (c .before .before .before .entry .result) (c .before .before .before .entry .ensures) (q .op) (q .i) (c .before .before .match .keys2) (c .before .if2 .taken)) (answered-as (c .refuse2 .ensures) (answer-refused b p ix n u (s .pre .good) Count))
+    judged-as (int-none (record { good = s .pre .good; known = s .pre .known }) (c .before .before .before .entry .result) (c .before .before .before .entry .ensures) (c .before .before .match .keys2) (c .before .if2 .taken)) (answered-as (c .refuse2 .ensures) (answer-refused b p ix n u (s .pre .good) Count))
 
 widened-requires-2 : tie.Need-widened-requires-2
 widened-requires-2 c κs =
@@ -68,13 +57,7 @@ widened-requires-2 c κs =
 add-widened : tie.Need-add-widened
 add-widened c =
     let s = c .before .before .before .before .before .before .before .before .before .before .before .before in
-    let q = s .args in
-    let b = q .records .now in
-    let p = q .places .now in
-    let ix = q .index .now in
-    let n = q .count in
-    let u = q .used in
-    omega (arith, number-small b p ix n u (q .a) (record { good = s .pre .good; known = s .pre .known }) (c .before .before .before .before .before .before .entry .result) (c .before .before .before .before .before .before .entry .ensures), s .pre .small)
+    omega (arith, number-small (record { good = s .pre .good; known = s .pre .known }) (c .before .before .before .before .before .before .entry .result) (c .before .before .before .before .before .before .entry .ensures), s .pre .small)
 
 widened-requires-3 : tie.Need-widened-requires-3
 widened-requires-3 c κs =
@@ -85,56 +68,35 @@ returns-3 : tie.Need-returns-3
 returns-3 c =
     let s = c .before .before .before .before .before .before .before .before .before .before .before .before .before .before .before .before .before .before in
     let q = s .args in
-    let b = q .records .now in
-    let p = q .places .now in
-    let ix = q .index .now in
-    let n = q .count in
-    let u = q .used in
-    judged-as (repeat-is b p ix n u (q .a) (record { good = s .pre .good; known = s .pre .known }) (c .before .before .before .before .before .before .before .before .before .before .before .before .entry .result) (c .before .before .before .before .before .before .before .before .before .before .before .before .entry .ensures) (q .op) (q .i) (c .before .before .before .before .before .before .before .before .before .before .before .match .keys1) (c .before .before .before .before .before .before .before .before .before .before .if1 .left)) (c .before .before .before .before .before .before .widened .ensures)
+    judged-as (repeat-is (record { good = s .pre .good; known = s .pre .known }) (c .before .before .before .before .before .before .before .before .before .before .before .before .entry .result) (c .before .before .before .before .before .before .before .before .before .before .before .before .entry .ensures) (q .i) (c .before .before .before .before .before .before .before .before .before .before .before .match .keys1) (c .before .before .before .before .before .before .before .before .before .before .if1 .left)) (c .before .before .before .before .before .before .widened .ensures)
 
 returns-4 : tie.Need-returns-4
 returns-4 c =
     let s = c .before .before .before .before .before .before .before .before .before .before .before .before .before .before .before .before .before .before in
     let q = s .args in
-    let b = q .records .now in
-    let p = q .places .now in
-    let ix = q .index .now in
-    let n = q .count in
-    let u = q .used in
-    judged-as (int-is b p ix n u (q .a) (record { good = s .pre .good; known = s .pre .known }) (c .before .before .before .before .before .before .before .before .before .before .before .before .entry .result) (c .before .before .before .before .before .before .before .before .before .before .before .before .entry .ensures) (q .op) (q .i) (c .before .before .before .before .before .before .before .before .before .before .before .match .keys2) (c .before .before .before .before .before .before .before .before .before .before .if2 .left)) (c .before .before .before .before .before .before .widened2 .ensures)
+    judged-as (int-is (record { good = s .pre .good; known = s .pre .known }) (c .before .before .before .before .before .before .before .before .before .before .before .before .entry .result) (c .before .before .before .before .before .before .before .before .before .before .before .before .entry .ensures) (q .i) (c .before .before .before .before .before .before .before .before .before .before .before .match .keys2) (c .before .before .before .before .before .before .before .before .before .before .if2 .left)) (c .before .before .before .before .before .before .widened2 .ensures)
 
 returns-5 : tie.Need-returns-5
 returns-5 c =
     let s = c .before .before .before .before .before .before .before .before in
     let q = s .args in
-    let b = q .records .now in
-    let p = q .places .now in
-    let ix = q .index .now in
     let n = q .count in
     let u = q .used in
-    answered-as {q = keptAs n u (q .a) (c .before .before .entry .result .kind) 7} (c .kept .ensures) (power-is b p ix n u (q .a) (record { good = s .pre .good; known = s .pre .known }) (c .before .before .entry .result) (c .before .before .entry .ensures) (q .op) (q .i) (c .before .match .keys3))
+    answered-as {q = keptAs n u (q .a) (c .before .before .entry .result .kind) 7} (c .kept .ensures) (power-is (record { good = s .pre .good; known = s .pre .known }) (c .before .before .entry .result) (c .before .before .entry .ensures) (q .i) (c .before .match .keys3))
 
 returns-6 : tie.Need-returns-6
 returns-6 c =
     let s = c .before .before .before .before .before .before .before .before .before .before .before .before .before .before .before .before .before .before .before in
     let q = s .args in
-    let b = q .records .now in
-    let p = q .places .now in
-    let ix = q .index .now in
-    let n = q .count in
-    let u = q .used in
-    judged-as (extend-is b p ix n u (q .a) (record { good = s .pre .good; known = s .pre .known }) (c .before .before .before .before .before .before .before .before .before .before .before .before .before .entry .result) (c .before .before .before .before .before .before .before .before .before .before .before .before .before .entry .ensures) (q .op) (q .i) (c .before .before .before .before .before .before .before .before .before .before .before .if3 .left) (c .before .before .before .before .before .before .before .before .before .before .if4 .taken)) (c .before .before .before .before .before .before .widened3 .ensures)
+    judged-as (extend-is (record { good = s .pre .good; known = s .pre .known }) (c .before .before .before .before .before .before .before .before .before .before .before .before .before .entry .result) (c .before .before .before .before .before .before .before .before .before .before .before .before .before .entry .ensures) (q .op) (q .i) (c .before .before .before .before .before .before .before .before .before .before .before .if3 .left) (c .before .before .before .before .before .before .before .before .before .before .if4 .taken)) (c .before .before .before .before .before .before .widened3 .ensures)
 
 returns-7 : tie.Need-returns-7
 returns-7 c =
     let s = c .before .before .before .before .before .before .before .before .before .before .before in
     let q = s .args in
-    let b = q .records .now in
-    let p = q .places .now in
-    let ix = q .index .now in
     let n = q .count in
     let u = q .used in
-    answered-as {q = keptAs n u (q .a) (c .before .before .before .before .before .entry .result .kind) 9} (c .kept2 .ensures) (rotate-is b p ix n u (q .a) (record { good = s .pre .good; known = s .pre .known }) (c .before .before .before .before .before .entry .result) (c .before .before .before .before .before .entry .ensures) (q .op) (q .i) (c .before .before .if4 .left) (c .before .if5 .taken))
+    answered-as {q = keptAs n u (q .a) (c .before .before .before .before .before .entry .result .kind) 9} (c .kept2 .ensures) (rotate-is (record { good = s .pre .good; known = s .pre .known }) (c .before .before .before .before .before .entry .result) (c .before .before .before .before .before .entry .ensures) (q .op) (q .i) (c .before .before .if4 .left) (c .before .if5 .taken))
 
 returns-8 : tie.Need-returns-8
 returns-8 c =

@@ -21,29 +21,20 @@ returns c =
     let b = q .records .now in
     let p = q .places .now in
     let n = q .count in
-    judged-as (two-extract (q .op) (q .i) (q .j) (sortAt b p n (q .a)) (c .before .before .before .before .before .before .before .before .before .before .if1 .taken)) (c .before .before .before .before .before .before .extracted .ensures)
+    judged-as (two-extract (q .i) (q .j) (sortAt b p n (q .a)) (c .before .before .before .before .before .before .before .before .before .before .if1 .taken)) (c .before .before .before .before .before .before .extracted .ensures)
 
 entry-requires : tie.Need-entry-requires
 entry-requires c κs =
     let s = c .before .before .before .before .before .before .before in
-    let q = s .args in
-    let b = q .records .now in
-    let p = q .places .now in
-    let ix = q .index .now in
-    let n = q .count in
-    let u = q .used in
-    argument-entry b p ix n u (q .a) (s .pre)
+    argument-entry (s .pre)
 
 returns-2 : tie.Need-returns-2
 returns-2 c =
     let s = c .before .before .before .before .before .before .before .before .before in
     let q = s .args in
-    let b = q .records .now in
-    let p = q .places .now in
-    let ix = q .index .now in
     let n = q .count in
     let u = q .used in
-    answered-as {q = keptAs n u (q .a) (c .before .entry .result .kind) 7} (c .kept .ensures) (loop-is b p ix n u (q .a) (s .pre) (c .before .entry .result) (c .before .entry .ensures) (q .op) (q .i) (q .j) (c .before .before .before .before .if2 .taken))
+    answered-as {q = keptAs n u (q .a) (c .before .entry .result .kind) 7} (c .kept .ensures) (loop-is (s .pre) (c .before .entry .result) (c .before .entry .ensures) (q .i) (q .j) (c .before .before .before .before .if2 .taken))
 
 returns-3 : tie.Need-returns-3
 returns-3 c =

@@ -38,7 +38,7 @@ kind-at-requires c κs =
     let b = q .records .now in
     let p = q .places .now in
     let a = q .args .now in
-    arg-asks b p a (q .n) (c .before .before .loop .i) (c .u16-at .result) (s .pre) (c .before .loop-test .taken) (c .u16-at .ensures .0)
+    arg-asks b p a (c .before .before .loop .i) (s .pre) (c .before .loop-test .taken) (c .u16-at .ensures .0)
 
 returns : tie.Need-returns Inv-loop μ-loop
 returns c =
@@ -47,7 +47,7 @@ returns c =
     let b = q .records .now in
     let p = q .places .now in
     let a = q .args .now in
-    kinds-no b p a (q .n) (q .kind) (c .before .before .before .before .loop .i) (c .before .before .u16-at .result) (c .before .kind-at .result) (c .before .before .before .loop-test .taken) (c .before .before .u16-at .ensures .0) (c .before .kind-at .ensures) (c .if1 .taken)
+    kinds-no b p a (q .n) (q .kind) (c .before .before .before .before .loop .i) (c .before .kind-at .result) (c .before .before .before .loop-test .taken) (c .before .before .u16-at .ensures .0) (c .before .kind-at .ensures) (c .if1 .taken)
 
 add-i : tie.Need-add-i Inv-loop μ-loop
 add-i c = omega (arith, c .before .before .before .before .before .before .before .before .pre .within, c .before .before .before .before .before .before .before .before .good .1 .1 .0, c .before .before .before .loop-test .taken)
@@ -62,7 +62,7 @@ loop-again c =
     let b = q .records .now in
     let p = q .places .now in
     let a = q .args .now in
-    (omega (arith, c .before .before .before .loop-test .taken), seen-more b p a (λ j. j ≡ q .kind) (c .before .before .before .before .loop .i) (c .before .before .u16-at .result) (c .before .kind-at .result) (c .before .before .u16-at .ensures .0) (c .before .kind-at .ensures) (c .if1 .left) (c .before .before .before .before .loop .inv .1))
+    (omega (arith, c .before .before .before .loop-test .taken), seen-more b p a (λ j. j ≡ q .kind) (c .before .before .before .before .loop .i) (c .before .kind-at .result) (c .before .before .u16-at .ensures .0) (c .before .kind-at .ensures) (c .if1 .left) (c .before .before .before .before .loop .inv .1))
 
 returns-2 : tie.Need-returns-2 Inv-loop μ-loop
 returns-2 c =

@@ -42,7 +42,7 @@ returns c =
     let b = q .records .now in
     let p = q .places .now in
     let a = q .args .now in
-    same-no b p a (q .n) (c .before .before .before .before .loop .i) (c .before .before .u16-at .result) (c .before .u16-at2 .result) (c .before .before .before .loop-test .taken) (c .before .before .u16-at .ensures .0) (c .before .u16-at2 .ensures .0) (c .if1 .taken)
+    same-no b p a (q .n) (c .before .before .before .before .loop .i) (c .before .before .before .loop-test .taken) (c .before .before .u16-at .ensures .0) (c .before .u16-at2 .ensures .0) (c .if1 .taken)
 
 add-i : tie.Need-add-i Inv-loop μ-loop
 add-i c = omega (arith, c .before .before .before .before .before .before .before .before .pre .within, c .before .before .before .before .before .before .before .before .good .1 .1 .0, c .before .before .before .loop-test .taken)
@@ -57,7 +57,7 @@ loop-again c =
     let b = q .records .now in
     let p = q .places .now in
     let a = q .args .now in
-    (omega (arith, c .before .before .before .before .loop .inv .0), same-more b p a (c .before .before .before .before .loop .i) (c .before .before .u16-at .result) (c .before .u16-at2 .result) (c .before .before .u16-at .ensures .0) (c .before .u16-at2 .ensures .0) (c .if1 .left) (c .before .before .before .before .loop .inv .1))
+    (omega (arith, c .before .before .before .before .loop .inv .0), same-more b p a (c .before .before .before .before .loop .i) (c .before .before .u16-at .ensures .0) (c .before .u16-at2 .ensures .0) (c .if1 .left) (c .before .before .before .before .loop .inv .1))
 
 returns-2 : tie.Need-returns-2 Inv-loop μ-loop
 returns-2 c =

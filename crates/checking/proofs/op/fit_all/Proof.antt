@@ -14,7 +14,7 @@ returns c =
     let b = q .records .now in
     let p = q .places .now in
     let a = q .args .now in
-    all-yes b p a (q .n) (q .kind) (q .result) (s .pre) (c .before .all-kind .result) (c .before .all-kind .ensures) (c .if1 .taken)
+    all-yes b p a (q .n) (q .kind) (q .result) (s .pre) (c .before .all-kind .ensures) (c .if1 .taken)
 
 returns-2 : tie.Need-returns-2
 returns-2 c =
@@ -23,7 +23,7 @@ returns-2 c =
     let b = q .records .now in
     let p = q .places .now in
     let a = q .args .now in
-    all-no b p a (q .n) (q .kind) (q .result) (s .pre) (c .before .all-kind .result) (c .before .all-kind .ensures) (c .if1 .left)
+    all-no b p a (q .n) (q .kind) (q .result) (s .pre) (c .before .all-kind .ensures) (c .if1 .left)
 
 pub fit-all-spec : {M : Type 1} → statement M
 fit-all-spec = tie.close (tie.spec all-kind-requires returns returns-2)

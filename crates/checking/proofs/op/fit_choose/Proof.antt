@@ -32,7 +32,7 @@ returns-2 c =
     let b = q .records .now in
     let p = q .places .now in
     let a = q .args .now in
-    choose-no-2 b p a (q .n) (eqb-true (q .n) 3 (s .pre .counted)) (c .before .before .before .before .is-kind .result) (c .before .before .before .before .is-kind .ensures) (c .before .before .u16-at .result) (c .before .u16-at2 .result) (c .before .before .u16-at .ensures .0) (c .before .u16-at2 .ensures .0) (not-false (c .before .before .before .before .is-kind .result) (c .before .before .before .if1 .left)) (c .if2 .taken)
+    choose-no-2 b p a (q .n) (eqb-true (q .n) 3 (s .pre .counted)) (c .before .before .before .before .is-kind .result) (c .before .before .before .before .is-kind .ensures) (c .before .before .u16-at .ensures .0) (c .before .u16-at2 .ensures .0) (not-false (c .before .before .before .before .is-kind .result) (c .before .before .before .if1 .left)) (c .if2 .taken)
 
 returns-3 : tie.Need-returns-3
 returns-3 c =
@@ -41,7 +41,7 @@ returns-3 c =
     let b = q .records .now in
     let p = q .places .now in
     let a = q .args .now in
-    choose-yes b p a (q .n) (eqb-true (q .n) 3 (s .pre .counted)) (c .before .before .before .before .is-kind .result) (c .before .before .before .before .is-kind .ensures) (c .before .before .u16-at .result) (c .before .u16-at2 .result) (c .before .before .u16-at .ensures .0) (c .before .u16-at2 .ensures .0) (not-false (c .before .before .before .before .is-kind .result) (c .before .before .before .if1 .left)) (c .if2 .left)
+    choose-yes b p a (q .n) (eqb-true (q .n) 3 (s .pre .counted)) (c .before .before .before .before .is-kind .result) (c .before .before .before .before .is-kind .ensures) (c .before .before .u16-at .ensures .0) (c .before .u16-at2 .ensures .0) (not-false (c .before .before .before .before .is-kind .result) (c .before .before .before .if1 .left)) (c .if2 .left)
 
 pub fit-choose-spec : {M : Type 1} → statement M
 fit-choose-spec = tie.close (tie.spec is-kind-requires returns u16-at-requires u16-at-requires-2 returns-2 returns-3)

@@ -20,7 +20,7 @@ entry-requires c κs =
     let b = q .records .now in
     let p = q .places .now in
     let a = q .args .now in
-    arg-asks b p a (q .n) 0 (c .before .u16-at .result) (s .pre .args) (omega (arith, concat-two b p a (q .n) (s .pre))) (c .before .u16-at .ensures .0)
+    arg-asks b p a 0 (s .pre .args) (omega (arith, concat-two (s .pre))) (c .before .u16-at .ensures .0)
 
 entry-requires-2 : tie.Need-entry-requires-2
 entry-requires-2 c κs =
@@ -29,43 +29,27 @@ entry-requires-2 c κs =
     let b = q .records .now in
     let p = q .places .now in
     let a = q .args .now in
-    arg-asks b p a (q .n) 1 (c .before .u16-at2 .result) (s .pre .args) (omega (arith, concat-two b p a (q .n) (s .pre))) (c .before .u16-at2 .ensures .0)
+    arg-asks b p a 1 (s .pre .args) (omega (arith, concat-two (s .pre))) (c .before .u16-at2 .ensures .0)
 
 returns : tie.Need-returns
 returns c =
     let s = c .before .before .before .before .before .before .before .before .before in
-    let q = s .args in
-    let b = q .records .now in
-    let p = q .places .now in
-    let a = q .args .now in
-    concat-no b p a (q .n) (s .pre) (c .before .before .before .before .before .u16-at .result) (c .before .before .before .before .u16-at2 .result) (c .before .before .before .before .before .u16-at .ensures .0) (c .before .before .before .before .u16-at2 .ensures .0) (c .before .before .before .entry .result) (c .before .before .entry2 .result) (c .before .before .before .entry .ensures) (c .before .before .entry2 .ensures) (c .if1 .taken)
+    concat-no (s .pre) (c .before .before .before .before .before .u16-at .ensures .0) (c .before .before .before .before .u16-at2 .ensures .0) (c .before .before .before .entry .result) (c .before .before .entry2 .result) (c .before .before .before .entry .ensures) (c .before .before .entry2 .ensures) (c .if1 .taken)
 
 returns-2 : tie.Need-returns-2
 returns-2 c =
     let s = c .before .before .before .before .before .before .before .before .before .before .before in
-    let q = s .args in
-    let b = q .records .now in
-    let p = q .places .now in
-    let a = q .args .now in
-    concat-no-2 b p a (q .n) (s .pre) (c .before .before .before .before .before .before .before .u16-at .result) (c .before .before .before .before .before .before .u16-at2 .result) (c .before .before .before .before .before .before .before .u16-at .ensures .0) (c .before .before .before .before .before .before .u16-at2 .ensures .0) (c .before .before .before .before .before .entry .result) (c .before .before .before .before .entry2 .result) (c .before .before .before .before .before .entry .ensures) (c .before .before .before .before .entry2 .ensures) (c .if2 .taken)
+    concat-no-2 (s .pre) (c .before .before .before .before .before .before .before .u16-at .ensures .0) (c .before .before .before .before .before .before .u16-at2 .ensures .0) (c .before .before .before .before .before .entry .result) (c .before .before .before .before .entry2 .result) (c .before .before .before .before .before .entry .ensures) (c .before .before .before .before .entry2 .ensures) (c .if2 .taken)
 
 add-t10 : tie.Need-add-t10
 add-t10 c =
     let s = c .before .before .before .before .before .before .before .before .before .before .before .before .before in
-    let q = s .args in
-    let b = q .records .now in
-    let p = q .places .now in
-    let a = q .args .now in
-    omega (arith, concat-fits b p a (q .n) (s .pre) (c .before .before .before .before .before .before .before .before .before .u16-at .result) (c .before .before .before .before .before .before .before .before .u16-at2 .result) (c .before .before .before .before .before .before .before .before .before .u16-at .ensures .0) (c .before .before .before .before .before .before .before .before .u16-at2 .ensures .0) (c .before .before .before .before .before .before .before .entry .result) (c .before .before .before .before .before .before .entry2 .result) (c .before .before .before .before .before .before .before .entry .ensures) (c .before .before .before .before .before .before .entry2 .ensures) (s .pre .args))
+    omega (arith, concat-fits (s .pre) (c .before .before .before .before .before .before .before .before .before .u16-at .ensures .0) (c .before .before .before .before .before .before .before .before .u16-at2 .ensures .0) (c .before .before .before .before .before .before .before .entry .result) (c .before .before .before .before .before .before .entry2 .result) (c .before .before .before .before .before .before .before .entry .ensures) (c .before .before .before .before .before .before .entry2 .ensures) (s .pre .args))
 
 returns-3 : tie.Need-returns-3
 returns-3 c =
     let s = c .before .before .before .before .before .before .before .before .before .before .before .before .before in
-    let q = s .args in
-    let b = q .records .now in
-    let p = q .places .now in
-    let a = q .args .now in
-    concat-yes b p a (q .n) (s .pre) (c .before .before .before .before .before .before .before .before .before .u16-at .result) (c .before .before .before .before .before .before .before .before .u16-at2 .result) (c .before .before .before .before .before .before .before .before .before .u16-at .ensures .0) (c .before .before .before .before .before .before .before .before .u16-at2 .ensures .0) (c .before .before .before .before .before .before .before .entry .result) (c .before .before .before .before .before .before .entry2 .result) (c .before .before .before .before .before .before .before .entry .ensures) (c .before .before .before .before .before .before .entry2 .ensures) (c .before .before .before .before .if1 .left) (c .before .before .if2 .left)
+    concat-yes (s .pre) (c .before .before .before .before .before .before .before .before .before .u16-at .ensures .0) (c .before .before .before .before .before .before .before .before .u16-at2 .ensures .0) (c .before .before .before .before .before .before .before .entry .result) (c .before .before .before .before .before .before .entry2 .result) (c .before .before .before .before .before .before .before .entry .ensures) (c .before .before .before .before .before .before .entry2 .ensures) (c .before .before .before .before .if1 .left) (c .before .before .if2 .left)
 
 pub fit-concat-spec : {M : Type 1} → statement M
 fit-concat-spec = tie.close (tie.spec u16-at-requires u16-at-requires-2 entry-requires entry-requires-2 returns returns-2 add-t10 returns-3)

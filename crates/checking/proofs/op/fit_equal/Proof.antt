@@ -14,7 +14,7 @@ returns c =
     let b = q .records .now in
     let p = q .places .now in
     let a = q .args .now in
-    equal-yes b p a (q .n) (c .before .all-same .result) (c .before .all-same .ensures) (c .if1 .taken)
+    equal-yes b p a (q .n) (c .before .all-same .ensures) (c .if1 .taken)
 
 returns-2 : tie.Need-returns-2
 returns-2 c =
@@ -23,7 +23,7 @@ returns-2 c =
     let b = q .records .now in
     let p = q .places .now in
     let a = q .args .now in
-    equal-no b p a (q .n) (c .before .all-same .result) (c .before .all-same .ensures) (c .if1 .left)
+    equal-no b p a (q .n) (c .before .all-same .ensures) (c .if1 .left)
 
 pub fit-equal-spec : {M : Type 1} → statement M
 fit-equal-spec = tie.close (tie.spec all-same-requires returns returns-2)

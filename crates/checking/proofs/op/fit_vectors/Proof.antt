@@ -11,10 +11,7 @@ u16-at-requires : tie.Need-u16-at-requires
 u16-at-requires c κs =
     let s = c .before .before .before in
     let q = s .args in
-    let b = q .records .now in
-    let p = q .places .now in
-    let a = q .args .now in
-    omega (arith, s .pre .args .within, vectors-some b p a (q .n) (q .result) (s .pre))
+    omega (arith, s .pre .args .within, vectors-some (q .result) (s .pre))
 
 kind-at-requires : tie.Need-kind-at-requires
 kind-at-requires c κs =
@@ -23,16 +20,13 @@ kind-at-requires c κs =
     let b = q .records .now in
     let p = q .places .now in
     let a = q .args .now in
-    arg-asks b p a (q .n) 0 (c .u16-at .result) (s .pre .args) (vectors-some b p a (q .n) (q .result) (s .pre)) (c .u16-at .ensures .0)
+    arg-asks b p a 0 (s .pre .args) (vectors-some (q .result) (s .pre)) (c .u16-at .ensures .0)
 
 returns : tie.Need-returns
 returns c =
     let s = c .before .before .before .before .before .before in
     let q = s .args in
-    let b = q .records .now in
-    let p = q .places .now in
-    let a = q .args .now in
-    vectors-other b p a (q .n) (q .result) (s .pre) (c .before .before .u16-at .result) (c .before .kind-at .result) (c .before .before .u16-at .ensures .0) (c .before .kind-at .ensures) (c .if1 .taken)
+    vectors-other (q .result) (s .pre) (c .before .kind-at .result) (c .before .before .u16-at .ensures .0) (c .before .kind-at .ensures) (c .if1 .taken)
 
 all-same-requires : tie.Need-all-same-requires
 all-same-requires c κs = c .before .before .before .before .before .before .pre .args
@@ -41,37 +35,25 @@ returns-2 : tie.Need-returns-2
 returns-2 c =
     let s = c .before .before .before .before .before .before .before .before in
     let q = s .args in
-    let b = q .records .now in
-    let p = q .places .now in
-    let a = q .args .now in
-    vectors-differ b p a (q .n) (q .result) (s .pre) (c .before .before .before .before .u16-at .result) (c .before .before .before .kind-at .result) (c .before .before .before .before .u16-at .ensures .0) (c .before .before .before .kind-at .ensures) (c .before .all-same .result) (c .before .all-same .ensures) (not-true (c .before .all-same .result) (c .if2 .taken))
+    vectors-differ (q .result) (s .pre) (c .before .before .before .kind-at .result) (c .before .before .before .before .u16-at .ensures .0) (c .before .before .before .kind-at .ensures) (c .before .all-same .result) (c .before .all-same .ensures) (not-true (c .before .all-same .result) (c .if2 .taken))
 
 returns-3 : tie.Need-returns-3
 returns-3 c =
     let s = c .before .before .before .before .before .before .before .before .before in
     let q = s .args in
-    let b = q .records .now in
-    let p = q .places .now in
-    let a = q .args .now in
-    vectors-same b p a (q .n) (q .result) (s .pre) (c .before .before .before .before .before .u16-at .result) (c .before .before .before .before .kind-at .result) (c .before .before .before .before .before .u16-at .ensures .0) (c .before .before .before .before .kind-at .ensures) (c .before .before .all-same .result) (c .before .before .all-same .ensures) (c .before .before .before .if1 .left) (not-false (c .before .before .all-same .result) (c .before .if2 .left)) (c .if3 .taken)
+    vectors-same (q .result) (s .pre) (c .before .before .before .before .kind-at .result) (c .before .before .before .before .before .u16-at .ensures .0) (c .before .before .before .before .kind-at .ensures) (c .before .before .all-same .result) (c .before .before .all-same .ensures) (c .before .before .before .if1 .left) (not-false (c .before .before .all-same .result) (c .before .if2 .left)) (c .if3 .taken)
 
 returns-4 : tie.Need-returns-4
 returns-4 c =
     let s = c .before .before .before .before .before .before .before .before .before .before in
     let q = s .args in
-    let b = q .records .now in
-    let p = q .places .now in
-    let a = q .args .now in
-    vectors-bit b p a (q .n) (q .result) (s .pre) (c .before .before .before .before .before .before .u16-at .result) (c .before .before .before .before .before .kind-at .result) (c .before .before .before .before .before .before .u16-at .ensures .0) (c .before .before .before .before .before .kind-at .ensures) (c .before .before .before .all-same .result) (c .before .before .before .all-same .ensures) (c .before .before .before .before .if1 .left) (not-false (c .before .before .before .all-same .result) (c .before .before .if2 .left)) (c .if4 .taken)
+    vectors-bit (q .result) (s .pre) (c .before .before .before .before .before .kind-at .result) (c .before .before .before .before .before .before .u16-at .ensures .0) (c .before .before .before .before .before .kind-at .ensures) (c .before .before .before .all-same .result) (c .before .before .before .all-same .ensures) (c .before .before .before .before .if1 .left) (not-false (c .before .before .before .all-same .result) (c .before .before .if2 .left)) (c .if4 .taken)
 
 returns-5 : tie.Need-returns-5
 returns-5 c =
     let s = c .before .before .before .before .before .before .before .before .before .before in
     let q = s .args in
-    let b = q .records .now in
-    let p = q .places .now in
-    let a = q .args .now in
-    vectors-kind b p a (q .n) (q .result) (s .pre) (c .before .before .before .before .before .before .u16-at .result) (c .before .before .before .before .before .kind-at .result) (c .before .before .before .before .before .before .u16-at .ensures .0) (c .before .before .before .before .before .kind-at .ensures) (c .before .before .before .all-same .result) (c .before .before .before .all-same .ensures) (c .before .before .before .before .if1 .left) (not-false (c .before .before .before .all-same .result) (c .before .before .if2 .left)) (c .before .if3 .left) (c .if4 .left)
+    vectors-kind (q .result) (s .pre) (c .before .before .before .before .before .kind-at .result) (c .before .before .before .before .before .before .u16-at .ensures .0) (c .before .before .before .before .before .kind-at .ensures) (c .before .before .before .all-same .result) (c .before .before .before .all-same .ensures) (c .before .before .before .before .if1 .left) (not-false (c .before .before .before .all-same .result) (c .before .before .if2 .left)) (c .before .if3 .left) (c .if4 .left)
 
 pub fit-vectors-spec : {M : Type 1} → statement M
 fit-vectors-spec = tie.close (tie.spec u16-at-requires kind-at-requires returns all-same-requires returns-2 returns-3 returns-4 returns-5)

@@ -30,7 +30,7 @@ kind-at-requires c κs =
     let b = q .records .now in
     let p = q .places .now in
     let a = q .args .now in
-    arg-asks b p a (q .n) (q .i) (c .u16-at .result) (s .pre) (c .before .if1 .left) (c .u16-at .ensures .0)
+    arg-asks b p a (q .i) (s .pre) (c .before .if1 .left) (c .u16-at .ensures .0)
 
 returns-2 : tie.Need-returns-2
 returns-2 c =
@@ -39,7 +39,7 @@ returns-2 c =
     let b = q .records .now in
     let p = q .places .now in
     let a = q .args .now in
-    kind-there b p a (q .n) (q .i) (q .kind) (c .before .u16-at .result) (c .kind-at .result) (c .before .before .if1 .left) (c .before .u16-at .ensures .0) (c .kind-at .ensures)
+    kind-there b p a (q .n) (q .i) (q .kind) (c .kind-at .result) (c .before .before .if1 .left) (c .before .u16-at .ensures .0) (c .kind-at .ensures)
 
 pub is-kind-spec : {M : Type 1} → statement M
 is-kind-spec = tie.close (tie.spec returns mul-u16-at add-u16-at u16-at-requires kind-at-requires returns-2)

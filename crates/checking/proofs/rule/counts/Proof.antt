@@ -9,7 +9,7 @@ use Rattle.checking.proofs.rule.counts.Statement.{statement}
 use Rattle.checking.proofs.rule.counts.Tie as tie
 
 returns : tie.Need-returns
-returns c = vectors-more (c .before .before .before .before .args .rule) (c .before .before .before .before .args .n) (c .before .before .rule3 .given .0 .0) (c .before .before .rule3 .given .0 .1 .0) (c .before .before .rule3 .given .0 .1 .1 .0) (c .before .before .rule3 .given .1) (c .if1 .taken)
+returns c = vectors-more (c .before .before .before .before .args .n) (c .before .before .rule3 .given .0 .0) (c .before .before .rule3 .given .0 .1 .1 .0) (c .before .before .rule3 .given .1) (c .if1 .taken)
 
 returns-2 : tie.Need-returns-2
 returns-2 c = sym (ap (λ (r : Rule). countsFor r (c .before .before .args .n)) (c .enum-told .given .1))
@@ -36,7 +36,7 @@ returns-9 : tie.Need-returns-9
 returns-9 c = sym (ap (λ (r : Rule). countsFor r (c .before .before .args .n)) (c .enum-told6 .given .1))
 
 returns-10 : tie.Need-returns-10
-returns-10 c = vectors-only (c .before .before .before .before .args .rule) (c .before .before .before .before .args .n) (c .before .before .rule3 .given .0 .0) (c .before .before .rule3 .given .0 .1 .0) (c .before .before .rule3 .given .0 .1 .1 .0) (c .before .before .rule3 .given .1) (c .if1 .left)
+returns-10 c = vectors-only (c .before .before .before .before .args .n) (c .before .before .rule3 .given .0 .0) (c .before .before .rule3 .given .0 .1 .0) (c .before .before .rule3 .given .0 .1 .1 .0) (c .before .before .rule3 .given .1) (c .if1 .left)
 
 returns-11 : tie.Need-returns-11
 returns-11 c = sym (ap (λ (r : Rule). countsFor r (c .before .before .args .n)) (c .enum-told7 .given .1))

@@ -35,7 +35,7 @@ returns-2 c =
     let ix = q .index .now in
     let n = q .count in
     let u = q .used in
-    judged-as (constant-zero (q .kind) (q .number) (c .before .before .if1 .left) (c .before .if2 .taken)) (answered-as (c .refuse .ensures) (answer-refused b p ix n u (s .pre) Barred))
+    judged-as (constant-zero (q .kind) (c .before .before .if1 .left) (c .before .if2 .taken)) (answered-as (c .refuse .ensures) (answer-refused b p ix n u (s .pre) Barred))
 
 bit-vector-requires : tie.Need-bit-vector-requires
 bit-vector-requires c κs = c .before .before .before .before .before .before .before .before .pre

@@ -16,18 +16,12 @@ returns c =
     let b = q .records .now in
     let p = q .places .now in
     let n = q .count in
-    let a = q .args .now in
-    λ ix g. judged-as (letting-few b p n a (q .n) (s .pre) (c .before .if1 .taken)) (answered-as (c .refuse .ensures) (answer-refused b p ix n (q .used) g Count))
+    λ ix g. judged-as (letting-few (s .pre) (c .before .if1 .taken)) (answered-as (c .refuse .ensures) (answer-refused b p ix n (q .used) g Count))
 
 all-values-requires : tie.Need-all-values-requires
 all-values-requires c κs =
     let s = c .before .before .before .before in
-    let q = s .args in
-    let b = q .records .now in
-    let p = q .places .now in
-    let n = q .count in
-    let a = q .args .now in
-    over-values b p n a (q .n) (s .pre)
+    over-values (s .pre)
 
 returns-2 : tie.Need-returns-2
 returns-2 c =
@@ -36,8 +30,7 @@ returns-2 c =
     let b = q .records .now in
     let p = q .places .now in
     let n = q .count in
-    let a = q .args .now in
-    λ ix g. judged-as (letting-par b p n a (q .n) (s .pre) (c .before .before .before .if1 .left) (c .before .before .all-values .result) (c .before .before .all-values .ensures) (not-true (c .before .before .all-values .result) (c .before .if2 .taken))) (answered-as (c .refuse2 .ensures) (answer-refused b p ix n (q .used) g Misfit))
+    λ ix g. judged-as (letting-par (s .pre) (c .before .before .before .if1 .left) (c .before .before .all-values .result) (c .before .before .all-values .ensures) (not-true (c .before .before .all-values .result) (c .before .if2 .taken))) (answered-as (c .refuse2 .ensures) (answer-refused b p ix n (q .used) g Misfit))
 
 sub-u16-at : tie.Need-sub-u16-at
 sub-u16-at c = omega (arith, c .before .before .if1 .left)
@@ -58,10 +51,9 @@ returns-3 c =
     let b = q .records .now in
     let p = q .places .now in
     let n = q .count in
-    let a = q .args .now in
     λ ix g.
-    judged-as (letting-inner b p n a (q .n) (s .pre) (c .before .before .before .before .if1 .left) (c .before .before .before .all-values .result) (c .before .before .before .all-values .ensures) (not-false (c .before .before .before .all-values .result) (c .before .before .if2 .left)) (c .before .u16-at .result) (c .before .u16-at .ensures .0))
-    (answered-as (c .found .ensures) (answer-known b p ix n (q .used) g (c .before .u16-at .result) (inner-known b p n a (q .n) (s .pre) (c .before .before .before .before .if1 .left) (c .before .before .before .all-values .result) (c .before .before .before .all-values .ensures) (c .before .u16-at .result) (c .before .u16-at .ensures .0))))
+    judged-as (letting-inner (s .pre) (c .before .before .before .before .if1 .left) (c .before .before .before .all-values .result) (c .before .before .before .all-values .ensures) (not-false (c .before .before .before .all-values .result) (c .before .before .if2 .left)) (c .before .u16-at .ensures .0))
+    (answered-as (c .found .ensures) (answer-known b p ix n (q .used) g (c .before .u16-at .result) (inner-known (s .pre) (c .before .before .before .before .if1 .left) (c .before .before .before .all-values .result) (c .before .before .before .all-values .ensures) (c .before .u16-at .ensures .0))))
 
 pub letting-spec : {M : Type 1} → statement M
 letting-spec = tie.close (tie.spec (λ c κs. search needs) returns all-values-requires (λ c κs. search needs) returns-2 sub-u16-at mul-u16-at add-u16-at u16-at-requires (λ c κs. search needs) returns-3)

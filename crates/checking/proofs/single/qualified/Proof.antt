@@ -16,8 +16,7 @@ returns c =
     let b = q .records .now in
     let p = q .places .now in
     let n = q .count in
-    let a = q .args .now in
-    λ ix g. judged-as (qualified-other b p n (q .k) a (q .n) (s .pre) (q .number) (c .before .if1 .taken)) (answered-as (c .refuse .ensures) (answer-refused b p ix n (q .used) g NoRank))
+    λ ix g. judged-as (qualified-other (s .pre) (q .number) (c .before .if1 .taken)) (answered-as (c .refuse .ensures) (answer-refused b p ix n (q .used) g NoRank))
 
 is-proper-requires : tie.Need-is-proper-requires
 is-proper-requires c κs = c .before .before .before .before .pre .own
@@ -29,8 +28,7 @@ returns-2 c =
     let b = q .records .now in
     let p = q .places .now in
     let n = q .count in
-    let a = q .args .now in
-    λ ix g. judged-as (qualified-barred b p n (q .k) a (q .n) (s .pre) (q .number) (c .before .before .before .if1 .left) (c .before .before .is-proper .result) (c .before .before .is-proper .ensures) (not-true (c .before .before .is-proper .result) (c .before .if2 .taken))) (answered-as (c .refuse2 .ensures) (answer-refused b p ix n (q .used) g Barred))
+    λ ix g. judged-as (qualified-barred (s .pre) (q .number) (c .before .before .before .if1 .left) (c .before .before .is-proper .ensures) (not-true (c .before .before .is-proper .result) (c .before .if2 .taken))) (answered-as (c .refuse2 .ensures) (answer-refused b p ix n (q .used) g Barred))
 
 returns-3 : tie.Need-returns-3
 returns-3 c =
@@ -39,17 +37,12 @@ returns-3 c =
     let b = q .records .now in
     let p = q .places .now in
     let n = q .count in
-    let a = q .args .now in
-    λ ix g. judged-as (qualified-count b p n (q .k) a (q .n) (s .pre) (q .number) (c .before .before .before .before .if1 .left) (c .before .before .before .is-proper .result) (c .before .before .before .is-proper .ensures) (not-false (c .before .before .before .is-proper .result) (c .before .before .if2 .left)) (c .before .if3 .taken)) (answered-as (c .refuse3 .ensures) (answer-refused b p ix n (q .used) g Count))
+    λ ix g. judged-as (qualified-count (s .pre) (q .number) (c .before .before .before .before .if1 .left) (c .before .before .before .is-proper .ensures) (not-false (c .before .before .before .is-proper .result) (c .before .before .if2 .left)) (c .before .if3 .taken)) (answered-as (c .refuse3 .ensures) (answer-refused b p ix n (q .used) g Count))
 
 entry-requires : tie.Need-entry-requires
 entry-requires c κs =
     let s = c .before .before .before .before .before .before .before in
-    let q = s .args in
-    let b = q .records .now in
-    let p = q .places .now in
-    let n = q .count in
-    own-entry b p n (q .k) (s .pre .own)
+    own-entry (s .pre .own)
 
 returns-4 : tie.Need-returns-4
 returns-4 c =
@@ -58,28 +51,19 @@ returns-4 c =
     let b = q .records .now in
     let p = q .places .now in
     let n = q .count in
-    let a = q .args .now in
-    λ ix g. judged-as (qualified-kind b p n (q .k) a (q .n) (s .pre) (q .number) (c .before .before .before .before .before .before .before .if1 .left) (c .before .before .before .before .before .before .is-proper .result) (c .before .before .before .before .before .before .is-proper .ensures) (not-false (c .before .before .before .before .before .before .is-proper .result) (c .before .before .before .before .before .if2 .left)) (c .before .before .before .before .if3 .left) (c .before .before .before .entry .result) (c .before .before .before .entry .ensures) (c .before .if4 .taken)) (answered-as (c .refuse4 .ensures) (answer-refused b p ix n (q .used) g Misfit))
+    λ ix g. judged-as (qualified-kind (s .pre) (q .number) (c .before .before .before .before .before .before .before .if1 .left) (c .before .before .before .before .before .before .is-proper .ensures) (not-false (c .before .before .before .before .before .before .is-proper .result) (c .before .before .before .before .before .if2 .left)) (c .before .before .before .before .if3 .left) (c .before .before .before .entry .result) (c .before .before .before .entry .ensures) (c .before .if4 .taken)) (answered-as (c .refuse4 .ensures) (answer-refused b p ix n (q .used) g Misfit))
 
 add-u16-at : tie.Need-add-u16-at
 add-u16-at c =
     let s = c .before .before .before .before .before .before .before .before .before .before in
     let q = s .args in
-    let b = q .records .now in
-    let p = q .places .now in
-    let n = q .count in
-    let a = q .args .now in
-    omega (arith, element-place b p n (q .k) a (q .n) (s .pre) (q .number) (c .before .before .before .before .before .before .if1 .left) (c .before .before .before .before .before .is-proper .result) (c .before .before .before .before .before .is-proper .ensures) (not-false (c .before .before .before .before .before .is-proper .result) (c .before .before .before .before .if2 .left)) (c .before .before .before .if3 .left) (c .before .before .entry .result) (c .before .before .entry .ensures) (c .if4 .left), s .good .0)
+    omega (arith, element-place (s .pre) (q .number) (c .before .before .before .before .before .before .if1 .left) (c .before .before .before .before .before .is-proper .ensures) (not-false (c .before .before .before .before .before .is-proper .result) (c .before .before .before .before .if2 .left)) (c .before .before .before .if3 .left) (c .before .before .entry .result) (c .before .before .entry .ensures) (c .if4 .left), s .good .0)
 
 u16-at-requires : tie.Need-u16-at-requires
 u16-at-requires c κs =
     let s = c .before .before .before .before .before .before .before .before .before .before in
     let q = s .args in
-    let b = q .records .now in
-    let p = q .places .now in
-    let n = q .count in
-    let a = q .args .now in
-    omega (arith, element-place b p n (q .k) a (q .n) (s .pre) (q .number) (c .before .before .before .before .before .before .if1 .left) (c .before .before .before .before .before .is-proper .result) (c .before .before .before .before .before .is-proper .ensures) (not-false (c .before .before .before .before .before .is-proper .result) (c .before .before .before .before .if2 .left)) (c .before .before .before .if3 .left) (c .before .before .entry .result) (c .before .before .entry .ensures) (c .if4 .left))
+    omega (arith, element-place (s .pre) (q .number) (c .before .before .before .before .before .before .if1 .left) (c .before .before .before .before .before .is-proper .ensures) (not-false (c .before .before .before .before .before .is-proper .result) (c .before .before .before .before .if2 .left)) (c .before .before .before .if3 .left) (c .before .before .entry .result) (c .before .before .entry .ensures) (c .if4 .left))
 
 u16-at-requires-2 : tie.Need-u16-at-requires-2
 u16-at-requires-2 c κs = omega (arith, c .before .before .before .before .before .before .before .before .before .before .before .pre .args .within, c .before .before .before .before .if3 .left)
@@ -91,8 +75,7 @@ returns-5 c =
     let b = q .records .now in
     let p = q .places .now in
     let n = q .count in
-    let a = q .args .now in
-    λ ix g. judged-as (qualified-misfit b p n (q .k) a (q .n) (s .pre) (q .number) (c .before .before .before .before .before .before .before .before .before .before .if1 .left) (c .before .before .before .before .before .before .before .before .before .is-proper .result) (c .before .before .before .before .before .before .before .before .before .is-proper .ensures) (not-false (c .before .before .before .before .before .before .before .before .before .is-proper .result) (c .before .before .before .before .before .before .before .before .if2 .left)) (c .before .before .before .before .before .before .before .if3 .left) (c .before .before .before .before .before .before .entry .result) (c .before .before .before .before .before .before .entry .ensures) (c .before .before .before .before .if4 .left) (c .before .before .before .u16-at .result) (c .before .before .u16-at2 .result) (c .before .before .before .u16-at .ensures .0) (c .before .before .u16-at2 .ensures .0) (c .before .if5 .taken)) (answered-as (c .refuse5 .ensures) (answer-refused b p ix n (q .used) g Misfit))
+    λ ix g. judged-as (qualified-misfit (s .pre) (q .number) (c .before .before .before .before .before .before .before .before .before .before .if1 .left) (c .before .before .before .before .before .before .before .before .before .is-proper .ensures) (not-false (c .before .before .before .before .before .before .before .before .before .is-proper .result) (c .before .before .before .before .before .before .before .before .if2 .left)) (c .before .before .before .before .before .before .before .if3 .left) (c .before .before .before .before .before .before .entry .result) (c .before .before .before .before .before .before .entry .ensures) (c .before .before .before .before .if4 .left) (c .before .before .before .u16-at .ensures .0) (c .before .before .u16-at2 .ensures .0) (c .before .if5 .taken)) (answered-as (c .refuse5 .ensures) (answer-refused b p ix n (q .used) g Misfit))
 
 returns-6 : tie.Need-returns-6
 returns-6 c =
@@ -101,8 +84,7 @@ returns-6 c =
     let b = q .records .now in
     let p = q .places .now in
     let n = q .count in
-    let a = q .args .now in
-    λ ix g. judged-as (qualified-fits b p n (q .k) a (q .n) (s .pre) (q .number) (c .before .before .before .before .before .before .before .before .before .before .if1 .left) (c .before .before .before .before .before .before .before .before .before .is-proper .result) (c .before .before .before .before .before .before .before .before .before .is-proper .ensures) (not-false (c .before .before .before .before .before .before .before .before .before .is-proper .result) (c .before .before .before .before .before .before .before .before .if2 .left)) (c .before .before .before .before .before .before .before .if3 .left) (c .before .before .before .before .before .before .entry .result) (c .before .before .before .before .before .before .entry .ensures) (c .before .before .before .before .if4 .left) (c .before .before .before .u16-at .result) (c .before .before .u16-at2 .result) (c .before .before .before .u16-at .ensures .0) (c .before .before .u16-at2 .ensures .0) (c .before .if5 .left)) (answered-as (c .found .ensures) (answer-known b p ix n (q .used) g (q .k) (s .pre .own .known)))
+    λ ix g. judged-as (qualified-fits (s .pre) (q .number) (c .before .before .before .before .before .before .before .before .before .before .if1 .left) (c .before .before .before .before .before .before .before .before .before .is-proper .ensures) (not-false (c .before .before .before .before .before .before .before .before .before .is-proper .result) (c .before .before .before .before .before .before .before .before .if2 .left)) (c .before .before .before .before .before .before .before .if3 .left) (c .before .before .before .before .before .before .entry .result) (c .before .before .before .before .before .before .entry .ensures) (c .before .before .before .before .if4 .left) (c .before .before .before .u16-at .ensures .0) (c .before .before .u16-at2 .ensures .0) (c .before .if5 .left)) (answered-as (c .found .ensures) (answer-known b p ix n (q .used) g (q .k) (s .pre .own .known)))
 
 pub qualified-spec : {M : Type 1} → statement M
 qualified-spec = tie.close (tie.spec (λ c κs. search needs) returns is-proper-requires (λ c κs. search needs) returns-2 (λ c κs. search needs) returns-3 entry-requires (λ c κs. search needs) returns-4 add-u16-at u16-at-requires u16-at-requires-2 (λ c κs. search needs) returns-5 (λ c κs. search needs) returns-6)

@@ -20,7 +20,7 @@ returns c =
     let b = q .records .now in
     let p = q .places .now in
     let n = q .count in
-    λ ix g. judged-as (need-taken (c .before .before .is-carried .result) (sort (sortAt b p n (q .k))) (carried (sortAt b p n (q .k))) (c .before .before .is-carried .ensures) (c .before .if1 .taken))
+    λ ix g. judged-as (need-taken (sort (sortAt b p n (q .k))) (carried (sortAt b p n (q .k))) (c .before .before .is-carried .ensures) (c .before .if1 .taken))
     (answered-as (c .found .ensures) (answer-known b p ix n (q .used) g (q .k) (s .pre .known)))
 
 returns-2 : tie.Need-returns-2
@@ -30,7 +30,7 @@ returns-2 c =
     let b = q .records .now in
     let p = q .places .now in
     let n = q .count in
-    λ ix g. judged-as (need-left (c .before .before .is-carried .result) (sort (sortAt b p n (q .k))) (carried (sortAt b p n (q .k))) (c .before .before .is-carried .ensures) (c .before .if1 .left))
+    λ ix g. judged-as (need-left (sort (sortAt b p n (q .k))) (carried (sortAt b p n (q .k))) (c .before .before .is-carried .ensures) (c .before .if1 .left))
     (answered-as (c .refuse .ensures) (answer-refused b p ix n (q .used) g Barred))
 
 pub variable-spec : {M : Type 1} → statement M

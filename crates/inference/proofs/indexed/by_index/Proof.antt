@@ -42,7 +42,7 @@ returns c =
     let m = a .n in
     let z = a .sheet .now in
     let t = a .starts .now in
-    judged-as {b = b} {p = p} {n = n} (given-extract (a .i) (constantsIn z t (a .second + 2) (a .seconds - 1)) (sortsIn b p n x 3 m) (a .op) (c .before .before .before .before .before .before .before .before .before .before .match .keys1)) (c .before .before .before .before .before .before .extracted .ensures)
+    judged-as {b = b} {p = p} {n = n} (given-extract (a .i) (constantsIn z t (a .second + 2) (a .seconds - 1)) (sortsIn b p n x 3 m) (c .before .before .before .before .before .before .before .before .before .before .match .keys1)) (c .before .before .before .before .before .before .extracted .ensures)
 
 returns-2 : tie.Need-returns-2
 returns-2 c =
@@ -55,7 +55,7 @@ returns-2 c =
     let m = a .n in
     let z = a .sheet .now in
     let t = a .starts .now in
-    judged-as (given-repeat (a .i) (constantsIn z t (a .second + 2) (a .seconds - 1)) (sortsIn b p n x 3 m) (a .op) (c .before .before .before .before .before .before .before .before .before .before .match .keys2)) (c .before .before .before .before .before .before .resized .ensures)
+    judged-as (given-repeat (a .i) (constantsIn z t (a .second + 2) (a .seconds - 1)) (sortsIn b p n x 3 m) (c .before .before .before .before .before .before .before .before .before .before .match .keys2)) (c .before .before .before .before .before .before .resized .ensures)
 
 returns-3 : tie.Need-returns-3
 returns-3 c =
@@ -81,8 +81,8 @@ returns-4 c =
     let m = a .n in
     let z = a .sheet .now in
     let t = a .starts .now in
-    let e : a .op ≡ 9 = ⊎-elim (λ v. convert-low (a .op) (s .pre .first .looks) (c .before .before .before .before .before .before .before .before .before .before .before .match .rest .0 .1) (v .taken)) (λ v. convert-high (a .op) (s .pre .first .looks) (c .before .before .before .before .before .before .before .before .before .before .before .match .rest .1) (v .1 .left)) (c .before .before .before .before .before .before .before .before .before .before .if1 .came) in
-    judged-as (given-convert (a .i) (constantsIn z t (a .second + 2) (a .seconds - 1)) (sortsIn b p n x 3 m) (a .op) e) (c .before .before .before .before .before .before .bit-vector .ensures)
+    let e : a .op ≡ 9 = ⊎-elim (λ v. convert-low (s .pre .first .looks) (c .before .before .before .before .before .before .before .before .before .before .before .match .rest .0 .1) (v .taken)) (λ v. convert-high (s .pre .first .looks) (c .before .before .before .before .before .before .before .before .before .before .before .match .rest .1) (v .1 .left)) (c .before .before .before .before .before .before .before .before .before .before .if1 .came) in
+    judged-as (given-convert (a .i) (constantsIn z t (a .second + 2) (a .seconds - 1)) (sortsIn b p n x 3 m) e) (c .before .before .before .before .before .before .bit-vector .ensures)
 
 pub by-index-spec : {M : Type 1} → statement M
 by-index-spec = tie.close (tie.spec extracted-requires resized-requires resized-requires-2 bit-vector-requires (λ c. search needs) (λ c. search needs) (λ c. search needs) returns (λ c. search needs) (λ c. search needs) (λ c. search needs) returns-2 (λ c. search needs) (λ c. search needs) (λ c. search needs) returns-3 (λ c. search needs) (λ c. search needs) (λ c. search needs) returns-4)

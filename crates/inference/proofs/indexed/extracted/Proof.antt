@@ -49,7 +49,7 @@ returns-2 c =
     let u = a .used in
     let z = a .sheet .now in
     let t = a .starts .now in
-    judged-as (extract-second z t (a .second) (a .seconds) (a .i) (c .before .before .before .before .before .before .if1 .left) (c .before .before .before .before .before .index-at .result) (c .before .before .before .before .before .index-at .ensures) ∙ ap (λ (o : Constant). extractBy (a .i) (integerOf o)) (c .before .before .before .low .given .1) ∙ extract-over (a .i) (c .before .before .before .low .given .0 .0) (c .before .if2 .taken)) (answered-as (c .refuse2 .ensures) (answer-refused b p ix n u (s .pre .good) Panics))
+    judged-as (extract-second z t (a .second) (a .seconds) (a .i) (c .before .before .before .before .before .before .if1 .left) (c .before .before .before .before .before .index-at .ensures) ∙ ap (λ (o : Constant). extractBy (a .i) (integerOf o)) (c .before .before .before .low .given .1) ∙ extract-over (a .i) (c .before .before .before .low .given .0 .0) (c .before .if2 .taken)) (answered-as (c .refuse2 .ensures) (answer-refused b p ix n u (s .pre .good) Panics))
 
 add-bit-vector : tie.Need-add-bit-vector
 add-bit-vector c =
@@ -73,7 +73,7 @@ returns-3 c =
     let a = s .args in
     let z = a .sheet .now in
     let t = a .starts .now in
-    judged-as (extract-second z t (a .second) (a .seconds) (a .i) (c .before .before .before .before .before .before .before .before .before .before .before .before .before .before .before .if1 .left) (c .before .before .before .before .before .before .before .before .before .before .before .before .before .before .index-at .result) (c .before .before .before .before .before .before .before .before .before .before .before .before .before .before .index-at .ensures) ∙ ap (λ (o : Constant). extractBy (a .i) (integerOf o)) (c .before .before .before .before .before .before .before .before .before .before .before .before .low .given .1) ∙ extract-fits (a .i) (c .before .before .before .before .before .before .before .before .before .before .before .before .low .given .0 .0) (c .before .before .before .before .before .before .before .before .before .before .if2 .left)) (c .before .before .before .before .before .before .bit-vector .ensures)
+    judged-as (extract-second z t (a .second) (a .seconds) (a .i) (c .before .before .before .before .before .before .before .before .before .before .before .before .before .before .before .if1 .left) (c .before .before .before .before .before .before .before .before .before .before .before .before .before .before .index-at .ensures) ∙ ap (λ (o : Constant). extractBy (a .i) (integerOf o)) (c .before .before .before .before .before .before .before .before .before .before .before .before .low .given .1) ∙ extract-fits (a .i) (c .before .before .before .before .before .before .before .before .before .before .before .before .low .given .0 .0) (c .before .before .before .before .before .before .before .before .before .before .if2 .left)) (c .before .before .before .before .before .before .bit-vector .ensures)
 
 returns-4 : tie.Need-returns-4
 returns-4 c =
@@ -81,7 +81,7 @@ returns-4 c =
     let a = s .args in
     let z = a .sheet .now in
     let t = a .starts .now in
-    judged-as (extract-second z t (a .second) (a .seconds) (a .i) (c .before .before .before .before .before .before .before .before .before .before .before .before .before .if1 .left) (c .before .before .before .before .before .before .before .before .before .before .before .before .index-at .result) (c .before .before .before .before .before .before .before .before .before .before .before .before .index-at .ensures) ∙ ap (λ (o : Constant). extractBy (a .i) (integerOf o)) (c .before .before .before .before .before .before .before .before .before .before .enum-told .given .1)) (c .before .before .before .before .before .before .leaf .ensures)
+    judged-as (extract-second z t (a .second) (a .seconds) (a .i) (c .before .before .before .before .before .before .before .before .before .before .before .before .before .if1 .left) (c .before .before .before .before .before .before .before .before .before .before .before .before .index-at .ensures) ∙ ap (λ (o : Constant). extractBy (a .i) (integerOf o)) (c .before .before .before .before .before .before .before .before .before .before .enum-told .given .1)) (c .before .before .before .before .before .before .leaf .ensures)
 
 pub extracted-spec : {M : Type 1} → statement M
 extracted-spec = tie.close (tie.spec (λ c κs. search needs) returns add-index-at index-at-requires (λ c. search needs) (λ c κs. search needs) returns-2 add-bit-vector bit-vector-requires (λ c. search needs) leaf-requires (λ c. search needs) (λ c. search needs) (λ c. search needs) returns-3 (λ c. search needs) (λ c. search needs) (λ c. search needs) returns-4)

@@ -30,7 +30,7 @@ returns c =
     let m = a .n in
     let z = a .sheet .now in
     let t = a .starts .now in
-    judged-as (ap (λ (is : List (Option ℕ)). indexed (a .op) is (sortsIn b p n x 3 m)) (constants-none z t (a .second) (a .seconds) (c .before .if1 .taken)) ∙ looks-none (a .op) (sortsIn b p n x 3 m) (s .pre .looks)) (answered-as (c .refuse .ensures) (answer-refused b p ix n u (s .pre .asks .args .good) Panics))
+    judged-as (ap (λ (is : List (Option ℕ)). indexed (a .op) is (sortsIn b p n x 3 m)) (constants-none z t (a .second) (a .seconds) (c .before .if1 .taken)) ∙ looks-none (sortsIn b p n x 3 m) (s .pre .looks)) (answered-as (c .refuse .ensures) (answer-refused b p ix n u (s .pre .asks .args .good) Panics))
 
 index-at-requires : tie.Need-index-at-requires
 index-at-requires c κs =
@@ -63,7 +63,7 @@ returns-2 c =
     let z = a .sheet .now in
     let t = a .starts .now in
     let d = c .before .before .before .before .before .before .by-index .last in
-    judged-as {b = b} {p = p} {n = n} {b′ = d .0} {p′ = d .1 .0} {ix′ = d .1 .1 .0} (looks-first z t (a .second) (a .seconds) (positive (a .seconds) (c .before .before .before .before .before .before .before .before .before .before .before .before .before .before .if1 .left)) (c .before .before .before .before .before .before .before .before .before .before .before .before .before .index-at .result) (c .before .before .before .before .before .before .before .before .before .before .before .before .before .index-at .ensures) (a .op) (sortsIn b p n x 3 m) ∙ ap (λ (o : Constant). indexed (a .op) (integerOf o ∷ constantsIn z t (a .second + 2) (a .seconds - 1)) (sortsIn b p n x 3 m)) (c .before .before .before .before .before .before .before .before .before .before .before .first .given .1)) (c .before .before .before .before .before .before .by-index .ensures)
+    judged-as {b = b} {p = p} {n = n} {b′ = d .0} {p′ = d .1 .0} {ix′ = d .1 .1 .0} (looks-first (a .seconds) (positive (a .seconds) (c .before .before .before .before .before .before .before .before .before .before .before .before .before .before .if1 .left)) (c .before .before .before .before .before .before .before .before .before .before .before .before .before .index-at .ensures) (a .op) (sortsIn b p n x 3 m) ∙ ap (λ (o : Constant). indexed (a .op) (integerOf o ∷ constantsIn z t (a .second + 2) (a .seconds - 1)) (sortsIn b p n x 3 m)) (c .before .before .before .before .before .before .before .before .before .before .before .first .given .1)) (c .before .before .before .before .before .before .by-index .ensures)
 
 returns-3 : tie.Need-returns-3
 returns-3 c =
@@ -76,7 +76,7 @@ returns-3 c =
     let m = a .n in
     let z = a .sheet .now in
     let t = a .starts .now in
-    judged-as (looks-first z t (a .second) (a .seconds) (positive (a .seconds) (c .before .before .before .before .before .before .before .before .before .before .before .before .before .if1 .left)) (c .before .before .before .before .before .before .before .before .before .before .before .before .index-at .result) (c .before .before .before .before .before .before .before .before .before .before .before .before .index-at .ensures) (a .op) (sortsIn b p n x 3 m) ∙ ap (λ (o : Constant). indexed (a .op) (integerOf o ∷ constantsIn z t (a .second + 2) (a .seconds - 1)) (sortsIn b p n x 3 m)) (c .before .before .before .before .before .before .before .before .before .before .enum-told .given .1) ∙ looks-unknown (a .op) (constantsIn z t (a .second + 2) (a .seconds - 1)) (sortsIn b p n x 3 m) (s .pre .looks)) (c .before .before .before .before .before .before .leaf .ensures)
+    judged-as (looks-first (a .seconds) (positive (a .seconds) (c .before .before .before .before .before .before .before .before .before .before .before .before .before .if1 .left)) (c .before .before .before .before .before .before .before .before .before .before .before .before .index-at .ensures) (a .op) (sortsIn b p n x 3 m) ∙ ap (λ (o : Constant). indexed (a .op) (integerOf o ∷ constantsIn z t (a .second + 2) (a .seconds - 1)) (sortsIn b p n x 3 m)) (c .before .before .before .before .before .before .before .before .before .before .enum-told .given .1) ∙ looks-unknown (constantsIn z t (a .second + 2) (a .seconds - 1)) (sortsIn b p n x 3 m) (s .pre .looks)) (c .before .before .before .before .before .before .leaf .ensures)
 
 pub first-index-spec : {M : Type 1} → statement M
 first-index-spec = tie.close (tie.spec (λ c κs. search needs) returns index-at-requires (λ c. search needs) by-index-requires (λ c. search needs) leaf-requires (λ c. search needs) (λ c. search needs) (λ c. search needs) returns-2 (λ c. search needs) (λ c. search needs) (λ c. search needs) returns-3)

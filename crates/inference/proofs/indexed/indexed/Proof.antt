@@ -56,7 +56,7 @@ returns c =
     let m = a .n in
     let z = a .sheet .now in
     let t = a .starts .now in
-    judged-as (bit-of (constantsIn z t (a .second) (a .seconds)) (sortsIn b p n x 3 m) (a .op) (c .before .before .before .before .before .before .before .before .before .before .match .keys2)) (c .before .before .before .before .before .before .leaf .ensures)
+    judged-as (bit-of (constantsIn z t (a .second) (a .seconds)) (sortsIn b p n x 3 m) (c .before .before .before .before .before .before .before .before .before .before .match .keys2)) (c .before .before .before .before .before .before .leaf .ensures)
 
 returns-2 : tie.Need-returns-2
 returns-2 c =
@@ -69,7 +69,7 @@ returns-2 c =
     let m = a .n in
     let z = a .sheet .now in
     let t = a .starts .now in
-    judged-as (int-of (constantsIn z t (a .second) (a .seconds)) (sortsIn b p n x 3 m) (a .op) (c .before .before .before .before .before .before .before .before .before .before .match .keys3)) (c .before .before .before .before .before .before .leaf2 .ensures)
+    judged-as (int-of (constantsIn z t (a .second) (a .seconds)) (sortsIn b p n x 3 m) (c .before .before .before .before .before .before .before .before .before .before .match .keys3)) (c .before .before .before .before .before .before .leaf2 .ensures)
 
 returns-3 : tie.Need-returns-3
 returns-3 c =

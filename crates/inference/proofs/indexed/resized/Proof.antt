@@ -66,7 +66,7 @@ returns-2 c =
     let u = a .used in
     let x = a .args .now in
     let m = a .n in
-    judged-as (resized-unknown b p n x m (args-refer b p ix n u x m (s .pre .args)) (positive m (c .before .before .before .before .before .before .before .before .before .before .before .before .before .before .before .if1 .left)) (c .before .before .before .before .before .before .before .before .before .before .before .before .before .before .u16-at .result) (c .before .before .before .before .before .before .before .before .before .before .before .before .before .before .u16-at .ensures .0) (c .before .before .before .before .before .before .before .before .before .before .before .entry .result) (c .before .before .before .before .before .before .before .before .before .before .before .entry .ensures) (resizing (a .adds) (a .i)) (c .before .before .before .before .before .before .before .before .before .before .if2 .taken)) (c .before .before .before .before .before .before .leaf .ensures)
+    judged-as (resized-unknown (args-refer b p ix n u x m (s .pre .args)) (positive m (c .before .before .before .before .before .before .before .before .before .before .before .before .before .before .before .if1 .left)) (c .before .before .before .before .before .before .before .before .before .before .before .before .before .before .u16-at .ensures .0) (c .before .before .before .before .before .before .before .before .before .before .before .entry .result) (c .before .before .before .before .before .before .before .before .before .before .before .entry .ensures) (resizing (a .adds) (a .i)) (c .before .before .before .before .before .before .before .before .before .before .if2 .taken)) (c .before .before .before .before .before .before .leaf .ensures)
 
 returns-3 : tie.Need-returns-3
 returns-3 c =
@@ -79,7 +79,7 @@ returns-3 c =
     let u = a .used in
     let x = a .args .now in
     let m = a .n in
-    judged-as (resized-other b p n x m (args-refer b p ix n u x m (s .pre .args)) (positive m (c .before .before .before .before .before .before .before .if1 .left)) (c .before .before .before .before .before .before .u16-at .result) (c .before .before .before .before .before .before .u16-at .ensures .0) (c .before .before .before .entry .result) (c .before .before .before .entry .ensures) (resizing (a .adds) (a .i)) (c .before .if3 .taken) (c .before .before .if2 .left)) (answered-as (c .refuse2 .ensures) (answer-refused b p ix n u (s .pre .args .good) Panics))
+    judged-as (resized-other (args-refer b p ix n u x m (s .pre .args)) (positive m (c .before .before .before .before .before .before .before .if1 .left)) (c .before .before .before .before .before .before .u16-at .ensures .0) (c .before .before .before .entry .result) (c .before .before .before .entry .ensures) (resizing (a .adds) (a .i)) (c .before .if3 .taken) (c .before .before .if2 .left)) (answered-as (c .refuse2 .ensures) (answer-refused b p ix n u (s .pre .args .good) Panics))
 
 add-bit-vector : tie.Need-add-bit-vector
 add-bit-vector c =
@@ -92,7 +92,7 @@ add-bit-vector c =
     let u = a .used in
     let x = a .args .now in
     let m = a .n in
-    omega (arith, s .pre .small, width-small b p n x m (args-refer b p ix n u x m (s .pre .args)) (positive m (c .before .before .before .before .before .before .before .before .before .before .if1 .left)) (c .before .before .before .before .before .before .before .before .before .u16-at .result) (c .before .before .before .before .before .before .before .before .before .u16-at .ensures .0) (c .before .before .before .before .before .before .entry .result) (c .before .before .before .before .before .before .entry .ensures))
+    omega (arith, s .pre .small, width-small (args-refer b p ix n u x m (s .pre .args)) (positive m (c .before .before .before .before .before .before .before .before .before .before .if1 .left)) (c .before .before .before .before .before .before .before .before .before .u16-at .ensures .0) (c .before .before .before .before .before .before .entry .result) (c .before .before .before .before .before .before .entry .ensures))
 
 bit-vector-requires : tie.Need-bit-vector-requires
 bit-vector-requires c κs =
@@ -110,7 +110,7 @@ returns-4 c =
     let u = a .used in
     let x = a .args .now in
     let m = a .n in
-    judged-as (resized-known b p n x m (args-refer b p ix n u x m (s .pre .args)) (positive m (c .before .before .before .before .before .before .before .before .before .before .before .before .before .before .before .before .before .if1 .left)) (c .before .before .before .before .before .before .before .before .before .before .before .before .before .before .before .before .u16-at .result) (c .before .before .before .before .before .before .before .before .before .before .before .before .before .before .before .before .u16-at .ensures .0) (c .before .before .before .before .before .before .before .before .before .before .before .before .before .entry .result) (c .before .before .before .before .before .before .before .before .before .before .before .before .before .entry .ensures) (resizing (a .adds) (a .i)) (c .before .before .before .before .before .before .before .before .before .before .before .if3 .left) ∙ ap (λ (d : Bool). sort (bitvec (resizing d (a .i) (c .before .before .before .before .before .before .before .before .before .before .before .before .before .entry .result .number)))) (c .before .before .before .before .before .before .before .before .before .before .if4 .taken)) (c .before .before .before .before .before .before .bit-vector .ensures)
+    judged-as (resized-known (args-refer b p ix n u x m (s .pre .args)) (positive m (c .before .before .before .before .before .before .before .before .before .before .before .before .before .before .before .before .before .if1 .left)) (c .before .before .before .before .before .before .before .before .before .before .before .before .before .before .before .before .u16-at .ensures .0) (c .before .before .before .before .before .before .before .before .before .before .before .before .before .entry .result) (c .before .before .before .before .before .before .before .before .before .before .before .before .before .entry .ensures) (resizing (a .adds) (a .i)) (c .before .before .before .before .before .before .before .before .before .before .before .if3 .left) ∙ ap (λ (d : Bool). sort (bitvec (resizing d (a .i) (c .before .before .before .before .before .before .before .before .before .before .before .before .before .entry .result .number)))) (c .before .before .before .before .before .before .before .before .before .before .if4 .taken)) (c .before .before .before .before .before .before .bit-vector .ensures)
 
 mul-bit-vector : tie.Need-mul-bit-vector
 mul-bit-vector c =
@@ -123,7 +123,7 @@ mul-bit-vector c =
     let u = a .used in
     let x = a .args .now in
     let m = a .n in
-    omega (arith, times-small (a .i) (c .before .before .before .before .before .before .entry .result .number) (s .pre .small) (width-small b p n x m (args-refer b p ix n u x m (s .pre .args)) (positive m (c .before .before .before .before .before .before .before .before .before .before .if1 .left)) (c .before .before .before .before .before .before .before .before .before .u16-at .result) (c .before .before .before .before .before .before .before .before .before .u16-at .ensures .0) (c .before .before .before .before .before .before .entry .result) (c .before .before .before .before .before .before .entry .ensures)))
+    omega (arith, times-small (a .i) (c .before .before .before .before .before .before .entry .result .number) (s .pre .small) (width-small (args-refer b p ix n u x m (s .pre .args)) (positive m (c .before .before .before .before .before .before .before .before .before .before .if1 .left)) (c .before .before .before .before .before .before .before .before .before .u16-at .ensures .0) (c .before .before .before .before .before .before .entry .result) (c .before .before .before .before .before .before .entry .ensures)))
 
 bit-vector-requires-2 : tie.Need-bit-vector-requires-2
 bit-vector-requires-2 c κs =
@@ -141,7 +141,7 @@ returns-5 c =
     let u = a .used in
     let x = a .args .now in
     let m = a .n in
-    judged-as (resized-known b p n x m (args-refer b p ix n u x m (s .pre .args)) (positive m (c .before .before .before .before .before .before .before .before .before .before .before .before .before .before .before .before .before .if1 .left)) (c .before .before .before .before .before .before .before .before .before .before .before .before .before .before .before .before .u16-at .result) (c .before .before .before .before .before .before .before .before .before .before .before .before .before .before .before .before .u16-at .ensures .0) (c .before .before .before .before .before .before .before .before .before .before .before .before .before .entry .result) (c .before .before .before .before .before .before .before .before .before .before .before .before .before .entry .ensures) (resizing (a .adds) (a .i)) (c .before .before .before .before .before .before .before .before .before .before .before .if3 .left) ∙ ap (λ (d : Bool). sort (bitvec (resizing d (a .i) (c .before .before .before .before .before .before .before .before .before .before .before .before .before .entry .result .number)))) (c .before .before .before .before .before .before .before .before .before .before .if4 .left)) (c .before .before .before .before .before .before .bit-vector2 .ensures)
+    judged-as (resized-known (args-refer b p ix n u x m (s .pre .args)) (positive m (c .before .before .before .before .before .before .before .before .before .before .before .before .before .before .before .before .before .if1 .left)) (c .before .before .before .before .before .before .before .before .before .before .before .before .before .before .before .before .u16-at .ensures .0) (c .before .before .before .before .before .before .before .before .before .before .before .before .before .entry .result) (c .before .before .before .before .before .before .before .before .before .before .before .before .before .entry .ensures) (resizing (a .adds) (a .i)) (c .before .before .before .before .before .before .before .before .before .before .before .if3 .left) ∙ ap (λ (d : Bool). sort (bitvec (resizing d (a .i) (c .before .before .before .before .before .before .before .before .before .before .before .before .before .entry .result .number)))) (c .before .before .before .before .before .before .before .before .before .before .if4 .left)) (c .before .before .before .before .before .before .bit-vector2 .ensures)
 
 pub resized-spec : {M : Type 1} → statement M
 resized-spec = tie.close (tie.spec (λ c κs. search needs) returns u16-at-requires entry-requires leaf-requires (λ c. search needs) (λ c. search needs) (λ c. search needs) returns-2 (λ c κs. search needs) (λ c. search needs) (λ c. search needs) returns-3 add-bit-vector bit-vector-requires (λ c. search needs) (λ c. search needs) (λ c. search needs) returns-4 mul-bit-vector bit-vector-requires-2 (λ c. search needs) (λ c. search needs) (λ c. search needs) returns-5)

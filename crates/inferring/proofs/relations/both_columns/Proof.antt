@@ -31,7 +31,7 @@ columns-of-requires c κs =
     let p = a .places .now in
     let x = a .args .now in
     let m = a .n in
-    left-asks b p x m (c .before .if1 .left) (c .u16-at .result) (c .u16-at .ensures .0) (s .pre)
+    left-asks b p x m (c .before .if1 .left) (c .u16-at .ensures .0) (s .pre)
 
 u16-at-requires-2 : tie.Need-u16-at-requires-2
 u16-at-requires-2 c κs =
@@ -46,7 +46,7 @@ columns-of-requires-2 c κs =
     let p = a .places .now in
     let x = a .args .now in
     let m = a .n in
-    right-asks b p x m (c .before .before .before .before .before .before .if1 .left) (c .before .before .before .before .before .u16-at .result) (c .before .before .before .before .before .u16-at .ensures .0) (c .u16-at2 .result) (c .u16-at2 .ensures .0) (s .pre)
+    right-asks b p x m (c .before .before .before .before .before .before .if1 .left) (c .before .before .before .before .before .u16-at .ensures .0) (c .u16-at2 .ensures .0) (s .pre)
 
 returns-2 : tie.Need-returns-2
 returns-2 c =
@@ -56,7 +56,7 @@ returns-2 c =
     let p = a .places .now in
     let x = a .args .now in
     let m = a .n in
-    both-have b p x m (c .before .before .before .before .before .before .before .before .before .before .if1 .left) (c .before .before .before .before .before .before .before .before .before .u16-at .result) (c .before .before .before .before .before .before .before .before .before .u16-at .ensures .0) (c .before .before .before .before .u16-at2 .result) (c .before .before .before .before .u16-at2 .ensures .0) (c .before .before .before .before .before .before .left .given .0 .0) (c .before .before .before .before .before .before .left .given .0 .1 .0) (subst (ColumnsHas b p (c .before .before .before .before .before .before .before .before .before .u16-at .result)) (c .before .before .before .before .before .before .left .given .1) (c .before .before .before .before .before .before .before .before .columns-of .ensures)) (c .before .right .given .0 .0) (c .before .right .given .0 .1 .0) (subst (ColumnsHas b p (c .before .before .before .before .u16-at2 .result)) (c .before .right .given .1) (c .before .before .before .columns-of2 .ensures))
+    both-have b p x m (c .before .before .before .before .before .before .before .before .before .before .if1 .left) (c .before .before .before .before .before .before .before .before .before .u16-at .ensures .0) (c .before .before .before .before .u16-at2 .ensures .0) (c .before .before .before .before .before .before .left .given .0 .0) (c .before .before .before .before .before .before .left .given .0 .1 .0) (subst (ColumnsHas b p (c .before .before .before .before .before .before .before .before .before .u16-at .result)) (c .before .before .before .before .before .before .left .given .1) (c .before .before .before .before .before .before .before .before .columns-of .ensures)) (c .before .right .given .0 .0) (c .before .right .given .0 .1 .0) (subst (ColumnsHas b p (c .before .before .before .before .u16-at2 .result)) (c .before .right .given .1) (c .before .before .before .columns-of2 .ensures))
 
 returns-3 : tie.Need-returns-3
 returns-3 c =
@@ -66,7 +66,7 @@ returns-3 c =
     let p = a .places .now in
     let x = a .args .now in
     let m = a .n in
-    right-none b p x m (c .before .before .before .before .before .before .before .before .before .if1 .left) (c .before .before .before .before .before .before .before .before .u16-at .result) (c .before .before .before .before .before .before .before .before .u16-at .ensures .0) (c .before .before .before .u16-at2 .result) (c .before .before .before .u16-at2 .ensures .0) (c .before .before .before .before .before .left .given .0 .0) (c .before .before .before .before .before .left .given .0 .1 .0) (subst (ColumnsHas b p (c .before .before .before .before .before .before .before .before .u16-at .result)) (c .before .before .before .before .before .left .given .1) (c .before .before .before .before .before .before .before .columns-of .ensures)) (subst (ColumnsHas b p (c .before .before .before .u16-at2 .result)) (c .enum-told .given .1) (c .before .before .columns-of2 .ensures))
+    right-none b p x m (c .before .before .before .before .before .before .before .before .before .if1 .left) (c .before .before .before .before .before .before .before .before .u16-at .ensures .0) (c .before .before .before .u16-at2 .ensures .0) (c .before .before .before .before .before .left .given .0 .0) (c .before .before .before .before .before .left .given .0 .1 .0) (subst (ColumnsHas b p (c .before .before .before .before .before .before .before .before .u16-at .result)) (c .before .before .before .before .before .left .given .1) (c .before .before .before .before .before .before .before .columns-of .ensures)) (subst (ColumnsHas b p (c .before .before .before .u16-at2 .result)) (c .enum-told .given .1) (c .before .before .columns-of2 .ensures))
 
 returns-4 : tie.Need-returns-4
 returns-4 c =
@@ -76,7 +76,7 @@ returns-4 c =
     let p = a .places .now in
     let x = a .args .now in
     let m = a .n in
-    left-none b p x m (c .before .before .before .before .if1 .left) (c .before .before .before .u16-at .result) (c .before .before .before .u16-at .ensures .0) (subst (ColumnsHas b p (c .before .before .before .u16-at .result)) (c .enum-told2 .given .1) (c .before .before .columns-of .ensures))
+    left-none b p x m (c .before .before .before .before .if1 .left) (c .before .before .before .u16-at .ensures .0) (subst (ColumnsHas b p (c .before .before .before .u16-at .result)) (c .enum-told2 .given .1) (c .before .before .columns-of .ensures))
 
 pub both-columns-spec : {M : Type 1} → statement M
 both-columns-spec = tie.close (tie.spec returns u16-at-requires columns-of-requires (λ c. search needs) u16-at-requires-2 columns-of-requires-2 (λ c. search needs) (λ c. search needs) (λ c. search needs) returns-2 returns-3 returns-4)

@@ -31,7 +31,7 @@ entry-requires-2 c κs =
     let a = s .args in
     let b = a .records .now in
     let p = a .places .now in
-    inner-entry b p (a .k) (c .before .before .entry .result) (c .before .before .entry .ensures) (c .before .if1 .left) (c .u16-at .result) (c .u16-at .ensures .0) (s .pre)
+    inner-entry b p (a .k) (c .before .before .entry .result) (c .before .before .entry .ensures) (c .before .if1 .left) (c .u16-at .ensures .0) (s .pre)
 
 returns-2 : tie.Need-returns-2
 returns-2 c =
@@ -39,7 +39,7 @@ returns-2 c =
     let a = s .args in
     let b = a .records .now in
     let p = a .places .now in
-    tuple-none b p (a .k) (c .before .before .before .before .before .entry .result) (c .before .before .before .before .before .entry .ensures) (c .before .before .before .before .if1 .left) (c .before .before .before .u16-at .result) (c .before .before .before .u16-at .ensures .0) (c .before .before .entry2 .result) (c .before .before .entry2 .ensures) (c .if2 .taken)
+    tuple-none b p (a .k) (c .before .before .before .before .before .entry .result) (c .before .before .before .before .before .entry .ensures) (c .before .before .before .before .if1 .left) (c .before .before .before .u16-at .ensures .0) (c .before .before .entry2 .result) (c .before .before .entry2 .ensures) (c .if2 .taken)
 
 returns-3 : tie.Need-returns-3
 returns-3 c =
@@ -47,7 +47,7 @@ returns-3 c =
     let a = s .args in
     let b = a .records .now in
     let p = a .places .now in
-    columns-list b p (a .k) (c .before .before .before .before .before .entry .result) (c .before .before .before .before .before .entry .ensures) (c .before .before .before .before .if1 .left) (c .before .before .before .u16-at .result) (c .before .before .before .u16-at .ensures .0) (c .before .before .entry2 .result) (c .before .before .entry2 .ensures) (c .if2 .left)
+    columns-list b p (a .k) (c .before .before .before .before .before .entry .result) (c .before .before .before .before .before .entry .ensures) (c .before .before .before .before .if1 .left) (c .before .before .before .u16-at .ensures .0) (c .before .before .entry2 .result) (c .before .before .entry2 .ensures) (c .if2 .left)
 
 pub columns-of-spec : {M : Type 1} → statement M
 columns-of-spec = tie.close (tie.spec entry-requires returns u16-at-requires entry-requires-2 returns-2 returns-3)

@@ -35,7 +35,7 @@ join-columns-requires c κs =
     let u = a .used in
     let x = a .args .now in
     let m = a .n in
-    side-of b p ix n u x m (s .pre) (c .before .before .before .before .before .both .given .0 .0) (c .before .before .before .before .before .both .given .0 .1 .0) (c .before .before .before .before .before .both .given .0 .1 .1 .0) (c .before .before .before .before .before .both .given .0 .1 .1 .1 .0) (subst (BothIs b p n (sortsIn b p n x 3 m)) (c .before .before .before .before .before .both .given .1) (c .before .before .before .before .before .before .before .both-columns .ensures n (args-refer b p ix n u x m (s .pre))))
+    side-of (s .pre) (subst (BothIs b p n (sortsIn b p n x 3 m)) (c .before .before .before .before .before .both .given .1) (c .before .before .before .before .before .before .before .both-columns .ensures n (args-refer b p ix n u x m (s .pre))))
 
 returns : tie.Need-returns
 returns c =

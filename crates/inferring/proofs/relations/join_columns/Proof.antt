@@ -18,8 +18,7 @@ returns c =
     let ix = a .index .now in
     let n = a .count in
     let u = a .used in
-    let x = a .args .now in
-    judged-as (join-panics b p ix n u x (a .at) (a .m) (a .to) (a .q) (s .pre) (c .before .if1 .taken)) (answered-as (c .refuse .ensures) (answer-refused b p ix n u (s .pre .good) Panics))
+    judged-as (join-panics (s .pre) (c .before .if1 .taken)) (answered-as (c .refuse .ensures) (answer-refused b p ix n u (s .pre .good) Panics))
 
 add-side-by-side : tie.Need-add-side-by-side
 add-side-by-side c =
@@ -37,25 +36,13 @@ side-by-side-requires : tie.Need-side-by-side-requires
 side-by-side-requires c κs =
     let s = c .before .before .before .before .before .before .before .before .before .before in
     let a = s .args in
-    let b = a .records .now in
-    let p = a .places .now in
-    let ix = a .index .now in
-    let n = a .count in
-    let u = a .used in
-    let x = a .args .now in
-    empty-asks b p ix n u x (a .at) (a .m) (a .to) (a .q) (s .pre) (positive (a .q) (c .before .before .before .before .before .if1 .left))
+    empty-asks (s .pre) (positive (a .q) (c .before .before .before .before .before .if1 .left))
 
 returns-2 : tie.Need-returns-2
 returns-2 c =
     let s = c .before .before .before .before .before .before .before .before .before .before .before .before .before .before .before .before .before .before .before in
     let a = s .args in
-    let b = a .records .now in
-    let p = a .places .now in
-    let ix = a .index .now in
-    let n = a .count in
-    let u = a .used in
-    let x = a .args .now in
-    judged-as (join-empty b p ix n u x (a .at) (a .m) (a .to) (a .q) (s .pre) (positive (a .q) (c .before .before .before .before .before .before .before .before .before .before .before .before .before .before .if1 .left)) (c .before .before .before .before .before .before .before .before .before .before .before .before .before .if2 .taken)) (c .before .before .before .before .before .before .before .before .side-by-side .ensures)
+    judged-as (join-empty (s .pre) (positive (a .q) (c .before .before .before .before .before .before .before .before .before .before .before .before .before .before .if1 .left)) (c .before .before .before .before .before .before .before .before .before .before .before .before .before .if2 .taken)) (c .before .before .before .before .before .before .before .before .side-by-side .ensures)
 
 sub-side-by-side-2 : tie.Need-sub-side-by-side-2
 sub-side-by-side-2 c =
@@ -79,13 +66,7 @@ side-by-side-requires-2 : tie.Need-side-by-side-requires-2
 side-by-side-requires-2 c κs =
     let s = c .before .before .before .before .before .before .before .before .before .before in
     let a = s .args in
-    let b = a .records .now in
-    let p = a .places .now in
-    let ix = a .index .now in
-    let n = a .count in
-    let u = a .used in
-    let x = a .args .now in
-    less-asks b p ix n u x (a .at) (a .m) (a .to) (a .q) (s .pre) (positive (a .q) (c .before .before .before .before .before .if1 .left))
+    less-asks (s .pre) (positive (a .q) (c .before .before .before .before .before .if1 .left))
 
 returns-3 : tie.Need-returns-3
 returns-3 c =
@@ -93,11 +74,7 @@ returns-3 c =
     let a = s .args in
     let b = a .records .now in
     let p = a .places .now in
-    let ix = a .index .now in
-    let n = a .count in
-    let u = a .used in
-    let x = a .args .now in
-    judged-as {b = b} {p = p} (join-less b p ix n u x (a .at) (a .m) (a .to) (a .q) (s .pre) (positive (a .q) (c .before .before .before .before .before .before .before .before .before .before .before .before .before .before .if1 .left)) (positive (a .m) (c .before .before .before .before .before .before .before .before .before .before .before .before .before .if2 .left))) (c .before .before .before .before .before .before .before .before .side-by-side2 .ensures)
+    judged-as {b = b} {p = p} (join-less (s .pre) (positive (a .q) (c .before .before .before .before .before .before .before .before .before .before .before .before .before .before .if1 .left)) (positive (a .m) (c .before .before .before .before .before .before .before .before .before .before .before .before .before .if2 .left))) (c .before .before .before .before .before .before .before .before .side-by-side2 .ensures)
 
 pub join-columns-spec : {M : Type 1} → statement M
 join-columns-spec = tie.close (tie.spec (λ c κs. search needs) returns add-side-by-side sub-side-by-side side-by-side-requires (λ c. search needs) (λ c. search needs) (λ c. search needs) (λ c. search needs) returns-2 sub-side-by-side-2 add-side-by-side-2 sub-side-by-side-3 side-by-side-requires-2 (λ c. search needs) (λ c. search needs) (λ c. search needs) (λ c. search needs) returns-3)

@@ -79,7 +79,7 @@ loop-again c =
     let w = l .inv in
     let c1 = l .args in
     let room : 3 + 2 * (a .from + l .i) + 2 ≤ length c1 = omega (arith, s .pre .room, c .before .before .before .before .before .loop-test .taken, w .2) in
-    (omega (arith, c .before .before .before .before .before .loop-test .taken), subst (PutHas b (a .at) (l .i + 1) x (a .from)) (sym (c .before .before .put-u16 .ensures)) (put-more b (a .at) (l .i) x (a .from) c1 (c .before .before .before .before .u16-at .result) room (c .before .before .before .before .u16-at .ensures .0) (w .1)), c .before .before .put-u16 .kept .0 ∙ w .2)
+    (omega (arith, c .before .before .before .before .before .loop-test .taken), subst (PutHas b (a .at) (l .i + 1) x (a .from)) (sym (c .before .before .put-u16 .ensures)) (put-more b (a .at) (l .i) x (a .from) c1 room (c .before .before .before .before .u16-at .ensures .0) (w .1)), c .before .before .put-u16 .kept .0 ∙ w .2)
 
 returns : tie.Need-returns Inv-loop μ-loop
 returns c =

@@ -11,26 +11,12 @@ use Rattle.inferring.proofs.relations.side_by_side.Tie as tie
 put-columns-requires : tie.Need-put-columns-requires
 put-columns-requires c κs =
     let s = c .before .before .before .before .before .before in
-    let a = s .args in
-    let b = a .records .now in
-    let p = a .places .now in
-    let ix = a .index .now in
-    let n = a .count in
-    let u = a .used in
-    let x = a .args .now in
-    side-first b p ix n u x (a .at) (a .m) (a .to) (a .q) (s .pre)
+    side-first (s .pre)
 
 put-columns-requires-2 : tie.Need-put-columns-requires-2
 put-columns-requires-2 c κs =
     let s = c .before .before .before .before .before .before .before .before .before .before .before in
-    let a = s .args in
-    let b = a .records .now in
-    let p = a .places .now in
-    let ix = a .index .now in
-    let n = a .count in
-    let u = a .used in
-    let x = a .args .now in
-    side-second b p ix n u x (a .at) (a .m) (a .to) (a .q) (s .pre) (c .before .before .before .before .put-columns .last .1 .1 .1 .0) (c .before .before .before .before .put-columns .kept .1 .1 .1 .0)
+    side-second (s .pre) (c .before .before .before .before .put-columns .last .1 .1 .1 .0) (c .before .before .before .before .put-columns .kept .1 .1 .1 .0)
 
 add-relation : tie.Need-add-relation
 add-relation c =
@@ -40,26 +26,12 @@ add-relation c =
 relation-requires : tie.Need-relation-requires
 relation-requires c κs =
     let s = c .before .before .before .before .before .before .before .before .before .before .before .before .before .before .before .before .before .before in
-    let a = s .args in
-    let b = a .records .now in
-    let p = a .places .now in
-    let ix = a .index .now in
-    let n = a .count in
-    let u = a .used in
-    let x = a .args .now in
-    side-asks b p ix n u x (a .at) (a .m) (a .to) (a .q) (s .pre) (c .before .before .before .before .before .before .before .before .before .before .before .put-columns .last .1 .1 .1 .0) (c .before .before .before .before .before .before .put-columns2 .last .1 .1 .1 .0) (c .before .before .before .before .before .before .before .before .before .before .before .put-columns .ensures) (c .before .before .before .before .before .before .put-columns2 .ensures) (c .before .before .before .before .before .before .put-columns2 .kept .1 .1 .1 .0 ∙ c .before .before .before .before .before .before .before .before .before .before .before .put-columns .kept .1 .1 .1 .0)
+    side-asks (s .pre) (c .before .before .before .before .before .before .before .before .before .before .before .put-columns .last .1 .1 .1 .0) (c .before .before .before .before .before .before .put-columns2 .last .1 .1 .1 .0) (c .before .before .before .before .before .before .before .before .before .before .before .put-columns .ensures) (c .before .before .before .before .before .before .put-columns2 .ensures) (c .before .before .before .before .before .before .put-columns2 .kept .1 .1 .1 .0 ∙ c .before .before .before .before .before .before .before .before .before .before .before .put-columns .kept .1 .1 .1 .0)
 
 returns : tie.Need-returns
 returns c =
     let s = c .before .before .before .before .before .before .before .before .before .before .before .before .before .before .before .before .before .before .before .before .before .before .before .before .before .before .before in
-    let a = s .args in
-    let b = a .records .now in
-    let p = a .places .now in
-    let ix = a .index .now in
-    let n = a .count in
-    let u = a .used in
-    let x = a .args .now in
-    judged-as (side-is b p ix n u x (a .at) (a .m) (a .to) (a .q) (s .pre) (c .before .before .before .before .before .before .before .before .before .before .before .before .before .before .before .before .before .before .before .before .put-columns .last .1 .1 .1 .0) (c .before .before .before .before .before .before .before .before .before .before .before .before .before .before .before .put-columns2 .last .1 .1 .1 .0) (c .before .before .before .before .before .before .before .before .before .before .before .before .before .before .before .before .before .before .before .before .put-columns .ensures) (c .before .before .before .before .before .before .before .before .before .before .before .before .before .before .before .put-columns2 .ensures)) (c .before .before .before .before .before .before .before .before .relation .ensures)
+    judged-as (side-is (s .pre) (c .before .before .before .before .before .before .before .before .before .before .before .before .before .before .before .before .before .before .before .before .put-columns .last .1 .1 .1 .0) (c .before .before .before .before .before .before .before .before .before .before .before .before .before .before .before .put-columns2 .last .1 .1 .1 .0) (c .before .before .before .before .before .before .before .before .before .before .before .before .before .before .before .before .before .before .before .before .put-columns .ensures) (c .before .before .before .before .before .before .before .before .before .before .before .before .before .before .before .put-columns2 .ensures)) (c .before .before .before .before .before .before .before .before .relation .ensures)
 
 pub side-by-side-spec : {M : Type 1} → statement M
 side-by-side-spec = tie.close (tie.spec put-columns-requires put-columns-requires-2 add-relation relation-requires (λ c. search needs) (λ c. search needs) (λ c. search needs) (λ c. search needs) returns)

@@ -45,7 +45,7 @@ columns-of-requires c κs =
     let u = a .used in
     let x = a .args .now in
     let m = a .n in
-    (n, record { stored = s .pre .good .stored; known = first-known b p n x m (args-refer b p ix n u x m (s .pre)) (positive m (c .before .before .before .before .if1 .left)) (c .before .before .u16-at .result) (c .before .before .u16-at .ensures .0) })
+    (n, record { stored = s .pre .good .stored; known = first-known (args-refer b p ix n u x m (s .pre)) (positive m (c .before .before .before .before .if1 .left)) (c .before .before .u16-at .ensures .0) })
 
 put-backwards-requires : tie.Need-put-backwards-requires
 put-backwards-requires c κs =
@@ -58,7 +58,7 @@ put-backwards-requires c κs =
     let u = a .used in
     let x = a .args .now in
     let m = a .n in
-    let is = subst (ColumnsIs b p n (sortAt b p n (c .before .before .before .before .before .before .before .before .u16-at .result))) (c .before .before .before .left .given .1) (c .before .before .before .before .before .columns-of .ensures n (s .pre .good .stored) (first-known b p n x m (args-refer b p ix n u x m (s .pre)) (positive m (c .before .before .before .before .before .before .before .before .before .before .if1 .left)) (c .before .before .before .before .before .before .before .before .u16-at .result) (c .before .before .before .before .before .before .before .before .u16-at .ensures .0))) in
+    let is = subst (ColumnsIs b p n (sortAt b p n (c .before .before .before .before .before .before .before .before .u16-at .result))) (c .before .before .before .left .given .1) (c .before .before .before .before .before .columns-of .ensures n (s .pre .good .stored) (first-known (args-refer b p ix n u x m (s .pre)) (positive m (c .before .before .before .before .before .before .before .before .before .before .if1 .left)) (c .before .before .before .before .before .before .before .before .u16-at .ensures .0))) in
     record { within = is .1 .within; room = omega (arith, is .1 .few, s .pre .room); low = omega arith; few = is .1 .few }
 
 relation-requires : tie.Need-relation-requires
@@ -72,8 +72,8 @@ relation-requires c κs =
     let u = a .used in
     let x = a .args .now in
     let m = a .n in
-    let is = subst (ColumnsIs b p n (sortAt b p n (c .before .before .before .before .before .before .before .before .before .before .before .before .before .before .before .u16-at .result))) (c .before .before .before .before .before .before .before .before .before .before .left .given .1) (c .before .before .before .before .before .before .before .before .before .before .before .before .columns-of .ensures n (s .pre .good .stored) (first-known b p n x m (args-refer b p ix n u x m (s .pre)) (positive m (c .before .before .before .before .before .before .before .before .before .before .before .before .before .before .before .before .before .if1 .left)) (c .before .before .before .before .before .before .before .before .before .before .before .before .before .before .before .u16-at .result) (c .before .before .before .before .before .before .before .before .before .before .before .before .before .before .before .u16-at .ensures .0))) in
-    backwards-asks b p ix n u (c .before .before .before .before .before .before .before .before .before .before .left .given .0 .0) (c .before .before .before .before .before .before .before .before .before .before .left .given .0 .1 .0) (is .1) (c .before .before .before .before .before .before .put-backwards .last .1 .1 .1 .0) (c .before .before .before .before .before .before .put-backwards .ensures) (s .pre .good) (omega (arith, s .pre .room, c .before .before .before .before .before .before .put-backwards .kept .1 .1 .1 .0))
+    let is = subst (ColumnsIs b p n (sortAt b p n (c .before .before .before .before .before .before .before .before .before .before .before .before .before .before .before .u16-at .result))) (c .before .before .before .before .before .before .before .before .before .before .left .given .1) (c .before .before .before .before .before .before .before .before .before .before .before .before .columns-of .ensures n (s .pre .good .stored) (first-known (args-refer b p ix n u x m (s .pre)) (positive m (c .before .before .before .before .before .before .before .before .before .before .before .before .before .before .before .before .before .if1 .left)) (c .before .before .before .before .before .before .before .before .before .before .before .before .before .before .before .u16-at .ensures .0))) in
+    backwards-asks p ix u (is .1) (c .before .before .before .before .before .before .put-backwards .last .1 .1 .1 .0) (c .before .before .before .before .before .before .put-backwards .ensures) (s .pre .good) (omega (arith, s .pre .room, c .before .before .before .before .before .before .put-backwards .kept .1 .1 .1 .0))
 
 returns-2 : tie.Need-returns-2
 returns-2 c =
@@ -86,8 +86,8 @@ returns-2 c =
     let u = a .used in
     let x = a .args .now in
     let m = a .n in
-    let is = subst (ColumnsIs b p n (sortAt b p n (c .before .before .before .before .before .before .before .before .before .before .before .before .before .before .before .before .before .before .before .before .before .before .before .before .u16-at .result))) (c .before .before .before .before .before .before .before .before .before .before .before .before .before .before .before .before .before .before .before .left .given .1) (c .before .before .before .before .before .before .before .before .before .before .before .before .before .before .before .before .before .before .before .before .before .columns-of .ensures n (s .pre .good .stored) (first-known b p n x m (args-refer b p ix n u x m (s .pre)) (positive m (c .before .before .before .before .before .before .before .before .before .before .before .before .before .before .before .before .before .before .before .before .before .before .before .before .before .before .if1 .left)) (c .before .before .before .before .before .before .before .before .before .before .before .before .before .before .before .before .before .before .before .before .before .before .before .before .u16-at .result) (c .before .before .before .before .before .before .before .before .before .before .before .before .before .before .before .before .before .before .before .before .before .before .before .before .u16-at .ensures .0))) in
-    judged-as (trans-is (sortsIn b p n x 3 m) (sortAt b p n (c .before .before .before .before .before .before .before .before .before .before .before .before .before .before .before .before .before .before .before .before .before .before .before .before .u16-at .result)) (sortsIn b p n x 5 (m - 1)) (first-then b p n x m (args-refer b p ix n u x m (s .pre)) (positive m (c .before .before .before .before .before .before .before .before .before .before .before .before .before .before .before .before .before .before .before .before .before .before .before .before .before .before .if1 .left)) (c .before .before .before .before .before .before .before .before .before .before .before .before .before .before .before .before .before .before .before .before .before .before .before .before .u16-at .result) (c .before .before .before .before .before .before .before .before .before .before .before .before .before .before .before .before .before .before .before .before .before .before .before .before .u16-at .ensures .0)) (sortsIn b p n b (c .before .before .before .before .before .before .before .before .before .before .before .before .before .before .before .before .before .before .before .left .given .0 .0) (c .before .before .before .before .before .before .before .before .before .before .before .before .before .before .before .before .before .before .before .left .given .0 .1 .0)) (sortsIn b p n (c .before .before .before .before .before .before .before .before .before .before .before .before .before .before .before .put-backwards .last .1 .1 .1 .0) 3 (c .before .before .before .before .before .before .before .before .before .before .before .before .before .before .before .before .before .before .before .left .given .0 .1 .0)) (is .0) (backwards-is b p ix n u (c .before .before .before .before .before .before .before .before .before .before .before .before .before .before .before .before .before .before .before .left .given .0 .0) (c .before .before .before .before .before .before .before .before .before .before .before .before .before .before .before .before .before .before .before .left .given .0 .1 .0) (is .1) (c .before .before .before .before .before .before .before .before .before .before .before .before .before .before .before .put-backwards .last .1 .1 .1 .0) (c .before .before .before .before .before .before .before .before .before .before .before .before .before .before .before .put-backwards .ensures))) (c .before .before .before .before .before .before .before .before .relation .ensures)
+    let is = subst (ColumnsIs b p n (sortAt b p n (c .before .before .before .before .before .before .before .before .before .before .before .before .before .before .before .before .before .before .before .before .before .before .before .before .u16-at .result))) (c .before .before .before .before .before .before .before .before .before .before .before .before .before .before .before .before .before .before .before .left .given .1) (c .before .before .before .before .before .before .before .before .before .before .before .before .before .before .before .before .before .before .before .before .before .columns-of .ensures n (s .pre .good .stored) (first-known (args-refer b p ix n u x m (s .pre)) (positive m (c .before .before .before .before .before .before .before .before .before .before .before .before .before .before .before .before .before .before .before .before .before .before .before .before .before .before .if1 .left)) (c .before .before .before .before .before .before .before .before .before .before .before .before .before .before .before .before .before .before .before .before .before .before .before .before .u16-at .ensures .0))) in
+    judged-as (trans-is (sortAt b p n (c .before .before .before .before .before .before .before .before .before .before .before .before .before .before .before .before .before .before .before .before .before .before .before .before .u16-at .result)) (sortsIn b p n x 5 (m - 1)) (first-then (args-refer b p ix n u x m (s .pre)) (positive m (c .before .before .before .before .before .before .before .before .before .before .before .before .before .before .before .before .before .before .before .before .before .before .before .before .before .before .if1 .left)) (c .before .before .before .before .before .before .before .before .before .before .before .before .before .before .before .before .before .before .before .before .before .before .before .before .u16-at .ensures .0)) (sortsIn b p n b (c .before .before .before .before .before .before .before .before .before .before .before .before .before .before .before .before .before .before .before .left .given .0 .0) (c .before .before .before .before .before .before .before .before .before .before .before .before .before .before .before .before .before .before .before .left .given .0 .1 .0)) (is .0) (backwards-is p ix u (is .1) (c .before .before .before .before .before .before .before .before .before .before .before .before .before .before .before .put-backwards .last .1 .1 .1 .0) (c .before .before .before .before .before .before .before .before .before .before .before .before .before .before .before .put-backwards .ensures))) (c .before .before .before .before .before .before .before .before .relation .ensures)
 
 returns-3 : tie.Need-returns-3
 returns-3 c =
@@ -100,7 +100,7 @@ returns-3 c =
     let u = a .used in
     let x = a .args .now in
     let m = a .n in
-    judged-as (trans-none (sortsIn b p n x 3 m) (sortAt b p n (c .before .before .before .before .before .before .u16-at .result)) (sortsIn b p n x 5 (m - 1)) (first-then b p n x m (args-refer b p ix n u x m (s .pre)) (positive m (c .before .before .before .before .before .before .before .before .if1 .left)) (c .before .before .before .before .before .before .u16-at .result) (c .before .before .before .before .before .before .u16-at .ensures .0)) (subst (ColumnsIs b p n (sortAt b p n (c .before .before .before .before .before .before .u16-at .result))) (c .before .enum-told .given .1) (c .before .before .before .columns-of .ensures n (s .pre .good .stored) (first-known b p n x m (args-refer b p ix n u x m (s .pre)) (positive m (c .before .before .before .before .before .before .before .before .if1 .left)) (c .before .before .before .before .before .before .u16-at .result) (c .before .before .before .before .before .before .u16-at .ensures .0))))) (answered-as (c .refuse2 .ensures) (answer-refused b p ix n u (s .pre .good) Panics))
+    judged-as (trans-none (sortAt b p n (c .before .before .before .before .before .before .u16-at .result)) (sortsIn b p n x 5 (m - 1)) (first-then (args-refer b p ix n u x m (s .pre)) (positive m (c .before .before .before .before .before .before .before .before .if1 .left)) (c .before .before .before .before .before .before .u16-at .ensures .0)) (subst (ColumnsIs b p n (sortAt b p n (c .before .before .before .before .before .before .u16-at .result))) (c .before .enum-told .given .1) (c .before .before .before .columns-of .ensures n (s .pre .good .stored) (first-known (args-refer b p ix n u x m (s .pre)) (positive m (c .before .before .before .before .before .before .before .before .if1 .left)) (c .before .before .before .before .before .before .u16-at .ensures .0))))) (answered-as (c .refuse2 .ensures) (answer-refused b p ix n u (s .pre .good) Panics))
 
 pub transpose-spec : {M : Type 1} → statement M
 transpose-spec = tie.close (tie.spec (λ c κs. search needs) returns u16-at-requires columns-of-requires (λ c. search needs) put-backwards-requires relation-requires (λ c. search needs) (λ c κs. search needs) (λ c. search needs) (λ c. search needs) (λ c. search needs) (λ c. search needs) returns-2 (λ c. search needs) (λ c. search needs) (λ c. search needs) returns-3)

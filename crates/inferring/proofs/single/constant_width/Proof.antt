@@ -21,10 +21,7 @@ returns c =
     let ix = a .index .now in
     let n = a .count in
     let u = a .used in
-    let m = a .n in
-    let z = a .sheet .now in
-    let t = a .starts .now in
-    judged-as (written-none z t (a .list) m (s .pre .terms) (c .before .if1 .taken)) (answered-as (c .refuse .ensures) (answer-refused b p ix n u (s .pre .good) Panics))
+    judged-as (written-none (s .pre .terms) (c .before .if1 .taken)) (answered-as (c .refuse .ensures) (answer-refused b p ix n u (s .pre .good) Panics))
 
 add-u16-at : tie.Need-add-u16-at
 add-u16-at c =
@@ -42,11 +39,7 @@ mul-at c = omega (arith, c .u16-at .ensures .1)
 shared-slice-read-at : tie.Need-shared-slice-read-at
 shared-slice-read-at c =
     let s = c .before .before .before .before .before .before .before .before in
-    let a = s .args in
-    let m = a .n in
-    let z = a .sheet .now in
-    let t = a .starts .now in
-    second-in z t (a .list) m (s .pre .terms) (c .before .before .if1 .left) (c .before .u16-at .result) (c .before .u16-at .ensures .0)
+    second-in (s .pre .terms) (c .before .before .if1 .left) (c .before .u16-at .ensures .0)
 
 cast-at : tie.Need-cast-at
 cast-at c = omega (arith, c .shared-slice-known3 .given (c .before .u16-at .result))
@@ -54,11 +47,7 @@ cast-at c = omega (arith, c .shared-slice-known3 .given (c .before .u16-at .resu
 constant-at-requires : tie.Need-constant-at-requires
 constant-at-requires c κs =
     let s = c .before .before .before .before .before .before .before .before in
-    let a = s .args in
-    let m = a .n in
-    let z = a .sheet .now in
-    let t = a .starts .now in
-    second-asks z t (a .list) m (s .pre .terms) (c .before .before .if1 .left) (c .before .u16-at .result) (c .before .u16-at .ensures .0)
+    second-asks (s .pre .terms) (c .before .before .if1 .left) (c .before .u16-at .ensures .0)
 
 bit-vector-requires : tie.Need-bit-vector-requires
 bit-vector-requires c κs =
@@ -74,20 +63,12 @@ leaf-requires c κs =
 returns-2 : tie.Need-returns-2
 returns-2 c =
     let s = c .before .before .before .before .before .before .before .before .before .before .before .before .before .before .before .before .before .before .before .before .before .before in
-    let a = s .args in
-    let m = a .n in
-    let z = a .sheet .now in
-    let t = a .starts .now in
-    judged-as (written-is z t (a .list) m (s .pre .terms) (c .before .before .before .before .before .before .before .before .before .before .before .before .before .before .before .before .if1 .left) (c .before .before .before .before .before .before .before .before .before .before .before .before .before .before .before .u16-at .result) (c .before .before .before .before .before .before .before .before .before .before .before .before .before .before .before .u16-at .ensures .0) (c .before .before .before .before .before .before .before .before .before .before .before .before .before .constant-at .result) (c .before .before .before .before .before .before .before .before .before .before .before .before .before .constant-at .ensures) ∙ ap (λ (o : Constant). widthIn (integerOf o)) (c .before .before .before .before .before .before .before .before .before .before .before .second .given .1)) (c .before .before .before .before .before .before .bit-vector .ensures)
+    judged-as (written-is (s .pre .terms) (c .before .before .before .before .before .before .before .before .before .before .before .before .before .before .before .before .if1 .left) (c .before .before .before .before .before .before .before .before .before .before .before .before .before .before .before .u16-at .ensures .0) (c .before .before .before .before .before .before .before .before .before .before .before .before .before .constant-at .result) (c .before .before .before .before .before .before .before .before .before .before .before .before .before .constant-at .ensures) ∙ ap (λ (o : Constant). widthIn (integerOf o)) (c .before .before .before .before .before .before .before .before .before .before .before .second .given .1)) (c .before .before .before .before .before .before .bit-vector .ensures)
 
 returns-3 : tie.Need-returns-3
 returns-3 c =
     let s = c .before .before .before .before .before .before .before .before .before .before .before .before .before .before .before .before .before .before .before .before .before in
-    let a = s .args in
-    let m = a .n in
-    let z = a .sheet .now in
-    let t = a .starts .now in
-    judged-as (written-is z t (a .list) m (s .pre .terms) (c .before .before .before .before .before .before .before .before .before .before .before .before .before .before .before .if1 .left) (c .before .before .before .before .before .before .before .before .before .before .before .before .before .before .u16-at .result) (c .before .before .before .before .before .before .before .before .before .before .before .before .before .before .u16-at .ensures .0) (c .before .before .before .before .before .before .before .before .before .before .before .before .constant-at .result) (c .before .before .before .before .before .before .before .before .before .before .before .before .constant-at .ensures) ∙ ap (λ (o : Constant). widthIn (integerOf o)) (c .before .before .before .before .before .before .before .before .before .before .enum-told .given .1)) (c .before .before .before .before .before .before .leaf .ensures)
+    judged-as (written-is (s .pre .terms) (c .before .before .before .before .before .before .before .before .before .before .before .before .before .before .before .if1 .left) (c .before .before .before .before .before .before .before .before .before .before .before .before .before .before .u16-at .ensures .0) (c .before .before .before .before .before .before .before .before .before .before .before .before .constant-at .result) (c .before .before .before .before .before .before .before .before .before .before .before .before .constant-at .ensures) ∙ ap (λ (o : Constant). widthIn (integerOf o)) (c .before .before .before .before .before .before .before .before .before .before .enum-told .given .1)) (c .before .before .before .before .before .before .leaf .ensures)
 
 pub constant-width-spec : {M : Type 1} → statement M
 constant-width-spec = tie.close (tie.spec (λ c κs. search needs) returns add-u16-at u16-at-requires mul-at shared-slice-read-at cast-at constant-at-requires (λ c. search needs) bit-vector-requires (λ c. search needs) leaf-requires (λ c. search needs) (λ c. search needs) (λ c. search needs) returns-2 (λ c. search needs) (λ c. search needs) (λ c. search needs) returns-3)

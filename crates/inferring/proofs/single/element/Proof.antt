@@ -36,12 +36,8 @@ entry-requires : tie.Need-entry-requires
 entry-requires c κs =
     let s = c .before .before .before .before .before in
     let a = s .args in
-    let b = a .records .now in
-    let p = a .places .now in
-    let n = a .count in
-    let x = a .args .now in
     let m = a .n in
-    first-entry b p n x m (s .pre) (positive m (c .before .if1 .left)) (c .u16-at .result) (c .u16-at .ensures .0)
+    first-entry (s .pre) (positive m (c .before .if1 .left)) (c .u16-at .ensures .0)
 
 returns-2 : tie.Need-returns-2
 returns-2 c =
@@ -51,32 +47,23 @@ returns-2 c =
     let p = a .places .now in
     let n = a .count in
     let u = a .used in
-    let x = a .args .now in
     let m = a .n in
     λ ix h.
-    judged-as (element-none b p n x m (s .pre) (positive m (c .before .before .before .before .if1 .left)) (c .before .before .before .u16-at .result) (c .before .before .before .u16-at .ensures .0) (c .before .before .entry .result) (c .before .before .entry .ensures) (c .before .if2 .taken)) (answered-as (c .refuse2 .ensures) (answer-refused b p ix n u (h .good) Panics))
+    judged-as (element-none (s .pre) (positive m (c .before .before .before .before .if1 .left)) (c .before .before .before .u16-at .ensures .0) (c .before .before .entry .result) (c .before .before .entry .ensures) (c .before .if2 .taken)) (answered-as (c .refuse2 .ensures) (answer-refused b p ix n u (h .good) Panics))
 
 add-u16-at : tie.Need-add-u16-at
 add-u16-at c =
     let s = c .before .before .before .before .before .before .before in
     let a = s .args in
-    let b = a .records .now in
-    let p = a .places .now in
-    let n = a .count in
-    let x = a .args .now in
     let m = a .n in
-    omega (arith, element-in b p n x m (s .pre) (positive m (c .before .before .before .if1 .left)) (c .before .before .u16-at .result) (c .before .before .u16-at .ensures .0) (c .before .entry .result) (c .before .entry .ensures) (c .if2 .left), s .good .0)
+    omega (arith, element-in (s .pre) (positive m (c .before .before .before .if1 .left)) (c .before .before .u16-at .ensures .0) (c .before .entry .result) (c .before .entry .ensures) (c .if2 .left), s .good .0)
 
 u16-at-requires-2 : tie.Need-u16-at-requires-2
 u16-at-requires-2 c κs =
     let s = c .before .before .before .before .before .before .before in
     let a = s .args in
-    let b = a .records .now in
-    let p = a .places .now in
-    let n = a .count in
-    let x = a .args .now in
     let m = a .n in
-    element-in b p n x m (s .pre) (positive m (c .before .before .before .if1 .left)) (c .before .before .u16-at .result) (c .before .before .u16-at .ensures .0) (c .before .entry .result) (c .before .entry .ensures) (c .if2 .left)
+    element-in (s .pre) (positive m (c .before .before .before .if1 .left)) (c .before .before .u16-at .ensures .0) (c .before .entry .result) (c .before .entry .ensures) (c .if2 .left)
 
 returns-3 : tie.Need-returns-3
 returns-3 c =
@@ -86,14 +73,13 @@ returns-3 c =
     let p = a .places .now in
     let n = a .count in
     let u = a .used in
-    let x = a .args .now in
     let m = a .n in
     λ ix h.
     let i = c .before .before .if2 .left in
     let v = c .before .u16-at2 .result in
     let z = c .before .u16-at2 .ensures .0 in
-    judged-as (element-is b p n x m (s .pre) (positive m (c .before .before .before .before .before .if1 .left)) (c .before .before .before .before .u16-at .result) (c .before .before .before .before .u16-at .ensures .0) (c .before .before .before .entry .result) (c .before .before .before .entry .ensures) i v z)
-    (answered-as (c .found .ensures) (answer-known b p ix n u (h .good) v (element-known b p n x m (s .pre) (positive m (c .before .before .before .before .before .if1 .left)) (c .before .before .before .before .u16-at .result) (c .before .before .before .before .u16-at .ensures .0) (c .before .before .before .entry .result) (c .before .before .before .entry .ensures) i v z)))
+    judged-as (element-is (s .pre) (positive m (c .before .before .before .before .before .if1 .left)) (c .before .before .before .before .u16-at .ensures .0) (c .before .before .before .entry .result) (c .before .before .before .entry .ensures) i z)
+    (answered-as (c .found .ensures) (answer-known b p ix n u (h .good) v (element-known (s .pre) (positive m (c .before .before .before .before .before .if1 .left)) (c .before .before .before .before .u16-at .ensures .0) (c .before .before .before .entry .result) (c .before .before .before .entry .ensures) i z)))
 
 pub element-spec : {M : Type 1} → statement M
 element-spec = tie.close (tie.spec (λ c κs. search needs) returns u16-at-requires entry-requires (λ c κs. search needs) returns-2 add-u16-at u16-at-requires-2 (λ c κs. search needs) returns-3)

@@ -51,7 +51,7 @@ returns-2 c =
     λ b p ix h.
     let some : 0 < m = omega (arith, c .before .before .if1 .left) in
     judged-as (last-found b p n x m (a .least) (c .before .before .if1 .left) ∙ ap (λ (k : ℕ). sort (sortAt b p n k)) (sym (c .before .u16-at .ensures .0)))
-    (answered-as (c .found .ensures) (answer-known b p ix n u (h .good) (c .before .u16-at .result) (subst (λ (k : ℕ). k < n) (sym (c .before .u16-at .ensures .0)) (last-known b p n x m (args-refer b p ix n u x m h) some))))
+    (answered-as (c .found .ensures) (answer-known b p ix n u (h .good) (c .before .u16-at .result) (subst (λ (k : ℕ). k < n) (sym (c .before .u16-at .ensures .0)) (last-known (args-refer b p ix n u x m h) some))))
 
 pub last-of-spec : {M : Type 1} → statement M
 last-of-spec = tie.close (tie.spec (λ c κs. search needs) returns mul-u16-at add-u16-at u16-at-requires (λ c κs. search needs) returns-2)

@@ -41,7 +41,7 @@ set-of-requires c κs =
     let u = a .used in
     let x = a .args .now in
     let m = a .n in
-    record { good = s .pre .good; known = first-known b p n x m (args-refer b p ix n u x m (s .pre)) (positive m (c .before .before .before .before .if1 .left)) (c .before .before .before .u16-at .result) (c .before .before .before .u16-at .ensures .0) }
+    record { good = s .pre .good; known = first-known (args-refer b p ix n u x m (s .pre)) (positive m (c .before .before .before .before .if1 .left)) (c .before .before .before .u16-at .ensures .0) }
 
 returns-2 : tie.Need-returns-2
 returns-2 c =
@@ -54,7 +54,7 @@ returns-2 c =
     let u = a .used in
     let x = a .args .now in
     let m = a .n in
-    judged-as (ap singletonOf (first-then b p n x m (args-refer b p ix n u x m (s .pre)) (positive m (c .before .before .before .before .before .before .before .before .before .before .before .if1 .left)) (c .before .before .before .before .before .before .before .before .before .before .u16-at .result) (c .before .before .before .before .before .before .before .before .before .before .u16-at .ensures .0))) (c .before .before .before .before .before .before .set-of .ensures)
+    judged-as (ap singletonOf (first-then (args-refer b p ix n u x m (s .pre)) (positive m (c .before .before .before .before .before .before .before .before .before .before .before .if1 .left)) (c .before .before .before .before .before .before .before .before .before .before .u16-at .ensures .0))) (c .before .before .before .before .before .before .set-of .ensures)
 
 pub singleton-spec : {M : Type 1} → statement M
 singleton-spec = tie.close (tie.spec (λ c κs. search needs) returns u16-at-requires set-of-requires (λ c. search needs) (λ c. search needs) (λ c. search needs) returns-2)

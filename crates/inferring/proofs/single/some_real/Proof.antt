@@ -36,13 +36,13 @@ kind-at-requires c κs =
     let s = c .before .before .before .before .before .before in
     let l = c .before .before .loop in
     let w = l .inv in
-    walk-entry w (c .before .loop-test .taken) (c .u16-at .result) (c .u16-at .ensures .0) (s .pre)
+    walk-entry w (c .before .loop-test .taken) (c .u16-at .ensures .0) (s .pre)
 
 returns : tie.Need-returns Inv-loop μ-loop
 returns c =
     let l = c .before .before .before .before .loop in
     let w = l .inv in
-    real-found w (c .before .before .before .loop-test .taken) (c .before .before .u16-at .result) (c .before .before .u16-at .ensures .0) (c .before .kind-at .result) (c .before .kind-at .ensures) (c .if1 .taken)
+    real-found w (c .before .before .before .loop-test .taken) (c .before .before .u16-at .ensures .0) (c .before .kind-at .result) (c .before .kind-at .ensures) (c .if1 .taken)
 
 add-at : tie.Need-add-at Inv-loop μ-loop
 add-at c =
@@ -61,7 +61,7 @@ loop-again : tie.Need-loop-again Inv-loop μ-loop
 loop-again c =
     let l = c .before .before .before .before .loop in
     let w = l .inv in
-    real-more w (c .before .before .before .loop-test .taken) (c .before .before .u16-at .result) (c .before .before .u16-at .ensures .0) (c .before .kind-at .result) (c .before .kind-at .ensures) (c .if1 .left)
+    real-more w (c .before .before .before .loop-test .taken) (c .before .before .u16-at .ensures .0) (c .before .kind-at .result) (c .before .kind-at .ensures) (c .if1 .left)
 
 returns-2 : tie.Need-returns-2 Inv-loop μ-loop
 returns-2 c =

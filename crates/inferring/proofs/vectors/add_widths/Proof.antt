@@ -36,7 +36,7 @@ entry-requires c κs =
     let s = c .before .before .before .before .before .before in
     let l = c .before .before .loop in
     let w = l .inv in
-    walk-entry (w .walk) (c .before .loop-test .taken) (c .u16-at .result) (c .u16-at .ensures .0) (read-few (s .pre))
+    walk-entry (w .walk) (c .before .loop-test .taken) (c .u16-at .ensures .0) (read-few (s .pre))
 
 add-all-vectors : tie.Need-add-all-vectors Inv-loop μ-loop
 add-all-vectors c =
@@ -53,7 +53,7 @@ all-vectors-requires c κs =
     let s = c .before .before .before .before .before .before .before .before in
     let l = c .before .before .before .before .loop in
     let w = l .inv in
-    rest-asks w (c .before .before .before .loop-test .taken) (c .before .before .u16-at .result) (c .before .before .u16-at .ensures .0) (c .before .entry .result) (c .before .entry .ensures) (c .if1 .taken) (s .pre)
+    rest-asks w (c .before .before .before .loop-test .taken) (c .before .before .u16-at .ensures .0) (c .before .entry .result) (c .before .entry .ensures) (c .if1 .taken) (s .pre)
 
 returns : tie.Need-returns Inv-loop μ-loop
 returns c =
@@ -64,7 +64,7 @@ returns c =
     let x = a .args .now in
     let l = c .before .before .before .before .before .before .loop in
     let w = l .inv in
-    widths-unknown w (c .before .before .before .before .before .loop-test .taken) (c .before .before .before .before .u16-at .result) (c .before .before .before .before .u16-at .ensures .0) (c .before .before .before .entry .result) (c .before .before .before .entry .ensures) (c .before .before .if1 .taken) (subst (VectorsHas b p x (l .at + 2) (l .left - 1)) (c .if2 .taken) (c .before .all-vectors .ensures))
+    widths-unknown w (c .before .before .before .before .before .loop-test .taken) (c .before .before .before .before .u16-at .ensures .0) (c .before .before .before .entry .result) (c .before .before .before .entry .ensures) (c .before .before .if1 .taken) (subst (VectorsHas b p x (l .at + 2) (l .left - 1)) (c .if2 .taken) (c .before .all-vectors .ensures))
 
 returns-2 : tie.Need-returns-2 Inv-loop μ-loop
 returns-2 c =
@@ -75,20 +75,20 @@ returns-2 c =
     let x = a .args .now in
     let l = c .before .before .before .before .before .before .loop in
     let w = l .inv in
-    widths-none w (c .before .before .before .before .before .loop-test .taken) (c .before .before .before .before .u16-at .result) (c .before .before .before .before .u16-at .ensures .0) (c .before .before .before .entry .result) (c .before .before .before .entry .ensures) (c .before .before .if1 .taken) (subst (VectorsHas b p x (l .at + 2) (l .left - 1)) (c .if2 .left) (c .before .all-vectors .ensures))
+    widths-none w (c .before .before .before .before .before .loop-test .taken) (c .before .before .before .before .u16-at .ensures .0) (c .before .before .before .entry .result) (c .before .before .before .entry .ensures) (c .before .before .if1 .taken) (subst (VectorsHas b p x (l .at + 2) (l .left - 1)) (c .if2 .left) (c .before .all-vectors .ensures))
 
 returns-3 : tie.Need-returns-3 Inv-loop μ-loop
 returns-3 c =
     let l = c .before .before .before .before .before .loop in
     let w = l .inv in
-    widths-other w (c .before .before .before .before .loop-test .taken) (c .before .before .before .u16-at .result) (c .before .before .before .u16-at .ensures .0) (c .before .before .entry .result) (c .before .before .entry .ensures) (c .if3 .taken) (c .before .if1 .left)
+    widths-other w (c .before .before .before .before .loop-test .taken) (c .before .before .before .u16-at .ensures .0) (c .before .before .entry .result) (c .before .before .entry .ensures) (c .if3 .taken) (c .before .if1 .left)
 
 add-sum : tie.Need-add-sum Inv-loop μ-loop
 add-sum c =
     let s = c .before .before .before .before .before .before .before .before .before .before in
     let l = c .before .before .before .before .before .before .loop in
     let w = l .inv in
-    omega (arith, width-small w (c .before .before .before .before .before .loop-test .taken) (c .before .before .before .before .u16-at .result) (c .before .before .before .before .u16-at .ensures .0) (c .before .before .before .entry .result) (c .before .before .before .entry .ensures) (s .pre), w .low, few-of (s .pre), (c .before .before .before .before .before .loop-test .taken))
+    omega (arith, width-small w (c .before .before .before .before .before .loop-test .taken) (c .before .before .before .before .u16-at .ensures .0) (c .before .before .before .entry .result) (c .before .before .before .entry .ensures) (s .pre), w .low, few-of (s .pre), (c .before .before .before .before .before .loop-test .taken))
 
 add-at : tie.Need-add-at Inv-loop μ-loop
 add-at c =
@@ -108,7 +108,7 @@ loop-again c =
     let s = c .before .before .before .before .before .before .before .before .before .before in
     let l = c .before .before .before .before .before .before .loop in
     let w = l .inv in
-    widths-more w (c .before .before .before .before .before .loop-test .taken) (c .before .before .before .before .u16-at .result) (c .before .before .before .before .u16-at .ensures .0) (c .before .before .before .entry .result) (c .before .before .before .entry .ensures) (s .pre) (c .before .if3 .left)
+    widths-more w (c .before .before .before .before .before .loop-test .taken) (c .before .before .before .before .u16-at .ensures .0) (c .before .before .before .entry .result) (c .before .before .before .entry .ensures) (s .pre) (c .before .if3 .left)
 
 returns-4 : tie.Need-returns-4 Inv-loop μ-loop
 returns-4 c =

@@ -34,19 +34,19 @@ kind-at-requires c κs =
     let s = c .before .before .before .before .before .before in
     let l = c .before .before .loop in
     let w = l .inv in
-    walk-entry w (c .before .loop-test .taken) (c .u16-at .result) (c .u16-at .ensures .0) (s .pre)
+    walk-entry w (c .before .loop-test .taken) (c .u16-at .ensures .0) (s .pre)
 
 returns : tie.Need-returns Inv-loop μ-loop
 returns c =
     let l = c .before .before .before .before .loop in
     let w = l .inv in
-    vectors-other w (c .before .before .before .loop-test .taken) (c .before .before .u16-at .result) (c .before .before .u16-at .ensures .0) (c .before .kind-at .result) (c .before .kind-at .ensures) (λ z. absurd (omega (arith, c .if1 .taken))) (λ z. absurd (omega (arith, c .if1 .taken)))
+    vectors-other w (c .before .before .before .loop-test .taken) (c .before .before .u16-at .ensures .0) (c .before .kind-at .result) (c .before .kind-at .ensures) (λ z. absurd (omega (arith, c .if1 .taken))) (λ z. absurd (omega (arith, c .if1 .taken)))
 
 returns-2 : tie.Need-returns-2 Inv-loop μ-loop
 returns-2 c =
     let l = c .before .before .before .before .before .loop in
     let w = l .inv in
-    vectors-other w (c .before .before .before .before .loop-test .taken) (c .before .before .before .u16-at .result) (c .before .before .before .u16-at .ensures .0) (c .before .before .kind-at .result) (c .before .before .kind-at .ensures) (λ z. absurd (omega (arith, c .if2 .taken))) (λ z. absurd (omega (arith, c .if2 .taken)))
+    vectors-other w (c .before .before .before .before .loop-test .taken) (c .before .before .before .u16-at .ensures .0) (c .before .before .kind-at .result) (c .before .before .kind-at .ensures) (λ z. absurd (omega (arith, c .if2 .taken))) (λ z. absurd (omega (arith, c .if2 .taken)))
 
 add-at : tie.Need-add-at Inv-loop μ-loop
 add-at c =
@@ -65,7 +65,7 @@ loop-again : tie.Need-loop-again Inv-loop μ-loop
 loop-again c =
     let l = c .before .before .before .before .before .loop in
     let w = l .inv in
-    vectors-more w (c .before .before .before .before .loop-test .taken) (c .before .before .before .u16-at .result) (c .before .before .before .u16-at .ensures .0) (c .before .before .kind-at .result) (c .before .before .kind-at .ensures) (c .before .if1 .left) (c .if2 .left)
+    vectors-more w (c .before .before .before .before .loop-test .taken) (c .before .before .before .u16-at .ensures .0) (c .before .before .kind-at .result) (c .before .before .kind-at .ensures) (c .before .if1 .left) (c .if2 .left)
 
 returns-3 : tie.Need-returns-3 Inv-loop μ-loop
 returns-3 c =

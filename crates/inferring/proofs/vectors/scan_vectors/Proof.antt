@@ -37,7 +37,7 @@ kind-at-requires c κs =
     let s = c .before .before .before .before .before .before in
     let l = c .before .before .scan in
     let w = l .inv in
-    walk-entry w (positive (l .left) (c .before .if1 .left)) (c .u16-at .result) (c .u16-at .ensures .0) (s .pre)
+    walk-entry w (positive (l .left) (c .before .if1 .left)) (c .u16-at .ensures .0) (s .pre)
 
 add-at : tie.Need-add-at Inv-scan μ-scan
 add-at c =
@@ -60,7 +60,7 @@ scan-again : tie.Need-scan-again Inv-scan μ-scan
 scan-again c =
     let l = c .before .before .before .before .before .scan in
     let w = l .inv in
-    scan-more w (positive (l .left) (c .before .before .before .before .if1 .left)) (c .before .before .before .u16-at .result) (c .before .before .before .u16-at .ensures .0) (c .before .before .kind-at .result) (c .before .before .kind-at .ensures) (c .if3 .left)
+    scan-more w (positive (l .left) (c .before .before .before .before .if1 .left)) (c .before .before .before .u16-at .ensures .0) (c .before .before .kind-at .result) (c .before .before .kind-at .ensures) (c .if3 .left)
 
 returns : tie.Need-returns Inv-scan μ-scan
 returns c =
@@ -72,13 +72,13 @@ returns-2 : tie.Need-returns-2 Inv-scan μ-scan
 returns-2 c =
     let l = c .before .before .before .before .scan in
     let w = l .inv in
-    scan-found w (positive (l .left) (c .before .before .before .if1 .left)) (c .before .before .u16-at .result) (c .before .before .u16-at .ensures .0) (c .before .kind-at .result) (c .before .kind-at .ensures) (c .if2 .taken)
+    scan-found w (positive (l .left) (c .before .before .before .if1 .left)) (c .before .before .u16-at .ensures .0) (c .before .kind-at .result) (c .before .kind-at .ensures) (c .if2 .taken)
 
 returns-3 : tie.Need-returns-3 Inv-scan μ-scan
 returns-3 c =
     let l = c .before .before .before .before .before .scan in
     let w = l .inv in
-    scan-other w (positive (l .left) (c .before .before .before .before .if1 .left)) (c .before .before .before .u16-at .result) (c .before .before .before .u16-at .ensures .0) (c .before .before .kind-at .result) (c .before .before .kind-at .ensures) (c .before .if2 .left) (c .if3 .taken)
+    scan-other w (positive (l .left) (c .before .before .before .before .if1 .left)) (c .before .before .before .u16-at .ensures .0) (c .before .before .kind-at .result) (c .before .before .kind-at .ensures) (c .before .if2 .left) (c .if3 .taken)
 
 pub scan-vectors-spec : {M : Type 1} → statement M
 scan-vectors-spec = tie.close (tie.spec Inv-scan μ-scan scan-holds u16-at-requires kind-at-requires add-at sub-left scan-less scan-again returns returns-2 returns-3)

@@ -82,16 +82,9 @@ compatible-but-last-u16-at-requires-2 t c κs =
 compatible-but-last-compatible-past-requires : (t : ℕ) → compatible-but-last-lts.Need-compatible-past-requires (compatible-but-last-env t) (compatible-but-last-at t) compatible-but-last.Post compatible-but-last-Inv-loop compatible-but-last-μ-loop
 compatible-but-last-compatible-past-requires t c κs =
     let s = c .before .before .before .before .before .before .before .before in
-    let a = s .args in
-    let b = a .records .now in
-    let p = a .places .now in
-    let n = a .count in
     let i = c .before .before .before .before .loop in
     let v = i .inv in
-    let x = i .x in
-    let y = i .y in
-    let m = i .more in
-    rw (c .before .before .u16-at .ensures .0, c .before .u16-at2 .ensures .0) (omega (arith, s .pre .0, fits-fall b p n (a .at) (a .to) (a .left) (i .met) x y m v (c .before .before .before .loop-test .taken)), (pair-first b p n b x b y m (v .asks) (c .before .before .before .loop-test .taken), v .noted))
+    rw (c .before .before .u16-at .ensures .0, c .before .u16-at2 .ensures .0) (omega (arith, s .pre .0, fits-fall v (c .before .before .before .loop-test .taken)), (pair-first (v .asks) (c .before .before .before .loop-test .taken), v .noted))
 
 compatible-but-last-same-length : (t : ℕ) → compatible-but-last-lts.Need-same-length (compatible-but-last-env t) (compatible-but-last-at t) compatible-but-last.Post compatible-but-last-Inv-loop compatible-but-last-μ-loop
 compatible-but-last-same-length t c =
@@ -100,31 +93,15 @@ compatible-but-last-same-length t c =
 
 compatible-but-last-returns : (t : ℕ) → compatible-but-last-lts.Need-returns (compatible-but-last-env t) (compatible-but-last-at t) compatible-but-last.Post compatible-but-last-Inv-loop compatible-but-last-μ-loop
 compatible-but-last-returns t c =
-    let s = c .before .before .before .before .before .before .before .before .before .before .before .before in
-    let a = s .args in
-    let b = a .records .now in
-    let p = a .places .now in
-    let n = a .count in
     let i = c .before .before .before .before .before .before .before .before .loop in
     let v = i .inv in
-    let x = i .x in
-    let y = i .y in
-    let m = i .more in
-    (fits-fails b p n (a .at) (a .to) (a .left) (i .met) x y m v (c .before .before .before .before .before .before .before .loop-test .taken) (c .before .before .before .before .before .before .u16-at .result) (c .before .before .before .before .before .u16-at2 .result) (c .before .before .before .before .before .before .u16-at .ensures .0) (c .before .before .before .before .before .u16-at2 .ensures .0) (c .before .before .before .compatible-past .result) (c .before .before .before .compatible-past .ensures .0) (not-true (c .before .before .before .compatible-past .result) (c .if1 .taken)), c .before .before .before .compatible-past .ensures .1)
+    (fits-fails v (c .before .before .before .before .before .before .before .loop-test .taken) (c .before .before .before .before .before .before .u16-at .ensures .0) (c .before .before .before .before .before .u16-at2 .ensures .0) (c .before .before .before .compatible-past .ensures .0) (not-true (c .before .before .before .compatible-past .result) (c .if1 .taken)), c .before .before .before .compatible-past .ensures .1)
 
 compatible-but-last-note-pair-requires : (t : ℕ) → compatible-but-last-lts.Need-note-pair-requires (compatible-but-last-env t) (compatible-but-last-at t) compatible-but-last.Post compatible-but-last-Inv-loop compatible-but-last-μ-loop
 compatible-but-last-note-pair-requires t c κs =
-    let s = c .before .before .before .before .before .before .before .before .before .before .before .before .before in
-    let a = s .args in
-    let b = a .records .now in
-    let p = a .places .now in
-    let n = a .count in
     let i = c .before .before .before .before .before .before .before .before .before .loop in
     let v = i .inv in
-    let x = i .x in
-    let y = i .y in
-    let m = i .more in
-    let first = pair-first b p n b x b y m (v .asks) (c .before .before .before .before .before .before .before .before .loop-test .taken) in
+    let first = pair-first (v .asks) (c .before .before .before .before .before .before .before .before .loop-test .taken) in
     record { long = c .before .before .before .before .compatible-past .ensures .1 .long; small = omega (arith, c .before .before .before .before .before .before .before .u16-at .ensures .0, first .left, first .usable .count); target = omega (arith, c .before .before .before .before .before .before .u16-at2 .ensures .0, first .right, first .usable .count) }
 
 compatible-but-last-add-x : (t : ℕ) → compatible-but-last-lts.Need-add-x (compatible-but-last-env t) (compatible-but-last-at t) compatible-but-last.Post compatible-but-last-Inv-loop compatible-but-last-μ-loop
@@ -149,17 +126,9 @@ compatible-but-last-loop-less t c = omega (arith, c .before .before .before .bef
 
 compatible-but-last-loop-again : (t : ℕ) → compatible-but-last-lts.Need-loop-again (compatible-but-last-env t) (compatible-but-last-at t) compatible-but-last.Post compatible-but-last-Inv-loop compatible-but-last-μ-loop
 compatible-but-last-loop-again t c =
-    let s = c .before .before .before .before .before .before .before .before .before .before .before .before .before .before .before .before in
-    let a = s .args in
-    let b = a .records .now in
-    let p = a .places .now in
-    let n = a .count in
     let i = c .before .before .before .before .before .before .before .before .before .before .before .before .loop in
     let v = i .inv in
-    let x = i .x in
-    let y = i .y in
-    let m = i .more in
-    fits-more b p n (a .at) (a .to) (a .left) (i .met) x y m v (c .before .before .before .before .before .before .before .before .before .before .before .loop-test .taken) (c .before .before .before .before .before .before .before .before .before .before .u16-at .result) (c .before .before .before .before .before .before .before .before .before .u16-at2 .result) (c .before .before .before .before .before .before .before .before .before .before .u16-at .ensures .0) (c .before .before .before .before .before .before .before .before .before .u16-at2 .ensures .0) (c .before .before .before .before .before .before .before .compatible-past .result) (c .before .before .before .before .before .before .before .compatible-past .ensures .0) (not-false (c .before .before .before .before .before .before .before .compatible-past .result) (c .before .before .before .before .if1 .left)) (c .before .before .before .before .before .before .before .compatible-past .last .1 .1 .1 .0) (c .before .before .note-pair .last .0) (c .before .before .before .before .before .before .before .compatible-past .ensures .1) (c .before .before .note-pair .ensures)
+    fits-more v (c .before .before .before .before .before .before .before .before .before .before .before .loop-test .taken) (c .before .before .before .before .before .before .before .before .before .before .u16-at .ensures .0) (c .before .before .before .before .before .before .before .before .before .u16-at2 .ensures .0) (c .before .before .before .before .before .before .before .compatible-past .ensures .0) (not-false (c .before .before .before .before .before .before .before .compatible-past .result) (c .before .before .before .before .if1 .left)) (c .before .before .note-pair .last .0) (c .before .before .before .before .before .before .before .compatible-past .ensures .1) (c .before .before .note-pair .ensures)
 
 compatible-but-last-same-length-2 : (t : ℕ) → compatible-but-last-lts.Need-same-length-2 (compatible-but-last-env t) (compatible-but-last-at t) compatible-but-last.Post compatible-but-last-Inv-loop compatible-but-last-μ-loop
 compatible-but-last-same-length-2 t c =
@@ -170,17 +139,9 @@ compatible-but-last-same-length-2 t c =
 
 compatible-but-last-returns-2 : (t : ℕ) → compatible-but-last-lts.Need-returns-2 (compatible-but-last-env t) (compatible-but-last-at t) compatible-but-last.Post compatible-but-last-Inv-loop compatible-but-last-μ-loop
 compatible-but-last-returns-2 t c =
-    let s = c .before .before .before .before .before in
-    let a = s .args in
-    let b = a .records .now in
-    let p = a .places .now in
-    let n = a .count in
     let i = c .before .loop in
     let v = i .inv in
-    let x = i .x in
-    let y = i .y in
-    let m = i .more in
-    (fits-end b p n (a .at) (a .to) (a .left) (i .met) x y m v (c .loop-test .left), v .noted)
+    (fits-end v (c .loop-test .left), v .noted)
 
 compatible-past-loop-holds : (t : ℕ) → compatible-past-lts.Need-loop-holds (compatible-past-env t) (compatible-past-at t) compatible-past.Post compatible-past-Inv-loop compatible-past-μ-loop
 compatible-past-loop-holds t c =
@@ -308,7 +269,7 @@ compatible-past-returns-3 t c =
     let k = c .before .before .before .before .before .before .before .before .before .before .loop .k in
     let j = c .before .before .before .before .before .before .before .before .before .before .loop .j in
     let o = subst (FitIs b p n k j) (c .before .before .before .before .before .before .next2 .given .1) (c .before .before .before .before .before .before .before .before .next-fit .ensures) in
-    (fit-fails v o (c .before .before .before .compatible-but-last .result) (c .before .before .before .compatible-but-last .ensures .0) (not-true (c .before .before .before .compatible-but-last .result) (c .if1 .taken)), c .before .before .before .compatible-but-last .ensures .1)
+    (fit-fails v o (c .before .before .before .compatible-but-last .ensures .0) (not-true (c .before .before .before .compatible-but-last .result) (c .if1 .taken)), c .before .before .before .compatible-but-last .ensures .1)
 
 compatible-past-mul-u16-at : (t : ℕ) → compatible-past-lts.Need-mul-u16-at (compatible-past-env t) (compatible-past-at t) compatible-past.Post compatible-past-Inv-loop compatible-past-μ-loop
 compatible-past-mul-u16-at t c =
@@ -393,7 +354,7 @@ compatible-past-loop-less-2 t c =
     let k = c .before .before .before .before .before .before .before .before .before .before .before .before .loop .k in
     let j = c .before .before .before .before .before .before .before .before .before .before .before .before .loop .j in
     let o = subst (FitIs b p n k j) (c .before .before .before .before .before .before .before .before .next2 .given .1) (c .before .before .before .before .before .before .before .before .before .before .next-fit .ensures) in
-    fit-less v o (c .before .before .before .before .before .compatible-but-last .result) (c .before .before .before .before .before .compatible-but-last .ensures .0) (not-false (c .before .before .before .before .before .compatible-but-last .result) (c .before .before .if1 .left)) (c .before .before .before .before .before .compatible-but-last .last .1 .1 .1 .0) (c .before .before .before .before .before .compatible-but-last .ensures .1) (c .before .u16-at .result) (c .u16-at2 .result) (c .before .u16-at .ensures .0) (c .u16-at2 .ensures .0)
+    fit-less v o (c .before .before .before .before .before .compatible-but-last .ensures .0) (not-false (c .before .before .before .before .before .compatible-but-last .result) (c .before .before .if1 .left)) (c .before .before .before .before .before .compatible-but-last .ensures .1) (c .before .u16-at .ensures .0) (c .u16-at2 .ensures .0)
 
 compatible-past-loop-again-2 : (t : ℕ) → compatible-past-lts.Need-loop-again-2 (compatible-past-env t) (compatible-past-at t) compatible-past.Post compatible-past-Inv-loop compatible-past-μ-loop
 compatible-past-loop-again-2 t c =
@@ -406,7 +367,7 @@ compatible-past-loop-again-2 t c =
     let k = c .before .before .before .before .before .before .before .before .before .before .before .before .loop .k in
     let j = c .before .before .before .before .before .before .before .before .before .before .before .before .loop .j in
     let o = subst (FitIs b p n k j) (c .before .before .before .before .before .before .before .before .next2 .given .1) (c .before .before .before .before .before .before .before .before .before .before .next-fit .ensures) in
-    fit-last v o (c .before .before .before .before .before .compatible-but-last .result) (c .before .before .before .before .before .compatible-but-last .ensures .0) (not-false (c .before .before .before .before .before .compatible-but-last .result) (c .before .before .if1 .left)) (c .before .before .before .before .before .compatible-but-last .last .1 .1 .1 .0) (c .before .before .before .before .before .compatible-but-last .ensures .1) (c .before .u16-at .result) (c .u16-at2 .result) (c .before .u16-at .ensures .0) (c .u16-at2 .ensures .0)
+    fit-last v o (c .before .before .before .before .before .compatible-but-last .ensures .0) (not-false (c .before .before .before .before .before .compatible-but-last .result) (c .before .before .if1 .left)) (c .before .before .before .before .before .compatible-but-last .ensures .1) (c .before .u16-at .ensures .0) (c .u16-at2 .ensures .0)
 
 pub +compatible-but-last+compatible-past-spec : {M : Type 1} → statement M
 +compatible-but-last+compatible-past-spec = close μ-compatible-but-last μ-compatible-past (λ t. compatible-but-last-lts.spec (compatible-but-last-env t) (compatible-but-last-at t) compatible-but-last.Post compatible-but-last-Inv-loop compatible-but-last-μ-loop (compatible-but-last-loop-holds t) (compatible-but-last-u16-at-requires t) (compatible-but-last-u16-at-requires-2 t) (compatible-but-last-compatible-past-requires t) (compatible-but-last-same-length t) (compatible-but-last-returns t) (compatible-but-last-note-pair-requires t) (compatible-but-last-add-x t) (compatible-but-last-add-y t) (compatible-but-last-sub-more t) (compatible-but-last-loop-less t) (compatible-but-last-loop-again t) (compatible-but-last-same-length-2 t) (compatible-but-last-returns-2 t)) (λ t. compatible-past-lts.spec (compatible-past-env t) (compatible-past-at t) compatible-past.Post compatible-past-Inv-loop compatible-past-μ-loop (compatible-past-loop-holds t) (compatible-past-next-fit-requires t) (compatible-past-enum-told t) (compatible-past-same-length t) (compatible-past-returns t) (compatible-past-enum-told-2 t) (compatible-past-same-length-2 t) (compatible-past-returns-2 t) (compatible-past-enum-known-next t) (compatible-past-loop-less t) (compatible-past-loop-again t) (compatible-past-enum-known-next-2 t) (compatible-past-sub-last t) (compatible-past-compatible-but-last-requires t) (compatible-past-same-length-3 t) (compatible-past-returns-3 t) (compatible-past-mul-u16-at t) (compatible-past-add-u16-at t) (compatible-past-u16-at-requires t) (compatible-past-mul-u16-at-2 t) (compatible-past-add-u16-at-2 t) (compatible-past-u16-at-requires-2 t) (compatible-past-loop-less-2 t) (compatible-past-loop-again-2 t))

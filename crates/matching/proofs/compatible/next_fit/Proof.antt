@@ -25,16 +25,10 @@ entry-requires c κs =
 returns : tie.Need-returns
 returns c =
     let s = c .before .before .before .before .before .before in
-    let a = s .args in
-    let b = a .records .now in
-    let p = a .places .now in
-    let n = a .count in
     let asks = s .pre .0 in
-    let k = a .p in
-    let j = a .t in
     let r = c .before .before .entry .result in
     let e = c .before .before .entry .ensures in
-    fit-var b p n k j asks r e (c .if1 .taken)
+    fit-var asks r e (c .if1 .taken)
 
 u16-at-requires : tie.Need-u16-at-requires
 u16-at-requires c κs =
@@ -53,16 +47,10 @@ u16-at-requires c κs =
 returns-2 : tie.Need-returns-2
 returns-2 c =
     let s = c .before .before .before .before .before .before .before .before .before in
-    let a = s .args in
-    let b = a .records .now in
-    let p = a .places .now in
-    let n = a .count in
     let asks = s .pre .0 in
-    let k = a .p in
-    let j = a .t in
     let r = c .before .before .before .before .before .entry .result in
     let e = c .before .before .before .before .before .entry .ensures in
-    fit-par b p n k j asks r e (c .before .if2 .taken) (c .u16-at .result) (c .u16-at .ensures .0)
+    fit-par asks r e (c .before .if2 .taken) (c .u16-at .ensures .0)
 
 is-met-requires : tie.Need-is-met-requires
 is-met-requires c κs =
@@ -99,18 +87,12 @@ entry-requires-2 c κs =
 returns-4 : tie.Need-returns-4
 returns-4 c =
     let s = c .before .before .before .before .before .before .before .before .before .before .before .before .before in
-    let a = s .args in
-    let b = a .records .now in
-    let p = a .places .now in
-    let n = a .count in
     let asks = s .pre .0 in
-    let k = a .p in
-    let j = a .t in
     let r = c .before .before .before .before .before .before .before .before .before .entry .result in
     let e = c .before .before .before .before .before .before .before .before .before .entry .ensures in
     let q = c .before .before .entry2 .result in
     let g = c .before .before .entry2 .ensures in
-    fit-to-var b p n k j asks r e q g (c .if4 .taken)
+    fit-to-var asks r e q g (c .if4 .taken)
 
 u16-at-requires-2 : tie.Need-u16-at-requires-2
 u16-at-requires-2 c κs =
@@ -129,18 +111,12 @@ u16-at-requires-2 c κs =
 returns-5 : tie.Need-returns-5
 returns-5 c =
     let s = c .before .before .before .before .before .before .before .before .before .before .before .before .before .before .before .before in
-    let a = s .args in
-    let b = a .records .now in
-    let p = a .places .now in
-    let n = a .count in
     let asks = s .pre .0 in
-    let k = a .p in
-    let j = a .t in
     let r = c .before .before .before .before .before .before .before .before .before .before .before .before .entry .result in
     let e = c .before .before .before .before .before .before .before .before .before .before .before .before .entry .ensures in
     let q = c .before .before .before .before .before .entry2 .result in
     let g = c .before .before .before .before .before .entry2 .ensures in
-    fit-to-par b p n k j asks r e q g (c .before .if5 .taken) (c .u16-at2 .result) (c .u16-at2 .ensures .0)
+    fit-to-par asks r e q g (c .before .if5 .taken) (c .u16-at2 .ensures .0)
 
 param-eq-requires : tie.Need-param-eq-requires
 param-eq-requires c κs =
@@ -151,66 +127,42 @@ param-eq-requires c κs =
 returns-6 : tie.Need-returns-6
 returns-6 c =
     let s = c .before .before .before .before .before .before .before .before .before .before .before .before .before .before .before .before .before in
-    let a = s .args in
-    let b = a .records .now in
-    let p = a .places .now in
-    let n = a .count in
     let asks = s .pre .0 in
-    let k = a .p in
-    let j = a .t in
     let r = c .before .before .before .before .before .before .before .before .before .before .before .before .before .entry .result in
     let e = c .before .before .before .before .before .before .before .before .before .before .before .before .before .entry .ensures in
     let q = c .before .before .before .before .before .before .entry2 .result in
     let g = c .before .before .before .before .before .before .entry2 .ensures in
-    fit-param b p n k j asks r e q g (c .before .before .before .before .before .before .before .before .before .before .before .if1 .left) (c .before .before .before .before .before .before .before .before .before .if2 .left) (c .before .before .before .before .if4 .left) (c .before .before .if5 .left) (c .before .param-eq .result) (c .before .param-eq .ensures) (c .if6 .taken)
+    fit-param asks r e q g (c .before .before .before .before .before .before .before .before .before .before .before .if1 .left) (c .before .before .before .before .before .before .before .before .before .if2 .left) (c .before .before .before .before .if4 .left) (c .before .before .if5 .left) (c .before .param-eq .ensures) (c .if6 .taken)
 
 returns-7 : tie.Need-returns-7
 returns-7 c =
     let s = c .before .before .before .before .before .before .before .before .before .before .before .before .before .before .before .before .before .before .before in
-    let a = s .args in
-    let b = a .records .now in
-    let p = a .places .now in
-    let n = a .count in
     let asks = s .pre .0 in
-    let k = a .p in
-    let j = a .t in
     let r = c .before .before .before .before .before .before .before .before .before .before .before .before .before .before .before .entry .result in
     let e = c .before .before .before .before .before .before .before .before .before .before .before .before .before .before .before .entry .ensures in
     let q = c .before .before .before .before .before .before .before .before .entry2 .result in
     let g = c .before .before .before .before .before .before .before .before .entry2 .ensures in
-    fit-other b p n k j asks r e q g (c .before .before .before .before .before .before .before .before .before .before .before .before .before .if1 .left) (c .before .before .before .before .before .before .before .before .before .before .before .if2 .left) (c .before .before .before .before .before .before .if4 .left) (c .before .before .before .before .if5 .left) (c .before .before .before .param-eq .result) (c .before .before .before .param-eq .ensures) (c .before .before .if6 .left) (sym (c .before .same-head .ensures) ∙ not-true (c .before .same-head .result) (c .if7 .taken))
+    fit-other asks r e q g (c .before .before .before .before .before .before .before .before .before .before .before .before .before .if1 .left) (c .before .before .before .before .before .before .before .before .before .before .before .if2 .left) (c .before .before .before .before .before .before .if4 .left) (c .before .before .before .before .if5 .left) (c .before .before .before .param-eq .ensures) (c .before .before .if6 .left) (sym (c .before .same-head .ensures) ∙ not-true (c .before .same-head .result) (c .if7 .taken))
 
 returns-8 : tie.Need-returns-8
 returns-8 c =
     let s = c .before .before .before .before .before .before .before .before .before .before .before .before .before .before .before .before .before .before .before .before .before in
-    let a = s .args in
-    let b = a .records .now in
-    let p = a .places .now in
-    let n = a .count in
     let asks = s .pre .0 in
-    let k = a .p in
-    let j = a .t in
     let r = c .before .before .before .before .before .before .before .before .before .before .before .before .before .before .before .before .before .entry .result in
     let e = c .before .before .before .before .before .before .before .before .before .before .before .before .before .before .before .before .before .entry .ensures in
     let q = c .before .before .before .before .before .before .before .before .before .before .entry2 .result in
     let g = c .before .before .before .before .before .before .before .before .before .before .entry2 .ensures in
-    fit-bare b p n k j asks r e q g (c .before .before .before .before .before .before .before .before .before .before .before .before .before .before .before .if1 .left) (c .before .before .before .before .before .before .before .before .before .before .before .before .before .if2 .left) (c .before .before .before .before .before .before .before .before .if4 .left) (c .before .before .before .before .before .before .if5 .left) (c .before .before .before .before .before .param-eq .result) (c .before .before .before .before .before .param-eq .ensures) (c .before .before .before .before .if6 .left) (sym (c .before .before .before .same-head .ensures) ∙ not-false (c .before .before .before .same-head .result) (c .before .before .if7 .left)) (c .if8 .taken)
+    fit-bare asks r e q g (c .before .before .before .before .before .before .before .before .before .before .before .before .before .before .before .if1 .left) (c .before .before .before .before .before .before .before .before .before .before .before .before .before .if2 .left) (c .before .before .before .before .before .before .before .before .if4 .left) (c .before .before .before .before .before .before .if5 .left) (c .before .before .before .before .before .param-eq .ensures) (c .before .before .before .before .if6 .left) (sym (c .before .before .before .same-head .ensures) ∙ not-false (c .before .before .before .same-head .result) (c .before .before .if7 .left)) (c .if8 .taken)
 
 returns-9 : tie.Need-returns-9
 returns-9 c =
     let s = c .before .before .before .before .before .before .before .before .before .before .before .before .before .before .before .before .before .before .before .before .before in
-    let a = s .args in
-    let b = a .records .now in
-    let p = a .places .now in
-    let n = a .count in
     let asks = s .pre .0 in
-    let k = a .p in
-    let j = a .t in
     let r = c .before .before .before .before .before .before .before .before .before .before .before .before .before .before .before .before .before .entry .result in
     let e = c .before .before .before .before .before .before .before .before .before .before .before .before .before .before .before .before .before .entry .ensures in
     let q = c .before .before .before .before .before .before .before .before .before .before .entry2 .result in
     let g = c .before .before .before .before .before .before .before .before .before .before .entry2 .ensures in
-    fit-node b p n k j asks r e q g (c .before .before .before .before .before .before .before .before .before .before .before .before .before .before .before .if1 .left) (c .before .before .before .before .before .before .before .before .before .before .before .before .before .if2 .left) (c .before .before .before .before .before .before .before .before .if4 .left) (c .before .before .before .before .before .before .if5 .left) (c .before .before .before .before .before .param-eq .result) (c .before .before .before .before .before .param-eq .ensures) (c .before .before .before .before .if6 .left) (sym (c .before .before .before .same-head .ensures) ∙ not-false (c .before .before .before .same-head .result) (c .before .before .if7 .left)) (c .if8 .left)
+    fit-node asks r e q g (c .before .before .before .before .before .before .before .before .before .before .before .before .before .before .before .if1 .left) (c .before .before .before .before .before .before .before .before .before .before .before .before .before .if2 .left) (c .before .before .before .before .before .before .before .before .if4 .left) (c .before .before .before .before .before .before .if5 .left) (c .before .before .before .before .before .param-eq .ensures) (c .before .before .before .before .if6 .left) (sym (c .before .before .before .same-head .ensures) ∙ not-false (c .before .before .before .same-head .result) (c .before .before .if7 .left)) (c .if8 .left)
 
 pub next-fit-spec : {M : Type 1} → statement M
 next-fit-spec = tie.close (tie.spec entry-requires returns u16-at-requires returns-2 is-met-requires returns-3 entry-requires-2 returns-4 u16-at-requires-2 returns-5 param-eq-requires returns-6 (λ c κs. search needs) returns-7 returns-8 returns-9)

@@ -72,12 +72,10 @@ all-each-u16-at-requires t c κs = omega (arith, c .before .loop .inv .asks .ref
 all-each-each-requires : (t : ℕ) → all-each-lts.Need-each-requires (all-each-env t) (all-each-at t) all-each.Post Inv-loop μ-loop
 all-each-each-requires t c κs =
     let s = c .before .before .before .before .before .before .before .before .before in
-    let a = s .args in
     let q = s .pre .1 in
     let v = c .before .before .before .loop .inv in
     let some = c .before .before .loop-test .taken in
-    let l = c .before .before .before .loop in
-    let one = first-asks (a .records .now) (a .places .now) (a .count) (a .records .now) (l .next) (l .more) (v .asks) some in
+    let one = first-asks (v .asks) some in
     rw (c .before .u16-at .ensures .0) (omega (arith, s .pre .0, each-fall v some), record { one = one; lent = q .lent; noted = v .noted })
 
 all-each-same-length : (t : ℕ) → all-each-lts.Need-same-length (all-each-env t) (all-each-at t) all-each.Post Inv-loop μ-loop
@@ -168,7 +166,7 @@ each-all-each-requires t c κs =
     let r = c .before .before .before .before .before .before .before .before .entry .result in
     let e = c .before .before .before .before .before .before .before .before .entry .ensures in
     let falls = entry-size (a .records .now) (a .places .now) (a .count) (a .k) (q .one .usable) (q .one .known) r e in
-    (omega (arith, s .pre .0, falls), record { list = parts-ask (a .records .now) (a .places .now) (a .count) (a .k) r (q .one) e; lent = q .lent; noted = q .noted })
+    (omega (arith, s .pre .0, falls), record { list = parts-ask r (q .one) e; lent = q .lent; noted = q .noted })
 
 each-note-requires : (t : ℕ) → each-lts.Need-note-requires (each-env t) (each-at t) each.Post
 each-note-requires t c κs =

@@ -83,16 +83,9 @@ all-but-last-loop-holds : (t : ℕ) → all-but-last-lts.Need-loop-holds (all-bu
 all-but-last-loop-holds t c =
     let s = c .before .before .before .before .before .before in
     let a = s .args in
-    let b = a .records .now in
-    let p = a .places .now in
-    let n = a .count in
-    let prm = a .params .now in
-    let imgs = a .images .now in
-    let bnd = a .bound .now in
-    let m = a .m in
     let asks = s .pre .1 .0 in
     let noted = s .pre .1 .1 in
-    along-start b p n prm imgs bnd m b (a .at) b (a .to) (a .left) (a .met .now) asks noted
+    along-start (a .met .now) asks noted
 
 all-but-last-u16-at-requires : (t : ℕ) → all-but-last-lts.Need-u16-at-requires (all-but-last-env t) (all-but-last-at t) all-but-last.Post all-but-last-Inv-loop all-but-last-μ-loop
 all-but-last-u16-at-requires t c κs =
@@ -107,34 +100,17 @@ all-but-last-u16-at-requires-2 t c κs =
 all-but-last-match-with-requires : (t : ℕ) → all-but-last-lts.Need-match-with-requires (all-but-last-env t) (all-but-last-at t) all-but-last.Post all-but-last-Inv-loop all-but-last-μ-loop
 all-but-last-match-with-requires t c κs =
     let s = c .before .before .before .before .before .before .before .before .before .before .before .before .before .before in
-    let a = s .args in
-    let b = a .records .now in
-    let p = a .places .now in
-    let n = a .count in
-    let prm = a .params .now in
-    let imgs = a .images .now in
-    let bnd = a .bound .now in
-    let m = a .m in
     let i = c .before .before .before .before .before .before .before .loop in
-    (omega (arith, s .pre .0, along-falls b p n prm imgs bnd m b (a .at) b (a .to) (a .left) (i .params) (i .images) (i .bound) (i .met) (i .n) (i .x) (i .y) (i .rest) (i .inv) (c .before .before .before .before .before .before .loop-test .taken) (c .before .before .before .before .before .u16-at .result) (c .before .before .before .before .u16-at2 .result) (c .before .before .before .before .before .u16-at .ensures .0) (c .before .before .before .before .u16-at2 .ensures .0)), (along-first b p n prm imgs bnd m b (a .at) b (a .to) (a .left) (i .params) (i .images) (i .bound) (i .met) (i .n) (i .x) (i .y) (i .rest) (i .inv) (c .before .before .before .before .before .before .loop-test .taken) (c .before .before .before .before .before .u16-at .result) (c .before .before .before .before .u16-at2 .result) (c .before .before .before .before .before .u16-at .ensures .0) (c .before .before .before .before .u16-at2 .ensures .0), i .inv .noted))
+    (omega (arith, s .pre .0, along-falls (i .inv) (c .before .before .before .before .before .before .loop-test .taken) (c .before .before .before .before .before .u16-at .ensures .0) (c .before .before .before .before .u16-at2 .ensures .0)), (along-first (i .inv) (c .before .before .before .before .before .before .loop-test .taken) (c .before .before .before .before .before .u16-at .ensures .0) (c .before .before .before .before .u16-at2 .ensures .0), i .inv .noted))
 
 all-but-last-enum-known-first : (t : ℕ) → all-but-last-lts.Need-enum-known-first (all-but-last-env t) (all-but-last-at t) all-but-last.Post all-but-last-Inv-loop all-but-last-μ-loop
 all-but-last-enum-known-first t c = search needs
 
 all-but-last-note-pair-requires : (t : ℕ) → all-but-last-lts.Need-note-pair-requires (all-but-last-env t) (all-but-last-at t) all-but-last.Post all-but-last-Inv-loop all-but-last-μ-loop
 all-but-last-note-pair-requires t c κs =
-    let s = c .before .before .before .before .before .before .before .before .before .before .before .before .before .before .before .before .before .before .before .before .before .before .before .before .before .before .before in
-    let a = s .args in
-    let b = a .records .now in
-    let p = a .places .now in
-    let n = a .count in
-    let prm = a .params .now in
-    let imgs = a .images .now in
-    let bnd = a .bound .now in
-    let m = a .m in
     let i = c .before .before .before .before .before .before .before .before .before .before .before .before .before .before .before .before .before .before .before .before .loop in
     let w = c .before .before .before .before .before .before .before .before .before .before .before .before .match-with in
-    along-met b p n prm imgs bnd m b (a .at) b (a .to) (a .left) (i .params) (i .images) (i .bound) (i .met) (i .n) (i .x) (i .y) (i .rest) (i .inv) (c .before .before .before .before .before .before .before .before .before .before .before .before .before .before .before .before .before .before .before .loop-test .taken) (c .before .before .before .before .before .before .before .before .before .before .before .before .before .before .before .before .before .before .u16-at .result) (c .before .before .before .before .before .before .before .before .before .before .before .before .before .before .before .before .before .u16-at2 .result) (c .before .before .before .before .before .before .before .before .before .before .before .before .before .before .before .before .before .before .u16-at .ensures .0) (c .before .before .before .before .before .before .before .before .before .before .before .before .before .before .before .before .before .u16-at2 .ensures .0) (w .last .1 .1 .1 .0) (w .last .1 .1 .1 .1 .0) (w .last .1 .1 .1 .1 .1 .0) (w .last .1 .1 .1 .1 .1 .1 .0) (w .result) (w .ensures .0) (w .ensures .1) (c .before .before .first .given .0 .0) (c .before .before .first .given .1)
+    along-met (i .inv) (c .before .before .before .before .before .before .before .before .before .before .before .before .before .before .before .before .before .before .before .loop-test .taken) (c .before .before .before .before .before .before .before .before .before .before .before .before .before .before .before .before .before .before .u16-at .ensures .0) (c .before .before .before .before .before .before .before .before .before .before .before .before .before .before .before .before .before .u16-at2 .ensures .0) (w .last .1 .1 .1 .1 .1 .1 .0) (w .ensures .0) (w .ensures .1) (c .before .before .first .given .0 .0) (c .before .before .first .given .1)
 
 all-but-last-enum-known-first-2 : (t : ℕ) → all-but-last-lts.Need-enum-known-first-2 (all-but-last-env t) (all-but-last-at t) all-but-last.Post all-but-last-Inv-loop all-but-last-μ-loop
 all-but-last-enum-known-first-2 t c = search needs
@@ -167,18 +143,9 @@ all-but-last-same-length-4 t c =
 
 all-but-last-returns : (t : ℕ) → all-but-last-lts.Need-returns (all-but-last-env t) (all-but-last-at t) all-but-last.Post all-but-last-Inv-loop all-but-last-μ-loop
 all-but-last-returns t c =
-    let s = c .before .before .before .before .before .before .before .before .before .before .before .before .before .before .before .before .before .before .before .before .before .before .before .before .before .before in
-    let a = s .args in
-    let b = a .records .now in
-    let p = a .places .now in
-    let n = a .count in
-    let prm = a .params .now in
-    let imgs = a .images .now in
-    let bnd = a .bound .now in
-    let m = a .m in
     let i = c .before .before .before .before .before .before .before .before .before .before .before .before .before .before .before .before .before .before .before .loop in
     let w = c .before .before .before .before .before .before .before .before .before .before .before .match-with in
-    (along-misfit b p n prm imgs bnd m b (a .at) b (a .to) (a .left) (i .params) (i .images) (i .bound) (i .met) (i .n) (i .x) (i .y) (i .rest) (i .inv) (c .before .before .before .before .before .before .before .before .before .before .before .before .before .before .before .before .before .before .loop-test .taken) (c .before .before .before .before .before .before .before .before .before .before .before .before .before .before .before .before .before .u16-at .result) (c .before .before .before .before .before .before .before .before .before .before .before .before .before .before .before .before .u16-at2 .result) (c .before .before .before .before .before .before .before .before .before .before .before .before .before .before .before .before .before .u16-at .ensures .0) (c .before .before .before .before .before .before .before .before .before .before .before .before .before .before .before .before .u16-at2 .ensures .0) (w .last .1 .1 .1 .0) (w .last .1 .1 .1 .1 .0) (w .last .1 .1 .1 .1 .1 .0) (w .last .1 .1 .1 .1 .1 .1 .0) (w .result) (w .ensures .0) (c .before .first2 .given .0 .0) (c .before .first2 .given .1), tt)
+    (along-misfit (i .inv) (c .before .before .before .before .before .before .before .before .before .before .before .before .before .before .before .before .before .before .loop-test .taken) (c .before .before .before .before .before .before .before .before .before .before .before .before .before .before .before .before .before .u16-at .ensures .0) (c .before .before .before .before .before .before .before .before .before .before .before .before .before .before .before .before .u16-at2 .ensures .0) (w .last .1 .1 .1 .1 .1 .1 .0) (w .ensures .0) (c .before .first2 .given .0 .0) (c .before .first2 .given .1), tt)
 
 all-but-last-add-x : (t : ℕ) → all-but-last-lts.Need-add-x (all-but-last-env t) (all-but-last-at t) all-but-last.Post all-but-last-Inv-loop all-but-last-μ-loop
 all-but-last-add-x t c =
@@ -200,18 +167,9 @@ all-but-last-loop-less t c = omega (arith, c .before .before .before .before .be
 
 all-but-last-loop-again : (t : ℕ) → all-but-last-lts.Need-loop-again (all-but-last-env t) (all-but-last-at t) all-but-last.Post all-but-last-Inv-loop all-but-last-μ-loop
 all-but-last-loop-again t c =
-    let s = c .before .before .before .before .before .before .before .before .before .before .before .before .before .before .before .before .before .before .before .before .before .before .before .before .before .before .before .before .before .before in
-    let a = s .args in
-    let b = a .records .now in
-    let p = a .places .now in
-    let n = a .count in
-    let prm = a .params .now in
-    let imgs = a .images .now in
-    let bnd = a .bound .now in
-    let m = a .m in
     let i = c .before .before .before .before .before .before .before .before .before .before .before .before .before .before .before .before .before .before .before .before .before .before .before .loop in
     let w = c .before .before .before .before .before .before .before .before .before .before .before .before .before .before .before .match-with in
-    along-more b p n prm imgs bnd m b (a .at) b (a .to) (a .left) (i .params) (i .images) (i .bound) (i .met) (i .n) (i .x) (i .y) (i .rest) (i .inv) (c .before .before .before .before .before .before .before .before .before .before .before .before .before .before .before .before .before .before .before .before .before .before .loop-test .taken) (c .before .before .before .before .before .before .before .before .before .before .before .before .before .before .before .before .before .before .before .before .before .u16-at .result) (c .before .before .before .before .before .before .before .before .before .before .before .before .before .before .before .before .before .before .before .before .u16-at2 .result) (c .before .before .before .before .before .before .before .before .before .before .before .before .before .before .before .before .before .before .before .before .before .u16-at .ensures .0) (c .before .before .before .before .before .before .before .before .before .before .before .before .before .before .before .before .before .before .before .before .u16-at2 .ensures .0) (w .last .1 .1 .1 .0) (w .last .1 .1 .1 .1 .0) (w .last .1 .1 .1 .1 .1 .0) (w .last .1 .1 .1 .1 .1 .1 .0) (w .result) (w .ensures .0) (w .ensures .1) (c .before .before .before .before .before .first .given .0 .0) (c .before .before .before .before .before .first .given .1) (c .before .before .note-pair .last .0) (c .before .before .note-pair .ensures)
+    along-more (i .inv) (c .before .before .before .before .before .before .before .before .before .before .before .before .before .before .before .before .before .before .before .before .before .before .loop-test .taken) (c .before .before .before .before .before .before .before .before .before .before .before .before .before .before .before .before .before .before .before .before .before .u16-at .ensures .0) (c .before .before .before .before .before .before .before .before .before .before .before .before .before .before .before .before .before .before .before .before .u16-at2 .ensures .0) (w .last .1 .1 .1 .1 .1 .1 .0) (w .ensures .0) (w .ensures .1) (c .before .before .before .before .before .first .given .0 .0) (c .before .before .before .before .before .first .given .1) (c .before .before .note-pair .last .0) (c .before .before .note-pair .ensures)
 
 all-but-last-same-length-5 : (t : ℕ) → all-but-last-lts.Need-same-length-5 (all-but-last-env t) (all-but-last-at t) all-but-last.Post all-but-last-Inv-loop all-but-last-μ-loop
 all-but-last-same-length-5 t c =
@@ -241,17 +199,8 @@ all-but-last-same-length-8 t c =
 
 all-but-last-returns-2 : (t : ℕ) → all-but-last-lts.Need-returns-2 (all-but-last-env t) (all-but-last-at t) all-but-last.Post all-but-last-Inv-loop all-but-last-μ-loop
 all-but-last-returns-2 t c =
-    let s = c .before .before .before .before .before .before .before .before in
-    let a = s .args in
-    let b = a .records .now in
-    let p = a .places .now in
-    let n = a .count in
-    let prm = a .params .now in
-    let imgs = a .images .now in
-    let bnd = a .bound .now in
-    let m = a .m in
     let i = c .before .loop in
-    along-end b p n prm imgs bnd m b (a .at) b (a .to) (a .left) (i .params) (i .images) (i .bound) (i .met) (i .n) (i .x) (i .y) (i .rest) (i .inv) (c .loop-test .left)
+    along-end (i .inv) (c .loop-test .left)
 
 match-with-walk-requires : (t : ℕ) → match-with-lts.Need-walk-requires (match-with-env t) (match-with-at t) match-with.Post
 match-with-walk-requires t c κs =
@@ -273,36 +222,16 @@ match-with-same-length-4 t c = search needs
 match-with-returns : (t : ℕ) → match-with-lts.Need-returns (match-with-env t) (match-with-at t) match-with.Post
 match-with-returns t c =
     let s = c .before .before .before .before .before .before .before .before .before .before .before .before .before .before .before .before .before .before .before .before in
-    let a = s .args in
-    let b = a .records .now in
-    let p = a .places .now in
-    let n = a .count in
-    let prm = a .params .now in
-    let imgs = a .images .now in
-    let bnd = a .bound .now in
-    let m = a .m in
     let asks = s .pre .1 .0 in
-    let k = a .p in
-    let j = a .t in
     let w = c .before .before .before .before .before .before .before .before .before .walk in
-    match-plain b p n prm imgs bnd m k j asks (w .last .1 .1 .1 .0) (w .last .1 .1 .1 .1 .0) (w .last .1 .1 .1 .1 .1 .0) (w .last .1 .1 .1 .1 .1 .1 .0) (w .result) (w .ensures) (c .if1 .taken)
+    match-plain asks (w .ensures) (c .if1 .taken)
 
 match-with-close-pars-requires : (t : ℕ) → match-with-lts.Need-close-pars-requires (match-with-env t) (match-with-at t) match-with.Post
 match-with-close-pars-requires t c κs =
     let s = c .before .before .before .before .before .before .before .before .before .before .before .before .before .before .before .before .before .before .before .before .before in
-    let a = s .args in
-    let b = a .records .now in
-    let p = a .places .now in
-    let n = a .count in
-    let prm = a .params .now in
-    let imgs = a .images .now in
-    let bnd = a .bound .now in
-    let m = a .m in
     let asks = s .pre .1 .0 in
-    let k = a .p in
-    let j = a .t in
     let w = c .before .before .before .before .before .before .before .before .before .before .walk in
-    close-asks b p n prm imgs bnd m k j asks (w .last .1 .1 .1 .0) (w .last .1 .1 .1 .1 .0) (w .last .1 .1 .1 .1 .1 .0) (w .last .1 .1 .1 .1 .1 .1 .0) (w .result) (w .ensures)
+    close-asks asks (w .ensures)
 
 match-with-forget-requires : (t : ℕ) → match-with-lts.Need-forget-requires (match-with-env t) (match-with-at t) match-with.Post
 match-with-forget-requires t c κs =
@@ -326,36 +255,17 @@ match-with-same-length-8 t c = search needs
 match-with-returns-2 : (t : ℕ) → match-with-lts.Need-returns-2 (match-with-env t) (match-with-at t) match-with.Post
 match-with-returns-2 t c =
     let s = c .before .before .before .before .before .before .before .before .before .before .before .before .before .before .before .before .before .before .before .before .before .before .before .before .before .before .before .before in
-    let a = s .args in
-    let b = a .records .now in
-    let p = a .places .now in
-    let n = a .count in
-    let prm = a .params .now in
-    let imgs = a .images .now in
-    let bnd = a .bound .now in
-    let m = a .m in
     let asks = s .pre .1 .0 in
-    let k = a .p in
-    let j = a .t in
     let w = c .before .before .before .before .before .before .before .before .before .before .before .before .before .before .before .before .before .walk in
-    match-closed b p n prm imgs bnd m k j asks (w .last .1 .1 .1 .0) (w .last .1 .1 .1 .1 .0) (w .last .1 .1 .1 .1 .1 .0) (w .last .1 .1 .1 .1 .1 .1 .0) (w .result) (w .ensures) (c .before .before .before .before .before .before .close-pars .last .1 .1 .1 .0) (c .before .before .forget .last .0) (c .before .before .before .before .before .before .close-pars .ensures) (c .before .before .forget .ensures)
+    match-closed asks (w .ensures) (c .before .before .before .before .before .before .close-pars .last .1 .1 .1 .0) (c .before .before .before .before .before .before .close-pars .ensures) (c .before .before .forget .ensures)
 
 walk-loop-holds : (t : ℕ) → walk-lts.Need-loop-holds (walk-env t) (walk-at t) walk.Post walk-Inv-loop walk-μ-loop
 walk-loop-holds t c =
     let s = c .before .before .before .before .before .before in
     let a = s .args in
-    let b = a .records .now in
-    let p = a .places .now in
-    let n = a .count in
-    let prm = a .params .now in
-    let imgs = a .images .now in
-    let bnd = a .bound .now in
-    let m = a .m in
     let asks = s .pre .1 .0 in
     let noted = s .pre .1 .1 in
-    let k = a .p in
-    let j = a .t in
-    walking-start b p n prm imgs bnd m k j (a .met .now) asks noted
+    walking-start (a .met .now) asks noted
 
 walk-take-turn-requires : (t : ℕ) → walk-lts.Need-take-turn-requires (walk-env t) (walk-at t) walk.Post walk-Inv-loop walk-μ-loop
 walk-take-turn-requires t c κs =
@@ -400,16 +310,10 @@ walk-returns t c =
     let b = a .records .now in
     let p = a .places .now in
     let n = a .count in
-    let prm = a .params .now in
-    let imgs = a .images .now in
-    let bnd = a .bound .now in
-    let m = a .m in
-    let k = a .p in
-    let j = a .t in
     let i = c .before .before .before .before .before .before .before .before .before .before .before .before .before .before .before .before .loop in
     let z = c .before .before .before .before .before .before .before .before .before .before .before .take-turn in
     let v = subst (MoveIs b p n (i .params) (i .images) (i .bound) (i .n) (i .a) (i .c) (z .last .1 .1 .1 .0) (z .last .1 .1 .1 .1 .0) (z .last .1 .1 .1 .1 .1 .0) (z .last .1 .1 .1 .1 .1 .1 .0)) (c .before .next .given .1) (z .ensures) in
-    walk-ends b p n prm imgs bnd m k j (i .params) (i .images) (i .bound) (i .met) (i .n) (i .a) (i .c) (i .steps) (i .down) (i .inv) (z .last .1 .1 .1 .0) (z .last .1 .1 .1 .1 .0) (z .last .1 .1 .1 .1 .1 .0) (z .last .1 .1 .1 .1 .1 .1 .0) (c .before .next .given .0 .0) v
+    walk-ends (i .inv) (z .last .1 .1 .1 .0) (z .last .1 .1 .1 .1 .0) (z .last .1 .1 .1 .1 .1 .0) (z .last .1 .1 .1 .1 .1 .1 .0) (c .before .next .given .0 .0) v
 
 walk-enum-known-next-2 : (t : ℕ) → walk-lts.Need-enum-known-next-2 (walk-env t) (walk-at t) walk.Post walk-Inv-loop walk-μ-loop
 walk-enum-known-next-2 t c = search needs
@@ -440,16 +344,10 @@ walk-loop-again t c =
     let b = a .records .now in
     let p = a .places .now in
     let n = a .count in
-    let prm = a .params .now in
-    let imgs = a .images .now in
-    let bnd = a .bound .now in
-    let m = a .m in
-    let k = a .p in
-    let j = a .t in
     let i = c .before .before .before .before .before .before .before .before .before .before .before .before .before .before .before .before .loop in
     let z = c .before .before .before .before .before .before .before .before .before .before .before .take-turn in
     let v = subst (MoveIs b p n (i .params) (i .images) (i .bound) (i .n) (i .a) (i .c) (z .last .1 .1 .1 .0) (z .last .1 .1 .1 .1 .0) (z .last .1 .1 .1 .1 .1 .0) (z .last .1 .1 .1 .1 .1 .1 .0)) (c .before .next2 .given .1) (z .ensures) in
-    walking-under b p n prm imgs bnd m k j (i .params) (i .images) (i .bound) (i .met) (i .n) (i .a) (i .c) (i .steps) (i .down) (i .inv) (z .last .1 .1 .1 .0) (z .last .1 .1 .1 .1 .0) (z .last .1 .1 .1 .1 .1 .0) (z .last .1 .1 .1 .1 .1 .1 .0) (c .before .next2 .given .0 .0) (i .steps + 1) v (add-one (i .steps))
+    walking-under (i .inv) (z .last .1 .1 .1 .0) (z .last .1 .1 .1 .1 .0) (z .last .1 .1 .1 .1 .1 .0) (z .last .1 .1 .1 .1 .1 .1 .0) (c .before .next2 .given .0 .0) v (add-one (i .steps))
 
 walk-enum-known-next-3 : (t : ℕ) → walk-lts.Need-enum-known-next-3 (walk-env t) (walk-at t) walk.Post walk-Inv-loop walk-μ-loop
 walk-enum-known-next-3 t c = search needs
@@ -473,16 +371,10 @@ walk-loop-again-2 t c =
     let b = a .records .now in
     let p = a .places .now in
     let n = a .count in
-    let prm = a .params .now in
-    let imgs = a .images .now in
-    let bnd = a .bound .now in
-    let m = a .m in
-    let k = a .p in
-    let j = a .t in
     let i = c .before .before .before .before .before .before .before .before .before .before .before .before .before .before .before .before .loop in
     let z = c .before .before .before .before .before .before .before .before .before .before .before .take-turn in
     let v = subst (MoveIs b p n (i .params) (i .images) (i .bound) (i .n) (i .a) (i .c) (z .last .1 .1 .1 .0) (z .last .1 .1 .1 .1 .0) (z .last .1 .1 .1 .1 .1 .0) (z .last .1 .1 .1 .1 .1 .1 .0)) (c .before .next3 .given .1) (z .ensures) in
-    walking-past b p n prm imgs bnd m k j (i .params) (i .images) (i .bound) (i .met) (i .n) (i .a) (i .c) (i .steps) (i .down) (i .inv) (z .last .1 .1 .1 .0) (z .last .1 .1 .1 .1 .0) (z .last .1 .1 .1 .1 .1 .0) (z .last .1 .1 .1 .1 .1 .1 .0) (c .before .next3 .given .0 .0) v
+    walking-past (i .inv) (z .last .1 .1 .1 .0) (z .last .1 .1 .1 .1 .0) (z .last .1 .1 .1 .1 .1 .0) (z .last .1 .1 .1 .1 .1 .1 .0) (c .before .next3 .given .0 .0) v
 
 walk-enum-known-next-4 : (t : ℕ) → walk-lts.Need-enum-known-next-4 (walk-env t) (walk-at t) walk.Post walk-Inv-loop walk-μ-loop
 walk-enum-known-next-4 t c = search needs
@@ -600,17 +492,11 @@ walk-loop-again-3 t c =
     let b = a .records .now in
     let p = a .places .now in
     let n = a .count in
-    let prm = a .params .now in
-    let imgs = a .images .now in
-    let bnd = a .bound .now in
-    let m = a .m in
-    let k = a .p in
-    let j = a .t in
     let i = c .before .before .before .before .before .before .before .before .before .before .before .before .before .before .before .before .before .before .before .before .before .before .before .before .before .before .before .before .before .before .before .before .before .before .loop in
     let z = c .before .before .before .before .before .before .before .before .before .before .before .before .before .before .before .before .before .before .before .before .before .before .before .before .before .before .before .before .before .take-turn in
     let v = subst (MoveIs b p n (i .params) (i .images) (i .bound) (i .n) (i .a) (i .c) (z .last .1 .1 .1 .0) (z .last .1 .1 .1 .1 .0) (z .last .1 .1 .1 .1 .1 .0) (z .last .1 .1 .1 .1 .1 .1 .0)) (c .before .before .before .before .before .before .before .before .before .before .before .before .before .before .before .before .before .before .before .next4 .given .1) (z .ensures) in
     let w = c .before .before .before .before .before .before .before .before .before .before .before .all-but-last in
-    walking-parts b p n prm imgs bnd m k j (i .params) (i .images) (i .bound) (i .met) (i .n) (i .a) (i .c) (i .steps) (i .down) (i .inv) (z .last .1 .1 .1 .0) (z .last .1 .1 .1 .1 .0) (z .last .1 .1 .1 .1 .1 .0) (z .last .1 .1 .1 .1 .1 .1 .0) (c .before .before .before .before .before .before .before .before .before .before .before .before .before .before .before .before .before .before .before .next4 .given .0 .0) (c .before .before .before .before .before .before .before .before .before .before .before .before .before .before .before .before .before .before .before .next4 .given .0 .1 .0) (c .before .before .before .before .before .before .before .before .before .before .before .before .before .before .before .before .before .before .before .next4 .given .0 .1 .1 .0) v (w .last .1 .1 .1 .0) (w .last .1 .1 .1 .1 .0) (w .last .1 .1 .1 .1 .1 .0) (w .last .1 .1 .1 .1 .1 .1 .0) (w .result) (w .ensures .0) (w .ensures .1) (c .before .first .given .0 .0) (c .before .first .given .1) (c .before .before .before .before .before .before .before .before .before .before .before .before .before .before .before .before .before .u16-at .result) (c .before .before .before .before .before .before .before .before .before .before .before .before .before .before .before .before .u16-at2 .result) (i .steps + 1) (c .before .before .before .before .before .before .before .before .before .before .before .before .before .before .before .before .before .u16-at .ensures .0) (c .before .before .before .before .before .before .before .before .before .before .before .before .before .before .before .before .u16-at2 .ensures .0) (add-one (i .steps))
+    walking-parts (i .inv) v (w .last .1 .1 .1 .1 .1 .1 .0) (w .ensures .0) (w .ensures .1) (c .before .first .given .0 .0) (c .before .first .given .1) (c .before .before .before .before .before .before .before .before .before .before .before .before .before .before .before .before .before .u16-at .ensures .0) (c .before .before .before .before .before .before .before .before .before .before .before .before .before .before .before .before .u16-at2 .ensures .0) (add-one (i .steps))
 
 walk-enum-known-first-2 : (t : ℕ) → walk-lts.Need-enum-known-first-2 (walk-env t) (walk-at t) walk.Post walk-Inv-loop walk-μ-loop
 walk-enum-known-first-2 t c = search needs
@@ -650,17 +536,11 @@ walk-returns-2 t c =
     let b = a .records .now in
     let p = a .places .now in
     let n = a .count in
-    let prm = a .params .now in
-    let imgs = a .images .now in
-    let bnd = a .bound .now in
-    let m = a .m in
-    let k = a .p in
-    let j = a .t in
     let i = c .before .before .before .before .before .before .before .before .before .before .before .before .before .before .before .before .before .before .before .before .before .before .before .before .before .before .before .before .before .before .before .before .before .before .loop in
     let z = c .before .before .before .before .before .before .before .before .before .before .before .before .before .before .before .before .before .before .before .before .before .before .before .before .before .before .before .before .before .take-turn in
     let v = subst (MoveIs b p n (i .params) (i .images) (i .bound) (i .n) (i .a) (i .c) (z .last .1 .1 .1 .0) (z .last .1 .1 .1 .1 .0) (z .last .1 .1 .1 .1 .1 .0) (z .last .1 .1 .1 .1 .1 .1 .0)) (c .before .before .before .before .before .before .before .before .before .before .before .before .before .before .before .before .before .before .before .next4 .given .1) (z .ensures) in
     let w = c .before .before .before .before .before .before .before .before .before .before .before .all-but-last in
-    walk-misfit b p n prm imgs bnd m k j (i .params) (i .images) (i .bound) (i .met) (i .n) (i .a) (i .c) (i .steps) (i .down) (i .inv) (z .last .1 .1 .1 .0) (z .last .1 .1 .1 .1 .0) (z .last .1 .1 .1 .1 .1 .0) (z .last .1 .1 .1 .1 .1 .1 .0) (c .before .before .before .before .before .before .before .before .before .before .before .before .before .before .before .before .before .before .before .next4 .given .0 .0) (c .before .before .before .before .before .before .before .before .before .before .before .before .before .before .before .before .before .before .before .next4 .given .0 .1 .0) (c .before .before .before .before .before .before .before .before .before .before .before .before .before .before .before .before .before .before .before .next4 .given .0 .1 .1 .0) v (w .last .1 .1 .1 .0) (w .last .1 .1 .1 .1 .0) (w .last .1 .1 .1 .1 .1 .0) (w .last .1 .1 .1 .1 .1 .1 .0) (w .result) (w .ensures .0) (c .before .first2 .given .0 .0) (c .before .first2 .given .1)
+    walk-misfit (i .inv) v (w .last .1 .1 .1 .1 .1 .1 .0) (w .ensures .0) (c .before .first2 .given .0 .0) (c .before .first2 .given .1)
 
 pub +all-but-last+match-with+walk-spec : {M : Type 1} → statement M
 +all-but-last+match-with+walk-spec = close μ-all-but-last μ-match-with μ-walk (λ t. all-but-last-lts.spec (all-but-last-env t) (all-but-last-at t) all-but-last.Post all-but-last-Inv-loop all-but-last-μ-loop (all-but-last-loop-holds t) (all-but-last-u16-at-requires t) (all-but-last-u16-at-requires-2 t) (all-but-last-match-with-requires t) (all-but-last-enum-known-first t) (all-but-last-note-pair-requires t) (all-but-last-enum-known-first-2 t) (all-but-last-same-length t) (all-but-last-same-length-2 t) (all-but-last-same-length-3 t) (all-but-last-same-length-4 t) (all-but-last-returns t) (all-but-last-add-x t) (all-but-last-add-y t) (all-but-last-sub-rest t) (all-but-last-loop-less t) (all-but-last-loop-again t) (all-but-last-same-length-5 t) (all-but-last-same-length-6 t) (all-but-last-same-length-7 t) (all-but-last-same-length-8 t) (all-but-last-returns-2 t)) (λ t. match-with-lts.spec (match-with-env t) (match-with-at t) match-with.Post (match-with-walk-requires t) (match-with-same-length t) (match-with-same-length-2 t) (match-with-same-length-3 t) (match-with-same-length-4 t) (match-with-returns t) (match-with-close-pars-requires t) (match-with-forget-requires t) (match-with-same-length-5 t) (match-with-same-length-6 t) (match-with-same-length-7 t) (match-with-same-length-8 t) (match-with-returns-2 t)) (λ t. walk-lts.spec (walk-env t) (walk-at t) walk.Post walk-Inv-loop walk-μ-loop (walk-loop-holds t) (walk-take-turn-requires t) (walk-enum-known-next t) (walk-same-length t) (walk-same-length-2 t) (walk-same-length-3 t) (walk-same-length-4 t) (walk-returns t) (walk-enum-known-next-2 t) (walk-add-steps t) (walk-loop-less t) (walk-loop-again t) (walk-enum-known-next-3 t) (walk-loop-less-2 t) (walk-loop-again-2 t) (walk-enum-known-next-4 t) (walk-mul-u16-at t) (walk-add-u16-at t) (walk-u16-at-requires t) (walk-mul-u16-at-2 t) (walk-add-u16-at-2 t) (walk-u16-at-requires-2 t) (walk-all-but-last-requires t) (walk-enum-known-first t) (walk-add-steps-2 t) (walk-loop-less-3 t) (walk-loop-again-3 t) (walk-enum-known-first-2 t) (walk-same-length-5 t) (walk-same-length-6 t) (walk-same-length-7 t) (walk-same-length-8 t) (walk-returns-2 t))

@@ -20,19 +20,10 @@ returns : tie.Need-returns
 returns c =
     let s = c .before .before .before .before .before .before .before .before .before in
     let a = s .args in
-    let b = a .records .now in
-    let p = a .places .now in
-    let n = a .count in
-    let prm = a .params .now in
-    let imgs = a .images .now in
-    let bnd = a .bound .now in
-    let m = a .m in
-    let k = a .p in
-    let j = a .t in
     let l = a .met .now in
     let asks = s .pre .0 in
     let noted = s .pre .1 in
-    move-met b p n prm imgs bnd m k j asks l noted (c .before .is-met .ensures (c .if1 .taken))
+    move-met asks l noted (c .before .is-met .ensures (c .if1 .taken))
 
 next-turn-requires : tie.Need-next-turn-requires
 next-turn-requires c κs =
@@ -43,19 +34,9 @@ next-turn-requires c κs =
 meet-with-requires : tie.Need-meet-with-requires
 meet-with-requires c κs =
     let s = c .before .before .before .before .before .before .before .before .before .before .before .before .before .before .before .before in
-    let a = s .args in
-    let b = a .records .now in
-    let p = a .places .now in
-    let n = a .count in
-    let prm = a .params .now in
-    let imgs = a .images .now in
-    let bnd = a .bound .now in
-    let m = a .m in
-    let k = a .p in
-    let j = a .t in
     let asks = s .pre .0 in
     let z = c .before .before .before .before .before .next-turn in
-    meet-asks b p n prm imgs bnd m k j asks (z .result) (z .ensures) (c .before .before .before .next .given .0 .0) (c .before .before .before .next .given .1)
+    meet-asks asks (z .result) (z .ensures) (c .before .before .before .next .given .0 .0) (c .before .before .before .next .given .1)
 
 forget-requires : tie.Need-forget-requires
 forget-requires c κs =
@@ -66,38 +47,19 @@ forget-requires c κs =
 list-names-requires : tie.Need-list-names-requires
 list-names-requires c κs =
     let s = c .before .before .before .before .before .before .before .before .before .before .before .before .before .before .before .before .before .before .before in
-    let a = s .args in
-    let b = a .records .now in
-    let p = a .places .now in
-    let n = a .count in
-    let prm = a .params .now in
-    let imgs = a .images .now in
-    let bnd = a .bound .now in
-    let m = a .m in
-    let k = a .p in
-    let j = a .t in
     let asks = s .pre .0 in
     let z = c .before .before .before .before .before .before .before .before .next-turn in
-    names-added b p n prm imgs bnd m k j asks (z .result) (z .ensures) (c .before .before .before .before .before .before .next2 .given .0 .0) (c .before .before .before .before .before .before .next2 .given .0 .1 .0) (c .before .before .before .before .before .before .next2 .given .0 .1 .1 .0) (c .before .before .before .before .before .before .next2 .given .1)
+    names-added asks (z .result) (z .ensures) (c .before .before .before .before .before .before .next2 .given .0 .0) (c .before .before .before .before .before .before .next2 .given .0 .1 .0) (c .before .before .before .before .before .before .next2 .given .0 .1 .1 .0) (c .before .before .before .before .before .before .next2 .given .1)
 
 returns-2 : tie.Need-returns-2
 returns-2 c =
     let s = c .before .before .before .before .before .before .before .before .before .before .before .before .before .before .before in
     let a = s .args in
-    let b = a .records .now in
-    let p = a .places .now in
-    let n = a .count in
-    let prm = a .params .now in
-    let imgs = a .images .now in
-    let bnd = a .bound .now in
-    let m = a .m in
-    let k = a .p in
-    let j = a .t in
     let l = a .met .now in
     let asks = s .pre .0 in
     let noted = s .pre .1 in
     let z = c .before .before .before .before .next-turn in
-    move-empty b p n prm imgs bnd m k j asks l noted (z .result) (z .ensures) (c .before .before .next4 .given .0 .0) (c .before .before .next4 .given .0 .1 .0) (c .before .before .next4 .given .0 .1 .1 .0) (c .before .before .next4 .given .1) (c .if2 .taken)
+    move-empty asks l noted (z .result) (z .ensures) (c .before .before .next4 .given .0 .0) (c .before .before .next4 .given .0 .1 .0) (c .before .before .next4 .given .0 .1 .1 .0) (c .before .before .next4 .given .1) (c .if2 .taken)
 
 sub-t41 : tie.Need-sub-t41
 sub-t41 c =
@@ -107,118 +69,64 @@ returns-3 : tie.Need-returns-3
 returns-3 c =
     let s = c .before .before .before .before .before .before .before .before .before .before .before .before .before in
     let a = s .args in
-    let b = a .records .now in
-    let p = a .places .now in
-    let n = a .count in
-    let prm = a .params .now in
-    let imgs = a .images .now in
-    let bnd = a .bound .now in
-    let m = a .m in
-    let k = a .p in
-    let j = a .t in
     let l = a .met .now in
     let asks = s .pre .0 in
     let noted = s .pre .1 in
     let z = c .before .before .next-turn in
-    move-holds b p n prm imgs bnd m k j asks l noted (z .result) (z .ensures) (c .enum-told .given .1)
+    move-holds asks l noted (z .result) (z .ensures) (c .enum-told .given .1)
 
 returns-4 : tie.Need-returns-4
 returns-4 c =
     let s = c .before .before .before .before .before .before .before .before .before .before .before .before .before in
     let a = s .args in
-    let b = a .records .now in
-    let p = a .places .now in
-    let n = a .count in
-    let prm = a .params .now in
-    let imgs = a .images .now in
-    let bnd = a .bound .now in
-    let m = a .m in
-    let k = a .p in
-    let j = a .t in
     let l = a .met .now in
     let asks = s .pre .0 in
     let noted = s .pre .1 in
     let z = c .before .before .next-turn in
-    move-fails b p n prm imgs bnd m k j asks l noted (z .result) (z .ensures) (c .enum-told2 .given .1)
+    move-fails asks l noted (z .result) (z .ensures) (c .enum-told2 .given .1)
 
 returns-5 : tie.Need-returns-5
 returns-5 c =
     let s = c .before .before .before .before .before .before .before .before .before .before .before .before .before .before .before .before .before .before .before .before .before in
     let a = s .args in
-    let b = a .records .now in
-    let p = a .places .now in
-    let n = a .count in
-    let prm = a .params .now in
-    let imgs = a .images .now in
-    let bnd = a .bound .now in
-    let m = a .m in
-    let k = a .p in
-    let j = a .t in
     let l = a .met .now in
     let asks = s .pre .0 in
     let noted = s .pre .1 in
     let z = c .before .before .before .before .before .before .before .before .before .before .next-turn in
     let w = c .before .before .before .before .meet-with in
-    move-meets b p n prm imgs bnd m k j asks l noted (z .result) (z .ensures) (c .before .before .before .before .before .before .before .before .next .given .0 .0) (c .before .before .before .before .before .before .before .before .next .given .1) (w .last .1 .1 .1 .0) (w .last .1 .1 .1 .1 .0) (w .result) (w .ensures)
+    move-meets asks l noted (z .result) (z .ensures) (c .before .before .before .before .before .before .before .before .next .given .0 .0) (c .before .before .before .before .before .before .before .before .next .given .1) (w .last .1 .1 .1 .0) (w .last .1 .1 .1 .1 .0) (w .result) (w .ensures)
 
 returns-6 : tie.Need-returns-6
 returns-6 c =
     let s = c .before .before .before .before .before .before .before .before .before .before .before .before .before .before .before .before .before .before .before .before .before .before in
     let a = s .args in
-    let b = a .records .now in
-    let p = a .places .now in
-    let n = a .count in
-    let prm = a .params .now in
-    let imgs = a .images .now in
-    let bnd = a .bound .now in
-    let m = a .m in
-    let k = a .p in
-    let j = a .t in
     let l = a .met .now in
     let asks = s .pre .0 in
     let noted = s .pre .1 in
     let z = c .before .before .before .before .before .before .before .before .before .before .before .next-turn in
-    move-under b p n prm imgs bnd m k j asks l noted (z .result) (z .ensures) (c .before .before .before .before .before .before .before .before .before .next2 .given .0 .0) (c .before .before .before .before .before .before .before .before .before .next2 .given .0 .1 .0) (c .before .before .before .before .before .before .before .before .before .next2 .given .0 .1 .1 .0) (c .before .before .before .before .before .before .before .before .before .next2 .given .1) (c .before .before .list-names .last .0) (c .before .before .before .before .before .before .forget .last .0) (c .before .before .list-names .ensures) (c .before .before .before .before .before .before .forget .ensures)
+    move-under asks l noted (z .result) (z .ensures) (c .before .before .before .before .before .before .before .before .before .next2 .given .0 .0) (c .before .before .before .before .before .before .before .before .before .next2 .given .0 .1 .0) (c .before .before .before .before .before .before .before .before .before .next2 .given .0 .1 .1 .0) (c .before .before .before .before .before .before .before .before .before .next2 .given .1) (c .before .before .list-names .ensures) (c .before .before .before .before .before .before .forget .ensures)
 
 returns-7 : tie.Need-returns-7
 returns-7 c =
     let s = c .before .before .before .before .before .before .before .before .before .before .before .before .before .before in
     let a = s .args in
-    let b = a .records .now in
-    let p = a .places .now in
-    let n = a .count in
-    let prm = a .params .now in
-    let imgs = a .images .now in
-    let bnd = a .bound .now in
-    let m = a .m in
-    let k = a .p in
-    let j = a .t in
     let l = a .met .now in
     let asks = s .pre .0 in
     let noted = s .pre .1 in
     let z = c .before .before .before .next-turn in
-    move-past b p n prm imgs bnd m k j asks l noted (z .result) (z .ensures) (c .before .next3 .given .0 .0) (c .before .next3 .given .1)
+    move-past asks l noted (z .result) (z .ensures) (c .before .next3 .given .0 .0) (c .before .next3 .given .1)
 
 returns-8 : tie.Need-returns-8
 returns-8 c =
     let s = c .before .before .before .before .before .before .before .before .before .before .before .before .before .before .before in
     let a = s .args in
-    let b = a .records .now in
-    let p = a .places .now in
-    let n = a .count in
-    let prm = a .params .now in
-    let imgs = a .images .now in
-    let bnd = a .bound .now in
-    let m = a .m in
-    let k = a .p in
-    let j = a .t in
     let l = a .met .now in
     let asks = s .pre .0 in
     let noted = s .pre .1 in
     let z = c .before .before .before .before .next-turn in
     let some = positive (c .before .before .next4 .given .0 .1 .1 .0) (c .if2 .left) in
     let e : c .before .before .next4 .given .0 .1 .1 .0 ≡ suc (c .before .before .next4 .given .0 .1 .1 .0 - 1) = omega (arith, some) in
-    move-parts b p n prm imgs bnd m k j asks l noted (z .result) (z .ensures) (c .before .before .next4 .given .0 .0) (c .before .before .next4 .given .0 .1 .0) (c .before .before .next4 .given .0 .1 .1 .0) (c .before .before .next4 .given .1) (c .before .before .next4 .given .0 .1 .1 .0 - 1) e
+    move-parts asks l noted (z .result) (z .ensures) (c .before .before .next4 .given .0 .0) (c .before .before .next4 .given .0 .1 .0) (c .before .before .next4 .given .0 .1 .1 .0) (c .before .before .next4 .given .1) (c .before .before .next4 .given .0 .1 .1 .0 - 1) e
 
 pub take-turn-spec : {M : Type 1} → statement M
 take-turn-spec = tie.close (tie.spec is-met-requires (λ c. search needs) returns next-turn-requires (λ c. search needs) (λ c. search needs) (λ c. search needs) meet-with-requires (λ c. search needs) forget-requires list-names-requires (λ c. search needs) (λ c. search needs) (λ c. search needs) (λ c. search needs) returns-2 sub-t41 (λ c. search needs) (λ c. search needs) returns-3 (λ c. search needs) (λ c. search needs) returns-4 (λ c. search needs) (λ c. search needs) (λ c. search needs) (λ c. search needs) returns-5 (λ c. search needs) (λ c. search needs) returns-6 (λ c. search needs) (λ c. search needs) returns-7 (λ c. search needs) (λ c. search needs) returns-8)

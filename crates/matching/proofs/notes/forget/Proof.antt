@@ -23,13 +23,13 @@ loop-less : tie.Need-loop-less Inv-loop μ-loop
 loop-less c = omega (arith, c .loop-test .taken)
 
 loop-again : tie.Need-loop-again Inv-loop μ-loop
-loop-again c = forget-step (c .before .loop .met) (c .before .loop .i) (c .before .loop .inv) (c .loop-test .taken)
+loop-again c = forget-step (c .before .loop .inv) (c .loop-test .taken)
 
 same-length : tie.Need-same-length Inv-loop μ-loop
 same-length c = c .before .loop .inv .long ∙ sym (c .before .before .pre)
 
 returns : tie.Need-returns Inv-loop μ-loop
-returns c = forget-end (c .before .loop .met) (c .before .loop .i) (c .before .loop .inv) (c .loop-test .left)
+returns c = forget-end (c .before .loop .inv) (c .loop-test .left)
 
 pub forget-spec : {M : Type 1} → statement M
 forget-spec = tie.close (tie.spec Inv-loop μ-loop loop-holds (λ c. search needs) slice-write-met (λ c. search needs) loop-less loop-again same-length returns)

@@ -23,58 +23,34 @@ entry-requires c κs =
 returns : tie.Need-returns
 returns c =
     let s = c .before .before .before .before .before .before in
-    let a = s .args in
-    let b = a .records .now in
-    let p = a .places .now in
-    let n = a .count in
     let asks = s .pre .0 in
-    let k = a .p in
-    let j = a .t in
     let r = c .before .before .entry .result in
     let e = c .before .before .entry .ensures in
-    step-var b p n k j asks r e (c .if1 .taken)
+    step-var asks r e (c .if1 .taken)
 
 returns-2 : tie.Need-returns-2
 returns-2 c =
     let s = c .before .before .before .before .before .before .before .before in
-    let a = s .args in
-    let b = a .records .now in
-    let p = a .places .now in
-    let n = a .count in
     let asks = s .pre .0 in
-    let k = a .p in
-    let j = a .t in
     let r = c .before .before .before .before .entry .result in
     let e = c .before .before .before .before .entry .ensures in
-    step-par b p n k j asks r e (c .if2 .taken)
+    step-par asks r e (c .if2 .taken)
 
 returns-3 : tie.Need-returns-3
 returns-3 c =
     let s = c .before .before .before .before .before .before .before .before .before .before .before in
-    let a = s .args in
-    let b = a .records .now in
-    let p = a .places .now in
-    let n = a .count in
     let asks = s .pre .0 in
-    let k = a .p in
-    let j = a .t in
     let r = c .before .before .before .before .before .before .before .entry .result in
     let e = c .before .before .before .before .before .before .before .entry .ensures in
-    λ prm θ noted. step-self b p n k j asks r e (c .before .before .before .before .before .if1 .left) (c .before .before .before .if2 .left) (c .before .if3 .taken) (c .if4 .taken) prm θ
+    λ prm θ noted. step-self asks r e (c .before .before .before .before .before .if1 .left) (c .before .before .before .if2 .left) (c .before .if3 .taken) (c .if4 .taken) prm θ
 
 returns-4 : tie.Need-returns-4
 returns-4 c =
     let s = c .before .before .before .before .before .before .before .before .before .before .before in
-    let a = s .args in
-    let b = a .records .now in
-    let p = a .places .now in
-    let n = a .count in
     let asks = s .pre .0 in
-    let k = a .p in
-    let j = a .t in
     let r = c .before .before .before .before .before .before .before .entry .result in
     let e = c .before .before .before .before .before .before .before .entry .ensures in
-    step-other b p n k j asks r e (c .before .before .before .before .before .if1 .left) (c .before .before .before .if2 .left) (c .before .if3 .taken) (c .if4 .left)
+    step-other asks r e (c .before .before .before .before .before .if1 .left) (c .before .before .before .if2 .left) (c .before .if3 .taken) (c .if4 .left)
 
 is-met-requires : tie.Need-is-met-requires
 is-met-requires c κs =
@@ -109,34 +85,22 @@ entry-requires-2 c κs =
 returns-6 : tie.Need-returns-6
 returns-6 c =
     let s = c .before .before .before .before .before .before .before .before .before .before .before .before .before .before .before in
-    let a = s .args in
-    let b = a .records .now in
-    let p = a .places .now in
-    let n = a .count in
     let asks = s .pre .0 in
-    let k = a .p in
-    let j = a .t in
     let r = c .before .before .before .before .before .before .before .before .before .before .before .entry .result in
     let e = c .before .before .before .before .before .before .before .before .before .before .before .entry .ensures in
     let q = c .before .before .entry2 .result in
     let g = c .before .before .entry2 .ensures in
-    step-node b p n k j asks r e q g (c .before .before .before .before .before .before .before .before .before .if1 .left) (c .before .before .before .before .before .before .before .if2 .left) (c .before .before .before .before .before .if3 .left) (sym (c .before .same-head .ensures) ∙ c .if6 .taken)
+    step-node asks r e q g (c .before .before .before .before .before .before .before .before .before .if1 .left) (c .before .before .before .before .before .before .before .if2 .left) (c .before .before .before .before .before .if3 .left) (sym (c .before .same-head .ensures) ∙ c .if6 .taken)
 
 returns-7 : tie.Need-returns-7
 returns-7 c =
     let s = c .before .before .before .before .before .before .before .before .before .before .before .before .before .before .before in
-    let a = s .args in
-    let b = a .records .now in
-    let p = a .places .now in
-    let n = a .count in
     let asks = s .pre .0 in
-    let k = a .p in
-    let j = a .t in
     let r = c .before .before .before .before .before .before .before .before .before .before .before .entry .result in
     let e = c .before .before .before .before .before .before .before .before .before .before .before .entry .ensures in
     let q = c .before .before .entry2 .result in
     let g = c .before .before .entry2 .ensures in
-    step-head b p n k j asks r e q g (c .before .before .before .before .before .before .before .before .before .if1 .left) (c .before .before .before .before .before .before .before .if2 .left) (sym (c .before .same-head .ensures) ∙ c .if6 .left)
+    step-head asks r e q g (c .before .before .before .before .before .before .before .before .before .if1 .left) (c .before .before .before .before .before .before .before .if2 .left) (sym (c .before .same-head .ensures) ∙ c .if6 .left)
 
 pub next-step-spec : {M : Type 1} → statement M
 next-step-spec = tie.close (tie.spec entry-requires returns returns-2 returns-3 returns-4 is-met-requires returns-5 entry-requires-2 (λ c κs. search needs) returns-6 returns-7)

@@ -15,17 +15,7 @@ add-fill-images c =
 fill-images-requires : tie.Need-fill-images-requires
 fill-images-requires c κs =
     let s = c .before .before .before .before .before .before .before in
-    let a = s .args in
-    let b = a .records .now in
-    let p = a .places .now in
-    let ix = a .index .now in
-    let n = a .count in
-    let u = a .used in
-    let g = a .images .now in
-    let d = a .sheet .now in
-    let t = a .table .now in
-    let q = a .question in
-    fill-asks b p ix n u g d t q (s .pre)
+    fill-asks (s .pre)
 
 sort-at-requires : tie.Need-sort-at-requires
 sort-at-requires c κs =
@@ -41,47 +31,22 @@ instance-requires : tie.Need-instance-requires
 instance-requires c κs =
     let s = c .before .before .before .before .before .before .before .before .before .before .before .before .before .before .before in
     let a = s .args in
-    let b = a .records .now in
-    let p = a .places .now in
-    let ix = a .index .now in
     let n = a .count in
-    let u = a .used in
-    let g = a .images .now in
     let d = a .sheet .now in
     let t = a .table .now in
     let q = a .question in
-    let k = c .before .before .before .before .sort-at .result in replace-asks b p ix n u g d t q (s .pre) (c .before .before .before .before .before .before .before .fill-images .last .0) (c .before .before .before .before .before .before .before .fill-images .ensures) k (sort-known n d t q (s .pre .asked) 0 (q .list) (omega (arith, s .pre .count)) (omega arith) k (c .before .before .before .before .sort-at .ensures))
+    let k = c .before .before .before .before .sort-at .result in replace-asks (s .pre) (c .before .before .before .before .before .before .before .fill-images .ensures) k (sort-known n d t q (s .pre .asked) 0 (q .list) (omega (arith, s .pre .count)) (omega arith) k (c .before .before .before .before .sort-at .ensures))
 
 empty-images-requires : tie.Need-empty-images-requires
 empty-images-requires c κs =
     let s = c .before .before .before .before .before .before .before .before .before .before .before .before .before .before .before .before .before .before .before .before .before .before .before in
-    let a = s .args in
-    let b = a .records .now in
-    let p = a .places .now in
-    let ix = a .index .now in
-    let n = a .count in
-    let u = a .used in
-    let g = a .images .now in
-    let d = a .sheet .now in
-    let t = a .table .now in
-    let q = a .question in
-    empty-asks b p ix n u g d t q (s .pre) (c .before .before .before .before .before .before .before .before .before .before .before .before .before .before .before .fill-images .last .0) (c .before .before .before .before .before .before .before .before .before .before .before .before .before .before .before .fill-images .ensures)
+    empty-asks (s .pre) (c .before .before .before .before .before .before .before .before .before .before .before .before .before .before .before .fill-images .ensures)
 
 returns : tie.Need-returns
 returns c =
     let s = c .before .before .before .before .before .before .before .before .before .before .before .before .before .before .before .before .before .before .before .before .before .before .before .before .before .before in
-    let a = s .args in
-    let b = a .records .now in
-    let p = a .places .now in
-    let ix = a .index .now in
-    let n = a .count in
-    let u = a .used in
-    let g = a .images .now in
-    let d = a .sheet .now in
-    let t = a .table .now in
-    let q = a .question in
     let r = c .before .before .before .before .before .before .before .before .before .before .instance .last in
-    apply-is b p ix n u g d t q (s .pre) (c .before .before .before .before .before .before .before .before .before .before .before .before .before .before .before .before .before .before .fill-images .last .0) (c .before .before .before .before .before .before .before .before .before .before .before .before .before .before .before .before .before .before .fill-images .ensures) (c .before .before .before .before .before .before .before .before .before .before .before .before .before .before .before .sort-at .result) (c .before .before .before .before .before .before .before .before .before .before .before .before .before .before .before .sort-at .ensures) (r .0) (r .1 .0) (r .1 .1 .0) (c .before .before .before .before .before .before .before .before .before .before .instance .result) (c .before .before .before .before .before .before .before .before .before .before .instance .ensures) (c .before .before .empty-images .last .0) (c .before .before .empty-images .ensures)
+    apply-is (s .pre) (c .before .before .before .before .before .before .before .before .before .before .before .before .before .before .before .before .before .before .fill-images .ensures) (c .before .before .before .before .before .before .before .before .before .before .before .before .before .before .before .sort-at .ensures) (r .0) (r .1 .0) (r .1 .1 .0) (c .before .before .before .before .before .before .before .before .before .before .instance .result) (c .before .before .before .before .before .before .before .before .before .before .instance .ensures) (c .before .before .empty-images .ensures)
 
 pub answer-apply-spec : {M : Type 1} → statement M
 answer-apply-spec = tie.close (tie.spec add-fill-images fill-images-requires sort-at-requires instance-requires empty-images-requires (λ c. search needs) (λ c. search needs) (λ c. search needs) (λ c. search needs) returns)

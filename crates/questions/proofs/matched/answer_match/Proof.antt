@@ -51,36 +51,17 @@ sort-at-requires-3 c κs =
 list-names-requires : tie.Need-list-names-requires
 list-names-requires c κs =
     let s = c .before .before .before .before .before .before .before .before .before .before .before .before in
-    let a = s .args in
-    let b = a .records .now in
-    let p = a .places .now in
-    let ix = a .index .now in
-    let n = a .count in
-    let u = a .used in
-    let m = a .params .now in
-    let g = a .images .now in
-    let o = a .bound .now in
-    let d = a .sheet .now in
-    let t = a .table .now in
-    let q = a .question in
-    add-asks b p ix n u m g o d t q (s .pre)
+    add-asks (s .pre)
 
 match-listed-requires : tie.Need-match-listed-requires
 match-listed-requires c κs =
     let s = c .before .before .before .before .before .before .before .before .before .before .before .before .before .before .before .before .before .before .before .before .before in
     let a = s .args in
-    let b = a .records .now in
-    let p = a .places .now in
-    let ix = a .index .now in
     let n = a .count in
-    let u = a .used in
-    let m = a .params .now in
-    let g = a .images .now in
-    let o = a .bound .now in
     let d = a .sheet .now in
     let t = a .table .now in
     let q = a .question in
-    listed-asks b p ix n u m g o d t q (s .pre) (c .before .before .before .before .before .before .before .before .list-names .last .0) (c .before .before .before .before .before .before .before .before .list-names .ensures) (c .before .before .before .before .before .before .before .before .before .before .before .before .sort-at .result) (c .before .before .before .before .before .before .before .before .before .before .before .sort-at2 .result) (c .before .before .before .before .before .before .before .before .before .before .sort-at3 .result)
+    listed-asks (s .pre) (c .before .before .before .before .before .before .before .before .list-names .ensures) (c .before .before .before .before .before .before .before .before .before .before .before .before .sort-at .result) (c .before .before .before .before .before .before .before .before .before .before .before .sort-at2 .result) (c .before .before .before .before .before .before .before .before .before .before .sort-at3 .result)
     (sort-known n d t q (s .pre .asked) 0 (q .list) (omega (arith, s .pre .count)) (omega arith) (c .before .before .before .before .before .before .before .before .before .before .before .before .sort-at .result) (c .before .before .before .before .before .before .before .before .before .before .before .before .sort-at .ensures))
     (sort-known n d t q (s .pre .asked) 1 (q .list + 2) (omega (arith, s .pre .count)) (omega arith) (c .before .before .before .before .before .before .before .before .before .before .before .sort-at2 .result) (c .before .before .before .before .before .before .before .before .before .before .before .sort-at2 .ensures))
     (sort-known n d t q (s .pre .asked) 2 (q .list + 4) (omega (arith, s .pre .count)) (omega arith) (c .before .before .before .before .before .before .before .before .before .before .sort-at3 .result) (c .before .before .before .before .before .before .before .before .before .before .sort-at3 .ensures))
@@ -88,37 +69,12 @@ match-listed-requires c κs =
 unlist-names-requires : tie.Need-unlist-names-requires
 unlist-names-requires c κs =
     let s = c .before .before .before .before .before .before .before .before .before .before .before .before .before .before .before .before .before .before .before .before .before .before .before .before .before .before .before .before .before .before .before .before .before in
-    let a = s .args in
-    let b = a .records .now in
-    let p = a .places .now in
-    let ix = a .index .now in
-    let n = a .count in
-    let u = a .used in
-    let m = a .params .now in
-    let g = a .images .now in
-    let o = a .bound .now in
-    let d = a .sheet .now in
-    let t = a .table .now in
-    let q = a .question in
-    take-asks b p ix n u m g o d t q (s .pre) (c .before .before .before .before .before .before .before .before .before .before .before .before .before .before .before .before .before .before .before .before .list-names .last .0) (c .before .before .before .before .before .before .before .before .before .before .before .before .before .before .before .before .before .before .before .before .list-names .ensures)
+    take-asks (s .pre) (c .before .before .before .before .before .before .before .before .before .before .before .before .before .before .before .before .before .before .before .before .list-names .ensures)
 
 returns : tie.Need-returns
 returns c =
     let s = c .before .before .before .before .before .before .before .before .before .before .before .before .before .before .before .before .before .before .before .before .before .before .before .before .before .before .before .before .before .before .before .before .before .before .before .before in
-    let a = s .args in
-    let b = a .records .now in
-    let p = a .places .now in
-    let ix = a .index .now in
-    let n = a .count in
-    let u = a .used in
-    let m = a .params .now in
-    let g = a .images .now in
-    let o = a .bound .now in
-    let d = a .sheet .now in
-    let t = a .table .now in
-    let q = a .question in
-    let r = c .before .before .before .before .before .before .before .before .before .before .before .before .before .before .match-listed .last in
-    match-is b p ix n u m g o d t q (s .pre) (c .before .before .before .before .before .before .before .before .before .before .before .before .before .before .before .before .before .before .before .before .before .before .before .list-names .last .0) (c .before .before .before .before .before .before .before .before .before .before .before .before .before .before .before .before .before .before .before .before .before .before .before .list-names .ensures) (c .before .before .before .before .before .before .before .before .before .before .before .before .before .before .before .before .before .before .before .before .before .before .before .before .before .before .before .sort-at .result) (c .before .before .before .before .before .before .before .before .before .before .before .before .before .before .before .before .before .before .before .before .before .before .before .before .before .before .sort-at2 .result) (c .before .before .before .before .before .before .before .before .before .before .before .before .before .before .before .before .before .before .before .before .before .before .before .before .before .sort-at3 .result) (c .before .before .before .before .before .before .before .before .before .before .before .before .before .before .before .before .before .before .before .before .before .before .before .before .before .before .before .sort-at .ensures) (c .before .before .before .before .before .before .before .before .before .before .before .before .before .before .before .before .before .before .before .before .before .before .before .before .before .before .sort-at2 .ensures) (c .before .before .before .before .before .before .before .before .before .before .before .before .before .before .before .before .before .before .before .before .before .before .before .before .before .sort-at3 .ensures) (r .0) (r .1 .0) (r .1 .1 .0) (r .1 .1 .1 .1 .1 .1 .0) (r .1 .1 .1 .1 .1 .1 .1 .0) (c .before .before .unlist-names .last .0) (c .before .before .before .before .before .before .before .before .before .before .before .before .before .before .match-listed .result) (c .before .before .before .before .before .before .before .before .before .before .before .before .before .before .match-listed .ensures) (c .before .before .unlist-names .ensures)
+    match-is (s .pre) (c .before .before .before .before .before .before .before .before .before .before .before .before .before .before .before .before .before .before .before .before .before .before .before .list-names .ensures) (c .before .before .before .before .before .before .before .before .before .before .before .before .before .before .before .before .before .before .before .before .before .before .before .before .before .before .before .sort-at .ensures) (c .before .before .before .before .before .before .before .before .before .before .before .before .before .before .before .before .before .before .before .before .before .before .before .before .before .before .sort-at2 .ensures) (c .before .before .before .before .before .before .before .before .before .before .before .before .before .before .before .before .before .before .before .before .before .before .before .before .before .sort-at3 .ensures) (c .before .before .before .before .before .before .before .before .before .before .before .before .before .before .match-listed .ensures) (c .before .before .unlist-names .ensures)
 
 pub answer-match-spec : {M : Type 1} → statement M
 answer-match-spec = tie.close (tie.spec sort-at-requires add-sort-at sort-at-requires-2 add-sort-at-2 sort-at-requires-3 list-names-requires match-listed-requires unlist-names-requires (λ c. search needs) (λ c. search needs) (λ c. search needs) (λ c. search needs) (λ c. search needs) (λ c. search needs) returns)

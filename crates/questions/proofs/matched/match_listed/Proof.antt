@@ -8,139 +8,43 @@ use Rattle.questions.proofs.matched.match_listed.Tie as tie
 in-premise-requires : tie.Need-in-premise-requires
 in-premise-requires c κs =
     let s = c .before .before .before .before .before .before .before .before in
-    let a = s .args in
-    let b = a .records .now in
-    let p = a .places .now in
-    let ix = a .index .now in
-    let n = a .count in
-    let u = a .used in
-    let m = a .params .now in
-    let g = a .images .now in
-    let o = a .bound .now in
-    let k = a .pattern in
-    let j = a .target in
-    let i = a .result in
-    premise-asks b p ix n u m g o k j i (s .pre)
+    premise-asks (s .pre)
 
 returns : tie.Need-returns
 returns c =
     let s = c .before .before .before .before .before .before .before .before .before .before .before in
-    let a = s .args in
-    let b = a .records .now in
-    let p = a .places .now in
-    let ix = a .index .now in
-    let n = a .count in
-    let u = a .used in
-    let m = a .params .now in
-    let g = a .images .now in
-    let o = a .bound .now in
-    let k = a .pattern in
-    let j = a .target in
-    let i = a .result in
-    listed-barred b p ix n u m g o k j i (s .pre) (c .before .before .in-premise .result) (c .before .before .in-premise .ensures) (c .before .if1 .taken) (c .refuse .result) (c .refuse .ensures)
+    listed-barred (s .pre) (c .before .before .in-premise .result) (c .before .before .in-premise .ensures) (c .before .if1 .taken) (c .refuse .ensures)
 
 matches-requires : tie.Need-matches-requires
 matches-requires c κs =
     let s = c .before .before .before .before .before .before .before .before .before .before .before .before .before .before in
-    let a = s .args in
-    let b = a .records .now in
-    let p = a .places .now in
-    let ix = a .index .now in
-    let n = a .count in
-    let u = a .used in
-    let m = a .params .now in
-    let g = a .images .now in
-    let o = a .bound .now in
-    let k = a .pattern in
-    let j = a .target in
-    let i = a .result in
-    plain-asks b p ix n u m g o k j i (s .pre)
+    plain-asks (s .pre)
 
 instance-requires : tie.Need-instance-requires
 instance-requires c κs =
     let s = c .before .before .before .before .before .before .before .before .before .before .before .before .before .before .before .before .before .before .before .before .before .before .before .before .before .before in
-    let a = s .args in
-    let b = a .records .now in
-    let p = a .places .now in
-    let ix = a .index .now in
-    let n = a .count in
-    let u = a .used in
-    let m = a .params .now in
-    let g = a .images .now in
-    let o = a .bound .now in
-    let k = a .pattern in
-    let j = a .target in
-    let i = a .result in
-    result-asks b p ix n u m g o k j i (s .pre) (c .before .before .before .before .before .before .before .before .before .before .before .matches .last .1 .1 .1 .1 .0) (c .before .before .before .before .before .before .before .before .before .before .before .matches .last .1 .1 .1 .1 .1 .0) (c .before .before .before .before .before .before .before .before .before .before .before .matches .result) (c .before .before .before .before .before .before .before .before .before .before .before .matches .ensures) (c .before .before .before .before .before .found .given .0 .0) (c .before .before .before .before .before .found .given .1)
+    result-asks (s .pre) (c .before .before .before .before .before .before .before .before .before .before .before .matches .last .1 .1 .1 .1 .0) (c .before .before .before .before .before .before .before .before .before .before .before .matches .last .1 .1 .1 .1 .1 .0) (c .before .before .before .before .before .before .before .before .before .before .before .matches .result) (c .before .before .before .before .before .before .before .before .before .before .before .matches .ensures) (c .before .before .before .before .before .found .given .0 .0) (c .before .before .before .before .before .found .given .1)
 
 clear-requires : tie.Need-clear-requires
 clear-requires c κs =
     let s = c .before .before .before .before .before .before .before .before .before .before .before .before .before .before .before .before .before .before .before .before .before .before .before .before .before .before .before .before .before .before .before .before .before .before .before in
-    let a = s .args in
-    let b = a .records .now in
-    let p = a .places .now in
-    let ix = a .index .now in
-    let n = a .count in
-    let u = a .used in
-    let m = a .params .now in
-    let g = a .images .now in
-    let o = a .bound .now in
-    let k = a .pattern in
-    let j = a .target in
-    let i = a .result in
-    fits-mapped b p ix n u m g o k j i (s .pre) (c .before .before .before .before .before .before .before .before .before .before .before .before .before .before .before .before .before .before .before .before .matches .last .1 .1 .1 .1 .0) (c .before .before .before .before .before .before .before .before .before .before .before .before .before .before .before .before .before .before .before .before .matches .last .1 .1 .1 .1 .1 .0) (c .before .before .before .before .before .before .before .before .before .before .before .before .before .before .before .before .before .before .before .before .matches .result) (c .before .before .before .before .before .before .before .before .before .before .before .before .before .before .before .before .before .before .before .before .matches .ensures) (c .before .before .before .before .before .before .before .before .before .before .before .before .before .before .found .given .0 .0) (c .before .before .before .before .before .before .before .before .before .before .before .before .before .before .found .given .1) .tabled
+    fits-mapped (s .pre) (c .before .before .before .before .before .before .before .before .before .before .before .before .before .before .before .before .before .before .before .before .matches .last .1 .1 .1 .1 .0) (c .before .before .before .before .before .before .before .before .before .before .before .before .before .before .before .before .before .before .before .before .matches .last .1 .1 .1 .1 .1 .0) (c .before .before .before .before .before .before .before .before .before .before .before .before .before .before .before .before .before .before .before .before .matches .result) (c .before .before .before .before .before .before .before .before .before .before .before .before .before .before .before .before .before .before .before .before .matches .ensures) (c .before .before .before .before .before .before .before .before .before .before .before .before .before .before .found .given .0 .0) (c .before .before .before .before .before .before .before .before .before .before .before .before .before .before .found .given .1) .tabled
 
 clear-requires-2 : tie.Need-clear-requires-2
 clear-requires-2 c κs =
     let s = c .before .before .before .before .before .before .before .before .before .before .before .before .before .before .before .before .before .before .before .before .before .before .before .before in
-    let a = s .args in
-    let b = a .records .now in
-    let p = a .places .now in
-    let ix = a .index .now in
-    let n = a .count in
-    let u = a .used in
-    let m = a .params .now in
-    let g = a .images .now in
-    let o = a .bound .now in
-    let k = a .pattern in
-    let j = a .target in
-    let i = a .result in
-    misfits-tabled b p ix n u m g o k j i (s .pre) (c .before .before .before .before .before .before .before .before .before .matches .last .1 .1 .1 .1 .0) (c .before .before .before .before .before .before .before .before .before .matches .last .1 .1 .1 .1 .1 .0) (c .before .before .before .before .before .before .before .before .before .matches .result) (c .before .before .before .before .before .before .before .before .before .matches .ensures) (c .before .before .before .found2 .given .0 .0) (c .before .before .before .found2 .given .1)
+    misfits-tabled (s .pre) (c .before .before .before .before .before .before .before .before .before .matches .last .1 .1 .1 .1 .0) (c .before .before .before .before .before .before .before .before .before .matches .last .1 .1 .1 .1 .1 .0) (c .before .before .before .before .before .before .before .before .before .matches .result) (c .before .before .before .before .before .before .before .before .before .matches .ensures) (c .before .before .before .found2 .given .0 .0) (c .before .before .before .found2 .given .1)
 
 returns-2 : tie.Need-returns-2
 returns-2 c =
     let s = c .before .before .before .before .before .before .before .before .before .before .before .before .before .before .before .before .before .before .before .before .before .before .before .before .before .before .before .before .before .before .before .before .before .before .before .before .before .before .before .before in
-    let a = s .args in
-    let b = a .records .now in
-    let p = a .places .now in
-    let ix = a .index .now in
-    let n = a .count in
-    let u = a .used in
-    let m = a .params .now in
-    let g = a .images .now in
-    let o = a .bound .now in
-    let k = a .pattern in
-    let j = a .target in
-    let i = a .result in
     let r = c .before .before .before .before .before .before .before .before .before .before .before .before .before .instance .last in
-    listed-fits b p ix n u m g o k j i (s .pre) (c .before .before .before .before .before .before .before .before .before .before .before .before .before .before .before .before .before .before .before .before .before .before .before .before .before .matches .last .1 .1 .1 .1 .0) (c .before .before .before .before .before .before .before .before .before .before .before .before .before .before .before .before .before .before .before .before .before .before .before .before .before .matches .last .1 .1 .1 .1 .1 .0) (c .before .before .before .before .before .before .before .before .before .before .before .before .before .before .before .before .before .before .before .before .before .before .before .before .before .matches .result) (c .before .before .before .before .before .before .before .before .before .before .before .before .before .before .before .before .before .before .before .before .before .before .before .before .before .matches .ensures) (c .before .before .before .before .before .before .before .before .before .before .before .before .before .before .before .before .before .before .before .before .before .before .before .before .before .before .before .before .before .before .before .in-premise .result) (c .before .before .before .before .before .before .before .before .before .before .before .before .before .before .before .before .before .before .before .before .before .before .before .before .before .before .before .before .before .before .before .in-premise .ensures) (c .before .before .before .before .before .before .before .before .before .before .before .before .before .before .before .before .before .before .before .before .before .before .before .before .before .before .before .before .before .before .if1 .left) (c .before .before .before .before .clear .last .0) (c .before .before .before .before .clear .last .1 .0) (c .before .before .before .before .clear .ensures) (c .before .before .before .before .before .before .before .before .before .before .before .before .before .before .before .before .before .before .before .found .given .0 .0) (c .before .before .before .before .before .before .before .before .before .before .before .before .before .before .before .before .before .before .before .found .given .1) (r .0) (r .1 .0) (r .1 .1 .0) (c .before .before .before .before .before .before .before .before .before .before .before .before .before .instance .result) (c .before .before .before .before .before .before .before .before .before .before .before .before .before .instance .ensures)
+    listed-fits (s .pre) (c .before .before .before .before .before .before .before .before .before .before .before .before .before .before .before .before .before .before .before .before .before .before .before .before .before .matches .last .1 .1 .1 .1 .0) (c .before .before .before .before .before .before .before .before .before .before .before .before .before .before .before .before .before .before .before .before .before .before .before .before .before .matches .last .1 .1 .1 .1 .1 .0) (c .before .before .before .before .before .before .before .before .before .before .before .before .before .before .before .before .before .before .before .before .before .before .before .before .before .matches .result) (c .before .before .before .before .before .before .before .before .before .before .before .before .before .before .before .before .before .before .before .before .before .before .before .before .before .matches .ensures) (c .before .before .before .before .before .before .before .before .before .before .before .before .before .before .before .before .before .before .before .before .before .before .before .before .before .before .before .before .before .before .before .in-premise .result) (c .before .before .before .before .before .before .before .before .before .before .before .before .before .before .before .before .before .before .before .before .before .before .before .before .before .before .before .before .before .before .before .in-premise .ensures) (c .before .before .before .before .before .before .before .before .before .before .before .before .before .before .before .before .before .before .before .before .before .before .before .before .before .before .before .before .before .before .if1 .left) (c .before .before .before .before .clear .ensures) (c .before .before .before .before .before .before .before .before .before .before .before .before .before .before .before .before .before .before .before .found .given .0 .0) (c .before .before .before .before .before .before .before .before .before .before .before .before .before .before .before .before .before .before .before .found .given .1) (r .0) (r .1 .0) (r .1 .1 .0) (c .before .before .before .before .before .before .before .before .before .before .before .before .before .instance .result) (c .before .before .before .before .before .before .before .before .before .before .before .before .before .instance .ensures)
 
 returns-3 : tie.Need-returns-3
 returns-3 c =
     let s = c .before .before .before .before .before .before .before .before .before .before .before .before .before .before .before .before .before .before .before .before .before .before .before .before .before .before .before .before .before .before in
-    let a = s .args in
-    let b = a .records .now in
-    let p = a .places .now in
-    let ix = a .index .now in
-    let n = a .count in
-    let u = a .used in
-    let m = a .params .now in
-    let g = a .images .now in
-    let o = a .bound .now in
-    let k = a .pattern in
-    let j = a .target in
-    let i = a .result in
-    listed-misfits b p ix n u m g o k j i (s .pre) (c .before .before .before .before .before .before .before .before .before .before .before .before .before .before .before .matches .last .1 .1 .1 .1 .0) (c .before .before .before .before .before .before .before .before .before .before .before .before .before .before .before .matches .last .1 .1 .1 .1 .1 .0) (c .before .before .before .before .before .before .before .before .before .before .before .before .before .before .before .matches .result) (c .before .before .before .before .before .before .before .before .before .before .before .before .before .before .before .matches .ensures) (c .before .before .before .before .before .before .before .before .before .before .before .before .before .before .before .before .before .before .before .before .before .in-premise .result) (c .before .before .before .before .before .before .before .before .before .before .before .before .before .before .before .before .before .before .before .before .before .in-premise .ensures) (c .before .before .before .before .before .before .before .before .before .before .before .before .before .before .before .before .before .before .before .before .if1 .left) (c .before .before .before .before .before .clear2 .last .0) (c .before .before .before .before .before .clear2 .last .1 .0) (c .before .before .before .before .before .clear2 .ensures) (c .before .before .before .before .before .before .before .before .before .found2 .given .0 .0) (c .before .before .before .before .before .before .before .before .before .found2 .given .1) (c .refuse2 .result) (c .refuse2 .ensures)
+    listed-misfits (s .pre) (c .before .before .before .before .before .before .before .before .before .before .before .before .before .before .before .matches .last .1 .1 .1 .1 .0) (c .before .before .before .before .before .before .before .before .before .before .before .before .before .before .before .matches .last .1 .1 .1 .1 .1 .0) (c .before .before .before .before .before .before .before .before .before .before .before .before .before .before .before .matches .result) (c .before .before .before .before .before .before .before .before .before .before .before .before .before .before .before .matches .ensures) (c .before .before .before .before .before .before .before .before .before .before .before .before .before .before .before .before .before .before .before .before .before .in-premise .result) (c .before .before .before .before .before .before .before .before .before .before .before .before .before .before .before .before .before .before .before .before .before .in-premise .ensures) (c .before .before .before .before .before .before .before .before .before .before .before .before .before .before .before .before .before .before .before .before .if1 .left) (c .before .before .before .before .before .clear2 .ensures) (c .before .before .before .before .before .before .before .before .before .found2 .given .0 .0) (c .before .before .before .before .before .before .before .before .before .found2 .given .1) (c .refuse2 .ensures)
 
 pub match-listed-spec : {M : Type 1} → statement M
 match-listed-spec = tie.close (tie.spec in-premise-requires (λ c κs. search needs) (λ c. search needs) (λ c. search needs) returns matches-requires (λ c. search needs) instance-requires clear-requires (λ c. search needs) clear-requires-2 (λ c κs. search needs) (λ c. search needs) (λ c. search needs) (λ c. search needs) (λ c. search needs) (λ c. search needs) returns-2 (λ c. search needs) (λ c. search needs) (λ c. search needs) (λ c. search needs) returns-3)

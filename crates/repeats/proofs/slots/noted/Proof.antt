@@ -18,20 +18,18 @@ put-u16-requires c κs =
 slice-write-past-2 : tie.Need-slice-write-past-2
 slice-write-past-2 c =
     let s = c .before .before .before .before .before in
-    let a = s .args in
-    omega (arith, s .pre .here .room, note-long (a .past .now) (a .at) (a .n) (a .row) (s .pre) (c .before .before .put-u16 .last .0) (c .before .before .put-u16 .ensures))
+    omega (arith, s .pre .here .room, note-long (s .pre) (c .before .before .put-u16 .ensures))
 
 same-length : tie.Need-same-length
 same-length c =
     let s = c .before .before .before .before .before in
     let a = s .args in
-    length-set (c .before .before .put-u16 .last .0) (a .at + 3) _ ∙ note-long (a .past .now) (a .at) (a .n) (a .row) (s .pre) (c .before .before .put-u16 .last .0) (c .before .before .put-u16 .ensures)
+    length-set (c .before .before .put-u16 .last .0) (a .at + 3) _ ∙ note-long (s .pre) (c .before .before .put-u16 .ensures)
 
 returns : tie.Need-returns
 returns c =
     let s = c .before .before .before .before .before in
-    let a = s .args in
-    note-is (a .past .now) (a .at) (a .n) (a .row) (s .pre) (c .before .before .put-u16 .last .0) (c .before .before .put-u16 .ensures)
+    note-is (s .pre) (c .before .before .put-u16 .ensures)
 
 pub noted-spec : {M : Type 1} → statement M
 noted-spec = tie.close (tie.spec (λ c. search needs) (λ c. search needs) (λ c. search needs) put-u16-requires (λ c. search needs) (λ c. search needs) slice-write-past-2 same-length returns)

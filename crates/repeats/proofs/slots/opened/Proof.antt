@@ -8,20 +8,17 @@ use Rattle.repeats.proofs.slots.opened.Tie as tie
 copy-at-requires : tie.Need-copy-at-requires
 copy-at-requires c κs =
     let s = c .before .before .before .before in
-    let a = s .args in
-    open-fits (a .past .now) (a .at) (a .args .now) (a .n) (s .pre)
+    open-fits (s .pre)
 
 same-length : tie.Need-same-length
 same-length c =
     let s = c .before .before .before .before .before .before .before in
-    let a = s .args in
-    open-long (a .past .now) (a .at) (a .args .now) (a .n) (s .pre) (c .before .before .copy-at .last .0) (c .before .before .copy-at .ensures)
+    open-long (s .pre) (c .before .before .copy-at .ensures)
 
 returns : tie.Need-returns
 returns c =
     let s = c .before .before .before .before .before .before .before in
-    let a = s .args in
-    open-is (a .past .now) (a .at) (a .args .now) (a .n) (s .pre) (c .before .before .copy-at .last .0) (c .before .before .copy-at .ensures)
+    open-is (s .pre) (c .before .before .copy-at .ensures)
 
 pub opened-spec : {M : Type 1} → statement M
 opened-spec = tie.close (tie.spec (λ c. search needs) (λ c. search needs) (λ c. search needs) (λ c. search needs) (λ c. search needs) (λ c. search needs) (λ c. search needs) copy-at-requires same-length returns)

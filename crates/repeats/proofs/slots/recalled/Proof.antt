@@ -33,7 +33,7 @@ returns-2 c =
     let s = c .before .before .before .before .before .before .before .before .before .before in
     let a = s .args in
     let key = rw (add-sub-cancel-left (a .at + 4) (2 * a .n), add-sub-cancel-left 3 (2 * a .n)) at (c .before .before .before .same .ensures .0 (c .before .before .if2 .taken)) in
-    recalled-is (a .past .now) (a .args .now) (a .n) (a .at) _ (s .pre) (c .before .before .before .before .before .before .if1 .left) key (ap (λ (x : ℕ). getD (a .past .now) (a .at + 3) 0 * 65536 + x) (c .u16-at .ensures .0)) (omega (arith, c .before .shared-slice-known4 .given (c .before .before .before .before .before .before .before .before .before .before .args .at + 3), c .u16-at .ensures .1))
+    recalled-is (s .pre) (c .before .before .before .before .before .before .if1 .left) key (ap (λ (x : ℕ). getD (a .past .now) (a .at + 3) 0 * 65536 + x) (c .u16-at .ensures .0)) (omega (arith, c .before .shared-slice-known4 .given (c .before .before .before .before .before .before .before .before .before .before .args .at + 3), c .u16-at .ensures .1))
 
 returns-3 : tie.Need-returns-3
 returns-3 c = record { said = λ c e. absurd (omega (arith, e)); small = omega arith }

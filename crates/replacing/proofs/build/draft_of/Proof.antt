@@ -44,7 +44,7 @@ returns : tie.Need-returns
 returns c =
     let s = c .before .before .before .before .before .before .before .before .before .before .before .before .before .before .before .before .before .before .before .before .before .before .before .before .before .before .before .before in
     let a = s .args in
-    whole (a .kind) (a .name) (a .number) (held (a .parts .now) (a .many)) (held (a .names .now) (a .named)) (c .before .before .before .before .before .before .before .before .before .before .before .before .before .before .before .before .before .before .before .before .before .before .before .before .map-of .result) (c .before .before .before .before .before .before .before .before .before .before .before .before .before .before .before .before .before .before .before .before .before .before .before .before .map-of .ensures) (draft (a .bytes .now) 0) (draft (c .before .before .before .before .before .before .before .before .before .before .before .before .before .before .before .before .before .before .before .before .before .before .put-byte .last .0) (c .before .before .before .before .before .before .before .before .before .before .before .before .before .before .before .before .before .before .before .before .before .before .put-byte .result)) (draft (c .before .before .before .before .before .before .before .before .before .before .before .before .before .before .before .before .before .before .put-byte2 .last .0) (c .before .before .before .before .before .before .before .before .before .before .before .before .before .before .before .before .before .before .put-byte2 .result)) (draft (c .before .before .before .before .before .before .before .before .before .before .before .before .before .before .put-name .last .0) (c .before .before .before .before .before .before .before .before .before .before .before .before .before .before .put-name .result)) (draft (c .before .before .before .before .before .before .before .before .before .before .put-width .last .0) (c .before .before .before .before .before .before .before .before .before .before .put-width .result)) (draft (c .before .before .before .before .before .before .put-list .last .0) (c .before .before .before .before .before .before .put-list .result)) (draft (c .before .before .put-list2 .last .0) (c .before .before .put-list2 .result)) refl (c .before .before .before .before .before .before .before .before .before .before .before .before .before .before .before .before .before .before .before .before .before .before .put-byte .ensures) (c .before .before .before .before .before .before .before .before .before .before .before .before .before .before .before .before .before .before .put-byte2 .ensures) (c .before .before .before .before .before .before .before .before .before .before .before .before .before .before .put-name .ensures) (c .before .before .before .before .before .before .before .before .before .before .put-width .ensures) (c .before .before .before .before .before .before .put-list .ensures) (c .before .before .put-list2 .ensures)
+    whole (a .kind) (a .name) (a .number) (held (a .parts .now) (a .many)) (held (a .names .now) (a .named)) (c .before .before .before .before .before .before .before .before .before .before .before .before .before .before .before .before .before .before .before .before .before .before .before .before .map-of .ensures) refl (c .before .before .before .before .before .before .before .before .before .before .before .before .before .before .before .before .before .before .before .before .before .before .put-byte .ensures) (c .before .before .before .before .before .before .before .before .before .before .before .before .before .before .before .before .before .before .put-byte2 .ensures) (c .before .before .before .before .before .before .before .before .before .before .before .before .before .before .put-name .ensures) (c .before .before .before .before .before .before .before .before .before .before .put-width .ensures) (c .before .before .before .before .before .before .put-list .ensures) (c .before .before .put-list2 .ensures)
 
 pub draft-of-spec : {M : Type 1} → statement M
 draft-of-spec = tie.close (tie.spec (λ c κs. search needs) put-byte-requires put-byte-requires-2 put-name-requires put-width-requires put-list-requires put-list-requires-2 (λ c. search needs) returns)

@@ -25,13 +25,7 @@ slice-aggregate-tree-size c = sym (length-take-le (c .before .before .before .dr
 tree-size-requires : tie.Need-tree-size-requires
 tree-size-requires c κs =
     let s = c .before .before .before .before .before .before .before .before .before .before in
-    let a = s .args in
-    let b = a .records .now in
-    let p = a .places .now in
-    let ix = a .index .now in
-    let n = a .count in
-    let u = a .used in
-    make-tree b p ix n u (fieldsIn (a .kind) (a .name) (a .number) (held (a .parts .now) (a .many)) (held (a .names .now) (a .named))) (held (a .parts .now) (a .many)) (held (a .names .now) (a .named)) (s .pre) _ (c .before .before .before .draft-of .ensures .is)
+    make-tree (s .pre) (c .before .before .before .draft-of .ensures .is)
 
 array-share-prefix-bytes-2 : tie.Need-array-share-prefix-bytes-2
 array-share-prefix-bytes-2 c = omega (arith, c .before .before .before .before .before .before .before .draft-of .ensures .most, c .before .before .before .before .before .before .before .draft-of .ensures .long)
@@ -42,25 +36,13 @@ slice-aggregate-intern c = sym (length-take-le (c .before .before .before .befor
 intern-requires : tie.Need-intern-requires
 intern-requires c κs =
     let s = c .before .before .before .before .before .before .before .before .before .before .before .before .before .before .before in
-    let a = s .args in
-    let b = a .records .now in
-    let p = a .places .now in
-    let ix = a .index .now in
-    let n = a .count in
-    let u = a .used in
-    make-intern b p ix n u (fieldsIn (a .kind) (a .name) (a .number) (held (a .parts .now) (a .many)) (held (a .names .now) (a .named))) (held (a .parts .now) (a .many)) (held (a .names .now) (a .named)) (s .pre) _ (c .before .before .before .before .before .before .before .before .draft-of .ensures .is) (c .before .before .before .before .tree-size .result) (c .before .before .before .before .tree-size .ensures)
+    make-intern (s .pre) (c .before .before .before .before .before .before .before .before .draft-of .ensures .is) (c .before .before .before .before .tree-size .result) (c .before .before .before .before .tree-size .ensures)
 
 returns : tie.Need-returns
 returns c =
     let s = c .before .before .before .before .before .before .before .before .before .before .before .before .before .before .before .before .before .before .before .before .before .before in
-    let a = s .args in
-    let b = a .records .now in
-    let p = a .places .now in
-    let ix = a .index .now in
-    let n = a .count in
-    let u = a .used in
     let d = c .before .before .before .before .before .before .intern .last in
-    make-made b p ix n u (fieldsIn (a .kind) (a .name) (a .number) (held (a .parts .now) (a .many)) (held (a .names .now) (a .named))) (held (a .parts .now) (a .many)) (held (a .names .now) (a .named)) (s .pre) _ (c .before .before .before .before .before .before .before .before .before .before .before .before .before .before .before .draft-of .ensures .is) (d .0) (d .1 .0) (d .1 .1 .0) (c .before .before .before .before .before .before .intern .result) (c .before .before .before .before .before .before .intern .ensures)
+    make-made (s .pre) (c .before .before .before .before .before .before .before .before .before .before .before .before .before .before .before .draft-of .ensures .is) (d .0) (d .1 .0) (d .1 .1 .0) (c .before .before .before .before .before .before .intern .result) (c .before .before .before .before .before .before .intern .ensures)
 
 pub make-spec : {M : Type 1} → statement M
 make-spec = tie.close (tie.spec (λ c. search needs) draft-of-requires array-share-prefix-bytes slice-aggregate-tree-size tree-size-requires array-share-prefix-bytes-2 slice-aggregate-intern intern-requires (λ c. search needs) (λ c. search needs) (λ c. search needs) returns)

@@ -18,9 +18,7 @@ add-result c = omega (arith, c .pre .room .room)
 returns : tie.Need-returns
 returns c =
     let s = c in
-    let a = s .args in
-    let d = draft (a .bytes .now) (a .len) in
-    byte-put d (a .v) (s .pre)
+    byte-put (s .pre)
 
 pub put-byte-spec : {M : Type 1} → statement M
 put-byte-spec = tie.close (tie.spec cast-bytes slice-write-bytes add-result (λ c. search needs) returns)

@@ -18,9 +18,8 @@ returns : tie.Need-returns Inv-loop μ-loop
 returns c =
     let s = c .before .before .before in
     let a = s .args in
-    let d = draft (a .bytes .now) (a .len) in
     let o = held (a .list .now) (a .n) in
-    put-list-off d (a .bit) o (c .if1 .taken) (s .pre .room)
+    put-list-off (a .bit) o (c .if1 .taken) (s .pre .room)
 
 put-byte-requires : tie.Need-put-byte-requires Inv-loop μ-loop
 put-byte-requires c κs = record { room = record { long = c .before .before .before .before .pre .room .long; room = omega (arith, c .before .before .before .before .pre .room .room) }; small = omega (arith, c .before .before .before .before .pre .has .few) }
@@ -29,8 +28,7 @@ loop-holds : tie.Need-loop-holds Inv-loop μ-loop
 loop-holds c =
     let s = c .before .before .before .before .before .before .before in
     let a = s .args in
-    let d = draft (a .bytes .now) (a .len) in
-    put-start d (a .n) (a .list .now) (draft (c .before .before .put-byte .last .0) (c .before .before .put-byte .result)) (c .before .before .put-byte .ensures)
+    put-start (a .n) (a .list .now) (c .before .before .put-byte .ensures)
 
 mul-v : tie.Need-mul-v Inv-loop μ-loop
 mul-v c = omega (arith, c .loop-test .taken, c .before .before .before .before .before .before .before .before .before .pre .has .few)
@@ -44,11 +42,8 @@ cast-v c = omega (arith, c .shared-slice-known2 .given (c .before .before .loop 
 put-word-requires : tie.Need-put-word-requires Inv-loop μ-loop
 put-word-requires c κs =
     let s = c .before .before .before .before .before .before .before .before .before .before .before in
-    let a = s .args in
-    let d = draft (a .bytes .now) (a .len) in
-    let o = held (a .list .now) (a .n) in
     let i = c .before .before .before .loop in
-    record { room = put-word-room d o (s .pre) (draft (c .before .before .before .before .before .before .put-byte .last .0) (c .before .before .before .before .before .before .put-byte .result)) (c .before .before .before .before .before .before .put-byte .ensures) (draft (i .bytes) (i .end)) (i .j) (i .inv) (c .before .before .loop-test .taken); small = omega (arith, c .before .shared-slice-known2 .given (i .j)) }
+    record { room = put-word-room (s .pre) (c .before .before .before .before .before .before .put-byte .ensures) (i .inv) (c .before .before .loop-test .taken); small = omega (arith, c .before .shared-slice-known2 .given (i .j)) }
 
 add-j : tie.Need-add-j Inv-loop μ-loop
 add-j c = omega (arith, c .before .before .before .before .before .loop-test .taken, c .before .before .before .before .before .before .before .before .before .before .before .before .before .before .pre .has .few)
@@ -59,11 +54,8 @@ loop-less c = omega (arith, c .before .before .before .before .before .loop-test
 loop-again : tie.Need-loop-again Inv-loop μ-loop
 loop-again c =
     let s = c .before .before .before .before .before .before .before .before .before .before .before .before .before .before in
-    let a = s .args in
-    let d = draft (a .bytes .now) (a .len) in
-    let o = held (a .list .now) (a .n) in
     let i = c .before .before .before .before .before .before .loop in
-    put-again d o (s .pre) (draft (c .before .before .before .before .before .before .before .before .before .put-byte .last .0) (c .before .before .before .before .before .before .before .before .before .put-byte .result)) (c .before .before .before .before .before .before .before .before .before .put-byte .ensures) (draft (i .bytes) (i .end)) (i .j) (i .inv) (c .before .before .before .before .before .loop-test .taken) (draft (c .before .before .put-word .last .0) (c .before .before .put-word .result)) (c .before .before .put-word .ensures)
+    put-again (s .pre) (c .before .before .before .before .before .before .before .before .before .put-byte .ensures) (i .inv) (c .before .before .before .before .before .loop-test .taken) (c .before .before .put-word .ensures)
 
 same-length : tie.Need-same-length Inv-loop μ-loop
 same-length c = c .before .loop .inv .put .long ∙ sym (c .before .before .before .before .before .before .before .before .before .pre .room .long)
@@ -71,11 +63,8 @@ same-length c = c .before .loop .inv .put .long ∙ sym (c .before .before .befo
 returns-2 : tie.Need-returns-2 Inv-loop μ-loop
 returns-2 c =
     let s = c .before .before .before .before .before .before .before .before .before in
-    let a = s .args in
-    let d = draft (a .bytes .now) (a .len) in
-    let o = held (a .list .now) (a .n) in
     let i = c .before .loop in
-    put-end d o (s .pre) (draft (c .before .before .before .before .put-byte .last .0) (c .before .before .before .before .put-byte .result)) (c .before .before .before .before .put-byte .ensures) (draft (i .bytes) (i .end)) (i .j) (i .inv) (a .bit) (c .before .before .before .before .before .before .if1 .left) (c .loop-test .left)
+    put-end (s .pre) (c .before .before .before .before .put-byte .ensures) (i .inv) (c .before .before .before .before .before .before .if1 .left) (c .loop-test .left)
 
 pub put-list-spec : {M : Type 1} → statement M
 put-list-spec = tie.close (tie.spec Inv-loop μ-loop returns put-byte-requires loop-holds mul-v shared-slice-read-v cast-v put-word-requires add-j loop-less loop-again same-length returns-2)

@@ -12,15 +12,13 @@ returns : tie.Need-returns
 returns c =
     let s = c .before .before .before .before .before .before in
     let a = s .args in
-    let d = draft (a .bytes .now) (a .len) in
-    put-name-on d (a .bit) (a .v) (draft (c .before .before .put-word .last .0) (c .before .before .put-word .result)) (c .before .before .before .before .if1 .taken) (c .before .before .put-word .ensures)
+    put-name-on (a .v) (c .before .before .before .before .if1 .taken) (c .before .before .put-word .ensures)
 
 returns-2 : tie.Need-returns-2
 returns-2 c =
     let s = c .before .before in
     let a = s .args in
-    let d = draft (a .bytes .now) (a .len) in
-    put-name-off d (a .bit) (a .v) (c .if1 .left) (s .pre .room)
+    put-name-off (a .bit) (a .v) (c .if1 .left) (s .pre .room)
 
 pub put-name-spec : {M : Type 1} → statement M
 put-name-spec = tie.close (tie.spec put-word-requires (λ c. search needs) returns returns-2)

@@ -12,23 +12,19 @@ put-word-requires c κs = record { room = record { long = c .before .before .bef
 put-word-requires-2 : tie.Need-put-word-requires-2
 put-word-requires-2 c κs =
     let s = c .before .before .before .before .before .before .before in
-    let a = s .args in
-    let d = draft (a .bytes .now) (a .len) in
-    record { room = put-room d 4 2 _ (draft (c .before .before .before .put-word .last .0) (c .before .before .before .put-word .result)) 2 (s .pre .room) (omega arith) (c .before .before .before .put-word .ensures); small = omega arith }
+    record { room = put-room 2 (s .pre .room) (omega arith) (c .before .before .before .put-word .ensures); small = omega arith }
 
 returns : tie.Need-returns
 returns c =
     let s = c .before .before .before .before .before .before .before .before .before .before in
     let a = s .args in
-    let d = draft (a .bytes .now) (a .len) in
-    put-width-on d (a .bit) (a .v) (draft (c .before .before .before .before .before .before .put-word .last .0) (c .before .before .before .before .before .before .put-word .result)) (draft (c .before .before .put-word2 .last .0) (c .before .before .put-word2 .result)) (c .before .before .before .before .before .before .before .before .if1 .taken) (s .pre .small) (c .before .before .before .before .before .before .put-word .ensures) (c .before .before .put-word2 .ensures)
+    put-width-on (a .v) (c .before .before .before .before .before .before .before .before .if1 .taken) (s .pre .small) (c .before .before .before .before .before .before .put-word .ensures) (c .before .before .put-word2 .ensures)
 
 returns-2 : tie.Need-returns-2
 returns-2 c =
     let s = c .before .before in
     let a = s .args in
-    let d = draft (a .bytes .now) (a .len) in
-    put-width-off d (a .bit) (a .v) (c .if1 .left) (s .pre .room)
+    put-width-off (a .bit) (a .v) (c .if1 .left) (s .pre .room)
 
 pub put-width-spec : {M : Type 1} → statement M
 put-width-spec = tie.close (tie.spec put-word-requires put-word-requires-2 (λ c. search needs) returns returns-2)

@@ -12,16 +12,11 @@ put-byte-requires c κs = record { room = record { long = c .before .before .pre
 put-byte-requires-2 : tie.Need-put-byte-requires-2
 put-byte-requires-2 c κs =
     let s = c .before .before .before .before .before .before in
-    let a = s .args in
-    let d = draft (a .bytes .now) (a .len) in
-    record { room = put-room d 2 1 _ (draft (c .before .before .before .put-byte .last .0) (c .before .before .before .put-byte .result)) 1 (s .pre .room) (omega arith) (c .before .before .before .put-byte .ensures); small = omega (arith, s .pre .small) }
+    record { room = put-room 1 (s .pre .room) (omega arith) (c .before .before .before .put-byte .ensures); small = omega (arith, s .pre .small) }
 
 returns : tie.Need-returns
 returns c =
-    let s = c .before .before .before .before .before .before .before .before .before in
-    let a = s .args in
-    let d = draft (a .bytes .now) (a .len) in
-    put-trans d 1 _ (draft (c .before .before .before .before .before .before .put-byte .last .0) (c .before .before .before .before .before .before .put-byte .result)) 1 _ (draft (c .before .before .put-byte2 .last .0) (c .before .before .put-byte2 .result)) (c .before .before .before .before .before .before .put-byte .ensures) (c .before .before .put-byte2 .ensures)
+    put-trans (c .before .before .before .before .before .before .put-byte .ensures) (c .before .before .put-byte2 .ensures)
 
 pub put-word-spec : {M : Type 1} → statement M
 put-word-spec = tie.close (tie.spec put-byte-requires put-byte-requires-2 (λ c. search needs) returns)

@@ -31,14 +31,13 @@ returns c =
     let s = c .before .before in
     let a = s .args in
     let o = held (a .out .now) (a .n) in
-    keep-free o (a .v) (a .images .now) (held (set (a .out .now) (a .n) (a .v)) (a .n + 1)) (c .if1 .taken) (add-has o (a .v) (s .pre .add))
+    keep-free o (a .v) (a .images .now) (c .if1 .taken) (add-has (s .pre .add))
 
 returns-2 : tie.Need-returns-2
 returns-2 c =
     let s = c .before .before in
     let a = s .args in
-    let o = held (a .out .now) (a .n) in
-    keep-bound o (a .v) (a .images .now) (c .if1 .left) (s .pre .add .has)
+    keep-bound (a .v) (a .images .now) (c .if1 .left) (s .pre .add .has)
 
 pub keep-name-spec : {M : Type 1} → statement M
 keep-name-spec = tie.close (tie.spec mul-if1 shared-slice-read-if1 cast-out mul-out slice-write-out add-result (λ c. search needs) returns returns-2)

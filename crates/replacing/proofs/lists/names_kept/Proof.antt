@@ -15,7 +15,7 @@ returns c =
     let s = c .before .before .before in
     let a = s .args in
     let b = a .records .now in
-    names-none b (a .at) (a .n) (a .images .now) (c .if1 .taken)
+    names-none b (a .at) (a .images .now) (c .if1 .taken)
 
 names-left-requires : tie.Need-names-left-requires
 names-left-requires c κs = (c .before .before .before .before .pre, length-replicate {A = ℕ} 64 0)

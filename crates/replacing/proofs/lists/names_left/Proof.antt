@@ -16,8 +16,7 @@ loop-holds : tie.Need-loop-holds Inv-loop μ-loop
 loop-holds c =
     let s = c .before .before .before in
     let a = s .args in
-    let b = a .records .now in
-    names-start b (a .at) (a .n) (a .images .now) (s .pre .0) (a .out .now) (s .pre .1)
+    names-start (s .pre .0) (a .out .now) (s .pre .1)
 
 u16-at-requires : tie.Need-u16-at-requires Inv-loop μ-loop
 u16-at-requires c κs = omega (arith, c .before .loop .inv .within, c .loop-test .taken)
@@ -25,12 +24,8 @@ u16-at-requires c κs = omega (arith, c .before .loop .inv .within, c .loop-test
 keep-name-requires : tie.Need-keep-name-requires Inv-loop μ-loop
 keep-name-requires c κs =
     let s = c .before .before .before .before .before .before .before in
-    let a = s .args in
-    let b = a .records .now in
-    let l = a .images .now in
     let i = c .before .before .before .loop in
-    let o = held (i .out) (i .kept) in
-    names-asks b (a .at) (a .n) l o (i .next) (i .left) (i .inv) (c .before .before .loop-test .taken) (c .before .u16-at .result) (c .before .u16-at .ensures .1) (s .pre .0 .table)
+    names-asks (i .inv) (c .before .before .loop-test .taken) (c .before .u16-at .result) (c .before .u16-at .ensures .1) (s .pre .0 .table)
 
 add-next : tie.Need-add-next Inv-loop μ-loop
 add-next c = omega (arith, c .before .before .before .before .before .before .loop .inv .within, c .before .before .before .before .before .loop-test .taken, c .before .before .before .before .before .before .before .before .before .before .good .0)
@@ -43,26 +38,16 @@ loop-less c = omega (arith, c .before .before .before .before .before .loop-test
 
 loop-again : tie.Need-loop-again Inv-loop μ-loop
 loop-again c =
-    let s = c .before .before .before .before .before .before .before .before .before .before in
-    let a = s .args in
-    let b = a .records .now in
-    let l = a .images .now in
     let i = c .before .before .before .before .before .before .loop in
-    let o = held (i .out) (i .kept) in
-    names-more b (a .at) (a .n) l o (i .next) (i .left) (i .inv) (c .before .before .before .before .before .loop-test .taken) (c .before .before .before .before .u16-at .result) (c .before .before .before .before .u16-at .ensures .0) (held (c .before .before .keep-name .last .0) (c .before .before .keep-name .result)) (c .before .before .keep-name .ensures)
+    names-more (i .inv) (c .before .before .before .before .before .loop-test .taken) (c .before .before .before .before .u16-at .ensures .0) (c .before .before .keep-name .ensures)
 
 same-length : tie.Need-same-length Inv-loop μ-loop
 same-length c = c .before .loop .inv .has .long ∙ sym (c .before .before .before .before .before .pre .1)
 
 returns : tie.Need-returns Inv-loop μ-loop
 returns c =
-    let s = c .before .before .before .before .before in
-    let a = s .args in
-    let b = a .records .now in
-    let l = a .images .now in
     let i = c .before .loop in
-    let o = held (i .out) (i .kept) in
-    names-end b (a .at) (a .n) l o (i .next) (i .left) (i .inv) (c .loop-test .left)
+    names-end (i .inv) (c .loop-test .left)
 
 pub names-left-spec : {M : Type 1} → statement M
 names-left-spec = tie.close (tie.spec Inv-loop μ-loop loop-holds u16-at-requires keep-name-requires add-next sub-left loop-less loop-again same-length returns)

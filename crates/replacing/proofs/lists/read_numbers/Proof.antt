@@ -47,24 +47,17 @@ loop-less c = omega (arith, c .before .loop-test .taken)
 
 loop-again : tie.Need-loop-again Inv-loop μ-loop
 loop-again c =
-    let s = c .before .before .before .before .before in
-    let a = s .args in
-    let b = a .records .now in
     let i = c .before .before .loop in
-    let o = held (i .out) (i .j) in
     let v = c .u16-at .result in
-    read-more b (a .at) (a .n) o (i .next) (i .left) (i .inv) (c .before .loop-test .taken) v (c .u16-at .ensures .0) (held (set (i .out) (i .j) v) (i .j + 1)) (add-has o v (read-asks b (a .at) (a .n) o (i .next) (i .left) (i .inv) (c .before .loop-test .taken) v (c .u16-at .ensures .1)))
+    read-more (i .inv) (c .before .loop-test .taken) (c .u16-at .ensures .0) (add-has (read-asks (i .inv) (c .before .loop-test .taken) v (c .u16-at .ensures .1)))
 
 same-length : tie.Need-same-length Inv-loop μ-loop
 same-length c = c .before .loop .inv .has .long ∙ sym (c .before .before .before .before .pre .1)
 
 returns : tie.Need-returns Inv-loop μ-loop
 returns c =
-    let s = c .before .before .before .before in
-    let a = s .args in
-    let b = a .records .now in
     let i = c .before .loop in
-    read-end b (a .at) (a .n) (i .out) (i .j) (i .next) (i .left) (i .inv) (c .loop-test .left)
+    read-end (i .out) (i .j) (i .inv) (c .loop-test .left)
 
 pub read-numbers-spec : {M : Type 1} → statement M
 read-numbers-spec = tie.close (tie.spec Inv-loop μ-loop loop-holds u16-at-requires cast-out mul-out slice-write-out add-next sub-left add-j loop-less loop-again same-length returns)

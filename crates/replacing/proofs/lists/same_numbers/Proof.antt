@@ -17,9 +17,7 @@ abbrev μ-loop : tie.MeasureT-loop
 loop-holds : tie.Need-loop-holds Inv-loop μ-loop
 loop-holds c =
     let s = c .before .before in
-    let a = s .args in
-    let b = a .records .now in
-    same-start b (a .at) (a .list .now) (a .n) (s .pre)
+    same-start (s .pre)
 
 u16-at-requires : tie.Need-u16-at-requires Inv-loop μ-loop
 u16-at-requires c κs = omega (arith, c .before .loop .inv .within, c .loop-test .taken)
@@ -48,18 +46,13 @@ loop-less c = omega (arith, c .before .before .before .loop-test .taken)
 loop-again : tie.Need-loop-again Inv-loop μ-loop
 loop-again c =
     let s = c .before .before .before .before .before .before .before in
-    let a = s .args in
-    let b = a .records .now in
     let i = c .before .before .before .before .loop in
-    same-more b (a .at) (a .list .now) (a .n) (i .next) (i .j) (i .inv) (c .before .before .before .loop-test .taken) (omega (arith, c .before .before .before .loop-test .taken, s .pre .long)) (sym (c .before .before .u16-at .ensures .0) ∙ c .if1 .left)
+    same-more (i .inv) (c .before .before .before .loop-test .taken) (omega (arith, c .before .before .before .loop-test .taken, s .pre .long)) (sym (c .before .before .u16-at .ensures .0) ∙ c .if1 .left)
 
 returns-2 : tie.Need-returns-2 Inv-loop μ-loop
 returns-2 c =
-    let s = c .before .before .before .before in
-    let a = s .args in
-    let b = a .records .now in
     let i = c .before .loop in
-    λ e. same-end b (a .at) (a .list .now) (a .n) (i .next) (i .j) (i .inv) (c .loop-test .left)
+    λ e. same-end (i .inv) (c .loop-test .left)
 
 pub same-numbers-spec : {M : Type 1} → statement M
 same-numbers-spec = tie.close (tie.spec Inv-loop μ-loop loop-holds u16-at-requires mul-w shared-slice-read-w cast-w returns add-next add-j loop-less loop-again returns-2)

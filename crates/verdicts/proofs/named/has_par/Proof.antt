@@ -34,11 +34,7 @@ kind-at-requires c κs =
 returns : tie.Need-returns Inv-loop μ-loop
 returns c =
     let s = c .before .before .before .before .before .before in
-    let a = s .args in
-    let b = a .records .now in
-    let p = a .places .now in
-    let n = a .count in
-    par-here b p n (s .pre) (c .before .before .before .loop .k) (c .before .before .loop-test .taken) (c .before .kind-at .result) (c .before .kind-at .ensures) (c .if1 .taken)
+    par-here (s .pre) (c .before .before .before .loop .k) (c .before .before .loop-test .taken) (c .before .kind-at .result) (c .before .kind-at .ensures) (c .if1 .taken)
 
 add-k : tie.Need-add-k Inv-loop μ-loop
 add-k c =
@@ -51,11 +47,7 @@ loop-less c =
 loop-again : tie.Need-loop-again Inv-loop μ-loop
 loop-again c =
     let s = c .before .before .before .before .before .before in
-    let a = s .args in
-    let b = a .records .now in
-    let p = a .places .now in
-    let n = a .count in
-    (omega (arith, c .before .before .loop-test .taken), par-next b p n (s .pre) (c .before .before .before .loop .k) (c .before .before .loop-test .taken) (c .before .kind-at .result) (c .before .kind-at .ensures) (c .before .before .before .loop .inv .1) (c .if1 .left))
+    (omega (arith, c .before .before .loop-test .taken), par-next (s .pre) (c .before .before .before .loop .k) (c .before .before .loop-test .taken) (c .before .kind-at .result) (c .before .kind-at .ensures) (c .before .before .before .loop .inv .1) (c .if1 .left))
 
 returns-2 : tie.Need-returns-2 Inv-loop μ-loop
 returns-2 c =

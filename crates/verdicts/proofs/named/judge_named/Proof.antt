@@ -11,35 +11,12 @@ use Rattle.verdicts.proofs.named.judge_named.Tie as tie
 rows-all-requires : tie.Need-rows-all-requires
 rows-all-requires c κs =
     let w = c .before .before .before .before .before .before .before .before .before .before .before .before .before .before .before .before in
-    let a = w .args in
-    let s = a .sheet .now in
-    let b = a .records .now in
-    let p = a .places .now in
-    let ix = a .index .now in
-    let tbl = a .table .now in
-    let xs = a .starts .now in
-    let ys = a .asked .now in
-    let k = a .counts in
-    let rw₀ = a .rows .now in
-    let an₀ = a .answers .now in
-    rows-ask s b p ix tbl xs ys k rw₀ an₀ (w .pre) (replicate 65536 0) (replicate 65536 0) (replicate 4096 0) (blank-zeroed (replicate 65536 0) (replicate 65536 0) (replicate 4096 0) blank-tables)
+    rows-ask (w .pre) (blank-zeroed (replicate 65536 0) (replicate 65536 0) (replicate 4096 0) blank-tables)
 
 answer-all-requires : tie.Need-answer-all-requires
 answer-all-requires c κs =
     let w = c .before .before .before .before .before .before .before .before .before .before .before .before .before .before .before .before .before .before .before .before .before .before .before .before .before .before .before .before .before .before .before .before .before .before .before in
-    let a = w .args in
-    let s = a .sheet .now in
-    let b = a .records .now in
-    let p = a .places .now in
-    let ix = a .index .now in
-    let tbl = a .table .now in
-    let xs = a .starts .now in
-    let ys = a .asked .now in
-    let k = a .counts in
-    let rw₀ = a .rows .now in
-    let an₀ = a .answers .now in
-    let d = c .before .before .before .before .before .before .before .before .before .before .before .before .before .before .before .before .before .before .rows-all .last in
-    answers-ask s b p ix tbl xs ys k rw₀ an₀ (w .pre) (replicate 65536 0) (replicate 65536 0) (replicate 4096 0) (d .0) (d .1 .0) (d .1 .1 .0) (d .1 .1 .1 .1 .1 .0) (d .1 .1 .1 .1 .1 .1 .0) (d .1 .1 .1 .1 .1 .1 .1 .0) (d .1 .1 .1 .1 .1 .1 .1 .1 .1 .1 .1 .1 .1 .0) (c .before .before .before .before .before .before .before .before .before .before .before .before .before .before .before .before .before .before .rows-all .result) (c .before .before .before .before .before .before .before .before .before .before .before .before .before .before .before .before .before .before .rows-all .ensures) blank-tables
+    answers-ask (w .pre) (c .before .before .before .before .before .before .before .before .before .before .before .before .before .before .before .before .before .before .rows-all .ensures) blank-tables
 
 same-length : tie.Need-same-length
 same-length c = (c .before .before .before .before .before .before .before .before .before .before .before .answer-all .kept .0) ∙ c .before .before .before .before .before .before .before .before .before .before .before .before .before .before .before .before .before .before .before .before .before .before .before .before .before .before .before .before .before .before .rows-all .kept .0
@@ -59,20 +36,7 @@ same-length-5 c = c .before .before .before .before .before .before .before .bef
 returns : tie.Need-returns
 returns c =
     let w = c .before .before .before .before .before .before .before .before .before .before .before .before .before .before .before .before .before .before .before .before .before .before .before .before .before .before .before .before .before .before .before .before .before .before .before .before .before .before .before .before .before .before .before .before .before .before .before in
-    let a = w .args in
-    let s = a .sheet .now in
-    let b = a .records .now in
-    let p = a .places .now in
-    let ix = a .index .now in
-    let tbl = a .table .now in
-    let xs = a .starts .now in
-    let ys = a .asked .now in
-    let k = a .counts in
-    let rw₀ = a .rows .now in
-    let an₀ = a .answers .now in
-    let d = c .before .before .before .before .before .before .before .before .before .before .before .before .before .before .before .before .before .before .before .before .before .before .before .before .before .before .before .before .before .before .rows-all .last in
-    let o = c .before .before .before .before .before .before .before .before .before .before .before .answer-all .last in
-    judge-written s b p ix tbl xs ys k rw₀ an₀ (w .pre) (replicate 65536 0) (replicate 65536 0) (replicate 4096 0) (d .0) (d .1 .0) (d .1 .1 .0) (d .1 .1 .1 .1 .1 .0) (d .1 .1 .1 .1 .1 .1 .0) (d .1 .1 .1 .1 .1 .1 .1 .0) (d .1 .1 .1 .1 .1 .1 .1 .1 .1 .1 .1 .1 .1 .0) (c .before .before .before .before .before .before .before .before .before .before .before .before .before .before .before .before .before .before .before .before .before .before .before .before .before .before .before .before .before .before .rows-all .result) (c .before .before .before .before .before .before .before .before .before .before .before .before .before .before .before .before .before .before .before .before .before .before .before .before .before .before .before .before .before .before .rows-all .ensures) (d .1 .1 .1 .1 .1 .0) (d .1 .1 .1 .1 .1 .1 .0) (d .1 .1 .1 .1 .1 .1 .1 .0) (o .0) (o .1 .0) (o .1 .1 .0) (o .1 .1 .1 .1 .1 .0) (o .1 .1 .1 .1 .1 .1 .0) (o .1 .1 .1 .1 .1 .1 .1 .0) (o .1 .1 .1 .1 .1 .1 .1 .1 .1 .1 .1 .1 .1 .0) (c .before .before .before .before .before .before .before .before .before .before .before .answer-all .result) (c .before .before .before .before .before .before .before .before .before .before .before .answer-all .ensures)
+    judge-written (w .pre) (c .before .before .before .before .before .before .before .before .before .before .before .before .before .before .before .before .before .before .before .before .before .before .before .before .before .before .before .before .before .before .rows-all .ensures) (c .before .before .before .before .before .before .before .before .before .before .before .answer-all .ensures)
 
 pub judge-named-spec : {M : Type 1} → statement M
 judge-named-spec = tie.close (tie.spec (λ c. search needs) (λ c. search needs) (λ c. search needs) rows-all-requires (λ c. search needs) (λ c. search needs) (λ c. search needs) answer-all-requires same-length same-length-2 same-length-3 same-length-4 same-length-5 returns)

@@ -23,7 +23,7 @@ returns-2 c =
     let a = s .args in
     let b = a .records .now in
     let p = a .places .now in
-    uses-par b p (a .count) (a .questions) (c .has-par .result) (c .before .if1 .left) (c .has-par .ensures)
+    uses-par b p (a .count) (c .has-par .result) (c .before .if1 .left) (c .has-par .ensures)
 
 pub uses-names-spec : {M : Type 1} → statement M
 uses-names-spec = tie.close (tie.spec returns has-par-requires returns-2)
