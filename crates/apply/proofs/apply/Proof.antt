@@ -40,7 +40,7 @@ undo-requires c κs =
 
 returns-2 : tie.Need-returns-2
 returns-2 c =
-    let s = c .before .before .before .before .before .before .before .before .before .before .before .before .before .before .before .before .before .before .before .before .before .before in
+    let c₁ = c .before .before .before .before .before .before .before .before .before in let c₂ = c₁ .before .before .before .before in let c₃ = c₂ .before in let s = c₃ .before .before .before .before .before .before .before .before in
     let a = s .args in
     let b = a .records .now in
     let p = a .places .now in
@@ -48,13 +48,14 @@ returns-2 c =
     let u = a .used in
     let l = a .images .now in
     let k = a .k in
-    let d = c .before .before .before .before .before .before .before .before .before .make-answer .last in
-    let w = subst (ReplacedIs b p n u (answerAt b p n l k) (d .0) (d .1 .0) (d .1 .1 .0)) (c .before .made .given .1) (c .before .before .before .before .before .before .before .before .before .make-answer .ensures) in
-    record { small = apply-small (s .pre) (c .before .before .before .before .before .before .before .before .before .before .before .before .before .before .answer-size .result) (c .before .before .before .before .before .before .before .before .before .before .before .before .before .before .answer-size .ensures) (c .before .before .before .before .before .before .before .before .before .before .before .before .before .if1 .left); made = w }
+    let d = c₁ .make-answer .last in
+    let w = subst (ReplacedIs b p n u (answerAt b p n l k) (d .0) (d .1 .0) (d .1 .1 .0)) (c .before .made .given .1) (c₁ .make-answer .ensures) in
+    record { small = apply-small (s .pre) (c₃ .answer-size .result) (c₃ .answer-size .ensures) (c₂ .if1 .left); made = w }
 
 returns-3 : tie.Need-returns-3
 returns-3 c =
-    let s = c .before .before .before .before .before .before .before .before .before .before .before .before .before .before .before .before .before .before .before .before .before .before .before .before .before .before .before .before .before .before .before .before in
+    let c₁ = c .before .before .before .before .before .before in let c₂ = c₁ .before .before .before .before .before in let c₃ = c₂ .before .before .before .before .before .before .before .before in let c₄ = c₃ .before .before .before .before in let c₅ = c₄ .before in
+    let s = c₅ .before .before .before .before .before .before .before .before in
     let a = s .args in
     let b = a .records .now in
     let p = a .places .now in
@@ -62,9 +63,9 @@ returns-3 c =
     let u = a .used in
     let l = a .images .now in
     let k = a .k in
-    let d = c .before .before .before .before .before .before .before .before .before .before .before .before .before .before .before .before .before .before .before .make-answer .last in
-    let w = subst (ReplacedIs b p n u (answerAt b p n l k) (d .0) (d .1 .0) (d .1 .1 .0)) (c .before .before .before .before .before .before .before .before .before .before .before .made2 .given .1) (c .before .before .before .before .before .before .before .before .before .before .before .before .before .before .before .before .before .before .before .make-answer .ensures) in
-    (apply-small (s .pre) (c .before .before .before .before .before .before .before .before .before .before .before .before .before .before .before .before .before .before .before .before .before .before .before .before .answer-size .result) (c .before .before .before .before .before .before .before .before .before .before .before .before .before .before .before .before .before .before .before .before .before .before .before .before .answer-size .ensures) (c .before .before .before .before .before .before .before .before .before .before .before .before .before .before .before .before .before .before .before .before .before .before .before .if1 .left), w .full, undo-back (s .pre .ready .good) w (c .before .before .before .before .before .before .undo .ensures))
+    let d = c₃ .make-answer .last in
+    let w = subst (ReplacedIs b p n u (answerAt b p n l k) (d .0) (d .1 .0) (d .1 .1 .0)) (c₂ .made2 .given .1) (c₃ .make-answer .ensures) in
+    (apply-small (s .pre) (c₅ .answer-size .result) (c₅ .answer-size .ensures) (c₄ .if1 .left), w .full, undo-back (s .pre .ready .good) w (c₁ .undo .ensures))
 
 pub apply-spec : {M : Type 1} → statement M
 apply-spec = tie.close (tie.spec answer-size-requires (λ c. search needs) (λ c. search needs) (λ c. search needs) returns make-answer-requires (λ c. search needs) (λ c. search needs) undo-requires (λ c. search needs) (λ c. search needs) (λ c. search needs) returns-2 (λ c. search needs) (λ c. search needs) (λ c. search needs) returns-3)

@@ -21,7 +21,9 @@ gathered-site-requires c κs =
     record { rows = rs; site = parts-site (s .pre) (c .before .before .before .before .before .before .before .before .before .before .parts-judged .kept .1 .1 .1 .1 .0) (c .before .before .before .before .before .before .before .if1 .taken) (c .before .before .before .before .before .before .before .before .before .before .parts-judged .ensures) }
 
 returns : tie.Need-returns
-returns c = site-row (c .before .before .before .before .before .before .before .before .before .before .before .before .before .before .before .before .before .before .before .before .before .before .if1 .taken) (c .before .before .before .before .before .before .before .before .before .before .before .before .before .before .before .before .before .before .before .before .before .before .before .before .before .parts-judged .ensures) (c .before .before .before .before .before .before .before .before .before .before .before .before .before .before .gathered-site .ensures)
+returns c =
+    let c₁ = c .before .before .before .before .before .before .before .before .before .before .before .before .before .before in let c₂ = c₁ .before .before .before .before .before .before .before .before in let c₃ = c₂ .before .before .before in
+    site-row (c₂ .if1 .taken) (c₃ .parts-judged .ensures) (c₁ .gathered-site .ensures)
 
 returns-2 : tie.Need-returns-2
 returns-2 c =

@@ -64,4 +64,6 @@ returns-4 c =
     judged-as {b = b} {p = p} {n = n} (known-is (s .pre) (c .before .before .before .before .before .before .if1 .left) (c .before .before .before .before .before .if2 .left) (c .before .before .before .before .if3 .left)) (c .known-site .ensures ix (s .pre .good))
 
 pub composed-site-spec : {M : Type 1} → statement M
-composed-site-spec = tie.close (tie.spec operated-requires (λ c. search needs) (λ c. search needs) (λ c. search needs) (λ c. search needs) returns binder-requires (λ c. search needs) (λ c. search needs) (λ c. search needs) (λ c. search needs) returns-2 indexing-requires (λ c. search needs) (λ c. search needs) (λ c. search needs) (λ c. search needs) returns-3 known-site-requires (λ c. search needs) (λ c. search needs) (λ c. search needs) returns-4)
+composed-site-spec =
+    tie.close (tie.spec operated-requires (λ c. search needs) (λ c. search needs) (λ c. search needs) (λ c. search needs) returns binder-requires (λ c. search needs) (λ c. search needs) (λ c. search needs) (λ c. search needs) returns-2 indexing-requires (λ c. search needs) (λ c. search needs) (λ c. search needs) (λ c. search needs) returns-3 known-site-requires
+    (λ c. search needs) (λ c. search needs) (λ c. search needs) returns-4)

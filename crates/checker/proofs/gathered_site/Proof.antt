@@ -58,4 +58,6 @@ returns-3 : tie.Need-returns-3
 returns-3 c = record { answer = c .before .before .before .before .before .before .before .before .composed-site .ensures; params = refl; images = refl; bound = refl }
 
 pub gathered-site-spec : {M : Type 1} → statement M
-gathered-site-spec = tie.close (tie.spec constant-requires (λ c. search needs) (λ c. search needs) (λ c. search needs) returns application-requires (λ c. search needs) (λ c. search needs) (λ c. search needs) (λ c. search needs) (λ c. search needs) (λ c. search needs) (λ c. search needs) returns-2 composed-site-requires (λ c. search needs) (λ c. search needs) (λ c. search needs) (λ c. search needs) returns-3)
+gathered-site-spec =
+    tie.close (tie.spec constant-requires (λ c. search needs) (λ c. search needs) (λ c. search needs) returns application-requires (λ c. search needs) (λ c. search needs) (λ c. search needs) (λ c. search needs) (λ c. search needs) (λ c. search needs) (λ c. search needs) returns-2 composed-site-requires (λ c. search needs) (λ c. search needs) (λ c. search needs)
+    (λ c. search needs) returns-3)

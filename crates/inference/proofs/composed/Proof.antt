@@ -102,7 +102,7 @@ returns-4 c =
 
 returns-5 : tie.Need-returns-5
 returns-5 c =
-    let s = c .before .before .before .before .before .before .before .before .before .before .before .before .before .before .before .before .before .before .before in
+    let c₁ = c .before .before .before .before .before .before in let c₂ = c₁ .before .before .before .before .before in let s = c₂ .before .before .before .before .before .before .before .before in
     let a = s .args in
     let b = a .records .now in
     let p = a .places .now in
@@ -112,8 +112,10 @@ returns-5 c =
     let t = a .table .now in
     let k = a .starts .now in
     let r = a .term in
-    let d = c .before .before .before .before .before .before .indexed .last in
-    judged-as {b = b} {p = p} {n = n} {b′ = d .0} {p′ = d .1 .0} {ix′ = d .1 .1 .0} (site-indexed (storeOf b p n) z t k x r (eleven-left (r .kind) (s .pre .low) (s .pre .high) (c .before .before .before .before .before .before .before .before .before .before .before .match .rest .0 .0 .0 .1) (c .before .before .before .before .before .before .before .before .before .before .before .match .rest .0 .0 .1) (c .before .before .before .before .before .before .before .before .before .before .before .match .rest .0 .1) (c .before .before .before .before .before .before .before .before .before .before .before .match .rest .1))) (c .before .before .before .before .before .before .indexed .ensures)
+    let d = c₁ .indexed .last in
+    judged-as {b = b} {p = p} {n = n} {b′ = d .0} {p′ = d .1 .0} {ix′ = d .1 .1 .0} (site-indexed (storeOf b p n) z t k x r (eleven-left (r .kind) (s .pre .low) (s .pre .high) (c₂ .match .rest .0 .0 .0 .1) (c₂ .match .rest .0 .0 .1) (c₂ .match .rest .0 .1) (c₂ .match .rest .1))) (c₁ .indexed .ensures)
 
 pub composed-spec : {M : Type 1} → statement M
-composed-spec = tie.close (tie.spec operated-requires bound-requires last-of-requires last-of-requires-2 indexed-requires (λ c. search needs) (λ c. search needs) (λ c. search needs) (λ c. search needs) returns (λ c. search needs) (λ c. search needs) (λ c. search needs) (λ c. search needs) returns-2 (λ c. search needs) returns-3 (λ c. search needs) returns-4 (λ c. search needs) (λ c. search needs) (λ c. search needs) (λ c. search needs) returns-5)
+composed-spec =
+    tie.close (tie.spec operated-requires bound-requires last-of-requires last-of-requires-2 indexed-requires (λ c. search needs) (λ c. search needs) (λ c. search needs) (λ c. search needs) returns (λ c. search needs) (λ c. search needs) (λ c. search needs) (λ c. search needs) returns-2 (λ c. search needs) returns-3 (λ c. search needs) returns-4 (λ c. search needs)
+    (λ c. search needs) (λ c. search needs) (λ c. search needs) returns-5)

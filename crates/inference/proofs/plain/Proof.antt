@@ -134,7 +134,10 @@ returns-6 c =
     let t = a .table .now in
     let r = a .term in
     λ y v w.
-    judged-as (plain-is (from-five (r .kind) (c .before .before .match .rest .0 .0 .0 .0 .1) (c .before .before .match .rest .0 .0 .0 .1) (c .before .before .match .rest .0 .0 .1) (c .before .before .match .rest .0 .1) (c .before .before .match .rest .1)) (s .pre .plain) y v w) (answered-as (c .found .ensures) (answer-known b p ix n u (s .pre .good) (getD t (r .sort) 0) (plain-own (from-five (r .kind) (c .before .before .match .rest .0 .0 .0 .0 .1) (c .before .before .match .rest .0 .0 .0 .1) (c .before .before .match .rest .0 .0 .1) (c .before .before .match .rest .0 .1) (c .before .before .match .rest .1)) (s .pre .plain) .known)))
+    judged-as (plain-is (from-five (r .kind) (c .before .before .match .rest .0 .0 .0 .0 .1) (c .before .before .match .rest .0 .0 .0 .1) (c .before .before .match .rest .0 .0 .1) (c .before .before .match .rest .0 .1) (c .before .before .match .rest .1)) (s .pre .plain) y v w)
+    (answered-as (c .found .ensures) (answer-known b p ix n u (s .pre .good) (getD t (r .sort) 0) (plain-own (from-five (r .kind) (c .before .before .match .rest .0 .0 .0 .0 .1) (c .before .before .match .rest .0 .0 .0 .1) (c .before .before .match .rest .0 .0 .1) (c .before .before .match .rest .0 .1) (c .before .before .match .rest .1)) (s .pre .plain) .known)))
 
 pub plain-spec : {M : Type 1} → statement M
-plain-spec = tie.close (tie.spec leaf-requires leaf-requires-2 leaf-requires-3 leaf-requires-4 bit-vector-requires mul-k shared-slice-read-k cast-k (λ c κs. search needs) (λ c. search needs) (λ c. search needs) (λ c. search needs) returns (λ c. search needs) (λ c. search needs) (λ c. search needs) returns-2 (λ c. search needs) (λ c. search needs) (λ c. search needs) returns-3 (λ c. search needs) (λ c. search needs) (λ c. search needs) returns-4 (λ c. search needs) (λ c. search needs) (λ c. search needs) returns-5 returns-6)
+plain-spec =
+    tie.close (tie.spec leaf-requires leaf-requires-2 leaf-requires-3 leaf-requires-4 bit-vector-requires mul-k shared-slice-read-k cast-k (λ c κs. search needs) (λ c. search needs) (λ c. search needs) (λ c. search needs) returns (λ c. search needs) (λ c. search needs) (λ c. search needs) returns-2 (λ c. search needs) (λ c. search needs) (λ c. search needs) returns-3
+    (λ c. search needs) (λ c. search needs) (λ c. search needs) returns-4 (λ c. search needs) (λ c. search needs) (λ c. search needs) returns-5 returns-6)

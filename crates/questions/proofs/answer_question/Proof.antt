@@ -69,9 +69,9 @@ word-of-requires c κs =
 
 returns-2 : tie.Need-returns-2
 returns-2 c =
-    let s = c .before .before .before .before .before .before .before .before .before .before .before .before .before .before .before .before .before .before .before .before .before .before .before .before .before .before .before .before .before .before in
-    let r = c .before .before .before .before .before .before .before .before .before .before .before .before .before .answer-match .last in
-    answered-1 (s .pre) (r .0) (r .1 .0) (r .1 .1 .0) (r .1 .1 .1 .1 .1 .0) (r .1 .1 .1 .1 .1 .1 .0) (r .1 .1 .1 .1 .1 .1 .1 .0) (c .word-of .ensures) (c .before .before .before .before .before .before .before .before .before .before .before .before .before .before .before .before .before .before .before .before .if2 .taken) (c .before .before .before .before .before .before .before .before .before .before .before .before .before .answer-match .ensures)
+    let c₁ = c .before .before .before .before .before .before .before .before .before .before .before .before .before in let c₂ = c₁ .before .before .before .before .before .before .before in let s = c₂ .before .before .before .before .before .before .before .before .before .before in
+    let r = c₁ .answer-match .last in
+    answered-1 (s .pre) (r .0) (r .1 .0) (r .1 .1 .0) (r .1 .1 .1 .1 .1 .0) (r .1 .1 .1 .1 .1 .1 .0) (r .1 .1 .1 .1 .1 .1 .1 .0) (c .word-of .ensures) (c₂ .if2 .taken) (c₁ .answer-match .ensures)
 
 answer-apply-requires : tie.Need-answer-apply-requires
 answer-apply-requires c κs =
@@ -90,12 +90,14 @@ word-of-requires-2 c κs =
 
 returns-3 : tie.Need-returns-3
 returns-3 c =
-    let s = c .before .before .before .before .before .before .before .before .before .before .before .before .before .before .before .before .before .before .before .before .before .before .before .before in
+    let c₁ = c .before .before .before .before .before .before .before .before .before in let c₂ = c₁ .before .before .before .before .before in let c₃ = c₂ .before in let s = c₃ .before .before .before .before .before .before .before .before .before in
     let a = s .args in
     let m = a .params .now in
     let o = a .bound .now in
-    let r = c .before .before .before .before .before .before .before .before .before .answer-apply .last in
-    answered-2 (s .pre) (r .0) (r .1 .0) (r .1 .1 .0) m (r .1 .1 .1 .1 .1 .0) o (c .word-of2 .ensures) (c .before .before .before .before .before .before .before .before .before .before .before .before .before .before .before .if1 .left) (c .before .before .before .before .before .before .before .before .before .before .before .before .before .before .if2 .left) (c .before .before .before .before .before .before .before .before .before .answer-apply .ensures) refl refl
+    let r = c₁ .answer-apply .last in
+    answered-2 (s .pre) (r .0) (r .1 .0) (r .1 .1 .0) m (r .1 .1 .1 .1 .1 .0) o (c .word-of2 .ensures) (c₃ .if1 .left) (c₂ .if2 .left) (c₁ .answer-apply .ensures) refl refl
 
 pub answer-question-spec : {M : Type 1} → statement M
-answer-question-spec = tie.close (tie.spec sort-at-requires add-sort-at sort-at-requires-2 answer-compatible-requires (λ c. search needs) (λ c. search needs) returns answer-match-requires word-of-requires (λ c. search needs) (λ c. search needs) (λ c. search needs) (λ c. search needs) (λ c. search needs) (λ c. search needs) returns-2 answer-apply-requires word-of-requires-2 (λ c. search needs) (λ c. search needs) (λ c. search needs) (λ c. search needs) returns-3)
+answer-question-spec =
+    tie.close (tie.spec sort-at-requires add-sort-at sort-at-requires-2 answer-compatible-requires (λ c. search needs) (λ c. search needs) returns answer-match-requires word-of-requires (λ c. search needs) (λ c. search needs) (λ c. search needs) (λ c. search needs) (λ c. search needs) (λ c. search needs) returns-2 answer-apply-requires word-of-requires-2 (λ c. search needs)
+    (λ c. search needs) (λ c. search needs) (λ c. search needs) returns-3)

@@ -29,7 +29,9 @@ seek-requires : tie.Need-seek-requires
 seek-requires c κs = key-asks (c .before .before .before .before .before .before .before .before .before .before .before .before .before .before .before .before .before .pre) (omega (arith, c .before .before .before .before .before .before .before .before .before .if2 .left)) _ (c .before .before .before .before .before .parts-judged .kept .1 .1 .1 .1 .0)
 
 returns-5 : tie.Need-returns-5
-returns-5 c = look-is (c .before .before .before .before .before .before .before .before .before .before .before .before .before .if1 .left) (not-false (c .before .before .before .before .before .before .before .before .parts-judged .result) (c .before .before .before .before .before .if4 .left)) (c .before .before .before .before .before .before .before .before .parts-judged .ensures) (c .before .before .seek .ensures)
+returns-5 c =
+    let c₁ = c .before .before .before .before .before in let c₂ = c₁ .before .before .before in let c₃ = c₂ .before .before .before .before .before in
+    look-is (c₃ .if1 .left) (not-false (c₂ .parts-judged .result) (c₁ .if4 .left)) (c₂ .parts-judged .ensures) (c .before .before .seek .ensures)
 
 pub looked-up-spec : {M : Type 1} → statement M
 looked-up-spec = tie.close (tie.spec returns returns-2 head-is-par-requires returns-3 parts-judged-requires (λ c. search needs) returns-4 seek-requires (λ c. search needs) (λ c. search needs) returns-5)

@@ -150,12 +150,12 @@ applied-size-whole-size-requires t c κs =
 
 applied-size-remember-requires : (t : ℕ) → applied-size-lts.Need-remember-requires (applied-size-env t) (applied-size-at t) applied-size.Post
 applied-size-remember-requires t c κs =
-    let s = c .before .before .before .before .before .before .before .before .before .before .before .before .before .before .before .before .before .before .before .before in
+    let c₁ = c .before .before .before .before .before in let c₂ = c₁ .before .before .before .before in let c₃ = c₂ .before .before in let s = c₃ .before .before .before .before .before .before .before .before .before in
     let a = s .args in
     let b = a .records .now in let p = a .places .now in let ix = a .index .now in
     let n = a .count in let l = a .images .now in
-    let e = c .before .before .before .before .before .before .before .before .before .before .before .entry .result in
-    let is = size-whole (s .pre .1 .asks) e (c .before .before .before .before .before .before .before .before .before .before .before .entry .ensures) (c .before .before .before .before .before .before .before .before .before .if2 .left) (c .before .before .names-kept .ensures) (c .before .before .before .before .before .applied-sizes .result) (c .before .before .before .before .before .applied-sizes .ensures .are) (goes (e .kind) (c .before .before .names-kept .result)) refl (c .before .whole-size .ensures) in
+    let e = c₃ .entry .result in
+    let is = size-whole (s .pre .1 .asks) e (c₃ .entry .ensures) (c₂ .if2 .left) (c .before .before .names-kept .ensures) (c₁ .applied-sizes .result) (c₁ .applied-sizes .ensures .are) (goes (e .kind) (c .before .before .names-kept .result)) refl (c .before .whole-size .ensures) in
     omega (arith, is, capped-most (size (answerAt b p n l (a .k))))
 
 applied-size-same-length-4 : (t : ℕ) → applied-size-lts.Need-same-length-4 (applied-size-env t) (applied-size-at t) applied-size.Post
@@ -163,13 +163,13 @@ applied-size-same-length-4 t c = search needs
 
 applied-size-returns-4 : (t : ℕ) → applied-size-lts.Need-returns-4 (applied-size-env t) (applied-size-at t) applied-size.Post
 applied-size-returns-4 t c =
-    let s = c .before .before .before .before .before .before .before .before .before .before .before .before .before .before .before .before .before .before .before .before .before .before .before in
+    let c₁ = c .before .before .before .before in let c₂ = c₁ .before in let c₃ = c₂ .before .before .before in let c₄ = c₃ .before .before .before .before in let c₅ = c₄ .before .before in let s = c₅ .before .before .before .before .before .before .before .before .before in
     let a = s .args in
     let b = a .records .now in let p = a .places .now in let ix = a .index .now in
     let n = a .count in let l = a .images .now in
-    let e = c .before .before .before .before .before .before .before .before .before .before .before .before .before .before .entry .result in
-    let is = size-whole (s .pre .1 .asks) e (c .before .before .before .before .before .before .before .before .before .before .before .before .before .before .entry .ensures) (c .before .before .before .before .before .before .before .before .before .before .before .before .if2 .left) (c .before .before .before .before .before .names-kept .ensures) (c .before .before .before .before .before .before .before .before .applied-sizes .result) (c .before .before .before .before .before .before .before .before .applied-sizes .ensures .are) (goes (e .kind) (c .before .before .before .before .before .names-kept .result)) refl (c .before .before .before .before .whole-size .ensures) in
-    record { is = is; weighed = subst (Weighed b p n l) (sym (c .before .before .remember .ensures)) (weighed-set b p n l (c .before .before .before .before .before .before .before .before .applied-sizes .last .1 .1 .1 .0) (a .k) (c .before .before .before .before .whole-size .result) (c .before .before .before .before .before .before .before .before .applied-sizes .ensures .weighed) is) }
+    let e = c₅ .entry .result in
+    let is = size-whole (s .pre .1 .asks) e (c₅ .entry .ensures) (c₄ .if2 .left) (c₂ .names-kept .ensures) (c₃ .applied-sizes .result) (c₃ .applied-sizes .ensures .are) (goes (e .kind) (c₂ .names-kept .result)) refl (c₁ .whole-size .ensures) in
+    record { is = is; weighed = subst (Weighed b p n l) (sym (c .before .before .remember .ensures)) (weighed-set b p n l (c₃ .applied-sizes .last .1 .1 .1 .0) (a .k) (c₁ .whole-size .result) (c₃ .applied-sizes .ensures .weighed) is) }
 
 applied-sizes-loop-holds : (t : ℕ) → applied-sizes-lts.Need-loop-holds (applied-sizes-env t) (applied-sizes-at t) applied-sizes.Post applied-sizes-Inv-loop applied-sizes-μ-loop
 applied-sizes-loop-holds t c =
@@ -211,8 +211,9 @@ applied-sizes-loop-less t c = omega (arith, c .before .before .before .before .b
 
 applied-sizes-loop-again : (t : ℕ) → applied-sizes-lts.Need-loop-again (applied-sizes-env t) (applied-sizes-at t) applied-sizes.Post applied-sizes-Inv-loop applied-sizes-μ-loop
 applied-sizes-loop-again t c =
-    let i = c .before .before .before .before .before .before .before .loop in
-    record { sums = sum-more (i .inv .sums) (c .before .before .before .before .before .before .loop-test .taken) (c .before .before .before .before .before .u16-at .ensures .0) (c .before .before .before .applied-size .result) (c .before .before .before .applied-size .ensures .is) (c .capped-at .ensures); weighed = c .before .before .before .applied-size .ensures .weighed; long = c .before .before .before .applied-size .kept .1 .1 .1 .0 ∙ i .inv .long }
+    let c₁ = c .before .before .before .before .before in let c₂ = c₁ .before in let c₃ = c₂ .before in
+    let i = c₃ .loop in
+    record { sums = sum-more (i .inv .sums) (c₂ .loop-test .taken) (c₁ .u16-at .ensures .0) (c .before .before .before .applied-size .result) (c .before .before .before .applied-size .ensures .is) (c .capped-at .ensures); weighed = c .before .before .before .applied-size .ensures .weighed; long = c .before .before .before .applied-size .kept .1 .1 .1 .0 ∙ i .inv .long }
 
 applied-sizes-same-length : (t : ℕ) → applied-sizes-lts.Need-same-length (applied-sizes-env t) (applied-sizes-at t) applied-sizes.Post applied-sizes-Inv-loop applied-sizes-μ-loop
 applied-sizes-same-length t c = c .before .loop .inv .long
@@ -223,4 +224,8 @@ applied-sizes-returns t c =
     record { are = sum-end (i .inv .sums) (c .loop-test .left); weighed = i .inv .weighed }
 
 pub +applied-size+applied-sizes-spec : {M : Type 1} → statement M
-+applied-size+applied-sizes-spec = close μ-applied-size μ-applied-sizes (λ t. applied-size-lts.spec (applied-size-env t) (applied-size-at t) applied-size.Post (applied-size-recall-requires t) (applied-size-same-length t) (applied-size-returns t) (applied-size-entry-requires t) (applied-size-image-of-requires t) (applied-size-size-at-requires t) (applied-size-same-length-2 t) (applied-size-returns-2 t) (applied-size-same-length-3 t) (applied-size-returns-3 t) (applied-size-applied-sizes-requires t) (applied-size-names-kept-requires t) (applied-size-whole-size-requires t) (applied-size-remember-requires t) (applied-size-same-length-4 t) (applied-size-returns-4 t)) (λ t. applied-sizes-lts.spec (applied-sizes-env t) (applied-sizes-at t) applied-sizes.Post applied-sizes-Inv-loop applied-sizes-μ-loop (applied-sizes-loop-holds t) (applied-sizes-u16-at-requires t) (applied-sizes-applied-size-requires t) (applied-sizes-add-capped-at t) (applied-sizes-capped-at-requires t) (applied-sizes-add-next t) (applied-sizes-sub-left t) (applied-sizes-loop-less t) (applied-sizes-loop-again t) (applied-sizes-same-length t) (applied-sizes-returns t))
++applied-size+applied-sizes-spec =
+    close μ-applied-size μ-applied-sizes (λ t. applied-size-lts.spec (applied-size-env t) (applied-size-at t) applied-size.Post (applied-size-recall-requires t) (applied-size-same-length t) (applied-size-returns t) (applied-size-entry-requires t) (applied-size-image-of-requires t) (applied-size-size-at-requires t) (applied-size-same-length-2 t) (applied-size-returns-2 t)
+    (applied-size-same-length-3 t) (applied-size-returns-3 t) (applied-size-applied-sizes-requires t) (applied-size-names-kept-requires t) (applied-size-whole-size-requires t) (applied-size-remember-requires t) (applied-size-same-length-4 t) (applied-size-returns-4 t))
+    (λ t. applied-sizes-lts.spec (applied-sizes-env t) (applied-sizes-at t) applied-sizes.Post applied-sizes-Inv-loop applied-sizes-μ-loop (applied-sizes-loop-holds t) (applied-sizes-u16-at-requires t) (applied-sizes-applied-size-requires t) (applied-sizes-add-capped-at t) (applied-sizes-capped-at-requires t) (applied-sizes-add-next t) (applied-sizes-sub-left t)
+    (applied-sizes-loop-less t) (applied-sizes-loop-again t) (applied-sizes-same-length t) (applied-sizes-returns t))

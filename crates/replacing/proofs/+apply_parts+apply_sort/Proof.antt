@@ -103,23 +103,27 @@ apply-parts-enum-known-made t c = search needs
 
 apply-parts-cast-parts : (t : ℕ) → apply-parts-lts.Need-cast-parts (apply-parts-env t) (apply-parts-at t) apply-parts.Post apply-parts-Inv-loop apply-parts-μ-loop
 apply-parts-cast-parts t c =
-    let s = c .before .before .before .before .before .before .before .before .before .before .before .before .before .before .before .before .before .before .before .before .before .before .before .before .before in
+    let c₁ = c .before .before .before .before .before .before .before .before .before .before .before in let c₂ = c₁ .before .before .before .before .before .before in let c₃ = c₂ .before in let s = c₃ .before .before .before .before .before .before .before in
     let a = s .args in
     let b = a .records .now in let p = a .places .now in
     let ix = a .index .now in
     let n = a .count in let u = a .used in
     let l = a .images .now in
-    let i = c .before .before .before .before .before .before .before .before .before .before .before .before .before .before .before .before .before .before .loop in
-    let d = c .before .before .before .before .before .before .before .before .before .before .before .apply-sort .last in
+    let i = c₃ .loop in
+    let d = c₁ .apply-sort .last in
     let v = c .before .made .given .0 in
-    let w = subst (KnownIs (i .records) (i .places) (i .n) (i .u) (getD (i .parts) (i .j) 0) l (d .0) (d .1 .0) (d .1 .1 .0) (d .1 .1 .1 .0)) (c .before .made .given .1) (c .before .before .before .before .before .before .before .before .before .before .before .apply-sort .ensures) in
-    omega (arith, parts-number b p ix n u (held (a .parts .now) (a .many)) l (s .pre .1 .asks) (i .records) (i .places) (i .index) (i .parts) (i .n) (i .u) (i .j) (i .inv .inv) (c .before .before .before .before .before .before .before .before .before .before .before .before .before .before .before .before .before .loop-test .taken) (d .0) (d .1 .0) (d .1 .1 .0) (v .0) (v .1 .0) (v .1 .1 .0) (w .made))
+    let w = subst (KnownIs (i .records) (i .places) (i .n) (i .u) (getD (i .parts) (i .j) 0) l (d .0) (d .1 .0) (d .1 .1 .0) (d .1 .1 .1 .0)) (c .before .made .given .1) (c₁ .apply-sort .ensures) in
+    omega (arith, parts-number b p ix n u (held (a .parts .now) (a .many)) l (s .pre .1 .asks) (i .records) (i .places) (i .index) (i .parts) (i .n) (i .u) (i .j) (i .inv .inv) (c₂ .loop-test .taken) (d .0) (d .1 .0) (d .1 .1 .0) (v .0) (v .1 .0) (v .1 .1 .0) (w .made))
 
 apply-parts-mul-parts : (t : ℕ) → apply-parts-lts.Need-mul-parts (apply-parts-env t) (apply-parts-at t) apply-parts.Post apply-parts-Inv-loop apply-parts-μ-loop
-apply-parts-mul-parts t c = omega (arith, c .before .before .before .before .before .before .before .before .before .before .before .before .before .before .before .before .before .loop-test .taken, c .before .before .before .before .before .before .before .before .before .before .before .before .before .before .before .before .before .before .before .before .before .before .before .before .before .pre .1 .asks .has .few)
+apply-parts-mul-parts t c =
+    let c₁ = c .before .before .before .before .before .before .before .before .before .before .before .before .before .before .before .before .before in let c₂ = c₁ .before .before .before .before .before .before .before .before in
+    omega (arith, c₁ .loop-test .taken, c₂ .pre .1 .asks .has .few)
 
 apply-parts-slice-write-parts : (t : ℕ) → apply-parts-lts.Need-slice-write-parts (apply-parts-env t) (apply-parts-at t) apply-parts.Post apply-parts-Inv-loop apply-parts-μ-loop
-apply-parts-slice-write-parts t c = omega (arith, c .before .before .before .before .before .before .before .before .before .before .before .before .before .before .before .before .before .loop-test .taken, c .before .before .before .before .before .before .before .before .before .before .before .before .before .before .before .before .before .before .before .before .before .before .before .before .before .pre .1 .asks .has .few, c .before .before .before .before .before .before .before .before .before .before .before .before .before .before .before .before .before .before .loop .inv .inv .long)
+apply-parts-slice-write-parts t c =
+    let c₁ = c .before .before .before .before .before .before .before .before .before .before .before .before .before .before .before .before .before in let c₂ = c₁ .before in let c₃ = c₂ .before .before .before .before .before .before .before in
+    omega (arith, c₁ .loop-test .taken, c₃ .pre .1 .asks .has .few, c₂ .loop .inv .inv .long)
 
 apply-parts-enum-known-made-2 : (t : ℕ) → apply-parts-lts.Need-enum-known-made-2 (apply-parts-env t) (apply-parts-at t) apply-parts.Post apply-parts-Inv-loop apply-parts-μ-loop
 apply-parts-enum-known-made-2 t c = search needs
@@ -158,7 +162,9 @@ apply-parts-same-length-4 : (t : ℕ) → apply-parts-lts.Need-same-length-4 (ap
 apply-parts-same-length-4 t c = c .before .before .before .before .before .before .before .before .before .before .before .apply-sort .kept .1 .1 .1 .0 ∙ c .before .before .before .before .before .before .before .before .before .before .before .before .before .before .before .before .before .before .loop .inv .lasts
 
 apply-parts-same-length-5 : (t : ℕ) → apply-parts-lts.Need-same-length-5 (apply-parts-env t) (apply-parts-at t) apply-parts.Post apply-parts-Inv-loop apply-parts-μ-loop
-apply-parts-same-length-5 t c = c .before .before .before .before .before .before .before .before .before .before .before .before .before .before .before .before .before .before .loop .inv .inv .long ∙ sym (c .before .before .before .before .before .before .before .before .before .before .before .before .before .before .before .before .before .before .before .before .before .before .before .before .before .pre .1 .asks .has .long)
+apply-parts-same-length-5 t c =
+    let c₁ = c .before .before .before .before .before .before .before .before .before .before .before .before .before .before .before .before .before .before in let c₂ = c₁ .before .before .before .before .before .before .before in
+    c₁ .loop .inv .inv .long ∙ sym (c₂ .pre .1 .asks .has .long)
 
 apply-parts-returns : (t : ℕ) → apply-parts-lts.Need-returns (apply-parts-env t) (apply-parts-at t) apply-parts.Post apply-parts-Inv-loop apply-parts-μ-loop
 apply-parts-returns t c =
@@ -175,24 +181,26 @@ apply-parts-returns t c =
     parts-halted b p ix n u (held (a .parts .now) (a .many)) l (s .pre .1 .asks) (i .records) (i .places) (i .index) (i .parts) (i .n) (i .u) (i .j) (i .inv .inv) (c .before .before .before .before .before .before .before .before .before .before .before .before .before .before .before .before .before .loop-test .taken) (d .0) (d .1 .0) (d .1 .1 .0) (v .0) (v .1 .0) w
 
 apply-parts-add-j : (t : ℕ) → apply-parts-lts.Need-add-j (apply-parts-env t) (apply-parts-at t) apply-parts.Post apply-parts-Inv-loop apply-parts-μ-loop
-apply-parts-add-j t c = omega (arith, c .before .before .before .before .before .before .before .before .before .before .before .before .before .before .before .before .before .loop-test .taken, c .before .before .before .before .before .before .before .before .before .before .before .before .before .before .before .before .before .before .before .before .before .before .before .before .before .pre .1 .asks .has .few)
+apply-parts-add-j t c =
+    let c₁ = c .before .before .before .before .before .before .before .before .before .before .before .before .before .before .before .before .before in let c₂ = c₁ .before .before .before .before .before .before .before .before in
+    omega (arith, c₁ .loop-test .taken, c₂ .pre .1 .asks .has .few)
 
 apply-parts-loop-less : (t : ℕ) → apply-parts-lts.Need-loop-less (apply-parts-env t) (apply-parts-at t) apply-parts.Post apply-parts-Inv-loop apply-parts-μ-loop
 apply-parts-loop-less t c = omega (arith, c .before .before .before .before .before .before .before .before .before .before .before .before .before .before .before .before .before .loop-test .taken)
 
 apply-parts-loop-again : (t : ℕ) → apply-parts-lts.Need-loop-again (apply-parts-env t) (apply-parts-at t) apply-parts.Post apply-parts-Inv-loop apply-parts-μ-loop
 apply-parts-loop-again t c =
-    let s = c .before .before .before .before .before .before .before .before .before .before .before .before .before .before .before .before .before .before .before .before .before .before .before .before .before in
+    let c₁ = c .before .before .before .before .before .before .before .before .before .before .before in let c₂ = c₁ .before .before .before .before .before .before in let c₃ = c₂ .before in let s = c₃ .before .before .before .before .before .before .before in
     let a = s .args in
     let b = a .records .now in let p = a .places .now in
     let ix = a .index .now in
     let n = a .count in let u = a .used in
     let l = a .images .now in
-    let i = c .before .before .before .before .before .before .before .before .before .before .before .before .before .before .before .before .before .before .loop in
-    let d = c .before .before .before .before .before .before .before .before .before .before .before .apply-sort .last in
+    let i = c₃ .loop in
+    let d = c₁ .apply-sort .last in
     let v = c .before .made .given .0 in
-    let w = subst (KnownIs (i .records) (i .places) (i .n) (i .u) (getD (i .parts) (i .j) 0) l (d .0) (d .1 .0) (d .1 .1 .0) (d .1 .1 .1 .0)) (c .before .made .given .1) (c .before .before .before .before .before .before .before .before .before .before .before .apply-sort .ensures) in
-    record { inv = parts-more b p ix n u (held (a .parts .now) (a .many)) l (s .pre .1 .asks) (i .records) (i .places) (i .index) (i .parts) (i .n) (i .u) (i .j) (i .inv .inv) (c .before .before .before .before .before .before .before .before .before .before .before .before .before .before .before .before .before .loop-test .taken) (d .0) (d .1 .0) (d .1 .1 .0) (v .0) (v .1 .0) (v .1 .1 .0) (w .made); known = w .known; lasts = c .before .before .before .before .before .before .before .before .before .before .before .apply-sort .kept .1 .1 .1 .0 ∙ i .inv .lasts }
+    let w = subst (KnownIs (i .records) (i .places) (i .n) (i .u) (getD (i .parts) (i .j) 0) l (d .0) (d .1 .0) (d .1 .1 .0) (d .1 .1 .1 .0)) (c .before .made .given .1) (c₁ .apply-sort .ensures) in
+    record { inv = parts-more b p ix n u (held (a .parts .now) (a .many)) l (s .pre .1 .asks) (i .records) (i .places) (i .index) (i .parts) (i .n) (i .u) (i .j) (i .inv .inv) (c₂ .loop-test .taken) (d .0) (d .1 .0) (d .1 .1 .0) (v .0) (v .1 .0) (v .1 .1 .0) (w .made); known = w .known; lasts = c₁ .apply-sort .kept .1 .1 .1 .0 ∙ i .inv .lasts }
 
 apply-parts-same-length-6 : (t : ℕ) → apply-parts-lts.Need-same-length-6 (apply-parts-env t) (apply-parts-at t) apply-parts.Post apply-parts-Inv-loop apply-parts-μ-loop
 apply-parts-same-length-6 t c =
@@ -311,60 +319,65 @@ apply-sort-slice-aggregate-apply-parts t c = sym (c .before .before .before .bef
 
 apply-sort-apply-parts-requires : (t : ℕ) → apply-sort-lts.Need-apply-parts-requires (apply-sort-env t) (apply-sort-at t) apply-sort.Post
 apply-sort-apply-parts-requires t c κs =
-    let s = c .before .before .before .before .before .before .before .before .before .before .before .before .before .before .before .before .before .before .before .before .before .before .before .before in
+    let c₁ = c .before .before .before .before .before .before in let c₂ = c₁ .before .before .before .before .before in let c₃ = c₂ .before .before in let s = c₃ .before .before .before .before .before .before .before .before .before .before .before in
     let a = s .args in
     let n = a .count in let u = a .used in
-    let is = c .before .before .before .before .before .before .before .before .before .before .before .before .before .entry .ensures n (s .pre .1 .asks .ready .good .stored) (s .pre .1 .asks .known) in
-    (omega (arith, s .pre .0, sort-falls (s .pre .1 .asks) is (c .before .before .before .before .before .before .before .before .before .before .before .if2 .left) (c .before .before .before .before .before .before .read-numbers .ensures)), record { asks = sort-parts-ask (s .pre .1 .asks) is (c .before .before .before .before .before .before .before .before .before .before .before .if2 .left) (c .before .before .before .before .before .before .read-numbers .ensures); known = s .pre .1 .known })
+    let is = c₃ .entry .ensures n (s .pre .1 .asks .ready .good .stored) (s .pre .1 .asks .known) in
+    (omega (arith, s .pre .0, sort-falls (s .pre .1 .asks) is (c₂ .if2 .left) (c₁ .read-numbers .ensures)), record { asks = sort-parts-ask (s .pre .1 .asks) is (c₂ .if2 .left) (c₁ .read-numbers .ensures); known = s .pre .1 .known })
 
 apply-sort-enum-known-done : (t : ℕ) → apply-sort-lts.Need-enum-known-done (apply-sort-env t) (apply-sort-at t) apply-sort.Post
 apply-sort-enum-known-done t c = search needs
 
 apply-sort-slice-aggregate-rebuild : (t : ℕ) → apply-sort-lts.Need-slice-aggregate-rebuild (apply-sort-env t) (apply-sort-at t) apply-sort.Post
-apply-sort-slice-aggregate-rebuild t c = sym (c .before .before .before .before .before .before .before .before .before .before .before .before .before .before .before .before .apply-parts .kept .1 .1 .1 .1 .0 ∙ c .before .before .before .before .before .before .before .before .before .before .before .before .before .before .before .before .before .before .before .before .before .before .before .read-numbers .ensures .long)
+apply-sort-slice-aggregate-rebuild t c =
+    let c₁ = c .before .before .before .before .before .before .before .before .before .before .before .before .before .before .before .before in let c₂ = c₁ .before .before .before .before .before .before .before in
+    sym (c₁ .apply-parts .kept .1 .1 .1 .1 .0 ∙ c₂ .read-numbers .ensures .long)
 
 apply-sort-rebuild-requires : (t : ℕ) → apply-sort-lts.Need-rebuild-requires (apply-sort-env t) (apply-sort-at t) apply-sort.Post
 apply-sort-rebuild-requires t c κs =
-    let s = c .before .before .before .before .before .before .before .before .before .before .before .before .before .before .before .before .before .before .before .before .before .before .before .before .before .before .before .before .before .before .before .before .before .before .before .before .before .before .before .before .before in
+    let c₁ = c .before .before .before .before .before in let c₂ = c₁ .before .before .before .before .before .before .before .before .before .before .before in let c₃ = c₂ .before .before .before .before .before .before .before in let c₄ = c₃ .before .before .before .before .before in
+    let c₅ = c₄ .before .before in let s = c₅ .before .before .before .before .before .before .before .before .before .before .before in
     let a = s .args in
     let b = a .records .now in let p = a .places .now in
     let n = a .count in let u = a .used in
     let l = a .images .now in
-    let e = c .before .before .before .before .before .before .before .before .before .before .before .before .before .before .before .before .before .before .before .before .before .before .before .before .before .before .before .before .before .before .entry .result in
-    let is = c .before .before .before .before .before .before .before .before .before .before .before .before .before .before .before .before .before .before .before .before .before .before .before .before .before .before .before .before .before .before .entry .ensures n (s .pre .1 .asks .ready .good .stored) (s .pre .1 .asks .known) in
-    let o = held (c .before .before .before .before .before .before .before .before .before .before .before .before .before .before .before .before .before .before .before .before .before .before .before .read-numbers .last .1 .1 .1 .0) (e .count) in
-    let d = c .before .before .before .before .before .before .before .before .before .before .before .before .before .before .before .before .apply-parts .last in
+    let e = c₅ .entry .result in
+    let is = c₅ .entry .ensures n (s .pre .1 .asks .ready .good .stored) (s .pre .1 .asks .known) in
+    let o = held (c₃ .read-numbers .last .1 .1 .1 .0) (e .count) in
+    let d = c₂ .apply-parts .last in
     let r = held (d .1 .1 .1 .1 .0) (e .count) in
-    let w = subst (KnownAllAre b p n u o l (d .0) (d .1 .0) (d .1 .1 .0) (d .1 .1 .1 .0) r) (c .before .before .before .before .before .done .given .1) (c .before .before .before .before .before .before .before .before .before .before .before .before .before .before .before .before .apply-parts .ensures) in
-    sort-rebuild (s .pre .1 .asks) is (c .before .before .before .before .before .before .before .before .before .before .before .before .before .before .before .before .before .before .before .before .before .before .before .before .before .before .before .before .if2 .left) (c .before .before .before .before .before .before .before .before .before .before .before .before .before .before .before .before .before .before .before .before .before .before .before .read-numbers .ensures) (w .made)
+    let w = subst (KnownAllAre b p n u o l (d .0) (d .1 .0) (d .1 .1 .0) (d .1 .1 .1 .0) r) (c₁ .done .given .1) (c₂ .apply-parts .ensures) in
+    sort-rebuild (s .pre .1 .asks) is (c₄ .if2 .left) (c₃ .read-numbers .ensures) (w .made)
 
 apply-sort-enum-known-made : (t : ℕ) → apply-sort-lts.Need-enum-known-made (apply-sort-env t) (apply-sort-at t) apply-sort.Post
 apply-sort-enum-known-made t c = search needs
 
 apply-sort-add-remember : (t : ℕ) → apply-sort-lts.Need-add-remember (apply-sort-env t) (apply-sort-at t) apply-sort.Post
 apply-sort-add-remember t c =
-    let s = c .before .before .before .before .before .before .before .before .before .before .before .before .before .before .before .before .before .before .before .before .before .before .before .before .before .before .before .before .before .before .before .before .before .before .before .before .before .before .before .before .before .before .before .before .before .before .before .before .before .before .before .before in
+    let c₁ = c .before .before .before .before .before .before .before .before .before .before in let c₂ = c₁ .before .before .before .before .before .before in let c₃ = c₂ .before .before .before .before .before .before .before .before .before .before .before in
+    let s = c₃ .before .before .before .before .before .before .before .before .before .before .before .before .before .before .before .before .before .before .before .before .before .before .before .before .before in
     let a = s .args in
     let l = a .images .now in
     let k = a .k in
-    let d = c .before .before .before .before .before .before .before .before .before .before .before .before .before .before .before .before .before .before .before .before .before .before .before .before .before .before .before .apply-parts .last in
-    let f = c .before .before .before .before .before .before .before .before .before .before .before .before .before .before .before .before .done .given .0 in
-    let y = c .before .before .before .before .before .before .before .before .before .before .rebuild .last in
+    let d = c₃ .apply-parts .last in
+    let f = c₂ .done .given .0 in
+    let y = c₁ .rebuild .last in
     let v = c .before .before .made .given .0 in
-    let z = subst (MadeIs (d .0) (d .1 .0) (d .1 .1 .0) (f .0) (f .1 .0) (answerAt (d .0) (d .1 .0) (f .0) l k) (y .0) (y .1 .0) (y .1 .1 .0)) (c .before .before .made .given .1) (c .before .before .before .before .before .before .before .before .before .before .rebuild .ensures) in
+    let z = subst (MadeIs (d .0) (d .1 .0) (d .1 .1 .0) (f .0) (f .1 .0) (answerAt (d .0) (d .1 .0) (f .0) l k) (y .0) (y .1 .0) (y .1 .1 .0)) (c .before .before .made .given .1) (c₁ .rebuild .ensures) in
     omega (arith, made-known (d .0) (d .1 .0) (f .0) (f .1 .0) (answerAt (d .0) (d .1 .0) (f .0) l k) (y .0) (y .1 .0) (y .1 .1 .0) (v .0) (v .1 .0) (v .1 .1 .0) z, z .good .indexed .count)
 
 apply-sort-remember-requires : (t : ℕ) → apply-sort-lts.Need-remember-requires (apply-sort-env t) (apply-sort-at t) apply-sort.Post
 apply-sort-remember-requires t c κs =
-    let s = c .before .before .before .before .before .before .before .before .before .before .before .before .before .before .before .before .before .before .before .before .before .before .before .before .before .before .before .before .before .before .before .before .before .before .before .before .before .before .before .before .before .before .before .before .before .before .before .before .before .before .before .before in
+    let c₁ = c .before .before .before .before .before .before .before .before .before .before in let c₂ = c₁ .before .before .before .before .before .before in let c₃ = c₂ .before .before .before .before .before .before .before .before .before .before .before in
+    let s = c₃ .before .before .before .before .before .before .before .before .before .before .before .before .before .before .before .before .before .before .before .before .before .before .before .before .before in
     let a = s .args in
     let l = a .images .now in
     let k = a .k in
-    let d = c .before .before .before .before .before .before .before .before .before .before .before .before .before .before .before .before .before .before .before .before .before .before .before .before .before .before .before .apply-parts .last in
-    let f = c .before .before .before .before .before .before .before .before .before .before .before .before .before .before .before .before .done .given .0 in
-    let y = c .before .before .before .before .before .before .before .before .before .before .rebuild .last in
+    let d = c₃ .apply-parts .last in
+    let f = c₂ .done .given .0 in
+    let y = c₁ .rebuild .last in
     let v = c .before .before .made .given .0 in
-    let z = subst (MadeIs (d .0) (d .1 .0) (d .1 .1 .0) (f .0) (f .1 .0) (answerAt (d .0) (d .1 .0) (f .0) l k) (y .0) (y .1 .0) (y .1 .1 .0)) (c .before .before .made .given .1) (c .before .before .before .before .before .before .before .before .before .before .rebuild .ensures) in
+    let z = subst (MadeIs (d .0) (d .1 .0) (d .1 .1 .0) (f .0) (f .1 .0) (answerAt (d .0) (d .1 .0) (f .0) l k) (y .0) (y .1 .0) (y .1 .1 .0)) (c .before .before .made .given .1) (c₁ .rebuild .ensures) in
     omega (arith, made-known (d .0) (d .1 .0) (f .0) (f .1 .0) (answerAt (d .0) (d .1 .0) (f .0) l k) (y .0) (y .1 .0) (y .1 .1 .0) (v .0) (v .1 .0) (v .1 .1 .0) z, z .good .indexed .count)
 
 apply-sort-enum-told : (t : ℕ) → apply-sort-lts.Need-enum-told (apply-sort-env t) (apply-sort-at t) apply-sort.Post
@@ -374,36 +387,43 @@ apply-sort-enum-known-done-2 : (t : ℕ) → apply-sort-lts.Need-enum-known-done
 apply-sort-enum-known-done-2 t c = search needs
 
 apply-sort-same-length-8 : (t : ℕ) → apply-sort-lts.Need-same-length-8 (apply-sort-env t) (apply-sort-at t) apply-sort.Post
-apply-sort-same-length-8 t c = c .before .before .before .before .before .before .before .before .before .before .before .before .before .rebuild .kept .0 ∙ c .before .before .before .before .before .before .before .before .before .before .before .before .before .before .before .before .before .before .before .before .before .before .before .before .before .before .before .before .before .before .apply-parts .kept .0
+apply-sort-same-length-8 t c =
+    let c₁ = c .before .before .before .before .before .before .before .before .before .before .before .before .before in let c₂ = c₁ .before .before .before .before .before .before .before .before .before .before .before .before .before .before .before .before .before in
+    c₁ .rebuild .kept .0 ∙ c₂ .apply-parts .kept .0
 
 apply-sort-same-length-9 : (t : ℕ) → apply-sort-lts.Need-same-length-9 (apply-sort-env t) (apply-sort-at t) apply-sort.Post
-apply-sort-same-length-9 t c = c .before .before .before .before .before .before .before .before .before .before .before .before .before .rebuild .kept .1 .0 ∙ c .before .before .before .before .before .before .before .before .before .before .before .before .before .before .before .before .before .before .before .before .before .before .before .before .before .before .before .before .before .before .apply-parts .kept .1 .0
+apply-sort-same-length-9 t c =
+    let c₁ = c .before .before .before .before .before .before .before .before .before .before .before .before .before in let c₂ = c₁ .before .before .before .before .before .before .before .before .before .before .before .before .before .before .before .before .before in
+    c₁ .rebuild .kept .1 .0 ∙ c₂ .apply-parts .kept .1 .0
 
 apply-sort-same-length-10 : (t : ℕ) → apply-sort-lts.Need-same-length-10 (apply-sort-env t) (apply-sort-at t) apply-sort.Post
-apply-sort-same-length-10 t c = c .before .before .before .before .before .before .before .before .before .before .before .before .before .rebuild .kept .1 .1 .0 ∙ c .before .before .before .before .before .before .before .before .before .before .before .before .before .before .before .before .before .before .before .before .before .before .before .before .before .before .before .before .before .before .apply-parts .kept .1 .1 .0
+apply-sort-same-length-10 t c =
+    let c₁ = c .before .before .before .before .before .before .before .before .before .before .before .before .before in let c₂ = c₁ .before .before .before .before .before .before .before .before .before .before .before .before .before .before .before .before .before in
+    c₁ .rebuild .kept .1 .1 .0 ∙ c₂ .apply-parts .kept .1 .1 .0
 
 apply-sort-same-length-11 : (t : ℕ) → apply-sort-lts.Need-same-length-11 (apply-sort-env t) (apply-sort-at t) apply-sort.Post
 apply-sort-same-length-11 t c = c .before .before .remember .kept .0 ∙ c .before .before .before .before .before .before .before .before .before .before .before .before .before .before .before .before .before .before .before .before .before .before .before .before .before .before .before .before .before .before .apply-parts .kept .1 .1 .1 .0
 
 apply-sort-returns-4 : (t : ℕ) → apply-sort-lts.Need-returns-4 (apply-sort-env t) (apply-sort-at t) apply-sort.Post
 apply-sort-returns-4 t c =
-    let s = c .before .before .before .before .before .before .before .before .before .before .before .before .before .before .before .before .before .before .before .before .before .before .before .before .before .before .before .before .before .before .before .before .before .before .before .before .before .before .before .before .before .before .before .before .before .before .before .before .before .before .before .before .before .before .before in
+    let c₁ = c .before .before .before .before .before in let c₂ = c₁ .before .before .before .before .before .before .before .before in let c₃ = c₂ .before .before .before .before .before .before in let c₄ = c₃ .before .before .before .before .before .before .before .before .before .before .before in
+    let c₅ = c₄ .before .before .before .before .before .before .before in let c₆ = c₅ .before .before .before .before .before in let c₇ = c₆ .before .before in let s = c₇ .before .before .before .before .before .before .before .before .before .before .before in
     let a = s .args in
     let b = a .records .now in let p = a .places .now in
     let n = a .count in let u = a .used in
     let l = a .images .now in
     let k = a .k in
-    let e = c .before .before .before .before .before .before .before .before .before .before .before .before .before .before .before .before .before .before .before .before .before .before .before .before .before .before .before .before .before .before .before .before .before .before .before .before .before .before .before .before .before .before .before .before .entry .result in
-    let is = c .before .before .before .before .before .before .before .before .before .before .before .before .before .before .before .before .before .before .before .before .before .before .before .before .before .before .before .before .before .before .before .before .before .before .before .before .before .before .before .before .before .before .before .before .entry .ensures n (s .pre .1 .asks .ready .good .stored) (s .pre .1 .asks .known) in
-    let o = held (c .before .before .before .before .before .before .before .before .before .before .before .before .before .before .before .before .before .before .before .before .before .before .before .before .before .before .before .before .before .before .before .before .before .before .before .before .before .read-numbers .last .1 .1 .1 .0) (e .count) in
-    let d = c .before .before .before .before .before .before .before .before .before .before .before .before .before .before .before .before .before .before .before .before .before .before .before .before .before .before .before .before .before .before .apply-parts .last in
+    let e = c₇ .entry .result in
+    let is = c₇ .entry .ensures n (s .pre .1 .asks .ready .good .stored) (s .pre .1 .asks .known) in
+    let o = held (c₅ .read-numbers .last .1 .1 .1 .0) (e .count) in
+    let d = c₄ .apply-parts .last in
     let r = held (d .1 .1 .1 .1 .0) (e .count) in
-    let f = c .before .before .before .before .before .before .before .before .before .before .before .before .before .before .before .before .before .before .before .done .given .0 in
-    let w = subst (KnownAllAre b p n u o l (d .0) (d .1 .0) (d .1 .1 .0) (d .1 .1 .1 .0) r) (c .before .before .before .before .before .before .before .before .before .before .before .before .before .before .before .before .before .before .before .done .given .1) (c .before .before .before .before .before .before .before .before .before .before .before .before .before .before .before .before .before .before .before .before .before .before .before .before .before .before .before .before .before .before .apply-parts .ensures) in
-    let y = c .before .before .before .before .before .before .before .before .before .before .before .before .before .rebuild .last in
-    let v = c .before .before .before .before .before .made .given .0 in
-    let z = subst (MadeIs (d .0) (d .1 .0) (d .1 .1 .0) (f .0) (f .1 .0) (answerAt (d .0) (d .1 .0) (f .0) l k) (y .0) (y .1 .0) (y .1 .1 .0)) (c .before .before .before .before .before .made .given .1) (c .before .before .before .before .before .before .before .before .before .before .before .before .before .rebuild .ensures) in
-    record { made = sort-made (s .pre .1 .asks) is (c .before .before .before .before .before .before .before .before .before .before .before .before .before .before .before .before .before .before .before .before .before .before .before .before .before .before .before .before .before .before .before .before .before .before .before .before .before .before .before .before .before .before .if2 .left) (c .before .before .before .before .before .before .before .before .before .before .before .before .before .before .before .before .before .before .before .before .before .before .before .before .before .before .before .before .before .before .before .before .before .before .before .before .before .read-numbers .ensures) (w .made) z; known = subst (Known (y .0) (y .1 .0) (v .1 .0) l) (sym (c .before .before .remember .ensures)) (sort-known (s .pre .1 .asks) is (c .before .before .before .before .before .before .before .before .before .before .before .before .before .before .before .before .before .before .before .before .before .before .before .before .before .before .before .before .before .before .before .before .before .before .before .before .before .before .before .before .before .before .if2 .left) (c .before .before .before .before .before .before .before .before .before .before .before .before .before .before .before .before .before .before .before .before .before .before .before .before .before .before .before .before .before .before .before .before .before .before .before .before .before .read-numbers .ensures) (w .made) z (d .1 .1 .1 .0) (w .known)) }
+    let f = c₃ .done .given .0 in
+    let w = subst (KnownAllAre b p n u o l (d .0) (d .1 .0) (d .1 .1 .0) (d .1 .1 .1 .0) r) (c₃ .done .given .1) (c₄ .apply-parts .ensures) in
+    let y = c₂ .rebuild .last in
+    let v = c₁ .made .given .0 in
+    let z = subst (MadeIs (d .0) (d .1 .0) (d .1 .1 .0) (f .0) (f .1 .0) (answerAt (d .0) (d .1 .0) (f .0) l k) (y .0) (y .1 .0) (y .1 .1 .0)) (c₁ .made .given .1) (c₂ .rebuild .ensures) in
+    record { made = sort-made (s .pre .1 .asks) is (c₆ .if2 .left) (c₅ .read-numbers .ensures) (w .made) z; known = subst (Known (y .0) (y .1 .0) (v .1 .0) l) (sym (c .before .before .remember .ensures)) (sort-known (s .pre .1 .asks) is (c₆ .if2 .left) (c₅ .read-numbers .ensures) (w .made) z (d .1 .1 .1 .0) (w .known)) }
 
 apply-sort-same-length-12 : (t : ℕ) → apply-sort-lts.Need-same-length-12 (apply-sort-env t) (apply-sort-at t) apply-sort.Post
 apply-sort-same-length-12 t c = c .before .before .before .before .before .before .before .before .rebuild .kept .0 ∙ c .before .before .before .before .before .before .before .before .before .before .before .before .before .before .before .before .before .before .before .before .before .before .before .before .before .apply-parts .kept .0
@@ -419,21 +439,22 @@ apply-sort-same-length-15 t c = c .before .before .before .before .before .befor
 
 apply-sort-returns-5 : (t : ℕ) → apply-sort-lts.Need-returns-5 (apply-sort-env t) (apply-sort-at t) apply-sort.Post
 apply-sort-returns-5 t c =
-    let s = c .before .before .before .before .before .before .before .before .before .before .before .before .before .before .before .before .before .before .before .before .before .before .before .before .before .before .before .before .before .before .before .before .before .before .before .before .before .before .before .before .before .before .before .before .before .before .before .before .before .before in
+    let c₁ = c .before .before .before .before .before .before .before .before in let c₂ = c₁ .before .before .before .before .before .before in let c₃ = c₂ .before .before .before .before .before .before .before .before .before .before .before in
+    let c₄ = c₃ .before .before .before .before .before .before .before in let c₅ = c₄ .before .before .before .before .before in let c₆ = c₅ .before .before in let s = c₆ .before .before .before .before .before .before .before .before .before .before .before in
     let a = s .args in
     let b = a .records .now in let p = a .places .now in
     let n = a .count in let u = a .used in
     let l = a .images .now in
     let k = a .k in
-    let e = c .before .before .before .before .before .before .before .before .before .before .before .before .before .before .before .before .before .before .before .before .before .before .before .before .before .before .before .before .before .before .before .before .before .before .before .before .before .before .before .entry .result in
-    let is = c .before .before .before .before .before .before .before .before .before .before .before .before .before .before .before .before .before .before .before .before .before .before .before .before .before .before .before .before .before .before .before .before .before .before .before .before .before .before .before .entry .ensures n (s .pre .1 .asks .ready .good .stored) (s .pre .1 .asks .known) in
-    let o = held (c .before .before .before .before .before .before .before .before .before .before .before .before .before .before .before .before .before .before .before .before .before .before .before .before .before .before .before .before .before .before .before .before .read-numbers .last .1 .1 .1 .0) (e .count) in
-    let d = c .before .before .before .before .before .before .before .before .before .before .before .before .before .before .before .before .before .before .before .before .before .before .before .before .before .apply-parts .last in
+    let e = c₆ .entry .result in
+    let is = c₆ .entry .ensures n (s .pre .1 .asks .ready .good .stored) (s .pre .1 .asks .known) in
+    let o = held (c₄ .read-numbers .last .1 .1 .1 .0) (e .count) in
+    let d = c₃ .apply-parts .last in
     let r = held (d .1 .1 .1 .1 .0) (e .count) in
-    let f = c .before .before .before .before .before .before .before .before .before .before .before .before .before .before .done .given .0 in
-    let w = subst (KnownAllAre b p n u o l (d .0) (d .1 .0) (d .1 .1 .0) (d .1 .1 .1 .0) r) (c .before .before .before .before .before .before .before .before .before .before .before .before .before .before .done .given .1) (c .before .before .before .before .before .before .before .before .before .before .before .before .before .before .before .before .before .before .before .before .before .before .before .before .before .apply-parts .ensures) in
-    let y = c .before .before .before .before .before .before .before .before .rebuild .last in
-    sort-full (s .pre .1 .asks) is (c .before .before .before .before .before .before .before .before .before .before .before .before .before .before .before .before .before .before .before .before .before .before .before .before .before .before .before .before .before .before .before .before .before .before .before .before .before .if2 .left) (c .before .before .before .before .before .before .before .before .before .before .before .before .before .before .before .before .before .before .before .before .before .before .before .before .before .before .before .before .before .before .before .before .read-numbers .ensures) (w .made) (y .0) (y .1 .0) (y .1 .1 .0) (subst (MadeIs (d .0) (d .1 .0) (d .1 .1 .0) (f .0) (f .1 .0) (answerAt (d .0) (d .1 .0) (f .0) l k) (y .0) (y .1 .0) (y .1 .1 .0)) (c .enum-told .given .1) (c .before .before .before .before .before .before .before .before .rebuild .ensures))
+    let f = c₂ .done .given .0 in
+    let w = subst (KnownAllAre b p n u o l (d .0) (d .1 .0) (d .1 .1 .0) (d .1 .1 .1 .0) r) (c₂ .done .given .1) (c₃ .apply-parts .ensures) in
+    let y = c₁ .rebuild .last in
+    sort-full (s .pre .1 .asks) is (c₅ .if2 .left) (c₄ .read-numbers .ensures) (w .made) (y .0) (y .1 .0) (y .1 .1 .0) (subst (MadeIs (d .0) (d .1 .0) (d .1 .1 .0) (f .0) (f .1 .0) (answerAt (d .0) (d .1 .0) (f .0) l k) (y .0) (y .1 .0) (y .1 .1 .0)) (c .enum-told .given .1) (c₁ .rebuild .ensures))
 
 apply-sort-same-length-16 : (t : ℕ) → apply-sort-lts.Need-same-length-16 (apply-sort-env t) (apply-sort-at t) apply-sort.Post
 apply-sort-same-length-16 t c = c .before .before .before .before .before .before .before .before .before .before .before .before .apply-parts .kept .0
@@ -449,18 +470,25 @@ apply-sort-same-length-19 t c = c .before .before .before .before .before .befor
 
 apply-sort-returns-6 : (t : ℕ) → apply-sort-lts.Need-returns-6 (apply-sort-env t) (apply-sort-at t) apply-sort.Post
 apply-sort-returns-6 t c =
-    let s = c .before .before .before .before .before .before .before .before .before .before .before .before .before .before .before .before .before .before .before .before .before .before .before .before .before .before .before .before .before .before .before .before .before .before .before .before .before in
+    let c₁ = c .before .before .before .before .before .before .before .before .before .before .before .before in let c₂ = c₁ .before .before .before .before .before .before .before in let c₃ = c₂ .before .before .before .before .before in let c₄ = c₃ .before .before in
+    let s = c₄ .before .before .before .before .before .before .before .before .before .before .before in
     let a = s .args in
     let b = a .records .now in let p = a .places .now in
     let n = a .count in let u = a .used in
     let l = a .images .now in
-    let e = c .before .before .before .before .before .before .before .before .before .before .before .before .before .before .before .before .before .before .before .before .before .before .before .before .before .before .entry .result in
-    let is = c .before .before .before .before .before .before .before .before .before .before .before .before .before .before .before .before .before .before .before .before .before .before .before .before .before .before .entry .ensures n (s .pre .1 .asks .ready .good .stored) (s .pre .1 .asks .known) in
-    let o = held (c .before .before .before .before .before .before .before .before .before .before .before .before .before .before .before .before .before .before .before .read-numbers .last .1 .1 .1 .0) (e .count) in
-    let d = c .before .before .before .before .before .before .before .before .before .before .before .before .apply-parts .last in
+    let e = c₄ .entry .result in
+    let is = c₄ .entry .ensures n (s .pre .1 .asks .ready .good .stored) (s .pre .1 .asks .known) in
+    let o = held (c₂ .read-numbers .last .1 .1 .1 .0) (e .count) in
+    let d = c₁ .apply-parts .last in
     let r = held (d .1 .1 .1 .1 .0) (e .count) in
-    let w = subst (KnownAllAre b p n u o l (d .0) (d .1 .0) (d .1 .1 .0) (d .1 .1 .1 .0) r) (c .before .done2 .given .1) (c .before .before .before .before .before .before .before .before .before .before .before .before .apply-parts .ensures) in
-    sort-stuck (s .pre .1 .asks) is (c .before .before .before .before .before .before .before .before .before .before .before .before .before .before .before .before .before .before .before .before .before .before .before .before .if2 .left) (c .before .before .before .before .before .before .before .before .before .before .before .before .before .before .before .before .before .before .before .read-numbers .ensures) w
+    let w = subst (KnownAllAre b p n u o l (d .0) (d .1 .0) (d .1 .1 .0) (d .1 .1 .1 .0) r) (c .before .done2 .given .1) (c₁ .apply-parts .ensures) in
+    sort-stuck (s .pre .1 .asks) is (c₃ .if2 .left) (c₂ .read-numbers .ensures) w
 
 pub +apply-parts+apply-sort-spec : {M : Type 1} → statement M
-+apply-parts+apply-sort-spec = close μ-apply-parts μ-apply-sort (λ t. apply-parts-lts.spec (apply-parts-env t) (apply-parts-at t) apply-parts.Post apply-parts-Inv-loop apply-parts-μ-loop (apply-parts-loop-holds t) (apply-parts-mul-k t) (apply-parts-slice-read-k t) (apply-parts-cast-k t) (apply-parts-apply-sort-requires t) (apply-parts-enum-known-made t) (apply-parts-cast-parts t) (apply-parts-mul-parts t) (apply-parts-slice-write-parts t) (apply-parts-enum-known-made-2 t) (apply-parts-same-length t) (apply-parts-same-length-2 t) (apply-parts-same-length-3 t) (apply-parts-same-length-4 t) (apply-parts-same-length-5 t) (apply-parts-returns t) (apply-parts-add-j t) (apply-parts-loop-less t) (apply-parts-loop-again t) (apply-parts-same-length-6 t) (apply-parts-same-length-7 t) (apply-parts-same-length-8 t) (apply-parts-same-length-9 t) (apply-parts-same-length-10 t) (apply-parts-returns-2 t)) (λ t. apply-sort-lts.spec (apply-sort-env t) (apply-sort-at t) apply-sort.Post (apply-sort-recall-requires t) (apply-sort-sub-t26 t) (apply-sort-same-length t) (apply-sort-returns t) (apply-sort-entry-requires t) (apply-sort-image-of-requires t) (apply-sort-same-length-2 t) (apply-sort-same-length-3 t) (apply-sort-same-length-4 t) (apply-sort-returns-2 t) (apply-sort-same-length-5 t) (apply-sort-same-length-6 t) (apply-sort-same-length-7 t) (apply-sort-returns-3 t) (apply-sort-slice-aggregate-read-numbers t) (apply-sort-read-numbers-requires t) (apply-sort-slice-aggregate-apply-parts t) (apply-sort-apply-parts-requires t) (apply-sort-enum-known-done t) (apply-sort-slice-aggregate-rebuild t) (apply-sort-rebuild-requires t) (apply-sort-enum-known-made t) (apply-sort-add-remember t) (apply-sort-remember-requires t) (apply-sort-enum-told t) (apply-sort-enum-known-done-2 t) (apply-sort-same-length-8 t) (apply-sort-same-length-9 t) (apply-sort-same-length-10 t) (apply-sort-same-length-11 t) (apply-sort-returns-4 t) (apply-sort-same-length-12 t) (apply-sort-same-length-13 t) (apply-sort-same-length-14 t) (apply-sort-same-length-15 t) (apply-sort-returns-5 t) (apply-sort-same-length-16 t) (apply-sort-same-length-17 t) (apply-sort-same-length-18 t) (apply-sort-same-length-19 t) (apply-sort-returns-6 t))
++apply-parts+apply-sort-spec =
+    close μ-apply-parts μ-apply-sort (λ t. apply-parts-lts.spec (apply-parts-env t) (apply-parts-at t) apply-parts.Post apply-parts-Inv-loop apply-parts-μ-loop (apply-parts-loop-holds t) (apply-parts-mul-k t) (apply-parts-slice-read-k t) (apply-parts-cast-k t) (apply-parts-apply-sort-requires t) (apply-parts-enum-known-made t) (apply-parts-cast-parts t) (apply-parts-mul-parts t)
+    (apply-parts-slice-write-parts t) (apply-parts-enum-known-made-2 t) (apply-parts-same-length t) (apply-parts-same-length-2 t) (apply-parts-same-length-3 t) (apply-parts-same-length-4 t) (apply-parts-same-length-5 t) (apply-parts-returns t) (apply-parts-add-j t) (apply-parts-loop-less t) (apply-parts-loop-again t) (apply-parts-same-length-6 t) (apply-parts-same-length-7 t)
+    (apply-parts-same-length-8 t) (apply-parts-same-length-9 t) (apply-parts-same-length-10 t) (apply-parts-returns-2 t)) (λ t. apply-sort-lts.spec (apply-sort-env t) (apply-sort-at t) apply-sort.Post (apply-sort-recall-requires t) (apply-sort-sub-t26 t) (apply-sort-same-length t) (apply-sort-returns t) (apply-sort-entry-requires t) (apply-sort-image-of-requires t)
+    (apply-sort-same-length-2 t) (apply-sort-same-length-3 t) (apply-sort-same-length-4 t) (apply-sort-returns-2 t) (apply-sort-same-length-5 t) (apply-sort-same-length-6 t) (apply-sort-same-length-7 t) (apply-sort-returns-3 t) (apply-sort-slice-aggregate-read-numbers t) (apply-sort-read-numbers-requires t) (apply-sort-slice-aggregate-apply-parts t) (apply-sort-apply-parts-requires t)
+    (apply-sort-enum-known-done t) (apply-sort-slice-aggregate-rebuild t) (apply-sort-rebuild-requires t) (apply-sort-enum-known-made t) (apply-sort-add-remember t) (apply-sort-remember-requires t) (apply-sort-enum-told t) (apply-sort-enum-known-done-2 t) (apply-sort-same-length-8 t) (apply-sort-same-length-9 t) (apply-sort-same-length-10 t) (apply-sort-same-length-11 t)
+    (apply-sort-returns-4 t) (apply-sort-same-length-12 t) (apply-sort-same-length-13 t) (apply-sort-same-length-14 t) (apply-sort-same-length-15 t) (apply-sort-returns-5 t) (apply-sort-same-length-16 t) (apply-sort-same-length-17 t) (apply-sort-same-length-18 t) (apply-sort-same-length-19 t) (apply-sort-returns-6 t))

@@ -67,12 +67,13 @@ make-requires c κs =
 
 returns-3 : tie.Need-returns-3
 returns-3 c =
-    let s = c .before .before .before .before .before .before .before .before .before .before .before .before .before .before .before .before .before .before .before .before .before .before .before .before .before .before .before in
+    let c₁ = c .before .before .before .before .before .before in let c₂ = c₁ .before .before .before .before .before .before .before in let c₃ = c₂ .before in let c₄ = c₃ .before .before in let c₅ = c₄ .before .before .before in
+    let s = c₅ .before .before .before .before .before .before .before .before in
     let a = s .args in
     let n = a .count in
-    let is = c .before .before .before .before .before .before .before .before .before .before .before .before .before .before .before .before .before .before .before .entry .ensures n (s .pre .ready .good .stored) (s .pre .known) in
-    let d = c .before .before .before .before .before .before .make .last in
-    rebuild-made (s .pre) is (c .before .before .before .before .before .before .before .before .before .before .before .before .before .before .before .before .names-left .ensures) (sym (c .before .before .before .before .before .before .before .before .before .before .before .before .before .before .wrapper-goes .ensures) ∙ c .before .before .before .before .before .before .before .before .before .before .before .before .before .if1 .left) (d .0) (d .1 .0) (d .1 .1 .0) (c .before .before .before .before .before .before .make .result) (c .before .before .before .before .before .before .make .ensures)
+    let is = c₅ .entry .ensures n (s .pre .ready .good .stored) (s .pre .known) in
+    let d = c₁ .make .last in
+    rebuild-made (s .pre) is (c₄ .names-left .ensures) (sym (c₃ .wrapper-goes .ensures) ∙ c₂ .if1 .left) (d .0) (d .1 .0) (d .1 .1 .0) (c₁ .make .result) (c₁ .make .ensures)
 
 pub rebuild-spec : {M : Type 1} → statement M
 rebuild-spec = tie.close (tie.spec entry-requires (λ c. search needs) names-left-requires (λ c κs. search needs) shared-slice-read-body cast-body (λ c. search needs) (λ c. search needs) returns same-numbers-requires (λ c. search needs) (λ c. search needs) returns-2 slice-aggregate-make make-requires (λ c. search needs) (λ c. search needs) (λ c. search needs) returns-3)

@@ -28,4 +28,6 @@ returns-2 : tie.Need-returns-2
 returns-2 c = c .before .before .before .before .before .before .before .before .before .before .before .before .before .before .before .before .rows-past2 .ensures .0
 
 pub rows-all-spec : {M : Type 1} → statement M
-rows-all-spec = tie.close (tie.spec (λ c. search needs) (λ c. search needs) rows-past-requires (λ c. search needs) (λ c. search needs) (λ c. search needs) (λ c. search needs) (λ c. search needs) (λ c. search needs) (λ c. search needs) returns (λ c. search needs) (λ c. search needs) rows-past-requires-2 (λ c. search needs) (λ c. search needs) (λ c. search needs) (λ c. search needs) (λ c. search needs) (λ c. search needs) (λ c. search needs) returns-2)
+rows-all-spec =
+    tie.close (tie.spec (λ c. search needs) (λ c. search needs) rows-past-requires (λ c. search needs) (λ c. search needs) (λ c. search needs) (λ c. search needs) (λ c. search needs) (λ c. search needs) (λ c. search needs) returns (λ c. search needs) (λ c. search needs) rows-past-requires-2 (λ c. search needs) (λ c. search needs) (λ c. search needs) (λ c. search needs)
+    (λ c. search needs) (λ c. search needs) (λ c. search needs) returns-2)

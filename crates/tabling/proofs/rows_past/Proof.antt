@@ -10,7 +10,8 @@ use Rattle.tabling.proofs.rows_past.Statement.{statement}
 use Rattle.tabling.proofs.rows_past.Tie as tie
 
 abbrev Inv-loop : tie.InvT-loop
-Inv-loop records₀ places₀ index₀ count used params₀ images₀ bound₀ sheet table sorts starts terms rows₀ inferences₀ checks₀ n₀ u₀ t₀ records places index params images bound rows inferences checks n u t = (t ≤ terms) × Tabling records₀ places₀ count params₀ images₀ bound₀ sheet table sorts starts rows₀ records places index params images bound rows n u t × Pasts records places n inferences checks × (length inferences ≡ length inferences₀) × (length checks ≡ length checks₀)
+Inv-loop records₀ places₀ index₀ count used params₀ images₀ bound₀ sheet table sorts starts terms rows₀ inferences₀ checks₀ n₀ u₀ t₀ records places index params images bound rows inferences checks n u t =
+    (t ≤ terms) × Tabling records₀ places₀ count params₀ images₀ bound₀ sheet table sorts starts rows₀ records places index params images bound rows n u t × Pasts records places n inferences checks × (length inferences ≡ length inferences₀) × (length checks ≡ length checks₀)
 
 abbrev μ-loop : tie.MeasureT-loop
 μ-loop records₀ places₀ index₀ count used params₀ images₀ bound₀ sheet table sorts starts terms rows₀ inferences₀ checks₀ n₀ u₀ t₀ records places index params images bound rows inferences checks n u t = terms - t
@@ -29,18 +30,22 @@ term-rows-requires c κs =
     (turn-asks h (l .inv .1) (c .before .before .before .before .before .before .before .before .before .loop-test .taken), l .inv .2)
 
 add-t : tie.Need-add-t Inv-loop μ-loop
-add-t c = omega (arith, c .before .before .before .before .before .before .before .before .before .before .before .before .before .before .before .before .before .before .before .before .before .before .before .before .before .before .before .before .loop-test .taken, c .before .before .before .before .before .before .before .before .before .before .before .before .before .before .before .before .before .before .before .before .before .before .before .before .before .before .before .before .before .before .before .before .before .before .before .before .before .before .before .before .before .before .pre .0 .few)
+add-t c =
+    let c₁ = c .before .before .before .before .before .before .before .before .before .before .before .before .before .before .before .before .before .before .before .before .before .before .before .before .before .before .before .before in
+    let c₂ = c₁ .before .before .before .before .before .before .before .before .before .before .before .before .before .before in
+    omega (arith, c₁ .loop-test .taken, c₂ .pre .0 .few)
 
 loop-less : tie.Need-loop-less Inv-loop μ-loop
 loop-less c = omega (arith, c .before .before .before .before .before .before .before .before .before .before .before .before .before .before .before .before .before .before .before .before .before .before .before .before .before .before .before .before .loop-test .taken)
 
 loop-again : tie.Need-loop-again Inv-loop μ-loop
 loop-again c =
-    let s = c .before .before .before .before .before .before .before .before .before .before .before .before .before .before .before .before .before .before .before .before .before .before .before .before .before .before .before .before .before .before .before .before .before .before .before .before .before .before .before .before .before .before in
+    let c₁ = c .before .before .before .before .before .before .before .before .before .before .before .before .before .before .before .before .before .before in let c₂ = c₁ .before .before .before .before .before .before .before .before .before .before in let c₃ = c₂ .before in
+    let s = c₃ .before .before .before .before .before .before .before .before .before .before .before .before .before in
     let h = s .pre .0 in
-    let l = c .before .before .before .before .before .before .before .before .before .before .before .before .before .before .before .before .before .before .before .before .before .before .before .before .before .before .before .before .before .loop in
-    let r = c .before .before .before .before .before .before .before .before .before .before .before .before .before .before .before .before .before .before .term-rows .last in
-    (omega (arith, c .before .before .before .before .before .before .before .before .before .before .before .before .before .before .before .before .before .before .before .before .before .before .before .before .before .before .before .before .loop-test .taken), tabling-step h (l .inv .1) (c .before .before .before .before .before .before .before .before .before .before .before .before .before .before .before .before .before .before .before .before .before .before .before .before .before .before .before .before .loop-test .taken) (r .0) (r .1 .0) (r .1 .1 .0) (r .1 .1 .1 .1 .1 .0) (r .1 .1 .1 .1 .1 .1 .0) (r .1 .1 .1 .1 .1 .1 .1 .0) (r .1 .1 .1 .1 .1 .1 .1 .1 .1 .1 .1 .1 .0) (c .before .before .before .before .before .before .before .before .before .before .before .before .before .before .before .before .before .before .term-rows .result) (c .before .before .before .before .before .before .before .before .before .before .before .before .before .before .before .before .before .before .term-rows .ensures .0), c .before .before .before .before .before .before .before .before .before .before .before .before .before .before .before .before .before .before .term-rows .ensures .1, c .before .before .before .before .before .before .before .before .before .before .before .before .before .before .before .before .before .before .term-rows .kept .1 .1 .1 .1 .1 .1 .1 .1 .1 .1 .1 .1 .1 .1 .0 ∙ l .inv .3, c .before .before .before .before .before .before .before .before .before .before .before .before .before .before .before .before .before .before .term-rows .kept .1 .1 .1 .1 .1 .1 .1 .1 .1 .1 .1 .1 .1 .1 .1 .0 ∙ l .inv .4)
+    let l = c₃ .loop in
+    let w = c₁ .term-rows in let r = w .last in let k = w .kept .1 .1 .1 .1 .1 .1 .1 .1 .1 .1 .1 .1 .1 .1 in
+    (omega (arith, c₂ .loop-test .taken), tabling-step h (l .inv .1) (c₂ .loop-test .taken) (r .0) (r .1 .0) (r .1 .1 .0) (r .1 .1 .1 .1 .1 .0) (r .1 .1 .1 .1 .1 .1 .0) (r .1 .1 .1 .1 .1 .1 .1 .0) (r .1 .1 .1 .1 .1 .1 .1 .1 .1 .1 .1 .1 .0) (w .result) (w .ensures .0), w .ensures .1, k .0 ∙ l .inv .3, k .1 .0 ∙ l .inv .4)
 
 same-length : tie.Need-same-length Inv-loop μ-loop
 same-length c = c .before .loop .inv .1 .long

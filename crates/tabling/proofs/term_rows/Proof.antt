@@ -20,15 +20,16 @@ cast-at c = omega (arith, c .shared-slice-known4 .given (c .before .before .befo
 
 rows-of-requires : tie.Need-rows-of-requires
 rows-of-requires c κs =
-    let s = c .before .before .before .before .before .before .before .before .before .before .before .before .before .before .before .before .before .before .before .before .before .before .before .before .before .before in
+    let c₁ = c .before .before .before .before .before .before .before .before .before .before in let c₂ = c₁ .before .before in let s = c₂ .before .before .before .before .before .before .before .before .before .before .before .before .before .before in
     let h = s .pre .0 in
-    (both-asks h (c .before .before .before .before .before .before .before .before .before .before .read .given .0 .0) (c .before .before .before .before .before .before .before .before .before .before .read .given .0 .1 .0) (sym (c .before .before .before .before .before .before .before .before .before .before .before .before .term .ensures) ∙ c .before .before .before .before .before .before .before .before .before .before .read .given .1), s .pre .1)
+    (both-asks h (c₁ .read .given .0 .0) (c₁ .read .given .0 .1 .0) (sym (c₂ .term .ensures) ∙ c₁ .read .given .1), s .pre .1)
 
 returns : tie.Need-returns
 returns c =
-    let s = c .before .before .before .before .before .before .before .before .before .before .before .before .before .before .before .before .before .before .before .before .before .before .before .before .before .before .before .before .before .before .before .before .before .before .before .before .before .before .before .before .before .before .before .before .before in
+    let c₁ = c .before .before .before .before .before .before .before .before .before .before .before .before .before .before .before .before .before .before in let c₂ = c₁ .before .before .before .before .before .before .before .before .before .before .before in let c₃ = c₂ .before .before in
+    let s = c₃ .before .before .before .before .before .before .before .before .before .before .before .before .before .before in
     let h = s .pre .0 in
-    (turn-is h (c .before .before .before .before .before .before .before .before .before .before .before .before .before .before .before .before .before .before .before .before .before .before .before .before .before .before .before .before .before .read .given .0 .0) (c .before .before .before .before .before .before .before .before .before .before .before .before .before .before .before .before .before .before .before .before .before .before .before .before .before .before .before .before .before .read .given .0 .1 .0) (sym (c .before .before .before .before .before .before .before .before .before .before .before .before .before .before .before .before .before .before .before .before .before .before .before .before .before .before .before .before .before .before .before .term .ensures) ∙ c .before .before .before .before .before .before .before .before .before .before .before .before .before .before .before .before .before .before .before .before .before .before .before .before .before .before .before .before .before .read .given .1) (c .before .before .before .before .before .before .before .before .before .before .before .before .before .before .before .before .before .before .rows-of .ensures .0), c .before .before .before .before .before .before .before .before .before .before .before .before .before .before .before .before .before .before .rows-of .ensures .1)
+    (turn-is h (c₂ .read .given .0 .0) (c₂ .read .given .0 .1 .0) (sym (c₃ .term .ensures) ∙ c₂ .read .given .1) (c₁ .rows-of .ensures .0), c₁ .rows-of .ensures .1)
 
 returns-2 : tie.Need-returns-2
 returns-2 c =

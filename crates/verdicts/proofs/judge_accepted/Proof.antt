@@ -23,12 +23,13 @@ rows-all-requires c κs =
 
 returns-2 : tie.Need-returns-2
 returns-2 c =
-    let w = c .before .before .before .before .before .before .before .before .before .before .before .before .before .before .before .before .before .before .before .before .before .before .before .before .before .before .before .before .before .before .before .before in
+    let c₁ = c .before .before .before .before .before .before .before .before .before .before .before in let c₂ = c₁ .before .before .before .before .before .before .before .before in let c₃ = c₂ .before in
+    let w = c₃ .before .before .before .before .before .before .before .before .before .before .before .before in
     let a = w .args in
     let b = a .records .now in
     let p = a .places .now in
     let k = a .counts in
-    judge-unasked (w .pre) (c .before .before .before .before .before .before .before .before .before .before .before .rows-all .ensures) (none-asked b p (k .count) (k .questions) (c .before .before .before .before .before .before .before .before .before .before .before .before .before .before .before .before .before .before .before .before .uses-names .ensures) (c .before .before .before .before .before .before .before .before .before .before .before .before .before .before .before .before .before .before .before .if1 .left))
+    judge-unasked (w .pre) (c₁ .rows-all .ensures) (none-asked b p (k .count) (k .questions) (c₃ .uses-names .ensures) (c₂ .if1 .left))
 
 pub judge-accepted-spec : {M : Type 1} → statement M
 judge-accepted-spec = tie.close (tie.spec uses-names-requires judge-named-requires (λ c. search needs) (λ c. search needs) (λ c. search needs) (λ c. search needs) (λ c. search needs) returns (λ c. search needs) (λ c. search needs) (λ c. search needs) rows-all-requires (λ c. search needs) (λ c. search needs) (λ c. search needs) (λ c. search needs) returns-2)

@@ -14,16 +14,17 @@ read-sheet-requires c κs = own-tables
 
 judge-accepted-requires : tie.Need-judge-accepted-requires
 judge-accepted-requires c κs =
-    let w = c .before .before .before .before .before .before .before .before .before .before .before .before .before .before .before .before .before .before .before .before .before .before .before .before .before .before .before .before .before .before .before .before .before in
+    let c₁ = c .before .before .before .before .before .before .before .before .before in let c₂ = c₁ .before .before .before .before .before .before .before .before .before .before .before in
+    let w = c₂ .before .before .before .before .before .before .before .before .before .before .before .before .before in
     let a = w .args in
     let s = a .sheet .now in
     let b = a .records .now in
     let p = a .places .now in
     let rw₀ = a .rows .now in
     let an₀ = a .answers .now in
-    let d = c .before .before .before .before .before .before .before .before .before .before .before .before .before .before .before .before .before .before .before .before .read-sheet .last in
-    let f = subst (ReadSheetIs s (lent b p (length rw₀) (length an₀)) (d .1 .0) (d .1 .1 .0) (d .1 .1 .1 .1 .1 .0) (d .1 .1 .1 .1 .1 .1 .0) (d .1 .1 .1 .1 .1 .1 .1 .0) (d .1 .1 .1 .1 .1 .1 .1 .1 .0)) (c .before .before .before .before .before .before .before .before .before .read .given .1) (c .before .before .before .before .before .before .before .before .before .before .before .before .before .before .before .before .before .before .before .before .read-sheet .ensures) in
-    accepted-ask b p (w .pre) f (c .before .before .before .before .before .before .before .before .before .before .before .before .before .before .before .before .before .before .before .before .read-sheet .kept .1 .1 .1 .1 .1 .1 .0) (c .before .before .before .before .before .before .before .before .before .before .before .before .before .before .before .before .before .before .before .before .read-sheet .kept .1 .1 .1 .1 .1 .1 .1 .0) (c .before .before .before .before .before .before .before .before .before .before .before .before .before .before .before .before .before .before .before .before .read-sheet .kept .1 .1 .1 .1 .1 .1 .1 .1 .0)
+    let d = c₂ .read-sheet .last in
+    let f = subst (ReadSheetIs s (lent b p (length rw₀) (length an₀)) (d .1 .0) (d .1 .1 .0) (d .1 .1 .1 .1 .1 .0) (d .1 .1 .1 .1 .1 .1 .0) (d .1 .1 .1 .1 .1 .1 .1 .0) (d .1 .1 .1 .1 .1 .1 .1 .1 .0)) (c₁ .read .given .1) (c₂ .read-sheet .ensures) in
+    accepted-ask b p (w .pre) f (c₂ .read-sheet .kept .1 .1 .1 .1 .1 .1 .0) (c₂ .read-sheet .kept .1 .1 .1 .1 .1 .1 .1 .0) (c₂ .read-sheet .kept .1 .1 .1 .1 .1 .1 .1 .1 .0)
 
 same-length : tie.Need-same-length
 same-length c = (c .before .before .before .before .before .before .before .before .before .judge-accepted .kept .1 .0) ∙ c .before .before .before .before .before .before .before .before .before .before .before .before .before .before .before .before .before .before .before .before .before .before .before .before .before .before .before .before .before .before .read-sheet .kept .1 .0
@@ -39,14 +40,15 @@ same-length-4 c = c .before .before .before .before .before .before .before .bef
 
 returns : tie.Need-returns
 returns c =
-    let w = c .before .before .before .before .before .before .before .before .before .before .before .before .before .before .before .before .before .before .before .before .before .before .before .before .before .before .before .before .before .before .before .before .before .before .before .before .before .before .before .before .before .before .before in
+    let c₁ = c .before .before .before .before .before .before .before .before .before in let c₂ = c₁ .before .before .before .before .before .before .before .before .before .before .before .before .before .before .before .before .before .before .before .before .before in
+    let w = c₂ .before .before .before .before .before .before .before .before .before .before .before .before .before in
     let a = w .args in
     let b = a .records .now in
     let p = a .places .now in
     let rw₀ = a .rows .now in
     let an₀ = a .answers .now in
-    let d = c .before .before .before .before .before .before .before .before .before .before .before .before .before .before .before .before .before .before .before .before .before .before .before .before .before .before .before .before .before .before .read-sheet .last in
-    judge-over b p rw₀ an₀ (d .1 .0) (d .1 .1 .0) rw₀ an₀ (c .before .before .before .before .before .before .before .before .before .before .before .before .before .before .before .before .before .before .before .before .before .before .before .before .before .before .before .before .before .before .read-sheet .kept .1 .0) (c .before .before .before .before .before .before .before .before .before .before .before .before .before .before .before .before .before .before .before .before .before .before .before .before .before .before .before .before .before .before .read-sheet .kept .1 .1 .0) refl refl (c .before .before .before .before .before .before .before .before .before .judge-accepted .ensures)
+    let d = c₂ .read-sheet .last in
+    judge-over b p rw₀ an₀ (d .1 .0) (d .1 .1 .0) rw₀ an₀ (c₂ .read-sheet .kept .1 .0) (c₂ .read-sheet .kept .1 .1 .0) refl refl (c₁ .judge-accepted .ensures)
 
 same-length-5 : tie.Need-same-length-5
 same-length-5 c = (c .before .before .before .before .before .before .zero-bytes .kept .0) ∙ c .before .before .before .before .before .before .before .before .before .before .before .before .before .before .before .before .before .before .before .before .read-sheet .kept .1 .0
@@ -56,16 +58,19 @@ same-length-6 c = (c .before .before .zero-words .kept .0) ∙ c .before .before
 
 returns-2 : tie.Need-returns-2
 returns-2 c =
-    let w = c .before .before .before .before .before .before .before .before .before .before .before .before .before .before .before .before .before .before .before .before .before .before .before .before .before .before .before .before .before .before .before .before .before in
+    let c₁ = c .before .before .before .before .before .before in let c₂ = c₁ .before .before .before in let c₃ = c₂ .before .before .before .before .before .before .before .before .before .before .before in
+    let w = c₃ .before .before .before .before .before .before .before .before .before .before .before .before .before in
     let a = w .args in
     let s = a .sheet .now in
     let b = a .records .now in
     let p = a .places .now in
     let rw₀ = a .rows .now in
     let an₀ = a .answers .now in
-    let d = c .before .before .before .before .before .before .before .before .before .before .before .before .before .before .before .before .before .before .before .before .read-sheet .last in
-    let f = subst (ReadSheetIs s (lent b p (length rw₀) (length an₀)) (d .1 .0) (d .1 .1 .0) (d .1 .1 .1 .1 .1 .0) (d .1 .1 .1 .1 .1 .1 .0) (d .1 .1 .1 .1 .1 .1 .1 .0) (d .1 .1 .1 .1 .1 .1 .1 .1 .0)) (c .before .before .before .before .before .before .before .before .before .read2 .given .1) (c .before .before .before .before .before .before .before .before .before .before .before .before .before .before .before .before .before .before .before .before .read-sheet .ensures) in
-    refused-is s b p (w .pre) (c .before .before .before .before .before .before .before .before .before .read2 .given .0 .0) (d .1 .0) (d .1 .1 .0) f (c .before .before .before .before .before .before .zero-bytes .ensures) (c .before .before .zero-words .ensures)
+    let d = c₃ .read-sheet .last in
+    let f = subst (ReadSheetIs s (lent b p (length rw₀) (length an₀)) (d .1 .0) (d .1 .1 .0) (d .1 .1 .1 .1 .1 .0) (d .1 .1 .1 .1 .1 .1 .0) (d .1 .1 .1 .1 .1 .1 .1 .0) (d .1 .1 .1 .1 .1 .1 .1 .1 .0)) (c₂ .read2 .given .1) (c₃ .read-sheet .ensures) in
+    refused-is s b p (w .pre) (c₂ .read2 .given .0 .0) (d .1 .0) (d .1 .1 .0) f (c₁ .zero-bytes .ensures) (c .before .before .zero-words .ensures)
 
 pub judge-cleared-spec : {M : Type 1} → statement M
-judge-cleared-spec = tie.close (tie.spec (λ c. search needs) (λ c. search needs) (λ c. search needs) (λ c. search needs) (λ c. search needs) read-sheet-requires (λ c. search needs) (λ c. search needs) (λ c. search needs) (λ c. search needs) (λ c. search needs) judge-accepted-requires (λ c. search needs) (λ c κs. search needs) (λ c κs. search needs) same-length same-length-2 same-length-3 same-length-4 returns same-length-5 same-length-6 returns-2)
+judge-cleared-spec =
+    tie.close (tie.spec (λ c. search needs) (λ c. search needs) (λ c. search needs) (λ c. search needs) (λ c. search needs) read-sheet-requires (λ c. search needs) (λ c. search needs) (λ c. search needs) (λ c. search needs) (λ c. search needs) judge-accepted-requires (λ c. search needs) (λ c κs. search needs) (λ c κs. search needs) same-length same-length-2 same-length-3
+    same-length-4 returns same-length-5 same-length-6 returns-2)

@@ -64,19 +64,20 @@ same-length-8 c = c .before .before .before .before .before .before .before .bef
 
 returns-2 : tie.Need-returns-2
 returns-2 c =
-    let s = c .before .before .before .before .before .before .before .before .before .before .before .before .before .before .before .before .before .before .before .before .before .before .before .before .before .before .before .before .before .before .before .before .before .before .before .before .before .before .before .before .before .before .before .before .before in
+    let c₁ = c .before .before .before .before .before .before .before .before in let c₂ = c₁ .before .before .before .before .before .before in let c₃ = c₂ .before .before .before .before .before .before .before .before .before .before in
+    let c₄ = c₃ .before .before .before .before .before .before .before .before in let s = c₄ .before .before .before .before .before .before .before .before .before .before .before .before .before in
     let a = s .args in
     let b = a .records .now in
     let p = a .places .now in
     let n = a .count in
     let u = a .used in
     let l = a .images .now in
-    let t = c .before .before .before .before .before .before .before .before .before .before .before .before .before .before .before .before .before .before .before .before .before .before .before .before .before .before .before .before .before .before .before .before .order-of in
+    let t = c₄ .order-of in
     let o = held (t .last .1 .1 .1 .0) (t .result) in
-    let d = c .before .before .before .before .before .before .before .before .before .before .before .before .before .before .before .before .before .before .before .before .before .before .before .before .apply-order .last in
-    let w = subst (InOrderAre b p n u o l (d .0) (d .1 .0) (d .1 .1 .0) (d .1 .1 .1 .0)) (c .before .before .before .before .before .before .before .before .before .before .before .before .before .before .done .given .1) (c .before .before .before .before .before .before .before .before .before .before .before .before .before .before .before .before .before .before .before .before .before .before .before .before .apply-order .ensures) in
-    let e = c .before .before .before .before .before .before .before .before .apply-sort2 .last in
-    deep-is (s .pre .asks) (t .ensures) w (e .0) (e .1 .0) (e .1 .1 .0) (e .1 .1 .1 .0) (c .before .before .before .before .before .before .before .before .apply-sort2 .result) (c .before .before .before .before .before .before .before .before .apply-sort2 .ensures)
+    let d = c₃ .apply-order .last in
+    let w = subst (InOrderAre b p n u o l (d .0) (d .1 .0) (d .1 .1 .0) (d .1 .1 .1 .0)) (c₂ .done .given .1) (c₃ .apply-order .ensures) in
+    let e = c₁ .apply-sort2 .last in
+    deep-is (s .pre .asks) (t .ensures) w (e .0) (e .1 .0) (e .1 .1 .0) (e .1 .1 .1 .0) (c₁ .apply-sort2 .result) (c₁ .apply-sort2 .ensures)
 
 returns-3 : tie.Need-returns-3
 returns-3 c =
@@ -94,4 +95,6 @@ returns-3 c =
     deep-stuck (s .pre .asks) (t .ensures) w
 
 pub apply-deep-spec : {M : Type 1} → statement M
-apply-deep-spec = tie.close (tie.spec size-at-requires apply-sort-requires (λ c. search needs) (λ c. search needs) (λ c. search needs) (λ c. search needs) returns (λ c. search needs) (λ c. search needs) order-of-requires slice-aggregate-apply-order apply-order-requires (λ c. search needs) apply-sort-requires-2 (λ c. search needs) same-length-5 same-length-6 same-length-7 same-length-8 returns-2 (λ c. search needs) (λ c. search needs) (λ c. search needs) (λ c. search needs) returns-3)
+apply-deep-spec =
+    tie.close (tie.spec size-at-requires apply-sort-requires (λ c. search needs) (λ c. search needs) (λ c. search needs) (λ c. search needs) returns (λ c. search needs) (λ c. search needs) order-of-requires slice-aggregate-apply-order apply-order-requires (λ c. search needs) apply-sort-requires-2 (λ c. search needs) same-length-5 same-length-6 same-length-7 same-length-8
+    returns-2 (λ c. search needs) (λ c. search needs) (λ c. search needs) (λ c. search needs) returns-3)

@@ -70,10 +70,14 @@ cast-parts c =
     omega (arith, parts-number b p ix n u o l (s .pre .asks) (i .records) (i .places) (i .index) (i .parts) (i .n) (i .u) (i .j) (i .inv .inv) (c .before .before .before .before .before .before .before .before .before .before .before .before .before .before .before .before .before .loop-test .taken) (d .0) (d .1 .0) (d .1 .1 .0) (v .0) (v .1 .0) (v .1 .1 .0) (w .made))
 
 mul-parts : tie.Need-mul-parts Inv-loop μ-loop
-mul-parts c = omega (arith, c .before .before .before .before .before .before .before .before .before .before .before .before .before .before .before .before .before .loop-test .taken, c .before .before .before .before .before .before .before .before .before .before .before .before .before .before .before .before .before .before .before .before .before .before .before .before .before .pre .asks .has .few)
+mul-parts c =
+    let c₁ = c .before .before .before .before .before .before .before .before .before .before .before .before .before .before .before .before .before in let c₂ = c₁ .before .before .before .before .before .before .before .before in
+    omega (arith, c₁ .loop-test .taken, c₂ .pre .asks .has .few)
 
 slice-write-parts : tie.Need-slice-write-parts Inv-loop μ-loop
-slice-write-parts c = omega (arith, c .before .before .before .before .before .before .before .before .before .before .before .before .before .before .before .before .before .loop-test .taken, c .before .before .before .before .before .before .before .before .before .before .before .before .before .before .before .before .before .before .before .before .before .before .before .before .before .pre .asks .has .few, c .before .before .before .before .before .before .before .before .before .before .before .before .before .before .before .before .before .before .loop .inv .inv .long)
+slice-write-parts c =
+    let c₁ = c .before .before .before .before .before .before .before .before .before .before .before .before .before .before .before .before .before in let c₂ = c₁ .before in let c₃ = c₂ .before .before .before .before .before .before .before in
+    omega (arith, c₁ .loop-test .taken, c₃ .pre .asks .has .few, c₂ .loop .inv .inv .long)
 
 same-length : tie.Need-same-length Inv-loop μ-loop
 same-length c = let i = c .before .before .before .before .before .before .before .before .before .before .before .before .before .before .before .before .before .before .loop in c .before .before .before .before .before .before .before .before .before .before .before .apply-deep .kept .0 ∙ i .inv .inv .kept .long
@@ -82,13 +86,17 @@ same-length-2 : tie.Need-same-length-2 Inv-loop μ-loop
 same-length-2 c = let i = c .before .before .before .before .before .before .before .before .before .before .before .before .before .before .before .before .before .before .loop in c .before .before .before .before .before .before .before .before .before .before .before .apply-deep .kept .1 .0 ∙ i .inv .inv .kept .wide
 
 same-length-3 : tie.Need-same-length-3 Inv-loop μ-loop
-same-length-3 c = let i = c .before .before .before .before .before .before .before .before .before .before .before .before .before .before .before .before .before .before .loop in c .before .before .before .before .before .before .before .before .before .before .before .apply-deep .kept .1 .1 .0 ∙ i .inv .inv .good .indexed .table ∙ sym (c .before .before .before .before .before .before .before .before .before .before .before .before .before .before .before .before .before .before .before .before .before .before .before .before .before .pre .asks .ready .good .indexed .table)
+same-length-3 c =
+    let c₁ = c .before .before .before .before .before .before .before .before .before .before .before in let c₂ = c₁ .before .before .before .before .before .before .before in let c₃ = c₂ .before .before .before .before .before .before .before in
+    let i = c₂ .loop in c₁ .apply-deep .kept .1 .1 .0 ∙ i .inv .inv .good .indexed .table ∙ sym (c₃ .pre .asks .ready .good .indexed .table)
 
 same-length-4 : tie.Need-same-length-4 Inv-loop μ-loop
 same-length-4 c = let i = c .before .before .before .before .before .before .before .before .before .before .before .before .before .before .before .before .before .before .loop in c .before .before .before .before .before .before .before .before .before .before .before .apply-deep .kept .1 .1 .1 .0 ∙ i .inv .lasts
 
 same-length-5 : tie.Need-same-length-5 Inv-loop μ-loop
-same-length-5 c = c .before .before .before .before .before .before .before .before .before .before .before .before .before .before .before .before .before .before .loop .inv .inv .long ∙ sym (c .before .before .before .before .before .before .before .before .before .before .before .before .before .before .before .before .before .before .before .before .before .before .before .before .before .pre .asks .has .long)
+same-length-5 c =
+    let c₁ = c .before .before .before .before .before .before .before .before .before .before .before .before .before .before .before .before .before .before in let c₂ = c₁ .before .before .before .before .before .before .before in
+    c₁ .loop .inv .inv .long ∙ sym (c₂ .pre .asks .has .long)
 
 returns : tie.Need-returns Inv-loop μ-loop
 returns c =
@@ -108,14 +116,14 @@ returns c =
     parts-halted b p ix n u o l (s .pre .asks) (i .records) (i .places) (i .index) (i .parts) (i .n) (i .u) (i .j) (i .inv .inv) (c .before .before .before .before .before .before .before .before .before .before .before .before .before .before .before .before .before .loop-test .taken) (d .0) (d .1 .0) (d .1 .1 .0) (v .0) (v .1 .0) w
 
 add-j : tie.Need-add-j Inv-loop μ-loop
-add-j c = omega (arith, c .before .before .before .before .before .before .before .before .before .before .before .before .before .before .before .before .before .loop-test .taken, c .before .before .before .before .before .before .before .before .before .before .before .before .before .before .before .before .before .before .before .before .before .before .before .before .before .pre .asks .has .few)
+add-j c = let c₁ = c .before .before .before .before .before .before .before .before .before .before .before .before .before .before .before .before .before in let c₂ = c₁ .before .before .before .before .before .before .before .before in omega (arith, c₁ .loop-test .taken, c₂ .pre .asks .has .few)
 
 loop-less : tie.Need-loop-less Inv-loop μ-loop
 loop-less c = omega (arith, c .before .before .before .before .before .before .before .before .before .before .before .before .before .before .before .before .before .loop-test .taken)
 
 loop-again : tie.Need-loop-again Inv-loop μ-loop
 loop-again c =
-    let s = c .before .before .before .before .before .before .before .before .before .before .before .before .before .before .before .before .before .before .before .before .before .before .before .before .before in
+    let c₁ = c .before .before .before .before .before .before .before .before .before .before .before in let c₂ = c₁ .before .before .before .before .before .before in let c₃ = c₂ .before in let s = c₃ .before .before .before .before .before .before .before in
     let a = s .args in
     let b = a .records .now in
     let p = a .places .now in
@@ -124,11 +132,11 @@ loop-again c =
     let u = a .used in
     let l = a .images .now in
     let o = held (a .parts .now) (a .many) in
-    let i = c .before .before .before .before .before .before .before .before .before .before .before .before .before .before .before .before .before .before .loop in
-    let d = c .before .before .before .before .before .before .before .before .before .before .before .apply-deep .last in
+    let i = c₃ .loop in
+    let d = c₁ .apply-deep .last in
     let v = c .before .made .given .0 in
-    let w = subst (KnownIs (i .records) (i .places) (i .n) (i .u) (getD (i .parts) (i .j) 0) l (d .0) (d .1 .0) (d .1 .1 .0) (d .1 .1 .1 .0)) (c .before .made .given .1) (c .before .before .before .before .before .before .before .before .before .before .before .apply-deep .ensures) in
-    record { inv = parts-more b p ix n u o l (s .pre .asks) (i .records) (i .places) (i .index) (i .parts) (i .n) (i .u) (i .j) (i .inv .inv) (c .before .before .before .before .before .before .before .before .before .before .before .before .before .before .before .before .before .loop-test .taken) (d .0) (d .1 .0) (d .1 .1 .0) (v .0) (v .1 .0) (v .1 .1 .0) (w .made); known = w .known; lasts = c .before .before .before .before .before .before .before .before .before .before .before .apply-deep .kept .1 .1 .1 .0 ∙ i .inv .lasts }
+    let w = subst (KnownIs (i .records) (i .places) (i .n) (i .u) (getD (i .parts) (i .j) 0) l (d .0) (d .1 .0) (d .1 .1 .0) (d .1 .1 .1 .0)) (c .before .made .given .1) (c₁ .apply-deep .ensures) in
+    record { inv = parts-more b p ix n u o l (s .pre .asks) (i .records) (i .places) (i .index) (i .parts) (i .n) (i .u) (i .j) (i .inv .inv) (c₂ .loop-test .taken) (d .0) (d .1 .0) (d .1 .1 .0) (v .0) (v .1 .0) (v .1 .1 .0) (w .made); known = w .known; lasts = c₁ .apply-deep .kept .1 .1 .1 .0 ∙ i .inv .lasts }
 
 same-length-6 : tie.Need-same-length-6 Inv-loop μ-loop
 same-length-6 c = let i = c .before .loop in i .inv .inv .kept .long

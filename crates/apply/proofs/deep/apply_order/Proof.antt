@@ -43,7 +43,9 @@ same-length-2 : tie.Need-same-length-2 Inv-loop μ-loop
 same-length-2 c = let i = c .before .before .before .before .before .before .before .before .before .before .before .before .before .before .before .before .before .before .loop in c .before .before .before .before .before .before .before .before .before .before .before .apply-sort .kept .1 .0 ∙ i .inv .along .kept .wide
 
 same-length-3 : tie.Need-same-length-3 Inv-loop μ-loop
-same-length-3 c = let i = c .before .before .before .before .before .before .before .before .before .before .before .before .before .before .before .before .before .before .loop in c .before .before .before .before .before .before .before .before .before .before .before .apply-sort .kept .1 .1 .0 ∙ i .inv .along .good .indexed .table ∙ sym (c .before .before .before .before .before .before .before .before .before .before .before .before .before .before .before .before .before .before .before .before .before .before .before .before .before .pre .ready .good .indexed .table)
+same-length-3 c =
+    let c₁ = c .before .before .before .before .before .before .before .before .before .before .before in let c₂ = c₁ .before .before .before .before .before .before .before in let c₃ = c₂ .before .before .before .before .before .before .before in
+    let i = c₂ .loop in c₁ .apply-sort .kept .1 .1 .0 ∙ i .inv .along .good .indexed .table ∙ sym (c₃ .pre .ready .good .indexed .table)
 
 same-length-4 : tie.Need-same-length-4 Inv-loop μ-loop
 same-length-4 c = let i = c .before .before .before .before .before .before .before .before .before .before .before .before .before .before .before .before .before .before .loop in c .before .before .before .before .before .before .before .before .before .before .before .apply-sort .kept .1 .1 .1 .0 ∙ i .inv .lasts
@@ -60,7 +62,9 @@ returns c =
     in-order-halted (s .pre) (i .inv) (c .before .before .before .before .before .before .before .before .before .before .before .before .before .before .before .before .before .loop-test .taken) w
 
 add-j : tie.Need-add-j Inv-loop μ-loop
-add-j c = let s = c .before .before .before .before .before .before .before .before .before .before .before .before .before .before .before .before .before .before .before .before .before .before .before .before .before in omega (arith, c .before .before .before .before .before .before .before .before .before .before .before .before .before .before .before .before .before .loop-test .taken, s .pre .many, s .good .1 .1 .1 .1 .1 .1 .0)
+add-j c =
+    let c₁ = c .before .before .before .before .before .before .before .before .before .before .before .before .before .before .before .before .before in let c₂ = c₁ .before .before .before .before .before .before .before .before in
+    let s = c₂ in omega (arith, c₁ .loop-test .taken, s .pre .many, s .good .1 .1 .1 .1 .1 .1 .0)
 
 loop-less : tie.Need-loop-less Inv-loop μ-loop
 loop-less c = omega (arith, c .before .before .before .before .before .before .before .before .before .before .before .before .before .before .before .before .before .loop-test .taken)

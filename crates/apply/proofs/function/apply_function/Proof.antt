@@ -43,7 +43,7 @@ undo-requires c κs =
 
 returns-2 : tie.Need-returns-2
 returns-2 c =
-    let s = c .before .before .before .before .before .before .before .before .before .before .before .before .before .before .before .before .before .before .before .before .before .before in
+    let c₁ = c .before .before .before .before .before .before .before .before .before in let c₂ = c₁ .before .before .before .before in let c₃ = c₂ .before in let s = c₃ .before .before .before .before .before .before .before .before in
     let a = s .args in
     let b = a .records .now in
     let p = a .places .now in
@@ -52,13 +52,14 @@ returns-2 c =
     let l = a .images .now in
     let x = a .at in
     let m = a .left in
-    let d = c .before .before .before .before .before .before .before .before .before .make-function .last in
-    let w = subst (ReplacedIs b p n u (functionAt b p n l x m) (d .0) (d .1 .0) (d .1 .1 .0)) (c .before .made .given .1) (c .before .before .before .before .before .before .before .before .before .make-function .ensures) in
-    record { small = function-fits (s .pre) (c .before .before .before .before .before .before .before .before .before .before .before .before .before .before .answer-sizes .result) (c .before .before .before .before .before .before .before .before .before .before .before .before .before .before .answer-sizes .ensures) (c .before .before .before .before .before .before .before .before .before .before .before .before .before .if1 .left) .small; made = w }
+    let d = c₁ .make-function .last in
+    let w = subst (ReplacedIs b p n u (functionAt b p n l x m) (d .0) (d .1 .0) (d .1 .1 .0)) (c .before .made .given .1) (c₁ .make-function .ensures) in
+    record { small = function-fits (s .pre) (c₃ .answer-sizes .result) (c₃ .answer-sizes .ensures) (c₂ .if1 .left) .small; made = w }
 
 returns-3 : tie.Need-returns-3
 returns-3 c =
-    let s = c .before .before .before .before .before .before .before .before .before .before .before .before .before .before .before .before .before .before .before .before .before .before .before .before .before .before .before .before .before .before .before .before in
+    let c₁ = c .before .before .before .before .before .before in let c₂ = c₁ .before .before .before .before .before in let c₃ = c₂ .before .before .before .before .before .before .before .before in let c₄ = c₃ .before .before .before .before in let c₅ = c₄ .before in
+    let s = c₅ .before .before .before .before .before .before .before .before in
     let a = s .args in
     let b = a .records .now in
     let p = a .places .now in
@@ -67,9 +68,9 @@ returns-3 c =
     let l = a .images .now in
     let x = a .at in
     let m = a .left in
-    let d = c .before .before .before .before .before .before .before .before .before .before .before .before .before .before .before .before .before .before .before .make-function .last in
-    let w = subst (ReplacedIs b p n u (functionAt b p n l x m) (d .0) (d .1 .0) (d .1 .1 .0)) (c .before .before .before .before .before .before .before .before .before .before .before .made2 .given .1) (c .before .before .before .before .before .before .before .before .before .before .before .before .before .before .before .before .before .before .before .make-function .ensures) in
-    (function-fits (s .pre) (c .before .before .before .before .before .before .before .before .before .before .before .before .before .before .before .before .before .before .before .before .before .before .before .before .answer-sizes .result) (c .before .before .before .before .before .before .before .before .before .before .before .before .before .before .before .before .before .before .before .before .before .before .before .before .answer-sizes .ensures) (c .before .before .before .before .before .before .before .before .before .before .before .before .before .before .before .before .before .before .before .before .before .before .before .if1 .left) .small, w .full, undo-back (s .pre .ready .good) w (c .before .before .before .before .before .before .undo .ensures))
+    let d = c₃ .make-function .last in
+    let w = subst (ReplacedIs b p n u (functionAt b p n l x m) (d .0) (d .1 .0) (d .1 .1 .0)) (c₂ .made2 .given .1) (c₃ .make-function .ensures) in
+    (function-fits (s .pre) (c₅ .answer-sizes .result) (c₅ .answer-sizes .ensures) (c₄ .if1 .left) .small, w .full, undo-back (s .pre .ready .good) w (c₁ .undo .ensures))
 
 pub apply-function-spec : {M : Type 1} → statement M
 apply-function-spec = tie.close (tie.spec answer-sizes-requires (λ c. search needs) (λ c. search needs) (λ c. search needs) returns make-function-requires (λ c. search needs) (λ c. search needs) undo-requires (λ c. search needs) (λ c. search needs) (λ c. search needs) returns-2 (λ c. search needs) (λ c. search needs) (λ c. search needs) returns-3)

@@ -57,20 +57,21 @@ same-length-3 c = c .before .before .before .before .before .before .before .bef
 
 returns : tie.Need-returns
 returns c =
-    let s = c .before .before .before .before .before .before .before .before .before .before .before .before .before .before .before .before .before .before .before .before .before .before .before .before .before .before .before .before .before .before .before .before .before .before .before .before .before .before in
+    let c₁ = c .before .before .before .before .before .before .before .before .before in let c₂ = c₁ .before .before .before .before .before .before .before in let c₃ = c₂ .before .before .before .before .before .before .before .before .before in
+    let c₄ = c₃ .before .before .before .before .before .before in let s = c₄ .before .before .before .before .before .before .before in
     let a = s .args in
     let b = a .records .now in let p = a .places .now in
     let n = a .count in let u = a .used in
     let l = a .images .now in
     let m = a .left in
-    let o = held (c .before .before .before .before .before .before .before .before .before .before .before .before .before .before .before .before .before .before .before .before .before .before .before .before .before .before .before .before .before .before .before .read-numbers .last .1 .1 .1 .0) m in
-    let d = c .before .before .before .before .before .before .before .before .before .before .before .before .before .before .before .before .before .before .before .before .before .before .before .before .before .make-answers .last in
+    let o = held (c₄ .read-numbers .last .1 .1 .1 .0) m in
+    let d = c₃ .make-answers .last in
     let r = held (d .1 .1 .1 .0) m in
-    let f = c .before .before .before .before .before .before .before .before .before .before .before .before .before .before .before .before .done .given .0 in
-    let w = subst (PartsAre b p n u o l (d .0) (d .1 .0) (d .1 .1 .0) r) (c .before .before .before .before .before .before .before .before .before .before .before .before .before .before .before .before .done .given .1) (c .before .before .before .before .before .before .before .before .before .before .before .before .before .before .before .before .before .before .before .before .before .before .before .before .before .make-answers .ensures) in
+    let f = c₂ .done .given .0 in
+    let w = subst (PartsAre b p n u o l (d .0) (d .1 .0) (d .1 .1 .0) r) (c₂ .done .given .1) (c₃ .make-answers .ensures) in
     let none = held (replicate 64 0) 0 in
-    let y = c .before .before .before .before .before .before .before .before .before .make .last in
-    function-made (s .pre) (c .before .before .before .before .before .before .before .before .before .before .before .before .before .before .before .before .before .before .before .before .before .before .before .before .before .before .before .before .before .before .before .read-numbers .ensures) w (none-has (replicate 64 0) (length-replicate {A = ℕ} 64 0)) (subst (MadeIs (d .0) (d .1 .0) (d .1 .1 .0) (f .0) (f .1 .0) (sortOf (storeOf (d .0) (d .1 .0) (f .0)) (fieldsIn 0 0 0 r none)) (y .0) (y .1 .0) (y .1 .1 .0)) (c .before .made .given .1) (c .before .before .before .before .before .before .before .before .before .make .ensures))
+    let y = c₁ .make .last in
+    function-made (s .pre) (c₄ .read-numbers .ensures) w (none-has (replicate 64 0) (length-replicate {A = ℕ} 64 0)) (subst (MadeIs (d .0) (d .1 .0) (d .1 .1 .0) (f .0) (f .1 .0) (sortOf (storeOf (d .0) (d .1 .0) (f .0)) (fieldsIn 0 0 0 r none)) (y .0) (y .1 .0) (y .1 .1 .0)) (c .before .made .given .1) (c₁ .make .ensures))
 
 same-length-4 : tie.Need-same-length-4
 same-length-4 c = c .before .before .before .before .before .before .before .before .make .kept .0 ∙ c .before .before .before .before .before .before .before .before .before .before .before .before .before .before .before .before .before .before .before .before .before .before .before .before .make-answers .kept .0
@@ -83,20 +84,21 @@ same-length-6 c = c .before .before .before .before .before .before .before .bef
 
 returns-2 : tie.Need-returns-2
 returns-2 c =
-    let s = c .before .before .before .before .before .before .before .before .before .before .before .before .before .before .before .before .before .before .before .before .before .before .before .before .before .before .before .before .before .before .before .before .before .before .before .before .before in
+    let c₁ = c .before .before .before .before .before .before .before .before in let c₂ = c₁ .before .before .before .before .before .before .before in let c₃ = c₂ .before .before .before .before .before .before .before .before .before in let c₄ = c₃ .before .before .before .before .before .before in
+    let s = c₄ .before .before .before .before .before .before .before in
     let a = s .args in
     let b = a .records .now in let p = a .places .now in
     let n = a .count in let u = a .used in
     let l = a .images .now in
     let m = a .left in
-    let o = held (c .before .before .before .before .before .before .before .before .before .before .before .before .before .before .before .before .before .before .before .before .before .before .before .before .before .before .before .before .before .before .read-numbers .last .1 .1 .1 .0) m in
-    let d = c .before .before .before .before .before .before .before .before .before .before .before .before .before .before .before .before .before .before .before .before .before .before .before .before .make-answers .last in
+    let o = held (c₄ .read-numbers .last .1 .1 .1 .0) m in
+    let d = c₃ .make-answers .last in
     let r = held (d .1 .1 .1 .0) m in
-    let f = c .before .before .before .before .before .before .before .before .before .before .before .before .before .before .before .done .given .0 in
-    let w = subst (PartsAre b p n u o l (d .0) (d .1 .0) (d .1 .1 .0) r) (c .before .before .before .before .before .before .before .before .before .before .before .before .before .before .before .done .given .1) (c .before .before .before .before .before .before .before .before .before .before .before .before .before .before .before .before .before .before .before .before .before .before .before .before .make-answers .ensures) in
+    let f = c₂ .done .given .0 in
+    let w = subst (PartsAre b p n u o l (d .0) (d .1 .0) (d .1 .1 .0) r) (c₂ .done .given .1) (c₃ .make-answers .ensures) in
     let none = held (replicate 64 0) 0 in
-    let y = c .before .before .before .before .before .before .before .before .make .last in
-    function-full (s .pre) (c .before .before .before .before .before .before .before .before .before .before .before .before .before .before .before .before .before .before .before .before .before .before .before .before .before .before .before .before .before .before .read-numbers .ensures) w (none-has (replicate 64 0) (length-replicate {A = ℕ} 64 0)) (y .0) (y .1 .0) (y .1 .1 .0) (subst (MadeIs (d .0) (d .1 .0) (d .1 .1 .0) (f .0) (f .1 .0) (sortOf (storeOf (d .0) (d .1 .0) (f .0)) (fieldsIn 0 0 0 r none)) (y .0) (y .1 .0) (y .1 .1 .0)) (c .enum-told .given .1) (c .before .before .before .before .before .before .before .before .make .ensures))
+    let y = c₁ .make .last in
+    function-full (s .pre) (c₄ .read-numbers .ensures) w (none-has (replicate 64 0) (length-replicate {A = ℕ} 64 0)) (y .0) (y .1 .0) (y .1 .1 .0) (subst (MadeIs (d .0) (d .1 .0) (d .1 .1 .0) (f .0) (f .1 .0) (sortOf (storeOf (d .0) (d .1 .0) (f .0)) (fieldsIn 0 0 0 r none)) (y .0) (y .1 .0) (y .1 .1 .0)) (c .enum-told .given .1) (c₁ .make .ensures))
 
 same-length-7 : tie.Need-same-length-7
 same-length-7 c = c .before .before .before .before .before .before .before .before .before .before .make-answers .kept .0
@@ -122,4 +124,6 @@ returns-3 c =
     function-stuck (s .pre) (c .before .before .before .before .before .before .before .before .before .before .before .before .before .before .before .before .read-numbers .ensures) w
 
 pub make-function-spec : {M : Type 1} → statement M
-make-function-spec = tie.close (tie.spec (λ c. search needs) read-numbers-requires slice-aggregate-make-answers make-answers-requires (λ c. search needs) slice-aggregate-make (λ c. search needs) make-requires (λ c. search needs) (λ c. search needs) (λ c. search needs) same-length same-length-2 same-length-3 returns same-length-4 same-length-5 same-length-6 returns-2 same-length-7 same-length-8 same-length-9 returns-3)
+make-function-spec =
+    tie.close (tie.spec (λ c. search needs) read-numbers-requires slice-aggregate-make-answers make-answers-requires (λ c. search needs) slice-aggregate-make (λ c. search needs) make-requires (λ c. search needs) (λ c. search needs) (λ c. search needs) same-length same-length-2 same-length-3 returns same-length-4 same-length-5 same-length-6 returns-2 same-length-7 same-length-8
+    same-length-9 returns-3)

@@ -26,12 +26,12 @@ bound-body-requires c κs =
 
 returns : tie.Need-returns
 returns c =
-    let s = c .before .before .before .before .before .before .before .before .before .before .before .before .before .before .before .before .before .before .before .before .before .before .before .before .before in
+    let c₁ = c .before .before .before .before .before .before .before .before in let c₂ = c₁ .before .before .before .before .before in let c₃ = c₂ .before .before in let c₄ = c₃ .before in let s = c₄ .before .before .before .before .before .before .before .before .before in
     let q = s .args in
     let b = q .records .now in
     let p = q .places .now in
     let n = q .count in
-    judged-as {b = b} {p = p} {n = n} (binder-is (s .pre) (q .number) (c .before .before .before .before .before .before .before .before .before .before .before .before .before .before .before .before .all-proper .ensures) (c .before .before .before .before .before .before .before .before .before .before .before .before .before .before .before .if1 .taken) (c .before .before .before .before .before .before .before .before .before .before .before .before .before .u16-at .ensures .0)) (c .before .before .before .before .before .before .before .before .bound-body .ensures)
+    judged-as {b = b} {p = p} {n = n} (binder-is (s .pre) (q .number) (c₄ .all-proper .ensures) (c₃ .if1 .taken) (c₂ .u16-at .ensures .0)) (c₁ .bound-body .ensures)
 
 returns-2 : tie.Need-returns-2
 returns-2 c =

@@ -54,12 +54,12 @@ lambda-requires c κs =
 
 returns-4 : tie.Need-returns-4
 returns-4 c =
-    let s = c .before .before .before .before .before .before .before .before .before .before .before .before .before .before .before .before .before .before .before .before .before .before .before .before .before in
+    let c₁ = c .before .before .before .before .before .before .before .before in let c₂ = c₁ .before .before .before .before .before in let c₃ = c₂ .before in let c₄ = c₃ .before .before .before in let c₅ = c₄ .before in let s = c₅ .before .before .before .before .before .before .before in
     let q = s .args in
     let b = q .records .now in
     let p = q .places .now in
     let n = q .count in
-    judged-as {b = b} {p = p} {n = n} (lambda-yes (s .pre .bound) (q .body) (s .pre .known) (q .number) (c .before .before .before .before .before .before .before .before .before .before .before .before .before .before .before .before .before .if2 .left) (c .before .before .before .before .before .before .before .before .before .before .before .before .before .before .kind-at .result) (c .before .before .before .before .before .before .before .before .before .before .before .before .before .before .kind-at .ensures) (c .before .before .before .before .before .before .before .before .before .before .before .before .before .before .before .before .before .before .if1 .left) (c .before .before .before .before .before .before .before .before .before .before .before .before .before .if3 .left)) (c .before .before .before .before .before .before .before .before .lambda .ensures)
+    judged-as {b = b} {p = p} {n = n} (lambda-yes (s .pre .bound) (q .body) (s .pre .known) (q .number) (c₄ .if2 .left) (c₃ .kind-at .result) (c₃ .kind-at .ensures) (c₅ .if1 .left) (c₂ .if3 .left)) (c₁ .lambda .ensures)
 
 pub bound-body-spec : {M : Type 1} → statement M
 bound-body-spec = tie.close (tie.spec quantified-requires (λ c. search needs) (λ c. search needs) returns (λ c κs. search needs) returns-2 kind-at-requires (λ c κs. search needs) (λ c. search needs) (λ c. search needs) returns-3 lambda-requires (λ c. search needs) (λ c. search needs) (λ c. search needs) (λ c. search needs) returns-4)

@@ -63,13 +63,13 @@ kind-at-requires-2 c κs =
 
 returns-5 : tie.Need-returns-5
 returns-5 c =
-    let s = c .before .before .before .before .before .before .before .before .before .before in
+    let c₁ = c .before .before .before .before in let c₂ = c₁ .before in let s = c₂ .before .before .before .before .before in
     let q = s .args in
     let b = q .records .now in
     let p = q .places .now in
     let n = q .count in
     let u = q .used in
-    λ ix g. judged-as (choice-no (s .pre .bound) (q .body) (s .pre .known) (q .number) (c .before .before .before .before .before .if1 .left) (c .before .before .kind-at2 .result) (c .before .before .kind-at2 .ensures) (c .before .before .before .before .if2 .left) (c .before .before .before .if4 .left) (c .before .if5 .taken)) (answered-as (c .refuse4 .ensures) (answer-refused b p ix n u g Misfit))
+    λ ix g. judged-as (choice-no (s .pre .bound) (q .body) (s .pre .known) (q .number) (c₂ .if1 .left) (c .before .before .kind-at2 .result) (c .before .before .kind-at2 .ensures) (c₁ .if2 .left) (c .before .before .before .if4 .left) (c .before .if5 .taken)) (answered-as (c .refuse4 .ensures) (answer-refused b p ix n u g Misfit))
 
 add-u16-at : tie.Need-add-u16-at
 add-u16-at c =
@@ -95,14 +95,15 @@ cast-k c = omega (arith, c .shared-slice-known5 .given (c .before .u16-at .resul
 
 returns-6 : tie.Need-returns-6
 returns-6 c =
-    let s = c .before .before .before .before .before .before .before .before .before .before .before .before in
+    let c₁ = c .before .before .before .before in let c₂ = c₁ .before in let c₃ = c₂ .before in let c₄ = c₃ .before in let s = c₄ .before .before .before .before .before in
     let q = s .args in
     let b = q .records .now in
     let p = q .places .now in
     let n = q .count in
     let u = q .used in
     let tbl = q .table .now in
-    λ ix g. judged-as (choice-yes (s .pre .bound) (q .body) (s .pre .known) (q .number) (c .before .before .before .before .before .before .before .if1 .left) (c .before .before .before .before .kind-at2 .result) (c .before .before .before .before .kind-at2 .ensures) (c .before .before .before .before .before .before .if2 .left) (c .before .before .before .before .before .if4 .left) (c .before .before .u16-at .ensures .0) (c .before .before .before .if5 .left)) (answered-as (c .found2 .ensures) (answer-known b p ix n u g (getD tbl (c .before .before .u16-at .result) 0) (only-known (s .pre .bound) (q .body) (s .pre .known) (q .number) (c .before .before .before .before .before .before .before .if1 .left) (c .before .before .before .before .kind-at2 .result) (c .before .before .before .before .kind-at2 .ensures) (c .before .before .before .before .before .before .if2 .left) (c .before .before .before .before .before .if4 .left) (c .before .before .u16-at .ensures .0))))
+    λ ix g. judged-as (choice-yes (s .pre .bound) (q .body) (s .pre .known) (q .number) (c₄ .if1 .left) (c₁ .kind-at2 .result) (c₁ .kind-at2 .ensures) (c₃ .if2 .left) (c₂ .if4 .left) (c .before .before .u16-at .ensures .0) (c .before .before .before .if5 .left))
+    (answered-as (c .found2 .ensures) (answer-known b p ix n u g (getD tbl (c .before .before .u16-at .result) 0) (only-known (s .pre .bound) (q .body) (s .pre .known) (q .number) (c₄ .if1 .left) (c₁ .kind-at2 .result) (c₁ .kind-at2 .ensures) (c₃ .if2 .left) (c₂ .if4 .left) (c .before .before .u16-at .ensures .0))))
 
 pub quantified-spec : {M : Type 1} → statement M
 quantified-spec = tie.close (tie.spec (λ c κs. search needs) returns kind-at-requires (λ c κs. search needs) returns-2 (λ c κs. search needs) returns-3 (λ c κs. search needs) returns-4 kind-at-requires-2 (λ c κs. search needs) returns-5 add-u16-at u16-at-requires mul-k shared-slice-read-k cast-k (λ c κs. search needs) returns-6)

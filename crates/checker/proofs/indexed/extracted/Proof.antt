@@ -58,9 +58,9 @@ bit-vector-requires c κs =
 
 returns-4 : tie.Need-returns-4
 returns-4 c =
-    let s = c .before .before .before .before .before .before .before .before .before .before .before .before .before .before .before .before .before .before .before .before .before in
+    let c₁ = c .before .before .before .before .before .before in let c₂ = c₁ .before .before .before .before in let c₃ = c₂ .before .before in let c₄ = c₃ .before .before in let c₅ = c₄ .before in let s = c₅ .before .before .before .before .before .before in
     let q = s .args in
-    judged-as (extract-fits (s .pre) (q .i) (q .j) (c .before .before .before .before .before .before .before .before .before .before .before .before .before .before .if1 .left) (c .before .before .before .before .before .before .before .before .before .before .before .before .before .before .before .entry .result) (c .before .before .before .before .before .before .before .before .before .before .before .before .before .before .before .entry .ensures) (c .before .before .before .before .before .before .before .before .before .before .before .before .if2 .left) (c .before .before .before .before .before .before .before .before .before .before .if3 .left)) (c .before .before .before .before .before .before .bit-vector .ensures)
+    judged-as (extract-fits (s .pre) (q .i) (q .j) (c₄ .if1 .left) (c₅ .entry .result) (c₅ .entry .ensures) (c₃ .if2 .left) (c₂ .if3 .left)) (c₁ .bit-vector .ensures)
 
 pub extracted-spec : {M : Type 1} → statement M
 extracted-spec = tie.close (tie.spec entry-requires (λ c κs. search needs) (λ c. search needs) (λ c. search needs) returns (λ c κs. search needs) (λ c. search needs) (λ c. search needs) returns-2 (λ c κs. search needs) (λ c. search needs) (λ c. search needs) returns-3 add-bit-vector bit-vector-requires (λ c. search needs) (λ c. search needs) (λ c. search needs) returns-4)

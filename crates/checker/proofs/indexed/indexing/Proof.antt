@@ -80,8 +80,8 @@ indexed-by-requires c κs =
 
 returns-5 : tie.Need-returns-5
 returns-5 c =
-    let s = c .before .before .before .before .before .before .before .before .before .before .before .before .before .before .before .before .before .before .before .before .before .before in
-    judged-as (indexing-is (s .pre) (c .before .before .before .before .before .before .before .before .before .before .before .before .before .before .before .if1 .left) (c .before .before .before .before .before .before .before .before .before .before .before .before .before .before .if2 .left) (c .before .before .before .before .before .before .before .before .before .before .before .before .before .if3 .left) (c .before .before .before .before .before .before .before .before .before .before .before .before .if4 .left) (c .before .before .before .before .before .before .before .before .before .before .before .indices-of .ensures) (c .before .before .before .before .before .before .before .before .before .before .u16-at .ensures .0)) (c .before .before .before .before .before .before .indexed-by .ensures)
+    let c₁ = c .before .before .before .before .before .before in let c₂ = c₁ .before .before .before .before in let c₃ = c₂ .before in let c₄ = c₃ .before in let c₅ = c₄ .before in let c₆ = c₅ .before in let c₇ = c₆ .before in let s = c₇ .before .before .before .before .before .before .before in
+    judged-as (indexing-is (s .pre) (c₇ .if1 .left) (c₆ .if2 .left) (c₅ .if3 .left) (c₄ .if4 .left) (c₃ .indices-of .ensures) (c₂ .u16-at .ensures .0)) (c₁ .indexed-by .ensures)
 
 pub indexing-spec : {M : Type 1} → statement M
 indexing-spec = tie.close (tie.spec (λ c κs. search needs) returns (λ c κs. search needs) returns-2 (λ c κs. search needs) returns-3 (λ c κs. search needs) returns-4 indices-of-requires u16-at-requires indexed-by-requires (λ c. search needs) (λ c. search needs) (λ c. search needs) returns-5)

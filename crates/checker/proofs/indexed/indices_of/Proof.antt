@@ -55,19 +55,19 @@ index-at-requires-2 c κs =
 
 returns-4 : tie.Need-returns-4
 returns-4 c =
-    let s = c .before .before .before .before .before .before .before .before .before .before .before .before .before in
+    let c₁ = c .before .before .before .before in let c₂ = c₁ .before .before in let c₃ = c₂ .before .before in let c₄ = c₃ .before in let c₅ = c₄ .before in let s = c₅ .before .before .before in
     let q = s .args in
     let z = q .sheet .now in
     let xs = q .starts .now in
-    indices-two z xs (q .second) (c .before .before .before .before .before .before .before .before .index-at .ensures) (q .seconds) (c .before .before .before .before .before .before .first .given .0 .0) (c .before .before .before .before .before .before .first .given .1) (c .before .before .before .before .before .before .before .before .before .if2 .left) (omega (arith, c .before .before .before .before .before .before .before .before .before .before .if1 .left, c .before .before .before .before .if3 .left)) (c .before .before .before .index-at2 .ensures) (c .before .last .given .0 .0) (c .before .last .given .1)
+    indices-two z xs (q .second) (c₃ .index-at .ensures) (q .seconds) (c₂ .first .given .0 .0) (c₂ .first .given .1) (c₄ .if2 .left) (omega (arith, c₅ .if1 .left, c₁ .if3 .left)) (c .before .before .before .index-at2 .ensures) (c .before .last .given .0 .0) (c .before .last .given .1)
 
 returns-5 : tie.Need-returns-5
 returns-5 c =
-    let s = c .before .before .before .before .before .before .before .before .before .before .before .before in
+    let c₁ = c .before .before .before .before .before in let c₂ = c₁ .before .before in let c₃ = c₂ .before in let c₄ = c₃ .before in let s = c₄ .before .before .before in
     let q = s .args in
     let z = q .sheet .now in
     let xs = q .starts .now in
-    indices-wrong z xs (q .second) (c .before .before .before .before .before .before .before .index-at .ensures) (q .seconds) (c .before .before .before .before .before .first .given .0 .0) (c .before .before .before .before .before .first .given .1) (c .before .before .before .before .before .before .before .before .if2 .left) (omega (arith, c .before .before .before .before .before .before .before .before .before .if1 .left, c .before .before .before .if3 .left)) (c .before .before .index-at2 .ensures) (c .enum-told .given .1)
+    indices-wrong z xs (q .second) (c₂ .index-at .ensures) (q .seconds) (c₁ .first .given .0 .0) (c₁ .first .given .1) (c₃ .if2 .left) (omega (arith, c₄ .if1 .left, c .before .before .before .if3 .left)) (c .before .before .index-at2 .ensures) (c .enum-told .given .1)
 
 returns-6 : tie.Need-returns-6
 returns-6 c =

@@ -66,15 +66,15 @@ widened-requires-3 c κs =
 
 returns-3 : tie.Need-returns-3
 returns-3 c =
-    let s = c .before .before .before .before .before .before .before .before .before .before .before .before .before .before .before .before .before .before in
+    let c₁ = c .before .before .before .before .before .before in let c₂ = c₁ .before .before .before .before in let c₃ = c₂ .before in let c₄ = c₃ .before in let s = c₄ .before .before .before .before .before .before in
     let q = s .args in
-    judged-as (repeat-is (record { good = s .pre .good; known = s .pre .known }) (c .before .before .before .before .before .before .before .before .before .before .before .before .entry .result) (c .before .before .before .before .before .before .before .before .before .before .before .before .entry .ensures) (q .i) (c .before .before .before .before .before .before .before .before .before .before .before .match .keys1) (c .before .before .before .before .before .before .before .before .before .before .if1 .left)) (c .before .before .before .before .before .before .widened .ensures)
+    judged-as (repeat-is (record { good = s .pre .good; known = s .pre .known }) (c₄ .entry .result) (c₄ .entry .ensures) (q .i) (c₃ .match .keys1) (c₂ .if1 .left)) (c₁ .widened .ensures)
 
 returns-4 : tie.Need-returns-4
 returns-4 c =
-    let s = c .before .before .before .before .before .before .before .before .before .before .before .before .before .before .before .before .before .before in
+    let c₁ = c .before .before .before .before .before .before in let c₂ = c₁ .before .before .before .before in let c₃ = c₂ .before in let c₄ = c₃ .before in let s = c₄ .before .before .before .before .before .before in
     let q = s .args in
-    judged-as (int-is (record { good = s .pre .good; known = s .pre .known }) (c .before .before .before .before .before .before .before .before .before .before .before .before .entry .result) (c .before .before .before .before .before .before .before .before .before .before .before .before .entry .ensures) (q .i) (c .before .before .before .before .before .before .before .before .before .before .before .match .keys2) (c .before .before .before .before .before .before .before .before .before .before .if2 .left)) (c .before .before .before .before .before .before .widened2 .ensures)
+    judged-as (int-is (record { good = s .pre .good; known = s .pre .known }) (c₄ .entry .result) (c₄ .entry .ensures) (q .i) (c₃ .match .keys2) (c₂ .if2 .left)) (c₁ .widened2 .ensures)
 
 returns-5 : tie.Need-returns-5
 returns-5 c =
@@ -86,9 +86,9 @@ returns-5 c =
 
 returns-6 : tie.Need-returns-6
 returns-6 c =
-    let s = c .before .before .before .before .before .before .before .before .before .before .before .before .before .before .before .before .before .before .before in
+    let c₁ = c .before .before .before .before .before .before in let c₂ = c₁ .before .before .before .before in let c₃ = c₂ .before in let c₄ = c₃ .before .before in let s = c₄ .before .before .before .before .before .before in
     let q = s .args in
-    judged-as (extend-is (record { good = s .pre .good; known = s .pre .known }) (c .before .before .before .before .before .before .before .before .before .before .before .before .before .entry .result) (c .before .before .before .before .before .before .before .before .before .before .before .before .before .entry .ensures) (q .op) (q .i) (c .before .before .before .before .before .before .before .before .before .before .before .if3 .left) (c .before .before .before .before .before .before .before .before .before .before .if4 .taken)) (c .before .before .before .before .before .before .widened3 .ensures)
+    judged-as (extend-is (record { good = s .pre .good; known = s .pre .known }) (c₄ .entry .result) (c₄ .entry .ensures) (q .op) (q .i) (c₃ .if3 .left) (c₂ .if4 .taken)) (c₁ .widened3 .ensures)
 
 returns-7 : tie.Need-returns-7
 returns-7 c =
@@ -110,4 +110,6 @@ returns-8 c =
     judged-as (one-other (q .op) (q .i) (sortAt b p n (q .a)) (⊎-map (λ x. x .taken) (λ x. x .2 .left) (c .before .if3 .came)) (c .before .before .match .rest .0 .0 .1) (c .before .before .match .rest .0 .1) (c .before .before .match .rest .1)) (answered-as (c .refuse3 .ensures) (answer-refused b p ix n u (s .pre .good) Count))
 
 pub with-one-spec : {M : Type 1} → statement M
-with-one-spec = tie.close (tie.spec entry-requires (λ c κs. search needs) (λ c. search needs) (λ c. search needs) returns mul-widened widened-requires (λ c κs. search needs) (λ c. search needs) (λ c. search needs) returns-2 widened-requires-2 (λ c κs. search needs) add-widened widened-requires-3 (λ c κs. search needs) (λ c κs. search needs) (λ c. search needs) (λ c. search needs) (λ c. search needs) returns-3 (λ c. search needs) (λ c. search needs) (λ c. search needs) returns-4 (λ c. search needs) (λ c. search needs) returns-5 (λ c. search needs) (λ c. search needs) (λ c. search needs) returns-6 (λ c. search needs) (λ c. search needs) returns-7 (λ c. search needs) (λ c. search needs) returns-8)
+with-one-spec =
+    tie.close (tie.spec entry-requires (λ c κs. search needs) (λ c. search needs) (λ c. search needs) returns mul-widened widened-requires (λ c κs. search needs) (λ c. search needs) (λ c. search needs) returns-2 widened-requires-2 (λ c κs. search needs) add-widened widened-requires-3 (λ c κs. search needs) (λ c κs. search needs) (λ c. search needs) (λ c. search needs)
+    (λ c. search needs) returns-3 (λ c. search needs) (λ c. search needs) (λ c. search needs) returns-4 (λ c. search needs) (λ c. search needs) returns-5 (λ c. search needs) (λ c. search needs) (λ c. search needs) returns-6 (λ c. search needs) (λ c. search needs) returns-7 (λ c. search needs) (λ c. search needs) returns-8)

@@ -47,13 +47,13 @@ u16-at-requires-4 c κs =
 
 returns-2 : tie.Need-returns-2
 returns-2 c =
-    let s = c .before .before .before .before .before .before .before .before .before .before .before in
-    array-differs (s .pre) (c .before .before .before .before .before .before .before .u16-at .ensures .0) (c .before .before .before .before .before .before .entry .result) (c .before .before .before .before .before .before .entry .ensures) (c .before .before .before .before .if1 .left) (c .before .before .before .u16-at2 .ensures .0) (c .before .before .u16-at3 .ensures .0) (c .before .u16-at4 .ensures .0) (c .if2 .taken)
+    let c₁ = c .before .before .before .before in let c₂ = c₁ .before .before in let c₃ = c₂ .before in let s = c₃ .before .before .before .before in
+    array-differs (s .pre) (c₃ .u16-at .ensures .0) (c₂ .entry .result) (c₂ .entry .ensures) (c₁ .if1 .left) (c .before .before .before .u16-at2 .ensures .0) (c .before .before .u16-at3 .ensures .0) (c .before .u16-at4 .ensures .0) (c .if2 .taken)
 
 returns-3 : tie.Need-returns-3
 returns-3 c =
-    let s = c .before .before .before .before .before .before .before .before .before .before .before .before in
-    array-selects (s .pre) (c .before .before .before .before .before .before .before .before .u16-at .ensures .0) (c .before .before .before .before .before .before .before .entry .result) (c .before .before .before .before .before .before .before .entry .ensures) (c .before .before .before .before .before .if1 .left) (c .before .before .before .before .u16-at2 .ensures .0) (c .before .before .before .u16-at3 .ensures .0) (c .before .before .u16-at4 .ensures .0) (c .before .if2 .left) (c .if3 .taken)
+    let c₁ = c .before .before .before .before in let c₂ = c₁ .before in let c₃ = c₂ .before .before in let c₄ = c₃ .before in let s = c₄ .before .before .before .before in
+    array-selects (s .pre) (c₄ .u16-at .ensures .0) (c₃ .entry .result) (c₃ .entry .ensures) (c₂ .if1 .left) (c₁ .u16-at2 .ensures .0) (c .before .before .before .u16-at3 .ensures .0) (c .before .before .u16-at4 .ensures .0) (c .before .if2 .left) (c .if3 .taken)
 
 u16-at-requires-5 : tie.Need-u16-at-requires-5
 u16-at-requires-5 c κs =
@@ -62,13 +62,13 @@ u16-at-requires-5 c κs =
 
 returns-4 : tie.Need-returns-4
 returns-4 c =
-    let s = c .before .before .before .before .before .before .before .before .before .before .before .before .before .before in
-    array-element (s .pre) (c .before .before .before .before .before .before .before .before .before .before .u16-at .ensures .0) (c .before .before .before .before .before .before .before .before .before .entry .result) (c .before .before .before .before .before .before .before .before .before .entry .ensures) (c .before .before .before .before .before .before .before .if1 .left) (c .before .before .before .before .before .before .u16-at2 .ensures .0) (c .before .before .before .before .before .u16-at3 .ensures .0) (c .before .before .before .before .u16-at4 .ensures .0) (c .before .u16-at5 .ensures .0) (c .before .before .before .if2 .left) (array-rest (s .pre) (c .before .before .if3 .left)) (c .if4 .taken)
+    let c₁ = c .before .before .before .before in let c₂ = c₁ .before in let c₃ = c₂ .before in let c₄ = c₃ .before in let c₅ = c₄ .before .before in let c₆ = c₅ .before in let s = c₆ .before .before .before .before in
+    array-element (s .pre) (c₆ .u16-at .ensures .0) (c₅ .entry .result) (c₅ .entry .ensures) (c₄ .if1 .left) (c₃ .u16-at2 .ensures .0) (c₂ .u16-at3 .ensures .0) (c₁ .u16-at4 .ensures .0) (c .before .u16-at5 .ensures .0) (c .before .before .before .if2 .left) (array-rest (s .pre) (c .before .before .if3 .left)) (c .if4 .taken)
 
 returns-5 : tie.Need-returns-5
 returns-5 c =
-    let s = c .before .before .before .before .before .before .before .before .before .before .before .before .before .before in
-    array-stores (s .pre) (c .before .before .before .before .before .before .before .before .before .before .u16-at .ensures .0) (c .before .before .before .before .before .before .before .before .before .entry .result) (c .before .before .before .before .before .before .before .before .before .entry .ensures) (c .before .before .before .before .before .before .before .if1 .left) (c .before .before .before .before .before .before .u16-at2 .ensures .0) (c .before .before .before .before .before .u16-at3 .ensures .0) (c .before .before .before .before .u16-at4 .ensures .0) (c .before .u16-at5 .ensures .0) (c .before .before .before .if2 .left) (array-rest (s .pre) (c .before .before .if3 .left)) (c .if4 .left)
+    let c₁ = c .before .before .before .before in let c₂ = c₁ .before in let c₃ = c₂ .before in let c₄ = c₃ .before in let c₅ = c₄ .before .before in let c₆ = c₅ .before in let s = c₆ .before .before .before .before in
+    array-stores (s .pre) (c₆ .u16-at .ensures .0) (c₅ .entry .result) (c₅ .entry .ensures) (c₄ .if1 .left) (c₃ .u16-at2 .ensures .0) (c₂ .u16-at3 .ensures .0) (c₁ .u16-at4 .ensures .0) (c .before .u16-at5 .ensures .0) (c .before .before .before .if2 .left) (array-rest (s .pre) (c .before .before .if3 .left)) (c .if4 .left)
 
 pub fit-array-spec : {M : Type 1} → statement M
 fit-array-spec = tie.close (tie.spec u16-at-requires entry-requires returns u16-at-requires-2 add-u16-at u16-at-requires-3 u16-at-requires-4 returns-2 returns-3 u16-at-requires-5 returns-4 returns-5)

@@ -38,18 +38,18 @@ returns c =
 
 returns-2 : tie.Need-returns-2
 returns-2 c =
-    let s = c .before .before .before .before .before .before .before .before .before .before .before in
-    concat-no-2 (s .pre) (c .before .before .before .before .before .before .before .u16-at .ensures .0) (c .before .before .before .before .before .before .u16-at2 .ensures .0) (c .before .before .before .before .before .entry .result) (c .before .before .before .before .entry2 .result) (c .before .before .before .before .before .entry .ensures) (c .before .before .before .before .entry2 .ensures) (c .if2 .taken)
+    let c₁ = c .before .before .before .before in let c₂ = c₁ .before in let c₃ = c₂ .before in let c₄ = c₃ .before in let s = c₄ .before .before .before .before in
+    concat-no-2 (s .pre) (c₄ .u16-at .ensures .0) (c₃ .u16-at2 .ensures .0) (c₂ .entry .result) (c₁ .entry2 .result) (c₂ .entry .ensures) (c₁ .entry2 .ensures) (c .if2 .taken)
 
 add-t10 : tie.Need-add-t10
 add-t10 c =
-    let s = c .before .before .before .before .before .before .before .before .before .before .before .before .before in
-    omega (arith, concat-fits (s .pre) (c .before .before .before .before .before .before .before .before .before .u16-at .ensures .0) (c .before .before .before .before .before .before .before .before .u16-at2 .ensures .0) (c .before .before .before .before .before .before .before .entry .result) (c .before .before .before .before .before .before .entry2 .result) (c .before .before .before .before .before .before .before .entry .ensures) (c .before .before .before .before .before .before .entry2 .ensures) (s .pre .args))
+    let c₁ = c .before .before .before .before .before .before in let c₂ = c₁ .before in let c₃ = c₂ .before in let c₄ = c₃ .before in let s = c₄ .before .before .before .before in
+    omega (arith, concat-fits (s .pre) (c₄ .u16-at .ensures .0) (c₃ .u16-at2 .ensures .0) (c₂ .entry .result) (c₁ .entry2 .result) (c₂ .entry .ensures) (c₁ .entry2 .ensures) (s .pre .args))
 
 returns-3 : tie.Need-returns-3
 returns-3 c =
-    let s = c .before .before .before .before .before .before .before .before .before .before .before .before .before in
-    concat-yes (s .pre) (c .before .before .before .before .before .before .before .before .before .u16-at .ensures .0) (c .before .before .before .before .before .before .before .before .u16-at2 .ensures .0) (c .before .before .before .before .before .before .before .entry .result) (c .before .before .before .before .before .before .entry2 .result) (c .before .before .before .before .before .before .before .entry .ensures) (c .before .before .before .before .before .before .entry2 .ensures) (c .before .before .before .before .if1 .left) (c .before .before .if2 .left)
+    let c₁ = c .before .before .before .before in let c₂ = c₁ .before .before in let c₃ = c₂ .before in let c₄ = c₃ .before in let c₅ = c₄ .before in let s = c₅ .before .before .before .before in
+    concat-yes (s .pre) (c₅ .u16-at .ensures .0) (c₄ .u16-at2 .ensures .0) (c₃ .entry .result) (c₂ .entry2 .result) (c₃ .entry .ensures) (c₂ .entry2 .ensures) (c₁ .if1 .left) (c .before .before .if2 .left)
 
 pub fit-concat-spec : {M : Type 1} → statement M
 fit-concat-spec = tie.close (tie.spec u16-at-requires u16-at-requires-2 entry-requires entry-requires-2 returns returns-2 add-t10 returns-3)

@@ -34,21 +34,22 @@ is-kind-requires-3 c κs = c .before .before .before .before .before .before .be
 
 returns-3 : tie.Need-returns-3
 returns-3 c =
-    let s = c .before .before .before .before .before .before .before .before .before in
+    let c₁ = c .before .before .before .before .before in let s = c₁ .before .before .before .before in
     let q = s .args in
     let b = q .records .now in
     let p = q .places .now in
     let a = q .args .now in
-    fixed-no-3 b p a (q .n) (q .a) (q .b) (q .c) (q .result) (s .pre) (c .before .before .before .before .before .is-kind .result) (c .before .before .before .before .before .is-kind .ensures) (c .before .before .before .is-kind2 .result) (c .before .before .before .is-kind2 .ensures) (c .before .is-kind3 .result) (c .before .is-kind3 .ensures) (not-true (c .before .is-kind3 .result) (c .if3 .taken))
+    fixed-no-3 b p a (q .n) (q .a) (q .b) (q .c) (q .result) (s .pre) (c₁ .is-kind .result) (c₁ .is-kind .ensures) (c .before .before .before .is-kind2 .result) (c .before .before .before .is-kind2 .ensures) (c .before .is-kind3 .result) (c .before .is-kind3 .ensures) (not-true (c .before .is-kind3 .result) (c .if3 .taken))
 
 returns-4 : tie.Need-returns-4
 returns-4 c =
-    let s = c .before .before .before .before .before .before .before .before .before in
+    let c₁ = c .before .before .before .before in let c₂ = c₁ .before in let s = c₂ .before .before .before .before in
     let q = s .args in
     let b = q .records .now in
     let p = q .places .now in
     let a = q .args .now in
-    fixed-yes b p a (q .n) (q .a) (q .b) (q .c) (q .result) (s .pre) (c .before .before .before .before .before .is-kind .result) (c .before .before .before .before .before .is-kind .ensures) (c .before .before .before .is-kind2 .result) (c .before .before .before .is-kind2 .ensures) (c .before .is-kind3 .result) (c .before .is-kind3 .ensures) (not-false (c .before .before .before .before .before .is-kind .result) (c .before .before .before .before .if1 .left)) (not-false (c .before .before .before .is-kind2 .result) (c .before .before .if2 .left)) (not-false (c .before .is-kind3 .result) (c .if3 .left))
+    fixed-yes b p a (q .n) (q .a) (q .b) (q .c) (q .result) (s .pre) (c₂ .is-kind .result) (c₂ .is-kind .ensures) (c .before .before .before .is-kind2 .result) (c .before .before .before .is-kind2 .ensures) (c .before .is-kind3 .result) (c .before .is-kind3 .ensures) (not-false (c₂ .is-kind .result) (c₁ .if1 .left))
+    (not-false (c .before .before .before .is-kind2 .result) (c .before .before .if2 .left)) (not-false (c .before .is-kind3 .result) (c .if3 .left))
 
 pub fit-fixed-spec : {M : Type 1} → statement M
 fit-fixed-spec = tie.close (tie.spec is-kind-requires returns is-kind-requires-2 returns-2 is-kind-requires-3 returns-3 returns-4)

@@ -46,12 +46,12 @@ returns-3 c =
 
 returns-4 : tie.Need-returns-4
 returns-4 c =
-    let s = c .before .before .before .before .before .before .before .before in
+    let c₁ = c .before .before .before .before in let s = c₁ .before .before .before .before in
     let q = s .args in
     let b = q .records .now in
     let p = q .places .now in
     let a = q .args .now in
-    numbers-real b p a (q .n) (q .result) (s .pre) (c .before .before .before .before .all-kind .result) (c .before .before .before .before .all-kind .ensures) (c .before .before .all-kind2 .result) (c .before .before .all-kind2 .ensures) (c .before .before .before .if1 .left) (c .before .if3 .taken) (q .result) (result-kind (q .result) real (c .if4 .left)) (numbers-kind b p a (q .n) (q .result) (s .pre) (c .if4 .left))
+    numbers-real b p a (q .n) (q .result) (s .pre) (c₁ .all-kind .result) (c₁ .all-kind .ensures) (c .before .before .all-kind2 .result) (c .before .before .all-kind2 .ensures) (c .before .before .before .if1 .left) (c .before .if3 .taken) (q .result) (result-kind (q .result) real (c .if4 .left)) (numbers-kind b p a (q .n) (q .result) (s .pre) (c .if4 .left))
 
 returns-5 : tie.Need-returns-5
 returns-5 c =

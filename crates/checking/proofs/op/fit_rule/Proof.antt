@@ -120,7 +120,8 @@ returns-3 c =
     let b = q .records .now in
     let p = q .places .now in
     let a = q .args .now in
-    subst (λ (r : Rule). FitHas b p a (q .n) r (c .fit-fixed .result)) (sym (c .before .before .rule2 .given .1)) (fixed-has b p a (q .n) (c .before .before .rule2 .given .0 .0) (c .before .before .rule2 .given .0 .1 .0) (c .before .before .rule2 .given .0 .1 .1 .0) (c .before .before .rule2 .given .0 .1 .1 .1 .0) (c .before .before .rule2 .given .0 .1 .1 .1 .1 .0) (subst (λ (r : Rule). FitAsks b p a (q .n) r) (c .before .before .rule2 .given .1) (s .pre)) (c .fit-fixed .result) (c .fit-fixed .ensures))
+    subst (λ (r : Rule). FitHas b p a (q .n) r (c .fit-fixed .result)) (sym (c .before .before .rule2 .given .1)) (fixed-has b p a (q .n) (c .before .before .rule2 .given .0 .0) (c .before .before .rule2 .given .0 .1 .0) (c .before .before .rule2 .given .0 .1 .1 .0) (c .before .before .rule2 .given .0 .1 .1 .1 .0) (c .before .before .rule2 .given .0 .1 .1 .1 .1 .0)
+    (subst (λ (r : Rule). FitAsks b p a (q .n) r) (c .before .before .rule2 .given .1) (s .pre)) (c .fit-fixed .result) (c .fit-fixed .ensures))
 
 returns-4 : tie.Need-returns-4
 returns-4 c =
@@ -186,4 +187,6 @@ returns-10 c =
     subst (λ (r : Rule). FitHas b p a (q .n) r (c .fit-concat .result)) (sym (c .before .enum-told6 .given .1)) (c .fit-concat .ensures)
 
 pub fit-rule-spec : {M : Type 1} → statement M
-fit-rule-spec = tie.close (tie.spec (λ c. search needs) (λ c. search needs) fit-all-requires (λ c. search needs) fit-fixed-requires (λ c. search needs) fit-numbers-requires (λ c. search needs) fit-equal-requires (λ c. search needs) fit-choose-requires (λ c. search needs) fit-array-requires (λ c. search needs) fit-array-requires-2 (λ c. search needs) fit-vectors-requires (λ c. search needs) fit-concat-requires returns returns-2 returns-3 returns-4 returns-5 returns-6 returns-7 returns-8 returns-9 returns-10)
+fit-rule-spec =
+    tie.close (tie.spec (λ c. search needs) (λ c. search needs) fit-all-requires (λ c. search needs) fit-fixed-requires (λ c. search needs) fit-numbers-requires (λ c. search needs) fit-equal-requires (λ c. search needs) fit-choose-requires (λ c. search needs) fit-array-requires (λ c. search needs) fit-array-requires-2 (λ c. search needs) fit-vectors-requires (λ c. search needs)
+    fit-concat-requires returns returns-2 returns-3 returns-4 returns-5 returns-6 returns-7 returns-8 returns-9 returns-10)

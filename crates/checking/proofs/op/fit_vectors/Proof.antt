@@ -39,21 +39,21 @@ returns-2 c =
 
 returns-3 : tie.Need-returns-3
 returns-3 c =
-    let s = c .before .before .before .before .before .before .before .before .before in
+    let c₁ = c .before .before .before .before in let c₂ = c₁ .before in let s = c₂ .before .before .before .before in
     let q = s .args in
-    vectors-same (q .result) (s .pre) (c .before .before .before .before .kind-at .result) (c .before .before .before .before .before .u16-at .ensures .0) (c .before .before .before .before .kind-at .ensures) (c .before .before .all-same .result) (c .before .before .all-same .ensures) (c .before .before .before .if1 .left) (not-false (c .before .before .all-same .result) (c .before .if2 .left)) (c .if3 .taken)
+    vectors-same (q .result) (s .pre) (c₁ .kind-at .result) (c₂ .u16-at .ensures .0) (c₁ .kind-at .ensures) (c .before .before .all-same .result) (c .before .before .all-same .ensures) (c .before .before .before .if1 .left) (not-false (c .before .before .all-same .result) (c .before .if2 .left)) (c .if3 .taken)
 
 returns-4 : tie.Need-returns-4
 returns-4 c =
-    let s = c .before .before .before .before .before .before .before .before .before .before in
+    let c₁ = c .before .before .before .before in let c₂ = c₁ .before in let c₃ = c₂ .before in let s = c₃ .before .before .before .before in
     let q = s .args in
-    vectors-bit (q .result) (s .pre) (c .before .before .before .before .before .kind-at .result) (c .before .before .before .before .before .before .u16-at .ensures .0) (c .before .before .before .before .before .kind-at .ensures) (c .before .before .before .all-same .result) (c .before .before .before .all-same .ensures) (c .before .before .before .before .if1 .left) (not-false (c .before .before .before .all-same .result) (c .before .before .if2 .left)) (c .if4 .taken)
+    vectors-bit (q .result) (s .pre) (c₂ .kind-at .result) (c₃ .u16-at .ensures .0) (c₂ .kind-at .ensures) (c .before .before .before .all-same .result) (c .before .before .before .all-same .ensures) (c₁ .if1 .left) (not-false (c .before .before .before .all-same .result) (c .before .before .if2 .left)) (c .if4 .taken)
 
 returns-5 : tie.Need-returns-5
 returns-5 c =
-    let s = c .before .before .before .before .before .before .before .before .before .before in
+    let c₁ = c .before .before .before .before in let c₂ = c₁ .before in let c₃ = c₂ .before in let s = c₃ .before .before .before .before in
     let q = s .args in
-    vectors-kind (q .result) (s .pre) (c .before .before .before .before .before .kind-at .result) (c .before .before .before .before .before .before .u16-at .ensures .0) (c .before .before .before .before .before .kind-at .ensures) (c .before .before .before .all-same .result) (c .before .before .before .all-same .ensures) (c .before .before .before .before .if1 .left) (not-false (c .before .before .before .all-same .result) (c .before .before .if2 .left)) (c .before .if3 .left) (c .if4 .left)
+    vectors-kind (q .result) (s .pre) (c₂ .kind-at .result) (c₃ .u16-at .ensures .0) (c₂ .kind-at .ensures) (c .before .before .before .all-same .result) (c .before .before .before .all-same .ensures) (c₁ .if1 .left) (not-false (c .before .before .before .all-same .result) (c .before .before .if2 .left)) (c .before .if3 .left) (c .if4 .left)
 
 pub fit-vectors-spec : {M : Type 1} → statement M
 fit-vectors-spec = tie.close (tie.spec u16-at-requires kind-at-requires returns all-same-requires returns-2 returns-3 returns-4 returns-5)

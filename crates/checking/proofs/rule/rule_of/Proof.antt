@@ -37,11 +37,11 @@ returns-7 c = range-is (Vectors 2 0 0) ((95 ∷ []) ∷ (90 ∷ []) ∷ (89 ∷ 
 
 returns-8 : tie.Need-returns-8
 unfolding allOf
-returns-8 c = range-is (Vectors 1 0 4) ((95 ∷ []) ∷ (90 ∷ []) ∷ (89 ∷ []) ∷ []) 108 2 refl (c .before .before .before .before .before .before .before .before .args .op) (c .before .before .before .before .before .before .before .match .rest) (omega (arith, c .before .before .before .before .before .before .before .before .pre)) (omega (arith, c .before .before .before .before .before .before .before .before .pre))
+returns-8 c = let c₁ = c .before .before .before .before .before .before .before in let c₂ = c₁ .before in range-is (Vectors 1 0 4) ((95 ∷ []) ∷ (90 ∷ []) ∷ (89 ∷ []) ∷ []) 108 2 refl (c₂ .args .op) (c₁ .match .rest) (omega (arith, c₂ .pre)) (omega (arith, c₂ .pre))
 
 returns-9 : tie.Need-returns-9
 unfolding allOf
-returns-9 c = range-is Unranked ((95 ∷ []) ∷ (90 ∷ []) ∷ (89 ∷ []) ∷ []) 110 25 refl (c .before .before .before .before .before .before .before .before .args .op) (c .before .before .before .before .before .before .before .match .rest) (omega (arith, c .before .before .before .before .before .before .before .before .pre)) (omega (arith, c .before .before .before .before .before .before .before .before .pre))
+returns-9 c = let c₁ = c .before .before .before .before .before .before .before in let c₂ = c₁ .before in range-is Unranked ((95 ∷ []) ∷ (90 ∷ []) ∷ (89 ∷ []) ∷ []) 110 25 refl (c₂ .args .op) (c₁ .match .rest) (omega (arith, c₂ .pre)) (omega (arith, c₂ .pre))
 
 returns-10 : tie.Need-returns-10
 unfolding allKeys

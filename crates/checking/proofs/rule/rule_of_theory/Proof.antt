@@ -62,23 +62,32 @@ returns-13 c = keys-are Store (43 ∷ []) refl (c .before .args .op) (c .match .
 
 returns-14 : tie.Need-returns-14
 unfolding allOf
-returns-14 c = range-is (Fixed 0 3 3 3 3) ((43 ∷ []) ∷ (42 ∷ []) ∷ (23 ∷ []) ∷ (22 ∷ []) ∷ (21 ∷ []) ∷ (16 ∷ []) ∷ (15 ∷ []) ∷ (14 ∷ []) ∷ (13 ∷ []) ∷ (11 ∷ []) ∷ (10 ∷ 12 ∷ []) ∷ (9 ∷ []) ∷ (2 ∷ []) ∷ []) 0 2 refl (c .before .before .args .op) (c .before .match .rest) (omega (arith, c .before .before .pre)) (omega (arith, c .before .before .pre))
+returns-14 c =
+    range-is (Fixed 0 3 3 3 3) ((43 ∷ []) ∷ (42 ∷ []) ∷ (23 ∷ []) ∷ (22 ∷ []) ∷ (21 ∷ []) ∷ (16 ∷ []) ∷ (15 ∷ []) ∷ (14 ∷ []) ∷ (13 ∷ []) ∷ (11 ∷ []) ∷ (10 ∷ 12 ∷ []) ∷ (9 ∷ []) ∷ (2 ∷ []) ∷ []) 0 2 refl (c .before .before .args .op) (c .before .match .rest) (omega (arith, c .before .before .pre)) (omega (arith, c .before .before .pre))
 
 returns-15 : tie.Need-returns-15
 unfolding allOf
-returns-15 c = range-is (All 3 3) ((43 ∷ []) ∷ (42 ∷ []) ∷ (23 ∷ []) ∷ (22 ∷ []) ∷ (21 ∷ []) ∷ (16 ∷ []) ∷ (15 ∷ []) ∷ (14 ∷ []) ∷ (13 ∷ []) ∷ (11 ∷ []) ∷ (10 ∷ 12 ∷ []) ∷ (9 ∷ []) ∷ (2 ∷ []) ∷ []) 2 5 refl (c .before .before .before .args .op) (c .before .before .match .rest) (omega (arith, c .before .before .before .pre)) (omega (arith, c .before .before .before .pre))
+returns-15 c =
+    range-is (All 3 3) ((43 ∷ []) ∷ (42 ∷ []) ∷ (23 ∷ []) ∷ (22 ∷ []) ∷ (21 ∷ []) ∷ (16 ∷ []) ∷ (15 ∷ []) ∷ (14 ∷ []) ∷ (13 ∷ []) ∷ (11 ∷ []) ∷ (10 ∷ 12 ∷ []) ∷ (9 ∷ []) ∷ (2 ∷ []) ∷ []) 2 5 refl (c .before .before .before .args .op) (c .before .before .match .rest) (omega (arith, c .before .before .before .pre))
+    (omega (arith, c .before .before .before .pre))
 
 returns-16 : tie.Need-returns-16
 unfolding allOf
-returns-16 c = range-is Equal ((43 ∷ []) ∷ (42 ∷ []) ∷ (23 ∷ []) ∷ (22 ∷ []) ∷ (21 ∷ []) ∷ (16 ∷ []) ∷ (15 ∷ []) ∷ (14 ∷ []) ∷ (13 ∷ []) ∷ (11 ∷ []) ∷ (10 ∷ 12 ∷ []) ∷ (9 ∷ []) ∷ (2 ∷ []) ∷ []) 7 2 refl (c .before .before .before .before .args .op) (c .before .before .before .match .rest) (omega (arith, c .before .before .before .before .pre)) (omega (arith, c .before .before .before .before .pre))
+returns-16 c =
+    let c₁ = c .before .before .before .before in
+    range-is Equal ((43 ∷ []) ∷ (42 ∷ []) ∷ (23 ∷ []) ∷ (22 ∷ []) ∷ (21 ∷ []) ∷ (16 ∷ []) ∷ (15 ∷ []) ∷ (14 ∷ []) ∷ (13 ∷ []) ∷ (11 ∷ []) ∷ (10 ∷ 12 ∷ []) ∷ (9 ∷ []) ∷ (2 ∷ []) ∷ []) 7 2 refl (c₁ .args .op) (c .before .before .before .match .rest) (omega (arith, c₁ .pre)) (omega (arith, c₁ .pre))
 
 returns-17 : tie.Need-returns-17
 unfolding allOf
-returns-17 c = range-is (Numbers 2 3) ((43 ∷ []) ∷ (42 ∷ []) ∷ (23 ∷ []) ∷ (22 ∷ []) ∷ (21 ∷ []) ∷ (16 ∷ []) ∷ (15 ∷ []) ∷ (14 ∷ []) ∷ (13 ∷ []) ∷ (11 ∷ []) ∷ (10 ∷ 12 ∷ []) ∷ (9 ∷ []) ∷ (2 ∷ []) ∷ []) 9 12 refl (c .before .before .before .before .before .args .op) (c .before .before .before .before .match .rest) (omega (arith, c .before .before .before .before .before .pre)) (omega (arith, c .before .before .before .before .before .pre))
+returns-17 c =
+    let c₁ = c .before .before .before .before in let c₂ = c₁ .before in
+    range-is (Numbers 2 3) ((43 ∷ []) ∷ (42 ∷ []) ∷ (23 ∷ []) ∷ (22 ∷ []) ∷ (21 ∷ []) ∷ (16 ∷ []) ∷ (15 ∷ []) ∷ (14 ∷ []) ∷ (13 ∷ []) ∷ (11 ∷ []) ∷ (10 ∷ 12 ∷ []) ∷ (9 ∷ []) ∷ (2 ∷ []) ∷ []) 9 12 refl (c₂ .args .op) (c₁ .match .rest) (omega (arith, c₂ .pre)) (omega (arith, c₂ .pre))
 
 returns-18 : tie.Need-returns-18
 unfolding allOf
-returns-18 c = range-is Unranked ((43 ∷ []) ∷ (42 ∷ []) ∷ (23 ∷ []) ∷ (22 ∷ []) ∷ (21 ∷ []) ∷ (16 ∷ []) ∷ (15 ∷ []) ∷ (14 ∷ []) ∷ (13 ∷ []) ∷ (11 ∷ []) ∷ (10 ∷ 12 ∷ []) ∷ (9 ∷ []) ∷ (2 ∷ []) ∷ []) 21 23 refl (c .before .before .before .before .before .args .op) (c .before .before .before .before .match .rest) (omega (arith, c .before .before .before .before .before .pre)) (omega (arith, c .before .before .before .before .before .pre))
+returns-18 c =
+    let c₁ = c .before .before .before .before in let c₂ = c₁ .before in
+    range-is Unranked ((43 ∷ []) ∷ (42 ∷ []) ∷ (23 ∷ []) ∷ (22 ∷ []) ∷ (21 ∷ []) ∷ (16 ∷ []) ∷ (15 ∷ []) ∷ (14 ∷ []) ∷ (13 ∷ []) ∷ (11 ∷ []) ∷ (10 ∷ 12 ∷ []) ∷ (9 ∷ []) ∷ (2 ∷ []) ∷ []) 21 23 refl (c₂ .args .op) (c₁ .match .rest) (omega (arith, c₂ .pre)) (omega (arith, c₂ .pre))
 
 pub rule-of-theory-spec : {M : Type 1} → statement M
 rule-of-theory-spec = tie.close (tie.spec returns returns-2 returns-3 returns-4 returns-5 returns-6 returns-7 returns-8 returns-9 returns-10 returns-11 returns-12 returns-13 returns-14 returns-15 returns-16 returns-17 returns-18)

@@ -44,7 +44,7 @@ lambda-requires c κs =
 
 returns : tie.Need-returns
 returns c =
-    let s = c .before .before .before .before .before .before .before .before .before .before .before .before .before .before .before .before .before .before .before .before .before .before in
+    let c₁ = c .before .before .before .before .before .before .before .before in let c₂ = c₁ .before .before .before .before .before in let c₃ = c₂ .before .before in let s = c₃ .before .before .before .before .before .before .before in
     let a = s .args in
     let b = a .records .now in
     let p = a .places .now in
@@ -56,8 +56,8 @@ returns c =
     let z = a .sheet .now in
     let t = a .table .now in
     let r = a .term in
-    let d = c .before .before .before .before .before .before .before .before .lambda .last in
-    judged-as {b = b} {p = p} {n = n} {b′ = d .0} {p′ = d .1 .0} {ix′ = d .1 .1 .0} (lambda-is b p n z t r x (args-refer b p ix n u x m (s .pre .args)) (s .pre .body) (c .before .before .before .before .before .before .before .before .before .before .before .before .before .u16-at .ensures .0) (c .before .before .before .before .before .before .before .before .before .before .before .before .before .before .before .if1 .taken)) (c .before .before .before .before .before .before .before .before .lambda .ensures)
+    let d = c₁ .lambda .last in
+    judged-as {b = b} {p = p} {n = n} {b′ = d .0} {p′ = d .1 .0} {ix′ = d .1 .1 .0} (lambda-is b p n z t r x (args-refer b p ix n u x m (s .pre .args)) (s .pre .body) (c₂ .u16-at .ensures .0) (c₃ .if1 .taken)) (c₁ .lambda .ensures)
 
 leaf-requires : tie.Need-leaf-requires
 unfolding mapOf maps
@@ -129,7 +129,7 @@ cast-k c = omega (arith, c .shared-slice-known3 .given (c .before .u16-at2 .resu
 
 returns-4 : tie.Need-returns-4
 returns-4 c =
-    let s = c .before .before .before .before .before .before .before .before .before .before .before .before in
+    let c₁ = c .before .before .before .before in let s = c₁ .before .before .before .before .before .before .before .before in
     let a = s .args in
     let b = a .records .now in
     let p = a .places .now in
@@ -140,7 +140,8 @@ returns-4 c =
     let z = a .sheet .now in
     let t = a .table .now in
     let r = a .term in
-    judged-as (choice-is b p n z t r x (s .pre .pairs) (positive (r .paired) (c .before .before .before .if3 .left)) (c .before .before .u16-at2 .ensures .0) (c .before .before .before .before .if2 .left)) (answered-as (c .found .ensures) (answer-known b p ix n u (s .pre .args .good) (getD t (c .before .before .u16-at2 .result) 0) (choice-known b p n z t r x (s .pre .pairs) (positive (r .paired) (c .before .before .before .if3 .left)) (c .before .before .u16-at2 .ensures .0))))
+    judged-as (choice-is b p n z t r x (s .pre .pairs) (positive (r .paired) (c .before .before .before .if3 .left)) (c .before .before .u16-at2 .ensures .0) (c₁ .if2 .left))
+    (answered-as (c .found .ensures) (answer-known b p ix n u (s .pre .args .good) (getD t (c .before .before .u16-at2 .result) 0) (choice-known b p n z t r x (s .pre .pairs) (positive (r .paired) (c .before .before .before .if3 .left)) (c .before .before .u16-at2 .ensures .0))))
 
 pub bound-spec : {M : Type 1} → statement M
 bound-spec = tie.close (tie.spec u16-at-requires lambda-requires (λ c. search needs) (λ c. search needs) (λ c. search needs) (λ c. search needs) returns leaf-requires (λ c. search needs) (λ c. search needs) (λ c. search needs) returns-2 (λ c κs. search needs) returns-3 add-u16-at u16-at-requires-2 mul-k shared-slice-read-k cast-k (λ c κs. search needs) returns-4)

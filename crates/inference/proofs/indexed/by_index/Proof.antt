@@ -72,7 +72,7 @@ returns-3 c =
 
 returns-4 : tie.Need-returns-4
 returns-4 c =
-    let s = c .before .before .before .before .before .before .before .before .before .before .before .before .before .before .before .before .before .before in
+    let c₁ = c .before .before .before .before .before .before in let c₂ = c₁ .before .before .before .before in let c₃ = c₂ .before in let s = c₃ .before .before .before .before .before .before .before in
     let a = s .args in
     let b = a .records .now in
     let p = a .places .now in
@@ -81,8 +81,9 @@ returns-4 c =
     let m = a .n in
     let z = a .sheet .now in
     let t = a .starts .now in
-    let e : a .op ≡ 9 = ⊎-elim (λ v. convert-low (s .pre .first .looks) (c .before .before .before .before .before .before .before .before .before .before .before .match .rest .0 .1) (v .taken)) (λ v. convert-high (s .pre .first .looks) (c .before .before .before .before .before .before .before .before .before .before .before .match .rest .1) (v .1 .left)) (c .before .before .before .before .before .before .before .before .before .before .if1 .came) in
-    judged-as (given-convert (a .i) (constantsIn z t (a .second + 2) (a .seconds - 1)) (sortsIn b p n x 3 m) e) (c .before .before .before .before .before .before .bit-vector .ensures)
+    let e : a .op ≡ 9 = ⊎-elim (λ v. convert-low (s .pre .first .looks) (c₃ .match .rest .0 .1) (v .taken)) (λ v. convert-high (s .pre .first .looks) (c₃ .match .rest .1) (v .1 .left)) (c₂ .if1 .came) in
+    judged-as (given-convert (a .i) (constantsIn z t (a .second + 2) (a .seconds - 1)) (sortsIn b p n x 3 m) e) (c₁ .bit-vector .ensures)
 
 pub by-index-spec : {M : Type 1} → statement M
-by-index-spec = tie.close (tie.spec extracted-requires resized-requires resized-requires-2 bit-vector-requires (λ c. search needs) (λ c. search needs) (λ c. search needs) returns (λ c. search needs) (λ c. search needs) (λ c. search needs) returns-2 (λ c. search needs) (λ c. search needs) (λ c. search needs) returns-3 (λ c. search needs) (λ c. search needs) (λ c. search needs) returns-4)
+by-index-spec =
+    tie.close (tie.spec extracted-requires resized-requires resized-requires-2 bit-vector-requires (λ c. search needs) (λ c. search needs) (λ c. search needs) returns (λ c. search needs) (λ c. search needs) (λ c. search needs) returns-2 (λ c. search needs) (λ c. search needs) (λ c. search needs) returns-3 (λ c. search needs) (λ c. search needs) (λ c. search needs) returns-4)

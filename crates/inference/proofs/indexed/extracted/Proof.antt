@@ -40,7 +40,7 @@ index-at-requires c κs =
 
 returns-2 : tie.Need-returns-2
 returns-2 c =
-    let s = c .before .before .before .before .before .before .before .before .before .before .before .before in
+    let c₁ = c .before .before .before .before .before in let c₂ = c₁ .before in let s = c₂ .before .before .before .before .before .before in
     let a = s .args in
     let b = a .records .now in
     let p = a .places .now in
@@ -49,7 +49,7 @@ returns-2 c =
     let u = a .used in
     let z = a .sheet .now in
     let t = a .starts .now in
-    judged-as (extract-second z t (a .second) (a .seconds) (a .i) (c .before .before .before .before .before .before .if1 .left) (c .before .before .before .before .before .index-at .ensures) ∙ ap (λ (o : Constant). extractBy (a .i) (integerOf o)) (c .before .before .before .low .given .1) ∙ extract-over (a .i) (c .before .before .before .low .given .0 .0) (c .before .if2 .taken)) (answered-as (c .refuse2 .ensures) (answer-refused b p ix n u (s .pre .good) Panics))
+    judged-as (extract-second z t (a .second) (a .seconds) (a .i) (c₂ .if1 .left) (c₁ .index-at .ensures) ∙ ap (λ (o : Constant). extractBy (a .i) (integerOf o)) (c .before .before .before .low .given .1) ∙ extract-over (a .i) (c .before .before .before .low .given .0 .0) (c .before .if2 .taken)) (answered-as (c .refuse2 .ensures) (answer-refused b p ix n u (s .pre .good) Panics))
 
 add-bit-vector : tie.Need-add-bit-vector
 add-bit-vector c =
@@ -69,19 +69,19 @@ leaf-requires c κs =
 
 returns-3 : tie.Need-returns-3
 returns-3 c =
-    let s = c .before .before .before .before .before .before .before .before .before .before .before .before .before .before .before .before .before .before .before .before .before in
+    let c₁ = c .before .before .before .before .before .before in let c₂ = c₁ .before .before .before .before in let c₃ = c₂ .before .before in let c₄ = c₃ .before .before in let c₅ = c₄ .before in let s = c₅ .before .before .before .before .before .before in
     let a = s .args in
     let z = a .sheet .now in
     let t = a .starts .now in
-    judged-as (extract-second z t (a .second) (a .seconds) (a .i) (c .before .before .before .before .before .before .before .before .before .before .before .before .before .before .before .if1 .left) (c .before .before .before .before .before .before .before .before .before .before .before .before .before .before .index-at .ensures) ∙ ap (λ (o : Constant). extractBy (a .i) (integerOf o)) (c .before .before .before .before .before .before .before .before .before .before .before .before .low .given .1) ∙ extract-fits (a .i) (c .before .before .before .before .before .before .before .before .before .before .before .before .low .given .0 .0) (c .before .before .before .before .before .before .before .before .before .before .if2 .left)) (c .before .before .before .before .before .before .bit-vector .ensures)
+    judged-as (extract-second z t (a .second) (a .seconds) (a .i) (c₅ .if1 .left) (c₄ .index-at .ensures) ∙ ap (λ (o : Constant). extractBy (a .i) (integerOf o)) (c₃ .low .given .1) ∙ extract-fits (a .i) (c₃ .low .given .0 .0) (c₂ .if2 .left)) (c₁ .bit-vector .ensures)
 
 returns-4 : tie.Need-returns-4
 returns-4 c =
-    let s = c .before .before .before .before .before .before .before .before .before .before .before .before .before .before .before .before .before .before .before in
+    let c₁ = c .before .before .before .before .before .before in let c₂ = c₁ .before .before .before .before in let c₃ = c₂ .before .before in let c₄ = c₃ .before in let s = c₄ .before .before .before .before .before .before in
     let a = s .args in
     let z = a .sheet .now in
     let t = a .starts .now in
-    judged-as (extract-second z t (a .second) (a .seconds) (a .i) (c .before .before .before .before .before .before .before .before .before .before .before .before .before .if1 .left) (c .before .before .before .before .before .before .before .before .before .before .before .before .index-at .ensures) ∙ ap (λ (o : Constant). extractBy (a .i) (integerOf o)) (c .before .before .before .before .before .before .before .before .before .before .enum-told .given .1)) (c .before .before .before .before .before .before .leaf .ensures)
+    judged-as (extract-second z t (a .second) (a .seconds) (a .i) (c₄ .if1 .left) (c₃ .index-at .ensures) ∙ ap (λ (o : Constant). extractBy (a .i) (integerOf o)) (c₂ .enum-told .given .1)) (c₁ .leaf .ensures)
 
 pub extracted-spec : {M : Type 1} → statement M
 extracted-spec = tie.close (tie.spec (λ c κs. search needs) returns add-index-at index-at-requires (λ c. search needs) (λ c κs. search needs) returns-2 add-bit-vector bit-vector-requires (λ c. search needs) leaf-requires (λ c. search needs) (λ c. search needs) (λ c. search needs) returns-3 (λ c. search needs) (λ c. search needs) (λ c. search needs) returns-4)

@@ -53,7 +53,7 @@ leaf-requires c κs =
 
 returns-2 : tie.Need-returns-2
 returns-2 c =
-    let s = c .before .before .before .before .before .before .before .before .before .before .before .before .before .before .before .before .before .before .before .before .before in
+    let c₁ = c .before .before .before .before .before .before in let c₂ = c₁ .before .before .before .before .before in let c₃ = c₂ .before .before in let c₄ = c₃ .before in let s = c₄ .before .before .before .before .before .before .before in
     let a = s .args in
     let b = a .records .now in
     let p = a .places .now in
@@ -62,12 +62,12 @@ returns-2 c =
     let m = a .n in
     let z = a .sheet .now in
     let t = a .starts .now in
-    let d = c .before .before .before .before .before .before .by-index .last in
-    judged-as {b = b} {p = p} {n = n} {b′ = d .0} {p′ = d .1 .0} {ix′ = d .1 .1 .0} (looks-first (a .seconds) (positive (a .seconds) (c .before .before .before .before .before .before .before .before .before .before .before .before .before .before .if1 .left)) (c .before .before .before .before .before .before .before .before .before .before .before .before .before .index-at .ensures) (a .op) (sortsIn b p n x 3 m) ∙ ap (λ (o : Constant). indexed (a .op) (integerOf o ∷ constantsIn z t (a .second + 2) (a .seconds - 1)) (sortsIn b p n x 3 m)) (c .before .before .before .before .before .before .before .before .before .before .before .first .given .1)) (c .before .before .before .before .before .before .by-index .ensures)
+    let d = c₁ .by-index .last in
+    judged-as {b = b} {p = p} {n = n} {b′ = d .0} {p′ = d .1 .0} {ix′ = d .1 .1 .0} (looks-first (a .seconds) (positive (a .seconds) (c₄ .if1 .left)) (c₃ .index-at .ensures) (a .op) (sortsIn b p n x 3 m) ∙ ap (λ (o : Constant). indexed (a .op) (integerOf o ∷ constantsIn z t (a .second + 2) (a .seconds - 1)) (sortsIn b p n x 3 m)) (c₂ .first .given .1)) (c₁ .by-index .ensures)
 
 returns-3 : tie.Need-returns-3
 returns-3 c =
-    let s = c .before .before .before .before .before .before .before .before .before .before .before .before .before .before .before .before .before .before .before .before in
+    let c₁ = c .before .before .before .before .before .before in let c₂ = c₁ .before .before .before .before in let c₃ = c₂ .before .before in let c₄ = c₃ .before in let s = c₄ .before .before .before .before .before .before .before in
     let a = s .args in
     let b = a .records .now in
     let p = a .places .now in
@@ -76,7 +76,8 @@ returns-3 c =
     let m = a .n in
     let z = a .sheet .now in
     let t = a .starts .now in
-    judged-as (looks-first (a .seconds) (positive (a .seconds) (c .before .before .before .before .before .before .before .before .before .before .before .before .before .if1 .left)) (c .before .before .before .before .before .before .before .before .before .before .before .before .index-at .ensures) (a .op) (sortsIn b p n x 3 m) ∙ ap (λ (o : Constant). indexed (a .op) (integerOf o ∷ constantsIn z t (a .second + 2) (a .seconds - 1)) (sortsIn b p n x 3 m)) (c .before .before .before .before .before .before .before .before .before .before .enum-told .given .1) ∙ looks-unknown (constantsIn z t (a .second + 2) (a .seconds - 1)) (sortsIn b p n x 3 m) (s .pre .looks)) (c .before .before .before .before .before .before .leaf .ensures)
+    judged-as (looks-first (a .seconds) (positive (a .seconds) (c₄ .if1 .left)) (c₃ .index-at .ensures) (a .op) (sortsIn b p n x 3 m) ∙ ap (λ (o : Constant). indexed (a .op) (integerOf o ∷ constantsIn z t (a .second + 2) (a .seconds - 1)) (sortsIn b p n x 3 m)) (c₂ .enum-told .given .1) ∙ looks-unknown (constantsIn z t (a .second + 2) (a .seconds - 1)) (sortsIn b p n x 3 m)
+    (s .pre .looks)) (c₁ .leaf .ensures)
 
 pub first-index-spec : {M : Type 1} → statement M
 first-index-spec = tie.close (tie.spec (λ c κs. search needs) returns index-at-requires (λ c. search needs) by-index-requires (λ c. search needs) leaf-requires (λ c. search needs) (λ c. search needs) (λ c. search needs) returns-2 (λ c. search needs) (λ c. search needs) (λ c. search needs) returns-3)

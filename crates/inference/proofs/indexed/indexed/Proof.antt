@@ -87,7 +87,7 @@ returns-3 c =
 
 returns-4 : tie.Need-returns-4
 returns-4 c =
-    let s = c .before .before .before .before .before .before .before .before .before .before .before .before .before .before .before .before .before .before .before .before .before in
+    let c₁ = c .before .before .before .before .before .before in let c₂ = c₁ .before .before .before .before in let c₃ = c₂ .before in let c₄ = c₃ .before .before .before in let s = c₄ .before .before .before .before .before .before .before in
     let a = s .args in
     let b = a .records .now in
     let p = a .places .now in
@@ -96,11 +96,11 @@ returns-4 c =
     let m = a .n in
     let z = a .sheet .now in
     let t = a .starts .now in
-    judged-as (regular (constantsIn z t (a .second) (a .seconds)) (sortsIn b p n x 3 m) (a .op) (c .before .before .before .before .before .before .before .before .before .before .before .if3 .left) (c .before .before .before .before .before .before .before .before .before .before .if4 .taken) (c .before .before .before .before .before .before .before .before .before .before .before .before .before .before .match .rest .0 .0 .1)) (c .before .before .before .before .before .before .leaf3 .ensures)
+    judged-as (regular (constantsIn z t (a .second) (a .seconds)) (sortsIn b p n x 3 m) (a .op) (c₃ .if3 .left) (c₂ .if4 .taken) (c₄ .match .rest .0 .0 .1)) (c₁ .leaf3 .ensures)
 
 returns-5 : tie.Need-returns-5
 returns-5 c =
-    let s = c .before .before .before .before .before .before .before .before .before .before .before in
+    let c₁ = c .before .before .before .before in let s = c₁ .before .before .before .before .before .before .before in
     let a = s .args in
     let b = a .records .now in
     let p = a .places .now in
@@ -111,11 +111,14 @@ returns-5 c =
     let m = a .n in
     let z = a .sheet .now in
     let t = a .starts .now in
-    let e : indexed (a .op) (constantsIn z t (a .second) (a .seconds)) (sortsIn b p n x 3 m) ≡ refused Panics = ⊎-elim (λ v. unwritten (constantsIn z t (a .second) (a .seconds)) (sortsIn b p n x 3 m) (a .op) (c .before .before .if2 .left) (v .taken) (c .before .before .before .before .match .rest .0 .0 .1)) (λ v. no-operator (constantsIn z t (a .second) (a .seconds)) (sortsIn b p n x 3 m) (a .op) (v .1 .left)) (c .before .if3 .came) in
+    let e : indexed (a .op) (constantsIn z t (a .second) (a .seconds)) (sortsIn b p n x 3 m) ≡ refused Panics = ⊎-elim (λ v. unwritten (constantsIn z t (a .second) (a .seconds)) (sortsIn b p n x 3 m) (a .op) (c .before .before .if2 .left) (v .taken) (c₁ .match .rest .0 .0 .1)) (λ v. no-operator (constantsIn z t (a .second) (a .seconds)) (sortsIn b p n x 3 m) (a .op) (v .1 .left))
+    (c .before .if3 .came) in
     judged-as (e) (answered-as (c .refuse .ensures) (answer-refused b p ix n u (s .pre .args .good) Panics))
 
 returns-6 : tie.Need-returns-6
 returns-6 c = c .before .before .before .before .before .before .first-index .ensures
 
 pub indexed-spec : {M : Type 1} → statement M
-indexed-spec = tie.close (tie.spec leaf-requires leaf-requires-2 argument-requires leaf-requires-3 (λ c κs. search needs) first-index-requires (λ c. search needs) (λ c. search needs) (λ c. search needs) returns (λ c. search needs) (λ c. search needs) (λ c. search needs) returns-2 returns-3 (λ c. search needs) (λ c. search needs) (λ c. search needs) returns-4 returns-5 (λ c. search needs) (λ c. search needs) (λ c. search needs) returns-6)
+indexed-spec =
+    tie.close (tie.spec leaf-requires leaf-requires-2 argument-requires leaf-requires-3 (λ c κs. search needs) first-index-requires (λ c. search needs) (λ c. search needs) (λ c. search needs) returns (λ c. search needs) (λ c. search needs) (λ c. search needs) returns-2 returns-3 (λ c. search needs) (λ c. search needs) (λ c. search needs) returns-4 returns-5
+    (λ c. search needs) (λ c. search needs) (λ c. search needs) returns-6)

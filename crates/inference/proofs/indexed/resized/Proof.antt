@@ -57,7 +57,7 @@ leaf-requires c κs =
 
 returns-2 : tie.Need-returns-2
 returns-2 c =
-    let s = c .before .before .before .before .before .before .before .before .before .before .before .before .before .before .before .before .before .before .before .before in
+    let c₁ = c .before .before .before .before .before .before in let c₂ = c₁ .before .before .before .before in let c₃ = c₂ .before in let c₄ = c₃ .before .before .before in let c₅ = c₄ .before in let s = c₅ .before .before .before .before .before in
     let a = s .args in
     let b = a .records .now in
     let p = a .places .now in
@@ -66,11 +66,11 @@ returns-2 c =
     let u = a .used in
     let x = a .args .now in
     let m = a .n in
-    judged-as (resized-unknown (args-refer b p ix n u x m (s .pre .args)) (positive m (c .before .before .before .before .before .before .before .before .before .before .before .before .before .before .before .if1 .left)) (c .before .before .before .before .before .before .before .before .before .before .before .before .before .before .u16-at .ensures .0) (c .before .before .before .before .before .before .before .before .before .before .before .entry .result) (c .before .before .before .before .before .before .before .before .before .before .before .entry .ensures) (resizing (a .adds) (a .i)) (c .before .before .before .before .before .before .before .before .before .before .if2 .taken)) (c .before .before .before .before .before .before .leaf .ensures)
+    judged-as (resized-unknown (args-refer b p ix n u x m (s .pre .args)) (positive m (c₅ .if1 .left)) (c₄ .u16-at .ensures .0) (c₃ .entry .result) (c₃ .entry .ensures) (resizing (a .adds) (a .i)) (c₂ .if2 .taken)) (c₁ .leaf .ensures)
 
 returns-3 : tie.Need-returns-3
 returns-3 c =
-    let s = c .before .before .before .before .before .before .before .before .before .before .before .before in
+    let c₁ = c .before .before .before .before .before .before in let c₂ = c₁ .before in let s = c₂ .before .before .before .before .before in
     let a = s .args in
     let b = a .records .now in
     let p = a .places .now in
@@ -79,11 +79,11 @@ returns-3 c =
     let u = a .used in
     let x = a .args .now in
     let m = a .n in
-    judged-as (resized-other (args-refer b p ix n u x m (s .pre .args)) (positive m (c .before .before .before .before .before .before .before .if1 .left)) (c .before .before .before .before .before .before .u16-at .ensures .0) (c .before .before .before .entry .result) (c .before .before .before .entry .ensures) (resizing (a .adds) (a .i)) (c .before .if3 .taken) (c .before .before .if2 .left)) (answered-as (c .refuse2 .ensures) (answer-refused b p ix n u (s .pre .args .good) Panics))
+    judged-as (resized-other (args-refer b p ix n u x m (s .pre .args)) (positive m (c₂ .if1 .left)) (c₁ .u16-at .ensures .0) (c .before .before .before .entry .result) (c .before .before .before .entry .ensures) (resizing (a .adds) (a .i)) (c .before .if3 .taken) (c .before .before .if2 .left)) (answered-as (c .refuse2 .ensures) (answer-refused b p ix n u (s .pre .args .good) Panics))
 
 add-bit-vector : tie.Need-add-bit-vector
 add-bit-vector c =
-    let s = c .before .before .before .before .before .before .before .before .before .before .before .before .before .before .before in
+    let c₁ = c .before .before .before .before .before .before in let c₂ = c₁ .before .before .before in let c₃ = c₂ .before in let s = c₃ .before .before .before .before .before in
     let a = s .args in
     let b = a .records .now in
     let p = a .places .now in
@@ -92,7 +92,7 @@ add-bit-vector c =
     let u = a .used in
     let x = a .args .now in
     let m = a .n in
-    omega (arith, s .pre .small, width-small (args-refer b p ix n u x m (s .pre .args)) (positive m (c .before .before .before .before .before .before .before .before .before .before .if1 .left)) (c .before .before .before .before .before .before .before .before .before .u16-at .ensures .0) (c .before .before .before .before .before .before .entry .result) (c .before .before .before .before .before .before .entry .ensures))
+    omega (arith, s .pre .small, width-small (args-refer b p ix n u x m (s .pre .args)) (positive m (c₃ .if1 .left)) (c₂ .u16-at .ensures .0) (c₁ .entry .result) (c₁ .entry .ensures))
 
 bit-vector-requires : tie.Need-bit-vector-requires
 bit-vector-requires c κs =
@@ -101,7 +101,7 @@ bit-vector-requires c κs =
 
 returns-4 : tie.Need-returns-4
 returns-4 c =
-    let s = c .before .before .before .before .before .before .before .before .before .before .before .before .before .before .before .before .before .before .before .before .before .before in
+    let c₁ = c .before .before .before .before .before .before in let c₂ = c₁ .before .before .before .before in let c₃ = c₂ .before in let c₄ = c₃ .before .before in let c₅ = c₄ .before .before .before in let c₆ = c₅ .before in let s = c₆ .before .before .before .before .before in
     let a = s .args in
     let b = a .records .now in
     let p = a .places .now in
@@ -110,11 +110,11 @@ returns-4 c =
     let u = a .used in
     let x = a .args .now in
     let m = a .n in
-    judged-as (resized-known (args-refer b p ix n u x m (s .pre .args)) (positive m (c .before .before .before .before .before .before .before .before .before .before .before .before .before .before .before .before .before .if1 .left)) (c .before .before .before .before .before .before .before .before .before .before .before .before .before .before .before .before .u16-at .ensures .0) (c .before .before .before .before .before .before .before .before .before .before .before .before .before .entry .result) (c .before .before .before .before .before .before .before .before .before .before .before .before .before .entry .ensures) (resizing (a .adds) (a .i)) (c .before .before .before .before .before .before .before .before .before .before .before .if3 .left) ∙ ap (λ (d : Bool). sort (bitvec (resizing d (a .i) (c .before .before .before .before .before .before .before .before .before .before .before .before .before .entry .result .number)))) (c .before .before .before .before .before .before .before .before .before .before .if4 .taken)) (c .before .before .before .before .before .before .bit-vector .ensures)
+    judged-as (resized-known (args-refer b p ix n u x m (s .pre .args)) (positive m (c₆ .if1 .left)) (c₅ .u16-at .ensures .0) (c₄ .entry .result) (c₄ .entry .ensures) (resizing (a .adds) (a .i)) (c₃ .if3 .left) ∙ ap (λ (d : Bool). sort (bitvec (resizing d (a .i) (c₄ .entry .result .number)))) (c₂ .if4 .taken)) (c₁ .bit-vector .ensures)
 
 mul-bit-vector : tie.Need-mul-bit-vector
 mul-bit-vector c =
-    let s = c .before .before .before .before .before .before .before .before .before .before .before .before .before .before .before in
+    let c₁ = c .before .before .before .before .before .before in let c₂ = c₁ .before .before .before in let c₃ = c₂ .before in let s = c₃ .before .before .before .before .before in
     let a = s .args in
     let b = a .records .now in
     let p = a .places .now in
@@ -123,7 +123,7 @@ mul-bit-vector c =
     let u = a .used in
     let x = a .args .now in
     let m = a .n in
-    omega (arith, times-small (a .i) (c .before .before .before .before .before .before .entry .result .number) (s .pre .small) (width-small (args-refer b p ix n u x m (s .pre .args)) (positive m (c .before .before .before .before .before .before .before .before .before .before .if1 .left)) (c .before .before .before .before .before .before .before .before .before .u16-at .ensures .0) (c .before .before .before .before .before .before .entry .result) (c .before .before .before .before .before .before .entry .ensures)))
+    omega (arith, times-small (a .i) (c₁ .entry .result .number) (s .pre .small) (width-small (args-refer b p ix n u x m (s .pre .args)) (positive m (c₃ .if1 .left)) (c₂ .u16-at .ensures .0) (c₁ .entry .result) (c₁ .entry .ensures)))
 
 bit-vector-requires-2 : tie.Need-bit-vector-requires-2
 bit-vector-requires-2 c κs =
@@ -132,7 +132,7 @@ bit-vector-requires-2 c κs =
 
 returns-5 : tie.Need-returns-5
 returns-5 c =
-    let s = c .before .before .before .before .before .before .before .before .before .before .before .before .before .before .before .before .before .before .before .before .before .before in
+    let c₁ = c .before .before .before .before .before .before in let c₂ = c₁ .before .before .before .before in let c₃ = c₂ .before in let c₄ = c₃ .before .before in let c₅ = c₄ .before .before .before in let c₆ = c₅ .before in let s = c₆ .before .before .before .before .before in
     let a = s .args in
     let b = a .records .now in
     let p = a .places .now in
@@ -141,7 +141,9 @@ returns-5 c =
     let u = a .used in
     let x = a .args .now in
     let m = a .n in
-    judged-as (resized-known (args-refer b p ix n u x m (s .pre .args)) (positive m (c .before .before .before .before .before .before .before .before .before .before .before .before .before .before .before .before .before .if1 .left)) (c .before .before .before .before .before .before .before .before .before .before .before .before .before .before .before .before .u16-at .ensures .0) (c .before .before .before .before .before .before .before .before .before .before .before .before .before .entry .result) (c .before .before .before .before .before .before .before .before .before .before .before .before .before .entry .ensures) (resizing (a .adds) (a .i)) (c .before .before .before .before .before .before .before .before .before .before .before .if3 .left) ∙ ap (λ (d : Bool). sort (bitvec (resizing d (a .i) (c .before .before .before .before .before .before .before .before .before .before .before .before .before .entry .result .number)))) (c .before .before .before .before .before .before .before .before .before .before .if4 .left)) (c .before .before .before .before .before .before .bit-vector2 .ensures)
+    judged-as (resized-known (args-refer b p ix n u x m (s .pre .args)) (positive m (c₆ .if1 .left)) (c₅ .u16-at .ensures .0) (c₄ .entry .result) (c₄ .entry .ensures) (resizing (a .adds) (a .i)) (c₃ .if3 .left) ∙ ap (λ (d : Bool). sort (bitvec (resizing d (a .i) (c₄ .entry .result .number)))) (c₂ .if4 .left)) (c₁ .bit-vector2 .ensures)
 
 pub resized-spec : {M : Type 1} → statement M
-resized-spec = tie.close (tie.spec (λ c κs. search needs) returns u16-at-requires entry-requires leaf-requires (λ c. search needs) (λ c. search needs) (λ c. search needs) returns-2 (λ c κs. search needs) (λ c. search needs) (λ c. search needs) returns-3 add-bit-vector bit-vector-requires (λ c. search needs) (λ c. search needs) (λ c. search needs) returns-4 mul-bit-vector bit-vector-requires-2 (λ c. search needs) (λ c. search needs) (λ c. search needs) returns-5)
+resized-spec =
+    tie.close (tie.spec (λ c κs. search needs) returns u16-at-requires entry-requires leaf-requires (λ c. search needs) (λ c. search needs) (λ c. search needs) returns-2 (λ c κs. search needs) (λ c. search needs) (λ c. search needs) returns-3 add-bit-vector bit-vector-requires (λ c. search needs) (λ c. search needs) (λ c. search needs) returns-4 mul-bit-vector
+    bit-vector-requires-2 (λ c. search needs) (λ c. search needs) (λ c. search needs) returns-5)

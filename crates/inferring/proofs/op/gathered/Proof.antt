@@ -120,4 +120,6 @@ returns-6 c =
     judged-as (ap (λ (f : Family). operatedBy f (sortsIn b p n x 3 m) noConstants) (product-only (a .family) (s .pre .made) (c .before .before .before .before .before .before .before .before .before .before .before .before .before .match .keys6))) (c .before .before .before .before .before .before .before .before .product .ensures)
 
 pub gathered-spec : {M : Type 1} → statement M
-gathered-spec = tie.close (tie.spec (λ c. search needs) singleton-requires (λ c. search needs) listed-requires (λ c. search needs) listed-requires-2 (λ c. search needs) transpose-requires (λ c. search needs) join-requires product-requires (λ c. search needs) (λ c. search needs) (λ c. search needs) (λ c. search needs) returns (λ c. search needs) (λ c. search needs) (λ c. search needs) (λ c. search needs) returns-2 (λ c. search needs) (λ c. search needs) (λ c. search needs) (λ c. search needs) returns-3 (λ c. search needs) (λ c. search needs) (λ c. search needs) (λ c. search needs) returns-4 (λ c. search needs) (λ c. search needs) (λ c. search needs) (λ c. search needs) returns-5 (λ c. search needs) (λ c. search needs) (λ c. search needs) (λ c. search needs) returns-6)
+gathered-spec =
+    tie.close (tie.spec (λ c. search needs) singleton-requires (λ c. search needs) listed-requires (λ c. search needs) listed-requires-2 (λ c. search needs) transpose-requires (λ c. search needs) join-requires product-requires (λ c. search needs) (λ c. search needs) (λ c. search needs) (λ c. search needs) returns (λ c. search needs) (λ c. search needs) (λ c. search needs)
+    (λ c. search needs) returns-2 (λ c. search needs) (λ c. search needs) (λ c. search needs) (λ c. search needs) returns-3 (λ c. search needs) (λ c. search needs) (λ c. search needs) (λ c. search needs) returns-4 (λ c. search needs) (λ c. search needs) (λ c. search needs) (λ c. search needs) returns-5 (λ c. search needs) (λ c. search needs) (λ c. search needs) (λ c. search needs) returns-6)

@@ -42,7 +42,7 @@ looked-requires c κs =
 
 returns : tie.Need-returns
 returns c =
-    let s = c .before .before .before .before .before .before .before .before .before .before .before .before .before .before .before .before .before .before .before .before .before in
+    let c₁ = c .before .before .before .before .before .before in let c₂ = c₁ .before .before .before .before .before in let c₃ = c₂ .before .before in let c₄ = c₃ .before in let s = c₄ .before .before .before .before .before .before .before in
     let a = s .args in
     let b = a .records .now in
     let p = a .places .now in
@@ -51,11 +51,11 @@ returns c =
     let m = a .n in
     let ss = sortsIn b p n x 3 m in
     let cs = constantsIn (a .sheet .now) (a .starts .now) (a .list) (a .n) in
-    judged-as (ap (λ (f : Family). operatedBy f ss cs) (sym (c .before .before .before .before .before .before .before .before .before .before .before .before .before .before .family-of .ensures)) ∙ (subst (PlainIs (c .before .before .before .before .before .before .before .before .before .before .before .before .before .before .family-of .result) m) (c .before .before .before .before .before .before .before .before .before .before .before .plain .given .1) (c .before .before .before .before .before .before .before .before .before .before .before .before .before .plain-of .ensures)) .1 ss cs) (c .before .before .before .before .before .before .leaf .ensures)
+    judged-as (ap (λ (f : Family). operatedBy f ss cs) (sym (c₄ .family-of .ensures)) ∙ (subst (PlainIs (c₄ .family-of .result) m) (c₂ .plain .given .1) (c₃ .plain-of .ensures)) .1 ss cs) (c₁ .leaf .ensures)
 
 returns-2 : tie.Need-returns-2
 returns-2 c =
-    let s = c .before .before .before .before .before .before .before .before .before .before .before .before .before .before .before .before .before .before .before .before .before in
+    let c₁ = c .before .before .before .before .before .before in let c₂ = c₁ .before .before .before .before .before in let c₃ = c₂ .before .before in let c₄ = c₃ .before in let s = c₄ .before .before .before .before .before .before .before in
     let a = s .args in
     let b = a .records .now in
     let p = a .places .now in
@@ -64,12 +64,12 @@ returns-2 c =
     let m = a .n in
     let ss = sortsIn b p n x 3 m in
     let cs = constantsIn (a .sheet .now) (a .starts .now) (a .list) (a .n) in
-    judged-as (ap (λ (f : Family). operatedBy f ss cs) (sym (c .before .before .before .before .before .before .before .before .before .before .before .before .before .before .family-of .ensures)) ∙ (subst (PlainIs (c .before .before .before .before .before .before .before .before .before .before .before .before .before .before .family-of .result) m) (c .before .before .before .before .before .before .before .before .before .before .before .plain2 .given .1) (c .before .before .before .before .before .before .before .before .before .before .before .before .before .plain-of .ensures)) ss cs (count-sorts (storeOf b p n) (numbersAt x 3 m) ∙ length-numbersAt x 3 m)) (c .before .before .before .before .before .before .bit-vector .ensures)
+    judged-as (ap (λ (f : Family). operatedBy f ss cs) (sym (c₄ .family-of .ensures)) ∙ (subst (PlainIs (c₄ .family-of .result) m) (c₂ .plain2 .given .1) (c₃ .plain-of .ensures)) ss cs (count-sorts (storeOf b p n) (numbersAt x 3 m) ∙ length-numbersAt x 3 m)) (c₁ .bit-vector .ensures)
 
 returns-3 : tie.Need-returns-3
 unfolding operatedBy
 returns-3 c =
-    let s = c .before .before .before .before .before .before .before .before .before .before .before .before .before .before .before .before .before .before .before .before in
+    let c₁ = c .before .before .before .before .before .before in let c₂ = c₁ .before .before .before .before in let c₃ = c₂ .before .before in let c₄ = c₃ .before in let s = c₄ .before .before .before .before .before .before .before in
     let a = s .args in
     let b = a .records .now in
     let p = a .places .now in
@@ -78,11 +78,11 @@ returns-3 c =
     let m = a .n in
     let ss = sortsIn b p n x 3 m in
     let cs = constantsIn (a .sheet .now) (a .starts .now) (a .list) (a .n) in
-    judged-as (ap (λ (f : Family). operatedBy f ss cs) (sym (c .before .before .before .before .before .before .before .before .before .before .before .before .before .family-of .ensures) ∙ (subst (PlainIs (c .before .before .before .before .before .before .before .before .before .before .before .before .before .family-of .result) m) (c .before .before .before .before .before .before .before .before .before .before .enum-told .given .1) (c .before .before .before .before .before .before .before .before .before .before .before .before .plain-of .ensures)))) (c .before .before .before .before .before .before .constant-width .ensures)
+    judged-as (ap (λ (f : Family). operatedBy f ss cs) (sym (c₄ .family-of .ensures) ∙ (subst (PlainIs (c₄ .family-of .result) m) (c₂ .enum-told .given .1) (c₃ .plain-of .ensures)))) (c₁ .constant-width .ensures)
 
 returns-4 : tie.Need-returns-4
 returns-4 c =
-    let s = c .before .before .before .before .before .before .before .before .before .before .before .before .before .before .before .before .before .before .before .before .before .before .before in
+    let c₁ = c .before .before .before .before .before .before .before .before in let c₂ = c₁ .before .before .before .before .before in let c₃ = c₂ .before .before in let c₄ = c₃ .before in let s = c₄ .before .before .before .before .before .before .before in
     let a = s .args in
     let b = a .records .now in
     let p = a .places .now in
@@ -91,7 +91,9 @@ returns-4 c =
     let m = a .n in
     let ss = sortsIn b p n x 3 m in
     let cs = constantsIn (a .sheet .now) (a .starts .now) (a .list) (a .n) in
-    judged-as (ap (λ (f : Family). operatedBy f ss cs) (sym (c .before .before .before .before .before .before .before .before .before .before .before .before .before .before .before .before .family-of .ensures)) ∙ no-constants (c .before .before .before .before .before .before .before .before .before .before .before .before .before .before .before .before .family-of .result) (subst (PlainIs (c .before .before .before .before .before .before .before .before .before .before .before .before .before .before .before .before .family-of .result) m) (c .before .before .before .before .before .before .before .before .before .before .before .before .before .enum-told2 .given .1) (c .before .before .before .before .before .before .before .before .before .before .before .before .before .before .before .plain-of .ensures)) ss cs) (c .before .before .before .before .before .before .before .before .looked .ensures)
+    judged-as (ap (λ (f : Family). operatedBy f ss cs) (sym (c₄ .family-of .ensures)) ∙ no-constants (c₄ .family-of .result) (subst (PlainIs (c₄ .family-of .result) m) (c₂ .enum-told2 .given .1) (c₃ .plain-of .ensures)) ss cs) (c₁ .looked .ensures)
 
 pub operated-spec : {M : Type 1} → statement M
-operated-spec = tie.close (tie.spec (λ c κs. search needs) (λ c κs. search needs) (λ c. search needs) leaf-requires (λ c. search needs) bit-vector-requires (λ c. search needs) constant-width-requires (λ c. search needs) looked-requires (λ c. search needs) (λ c. search needs) (λ c. search needs) returns (λ c. search needs) (λ c. search needs) (λ c. search needs) returns-2 (λ c. search needs) (λ c. search needs) (λ c. search needs) returns-3 (λ c. search needs) (λ c. search needs) (λ c. search needs) (λ c. search needs) returns-4)
+operated-spec =
+    tie.close (tie.spec (λ c κs. search needs) (λ c κs. search needs) (λ c. search needs) leaf-requires (λ c. search needs) bit-vector-requires (λ c. search needs) constant-width-requires (λ c. search needs) looked-requires (λ c. search needs) (λ c. search needs) (λ c. search needs) returns (λ c. search needs) (λ c. search needs) (λ c. search needs) returns-2 (λ c. search needs)
+    (λ c. search needs) (λ c. search needs) returns-3 (λ c. search needs) (λ c. search needs) (λ c. search needs) (λ c. search needs) returns-4)

@@ -50,23 +50,26 @@ columns-of-requires-2 c κs =
 
 returns-2 : tie.Need-returns-2
 returns-2 c =
-    let s = c .before .before .before .before .before .before .before .before .before .before .before .before .before .before in
+    let c₁ = c .before .before .before .before in let c₂ = c₁ .before .before in let c₃ = c₂ .before .before in let c₄ = c₃ .before in let c₅ = c₄ .before in let s = c₅ .before .before .before .before in
     let a = s .args in
     let b = a .records .now in
     let p = a .places .now in
     let x = a .args .now in
     let m = a .n in
-    both-have b p x m (c .before .before .before .before .before .before .before .before .before .before .if1 .left) (c .before .before .before .before .before .before .before .before .before .u16-at .ensures .0) (c .before .before .before .before .u16-at2 .ensures .0) (c .before .before .before .before .before .before .left .given .0 .0) (c .before .before .before .before .before .before .left .given .0 .1 .0) (subst (ColumnsHas b p (c .before .before .before .before .before .before .before .before .before .u16-at .result)) (c .before .before .before .before .before .before .left .given .1) (c .before .before .before .before .before .before .before .before .columns-of .ensures)) (c .before .right .given .0 .0) (c .before .right .given .0 .1 .0) (subst (ColumnsHas b p (c .before .before .before .before .u16-at2 .result)) (c .before .right .given .1) (c .before .before .before .columns-of2 .ensures))
+    both-have b p x m (c₅ .if1 .left) (c₄ .u16-at .ensures .0) (c₁ .u16-at2 .ensures .0) (c₂ .left .given .0 .0) (c₂ .left .given .0 .1 .0) (subst (ColumnsHas b p (c₄ .u16-at .result)) (c₂ .left .given .1) (c₃ .columns-of .ensures)) (c .before .right .given .0 .0) (c .before .right .given .0 .1 .0)
+    (subst (ColumnsHas b p (c₁ .u16-at2 .result)) (c .before .right .given .1) (c .before .before .before .columns-of2 .ensures))
 
 returns-3 : tie.Need-returns-3
 returns-3 c =
-    let s = c .before .before .before .before .before .before .before .before .before .before .before .before .before in
+    let c₅ = c .before .before .before .before .before in
+    let c₁ = c₅ in let c₂ = c₁ .before .before in let c₃ = c₂ .before in let c₄ = c₃ .before in let s = c₄ .before .before .before .before in
     let a = s .args in
     let b = a .records .now in
     let p = a .places .now in
     let x = a .args .now in
     let m = a .n in
-    right-none b p x m (c .before .before .before .before .before .before .before .before .before .if1 .left) (c .before .before .before .before .before .before .before .before .u16-at .ensures .0) (c .before .before .before .u16-at2 .ensures .0) (c .before .before .before .before .before .left .given .0 .0) (c .before .before .before .before .before .left .given .0 .1 .0) (subst (ColumnsHas b p (c .before .before .before .before .before .before .before .before .u16-at .result)) (c .before .before .before .before .before .left .given .1) (c .before .before .before .before .before .before .before .columns-of .ensures)) (subst (ColumnsHas b p (c .before .before .before .u16-at2 .result)) (c .enum-told .given .1) (c .before .before .columns-of2 .ensures))
+    right-none b p x m (c₄ .if1 .left) (c₃ .u16-at .ensures .0) (c .before .before .before .u16-at2 .ensures .0) (c₁ .left .given .0 .0) (c₁ .left .given .0 .1 .0) (subst (ColumnsHas b p (c₃ .u16-at .result)) (c₁ .left .given .1) (c₂ .columns-of .ensures))
+    (subst (ColumnsHas b p (c .before .before .before .u16-at2 .result)) (c .enum-told .given .1) (c .before .before .columns-of2 .ensures))
 
 returns-4 : tie.Need-returns-4
 returns-4 c =

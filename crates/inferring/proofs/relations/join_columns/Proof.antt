@@ -70,11 +70,11 @@ side-by-side-requires-2 c κs =
 
 returns-3 : tie.Need-returns-3
 returns-3 c =
-    let s = c .before .before .before .before .before .before .before .before .before .before .before .before .before .before .before .before .before .before .before in
+    let c₁ = c .before .before .before .before .before .before .before .before in let c₂ = c₁ .before .before .before .before .before in let c₃ = c₂ .before in let s = c₃ .before .before .before .before .before in
     let a = s .args in
     let b = a .records .now in
     let p = a .places .now in
-    judged-as {b = b} {p = p} (join-less (s .pre) (positive (a .q) (c .before .before .before .before .before .before .before .before .before .before .before .before .before .before .if1 .left)) (positive (a .m) (c .before .before .before .before .before .before .before .before .before .before .before .before .before .if2 .left))) (c .before .before .before .before .before .before .before .before .side-by-side2 .ensures)
+    judged-as {b = b} {p = p} (join-less (s .pre) (positive (a .q) (c₃ .if1 .left)) (positive (a .m) (c₂ .if2 .left))) (c₁ .side-by-side2 .ensures)
 
 pub join-columns-spec : {M : Type 1} → statement M
 join-columns-spec = tie.close (tie.spec (λ c κs. search needs) returns add-side-by-side sub-side-by-side side-by-side-requires (λ c. search needs) (λ c. search needs) (λ c. search needs) (λ c. search needs) returns-2 sub-side-by-side-2 add-side-by-side-2 sub-side-by-side-3 side-by-side-requires-2 (λ c. search needs) (λ c. search needs) (λ c. search needs) (λ c. search needs) returns-3)

@@ -39,7 +39,7 @@ side-by-side-requires c κs =
 
 returns : tie.Need-returns
 returns c =
-    let s = c .before .before .before .before .before .before .before .before .before .before .before .before .before .before .before .before .before .before .before .before .before .before .before .before in
+    let c₁ = c .before .before .before .before .before .before .before .before in let c₂ = c₁ .before .before .before .before .before .before in let c₃ = c₂ .before .before in let s = c₃ .before .before .before .before .before .before .before .before in
     let a = s .args in
     let b = a .records .now in
     let p = a .places .now in
@@ -48,8 +48,8 @@ returns c =
     let u = a .used in
     let x = a .args .now in
     let m = a .n in
-    let is : Having b p n (sortsIn b p n x 3 m) (c .before .before .before .before .before .before .before .before .before .before .before .before .before .before .both .given .0 .0) (c .before .before .before .before .before .before .before .before .before .before .before .before .before .before .both .given .0 .1 .0) (c .before .before .before .before .before .before .before .before .before .before .before .before .before .before .both .given .0 .1 .1 .0) (c .before .before .before .before .before .before .before .before .before .before .before .before .before .before .both .given .0 .1 .1 .1 .0) = subst (BothIs b p n (sortsIn b p n x 3 m)) (c .before .before .before .before .before .before .before .before .before .before .before .before .before .before .both .given .1) (c .before .before .before .before .before .before .before .before .before .before .before .before .before .before .before .before .both-columns .ensures n (args-refer b p ix n u x m (s .pre))) in
-    judged-as {b = b} {p = p} (is .is productOf) (c .before .before .before .before .before .before .before .before .side-by-side .ensures)
+    let is : Having b p n (sortsIn b p n x 3 m) (c₂ .both .given .0 .0) (c₂ .both .given .0 .1 .0) (c₂ .both .given .0 .1 .1 .0) (c₂ .both .given .0 .1 .1 .1 .0) = subst (BothIs b p n (sortsIn b p n x 3 m)) (c₂ .both .given .1) (c₃ .both-columns .ensures n (args-refer b p ix n u x m (s .pre))) in
+    judged-as {b = b} {p = p} (is .is productOf) (c₁ .side-by-side .ensures)
 
 returns-2 : tie.Need-returns-2
 returns-2 c =

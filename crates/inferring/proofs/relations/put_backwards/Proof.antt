@@ -69,15 +69,15 @@ loop-less c = omega (arith, c .before .before .before .before .before .loop-test
 
 loop-again : tie.Need-loop-again Inv-loop μ-loop
 loop-again c =
-    let s = c .before .before .before .before .before .before .before .before .before in
+    let c₁ = c .before .before .before .before in let c₂ = c₁ .before in let c₃ = c₂ .before in let s = c₃ .before .before .before in
     let a = s .args in
     let b = a .records .now in
     let m = a .n in
-    let l = c .before .before .before .before .before .before .loop in
+    let l = c₃ .loop in
     let w = l .inv in
     let c1 = l .args in
-    let room : 3 + 2 * l .i + 2 ≤ length c1 = omega (arith, s .pre .room, c .before .before .before .before .before .loop-test .taken, w .2) in
-    (omega (arith, c .before .before .before .before .before .loop-test .taken), subst (λ (d : List ℕ). Filled d (backAt b (a .at) m) (l .i + 1)) (sym (c .before .before .put-u16 .ensures)) (filled-more c1 (backAt b (a .at) m) (l .i) (c .before .before .before .before .u16-at .result) room (c .before .before .before .before .u16-at .ensures .0) (w .1)), c .before .before .put-u16 .kept .0 ∙ w .2)
+    let room : 3 + 2 * l .i + 2 ≤ length c1 = omega (arith, s .pre .room, c₂ .loop-test .taken, w .2) in
+    (omega (arith, c₂ .loop-test .taken), subst (λ (d : List ℕ). Filled d (backAt b (a .at) m) (l .i + 1)) (sym (c .before .before .put-u16 .ensures)) (filled-more c1 (backAt b (a .at) m) (l .i) (c₁ .u16-at .result) room (c₁ .u16-at .ensures .0) (w .1)), c .before .before .put-u16 .kept .0 ∙ w .2)
 
 returns : tie.Need-returns Inv-loop μ-loop
 returns c =

@@ -25,13 +25,13 @@ add-relation c =
 
 relation-requires : tie.Need-relation-requires
 relation-requires c κs =
-    let s = c .before .before .before .before .before .before .before .before .before .before .before .before .before .before .before .before .before .before in
-    side-asks (s .pre) (c .before .before .before .before .before .before .before .before .before .before .before .put-columns .last .1 .1 .1 .0) (c .before .before .before .before .before .before .put-columns2 .last .1 .1 .1 .0) (c .before .before .before .before .before .before .before .before .before .before .before .put-columns .ensures) (c .before .before .before .before .before .before .put-columns2 .ensures) (c .before .before .before .before .before .before .put-columns2 .kept .1 .1 .1 .0 ∙ c .before .before .before .before .before .before .before .before .before .before .before .put-columns .kept .1 .1 .1 .0)
+    let c₁ = c .before .before .before .before .before .before in let c₂ = c₁ .before .before .before .before .before in let s = c₂ .before .before .before .before .before .before .before in
+    side-asks (s .pre) (c₂ .put-columns .last .1 .1 .1 .0) (c₁ .put-columns2 .last .1 .1 .1 .0) (c₂ .put-columns .ensures) (c₁ .put-columns2 .ensures) (c₁ .put-columns2 .kept .1 .1 .1 .0 ∙ c₂ .put-columns .kept .1 .1 .1 .0)
 
 returns : tie.Need-returns
 returns c =
-    let s = c .before .before .before .before .before .before .before .before .before .before .before .before .before .before .before .before .before .before .before .before .before .before .before .before .before .before .before in
-    judged-as (side-is (s .pre) (c .before .before .before .before .before .before .before .before .before .before .before .before .before .before .before .before .before .before .before .before .put-columns .last .1 .1 .1 .0) (c .before .before .before .before .before .before .before .before .before .before .before .before .before .before .before .put-columns2 .last .1 .1 .1 .0) (c .before .before .before .before .before .before .before .before .before .before .before .before .before .before .before .before .before .before .before .before .put-columns .ensures) (c .before .before .before .before .before .before .before .before .before .before .before .before .before .before .before .put-columns2 .ensures)) (c .before .before .before .before .before .before .before .before .relation .ensures)
+    let c₁ = c .before .before .before .before .before .before .before .before in let c₂ = c₁ .before .before .before .before .before .before .before in let c₃ = c₂ .before .before .before .before .before in let s = c₃ .before .before .before .before .before .before .before in
+    judged-as (side-is (s .pre) (c₃ .put-columns .last .1 .1 .1 .0) (c₂ .put-columns2 .last .1 .1 .1 .0) (c₃ .put-columns .ensures) (c₂ .put-columns2 .ensures)) (c₁ .relation .ensures)
 
 pub side-by-side-spec : {M : Type 1} → statement M
 side-by-side-spec = tie.close (tie.spec put-columns-requires put-columns-requires-2 add-relation relation-requires (λ c. search needs) (λ c. search needs) (λ c. search needs) (λ c. search needs) returns)

@@ -62,13 +62,13 @@ leaf-requires c κs =
 
 returns-2 : tie.Need-returns-2
 returns-2 c =
-    let s = c .before .before .before .before .before .before .before .before .before .before .before .before .before .before .before .before .before .before .before .before .before .before in
-    judged-as (written-is (s .pre .terms) (c .before .before .before .before .before .before .before .before .before .before .before .before .before .before .before .before .if1 .left) (c .before .before .before .before .before .before .before .before .before .before .before .before .before .before .before .u16-at .ensures .0) (c .before .before .before .before .before .before .before .before .before .before .before .before .before .constant-at .result) (c .before .before .before .before .before .before .before .before .before .before .before .before .before .constant-at .ensures) ∙ ap (λ (o : Constant). widthIn (integerOf o)) (c .before .before .before .before .before .before .before .before .before .before .before .second .given .1)) (c .before .before .before .before .before .before .bit-vector .ensures)
+    let c₁ = c .before .before .before .before .before .before in let c₂ = c₁ .before .before .before .before .before in let c₃ = c₂ .before .before in let c₄ = c₃ .before .before in let c₅ = c₄ .before in let s = c₅ .before .before .before .before .before .before in
+    judged-as (written-is (s .pre .terms) (c₅ .if1 .left) (c₄ .u16-at .ensures .0) (c₃ .constant-at .result) (c₃ .constant-at .ensures) ∙ ap (λ (o : Constant). widthIn (integerOf o)) (c₂ .second .given .1)) (c₁ .bit-vector .ensures)
 
 returns-3 : tie.Need-returns-3
 returns-3 c =
-    let s = c .before .before .before .before .before .before .before .before .before .before .before .before .before .before .before .before .before .before .before .before .before in
-    judged-as (written-is (s .pre .terms) (c .before .before .before .before .before .before .before .before .before .before .before .before .before .before .before .if1 .left) (c .before .before .before .before .before .before .before .before .before .before .before .before .before .before .u16-at .ensures .0) (c .before .before .before .before .before .before .before .before .before .before .before .before .constant-at .result) (c .before .before .before .before .before .before .before .before .before .before .before .before .constant-at .ensures) ∙ ap (λ (o : Constant). widthIn (integerOf o)) (c .before .before .before .before .before .before .before .before .before .before .enum-told .given .1)) (c .before .before .before .before .before .before .leaf .ensures)
+    let c₁ = c .before .before .before .before .before .before in let c₂ = c₁ .before .before .before .before in let c₃ = c₂ .before .before in let c₄ = c₃ .before .before in let c₅ = c₄ .before in let s = c₅ .before .before .before .before .before .before in
+    judged-as (written-is (s .pre .terms) (c₅ .if1 .left) (c₄ .u16-at .ensures .0) (c₃ .constant-at .result) (c₃ .constant-at .ensures) ∙ ap (λ (o : Constant). widthIn (integerOf o)) (c₂ .enum-told .given .1)) (c₁ .leaf .ensures)
 
 pub constant-width-spec : {M : Type 1} → statement M
 constant-width-spec = tie.close (tie.spec (λ c κs. search needs) returns add-u16-at u16-at-requires mul-at shared-slice-read-at cast-at constant-at-requires (λ c. search needs) bit-vector-requires (λ c. search needs) leaf-requires (λ c. search needs) (λ c. search needs) (λ c. search needs) returns-2 (λ c. search needs) (λ c. search needs) (λ c. search needs) returns-3)

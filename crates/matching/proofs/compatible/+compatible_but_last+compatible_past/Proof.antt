@@ -93,9 +93,10 @@ compatible-but-last-same-length t c =
 
 compatible-but-last-returns : (t : ℕ) → compatible-but-last-lts.Need-returns (compatible-but-last-env t) (compatible-but-last-at t) compatible-but-last.Post compatible-but-last-Inv-loop compatible-but-last-μ-loop
 compatible-but-last-returns t c =
-    let i = c .before .before .before .before .before .before .before .before .loop in
+    let c₁ = c .before .before .before .before .before in let c₂ = c₁ .before in let c₃ = c₂ .before in let c₄ = c₃ .before in
+    let i = c₄ .loop in
     let v = i .inv in
-    (fits-fails v (c .before .before .before .before .before .before .before .loop-test .taken) (c .before .before .before .before .before .before .u16-at .ensures .0) (c .before .before .before .before .before .u16-at2 .ensures .0) (c .before .before .before .compatible-past .ensures .0) (not-true (c .before .before .before .compatible-past .result) (c .if1 .taken)), c .before .before .before .compatible-past .ensures .1)
+    (fits-fails v (c₃ .loop-test .taken) (c₂ .u16-at .ensures .0) (c₁ .u16-at2 .ensures .0) (c .before .before .before .compatible-past .ensures .0) (not-true (c .before .before .before .compatible-past .result) (c .if1 .taken)), c .before .before .before .compatible-past .ensures .1)
 
 compatible-but-last-note-pair-requires : (t : ℕ) → compatible-but-last-lts.Need-note-pair-requires (compatible-but-last-env t) (compatible-but-last-at t) compatible-but-last.Post compatible-but-last-Inv-loop compatible-but-last-μ-loop
 compatible-but-last-note-pair-requires t c κs =
@@ -126,9 +127,10 @@ compatible-but-last-loop-less t c = omega (arith, c .before .before .before .bef
 
 compatible-but-last-loop-again : (t : ℕ) → compatible-but-last-lts.Need-loop-again (compatible-but-last-env t) (compatible-but-last-at t) compatible-but-last.Post compatible-but-last-Inv-loop compatible-but-last-μ-loop
 compatible-but-last-loop-again t c =
-    let i = c .before .before .before .before .before .before .before .before .before .before .before .before .loop in
+    let c₁ = c .before .before .before .before in let c₂ = c₁ .before .before .before in let c₃ = c₂ .before .before in let c₄ = c₃ .before in let c₅ = c₄ .before in let c₆ = c₅ .before in
+    let i = c₆ .loop in
     let v = i .inv in
-    fits-more v (c .before .before .before .before .before .before .before .before .before .before .before .loop-test .taken) (c .before .before .before .before .before .before .before .before .before .before .u16-at .ensures .0) (c .before .before .before .before .before .before .before .before .before .u16-at2 .ensures .0) (c .before .before .before .before .before .before .before .compatible-past .ensures .0) (not-false (c .before .before .before .before .before .before .before .compatible-past .result) (c .before .before .before .before .if1 .left)) (c .before .before .note-pair .last .0) (c .before .before .before .before .before .before .before .compatible-past .ensures .1) (c .before .before .note-pair .ensures)
+    fits-more v (c₅ .loop-test .taken) (c₄ .u16-at .ensures .0) (c₃ .u16-at2 .ensures .0) (c₂ .compatible-past .ensures .0) (not-false (c₂ .compatible-past .result) (c₁ .if1 .left)) (c .before .before .note-pair .last .0) (c₂ .compatible-past .ensures .1) (c .before .before .note-pair .ensures)
 
 compatible-but-last-same-length-2 : (t : ℕ) → compatible-but-last-lts.Need-same-length-2 (compatible-but-last-env t) (compatible-but-last-at t) compatible-but-last.Post compatible-but-last-Inv-loop compatible-but-last-μ-loop
 compatible-but-last-same-length-2 t c =
@@ -370,4 +372,9 @@ compatible-past-loop-again-2 t c =
     fit-last v o (c .before .before .before .before .before .compatible-but-last .ensures .0) (not-false (c .before .before .before .before .before .compatible-but-last .result) (c .before .before .if1 .left)) (c .before .before .before .before .before .compatible-but-last .ensures .1) (c .before .u16-at .ensures .0) (c .u16-at2 .ensures .0)
 
 pub +compatible-but-last+compatible-past-spec : {M : Type 1} → statement M
-+compatible-but-last+compatible-past-spec = close μ-compatible-but-last μ-compatible-past (λ t. compatible-but-last-lts.spec (compatible-but-last-env t) (compatible-but-last-at t) compatible-but-last.Post compatible-but-last-Inv-loop compatible-but-last-μ-loop (compatible-but-last-loop-holds t) (compatible-but-last-u16-at-requires t) (compatible-but-last-u16-at-requires-2 t) (compatible-but-last-compatible-past-requires t) (compatible-but-last-same-length t) (compatible-but-last-returns t) (compatible-but-last-note-pair-requires t) (compatible-but-last-add-x t) (compatible-but-last-add-y t) (compatible-but-last-sub-more t) (compatible-but-last-loop-less t) (compatible-but-last-loop-again t) (compatible-but-last-same-length-2 t) (compatible-but-last-returns-2 t)) (λ t. compatible-past-lts.spec (compatible-past-env t) (compatible-past-at t) compatible-past.Post compatible-past-Inv-loop compatible-past-μ-loop (compatible-past-loop-holds t) (compatible-past-next-fit-requires t) (compatible-past-enum-told t) (compatible-past-same-length t) (compatible-past-returns t) (compatible-past-enum-told-2 t) (compatible-past-same-length-2 t) (compatible-past-returns-2 t) (compatible-past-enum-known-next t) (compatible-past-loop-less t) (compatible-past-loop-again t) (compatible-past-enum-known-next-2 t) (compatible-past-sub-last t) (compatible-past-compatible-but-last-requires t) (compatible-past-same-length-3 t) (compatible-past-returns-3 t) (compatible-past-mul-u16-at t) (compatible-past-add-u16-at t) (compatible-past-u16-at-requires t) (compatible-past-mul-u16-at-2 t) (compatible-past-add-u16-at-2 t) (compatible-past-u16-at-requires-2 t) (compatible-past-loop-less-2 t) (compatible-past-loop-again-2 t))
++compatible-but-last+compatible-past-spec =
+    close μ-compatible-but-last μ-compatible-past (λ t. compatible-but-last-lts.spec (compatible-but-last-env t) (compatible-but-last-at t) compatible-but-last.Post compatible-but-last-Inv-loop compatible-but-last-μ-loop (compatible-but-last-loop-holds t) (compatible-but-last-u16-at-requires t) (compatible-but-last-u16-at-requires-2 t) (compatible-but-last-compatible-past-requires t)
+    (compatible-but-last-same-length t) (compatible-but-last-returns t) (compatible-but-last-note-pair-requires t) (compatible-but-last-add-x t) (compatible-but-last-add-y t) (compatible-but-last-sub-more t) (compatible-but-last-loop-less t) (compatible-but-last-loop-again t) (compatible-but-last-same-length-2 t) (compatible-but-last-returns-2 t))
+    (λ t. compatible-past-lts.spec (compatible-past-env t) (compatible-past-at t) compatible-past.Post compatible-past-Inv-loop compatible-past-μ-loop (compatible-past-loop-holds t) (compatible-past-next-fit-requires t) (compatible-past-enum-told t) (compatible-past-same-length t) (compatible-past-returns t) (compatible-past-enum-told-2 t) (compatible-past-same-length-2 t)
+    (compatible-past-returns-2 t) (compatible-past-enum-known-next t) (compatible-past-loop-less t) (compatible-past-loop-again t) (compatible-past-enum-known-next-2 t) (compatible-past-sub-last t) (compatible-past-compatible-but-last-requires t) (compatible-past-same-length-3 t) (compatible-past-returns-3 t) (compatible-past-mul-u16-at t) (compatible-past-add-u16-at t)
+    (compatible-past-u16-at-requires t) (compatible-past-mul-u16-at-2 t) (compatible-past-add-u16-at-2 t) (compatible-past-u16-at-requires-2 t) (compatible-past-loop-less-2 t) (compatible-past-loop-again-2 t))

@@ -136,33 +136,33 @@ returns-6 c =
 
 returns-7 : tie.Need-returns-7
 returns-7 c =
-    let s = c .before .before .before .before .before .before .before .before .before .before .before .before .before .before .before .before .before .before .before in
+    let c₁ = c .before .before .before .before in let c₂ = c₁ .before .before in let c₃ = c₂ .before .before in let c₄ = c₃ .before .before .before in let c₅ = c₄ .before .before in let c₆ = c₅ .before .before in let s = c₆ .before .before .before .before in
     let asks = s .pre .0 in
-    let r = c .before .before .before .before .before .before .before .before .before .before .before .before .before .before .before .entry .result in
-    let e = c .before .before .before .before .before .before .before .before .before .before .before .before .before .before .before .entry .ensures in
-    let q = c .before .before .before .before .before .before .before .before .entry2 .result in
-    let g = c .before .before .before .before .before .before .before .before .entry2 .ensures in
-    fit-other asks r e q g (c .before .before .before .before .before .before .before .before .before .before .before .before .before .if1 .left) (c .before .before .before .before .before .before .before .before .before .before .before .if2 .left) (c .before .before .before .before .before .before .if4 .left) (c .before .before .before .before .if5 .left) (c .before .before .before .param-eq .ensures) (c .before .before .if6 .left) (sym (c .before .same-head .ensures) ∙ not-true (c .before .same-head .result) (c .if7 .taken))
+    let r = c₆ .entry .result in
+    let e = c₆ .entry .ensures in
+    let q = c₃ .entry2 .result in
+    let g = c₃ .entry2 .ensures in
+    fit-other asks r e q g (c₅ .if1 .left) (c₄ .if2 .left) (c₂ .if4 .left) (c₁ .if5 .left) (c .before .before .before .param-eq .ensures) (c .before .before .if6 .left) (sym (c .before .same-head .ensures) ∙ not-true (c .before .same-head .result) (c .if7 .taken))
 
 returns-8 : tie.Need-returns-8
 returns-8 c =
-    let s = c .before .before .before .before .before .before .before .before .before .before .before .before .before .before .before .before .before .before .before .before .before in
+    let c₁ = c .before .before .before .before in let c₂ = c₁ .before in let c₃ = c₂ .before in let c₄ = c₃ .before .before in let c₅ = c₄ .before .before in let c₆ = c₅ .before .before .before in let c₇ = c₆ .before .before in let c₈ = c₇ .before .before in let s = c₈ .before .before .before .before in
     let asks = s .pre .0 in
-    let r = c .before .before .before .before .before .before .before .before .before .before .before .before .before .before .before .before .before .entry .result in
-    let e = c .before .before .before .before .before .before .before .before .before .before .before .before .before .before .before .before .before .entry .ensures in
-    let q = c .before .before .before .before .before .before .before .before .before .before .entry2 .result in
-    let g = c .before .before .before .before .before .before .before .before .before .before .entry2 .ensures in
-    fit-bare asks r e q g (c .before .before .before .before .before .before .before .before .before .before .before .before .before .before .before .if1 .left) (c .before .before .before .before .before .before .before .before .before .before .before .before .before .if2 .left) (c .before .before .before .before .before .before .before .before .if4 .left) (c .before .before .before .before .before .before .if5 .left) (c .before .before .before .before .before .param-eq .ensures) (c .before .before .before .before .if6 .left) (sym (c .before .before .before .same-head .ensures) ∙ not-false (c .before .before .before .same-head .result) (c .before .before .if7 .left)) (c .if8 .taken)
+    let r = c₈ .entry .result in
+    let e = c₈ .entry .ensures in
+    let q = c₅ .entry2 .result in
+    let g = c₅ .entry2 .ensures in
+    fit-bare asks r e q g (c₇ .if1 .left) (c₆ .if2 .left) (c₄ .if4 .left) (c₃ .if5 .left) (c₂ .param-eq .ensures) (c₁ .if6 .left) (sym (c .before .before .before .same-head .ensures) ∙ not-false (c .before .before .before .same-head .result) (c .before .before .if7 .left)) (c .if8 .taken)
 
 returns-9 : tie.Need-returns-9
 returns-9 c =
-    let s = c .before .before .before .before .before .before .before .before .before .before .before .before .before .before .before .before .before .before .before .before .before in
+    let c₁ = c .before .before .before .before in let c₂ = c₁ .before in let c₃ = c₂ .before in let c₄ = c₃ .before .before in let c₅ = c₄ .before .before in let c₆ = c₅ .before .before .before in let c₇ = c₆ .before .before in let c₈ = c₇ .before .before in let s = c₈ .before .before .before .before in
     let asks = s .pre .0 in
-    let r = c .before .before .before .before .before .before .before .before .before .before .before .before .before .before .before .before .before .entry .result in
-    let e = c .before .before .before .before .before .before .before .before .before .before .before .before .before .before .before .before .before .entry .ensures in
-    let q = c .before .before .before .before .before .before .before .before .before .before .entry2 .result in
-    let g = c .before .before .before .before .before .before .before .before .before .before .entry2 .ensures in
-    fit-node asks r e q g (c .before .before .before .before .before .before .before .before .before .before .before .before .before .before .before .if1 .left) (c .before .before .before .before .before .before .before .before .before .before .before .before .before .if2 .left) (c .before .before .before .before .before .before .before .before .if4 .left) (c .before .before .before .before .before .before .if5 .left) (c .before .before .before .before .before .param-eq .ensures) (c .before .before .before .before .if6 .left) (sym (c .before .before .before .same-head .ensures) ∙ not-false (c .before .before .before .same-head .result) (c .before .before .if7 .left)) (c .if8 .left)
+    let r = c₈ .entry .result in
+    let e = c₈ .entry .ensures in
+    let q = c₅ .entry2 .result in
+    let g = c₅ .entry2 .ensures in
+    fit-node asks r e q g (c₇ .if1 .left) (c₆ .if2 .left) (c₄ .if4 .left) (c₃ .if5 .left) (c₂ .param-eq .ensures) (c₁ .if6 .left) (sym (c .before .before .before .same-head .ensures) ∙ not-false (c .before .before .before .same-head .result) (c .before .before .if7 .left)) (c .if8 .left)
 
 pub next-fit-spec : {M : Type 1} → statement M
 next-fit-spec = tie.close (tie.spec entry-requires returns u16-at-requires returns-2 is-met-requires returns-3 entry-requires-2 returns-4 u16-at-requires-2 returns-5 param-eq-requires returns-6 (λ c κs. search needs) returns-7 returns-8 returns-9)

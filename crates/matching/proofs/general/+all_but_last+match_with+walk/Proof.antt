@@ -99,18 +99,19 @@ all-but-last-u16-at-requires-2 t c κs =
 
 all-but-last-match-with-requires : (t : ℕ) → all-but-last-lts.Need-match-with-requires (all-but-last-env t) (all-but-last-at t) all-but-last.Post all-but-last-Inv-loop all-but-last-μ-loop
 all-but-last-match-with-requires t c κs =
-    let s = c .before .before .before .before .before .before .before .before .before .before .before .before .before .before in
-    let i = c .before .before .before .before .before .before .before .loop in
-    (omega (arith, s .pre .0, along-falls (i .inv) (c .before .before .before .before .before .before .loop-test .taken) (c .before .before .before .before .before .u16-at .ensures .0) (c .before .before .before .before .u16-at2 .ensures .0)), (along-first (i .inv) (c .before .before .before .before .before .before .loop-test .taken) (c .before .before .before .before .before .u16-at .ensures .0) (c .before .before .before .before .u16-at2 .ensures .0), i .inv .noted))
+    let c₁ = c .before .before .before .before in let c₂ = c₁ .before in let c₃ = c₂ .before in let c₄ = c₃ .before in let s = c₄ .before .before .before .before .before .before .before in
+    let i = c₄ .loop in
+    (omega (arith, s .pre .0, along-falls (i .inv) (c₃ .loop-test .taken) (c₂ .u16-at .ensures .0) (c₁ .u16-at2 .ensures .0)), (along-first (i .inv) (c₃ .loop-test .taken) (c₂ .u16-at .ensures .0) (c₁ .u16-at2 .ensures .0), i .inv .noted))
 
 all-but-last-enum-known-first : (t : ℕ) → all-but-last-lts.Need-enum-known-first (all-but-last-env t) (all-but-last-at t) all-but-last.Post all-but-last-Inv-loop all-but-last-μ-loop
 all-but-last-enum-known-first t c = search needs
 
 all-but-last-note-pair-requires : (t : ℕ) → all-but-last-lts.Need-note-pair-requires (all-but-last-env t) (all-but-last-at t) all-but-last.Post all-but-last-Inv-loop all-but-last-μ-loop
 all-but-last-note-pair-requires t c κs =
-    let i = c .before .before .before .before .before .before .before .before .before .before .before .before .before .before .before .before .before .before .before .before .loop in
-    let w = c .before .before .before .before .before .before .before .before .before .before .before .before .match-with in
-    along-met (i .inv) (c .before .before .before .before .before .before .before .before .before .before .before .before .before .before .before .before .before .before .before .loop-test .taken) (c .before .before .before .before .before .before .before .before .before .before .before .before .before .before .before .before .before .before .u16-at .ensures .0) (c .before .before .before .before .before .before .before .before .before .before .before .before .before .before .before .before .before .u16-at2 .ensures .0) (w .last .1 .1 .1 .1 .1 .1 .0) (w .ensures .0) (w .ensures .1) (c .before .before .first .given .0 .0) (c .before .before .first .given .1)
+    let c₁ = c .before .before .before .before .before .before .before .before .before .before .before .before in let c₂ = c₁ .before .before .before .before .before in let c₃ = c₂ .before in let c₄ = c₃ .before in let c₅ = c₄ .before in
+    let i = c₅ .loop in
+    let w = c₁ .match-with in
+    along-met (i .inv) (c₄ .loop-test .taken) (c₃ .u16-at .ensures .0) (c₂ .u16-at2 .ensures .0) (w .last .1 .1 .1 .1 .1 .1 .0) (w .ensures .0) (w .ensures .1) (c .before .before .first .given .0 .0) (c .before .before .first .given .1)
 
 all-but-last-enum-known-first-2 : (t : ℕ) → all-but-last-lts.Need-enum-known-first-2 (all-but-last-env t) (all-but-last-at t) all-but-last.Post all-but-last-Inv-loop all-but-last-μ-loop
 all-but-last-enum-known-first-2 t c = search needs
@@ -143,9 +144,10 @@ all-but-last-same-length-4 t c =
 
 all-but-last-returns : (t : ℕ) → all-but-last-lts.Need-returns (all-but-last-env t) (all-but-last-at t) all-but-last.Post all-but-last-Inv-loop all-but-last-μ-loop
 all-but-last-returns t c =
-    let i = c .before .before .before .before .before .before .before .before .before .before .before .before .before .before .before .before .before .before .before .loop in
-    let w = c .before .before .before .before .before .before .before .before .before .before .before .match-with in
-    (along-misfit (i .inv) (c .before .before .before .before .before .before .before .before .before .before .before .before .before .before .before .before .before .before .loop-test .taken) (c .before .before .before .before .before .before .before .before .before .before .before .before .before .before .before .before .before .u16-at .ensures .0) (c .before .before .before .before .before .before .before .before .before .before .before .before .before .before .before .before .u16-at2 .ensures .0) (w .last .1 .1 .1 .1 .1 .1 .0) (w .ensures .0) (c .before .first2 .given .0 .0) (c .before .first2 .given .1), tt)
+    let c₁ = c .before .before .before .before .before .before .before .before .before .before .before in let c₂ = c₁ .before .before .before .before .before in let c₃ = c₂ .before in let c₄ = c₃ .before in let c₅ = c₄ .before in
+    let i = c₅ .loop in
+    let w = c₁ .match-with in
+    (along-misfit (i .inv) (c₄ .loop-test .taken) (c₃ .u16-at .ensures .0) (c₂ .u16-at2 .ensures .0) (w .last .1 .1 .1 .1 .1 .1 .0) (w .ensures .0) (c .before .first2 .given .0 .0) (c .before .first2 .given .1), tt)
 
 all-but-last-add-x : (t : ℕ) → all-but-last-lts.Need-add-x (all-but-last-env t) (all-but-last-at t) all-but-last.Post all-but-last-Inv-loop all-but-last-μ-loop
 all-but-last-add-x t c =
@@ -167,9 +169,10 @@ all-but-last-loop-less t c = omega (arith, c .before .before .before .before .be
 
 all-but-last-loop-again : (t : ℕ) → all-but-last-lts.Need-loop-again (all-but-last-env t) (all-but-last-at t) all-but-last.Post all-but-last-Inv-loop all-but-last-μ-loop
 all-but-last-loop-again t c =
-    let i = c .before .before .before .before .before .before .before .before .before .before .before .before .before .before .before .before .before .before .before .before .before .before .before .loop in
-    let w = c .before .before .before .before .before .before .before .before .before .before .before .before .before .before .before .match-with in
-    along-more (i .inv) (c .before .before .before .before .before .before .before .before .before .before .before .before .before .before .before .before .before .before .before .before .before .before .loop-test .taken) (c .before .before .before .before .before .before .before .before .before .before .before .before .before .before .before .before .before .before .before .before .before .u16-at .ensures .0) (c .before .before .before .before .before .before .before .before .before .before .before .before .before .before .before .before .before .before .before .before .u16-at2 .ensures .0) (w .last .1 .1 .1 .1 .1 .1 .0) (w .ensures .0) (w .ensures .1) (c .before .before .before .before .before .first .given .0 .0) (c .before .before .before .before .before .first .given .1) (c .before .before .note-pair .last .0) (c .before .before .note-pair .ensures)
+    let c₁ = c .before .before .before .before .before in let c₂ = c₁ .before .before .before .before .before .before .before .before .before .before in let c₃ = c₂ .before .before .before .before .before in let c₄ = c₃ .before in let c₅ = c₄ .before in let c₆ = c₅ .before in
+    let i = c₆ .loop in
+    let w = c₂ .match-with in
+    along-more (i .inv) (c₅ .loop-test .taken) (c₄ .u16-at .ensures .0) (c₃ .u16-at2 .ensures .0) (w .last .1 .1 .1 .1 .1 .1 .0) (w .ensures .0) (w .ensures .1) (c₁ .first .given .0 .0) (c₁ .first .given .1) (c .before .before .note-pair .last .0) (c .before .before .note-pair .ensures)
 
 all-but-last-same-length-5 : (t : ℕ) → all-but-last-lts.Need-same-length-5 (all-but-last-env t) (all-but-last-at t) all-but-last.Post all-but-last-Inv-loop all-but-last-μ-loop
 all-but-last-same-length-5 t c =
@@ -487,47 +490,52 @@ walk-loop-less-3 t c =
 
 walk-loop-again-3 : (t : ℕ) → walk-lts.Need-loop-again-3 (walk-env t) (walk-at t) walk.Post walk-Inv-loop walk-μ-loop
 walk-loop-again-3 t c =
-    let s = c .before .before .before .before .before .before .before .before .before .before .before .before .before .before .before .before .before .before .before .before .before .before .before .before .before .before .before .before .before .before .before .before .before .before .before .before .before .before .before .before .before in
+    let c₁ = c .before .before .before .before .before .before .before .before .before .before .before in let c₂ = c₁ .before .before .before .before .before in let c₃ = c₂ .before in let c₄ = c₃ .before .before in
+    let c₅ = c₄ .before .before .before .before .before .before .before .before .before .before in let c₆ = c₅ .before .before .before .before .before in let s = c₆ .before .before .before .before .before .before .before in
     let a = s .args in
     let b = a .records .now in
     let p = a .places .now in
     let n = a .count in
-    let i = c .before .before .before .before .before .before .before .before .before .before .before .before .before .before .before .before .before .before .before .before .before .before .before .before .before .before .before .before .before .before .before .before .before .before .loop in
-    let z = c .before .before .before .before .before .before .before .before .before .before .before .before .before .before .before .before .before .before .before .before .before .before .before .before .before .before .before .before .before .take-turn in
-    let v = subst (MoveIs b p n (i .params) (i .images) (i .bound) (i .n) (i .a) (i .c) (z .last .1 .1 .1 .0) (z .last .1 .1 .1 .1 .0) (z .last .1 .1 .1 .1 .1 .0) (z .last .1 .1 .1 .1 .1 .1 .0)) (c .before .before .before .before .before .before .before .before .before .before .before .before .before .before .before .before .before .before .before .next4 .given .1) (z .ensures) in
-    let w = c .before .before .before .before .before .before .before .before .before .before .before .all-but-last in
-    walking-parts (i .inv) v (w .last .1 .1 .1 .1 .1 .1 .0) (w .ensures .0) (w .ensures .1) (c .before .first .given .0 .0) (c .before .first .given .1) (c .before .before .before .before .before .before .before .before .before .before .before .before .before .before .before .before .before .u16-at .ensures .0) (c .before .before .before .before .before .before .before .before .before .before .before .before .before .before .before .before .u16-at2 .ensures .0) (add-one (i .steps))
+    let i = c₆ .loop in
+    let z = c₅ .take-turn in
+    let v = subst (MoveIs b p n (i .params) (i .images) (i .bound) (i .n) (i .a) (i .c) (z .last .1 .1 .1 .0) (z .last .1 .1 .1 .1 .0) (z .last .1 .1 .1 .1 .1 .0) (z .last .1 .1 .1 .1 .1 .1 .0)) (c₄ .next4 .given .1) (z .ensures) in
+    let w = c₁ .all-but-last in
+    walking-parts (i .inv) v (w .last .1 .1 .1 .1 .1 .1 .0) (w .ensures .0) (w .ensures .1) (c .before .first .given .0 .0) (c .before .first .given .1) (c₃ .u16-at .ensures .0) (c₂ .u16-at2 .ensures .0) (add-one (i .steps))
 
 walk-enum-known-first-2 : (t : ℕ) → walk-lts.Need-enum-known-first-2 (walk-env t) (walk-at t) walk.Post walk-Inv-loop walk-μ-loop
 walk-enum-known-first-2 t c = search needs
 
 walk-same-length-5 : (t : ℕ) → walk-lts.Need-same-length-5 (walk-env t) (walk-at t) walk.Post walk-Inv-loop walk-μ-loop
 walk-same-length-5 t c =
-    let s = c .before .before .before .before .before .before .before .before .before .before .before .before .before .before .before .before .before .before .before .before .before .before .before .before .before .before .before .before .before .before .before .before .before .before .before .before .before .before .before .before .before in
+    let c₁ = c .before .before .before .before .before .before .before .before .before .before .before in let c₂ = c₁ .before .before .before .before .before .before .before .before .before .before .before .before .before .before .before .before .before .before in
+    let c₃ = c₂ .before .before .before .before .before in let s = c₃ .before .before .before .before .before .before .before in
     let asks = s .pre .1 .0 in
-    let i = c .before .before .before .before .before .before .before .before .before .before .before .before .before .before .before .before .before .before .before .before .before .before .before .before .before .before .before .before .before .before .before .before .before .before .loop in
-    omega (arith, c .before .before .before .before .before .before .before .before .before .before .before .all-but-last .kept .1 .1 .1 .0, c .before .before .before .before .before .before .before .before .before .before .before .before .before .before .before .before .before .before .before .before .before .before .before .before .before .before .before .before .before .take-turn .kept .1 .1 .1 .0, i .inv .instead .asks .table ∙ sym (asks .table))
+    let i = c₃ .loop in
+    omega (arith, c₁ .all-but-last .kept .1 .1 .1 .0, c₂ .take-turn .kept .1 .1 .1 .0, i .inv .instead .asks .table ∙ sym (asks .table))
 
 walk-same-length-6 : (t : ℕ) → walk-lts.Need-same-length-6 (walk-env t) (walk-at t) walk.Post walk-Inv-loop walk-μ-loop
 walk-same-length-6 t c =
-    let s = c .before .before .before .before .before .before .before .before .before .before .before .before .before .before .before .before .before .before .before .before .before .before .before .before .before .before .before .before .before .before .before .before .before .before .before .before .before .before .before .before .before in
+    let c₁ = c .before .before .before .before .before .before .before .before .before .before .before in let c₂ = c₁ .before .before .before .before .before .before .before .before .before .before .before .before .before .before .before .before .before .before in
+    let c₃ = c₂ .before .before .before .before .before in let s = c₃ .before .before .before .before .before .before .before in
     let asks = s .pre .1 .0 in
-    let i = c .before .before .before .before .before .before .before .before .before .before .before .before .before .before .before .before .before .before .before .before .before .before .before .before .before .before .before .before .before .before .before .before .before .before .loop in
-    omega (arith, c .before .before .before .before .before .before .before .before .before .before .before .all-but-last .kept .1 .1 .1 .1 .0, c .before .before .before .before .before .before .before .before .before .before .before .before .before .before .before .before .before .before .before .before .before .before .before .before .before .before .before .before .before .take-turn .kept .1 .1 .1 .1 .0, i .inv .instead .asks .mapped .tabled .names ∙ sym (asks .mapped .tabled .names))
+    let i = c₃ .loop in
+    omega (arith, c₁ .all-but-last .kept .1 .1 .1 .1 .0, c₂ .take-turn .kept .1 .1 .1 .1 .0, i .inv .instead .asks .mapped .tabled .names ∙ sym (asks .mapped .tabled .names))
 
 walk-same-length-7 : (t : ℕ) → walk-lts.Need-same-length-7 (walk-env t) (walk-at t) walk.Post walk-Inv-loop walk-μ-loop
 walk-same-length-7 t c =
-    let s = c .before .before .before .before .before .before .before .before .before .before .before .before .before .before .before .before .before .before .before .before .before .before .before .before .before .before .before .before .before .before .before .before .before .before .before .before .before .before .before .before .before in
+    let c₁ = c .before .before .before .before .before .before .before .before .before .before .before in let c₂ = c₁ .before .before .before .before .before .before .before .before .before .before .before .before .before .before .before .before .before .before in
+    let c₃ = c₂ .before .before .before .before .before in let s = c₃ .before .before .before .before .before .before .before in
     let asks = s .pre .1 .0 in
-    let i = c .before .before .before .before .before .before .before .before .before .before .before .before .before .before .before .before .before .before .before .before .before .before .before .before .before .before .before .before .before .before .before .before .before .before .loop in
-    omega (arith, c .before .before .before .before .before .before .before .before .before .before .before .all-but-last .kept .1 .1 .1 .1 .1 .0, c .before .before .before .before .before .before .before .before .before .before .before .before .before .before .before .before .before .before .before .before .before .before .before .before .before .before .before .before .before .take-turn .kept .1 .1 .1 .1 .1 .0, i .inv .instead .asks .mapped .tabled .order ∙ sym (asks .mapped .tabled .order))
+    let i = c₃ .loop in
+    omega (arith, c₁ .all-but-last .kept .1 .1 .1 .1 .1 .0, c₂ .take-turn .kept .1 .1 .1 .1 .1 .0, i .inv .instead .asks .mapped .tabled .order ∙ sym (asks .mapped .tabled .order))
 
 walk-same-length-8 : (t : ℕ) → walk-lts.Need-same-length-8 (walk-env t) (walk-at t) walk.Post walk-Inv-loop walk-μ-loop
 walk-same-length-8 t c =
-    let s = c .before .before .before .before .before .before .before .before .before .before .before .before .before .before .before .before .before .before .before .before .before .before .before .before .before .before .before .before .before .before .before .before .before .before .before .before .before .before .before .before .before in
+    let c₁ = c .before .before .before .before .before .before .before .before .before .before .before in let c₂ = c₁ .before .before .before .before .before .before .before .before .before .before .before .before .before .before .before .before .before .before in
+    let c₃ = c₂ .before .before .before .before .before in let s = c₃ .before .before .before .before .before .before .before in
     let noted = s .pre .1 .1 in
-    let i = c .before .before .before .before .before .before .before .before .before .before .before .before .before .before .before .before .before .before .before .before .before .before .before .before .before .before .before .before .before .before .before .before .before .before .loop in
-    omega (arith, c .before .before .before .before .before .before .before .before .before .before .before .all-but-last .kept .1 .1 .1 .1 .1 .1 .0, c .before .before .before .before .before .before .before .before .before .before .before .before .before .before .before .before .before .before .before .before .before .before .before .before .before .before .before .before .before .take-turn .kept .1 .1 .1 .1 .1 .1 .0, i .inv .instead .noted .long ∙ sym (noted .long))
+    let i = c₃ .loop in
+    omega (arith, c₁ .all-but-last .kept .1 .1 .1 .1 .1 .1 .0, c₂ .take-turn .kept .1 .1 .1 .1 .1 .1 .0, i .inv .instead .noted .long ∙ sym (noted .long))
 
 walk-returns-2 : (t : ℕ) → walk-lts.Need-returns-2 (walk-env t) (walk-at t) walk.Post walk-Inv-loop walk-μ-loop
 walk-returns-2 t c =
@@ -543,4 +551,11 @@ walk-returns-2 t c =
     walk-misfit (i .inv) v (w .last .1 .1 .1 .1 .1 .1 .0) (w .ensures .0) (c .before .first2 .given .0 .0) (c .before .first2 .given .1)
 
 pub +all-but-last+match-with+walk-spec : {M : Type 1} → statement M
-+all-but-last+match-with+walk-spec = close μ-all-but-last μ-match-with μ-walk (λ t. all-but-last-lts.spec (all-but-last-env t) (all-but-last-at t) all-but-last.Post all-but-last-Inv-loop all-but-last-μ-loop (all-but-last-loop-holds t) (all-but-last-u16-at-requires t) (all-but-last-u16-at-requires-2 t) (all-but-last-match-with-requires t) (all-but-last-enum-known-first t) (all-but-last-note-pair-requires t) (all-but-last-enum-known-first-2 t) (all-but-last-same-length t) (all-but-last-same-length-2 t) (all-but-last-same-length-3 t) (all-but-last-same-length-4 t) (all-but-last-returns t) (all-but-last-add-x t) (all-but-last-add-y t) (all-but-last-sub-rest t) (all-but-last-loop-less t) (all-but-last-loop-again t) (all-but-last-same-length-5 t) (all-but-last-same-length-6 t) (all-but-last-same-length-7 t) (all-but-last-same-length-8 t) (all-but-last-returns-2 t)) (λ t. match-with-lts.spec (match-with-env t) (match-with-at t) match-with.Post (match-with-walk-requires t) (match-with-same-length t) (match-with-same-length-2 t) (match-with-same-length-3 t) (match-with-same-length-4 t) (match-with-returns t) (match-with-close-pars-requires t) (match-with-forget-requires t) (match-with-same-length-5 t) (match-with-same-length-6 t) (match-with-same-length-7 t) (match-with-same-length-8 t) (match-with-returns-2 t)) (λ t. walk-lts.spec (walk-env t) (walk-at t) walk.Post walk-Inv-loop walk-μ-loop (walk-loop-holds t) (walk-take-turn-requires t) (walk-enum-known-next t) (walk-same-length t) (walk-same-length-2 t) (walk-same-length-3 t) (walk-same-length-4 t) (walk-returns t) (walk-enum-known-next-2 t) (walk-add-steps t) (walk-loop-less t) (walk-loop-again t) (walk-enum-known-next-3 t) (walk-loop-less-2 t) (walk-loop-again-2 t) (walk-enum-known-next-4 t) (walk-mul-u16-at t) (walk-add-u16-at t) (walk-u16-at-requires t) (walk-mul-u16-at-2 t) (walk-add-u16-at-2 t) (walk-u16-at-requires-2 t) (walk-all-but-last-requires t) (walk-enum-known-first t) (walk-add-steps-2 t) (walk-loop-less-3 t) (walk-loop-again-3 t) (walk-enum-known-first-2 t) (walk-same-length-5 t) (walk-same-length-6 t) (walk-same-length-7 t) (walk-same-length-8 t) (walk-returns-2 t))
++all-but-last+match-with+walk-spec =
+    close μ-all-but-last μ-match-with μ-walk (λ t. all-but-last-lts.spec (all-but-last-env t) (all-but-last-at t) all-but-last.Post all-but-last-Inv-loop all-but-last-μ-loop (all-but-last-loop-holds t) (all-but-last-u16-at-requires t) (all-but-last-u16-at-requires-2 t) (all-but-last-match-with-requires t) (all-but-last-enum-known-first t) (all-but-last-note-pair-requires t)
+    (all-but-last-enum-known-first-2 t) (all-but-last-same-length t) (all-but-last-same-length-2 t) (all-but-last-same-length-3 t) (all-but-last-same-length-4 t) (all-but-last-returns t) (all-but-last-add-x t) (all-but-last-add-y t) (all-but-last-sub-rest t) (all-but-last-loop-less t) (all-but-last-loop-again t) (all-but-last-same-length-5 t) (all-but-last-same-length-6 t)
+    (all-but-last-same-length-7 t) (all-but-last-same-length-8 t) (all-but-last-returns-2 t)) (λ t. match-with-lts.spec (match-with-env t) (match-with-at t) match-with.Post (match-with-walk-requires t) (match-with-same-length t) (match-with-same-length-2 t) (match-with-same-length-3 t) (match-with-same-length-4 t) (match-with-returns t) (match-with-close-pars-requires t)
+    (match-with-forget-requires t) (match-with-same-length-5 t) (match-with-same-length-6 t) (match-with-same-length-7 t) (match-with-same-length-8 t) (match-with-returns-2 t))
+    (λ t. walk-lts.spec (walk-env t) (walk-at t) walk.Post walk-Inv-loop walk-μ-loop (walk-loop-holds t) (walk-take-turn-requires t) (walk-enum-known-next t) (walk-same-length t) (walk-same-length-2 t) (walk-same-length-3 t) (walk-same-length-4 t) (walk-returns t) (walk-enum-known-next-2 t) (walk-add-steps t) (walk-loop-less t) (walk-loop-again t) (walk-enum-known-next-3 t)
+    (walk-loop-less-2 t) (walk-loop-again-2 t) (walk-enum-known-next-4 t) (walk-mul-u16-at t) (walk-add-u16-at t) (walk-u16-at-requires t) (walk-mul-u16-at-2 t) (walk-add-u16-at-2 t) (walk-u16-at-requires-2 t) (walk-all-but-last-requires t) (walk-enum-known-first t) (walk-add-steps-2 t) (walk-loop-less-3 t) (walk-loop-again-3 t) (walk-enum-known-first-2 t) (walk-same-length-5 t)
+    (walk-same-length-6 t) (walk-same-length-7 t) (walk-same-length-8 t) (walk-returns-2 t))

@@ -98,13 +98,13 @@ returns-5 c =
 
 returns-6 : tie.Need-returns-6
 returns-6 c =
-    let s = c .before .before .before .before .before .before .before .before .before .before .before .before .before .before .before .before .before .before .before .before .before .before in
+    let c₁ = c .before .before .before .before .before .before in let c₂ = c₁ .before .before .before in let c₃ = c₂ .before .before in let s = c₃ .before .before .before .before .before .before .before .before .before .before .before in
     let a = s .args in
     let l = a .met .now in
     let asks = s .pre .0 in
     let noted = s .pre .1 in
-    let z = c .before .before .before .before .before .before .before .before .before .before .before .next-turn in
-    move-under asks l noted (z .result) (z .ensures) (c .before .before .before .before .before .before .before .before .before .next2 .given .0 .0) (c .before .before .before .before .before .before .before .before .before .next2 .given .0 .1 .0) (c .before .before .before .before .before .before .before .before .before .next2 .given .0 .1 .1 .0) (c .before .before .before .before .before .before .before .before .before .next2 .given .1) (c .before .before .list-names .ensures) (c .before .before .before .before .before .before .forget .ensures)
+    let z = c₃ .next-turn in
+    move-under asks l noted (z .result) (z .ensures) (c₂ .next2 .given .0 .0) (c₂ .next2 .given .0 .1 .0) (c₂ .next2 .given .0 .1 .1 .0) (c₂ .next2 .given .1) (c .before .before .list-names .ensures) (c₁ .forget .ensures)
 
 returns-7 : tie.Need-returns-7
 returns-7 c =
@@ -129,4 +129,6 @@ returns-8 c =
     move-parts asks l noted (z .result) (z .ensures) (c .before .before .next4 .given .0 .0) (c .before .before .next4 .given .0 .1 .0) (c .before .before .next4 .given .0 .1 .1 .0) (c .before .before .next4 .given .1) (c .before .before .next4 .given .0 .1 .1 .0 - 1) e
 
 pub take-turn-spec : {M : Type 1} → statement M
-take-turn-spec = tie.close (tie.spec is-met-requires (λ c. search needs) returns next-turn-requires (λ c. search needs) (λ c. search needs) (λ c. search needs) meet-with-requires (λ c. search needs) forget-requires list-names-requires (λ c. search needs) (λ c. search needs) (λ c. search needs) (λ c. search needs) returns-2 sub-t41 (λ c. search needs) (λ c. search needs) returns-3 (λ c. search needs) (λ c. search needs) returns-4 (λ c. search needs) (λ c. search needs) (λ c. search needs) (λ c. search needs) returns-5 (λ c. search needs) (λ c. search needs) returns-6 (λ c. search needs) (λ c. search needs) returns-7 (λ c. search needs) (λ c. search needs) returns-8)
+take-turn-spec =
+    tie.close (tie.spec is-met-requires (λ c. search needs) returns next-turn-requires (λ c. search needs) (λ c. search needs) (λ c. search needs) meet-with-requires (λ c. search needs) forget-requires list-names-requires (λ c. search needs) (λ c. search needs) (λ c. search needs) (λ c. search needs) returns-2 sub-t41 (λ c. search needs) (λ c. search needs) returns-3 (λ c. search needs)
+    (λ c. search needs) returns-4 (λ c. search needs) (λ c. search needs) (λ c. search needs) (λ c. search needs) returns-5 (λ c. search needs) (λ c. search needs) returns-6 (λ c. search needs) (λ c. search needs) returns-7 (λ c. search needs) (λ c. search needs) returns-8)

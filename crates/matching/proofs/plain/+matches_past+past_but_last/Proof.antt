@@ -428,11 +428,12 @@ past-but-last-enum-known-first t c = search needs
 
 past-but-last-note-pair-requires : (t : ℕ) → past-but-last-lts.Need-note-pair-requires (past-but-last-env t) (past-but-last-at t) past-but-last.Post past-but-last-Inv-loop past-but-last-μ-loop
 past-but-last-note-pair-requires t c κs =
-    let w = c .before .before .before .before .before .before .before .before .before .before .before .before .before .before .before .before .before .loop in
+    let c₁ = c .before .before .before .before .before .before .before .before .before .before in let c₂ = c₁ .before .before .before .before in let c₃ = c₂ .before in let c₄ = c₃ .before in let c₅ = c₄ .before in
+    let w = c₅ .loop in
     let v = w .inv in
-    let some = c .before .before .before .before .before .before .before .before .before .before .before .before .before .before .before .before .loop-test .taken in
+    let some = c₄ .loop-test .taken in
     let one = past-first v some in
-    record { long = c .before .before .before .before .before .before .before .before .before .before .matches-past .kept .1 .1 .1 .1 .1 .1 .0 ∙ v .noted .long; small = omega (arith, c .before .before .before .before .before .before .before .before .before .before .before .before .before .before .before .u16-at .ensures .0, one .pair .left, one .pair .usable .count); target = omega (arith, c .before .before .before .before .before .before .before .before .before .before .before .before .before .before .u16-at2 .ensures .0, one .pair .right, one .pair .usable .count) }
+    record { long = c₁ .matches-past .kept .1 .1 .1 .1 .1 .1 .0 ∙ v .noted .long; small = omega (arith, c₃ .u16-at .ensures .0, one .pair .left, one .pair .usable .count); target = omega (arith, c₂ .u16-at2 .ensures .0, one .pair .right, one .pair .usable .count) }
 
 past-but-last-add-x : (t : ℕ) → past-but-last-lts.Need-add-x (past-but-last-env t) (past-but-last-at t) past-but-last.Post past-but-last-Inv-loop past-but-last-μ-loop
 past-but-last-add-x t c =
@@ -462,10 +463,11 @@ past-but-last-loop-less t c =
 
 past-but-last-loop-again : (t : ℕ) → past-but-last-lts.Need-loop-again (past-but-last-env t) (past-but-last-at t) past-but-last.Post past-but-last-Inv-loop past-but-last-μ-loop
 past-but-last-loop-again t c =
-    let w = c .before .before .before .before .before .before .before .before .before .before .before .before .before .before .before .before .before .before .before .before .loop in
+    let c₁ = c .before .before .before .before .before in let c₂ = c₁ .before .before .before .before .before .before .before .before in let c₃ = c₂ .before .before .before .before in let c₄ = c₃ .before in let c₅ = c₄ .before in let c₆ = c₅ .before in
+    let w = c₆ .loop in
     let v = w .inv in
-    let some = c .before .before .before .before .before .before .before .before .before .before .before .before .before .before .before .before .before .before .before .loop-test .taken in
-    past-more v some (c .before .before .before .before .before .before .before .before .before .before .before .before .before .before .before .before .before .before .u16-at .ensures .0) (c .before .before .before .before .before .before .before .before .before .before .before .before .before .before .before .before .before .u16-at2 .ensures .0) (c .before .before .before .before .before .first .given .1) (c .before .before .before .before .before .before .before .before .before .before .before .before .before .matches-past .ensures .0) (c .before .before .before .before .before .before .before .before .before .before .before .before .before .matches-past .last .1 .1 .1 .1 .1 .1 .0) (c .before .before .before .before .before .before .before .before .before .before .before .before .before .matches-past .ensures .1) (c .before .before .note-pair .ensures)
+    let some = c₅ .loop-test .taken in
+    past-more v some (c₄ .u16-at .ensures .0) (c₃ .u16-at2 .ensures .0) (c₁ .first .given .1) (c₂ .matches-past .ensures .0) (c₂ .matches-past .last .1 .1 .1 .1 .1 .1 .0) (c₂ .matches-past .ensures .1) (c .before .before .note-pair .ensures)
 
 past-but-last-enum-known-first-2 : (t : ℕ) → past-but-last-lts.Need-enum-known-first-2 (past-but-last-env t) (past-but-last-at t) past-but-last.Post past-but-last-Inv-loop past-but-last-μ-loop
 past-but-last-enum-known-first-2 t c = search needs
@@ -496,10 +498,11 @@ past-but-last-same-length-3 t c =
 
 past-but-last-returns : (t : ℕ) → past-but-last-lts.Need-returns (past-but-last-env t) (past-but-last-at t) past-but-last.Post past-but-last-Inv-loop past-but-last-μ-loop
 past-but-last-returns t c =
-    let w = c .before .before .before .before .before .before .before .before .before .before .before .before .before .before .before .before .loop in
+    let c₁ = c .before .before .before .before .before .before .before .before .before in let c₂ = c₁ .before .before .before .before in let c₃ = c₂ .before in let c₄ = c₃ .before in let c₅ = c₄ .before in
+    let w = c₅ .loop in
     let v = w .inv in
-    let some = c .before .before .before .before .before .before .before .before .before .before .before .before .before .before .before .loop-test .taken in
-    (past-misfit v some (c .before .before .before .before .before .before .before .before .before .before .before .before .before .before .u16-at .ensures .0) (c .before .before .before .before .before .before .before .before .before .before .before .before .before .u16-at2 .ensures .0) (c .before .first2 .given .1) (c .before .before .before .before .before .before .before .before .before .matches-past .ensures .0), tt)
+    let some = c₄ .loop-test .taken in
+    (past-misfit v some (c₃ .u16-at .ensures .0) (c₂ .u16-at2 .ensures .0) (c .before .first2 .given .1) (c₁ .matches-past .ensures .0), tt)
 
 past-but-last-same-length-4 : (t : ℕ) → past-but-last-lts.Need-same-length-4 (past-but-last-env t) (past-but-last-at t) past-but-last.Post past-but-last-Inv-loop past-but-last-μ-loop
 past-but-last-same-length-4 t c =
@@ -532,4 +535,10 @@ past-but-last-returns-2 t c =
     (past-end v (c .loop-test .left), v .noted)
 
 pub +matches-past+past-but-last-spec : {M : Type 1} → statement M
-+matches-past+past-but-last-spec = close μ-matches-past μ-past-but-last (λ t. matches-past-lts.spec (matches-past-env t) (matches-past-at t) matches-past.Post matches-past-Inv-loop matches-past-μ-loop (matches-past-loop-holds t) (matches-past-next-step-requires t) (matches-past-enum-told t) (matches-past-same-length t) (matches-past-same-length-2 t) (matches-past-same-length-3 t) (matches-past-returns t) (matches-past-enum-told-2 t) (matches-past-same-length-4 t) (matches-past-same-length-5 t) (matches-past-same-length-6 t) (matches-past-returns-2 t) (matches-past-enum-known-next t) (matches-past-matches-var-requires t) (matches-past-same-length-7 t) (matches-past-same-length-8 t) (matches-past-same-length-9 t) (matches-past-returns-3 t) (matches-past-enum-known-next-2 t) (matches-past-sub-last t) (matches-past-past-but-last-requires t) (matches-past-enum-known-first t) (matches-past-mul-u16-at t) (matches-past-add-u16-at t) (matches-past-u16-at-requires t) (matches-past-mul-u16-at-2 t) (matches-past-add-u16-at-2 t) (matches-past-u16-at-requires-2 t) (matches-past-loop-less t) (matches-past-loop-again t) (matches-past-enum-known-first-2 t) (matches-past-same-length-10 t) (matches-past-same-length-11 t) (matches-past-same-length-12 t) (matches-past-returns-4 t)) (λ t. past-but-last-lts.spec (past-but-last-env t) (past-but-last-at t) past-but-last.Post past-but-last-Inv-loop past-but-last-μ-loop (past-but-last-loop-holds t) (past-but-last-u16-at-requires t) (past-but-last-u16-at-requires-2 t) (past-but-last-matches-past-requires t) (past-but-last-enum-known-first t) (past-but-last-note-pair-requires t) (past-but-last-add-x t) (past-but-last-add-y t) (past-but-last-sub-more t) (past-but-last-loop-less t) (past-but-last-loop-again t) (past-but-last-enum-known-first-2 t) (past-but-last-same-length t) (past-but-last-same-length-2 t) (past-but-last-same-length-3 t) (past-but-last-returns t) (past-but-last-same-length-4 t) (past-but-last-same-length-5 t) (past-but-last-same-length-6 t) (past-but-last-returns-2 t))
++matches-past+past-but-last-spec =
+    close μ-matches-past μ-past-but-last (λ t. matches-past-lts.spec (matches-past-env t) (matches-past-at t) matches-past.Post matches-past-Inv-loop matches-past-μ-loop (matches-past-loop-holds t) (matches-past-next-step-requires t) (matches-past-enum-told t) (matches-past-same-length t) (matches-past-same-length-2 t) (matches-past-same-length-3 t) (matches-past-returns t)
+    (matches-past-enum-told-2 t) (matches-past-same-length-4 t) (matches-past-same-length-5 t) (matches-past-same-length-6 t) (matches-past-returns-2 t) (matches-past-enum-known-next t) (matches-past-matches-var-requires t) (matches-past-same-length-7 t) (matches-past-same-length-8 t) (matches-past-same-length-9 t) (matches-past-returns-3 t) (matches-past-enum-known-next-2 t)
+    (matches-past-sub-last t) (matches-past-past-but-last-requires t) (matches-past-enum-known-first t) (matches-past-mul-u16-at t) (matches-past-add-u16-at t) (matches-past-u16-at-requires t) (matches-past-mul-u16-at-2 t) (matches-past-add-u16-at-2 t) (matches-past-u16-at-requires-2 t) (matches-past-loop-less t) (matches-past-loop-again t) (matches-past-enum-known-first-2 t)
+    (matches-past-same-length-10 t) (matches-past-same-length-11 t) (matches-past-same-length-12 t) (matches-past-returns-4 t)) (λ t. past-but-last-lts.spec (past-but-last-env t) (past-but-last-at t) past-but-last.Post past-but-last-Inv-loop past-but-last-μ-loop (past-but-last-loop-holds t) (past-but-last-u16-at-requires t) (past-but-last-u16-at-requires-2 t)
+    (past-but-last-matches-past-requires t) (past-but-last-enum-known-first t) (past-but-last-note-pair-requires t) (past-but-last-add-x t) (past-but-last-add-y t) (past-but-last-sub-more t) (past-but-last-loop-less t) (past-but-last-loop-again t) (past-but-last-enum-known-first-2 t) (past-but-last-same-length t) (past-but-last-same-length-2 t) (past-but-last-same-length-3 t)
+    (past-but-last-returns t) (past-but-last-same-length-4 t) (past-but-last-same-length-5 t) (past-but-last-same-length-6 t) (past-but-last-returns-2 t))

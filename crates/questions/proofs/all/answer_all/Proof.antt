@@ -97,7 +97,8 @@ loop-less c =
 
 loop-again : tie.Need-loop-again Inv-loop μ-loop
 loop-again c =
-    let s = c .before .before .before .before .before .before .before .before .before .before .before .before .before .before .before .before .before .before .before .before .before .before .before .before .before .before .before .before .before .before .before .before in
+    let c₁ = c .before .before .before .before .before .before .before .before .before .before .before .before in let c₂ = c₁ .before .before .before .before .before .before .before .before in let c₃ = c₂ .before in
+    let s = c₃ .before .before .before .before .before .before .before .before .before .before .before in
     let a = s .args in
     let b = a .records .now in
     let p = a .places .now in
@@ -113,10 +114,10 @@ loop-again c =
     let y = a .asked .now in
     let c′ = a .many in
     let w = a .answers .now in
-    let l = c .before .before .before .before .before .before .before .before .before .before .before .before .before .before .before .before .before .before .before .before .before .loop in
-    let some = c .before .before .before .before .before .before .before .before .before .before .before .before .before .before .before .before .before .before .before .before .loop-test .taken in
-    let r = c .before .before .before .before .before .before .before .before .before .before .before .before .answer-at .last in
-    (omega (arith, some), answering-step b p ix n u m g o d t k y c′ w (s .pre) (l .records) (l .places) (l .index) (l .params) (l .images) (l .bound) (l .answers) (l .n) (l .u) (l .q) (l .inv .1) (getD y (l .q) 0) some refl (r .0) (r .1 .0) (r .1 .1 .0) (r .1 .1 .1 .1 .1 .0) (r .1 .1 .1 .1 .1 .1 .0) (r .1 .1 .1 .1 .1 .1 .1 .0) (c .before .before .before .before .before .before .before .before .before .before .before .before .answer-at .result) (c .before .before .before .before .before .before .before .before .before .before .before .before .answer-at .ensures))
+    let l = c₃ .loop in
+    let some = c₂ .loop-test .taken in
+    let r = c₁ .answer-at .last in
+    (omega (arith, some), answering-step b p ix n u m g o d t k y c′ w (s .pre) (l .records) (l .places) (l .index) (l .params) (l .images) (l .bound) (l .answers) (l .n) (l .u) (l .q) (l .inv .1) (getD y (l .q) 0) some refl (r .0) (r .1 .0) (r .1 .1 .0) (r .1 .1 .1 .1 .1 .0) (r .1 .1 .1 .1 .1 .1 .0) (r .1 .1 .1 .1 .1 .1 .1 .0) (c₁ .answer-at .result) (c₁ .answer-at .ensures))
 
 same-length : tie.Need-same-length Inv-loop μ-loop
 same-length c = c .before .loop .inv .1 .long

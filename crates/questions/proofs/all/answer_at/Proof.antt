@@ -27,7 +27,8 @@ answer-question-requires c κs =
 
 returns : tie.Need-returns
 returns c =
-    let s = c .before .before .before .before .before .before .before .before .before .before .before .before .before .before .before .before .before .before .before .before .before .before .before .before .before .before .before .before .before .before .before in
+    let c₁ = c .before .before .before .before .before .before .before .before .before .before .before .before in let c₂ = c₁ .before .before .before .before .before .before .before .before in let c₃ = c₂ .before .before in
+    let s = c₃ .before .before .before .before .before .before .before .before .before in
     let a = s .args in
     let b = a .records .now in
     let p = a .places .now in
@@ -41,8 +42,8 @@ returns c =
     let t = a .table .now in
     let k = a .sorts in
     let x = a .at in
-    let r = c .before .before .before .before .before .before .before .before .before .before .before .before .answer-question .last in
-    at-is b p ix n u m g o d t k x (s .pre) (c .before .before .before .before .before .before .before .before .before .before .before .before .before .before .before .before .before .before .before .before .read .given .0 .0) (c .before .before .before .before .before .before .before .before .before .before .before .before .before .before .before .before .before .before .before .before .read .given .0 .1 .0) (sym (c .before .before .before .before .before .before .before .before .before .before .before .before .before .before .before .before .before .before .before .before .before .before .question .ensures) ∙ c .before .before .before .before .before .before .before .before .before .before .before .before .before .before .before .before .before .before .before .before .read .given .1) (r .0) (r .1 .0) (r .1 .1 .0) (r .1 .1 .1 .1 .1 .0) (r .1 .1 .1 .1 .1 .1 .0) (r .1 .1 .1 .1 .1 .1 .1 .0) (c .before .before .before .before .before .before .before .before .before .before .before .before .answer-question .result) (c .before .before .before .before .before .before .before .before .before .before .before .before .answer-question .ensures)
+    let r = c₁ .answer-question .last in
+    at-is b p ix n u m g o d t k x (s .pre) (c₂ .read .given .0 .0) (c₂ .read .given .0 .1 .0) (sym (c₃ .question .ensures) ∙ c₂ .read .given .1) (r .0) (r .1 .0) (r .1 .1 .0) (r .1 .1 .1 .1 .1 .0) (r .1 .1 .1 .1 .1 .1 .0) (r .1 .1 .1 .1 .1 .1 .1 .0) (c₁ .answer-question .result) (c₁ .answer-question .ensures)
 
 returns-2 : tie.Need-returns-2
 returns-2 c =

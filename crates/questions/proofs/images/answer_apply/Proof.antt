@@ -44,9 +44,9 @@ empty-images-requires c κs =
 
 returns : tie.Need-returns
 returns c =
-    let s = c .before .before .before .before .before .before .before .before .before .before .before .before .before .before .before .before .before .before .before .before .before .before .before .before .before .before in
-    let r = c .before .before .before .before .before .before .before .before .before .before .instance .last in
-    apply-is (s .pre) (c .before .before .before .before .before .before .before .before .before .before .before .before .before .before .before .before .before .before .fill-images .ensures) (c .before .before .before .before .before .before .before .before .before .before .before .before .before .before .before .sort-at .ensures) (r .0) (r .1 .0) (r .1 .1 .0) (c .before .before .before .before .before .before .before .before .before .before .instance .result) (c .before .before .before .before .before .before .before .before .before .before .instance .ensures) (c .before .before .empty-images .ensures)
+    let c₁ = c .before .before .before .before .before .before .before .before .before .before in let c₂ = c₁ .before .before .before .before .before in let c₃ = c₂ .before .before .before in let s = c₃ .before .before .before .before .before .before .before .before in
+    let r = c₁ .instance .last in
+    apply-is (s .pre) (c₃ .fill-images .ensures) (c₂ .sort-at .ensures) (r .0) (r .1 .0) (r .1 .1 .0) (c₁ .instance .result) (c₁ .instance .ensures) (c .before .before .empty-images .ensures)
 
 pub answer-apply-spec : {M : Type 1} → statement M
 answer-apply-spec = tie.close (tie.spec add-fill-images fill-images-requires sort-at-requires instance-requires empty-images-requires (λ c. search needs) (λ c. search needs) (λ c. search needs) (λ c. search needs) returns)

@@ -39,4 +39,6 @@ returns-3 : tie.Need-returns-3
 returns-3 c = record { said = λ c e. absurd (omega (arith, e)); small = omega arith }
 
 pub recalled-spec : {M : Type 1} → statement M
-recalled-spec = tie.close (tie.spec (λ c. search needs) cast-if1 returns (λ c. search needs) (λ c. search needs) (λ c. search needs) (λ c. search needs) (λ c. search needs) (λ c. search needs) (λ c. search needs) (λ c. search needs) (λ c. search needs) (λ c. search needs) (λ c. search needs) (λ c κs. search needs) (λ c. search needs) (λ c. search needs) cast-result mul-result (λ c. search needs) (λ c κs. search needs) add-result-2 add-result-3 returns-2 returns-3)
+recalled-spec =
+    tie.close (tie.spec (λ c. search needs) cast-if1 returns (λ c. search needs) (λ c. search needs) (λ c. search needs) (λ c. search needs) (λ c. search needs) (λ c. search needs) (λ c. search needs) (λ c. search needs) (λ c. search needs) (λ c. search needs) (λ c. search needs) (λ c κs. search needs) (λ c. search needs) (λ c. search needs) cast-result mul-result
+    (λ c. search needs) (λ c κs. search needs) add-result-2 add-result-3 returns-2 returns-3)

@@ -21,9 +21,9 @@ noted-requires c κs =
 
 returns : tie.Need-returns
 returns c =
-    let s = c .before .before .before .before .before .before .before .before .before in
+    let c₁ = c .before .before .before .before in let c₂ = c₁ .before .before in let s = c₂ .before .before .before in
     let a = s .args in
-    subst (λ q. RowNotedIs (a .past .now) (a .n) q (a .v) (c .before .before .noted .last .0)) (sym (c .before .before .before .before .before .before .look .given .1)) (subst (λ k. NotedIs (a .past .now) (c .before .before .before .before .before .before .look .given .0 .0) (a .n) k (c .before .before .noted .last .0)) (c .before .before .before .before .code .ensures) (c .before .before .noted .ensures))
+    subst (λ q. RowNotedIs (a .past .now) (a .n) q (a .v) (c .before .before .noted .last .0)) (sym (c₂ .look .given .1)) (subst (λ k. NotedIs (a .past .now) (c₂ .look .given .0 .0) (a .n) k (c .before .before .noted .last .0)) (c₁ .code .ensures) (c .before .before .noted .ensures))
 
 returns-2 : tie.Need-returns-2
 returns-2 c =

@@ -31,7 +31,7 @@ array-share-prefix-bytes-2 : tie.Need-array-share-prefix-bytes-2
 array-share-prefix-bytes-2 c = omega (arith, c .before .before .before .before .before .before .before .draft-of .ensures .most, c .before .before .before .before .before .before .before .draft-of .ensures .long)
 
 slice-aggregate-intern : tie.Need-slice-aggregate-intern
-slice-aggregate-intern c = sym (length-take-le (c .before .before .before .before .before .before .before .before .draft-of .result) (c .before .before .before .before .before .before .before .before .draft-of .last .0) (omega (arith, c .before .before .before .before .before .before .before .before .draft-of .ensures .most, c .before .before .before .before .before .before .before .before .draft-of .ensures .long)))
+slice-aggregate-intern c = let c₁ = c .before .before .before .before .before .before .before .before in sym (length-take-le (c₁ .draft-of .result) (c₁ .draft-of .last .0) (omega (arith, c₁ .draft-of .ensures .most, c₁ .draft-of .ensures .long)))
 
 intern-requires : tie.Need-intern-requires
 intern-requires c κs =

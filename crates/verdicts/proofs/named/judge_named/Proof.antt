@@ -22,10 +22,14 @@ same-length : tie.Need-same-length
 same-length c = (c .before .before .before .before .before .before .before .before .before .before .before .answer-all .kept .0) ∙ c .before .before .before .before .before .before .before .before .before .before .before .before .before .before .before .before .before .before .before .before .before .before .before .before .before .before .before .before .before .before .rows-all .kept .0
 
 same-length-2 : tie.Need-same-length-2
-same-length-2 c = (c .before .before .before .before .before .before .before .before .before .before .before .answer-all .kept .1 .0) ∙ c .before .before .before .before .before .before .before .before .before .before .before .before .before .before .before .before .before .before .before .before .before .before .before .before .before .before .before .before .before .before .rows-all .kept .1 .0
+same-length-2 c =
+    let c₁ = c .before .before .before .before .before .before .before .before .before .before .before in let c₂ = c₁ .before .before .before .before .before .before .before .before .before .before .before .before .before .before .before .before .before .before .before in
+    (c₁ .answer-all .kept .1 .0) ∙ c₂ .rows-all .kept .1 .0
 
 same-length-3 : tie.Need-same-length-3
-same-length-3 c = (c .before .before .before .before .before .before .before .before .before .before .before .answer-all .kept .1 .1 .0) ∙ c .before .before .before .before .before .before .before .before .before .before .before .before .before .before .before .before .before .before .before .before .before .before .before .before .before .before .before .before .before .before .rows-all .kept .1 .1 .0
+same-length-3 c =
+    let c₁ = c .before .before .before .before .before .before .before .before .before .before .before in let c₂ = c₁ .before .before .before .before .before .before .before .before .before .before .before .before .before .before .before .before .before .before .before in
+    (c₁ .answer-all .kept .1 .1 .0) ∙ c₂ .rows-all .kept .1 .1 .0
 
 same-length-4 : tie.Need-same-length-4
 same-length-4 c = c .before .before .before .before .before .before .before .before .before .before .before .before .before .before .before .before .before .before .before .before .before .before .before .before .before .before .before .before .before .before .rows-all .kept .1 .1 .1 .1 .1 .1 .1 .1 .1 .1 .1 .1 .1 .0
@@ -35,8 +39,9 @@ same-length-5 c = c .before .before .before .before .before .before .before .bef
 
 returns : tie.Need-returns
 returns c =
-    let w = c .before .before .before .before .before .before .before .before .before .before .before .before .before .before .before .before .before .before .before .before .before .before .before .before .before .before .before .before .before .before .before .before .before .before .before .before .before .before .before .before .before .before .before .before .before .before .before in
-    judge-written (w .pre) (c .before .before .before .before .before .before .before .before .before .before .before .before .before .before .before .before .before .before .before .before .before .before .before .before .before .before .before .before .before .before .rows-all .ensures) (c .before .before .before .before .before .before .before .before .before .before .before .answer-all .ensures)
+    let c₁ = c .before .before .before .before .before .before .before .before .before .before .before in let c₂ = c₁ .before .before .before .before .before .before .before .before .before .before .before .before .before .before .before .before .before .before .before in
+    let w = c₂ .before .before .before .before .before .before .before .before .before .before .before .before .before .before .before .before .before in
+    judge-written (w .pre) (c₂ .rows-all .ensures) (c₁ .answer-all .ensures)
 
 pub judge-named-spec : {M : Type 1} → statement M
 judge-named-spec = tie.close (tie.spec (λ c. search needs) (λ c. search needs) (λ c. search needs) rows-all-requires (λ c. search needs) (λ c. search needs) (λ c. search needs) answer-all-requires same-length same-length-2 same-length-3 same-length-4 same-length-5 returns)
