@@ -77,27 +77,27 @@ resize-other f t ss h d = rw (ne-eqb (kindOf t) 9 h, param-kind t, ne-eqb (kindO
 
 module _ {b p : List ℕ} {n : ℕ} {a : List ℕ} {m : ℕ} (h : Referring b p n a 3 m) (some : 0 < m) {k : ℕ} (e : k ≡ u16At a 3) (r : SortRecord) (q : EntryHas b p k r) where
   read : EntryIs b p n k r
-  read = q n (h .stored) (first-known b p n a m h some k e)
+  read = q n (h .stored) (first-known h some e)
 
   pub resized-known : (f : ℕ → ℕ) → r .kind ≡ 9 → resizedOf f (sortsIn b p n a 3 m) ≡ sort (bitvec (f (r .number)))
   resized-known f i =
-      ap (resizedOf f) (first-then b p n a m h some k e)
+      ap (resizedOf f) (first-then h some e)
       ∙ resize-known f (sortAt b p n k) (sortsIn b p n a 5 (m - 1)) (sym (read .kind) ∙ i)
       ∙ ap (λ (w : ℕ). sort (bitvec (f w))) (sym (read .number))
 
   pub resized-unknown : (f : ℕ → ℕ) → r .kind ≡ 10 → resizedOf f (sortsIn b p n a 3 m) ≡ sort paramBitVec
   resized-unknown f i =
-      ap (resizedOf f) (first-then b p n a m h some k e)
+      ap (resizedOf f) (first-then h some e)
       ∙ resize-unknown f (sortAt b p n k) (sortsIn b p n a 5 (m - 1)) (sym (read .kind) ∙ i)
 
   pub resized-other : (f : ℕ → ℕ) → (r .kind ≡ 9 → ⊥) → (r .kind ≡ 10 → ⊥) → resizedOf f (sortsIn b p n a 3 m) ≡ refused Panics
   resized-other f i j =
-      ap (resizedOf f) (first-then b p n a m h some k e)
+      ap (resizedOf f) (first-then h some e)
       ∙ resize-other f (sortAt b p n k) (sortsIn b p n a 5 (m - 1)) (λ z. i (read .kind ∙ z)) (λ z. j (read .kind ∙ z))
 
   pub width-small : r .number ≤ 65535
   width-small =
-      omega (arith, h .stored .each k (first-known b p n a m h some k e) .shape .number, ap (λ (g : Fields). g .number) (read .place .same))
+      omega (arith, h .stored .each k (first-known h some e) .shape .number, ap (λ (g : Fields). g .number) (read .place .same))
 
 -- A number of four bytes times one of two is one of six.
 pub times-small : (i w : ℕ) → i < 4294967296 → w ≤ 65535 → i * w < 18446744073709551616

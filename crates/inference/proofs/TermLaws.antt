@@ -129,7 +129,7 @@ module _ (b p : List ℕ) (n : ℕ) (s tbl : List ℕ) (r : TermRecord) (a : Lis
       ≡ sort (function (joined (sortsOf (storeOf b p n) (boundNumbers tbl s (r .pairs) (r .paired))) (sortAt b p n k)))
   lambda-is h some {k} e q =
       lambda-of (bindingsOver (storeOf b p n) tbl s r) (sortsIn b p n a 3 (r .count)) q
-      ∙ ap (lambda (bindingsOver (storeOf b p n) tbl s r)) (first-then b p n a (r .count) h some k e)
+      ∙ ap (lambda (bindingsOver (storeOf b p n) tbl s r)) (first-then h some e)
       ∙ ap (λ (ss : Sorts). sort (function (joined ss (sortAt b p n k)))) (bindings-sorts (storeOf b p n) tbl s r)
 
   pub choice-none : r .number ≡ 2 → r .paired ≡ 0 → bound (r .number) (bindingsOver (storeOf b p n) tbl s r) (sortsIn b p n a 3 (r .count)) ≡ refused Panics

@@ -37,7 +37,7 @@ lambda-requires c κs =
       within = s .pre .pairs .within;
       each = s .pre .pairs .each;
       below = s .pre .pairs .below;
-      known = first-known b p n x m (args-refer b p ix n u x m (s .pre .args)) (s .pre .body) (c .before .before .before .before .u16-at .result) (c .before .before .before .before .u16-at .ensures .0);
+      known = first-known (args-refer b p ix n u x m (s .pre .args)) (s .pre .body) (c .before .before .before .before .u16-at .ensures .0);
       few = s .pre .pairs .few;
       room = omega (arith, s .pre .args .room);
     }

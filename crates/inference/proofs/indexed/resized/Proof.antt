@@ -47,7 +47,7 @@ entry-requires c κs =
     let u = a .used in
     let x = a .args .now in
     let m = a .n in
-    first-entry b p n x m (args-refer b p ix n u x m (s .pre .args)) (positive m (c .before .before .before .if1 .left)) (c .before .before .u16-at .result) (c .before .before .u16-at .ensures .0)
+    first-entry (args-refer b p ix n u x m (s .pre .args)) (positive m (c .before .before .before .if1 .left)) (c .before .before .u16-at .ensures .0)
 
 leaf-requires : tie.Need-leaf-requires
 unfolding mapOf maps
