@@ -39,7 +39,7 @@ COMPATIBLE = lambda a, b: bytes([17, 0]) + items([a, b])
 MATCH = lambda p, t, r, names: bytes([81, 1]) + items([p, t, r]) + items(names)
 
 
-# The store's hash (crates/store/src/lib.rt): two halves of 32 bits, a step for each two bytes. Its products are undone by UNLOW and UNHIGH.
+# The store's hash (crates/store/src/hashes.rt): two halves of 32 bits, a step for each two bytes. Its products are undone by UNLOW and UNHIGH.
 MASK = 0xFFFFFFFF
 LOW, HIGH = 1640531527, 1540483477
 UNLOW, UNHIGH = pow(LOW, -1, 1 << 32), pow(HIGH, -1, 1 << 32)
