@@ -9,19 +9,19 @@ use native.Mathlib.Nat.{not-suc-le-zero}
 use lib.ListN.{length, getD}
 use Rattle.record.specs.Number.{u16At, numbersAt}
 use Rattle.record.specs.Codec.{length-numbersAt, number-at}
-use Rattle.record.specs.Sort.{Sort, Sorts, var, par, node, end, _then_, partsOf}
+use Rattle.record.specs.Sort.{Sort, Sorts, var, par, node, end, _then_, size}
 use Rattle.record.specs.Record.{Fields, leaf, sortsOf, sortOf}
 use Rattle.record.specs.Decode.{fieldsAt, Shape, Below, storeOf, sortAt, Stored}
 use Rattle.record.specs.Forms.{Which, isVar, isPar, isNode, which, sort-var, sort-par, sort-other, par-one}
 use Rattle.record.specs.Cases.{and-left}
 use Rattle.record.specs.StoreLaws.{sort-node, sorts-one}
-use Rattle.record.specs.declared.SortRecord.{SortRecord}
-use Rattle.store.specs.Entry.{EntryHas}
+use Rattle.store.specs.Entry.{SizeHas}
+use Rattle.store.specs.Walk.{size-pos}
 use Rattle.substitution.specs.Substitution.{Map, empty}
 use Rattle.substitution.specs.SubstitutionLaws.{apply-empty}
 use Rattle.substitution.specs.Premises.{parless, anyName, named, namedAll}
 use Rattle.substitution.specs.Matching.{andThen, matches, matchesAll}
-use Rattle.matching.specs.Contract.{sortsAt, OneAsks, PairsAsk}
+use Rattle.matching.specs.Contract.{sortsAt, PairsAsk}
 use Rattle.matching.specs.Entered.{good-usable, refs-first, refs-rest, sorts-end, sorts-more}
 use Rattle.rows.specs.declared.Cause.the-variants.{Misfit, Unassigned}
 use Rattle.rows.specs.Verdict.{Verdict, sort, refused, need}
@@ -31,22 +31,22 @@ use Rattle.answers.specs.declared.Answer.{Answer}
 use Rattle.answers.specs.Answer.{AnswerIs, refusing}
 use Rattle.answers.specs.AnswerLaws.{judged-as, answered-as, answer-refused}
 use Rattle.answers.specs.Asks.{RemainingAsks}
-use Rattle.application.specs.Contract.{Plain, ExactIs, PlainAsks, PlainIs, restAt, deliveredAt}
+use Rattle.application.specs.Contract.{Plain, ParlessAsks, ExactAsks, ExactIs, PlainAsks, PlainIs, restAt, deliveredAt}
 use Rattle.application.proofs.ListLaws.{refs-part, refs-behind}
 use Rattle.application.proofs.PlainLaws.{fits-itself, fits-other, fits-par, values-fit, settled-plain}
 use Rattle.application.proofs.CalledLaws.{called-under}
 
----------------------------------------------------------------- a sort without parts
-no-parts : (s : Sort) → partsOf s ≡ end → true ≡ parless s
-unfolding parless
-no-parts (var v) e = refl
-no-parts (par us c) e = let z : _≡_ {A = ℕ} 0 1 = cc in absurd (omega arith)
-no-parts (node k a w end) e = refl
-no-parts (node k a w (s then ss)) e = let z : _≡_ {A = ℕ} 0 1 = cc in absurd (omega arith)
+---------------------------------------------------------------- a sort of tree size 1
+-- It has no parts.
+small-parless : (s : Sort) → size s ≡ 1 → true ≡ parless s
+unfolding size parless
+small-parless (var v) e = refl
+small-parless (par ns b) e = let z = size-pos b in absurd (omega arith)
+small-parless (node k a w end) e = refl
+small-parless (node k a w (s then ss)) e = let z = size-pos s in absurd (omega arith)
 
-pub leaf-parless : {b p : List ℕ} {n k : ℕ} → OneAsks b p n k → (r : SortRecord) → EntryHas b p k r → r .count ≡ 0 → true ≡ parless (sortAt b p n k)
-leaf-parless {b} {p} {n} {k} a r e z =
-    no-parts (sortAt b p n k) (sym (e n (a .usable .stored) (a .known) .parts) ∙ sorts-end b p n b (r .list) (r .count) z)
+pub leaf-parless : {b p ix : List ℕ} {n k : ℕ} → ParlessAsks b p ix n k → {v : ℕ} → SizeHas ix k v → v ≡ 1 → true ≡ parless (sortAt b p n k)
+leaf-parless {b} {p} {ix} {n} {k} a h e = small-parless (sortAt b p n k) (sym (h b p n (a .sized) (a .one .known)) ∙ e)
 
 ---------------------------------------------------------------- the arguments, one after another
 -- What is left decides the whole.
@@ -54,6 +54,9 @@ pub record ExactScan (b p : List ℕ) (n x : ℕ) (a : List ℕ) (k y w j : ℕ)
   pub pairs : PairsAsk b p n b y a w j
   pub rest : (f : ℕ → Bool) → Plain f
       → matchesAll f (sortsAt b p n b y j) (sortsAt b p n a w j) empty ≡ matchesAll f (sortsAt b p n b x k) (sortsAt b p n a 5 k) empty
+
+pub exact-start : (b p ix : List ℕ) (n x : ℕ) (a : List ℕ) (k : ℕ) → ExactAsks b p ix n x a k → ExactScan b p n x a k x 5 k
+exact-start b p ix n x a k h = record { pairs = h .pairs; rest = λ f q. refl }
 
 module _ (b p : List ℕ) (n x : ℕ) (a : List ℕ) (k y w j : ℕ) (h : ExactScan b p n x a k y w j) where
   pub exact-end : j ≤ 0 → ExactIs b p n x a k true
@@ -151,12 +154,17 @@ misfit-either true = refl
 misfit-either false = refl
 
 module _ (b p ix : List ℕ) (n u x m : ℕ) (a : List ℕ) (k : ℕ) (h : PlainAsks b p ix n u x m a k) where
-  pub exact-asks : PairsAsk b p n b x a 5 k
+  pub exact-asks : ExactAsks b p ix n x a k
   exact-asks =
       record {
-        usable = good-usable b p ix n u (h .good);
-        left = refs-part b x m n k (h .list) (omega (arith, h .fewer));
-        right = h .args;
+        pairs =
+            record {
+              usable = good-usable b p ix n u (h .good);
+              left = refs-part b x m n k (h .list) (omega (arith, h .fewer));
+              right = h .args;
+            };
+        sized = h .good .sized;
+        index = h .good .indexed .table;
       }
 
   pub remaining-asks : (rec : List ℕ) → length rec ≡ 131 → RemainingAsks b p ix n u rec (x + 2 * k) (m - k)

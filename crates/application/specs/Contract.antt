@@ -10,14 +10,14 @@ use lib.Dec.{eqb}
 use Rattle.record.specs.Number.{u16At, numbersAt}
 use Rattle.record.specs.Sort.{Sort, sizes}
 use Rattle.record.specs.Decode.{storeOf, sortAt, Zeros}
-use Rattle.store.specs.Good.{Good}
+use Rattle.store.specs.Good.{Good, Sized}
 use Rattle.substitution.specs.Substitution.{Map, empty, apply}
 use Rattle.substitution.specs.Matching.{keep, matchesAll, listedIn}
 use Rattle.substitution.specs.MatchWith.{matchAllWith}
 use Rattle.substitution.specs.Premises.{parless}
 use Rattle.matching.specs.declared.Matched.{Matched}
 use Rattle.matching.specs.Tables.{Told, mapOf, Mapped, Cleared, Blank, Zeroed}
-use Rattle.matching.specs.Contract.{Usable, Refs, sortsAt, ListAsks, countOf}
+use Rattle.matching.specs.Contract.{Usable, Refs, sortsAt, OneAsks, ListAsks, PairsAsk, countOf}
 use Rattle.matching.specs.Contract.{answerOf as foundBy}
 use Rattle.matching.specs.Every.{every, passing}
 use Rattle.matching.specs.declared.each.Test.the-variants.{Settled as Settles}
@@ -140,9 +140,21 @@ pub record FittedIs (b p : List ℕ) (n : ℕ) (prm : List ℕ) (x m y q : ℕ) 
 abbrev pub Plain : (ℕ → Bool) → Type 0
 Plain f = (v : ℕ) → f v ≡ false
 
+-- A sort of a store whose tree sizes the index has.
+pub record ParlessAsks (b p ix : List ℕ) (n k : ℕ) : Type 0 where
+  pub one : OneAsks b p n k
+  pub sized : Sized b p ix n
+  pub index : length ix ≡ 13312
+
 -- What is noted of a sort: no Par stands in it.
 abbrev pub ParlessAt : List ℕ → List ℕ → ℕ → ℕ → Type 0
 ParlessAt b p n k = parless (sortAt b p n k) ≡ true
+
+-- k arguments, and as many sorts of a head's list.
+pub record ExactAsks (b p ix : List ℕ) (n x : ℕ) (a : List ℕ) (k : ℕ) : Type 0 where
+  pub pairs : PairsAsk b p n b x a 5 k
+  pub sized : Sized b p ix n
+  pub index : length ix ≡ 13312
 
 -- THE ARGUMENTS FIT, AND NOTHING IS BOUND, or they do not.
 abbrev pub ExactIs : List ℕ → List ℕ → ℕ → ℕ → List ℕ → ℕ → Bool → Type 0

@@ -11,21 +11,26 @@ use matching::notes::NOTES;
 use record::limits::LONGEST_LISTED;
 use record::u16_at;
 use rows::Cause;
-use store::entries::entry;
+use store::entries::size_at;
 ghost use mathlib.Core.Path.{_≡_};
 ghost use Rattle.record.specs.Decode.{sortAt};
 ghost use Rattle.substitution.specs.Premises.{parless};
-ghost use Rattle.matching.specs.Contract.{OneAsks, PairsAsk};
 ghost use Rattle.matching.specs.Notes.{Table};
-ghost use Rattle.application.specs.Contract.{ParlessAt, ExactIs, PlainAsks, PlainIs};
+ghost use Rattle.application.specs.Contract.{ParlessAt, ParlessAsks, ExactAsks, ExactIs, PlainAsks, PlainIs};
 
-// Whether no Par stands in the sort `k`. One without parts is no Par, and needs no walk.
-pub fn is_parless(records: &[u8], places: &[u32], count: usize, seen: &mut [u16], k: usize) -> bool
-    requires { ⌜ OneAsks (now records) (now places) count k × Table (ParlessAt (now records) (now places) count) (now seen) ⌝ }
+// Whether no Par stands in the sort `k`. One of tree size 1 has no parts and is no Par, and needs no walk.
+pub fn is_parless(
+    records: &[u8],
+    places: &[u32],
+    index: &[u16],
+    count: usize,
+    seen: &mut [u16],
+    k: usize,
+) -> bool
+    requires { ⌜ ParlessAsks (now records) (now places) (now index) count k × Table (ParlessAt (now records) (now places) count) (now seen) ⌝ }
     ensures { λ r. ⌜ (r ≡ parless (sortAt (now (records .entry)) (now (places .entry)) count k)) × Table (ParlessAt (now (records .entry)) (now (places .entry)) count) (now (seen .exit)) ⌝ }
 {
-    let a = entry(records, places, k);
-    if a.count == 0 {
+    if size_at(index, k) == 1 {
         return true;
     }
     let names = [0u16; 1];
@@ -46,12 +51,13 @@ pub fn is_parless(records: &[u8], places: &[u32], count: usize, seen: &mut [u16]
 pub fn all_exact(
     records: &[u8],
     places: &[u32],
+    index: &[u16],
     count: usize,
     list: usize,
     args: &[u8],
     n: usize,
 ) -> bool
-    requires { ⌜ PairsAsk (now records) (now places) count (now records) list (now args) 5 n ⌝ }
+    requires { ⌜ ExactAsks (now records) (now places) (now index) count list (now args) n ⌝ }
     ensures { λ r. ⌜ ExactIs (now (records .entry)) (now (places .entry)) count list (now (args .entry)) n r ⌝ }
 {
     let mut at = list;
@@ -64,7 +70,7 @@ pub fn all_exact(
         if k != t {
             return false;
         }
-        if !is_parless(records, places, count, &mut seen, k) {
+        if !is_parless(records, places, index, count, &mut seen, k) {
             return false;
         }
         at += 2;
@@ -90,7 +96,7 @@ pub fn plain(
     requires { ⌜ PlainAsks (now records) (now places) (now index) count used list m (now args) n ⌝ }
     ensures { λ r. ⌜ PlainIs (now (records .entry)) (now (places .entry)) count list m (now (args .entry)) n (now (records .exit)) (now (places .exit)) (now (index .exit)) r ⌝ }
 {
-    if all_exact(records, places, count, list, args, n) {
+    if all_exact(records, places, index, count, list, args, n) {
         let at = list + 2 * n;
         let mut rec = [0u8; LONGEST_LISTED];
         return remaining(records, places, index, count, used, &mut rec, at, m - n);

@@ -10,7 +10,7 @@ use Rattle.application.proofs.plain.plain.Tie as tie
 
 all-exact-requires : tie.Need-all-exact-requires
 all-exact-requires c κs =
-    let s = c .before .before .before .before .before .before in
+    let s = c .before .before .before .before .before .before .before in
     let a = s .args in
     let b = a .records .now in
     let p = a .places .now in
@@ -24,17 +24,17 @@ all-exact-requires c κs =
     exact-asks b p ix n u x m d k (s .pre)
 
 mul-at : tie.Need-mul-at
-mul-at c = omega (arith, c .before .before .before .before .before .before .before .before .pre .list .within, c .before .before .before .before .before .before .before .before .pre .fewer, c .before .before .before .before .before .before .before .before .good)
+mul-at c = omega (arith, c .before .before .before .before .before .before .before .before .before .pre .list .within, c .before .before .before .before .before .before .before .before .before .pre .fewer, c .before .before .before .before .before .before .before .before .before .good)
 
 add-at : tie.Need-add-at
-add-at c = omega (arith, c .before .before .before .before .before .before .before .before .pre .list .within, c .before .before .before .before .before .before .before .before .pre .fewer, c .before .before .before .before .before .before .before .before .good)
+add-at c = omega (arith, c .before .before .before .before .before .before .before .before .before .pre .list .within, c .before .before .before .before .before .before .before .before .before .pre .fewer, c .before .before .before .before .before .before .before .before .before .good)
 
 sub-remaining : tie.Need-sub-remaining
-sub-remaining c = omega (arith, c .before .before .before .before .before .before .before .before .before .before .before .before .pre .fewer)
+sub-remaining c = omega (arith, c .before .before .before .before .before .before .before .before .before .before .before .before .before .pre .fewer)
 
 remaining-requires : tie.Need-remaining-requires
 remaining-requires c κs =
-    let s = c .before .before .before .before .before .before .before .before .before .before .before .before in
+    let s = c .before .before .before .before .before .before .before .before .before .before .before .before .before in
     let a = s .args in
     let b = a .records .now in
     let p = a .places .now in
@@ -49,7 +49,7 @@ remaining-requires c κs =
 
 returns : tie.Need-returns
 returns c =
-    let s = c .before .before .before .before .before .before .before .before .before .before .before .before .before .before .before .before .before .before .before .before in
+    let s = c .before .before .before .before .before .before .before .before .before .before .before .before .before .before .before .before .before .before .before .before .before in
     let a = s .args in
     let b = a .records .now in
     let p = a .places .now in
@@ -64,7 +64,7 @@ returns c =
 
 returns-2 : tie.Need-returns-2
 returns-2 c =
-    let s = c .before .before .before .before .before .before .before .before .before in
+    let s = c .before .before .before .before .before .before .before .before .before .before in
     let a = s .args in
     let b = a .records .now in
     let p = a .places .now in
@@ -78,4 +78,4 @@ returns-2 c =
     plain-refused b p ix n u x m d k (s .pre) (c .before .before .all-exact .result) (c .before .before .all-exact .ensures) (c .before .if1 .left) (c .refuse .result) (c .refuse .ensures)
 
 pub plain-spec : {M : Type 1} → statement M
-plain-spec = tie.close (tie.spec all-exact-requires mul-at add-at (λ c. search needs) sub-remaining remaining-requires (λ c. search needs) (λ c. search needs) (λ c. search needs) returns (λ c κs. search needs) (λ c. search needs) (λ c. search needs) returns-2)
+plain-spec = tie.close (tie.spec all-exact-requires mul-at add-at (λ c. search needs) sub-remaining remaining-requires (λ c. search needs) (λ c. search needs) (λ c. search needs) returns (λ c κs. search needs) (λ c. search needs) (λ c. search needs) (λ c. search needs) returns-2)
