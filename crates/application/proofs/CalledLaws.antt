@@ -65,11 +65,11 @@ module _ (b p : List ℕ) (n x m : ℕ) (a : List ℕ) (k : ℕ) (f : ℕ → Bo
       (firsts-at (storeOf b p n) b x m a 5 k (omega arith))
 
 ---------------------------------------------------------------- with the names listed
-module _ (b p : List ℕ) (n : ℕ) (prm imgs bnd : List ℕ) (x m : ℕ) (a : List ℕ) (k : ℕ) (h : FitAsks b p n prm imgs bnd x m a k) where
+module _ {b p : List ℕ} {n : ℕ} {prm imgs bnd : List ℕ} {x m : ℕ} {a : List ℕ} {k : ℕ} (h : FitAsks b p n prm imgs bnd x m a k) where
   pub matches-ask : MatchAllAsks b p n prm imgs bnd 0 b x a 5 k
   matches-ask =
       record {
-        pairs = record { usable = h .usable; left = refs-part b x m n k (h .list) (h .fewer); right = h .args };
+        pairs = record { usable = h .usable; left = refs-part k (h .list) (h .fewer); right = h .args };
         table = h .table;
         mapped = cleared-mapped b p n imgs bnd (h .cleared);
       }
@@ -93,7 +93,7 @@ module _ (b p : List ℕ) (n : ℕ) (prm imgs bnd : List ℕ) (x m : ℕ) (a : L
     pub settled-asks : (c : ℕ) → r ≡ Fits c → SettledAllAsks b p n prm l (x + 2 * k) (m - k)
     settled-asks c e =
         record {
-          list = record { usable = h .usable; refs = refs-behind b x m n k (h .list) (h .fewer) };
+          list = record { usable = h .usable; refs = refs-behind k (h .list) (h .fewer) };
           table = h .table;
           images = found-as (Fits c) e (listed prm) told .mapped .tabled .names;
         }
@@ -131,11 +131,11 @@ module _ (b p : List ℕ) (n : ℕ) (prm imgs bnd : List ℕ) (x m : ℕ) (a : L
         }
 
 ---------------------------------------------------------------- listing the names and taking them off
-module _ (b p : List ℕ) (n : ℕ) (prm imgs bnd : List ℕ) (x m y q : ℕ) (a : List ℕ) (k : ℕ) (h : FittedAsks b p n prm imgs bnd x m y q a k) where
+module _ {b p : List ℕ} {n : ℕ} {prm imgs bnd : List ℕ} {x m y q : ℕ} {a : List ℕ} {k : ℕ} (h : FittedAsks b p n prm imgs bnd x m y q a k) where
   pub fitted-add : AddAsks prm b y q
   fitted-add = add-asks prm (h .fit .table) (h .zeros) b y q (h .names) (h .named)
 
-  module _ (o : List ℕ) (t : Added prm (numbersAt b y q) o) where
+  module _ {o : List ℕ} (t : Added prm (numbersAt b y q) o) where
     pub fit-asks : FitAsks b p n o imgs bnd x m a k
     fit-asks =
         record {
@@ -148,15 +148,15 @@ module _ (b p : List ℕ) (n : ℕ) (prm imgs bnd : List ℕ) (x m y q : ℕ) (a
         }
 
     pub fitted-take : TakeAsks o b y q
-    fitted-take = take-asks prm (h .fit .table) (h .zeros) b y q (h .names) (h .named) o t
+    fitted-take = take-asks prm (h .fit .table) (h .zeros) b y q (h .names) (h .named) t
 
-    pub fitted-is : (l d : List ℕ) (r : Call) → FitIs b p n o x m a k l d r → (prm′ : List ℕ) → Added prm′ (numbersAt b y q) o → FittedIs b p n prm x m y q a k prm′ l d r
-    fitted-is l d r w prm′ z =
+    pub fitted-is : (l d : List ℕ) (r : Call) → FitIs b p n o x m a k l d r → {prm′ : List ℕ} → Added prm′ (numbersAt b y q) o → FittedIs b p n prm x m y q a k prm′ l d r
+    fitted-is l d r w {prm′} z =
         let vs = numbersAt b y q in
         record {
           params = added-back prm vs o prm′ t z;
           mapped = w .mapped;
-          verdict = w .verdict (listedIn vs) (listed-is o vs (listed-names prm (h .fit .table) (h .zeros) b y q (h .names) (h .named) o t));
+          verdict = w .verdict (listedIn vs) (listed-is o vs (listed-names prm (h .fit .table) (h .zeros) b y q (h .names) (h .named) t));
         }
 
 ---------------------------------------------------------------- what remains, delivered
@@ -181,9 +181,9 @@ module _ (b p ix : List ℕ) (n u : ℕ) (prm imgs bnd : List ℕ) (x m y q : �
         }
 
     -- Over tables that bind some names.
-    pub rest-asks : (l d : List ℕ) (c : ℕ) → Mapped b p n l d c → RestAsks b p ix n u l (x + 2 * k) (m - k)
-    rest-asks l d c w =
-        let r = refs-behind b x m n k (h .called .list) (h .fewer) in
+    pub rest-asks : {l d : List ℕ} {c : ℕ} → Mapped b p n l d c → RestAsks b p ix n u l (x + 2 * k) (m - k)
+    rest-asks {l} {d} {c} w =
+        let r = refs-behind k (h .called .list) (h .fewer) in
         record {
           ready = record { good = h .called .good; table = record { long = w .tabled .names; below = w .below } };
           within = r .within;
@@ -191,14 +191,14 @@ module _ (b p ix : List ℕ) (n u : ℕ) (prm imgs bnd : List ℕ) (x m y q : �
           few = omega (arith, h .called .few);
         }
 
-    module _ (prm′ l d : List ℕ) (c : Call) (w : FittedIs b p n prm x m y q a k prm′ l d c) where
+    module _ {prm′ l d : List ℕ} {c : Call} (w : FittedIs b p n prm x m y q a k prm′ l d c) where
       pub call-mapped : (j : ℕ) → boundIn c ≡ j → Mapped b p n l d j
       call-mapped j e = subst (λ (i : ℕ). Mapped b p n l d i) e (w .mapped)
 
       abbrev verdict : Verdict
       verdict = deliveredAt (listedIn (numbersAt b y q)) b p n x m a k
 
-      module _ (l′ d′ : List ℕ) (z : Cleared l′ d′) where
+      module _ {l′ d′ : List ℕ} (z : Cleared l′ d′) where
         pub delivered-made : (j : ℕ) → c ≡ Settled j → (b′ p′ ix′ : List ℕ) (r : Answer) → RestIs b p n l (x + 2 * k) (m - k) b′ p′ ix′ r
             → AppIs verdict b p n prm imgs bnd b′ p′ ix′ prm′ l′ d′ r
         delivered-made j e b′ p′ ix′ r g =
@@ -269,8 +269,8 @@ module _ (b p ix : List ℕ) (n u : ℕ) (prm imgs bnd : List ℕ) (x m y q : �
             app-refused b p ix n u prm imgs bnd (h .good) verdictOf Misfit
             (by-values ∙ ap (λ (z : Bool). need z Misfit (deliveredAt f b p n x m a k)) e)
 
-        pub called-delivered : t ≡ true → (b′ p′ ix′ prm′ l′ d′ : List ℕ) (r : Answer)
+        pub called-delivered : t ≡ true → {b′ p′ ix′ prm′ l′ d′ : List ℕ} {r : Answer}
             → AppIs (deliveredAt f b p n x m a k) b p n prm imgs bnd b′ p′ ix′ prm′ l′ d′ r
             → AppIs verdictOf b p n prm imgs bnd b′ p′ ix′ prm′ l′ d′ r
-        called-delivered e b′ p′ ix′ prm′ l′ d′ r g =
+        called-delivered e {b′} {p′} {ix′} {prm′} {l′} {d′} {r} g =
             app-as (by-values ∙ ap (λ (z : Bool). need z Misfit (deliveredAt f b p n x m a k)) e) g

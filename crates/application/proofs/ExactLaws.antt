@@ -55,17 +55,17 @@ pub record ExactScan (b p : List ℕ) (n x : ℕ) (a : List ℕ) (k y w j : ℕ)
   pub rest : (f : ℕ → Bool) → Plain f
       → matchesAll f (sortsAt b p n b y j) (sortsAt b p n a w j) empty ≡ matchesAll f (sortsAt b p n b x k) (sortsAt b p n a 5 k) empty
 
-pub exact-start : (b p ix : List ℕ) (n x : ℕ) (a : List ℕ) (k : ℕ) → ExactAsks b p ix n x a k → ExactScan b p n x a k x 5 k
-exact-start b p ix n x a k h = record { pairs = h .pairs; rest = λ f q. refl }
+pub exact-start : {b p ix : List ℕ} {n x : ℕ} {a : List ℕ} {k : ℕ} → ExactAsks b p ix n x a k → ExactScan b p n x a k x 5 k
+exact-start {b} {p} {ix} {n} {x} {a} {k} h = record { pairs = h .pairs; rest = λ f q. refl }
 
-module _ (b p : List ℕ) (n x : ℕ) (a : List ℕ) (k y w j : ℕ) (h : ExactScan b p n x a k y w j) where
+module _ {b p : List ℕ} {n x : ℕ} {a : List ℕ} {k y w j : ℕ} (h : ExactScan b p n x a k y w j) where
   pub exact-end : j ≤ 0 → ExactIs b p n x a k true
   unfolding matches
   exact-end l f q =
       let z : j ≡ 0 = omega arith in
       sym (h .rest f q) ∙ ap₂ (λ (ss ts : Sorts). matchesAll f ss ts empty) (sorts-end b p n b y j z) (sorts-end b p n a w j z)
 
-  module _ (more : 0 < j) (i o : ℕ) (e : i ≡ u16At b y) (g : o ≡ u16At a w) where
+  module _ (more : 0 < j) {i o : ℕ} (e : i ≡ u16At b y) (g : o ≡ u16At a w) where
     pub known-first : i < n
     known-first = subst (_< n) (sym e) (refs-first b y j n more (h .pairs .left))
 
@@ -88,7 +88,7 @@ module _ (b p : List ℕ) (n x : ℕ) (a : List ℕ) (k y w j : ℕ) (h : ExactS
         sym (by-first f q none (fits-other f q (sortAt b p n i) (sortAt b p n o)
         (λ z. d (sorts-one b p n (h .pairs .usable .stored) (h .pairs .usable .distinct) i o known-first known-second z))))
 
-    module _ (s : Bool) (t : s ≡ parless (sortAt b p n i)) where
+    module _ {s : Bool} (t : s ≡ parless (sortAt b p n i)) where
       pub exact-par : s ≡ false → ExactIs b p n x a k false
       exact-par z f q = sym (by-first f q none (fits-par f q (sortAt b p n i) (sortAt b p n o) (sym t ∙ z)))
 
@@ -117,9 +117,9 @@ module _ (st : List Sort) (m : ℕ) (each : (i : ℕ) → i < m → named (getD 
   any [] h = absurd (not-suc-le-zero h)
   any (n ∷ ns) h = refl
 
-  named-sort : (f : Fields) → Shape f → Below f m → named (sortOf st f) ≡ true
+  named-sort : {f : Fields} → Shape f → Below f m → named (sortOf st f) ≡ true
   unfolding named
-  named-sort f s h = go (which (f .kind))
+  named-sort {f} s h = go (which (f .kind))
     where
       go : Which (f .kind) → named (sortOf st f) ≡ true
       go (isVar e) = ap named (sort-var st f e)
@@ -127,13 +127,13 @@ module _ (st : List Sort) (m : ℕ) (each : (i : ℕ) → i < m → named (getD 
           ap named (sort-par st f e) ∙ ap₂ _&&_ (any (f .names) (s .some e)) (each (getD (f .list) 0 0) (h 0 (omega (arith, par-one f s e))))
       go (isNode p q) = ap named (sort-other st f p q) ∙ named-sorts (f .list) h
 
-module _ (b p : List ℕ) (n : ℕ) (stored : Stored b p n) where
+module _ {b p : List ℕ} {n : ℕ} (stored : Stored b p n) where
   named-below : (j k : ℕ) → k < j → k < n → named (sortAt b p n k) ≡ true
   unfolding sortAt
   named-below zero k h l = absurd (not-suc-le-zero h)
   named-below (suc j) k h l =
       ap named (sort-node b p n k stored l)
-      ∙ named-sort (storeOf b p n) k (λ i o. named-below j i (omega arith) (omega arith)) (fieldsAt b (getD p k 0))
+      ∙ named-sort (storeOf b p n) k (λ i o. named-below j i (omega arith) (omega arith))
       (stored .each k l .shape) (stored .each k l .below)
 
   named-list : (x m : ℕ) → ((j : ℕ) → j < m → u16At b (x + 2 * j) < n) → namedAll (sortsAt b p n b x m) ≡ true
@@ -153,14 +153,14 @@ misfit-either : (t : Bool) → need t Misfit (refused Misfit) ≡ refused Misfit
 misfit-either true = refl
 misfit-either false = refl
 
-module _ (b p ix : List ℕ) (n u x m : ℕ) (a : List ℕ) (k : ℕ) (h : PlainAsks b p ix n u x m a k) where
+module _ {b p ix : List ℕ} {n u x m : ℕ} {a : List ℕ} {k : ℕ} (h : PlainAsks b p ix n u x m a k) where
   pub exact-asks : ExactAsks b p ix n x a k
   exact-asks =
       record {
         pairs =
             record {
               usable = good-usable b p ix n u (h .good);
-              left = refs-part b x m n k (h .list) (omega (arith, h .fewer));
+              left = refs-part k (h .list) (omega (arith, h .fewer));
               right = h .args;
             };
         sized = h .good .sized;
@@ -169,7 +169,7 @@ module _ (b p ix : List ℕ) (n u x m : ℕ) (a : List ℕ) (k : ℕ) (h : Plain
 
   pub remaining-asks : (rec : List ℕ) → length rec ≡ 131 → RemainingAsks b p ix n u rec (x + 2 * k) (m - k)
   remaining-asks rec e =
-      let r = refs-behind b x m n k (h .list) (omega (arith, h .fewer)) in
+      let r = refs-behind k (h .list) (omega (arith, h .fewer)) in
       record { good = h .good; room = omega arith; within = r .within; below = r .below; few = omega (arith, h .few) }
 
   module _ (f : ℕ → Bool) (q : Plain f) where
@@ -180,9 +180,9 @@ module _ (b p ix : List ℕ) (n u x m : ℕ) (a : List ℕ) (k : ℕ) (h : Plain
     rest-is : deliveredAt f b p n x m a k ≡ delivered f (restAt b p n x m k) (some empty) → deliveredAt f b p n x m a k ≡ sort (restAt b p n x m k)
     rest-is e =
         let s = restAt b p n x m k in
-        let r = refs-behind b x m n k (h .list) (omega (arith, h .fewer)) in
+        let r = refs-behind k (h .list) (omega (arith, h .fewer)) in
         e ∙ ap₂ (λ (t : Bool) (o : Sort). need t Unassigned (sort o)) (settled-plain f q empty s)
-        (apply-empty s (named-remaining (sortsAt b p n b (x + 2 * k) (m - k)) (named-list b p n (h .good .stored) (x + 2 * k) (m - k) (r .below))))
+        (apply-empty s (named-remaining (sortsAt b p n b (x + 2 * k) (m - k)) (named-list (h .good .stored) (x + 2 * k) (m - k) (r .below))))
 
     pub called-exact : ExactIs b p n x a k true → called f (some (sortsAt b p n b x m)) ts ≡ sort (restAt b p n x m k)
     called-exact e =
@@ -196,10 +196,10 @@ module _ (b p ix : List ℕ) (n u x m : ℕ) (a : List ℕ) (k : ℕ) (h : Plain
         ∙ ap (λ (v : Verdict). need (values ts) Misfit v) (ap (delivered f (restAt b p n x m k)) (e f q)) ∙ misfit-either (values ts)
 
   module _ (t : Bool) (e : ExactIs b p n x a k t) where
-    pub plain-made : t ≡ true → (b′ p′ ix′ : List ℕ) (r : Answer) → AnswerIs b p n (sort (restAt b p n x m k)) b′ p′ ix′ r
+    pub plain-made : t ≡ true → {b′ p′ ix′ : List ℕ} {r : Answer} → AnswerIs b p n (sort (restAt b p n x m k)) b′ p′ ix′ r
         → PlainIs b p n x m a k b′ p′ ix′ r
-    plain-made z b′ p′ ix′ r g f q = judged-as (called-exact f q (subst (ExactIs b p n x a k) z e)) g
+    plain-made z {b′} {p′} {ix′} {r} g f q = judged-as (called-exact f q (subst (ExactIs b p n x a k) z e)) g
 
-    pub plain-refused : t ≡ false → (r : Answer) → r ≡ refusing Misfit n u → PlainIs b p n x m a k b p ix r
-    plain-refused z r g f q =
+    pub plain-refused : t ≡ false → {r : Answer} → r ≡ refusing Misfit n u → PlainIs b p n x m a k b p ix r
+    plain-refused z {r} g f q =
         judged-as (called-other f q (subst (ExactIs b p n x a k) z e)) (answered-as g (answer-refused b p ix n u (h .good) Misfit))

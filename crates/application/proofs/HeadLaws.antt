@@ -115,7 +115,7 @@ over-sizes [] ss = refl
 over-sizes (v ∷ vs) ss = refl
 
 ---------------------------------------------------------------- an App
-module _ (b p ix : List ℕ) (n u : ℕ) (prm imgs bnd a : List ℕ) (m : ℕ) (h : AppAsks b p ix n u prm imgs bnd a m) where
+module _ {b p ix : List ℕ} {n u : ℕ} {prm imgs bnd a : List ℕ} {m : ℕ} (h : AppAsks b p ix n u prm imgs bnd a m) where
   pub app-count : m < 2 → application (sortsAt b p n a 3 m) ≡ refused Count
   unfolding application
   app-count l = go m l
@@ -130,7 +130,7 @@ module _ (b p ix : List ℕ) (n u : ℕ) (prm imgs bnd a : List ℕ) (m : ℕ) (
   applied-none e = ap applied (sorts-end b p n a 3 m e)
 
   -- With a head, by its number.
-  module _ (more : 0 < m) (i : ℕ) (e : i ≡ u16At a 3) where
+  module _ (more : 0 < m) {i : ℕ} (e : i ≡ u16At a 3) where
     known : i < n
     known = subst (_< n) (sym e) (h .below 0 more)
 
@@ -210,7 +210,7 @@ module _ (b p ix : List ℕ) (n u : ℕ) (prm imgs bnd a : List ℕ) (m : ℕ) (
         module _ (l : m - 1 ≤ c) where
           pub remaining-asks : RemainingAsks b p ix n u a (x + 2 * (m - 1)) (c - (m - 1))
           remaining-asks =
-              let behind = refs-behind b x c n (m - 1) refs l in
+              let behind = refs-behind (m - 1) refs l in
               record {
                 good = h .good;
                 room = omega (arith, h .room);

@@ -21,15 +21,15 @@ pub full-params : (x y z : ℕ) → (x ≡ 65536 → ⊥) → false ≡ full x y
 unfolding full
 full-params x y z d = sym (ap (_&& (eqb y 65536 && eqb z 4096)) (ne-eqb x 65536 d))
 
-pub full-rest : (x y z : ℕ) → x ≡ 65536 → full x y z ≡ (eqb y 65536 && eqb z 4096)
+pub full-rest : {x : ℕ} (y z : ℕ) → x ≡ 65536 → full x y z ≡ (eqb y 65536 && eqb z 4096)
 unfolding full
-full-rest x y z e = ap (_&& (eqb y 65536 && eqb z 4096)) (eq-eqb x 65536 e)
+full-rest {x} y z e = ap (_&& (eqb y 65536 && eqb z 4096)) (eq-eqb x 65536 e)
 
-pub full-images : (x y z : ℕ) → x ≡ 65536 → (y ≡ 65536 → ⊥) → false ≡ full x y z
-full-images x y z e d = sym (full-rest x y z e ∙ ap (_&& eqb z 4096) (ne-eqb y 65536 d))
+pub full-images : {x : ℕ} (y z : ℕ) → x ≡ 65536 → (y ≡ 65536 → ⊥) → false ≡ full x y z
+full-images {x} y z e d = sym (full-rest y z e ∙ ap (_&& eqb z 4096) (ne-eqb y 65536 d))
 
-pub full-bound : (x y z : ℕ) → x ≡ 65536 → y ≡ 65536 → eqb z 4096 ≡ full x y z
-full-bound x y z e f = sym (full-rest x y z e ∙ ap (_&& eqb z 4096) (eq-eqb y 65536 f))
+pub full-bound : {x y : ℕ} (z : ℕ) → x ≡ 65536 → y ≡ 65536 → eqb z 4096 ≡ full x y z
+full-bound {x} {y} z e f = sym (full-rest y z e ∙ ap (_&& eqb z 4096) (eq-eqb y 65536 f))
 
 full-lengths : (x y z : ℕ) → full x y z ≡ true → (x ≡ 65536) × (y ≡ 65536) × (z ≡ 4096)
 unfolding full
@@ -37,8 +37,8 @@ full-lengths x y z e =
     let t = three-right (eqb x 65536) (eqb y 65536) (eqb z 4096) e in
     (eqb-true x 65536 (t .0), eqb-true y 65536 (t .1), eqb-true z 4096 (t .2))
 
-full-blank : (prm imgs bnd : List ℕ) → Zeroed prm imgs bnd → full (length prm) (length imgs) (length bnd) ≡ true → Blank prm imgs bnd
-full-blank prm imgs bnd z e =
+full-blank : {prm imgs bnd : List ℕ} → Zeroed prm imgs bnd → full (length prm) (length imgs) (length bnd) ≡ true → Blank prm imgs bnd
+full-blank {prm} {imgs} {bnd} z e =
     let l = full-lengths (length prm) (length imgs) (length bnd) e in
     zeroed-blank prm imgs bnd z (l .0) (l .1) (l .2)
 
@@ -60,7 +60,7 @@ own-zeroed = record { params = zeros-all 65536; images = zeros-all 65536; bound 
 own-full : full (length own-names) (length own-names) (length own-bound) ≡ true
 own-full =
     let e = length-replicate {A = ℕ} 65536 0 in
-    sym (full-bound (length own-names) (length own-names) (length own-bound) e e) ∙ eq-eqb (length own-bound) 4096 (length-replicate {A = ℕ} 4096 0)
+    sym (full-bound (length own-bound) e e) ∙ eq-eqb (length own-bound) 4096 (length-replicate {A = ℕ} 4096 0)
 
 -- Not over full tables, then over its own: one turn less.
 pub turns-less : (x y z t : ℕ) → turns (full x y z) ≡ t → full x y z ≡ false → turns (full (length own-names) (length own-names) (length own-bound)) < t
@@ -68,17 +68,17 @@ turns-less x y z t e f = omega (arith, sym e ∙ ap turns f, ap turns own-full)
 
 ---------------------------------------------------------------- what is asked
 module _ (b p ix : List ℕ) (n u : ℕ) (prm imgs bnd : List ℕ) (x m y q : ℕ) (a : List ℕ) (k : ℕ) where
-  called-over : CalledAsks b p ix n u prm imgs bnd x m y q a k → (prm′ imgs′ bnd′ : List ℕ) → Zeroed prm′ imgs′ bnd′
+  called-over : CalledAsks b p ix n u prm imgs bnd x m y q a k → {prm′ imgs′ bnd′ : List ℕ} → Zeroed prm′ imgs′ bnd′
       → CalledAsks b p ix n u prm′ imgs′ bnd′ x m y q a k
-  called-over h prm′ imgs′ bnd′ z =
+  called-over h {prm′} {imgs′} {bnd′} z =
       record { good = h .good; zeroed = z; list = h .list; few = h .few; names = h .names; named = h .named; args = h .args }
 
   module _ (h : LentAsks b p ix n u prm imgs bnd x m y q a k) where
     pub deliver-asks : full (length prm) (length imgs) (length bnd) ≡ true → DeliverAsks b p ix n u prm imgs bnd x m y q a k
-    deliver-asks e = record { called = h .called; fewer = h .fewer; blank = full-blank prm imgs bnd (h .called .zeroed) e }
+    deliver-asks e = record { called = h .called; fewer = h .fewer; blank = full-blank (h .called .zeroed) e }
 
     pub lent-own : LentAsks b p ix n u own-names own-names own-bound x m y q a k
-    lent-own = record { called = called-over (h .called) own-names own-names own-bound own-zeroed; fewer = h .fewer }
+    lent-own = record { called = called-over (h .called) own-zeroed; fewer = h .fewer }
 
   module _ (h : LentParametricAsks b p ix n u prm imgs bnd x m y q a k) where
     pub parametric-full : full (length prm) (length imgs) (length bnd) ≡ true → ParametricAsks b p ix n u prm imgs bnd x m y q a k

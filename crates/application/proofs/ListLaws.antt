@@ -43,7 +43,7 @@ sizes-first st b x zero (suc k) h = absurd (omega arith)
 sizes-first st b x (suc m) (suc k) h = omega (arith, sizes-first st b (x + 2) m k (omega arith))
 
 -- The numbers of either part, and those behind the head.
-module _ (b : List ℕ) (x m n k : ℕ) (r : Refs b x m n) (h : k ≤ m) where
+module _ {b : List ℕ} {x m n : ℕ} (k : ℕ) (r : Refs b x m n) (h : k ≤ m) where
   pub refs-part : Refs b x k n
   refs-part = record { within = omega (arith, r .within); below = λ j l. r .below j (omega arith) }
 

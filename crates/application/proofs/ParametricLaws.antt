@@ -30,19 +30,19 @@ use Rattle.application.proofs.TableLaws.{add-asks, take-asks, listed-na
 use Rattle.application.proofs.CalledLaws.{fitted-asks}
 
 ---------------------------------------------------------------- matching the arguments
-module _ (b p : List ℕ) (n : ℕ) (prm imgs bnd : List ℕ) (x m y q : ℕ) (a : List ℕ) (k : ℕ) (h : PatternsAsk b p n prm imgs bnd x m y q a k) where
+module _ {b p : List ℕ} {n : ℕ} {prm imgs bnd : List ℕ} {x m y q : ℕ} {a : List ℕ} {k : ℕ} (h : PatternsAsk b p n prm imgs bnd x m y q a k) where
   pub patterns-add : AddAsks prm b y q
   patterns-add = let f = h .fitted in add-asks prm (f .fit .table) (f .zeros) b y q (f .names) (f .named)
 
-  module _ (o : List ℕ) (t : Added prm (numbersAt b y q) o) where
+  module _ {o : List ℕ} (t : Added prm (numbersAt b y q) o) where
     lists : Lists o (numbersAt b y q)
-    lists = let f = h .fitted in listed-names prm (f .fit .table) (f .zeros) b y q (f .names) (f .named) o t
+    lists = let f = h .fitted in listed-names prm (f .fit .table) (f .zeros) b y q (f .names) (f .named) t
 
     pub with-asks : WithAllAsks b p n o imgs bnd 0 b x a 5 k
     with-asks =
         let f = h .fitted .fit in
         record {
-          pairs = record { usable = f .usable; left = refs-part b x m n k (f .list) (f .fewer); right = f .args };
+          pairs = record { usable = f .usable; left = refs-part k (f .list) (f .fewer); right = f .args };
           table = lists .table;
           room =
               lists-roomy o (numbersAt b y q) (sizes (sortsAt b p n b x k)) lists
@@ -50,14 +50,14 @@ module _ (b p : List ℕ) (n : ℕ) (prm imgs bnd : List ℕ) (x m y q : ℕ) (a
           mapped = cleared-mapped b p n imgs bnd (f .cleared);
         }
 
-    module _ (o′ l d : List ℕ) (r : Matched) (w : WithIs b p n o o′ l d r (PairsWith b p n imgs bnd 0 b x a 5 k)) where
+    module _ {o′ l d : List ℕ} {r : Matched} (w : WithIs b p n o o′ l d r (PairsWith b p n imgs bnd 0 b x a 5 k)) where
       pub patterns-take : TakeAsks o′ b y q
       patterns-take =
           let f = h .fitted in
-          subst (λ (z : List ℕ). TakeAsks z b y q) (sym (w .params)) (take-asks prm (f .fit .table) (f .zeros) b y q (f .names) (f .named) o t)
+          subst (λ (z : List ℕ). TakeAsks z b y q) (sym (w .params)) (take-asks prm (f .fit .table) (f .zeros) b y q (f .names) (f .named) t)
 
-      pub patterns-are : (prm′ : List ℕ) → Added prm′ (numbersAt b y q) o′ → PatternsAre b p n prm x y q a k prm′ l d r
-      patterns-are prm′ z =
+      pub patterns-are : {prm′ : List ℕ} → Added prm′ (numbersAt b y q) o′ → PatternsAre b p n prm x y q a k prm′ l d r
+      patterns-are {prm′} z =
           let vs = numbersAt b y q in
           record {
             params = added-back prm vs o prm′ t (subst (λ (i : List ℕ). Added prm′ vs i) (w .params) z);
@@ -68,7 +68,7 @@ module _ (b p : List ℕ) (n : ℕ) (prm imgs bnd : List ℕ) (x m y q : ℕ) (a
           }
 
 ---------------------------------------------------------------- what remains, with the map applied
-module _ (b p ix : List ℕ) (n u : ℕ) (prm imgs bnd : List ℕ) (x m y q : ℕ) (a : List ℕ) (k : ℕ) (h : ParametricAsks b p ix n u prm imgs bnd x m y q a k) where
+module _ {b p ix : List ℕ} {n u : ℕ} {prm imgs bnd : List ℕ} {x m y q : ℕ} {a : List ℕ} {k : ℕ} (h : ParametricAsks b p ix n u prm imgs bnd x m y q a k) where
   pub patterns-ask : PatternsAsk b p n prm imgs bnd x m y q a k
   patterns-ask =
       record {
@@ -76,7 +76,7 @@ module _ (b p ix : List ℕ) (n u : ℕ) (prm imgs bnd : List ℕ) (x m y q : �
         small = omega (arith, sizes-first (storeOf b p n) b x m k (h .deliver .fewer), h .small);
       }
 
-  module _ (prm′ l d : List ℕ) (c : Matched) (w : PatternsAre b p n prm x y q a k prm′ l d c) where
+  module _ {prm′ l d : List ℕ} {c : Matched} (w : PatternsAre b p n prm x y q a k prm′ l d c) where
     pub found-mapped : (j : ℕ) → countOf c ≡ j → Mapped b p n l d j
     found-mapped j e = subst (λ (i : ℕ). Mapped b p n l d i) e (w .mapped)
 
@@ -86,7 +86,7 @@ module _ (b p ix : List ℕ) (n u : ℕ) (prm imgs bnd : List ℕ) (x m y q : �
     by-found : verdict ≡ substituted (restAt b p n x m k) (foundBy (storeOf b p n) l d c)
     by-found = sym (ap (λ (o : Option Map). substituted (restAt b p n x m k) o) (w .result))
 
-    module _ (l′ d′ : List ℕ) (z : Cleared l′ d′) where
+    module _ {l′ d′ : List ℕ} (z : Cleared l′ d′) where
       pub parametric-made : (j : ℕ) → c ≡ Fits j → (b′ p′ ix′ : List ℕ) (r : Answer) → RestIs b p n l (x + 2 * k) (m - k) b′ p′ ix′ r
           → AppIs verdict b p n prm imgs bnd b′ p′ ix′ prm′ l′ d′ r
       parametric-made j e b′ p′ ix′ r g =
@@ -100,8 +100,8 @@ module _ (b p ix : List ℕ) (n u : ℕ) (prm imgs bnd : List ℕ) (x m y q : �
             bound = cleared-bound imgs bnd l′ d′ (blank .cleared) z;
           }
 
-      pub parametric-none : (j : ℕ) → c ≡ Misfits j → (r : Answer) → r ≡ refusing Panics n u → AppIs verdict b p n prm imgs bnd b p ix prm′ l′ d′ r
-      parametric-none j e r g =
+      pub parametric-none : (j : ℕ) → c ≡ Misfits j → {r : Answer} → r ≡ refusing Panics n u → AppIs verdict b p n prm imgs bnd b p ix prm′ l′ d′ r
+      parametric-none j e {r} g =
           let blank = h .deliver .blank in
           record {
             answer =

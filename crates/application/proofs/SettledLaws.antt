@@ -22,8 +22,8 @@ some-image : (st : List Sort) (e : ℕ) → isSome (imageAt st e) ≡ not (eqb e
 some-image st zero = refl
 some-image st (suc j) = sym (ap not (ne-eqb (suc j) 0 (λ z. omega arith)))
 
-pub bound-look : (st : List Sort) (l : List ℕ) (θ : Map) → Images st l θ → (v : ℕ) → bound θ v ≡ not (eqb (getD l v 0) 0)
-bound-look st l θ i v = ap isSome (i .look v) ∙ some-image st (getD l v 0)
+pub bound-look : {st : List Sort} {l : List ℕ} {θ : Map} → Images st l θ → (v : ℕ) → bound θ v ≡ not (eqb (getD l v 0) 0)
+bound-look {st} {l} {θ} i v = ap isSome (i .look v) ∙ some-image st (getD l v 0)
 
 -- For every test of names and every map that the tables stand for.
 pub settled-tests : {st : List Sort} {prm imgs : List ℕ} {f : ℕ → Bool} {θ : Map} → Told prm f → Images st imgs θ
@@ -31,7 +31,7 @@ pub settled-tests : {st : List Sort} {prm imgs : List ℕ} {f : ℕ → Bool} {�
 unfolding settled
 settled-tests {st} {prm} {imgs} {f} {θ} t i =
     record {
-      vars = λ v. rw (t v, bound-look st imgs θ i v) refl;
+      vars = λ v. rw (t v, bound-look i v) refl;
       pars = λ us b. refl;
       nodes = λ k a w ss. refl;
       none = refl;

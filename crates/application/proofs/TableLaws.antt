@@ -20,7 +20,7 @@ module _ (prm : List ℕ) (table : length prm ≡ 65536) (zeros : Zeros prm 0) (
         room = λ v. omega (arith, zeros v (omega arith), times-few v (numbersAt b y q), length-numbersAt b y q);
       }
 
-  module _ (m : List ℕ) (a : Added prm (numbersAt b y q) m) where
+  module _ {m : List ℕ} (a : Added prm (numbersAt b y q) m) where
     pub take-asks : TakeAsks m b y q
     take-asks = record { names = record { table = a .long ∙ table; within = names }; there = λ v. omega (arith, a .each v) }
 

@@ -47,7 +47,7 @@ plain-requires c κs =
 
 returns-2 : tie.Need-returns-2
 returns-2 c =
-    let s = c .before .before .before .before .before .before .before .before .before .before .before .before .before .before .before .before .before .before .before in
+    let c₁ = c .before .before .before .before .before .before in let c₂ = c₁ .before .before .before .before in let c₃ = c₂ .before in let s = c₃ .before .before .before .before .before .before .before .before in
     let a = s .args in
     let b = a .records .now in
     let p = a .places .now in
@@ -63,7 +63,7 @@ returns-2 c =
     let y = a .names in
     let q = a .named in
     let k = a .n in
-    called-plain b p ix n u prm g o x m y q d k (s .pre) (c .before .before .before .before .before .before .before .before .before .before .before .if1 .left) (c .before .before .before .before .before .before .before .before .before .before .if2 .taken) (c .before .before .before .before .before .before .plain .last .0) (c .before .before .before .before .before .before .plain .last .1 .0) (c .before .before .before .before .before .before .plain .last .1 .1 .0) (c .before .before .before .before .before .before .plain .result) (c .before .before .before .before .before .before .plain .ensures)
+    called-plain b p ix n u prm g o x m y q d k (s .pre) (c₃ .if1 .left) (c₂ .if2 .taken) (c₁ .plain .last .0) (c₁ .plain .last .1 .0) (c₁ .plain .last .1 .1 .0) (c₁ .plain .result) (c₁ .plain .ensures)
 
 all-values-requires : tie.Need-all-values-requires
 all-values-requires c κs =
@@ -107,7 +107,8 @@ delivered-lent-requires c κs =
 
 returns-3 : tie.Need-returns-3
 returns-3 c =
-    let s = c .before .before .before .before .before .before .before .before .before .before .before .before .before .before .before .before .before .before .before .before .before .before .before .before .before .before .before .before .before .before .before .before in
+    let c₁ = c .before .before .before .before .before .before .before .before .before .before .before .before in let c₂ = c₁ .before .before .before .before .before .before .before in let c₃ = c₂ .before in let c₄ = c₃ .before .before .before .before in
+    let s = c₄ .before .before .before .before .before .before .before .before in
     let a = s .args in
     let b = a .records .now in
     let p = a .places .now in
@@ -123,7 +124,7 @@ returns-3 c =
     let y = a .names in
     let q = a .named in
     let k = a .n in
-    called-delivered b p ix n u prm g o x m y q d k (s .pre) (c .before .before .before .before .before .before .before .before .before .before .before .before .before .before .before .before .before .before .before .before .before .before .before .before .if1 .left) (c .before .before .before .before .before .before .before .before .before .before .before .before .before .before .before .before .before .before .before .before .all-values .result) (c .before .before .before .before .before .before .before .before .before .before .before .before .before .before .before .before .before .before .before .before .all-values .ensures) (c .before .before .before .before .before .before .before .before .before .before .before .before .before .before .before .before .before .before .before .if3 .taken) (c .before .before .before .before .before .before .before .before .before .before .before .before .delivered-lent .last .0) (c .before .before .before .before .before .before .before .before .before .before .before .before .delivered-lent .last .1 .0) (c .before .before .before .before .before .before .before .before .before .before .before .before .delivered-lent .last .1 .1 .0) (c .before .before .before .before .before .before .before .before .before .before .before .before .delivered-lent .last .1 .1 .1 .1 .1 .0) (c .before .before .before .before .before .before .before .before .before .before .before .before .delivered-lent .last .1 .1 .1 .1 .1 .1 .0) (c .before .before .before .before .before .before .before .before .before .before .before .before .delivered-lent .last .1 .1 .1 .1 .1 .1 .1 .0) (c .before .before .before .before .before .before .before .before .before .before .before .before .delivered-lent .result) (c .before .before .before .before .before .before .before .before .before .before .before .before .delivered-lent .ensures)
+    called-delivered b p ix n u prm g o x m y q d k (s .pre) (c₄ .if1 .left) (c₃ .all-values .result) (c₃ .all-values .ensures) (c₂ .if3 .taken) (c₁ .delivered-lent .ensures)
 
 returns-4 : tie.Need-returns-4
 returns-4 c =
@@ -146,4 +147,6 @@ returns-4 c =
     called-misfit b p ix n u prm g o x m y q d k (s .pre) (c .before .before .before .before .before .before .if1 .left) (c .before .before .all-values .result) (c .before .before .all-values .ensures) (c .before .if3 .left) (c .refuse2 .result) (c .refuse2 .ensures)
 
 pub called-spec : {M : Type 1} → statement M
-called-spec = tie.close (tie.spec (λ c κs. search needs) returns plain-requires (λ c. search needs) (λ c. search needs) (λ c. search needs) returns-2 all-values-requires delivered-lent-requires (λ c. search needs) (λ c. search needs) (λ c. search needs) (λ c. search needs) (λ c. search needs) (λ c. search needs) returns-3 (λ c κs. search needs) (λ c. search needs) (λ c. search needs) returns-4)
+called-spec =
+    tie.close (tie.spec (λ c κs. search needs) returns plain-requires (λ c. search needs) (λ c. search needs) (λ c. search needs) returns-2 all-values-requires delivered-lent-requires (λ c. search needs) (λ c. search needs) (λ c. search needs) (λ c. search needs) (λ c. search needs) (λ c. search needs) returns-3 (λ c κs. search needs) (λ c. search needs)
+    (λ c. search needs) returns-4)

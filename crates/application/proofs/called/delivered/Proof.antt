@@ -59,11 +59,12 @@ rest-requires c κs =
     let y = a .names in
     let q = a .named in
     let k = a .n in
-    rest-asks b p ix n u prm g o x m y q d k (s .pre) (c .before .before .before .before .before .before .before .before .before .before .before .before .before .fit-arguments .last .1 .1 .1 .1 .0) (c .before .before .before .before .before .before .before .before .before .before .before .before .before .fit-arguments .last .1 .1 .1 .1 .1 .0) (c .before .before .before .before .before .call .given .0 .0) (call-mapped b p ix n u prm g o x m y q d k (s .pre) (c .before .before .before .before .before .before .before .before .before .before .before .before .before .fit-arguments .last .1 .1 .1 .0) (c .before .before .before .before .before .before .before .before .before .before .before .before .before .fit-arguments .last .1 .1 .1 .1 .0) (c .before .before .before .before .before .before .before .before .before .before .before .before .before .fit-arguments .last .1 .1 .1 .1 .1 .0) (c .before .before .before .before .before .before .before .before .before .before .before .before .before .fit-arguments .result) (c .before .before .before .before .before .before .before .before .before .before .before .before .before .fit-arguments .ensures) (c .before .before .before .before .before .call .given .0 .0) (ap boundIn (c .before .before .before .before .before .call .given .1)))
+    rest-asks b p ix n u prm g o x m y q d k (s .pre) (call-mapped b p ix n u prm g o x m y q d k (s .pre) (c .before .before .before .before .before .before .before .before .before .before .before .before .before .fit-arguments .ensures) (c .before .before .before .before .before .call .given .0 .0) (ap boundIn (c .before .before .before .before .before .call .given .1)))
 
 clear-requires : tie.Need-clear-requires
 clear-requires c κs =
-    let s = c .before .before .before .before .before .before .before .before .before .before .before .before .before .before .before .before .before .before .before .before .before .before .before .before .before .before .before .before .before .before .before .before .before .before .before in
+    let c₁ = c .before .before .before .before .before .before .before .before .before .before .before .before .before .before in let c₂ = c₁ .before .before .before .before .before .before .before .before in
+    let s = c₂ .before .before .before .before .before .before .before .before .before .before .before .before .before in
     let a = s .args in
     let b = a .records .now in
     let p = a .places .now in
@@ -79,7 +80,7 @@ clear-requires c κs =
     let y = a .names in
     let q = a .named in
     let k = a .n in
-    call-mapped b p ix n u prm g o x m y q d k (s .pre) (c .before .before .before .before .before .before .before .before .before .before .before .before .before .before .before .before .before .before .before .before .before .before .fit-arguments .last .1 .1 .1 .0) (c .before .before .before .before .before .before .before .before .before .before .before .before .before .before .before .before .before .before .before .before .before .before .fit-arguments .last .1 .1 .1 .1 .0) (c .before .before .before .before .before .before .before .before .before .before .before .before .before .before .before .before .before .before .before .before .before .before .fit-arguments .last .1 .1 .1 .1 .1 .0) (c .before .before .before .before .before .before .before .before .before .before .before .before .before .before .before .before .before .before .before .before .before .before .fit-arguments .result) (c .before .before .before .before .before .before .before .before .before .before .before .before .before .before .before .before .before .before .before .before .before .before .fit-arguments .ensures) (c .before .before .before .before .before .before .before .before .before .before .before .before .before .before .call .given .0 .0) (ap boundIn (c .before .before .before .before .before .before .before .before .before .before .before .before .before .before .call .given .1)) .tabled
+    call-mapped b p ix n u prm g o x m y q d k (s .pre) (c₂ .fit-arguments .ensures) (c₁ .call .given .0 .0) (ap boundIn (c₁ .call .given .1)) .tabled
 
 clear-requires-2 : tie.Need-clear-requires-2
 clear-requires-2 c κs =
@@ -99,7 +100,7 @@ clear-requires-2 c κs =
     let y = a .names in
     let q = a .named in
     let k = a .n in
-    call-mapped b p ix n u prm g o x m y q d k (s .pre) (c .before .before .before .before .before .before .before .before .before .before .before .fit-arguments .last .1 .1 .1 .0) (c .before .before .before .before .before .before .before .before .before .before .before .fit-arguments .last .1 .1 .1 .1 .0) (c .before .before .before .before .before .before .before .before .before .before .before .fit-arguments .last .1 .1 .1 .1 .1 .0) (c .before .before .before .before .before .before .before .before .before .before .before .fit-arguments .result) (c .before .before .before .before .before .before .before .before .before .before .before .fit-arguments .ensures) (c .before .before .before .call2 .given .0 .0) (ap boundIn (c .before .before .before .call2 .given .1)) .tabled
+    call-mapped b p ix n u prm g o x m y q d k (s .pre) (c .before .before .before .before .before .before .before .before .before .before .before .fit-arguments .ensures) (c .before .before .before .call2 .given .0 .0) (ap boundIn (c .before .before .before .call2 .given .1)) .tabled
 
 clear-requires-3 : tie.Need-clear-requires-3
 clear-requires-3 c κs =
@@ -119,11 +120,12 @@ clear-requires-3 c κs =
     let y = a .names in
     let q = a .named in
     let k = a .n in
-    call-mapped b p ix n u prm g o x m y q d k (s .pre) (c .before .before .before .before .before .before .before .before .before .before .before .fit-arguments .last .1 .1 .1 .0) (c .before .before .before .before .before .before .before .before .before .before .before .fit-arguments .last .1 .1 .1 .1 .0) (c .before .before .before .before .before .before .before .before .before .before .before .fit-arguments .last .1 .1 .1 .1 .1 .0) (c .before .before .before .before .before .before .before .before .before .before .before .fit-arguments .result) (c .before .before .before .before .before .before .before .before .before .before .before .fit-arguments .ensures) (c .before .before .before .call3 .given .0 .0) (ap boundIn (c .before .before .before .call3 .given .1)) .tabled
+    call-mapped b p ix n u prm g o x m y q d k (s .pre) (c .before .before .before .before .before .before .before .before .before .before .before .fit-arguments .ensures) (c .before .before .before .call3 .given .0 .0) (ap boundIn (c .before .before .before .call3 .given .1)) .tabled
 
 returns : tie.Need-returns
 returns c =
-    let s = c .before .before .before .before .before .before .before .before .before .before .before .before .before .before .before .before .before .before .before .before .before .before .before .before .before .before .before .before .before .before .before .before .before .before .before .before .before .before .before .before in
+    let c₁ = c .before .before .before .before in let c₂ = c₁ .before .before .before .before .before .before .before .before .before in let c₃ = c₂ .before .before .before .before .before .before in let c₄ = c₃ .before .before .before .before .before .before .before .before in
+    let s = c₄ .before .before .before .before .before .before .before .before .before .before .before .before .before in
     let a = s .args in
     let b = a .records .now in
     let p = a .places .now in
@@ -139,11 +141,11 @@ returns c =
     let y = a .names in
     let q = a .named in
     let k = a .n in
-    delivered-made b p ix n u prm g o x m y q d k (s .pre) (c .before .before .before .before .before .before .before .before .before .before .before .before .before .before .before .before .before .before .before .before .before .before .before .before .before .before .before .fit-arguments .last .1 .1 .1 .0) (c .before .before .before .before .before .before .before .before .before .before .before .before .before .before .before .before .before .before .before .before .before .before .before .before .before .before .before .fit-arguments .last .1 .1 .1 .1 .0) (c .before .before .before .before .before .before .before .before .before .before .before .before .before .before .before .before .before .before .before .before .before .before .before .before .before .before .before .fit-arguments .last .1 .1 .1 .1 .1 .0) (c .before .before .before .before .before .before .before .before .before .before .before .before .before .before .before .before .before .before .before .before .before .before .before .before .before .before .before .fit-arguments .result) (c .before .before .before .before .before .before .before .before .before .before .before .before .before .before .before .before .before .before .before .before .before .before .before .before .before .before .before .fit-arguments .ensures) (c .before .before .before .before .clear .last .0) (c .before .before .before .before .clear .last .1 .0) (c .before .before .before .before .clear .ensures) (c .before .before .before .before .before .before .before .before .before .before .before .before .before .before .before .before .before .before .before .call .given .0 .0) (c .before .before .before .before .before .before .before .before .before .before .before .before .before .before .before .before .before .before .before .call .given .1) (c .before .before .before .before .before .before .before .before .before .before .before .before .before .rest .last .0) (c .before .before .before .before .before .before .before .before .before .before .before .before .before .rest .last .1 .0) (c .before .before .before .before .before .before .before .before .before .before .before .before .before .rest .last .1 .1 .0) (c .before .before .before .before .before .before .before .before .before .before .before .before .before .rest .result) (c .before .before .before .before .before .before .before .before .before .before .before .before .before .rest .ensures)
+    delivered-made b p ix n u prm g o x m y q d k (s .pre) (c₄ .fit-arguments .ensures) (c₁ .clear .ensures) (c₃ .call .given .0 .0) (c₃ .call .given .1) (c₂ .rest .last .0) (c₂ .rest .last .1 .0) (c₂ .rest .last .1 .1 .0) (c₂ .rest .result) (c₂ .rest .ensures)
 
 returns-2 : tie.Need-returns-2
 returns-2 c =
-    let s = c .before .before .before .before .before .before .before .before .before .before .before .before .before .before .before .before .before .before .before .before .before .before .before .before .before .before .before .before .before .before in
+    let c₁ = c .before .before .before .before .before in let c₂ = c₁ .before .before .before .before in let c₃ = c₂ .before .before .before .before .before .before .before .before in let s = c₃ .before .before .before .before .before .before .before .before .before .before .before .before .before in
     let a = s .args in
     let b = a .records .now in
     let p = a .places .now in
@@ -159,11 +161,11 @@ returns-2 c =
     let y = a .names in
     let q = a .named in
     let k = a .n in
-    delivered-unsettled b p ix n u prm g o x m y q d k (s .pre) (c .before .before .before .before .before .before .before .before .before .before .before .before .before .before .before .before .before .fit-arguments .last .1 .1 .1 .0) (c .before .before .before .before .before .before .before .before .before .before .before .before .before .before .before .before .before .fit-arguments .last .1 .1 .1 .1 .0) (c .before .before .before .before .before .before .before .before .before .before .before .before .before .before .before .before .before .fit-arguments .last .1 .1 .1 .1 .1 .0) (c .before .before .before .before .before .before .before .before .before .before .before .before .before .before .before .before .before .fit-arguments .result) (c .before .before .before .before .before .before .before .before .before .before .before .before .before .before .before .before .before .fit-arguments .ensures) (c .before .before .before .before .before .clear2 .last .0) (c .before .before .before .before .before .clear2 .last .1 .0) (c .before .before .before .before .before .clear2 .ensures) (c .before .before .before .before .before .before .before .before .before .call2 .given .0 .0) (c .before .before .before .before .before .before .before .before .before .call2 .given .1) (c .refuse .result) (c .refuse .ensures)
+    delivered-unsettled b p ix n u prm g o x m y q d k (s .pre) (c₃ .fit-arguments .ensures) (c₁ .clear2 .ensures) (c₂ .call2 .given .0 .0) (c₂ .call2 .given .1) (c .refuse .result) (c .refuse .ensures)
 
 returns-3 : tie.Need-returns-3
 returns-3 c =
-    let s = c .before .before .before .before .before .before .before .before .before .before .before .before .before .before .before .before .before .before .before .before .before .before .before .before .before .before .before .before .before .before in
+    let c₁ = c .before .before .before .before .before in let c₂ = c₁ .before .before .before .before in let c₃ = c₂ .before .before .before .before .before .before .before .before in let s = c₃ .before .before .before .before .before .before .before .before .before .before .before .before .before in
     let a = s .args in
     let b = a .records .now in
     let p = a .places .now in
@@ -179,7 +181,9 @@ returns-3 c =
     let y = a .names in
     let q = a .named in
     let k = a .n in
-    delivered-fails b p ix n u prm g o x m y q d k (s .pre) (c .before .before .before .before .before .before .before .before .before .before .before .before .before .before .before .before .before .fit-arguments .last .1 .1 .1 .0) (c .before .before .before .before .before .before .before .before .before .before .before .before .before .before .before .before .before .fit-arguments .last .1 .1 .1 .1 .0) (c .before .before .before .before .before .before .before .before .before .before .before .before .before .before .before .before .before .fit-arguments .last .1 .1 .1 .1 .1 .0) (c .before .before .before .before .before .before .before .before .before .before .before .before .before .before .before .before .before .fit-arguments .result) (c .before .before .before .before .before .before .before .before .before .before .before .before .before .before .before .before .before .fit-arguments .ensures) (c .before .before .before .before .before .clear3 .last .0) (c .before .before .before .before .before .clear3 .last .1 .0) (c .before .before .before .before .before .clear3 .ensures) (c .before .before .before .before .before .before .before .before .before .call3 .given .0 .0) (c .before .before .before .before .before .before .before .before .before .call3 .given .1) (c .refuse2 .result) (c .refuse2 .ensures)
+    delivered-fails b p ix n u prm g o x m y q d k (s .pre) (c₃ .fit-arguments .ensures) (c₁ .clear3 .ensures) (c₂ .call3 .given .0 .0) (c₂ .call3 .given .1) (c .refuse2 .result) (c .refuse2 .ensures)
 
 pub delivered-spec : {M : Type 1} → statement M
-delivered-spec = tie.close (tie.spec fit-arguments-requires (λ c. search needs) mul-at add-at sub-rest rest-requires clear-requires (λ c. search needs) clear-requires-2 (λ c κs. search needs) (λ c. search needs) clear-requires-3 (λ c κs. search needs) (λ c. search needs) (λ c. search needs) (λ c. search needs) (λ c. search needs) (λ c. search needs) (λ c. search needs) returns (λ c. search needs) (λ c. search needs) (λ c. search needs) (λ c. search needs) (λ c. search needs) returns-2 (λ c. search needs) (λ c. search needs) (λ c. search needs) (λ c. search needs) (λ c. search needs) returns-3)
+delivered-spec =
+    tie.close (tie.spec fit-arguments-requires (λ c. search needs) mul-at add-at sub-rest rest-requires clear-requires (λ c. search needs) clear-requires-2 (λ c κs. search needs) (λ c. search needs) clear-requires-3 (λ c κs. search needs) (λ c. search needs) (λ c. search needs) (λ c. search needs) (λ c. search needs) (λ c. search needs) (λ c. search needs) returns
+    (λ c. search needs) (λ c. search needs) (λ c. search needs) (λ c. search needs) (λ c. search needs) returns-2 (λ c. search needs) (λ c. search needs) (λ c. search needs) (λ c. search needs) (λ c. search needs) returns-3)

@@ -11,18 +11,7 @@ use Rattle.application.proofs.called.fit_listed.Tie as tie
 matches-all-requires : tie.Need-matches-all-requires
 matches-all-requires c κs =
     let s = c .before .before .before .before .before .before .before .before in
-    let a = s .args in
-    let b = a .records .now in
-    let p = a .places .now in
-    let n = a .count in
-    let prm = a .params .now in
-    let g = a .images .now in
-    let o = a .bound .now in
-    let d = a .args .now in
-    let x = a .list in
-    let m = a .m in
-    let k = a .n in
-    matches-ask b p n prm g o x m d k (s .pre)
+    matches-ask (s .pre)
 
 mul-at : tie.Need-mul-at
 mul-at c =
@@ -41,67 +30,28 @@ sub-all-settled c =
 
 all-settled-requires : tie.Need-all-settled-requires
 all-settled-requires c κs =
-    let s = c .before .before .before .before .before .before .before .before .before .before .before .before .before .before .before .before .before .before in
+    let c₁ = c .before .before .before .before .before .before .before .before .before in let s = c₁ .before .before .before .before .before .before .before .before .before in
     let a = s .args in
     let b = a .records .now in
     let p = a .places .now in
     let n = a .count in
     let prm = a .params .now in
-    let g = a .images .now in
-    let o = a .bound .now in
-    let d = a .args .now in
-    let x = a .list in
-    let m = a .m in
-    let k = a .n in
-    (settled-asks b p n prm g o x m d k (s .pre) (c .before .before .before .before .before .before .before .before .before .matches-all .last .1 .1 .1 .1 .0) (c .before .before .before .before .before .before .before .before .before .matches-all .last .1 .1 .1 .1 .1 .0) (c .before .before .before .before .before .before .before .before .before .matches-all .result) (c .before .before .before .before .before .before .before .before .before .matches-all .ensures) (c .before .before .before .found .given .0 .0) (c .before .before .before .found .given .1), table-none (SettledAt b p n prm (c .before .before .before .before .before .before .before .before .before .matches-all .last .1 .1 .1 .1 .0)))
+    (settled-asks (s .pre) (c₁ .matches-all .last .1 .1 .1 .1 .0) (c₁ .matches-all .last .1 .1 .1 .1 .1 .0) (c₁ .matches-all .result) (c₁ .matches-all .ensures) (c .before .before .before .found .given .0 .0) (c .before .before .before .found .given .1), table-none (SettledAt b p n prm (c₁ .matches-all .last .1 .1 .1 .1 .0)))
 
 returns : tie.Need-returns
 returns c =
-    let s = c .before .before .before .before .before .before .before .before .before .before .before .before .before .before .before .before .before .before .before .before .before in
-    let a = s .args in
-    let b = a .records .now in
-    let p = a .places .now in
-    let n = a .count in
-    let prm = a .params .now in
-    let g = a .images .now in
-    let o = a .bound .now in
-    let d = a .args .now in
-    let x = a .list in
-    let m = a .m in
-    let k = a .n in
-    fit-settled b p n prm g o x m d k (s .pre) (c .before .before .before .before .before .before .before .before .before .before .before .before .matches-all .last .1 .1 .1 .1 .0) (c .before .before .before .before .before .before .before .before .before .before .before .before .matches-all .last .1 .1 .1 .1 .1 .0) (c .before .before .before .before .before .before .before .before .before .before .before .before .matches-all .result) (c .before .before .before .before .before .before .before .before .before .before .before .before .matches-all .ensures) (c .before .before .before .before .before .before .found .given .0 .0) (c .before .before .before .before .before .before .found .given .1) (c .before .before .all-settled .result) (c .before .before .all-settled .ensures .0) (c .if1 .taken)
+    let c₁ = c .before .before .before .before .before .before in let c₂ = c₁ .before .before .before .before .before .before in let s = c₂ .before .before .before .before .before .before .before .before .before in
+    fit-settled (s .pre) (c₂ .matches-all .last .1 .1 .1 .1 .0) (c₂ .matches-all .last .1 .1 .1 .1 .1 .0) (c₂ .matches-all .result) (c₂ .matches-all .ensures) (c₁ .found .given .0 .0) (c₁ .found .given .1) (c .before .before .all-settled .result) (c .before .before .all-settled .ensures .0) (c .if1 .taken)
 
 returns-2 : tie.Need-returns-2
 returns-2 c =
-    let s = c .before .before .before .before .before .before .before .before .before .before .before .before .before .before .before .before .before .before .before .before .before in
-    let a = s .args in
-    let b = a .records .now in
-    let p = a .places .now in
-    let n = a .count in
-    let prm = a .params .now in
-    let g = a .images .now in
-    let o = a .bound .now in
-    let d = a .args .now in
-    let x = a .list in
-    let m = a .m in
-    let k = a .n in
-    fit-unsettled b p n prm g o x m d k (s .pre) (c .before .before .before .before .before .before .before .before .before .before .before .before .matches-all .last .1 .1 .1 .1 .0) (c .before .before .before .before .before .before .before .before .before .before .before .before .matches-all .last .1 .1 .1 .1 .1 .0) (c .before .before .before .before .before .before .before .before .before .before .before .before .matches-all .result) (c .before .before .before .before .before .before .before .before .before .before .before .before .matches-all .ensures) (c .before .before .before .before .before .before .found .given .0 .0) (c .before .before .before .before .before .before .found .given .1) (c .before .before .all-settled .result) (c .before .before .all-settled .ensures .0) (c .if1 .left)
+    let c₁ = c .before .before .before .before .before .before in let c₂ = c₁ .before .before .before .before .before .before in let s = c₂ .before .before .before .before .before .before .before .before .before in
+    fit-unsettled (s .pre) (c₂ .matches-all .last .1 .1 .1 .1 .0) (c₂ .matches-all .last .1 .1 .1 .1 .1 .0) (c₂ .matches-all .result) (c₂ .matches-all .ensures) (c₁ .found .given .0 .0) (c₁ .found .given .1) (c .before .before .all-settled .result) (c .before .before .all-settled .ensures .0) (c .if1 .left)
 
 returns-3 : tie.Need-returns-3
 returns-3 c =
-    let s = c .before .before .before .before .before .before .before .before .before .before .before .before .before .before .before .before in
-    let a = s .args in
-    let b = a .records .now in
-    let p = a .places .now in
-    let n = a .count in
-    let prm = a .params .now in
-    let g = a .images .now in
-    let o = a .bound .now in
-    let d = a .args .now in
-    let x = a .list in
-    let m = a .m in
-    let k = a .n in
-    fit-fails b p n prm g o x m d k (s .pre) (c .before .before .before .before .before .before .before .matches-all .last .1 .1 .1 .1 .0) (c .before .before .before .before .before .before .before .matches-all .last .1 .1 .1 .1 .1 .0) (c .before .before .before .before .before .before .before .matches-all .result) (c .before .before .before .before .before .before .before .matches-all .ensures) (c .before .found2 .given .0 .0) (c .before .found2 .given .1)
+    let c₁ = c .before .before .before .before .before .before .before in let s = c₁ .before .before .before .before .before .before .before .before .before in
+    fit-fails (s .pre) (c₁ .matches-all .last .1 .1 .1 .1 .0) (c₁ .matches-all .last .1 .1 .1 .1 .1 .0) (c₁ .matches-all .result) (c₁ .matches-all .ensures) (c .before .found2 .given .0 .0) (c .before .found2 .given .1)
 
 pub fit-listed-spec : {M : Type 1} → statement M
 fit-listed-spec = tie.close (tie.spec matches-all-requires (λ c. search needs) mul-at add-at (λ c. search needs) sub-all-settled all-settled-requires (λ c. search needs) (λ c. search needs) returns (λ c. search needs) (λ c. search needs) (λ c. search needs) returns-2 (λ c. search needs) (λ c. search needs) returns-3)

@@ -12,12 +12,12 @@ returns c =
 returns-2 : tie.Need-returns-2
 returns-2 c =
     let a = c .before .before .args in
-    full-images (a .params) (a .images) (a .bound) (c .before .if1 .left) (c .if2 .taken)
+    full-images (a .images) (a .bound) (c .before .if1 .left) (c .if2 .taken)
 
 returns-3 : tie.Need-returns-3
 returns-3 c =
     let a = c .before .before .args in
-    full-bound (a .params) (a .images) (a .bound) (c .before .if1 .left) (c .if2 .left)
+    full-bound (a .bound) (c .before .if1 .left) (c .if2 .left)
 
 pub are-full-spec : {M : Type 1} → statement M
 are-full-spec = tie.close (tie.spec returns returns-2 returns-3)

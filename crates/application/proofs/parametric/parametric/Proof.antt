@@ -12,22 +12,7 @@ use Rattle.application.proofs.parametric.parametric.Tie as tie
 match-arguments-requires : tie.Need-match-arguments-requires
 match-arguments-requires c κs =
     let s = c .before .before .before .before .before .before .before .before .before .before .before .before in
-    let a = s .args in
-    let b = a .records .now in
-    let p = a .places .now in
-    let ix = a .index .now in
-    let n = a .count in
-    let u = a .used in
-    let prm = a .params .now in
-    let g = a .images .now in
-    let o = a .bound .now in
-    let d = a .args .now in
-    let x = a .list in
-    let m = a .m in
-    let y = a .names in
-    let q = a .named in
-    let k = a .n in
-    patterns-ask b p ix n u prm g o x m y q d k (s .pre)
+    patterns-ask (s .pre)
 
 mul-at : tie.Need-mul-at
 mul-at c =
@@ -60,87 +45,31 @@ rest-requires c κs =
     let y = a .names in
     let q = a .named in
     let k = a .n in
-    rest-asks b p ix n u prm g o x m y q d k (s .pre .deliver) (c .before .before .before .before .before .before .before .before .before .before .before .before .before .match-arguments .last .1 .1 .1 .1 .0) (c .before .before .before .before .before .before .before .before .before .before .before .before .before .match-arguments .last .1 .1 .1 .1 .1 .0) (c .before .before .before .before .before .found .given .0 .0) (found-mapped b p ix n u prm g o x m y q d k (s .pre) (c .before .before .before .before .before .before .before .before .before .before .before .before .before .match-arguments .last .1 .1 .1 .0) (c .before .before .before .before .before .before .before .before .before .before .before .before .before .match-arguments .last .1 .1 .1 .1 .0) (c .before .before .before .before .before .before .before .before .before .before .before .before .before .match-arguments .last .1 .1 .1 .1 .1 .0) (c .before .before .before .before .before .before .before .before .before .before .before .before .before .match-arguments .result) (c .before .before .before .before .before .before .before .before .before .before .before .before .before .match-arguments .ensures) (c .before .before .before .before .before .found .given .0 .0) (ap countOf (c .before .before .before .before .before .found .given .1)))
+    rest-asks b p ix n u prm g o x m y q d k (s .pre .deliver) (found-mapped (s .pre) (c .before .before .before .before .before .before .before .before .before .before .before .before .before .match-arguments .ensures) (c .before .before .before .before .before .found .given .0 .0) (ap countOf (c .before .before .before .before .before .found .given .1)))
 
 clear-requires : tie.Need-clear-requires
 clear-requires c κs =
-    let s = c .before .before .before .before .before .before .before .before .before .before .before .before .before .before .before .before .before .before .before .before .before .before .before .before .before .before .before .before .before .before .before .before .before .before .before in
-    let a = s .args in
-    let b = a .records .now in
-    let p = a .places .now in
-    let ix = a .index .now in
-    let n = a .count in
-    let u = a .used in
-    let prm = a .params .now in
-    let g = a .images .now in
-    let o = a .bound .now in
-    let d = a .args .now in
-    let x = a .list in
-    let m = a .m in
-    let y = a .names in
-    let q = a .named in
-    let k = a .n in
-    found-mapped b p ix n u prm g o x m y q d k (s .pre) (c .before .before .before .before .before .before .before .before .before .before .before .before .before .before .before .before .before .before .before .before .before .before .match-arguments .last .1 .1 .1 .0) (c .before .before .before .before .before .before .before .before .before .before .before .before .before .before .before .before .before .before .before .before .before .before .match-arguments .last .1 .1 .1 .1 .0) (c .before .before .before .before .before .before .before .before .before .before .before .before .before .before .before .before .before .before .before .before .before .before .match-arguments .last .1 .1 .1 .1 .1 .0) (c .before .before .before .before .before .before .before .before .before .before .before .before .before .before .before .before .before .before .before .before .before .before .match-arguments .result) (c .before .before .before .before .before .before .before .before .before .before .before .before .before .before .before .before .before .before .before .before .before .before .match-arguments .ensures) (c .before .before .before .before .before .before .before .before .before .before .before .before .before .before .found .given .0 .0) (ap countOf (c .before .before .before .before .before .before .before .before .before .before .before .before .before .before .found .given .1)) .tabled
+    let c₁ = c .before .before .before .before .before .before .before .before .before .before .before .before .before .before in let c₂ = c₁ .before .before .before .before .before .before .before .before in
+    let s = c₂ .before .before .before .before .before .before .before .before .before .before .before .before .before in
+    found-mapped (s .pre) (c₂ .match-arguments .ensures) (c₁ .found .given .0 .0) (ap countOf (c₁ .found .given .1)) .tabled
 
 clear-requires-2 : tie.Need-clear-requires-2
 clear-requires-2 c κs =
     let s = c .before .before .before .before .before .before .before .before .before .before .before .before .before .before .before .before .before .before .before .before .before .before .before .before in
-    let a = s .args in
-    let b = a .records .now in
-    let p = a .places .now in
-    let ix = a .index .now in
-    let n = a .count in
-    let u = a .used in
-    let prm = a .params .now in
-    let g = a .images .now in
-    let o = a .bound .now in
-    let d = a .args .now in
-    let x = a .list in
-    let m = a .m in
-    let y = a .names in
-    let q = a .named in
-    let k = a .n in
-    found-mapped b p ix n u prm g o x m y q d k (s .pre) (c .before .before .before .before .before .before .before .before .before .before .before .match-arguments .last .1 .1 .1 .0) (c .before .before .before .before .before .before .before .before .before .before .before .match-arguments .last .1 .1 .1 .1 .0) (c .before .before .before .before .before .before .before .before .before .before .before .match-arguments .last .1 .1 .1 .1 .1 .0) (c .before .before .before .before .before .before .before .before .before .before .before .match-arguments .result) (c .before .before .before .before .before .before .before .before .before .before .before .match-arguments .ensures) (c .before .before .before .found2 .given .0 .0) (ap countOf (c .before .before .before .found2 .given .1)) .tabled
+    found-mapped (s .pre) (c .before .before .before .before .before .before .before .before .before .before .before .match-arguments .ensures) (c .before .before .before .found2 .given .0 .0) (ap countOf (c .before .before .before .found2 .given .1)) .tabled
 
 returns : tie.Need-returns
 returns c =
-    let s = c .before .before .before .before .before .before .before .before .before .before .before .before .before .before .before .before .before .before .before .before .before .before .before .before .before .before .before .before .before .before .before .before .before .before .before .before .before .before .before .before in
-    let a = s .args in
-    let b = a .records .now in
-    let p = a .places .now in
-    let ix = a .index .now in
-    let n = a .count in
-    let u = a .used in
-    let prm = a .params .now in
-    let g = a .images .now in
-    let o = a .bound .now in
-    let d = a .args .now in
-    let x = a .list in
-    let m = a .m in
-    let y = a .names in
-    let q = a .named in
-    let k = a .n in
-    parametric-made b p ix n u prm g o x m y q d k (s .pre) (c .before .before .before .before .before .before .before .before .before .before .before .before .before .before .before .before .before .before .before .before .before .before .before .before .before .before .before .match-arguments .last .1 .1 .1 .0) (c .before .before .before .before .before .before .before .before .before .before .before .before .before .before .before .before .before .before .before .before .before .before .before .before .before .before .before .match-arguments .last .1 .1 .1 .1 .0) (c .before .before .before .before .before .before .before .before .before .before .before .before .before .before .before .before .before .before .before .before .before .before .before .before .before .before .before .match-arguments .last .1 .1 .1 .1 .1 .0) (c .before .before .before .before .before .before .before .before .before .before .before .before .before .before .before .before .before .before .before .before .before .before .before .before .before .before .before .match-arguments .result) (c .before .before .before .before .before .before .before .before .before .before .before .before .before .before .before .before .before .before .before .before .before .before .before .before .before .before .before .match-arguments .ensures) (c .before .before .before .before .clear .last .0) (c .before .before .before .before .clear .last .1 .0) (c .before .before .before .before .clear .ensures) (c .before .before .before .before .before .before .before .before .before .before .before .before .before .before .before .before .before .before .before .found .given .0 .0) (c .before .before .before .before .before .before .before .before .before .before .before .before .before .before .before .before .before .before .before .found .given .1) (c .before .before .before .before .before .before .before .before .before .before .before .before .before .rest .last .0) (c .before .before .before .before .before .before .before .before .before .before .before .before .before .rest .last .1 .0) (c .before .before .before .before .before .before .before .before .before .before .before .before .before .rest .last .1 .1 .0) (c .before .before .before .before .before .before .before .before .before .before .before .before .before .rest .result) (c .before .before .before .before .before .before .before .before .before .before .before .before .before .rest .ensures)
+    let c₁ = c .before .before .before .before in let c₂ = c₁ .before .before .before .before .before .before .before .before .before in let c₃ = c₂ .before .before .before .before .before .before in let c₄ = c₃ .before .before .before .before .before .before .before .before in
+    let s = c₄ .before .before .before .before .before .before .before .before .before .before .before .before .before in
+    parametric-made (s .pre) (c₄ .match-arguments .ensures) (c₁ .clear .ensures) (c₃ .found .given .0 .0) (c₃ .found .given .1) (c₂ .rest .last .0) (c₂ .rest .last .1 .0) (c₂ .rest .last .1 .1 .0) (c₂ .rest .result) (c₂ .rest .ensures)
 
 returns-2 : tie.Need-returns-2
 returns-2 c =
-    let s = c .before .before .before .before .before .before .before .before .before .before .before .before .before .before .before .before .before .before .before .before .before .before .before .before .before .before .before .before .before .before in
-    let a = s .args in
-    let b = a .records .now in
-    let p = a .places .now in
-    let ix = a .index .now in
-    let n = a .count in
-    let u = a .used in
-    let prm = a .params .now in
-    let g = a .images .now in
-    let o = a .bound .now in
-    let d = a .args .now in
-    let x = a .list in
-    let m = a .m in
-    let y = a .names in
-    let q = a .named in
-    let k = a .n in
-    parametric-none b p ix n u prm g o x m y q d k (s .pre) (c .before .before .before .before .before .before .before .before .before .before .before .before .before .before .before .before .before .match-arguments .last .1 .1 .1 .0) (c .before .before .before .before .before .before .before .before .before .before .before .before .before .before .before .before .before .match-arguments .last .1 .1 .1 .1 .0) (c .before .before .before .before .before .before .before .before .before .before .before .before .before .before .before .before .before .match-arguments .last .1 .1 .1 .1 .1 .0) (c .before .before .before .before .before .before .before .before .before .before .before .before .before .before .before .before .before .match-arguments .result) (c .before .before .before .before .before .before .before .before .before .before .before .before .before .before .before .before .before .match-arguments .ensures) (c .before .before .before .before .before .clear2 .last .0) (c .before .before .before .before .before .clear2 .last .1 .0) (c .before .before .before .before .before .clear2 .ensures) (c .before .before .before .before .before .before .before .before .before .found2 .given .0 .0) (c .before .before .before .before .before .before .before .before .before .found2 .given .1) (c .refuse .result) (c .refuse .ensures)
+    let c₁ = c .before .before .before .before .before in let c₂ = c₁ .before .before .before .before in let c₃ = c₂ .before .before .before .before .before .before .before .before in let s = c₃ .before .before .before .before .before .before .before .before .before .before .before .before .before in
+    parametric-none (s .pre) (c₃ .match-arguments .ensures) (c₁ .clear2 .ensures) (c₂ .found2 .given .0 .0) (c₂ .found2 .given .1) (c .refuse .ensures)
 
 pub parametric-spec : {M : Type 1} → statement M
-parametric-spec = tie.close (tie.spec match-arguments-requires (λ c. search needs) mul-at add-at sub-rest rest-requires clear-requires (λ c. search needs) clear-requires-2 (λ c κs. search needs) (λ c. search needs) (λ c. search needs) (λ c. search needs) (λ c. search needs) (λ c. search needs) (λ c. search needs) returns (λ c. search needs) (λ c. search needs) (λ c. search needs) (λ c. search needs) (λ c. search needs) returns-2)
+parametric-spec =
+    tie.close (tie.spec match-arguments-requires (λ c. search needs) mul-at add-at sub-rest rest-requires clear-requires (λ c. search needs) clear-requires-2 (λ c κs. search needs) (λ c. search needs) (λ c. search needs) (λ c. search needs) (λ c. search needs) (λ c. search needs) (λ c. search needs) returns (λ c. search needs) (λ c. search needs) (λ c. search needs)
+    (λ c. search needs) (λ c. search needs) returns-2)

@@ -23,12 +23,8 @@ loop-holds c =
     let a = s .args in
     let b = a .records .now in
     let p = a .places .now in
-    let ix = a .index .now in
     let n = a .count in
-    let x = a .list in
-    let d = a .args .now in
-    let k = a .n in
-    (exact-start b p ix n x d k (s .pre), table-none (ParlessAt b p n))
+    (exact-start (s .pre), table-none (ParlessAt b p n))
 
 u16-at-requires : tie.Need-u16-at-requires Inv-loop μ-loop
 u16-at-requires c κs =
@@ -42,51 +38,19 @@ u16-at-requires-2 c κs =
 
 returns : tie.Need-returns Inv-loop μ-loop
 returns c =
-    let s = c .before .before .before .before .before .before .before .before .before in
-    let a = s .args in
-    let b = a .records .now in
-    let p = a .places .now in
-    let n = a .count in
-    let x = a .list in
-    let d = a .args .now in
-    let k = a .n in
     let l = c .before .before .before .before .loop in
-    let y = l .at in
-    let w = l .to in
-    let j = l .left in
-    exact-differ b p n x d k y w j (l .inv .0) (c .before .before .before .loop-test .taken) (c .before .before .u16-at .result) (c .before .u16-at2 .result) (c .before .before .u16-at .ensures .0) (c .before .u16-at2 .ensures .0) (c .if1 .taken)
+    exact-differ (l .inv .0) (c .before .before .before .loop-test .taken) (c .before .before .u16-at .ensures .0) (c .before .u16-at2 .ensures .0) (c .if1 .taken)
 
 is-parless-requires : tie.Need-is-parless-requires Inv-loop μ-loop
 is-parless-requires c κs =
     let s = c .before .before .before .before .before .before .before .before .before .before in
-    let a = s .args in
-    let b = a .records .now in
-    let p = a .places .now in
-    let n = a .count in
-    let x = a .list in
-    let d = a .args .now in
-    let k = a .n in
     let l = c .before .before .before .before .before .loop in
-    let y = l .at in
-    let w = l .to in
-    let j = l .left in
-    (record { one = record { usable = s .pre .pairs .usable; known = known-first b p n x d k y w j (l .inv .0) (c .before .before .before .before .loop-test .taken) (c .before .before .before .u16-at .result) (c .before .before .u16-at2 .result) (c .before .before .before .u16-at .ensures .0) (c .before .before .u16-at2 .ensures .0) }; sized = s .pre .sized; index = s .pre .index }, l .inv .1)
+    (record { one = record { usable = s .pre .pairs .usable; known = known-first (l .inv .0) (c .before .before .before .before .loop-test .taken) (c .before .before .before .u16-at .ensures .0) (c .before .before .u16-at2 .ensures .0) }; sized = s .pre .sized; index = s .pre .index }, l .inv .1)
 
 returns-2 : tie.Need-returns-2 Inv-loop μ-loop
 returns-2 c =
-    let s = c .before .before .before .before .before .before .before .before .before .before .before .before .before in
-    let a = s .args in
-    let b = a .records .now in
-    let p = a .places .now in
-    let n = a .count in
-    let x = a .list in
-    let d = a .args .now in
-    let k = a .n in
     let l = c .before .before .before .before .before .before .before .before .loop in
-    let y = l .at in
-    let w = l .to in
-    let j = l .left in
-    exact-par b p n x d k y w j (l .inv .0) (c .before .before .before .before .before .before .before .loop-test .taken) (c .before .before .before .before .before .before .u16-at .result) (c .before .before .before .before .before .u16-at2 .result) (c .before .before .before .before .before .before .u16-at .ensures .0) (c .before .before .before .before .before .u16-at2 .ensures .0) (c .before .before .is-parless .result) (c .before .before .is-parless .ensures .0) (not-true (c .before .before .is-parless .result) (c .if2 .taken))
+    exact-par (l .inv .0) (c .before .before .before .before .before .before .before .loop-test .taken) (c .before .before .before .before .before .before .u16-at .ensures .0) (c .before .before .before .before .before .u16-at2 .ensures .0) (c .before .before .is-parless .ensures .0) (not-true (c .before .before .is-parless .result) (c .if2 .taken))
 
 add-at : tie.Need-add-at Inv-loop μ-loop
 add-at c =
@@ -106,35 +70,14 @@ loop-less c = omega (arith, c .before .before .before .before .before .before .b
 
 loop-again : tie.Need-loop-again Inv-loop μ-loop
 loop-again c =
-    let s = c .before .before .before .before .before .before .before .before .before .before .before .before .before in
-    let a = s .args in
-    let b = a .records .now in
-    let p = a .places .now in
-    let n = a .count in
-    let x = a .list in
-    let d = a .args .now in
-    let k = a .n in
-    let l = c .before .before .before .before .before .before .before .before .loop in
-    let y = l .at in
-    let w = l .to in
-    let j = l .left in
-    (exact-step b p n x d k y w j (l .inv .0) (c .before .before .before .before .before .before .before .loop-test .taken) (c .before .before .before .before .before .before .u16-at .result) (c .before .before .before .before .before .u16-at2 .result) (c .before .before .before .before .before .before .u16-at .ensures .0) (c .before .before .before .before .before .u16-at2 .ensures .0) (c .before .before .is-parless .result) (c .before .before .is-parless .ensures .0) (c .before .before .before .before .if1 .left) (not-false (c .before .before .is-parless .result) (c .if2 .left)), c .before .before .is-parless .ensures .1)
+    let c₁ = c .before .before .before .before in let c₂ = c₁ .before in let c₃ = c₂ .before in let c₄ = c₃ .before in let c₅ = c₄ .before in
+    let l = c₅ .loop in
+    (exact-step (l .inv .0) (c₄ .loop-test .taken) (c₃ .u16-at .ensures .0) (c₂ .u16-at2 .ensures .0) (c .before .before .is-parless .ensures .0) (c₁ .if1 .left) (not-false (c .before .before .is-parless .result) (c .if2 .left)), c .before .before .is-parless .ensures .1)
 
 returns-3 : tie.Need-returns-3 Inv-loop μ-loop
 returns-3 c =
-    let s = c .before .before .before .before .before .before in
-    let a = s .args in
-    let b = a .records .now in
-    let p = a .places .now in
-    let n = a .count in
-    let x = a .list in
-    let d = a .args .now in
-    let k = a .n in
     let l = c .before .loop in
-    let y = l .at in
-    let w = l .to in
-    let j = l .left in
-    exact-end b p n x d k y w j (l .inv .0) (c .loop-test .left)
+    exact-end (l .inv .0) (c .loop-test .left)
 
 pub all-exact-spec : {M : Type 1} → statement M
 all-exact-spec = tie.close (tie.spec Inv-loop μ-loop loop-holds u16-at-requires u16-at-requires-2 returns (λ c. search needs) is-parless-requires returns-2 add-at add-to sub-left loop-less loop-again returns-3)
