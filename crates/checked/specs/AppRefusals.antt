@@ -8,18 +8,22 @@ use mathlib.Core.Option.{some}
 use native.Mathlib.Omega.{arith}
 use Rattle.record.specs.Sort.{Sort, Sorts, var, par, node, end, _then_, count}
 use Rattle.record.specs.Names.{member}
-use Rattle.record.specs.Cases.{conj, clash}
+use Rattle.record.specs.Cases.{and-left, and-right, conj, clash}
 use Rattle.substitution.specs.Substitution.{apply}
 use Rattle.substitution.specs.Premises.{proper, properAll}
 use Rattle.rows.specs.Verdict.{Verdict}
-use Rattle.rows.specs.Term.{Site}
+use Rattle.rows.specs.Term.{Site, Terms}
 use Rattle.checked.specs.Rank.{Rank}
+use Rattle.checked.specs.RankSound.{Sound}
 use Rattle.checked.specs.Fits.{Assigned, rest, Fixed, oneOf}
 use Rattle.checked.specs.Checked.{carried, called, application, checked}
+use Rattle.checked.specs.Kept.{carriedAll}
 use Rattle.checked.specs.AppTheorems.{byCalled, matchingFirsts, found-assigned, settled-fixed, unsettled-unfixed}
-use Rattle.checked.specs.Parts.{Carried, EachValue}
+use Rattle.checked.specs.Parts.{In, first, later, Carried, EachValue}
 use Rattle.checked.specs.PartTheorems.{carried-exactly, eachValue-exactly}
 use Rattle.checked.specs.Refusals.{Exactly}
+use Rattle.checked.specs.Rules.{HaveSorts}
+use Rattle.checked.specs.RuleTheorems.{sorts-carried, have-when}
 use Rattle.checked.specs.RefusalLaws.{miscounted, misfit, unassigned, accepted, byNumber}
 
 ---------------------------------------------------------------- App
@@ -118,3 +122,12 @@ app-refusals R z h ts k e c = rw (k, e) (way h ts (carried-exactly h .1 c))
         (λ q e. rw q (headed [] ss (t then ts) (bare a w refl (rw e refl))
         (λ ms rs H. let (f, g, z) = bare-list H in (f, g)) (search conj) (omega arith)))
         (λ q d. misfit (rw q refl) _ _ (omega arith, λ ms rs H. absurd (d (bare-list H .2))) (λ f. d (bare-list (f .2) .2)))
+
+-- WHAT IS ASKED OF A HEAD, every part that has a sort by the rules meets: each such sort is one that a Var may carry.
+pub have-carried : (R : ℕ → List Rank) → ((n : ℕ) → Sound (R n)) → (ts : Terms) (ss : Sorts) → HaveSorts R ts ss → (s : Sort) → In s ss → Carried s
+unfolding carriedAll
+have-carried R S ts ss H s i = carried-exactly s .0 (each i (sorts-carried R S ts ss (have-when R S ts ss H)))
+  where
+    each : {ss : Sorts} → In s ss → carriedAll ss ≡ true → carried s ≡ true
+    each (first {ss}) e = and-left (carried s) (carriedAll ss) e
+    each (later {r} {ss} i) e = each i (and-right (carried r) (carriedAll ss) e)

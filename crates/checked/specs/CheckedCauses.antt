@@ -1,7 +1,8 @@
 -- No checked verdict on a record is refused for another cause than 24 to 28: by the theorems on each kind, and for App and operators also without
--- what these ask.
+-- what these ask. So a term is refused by 20 exactly where its parts do not all have sorts.
 use Prim.Native.Nat.{ℕ, _≤_, _<_}
-use mathlib.Core.Path.{_≡_, sym, _∙_}
+use mathlib.Core.Path.{_≡_, refl, sym, _∙_}
+use mathlib.Core.Logic.{_↔_}
 use mathlib.Core.Bool.{Bool, true, false}
 use mathlib.Core.List.{List}
 use mathlib.Core.Option.{Option, none, some}
@@ -9,17 +10,21 @@ use native.Mathlib.Omega.{arith}
 use lib.Dec.{eqb, leb, ltb}
 use borrow.Author.Tests.{ne-eqb, leb-true, leb-false}
 use Rattle.record.specs.Sort.{Sort, Sorts, end, _then_, count}
-use Rattle.record.specs.Cases.{byTest}
+use Rattle.record.specs.Cases.{byTest, byOption}
+use Rattle.sheet.specs.Sheet.{Binding}
 use Rattle.substitution.specs.Substitution.{Map, empty, apply}
 use Rattle.substitution.specs.Matching.{matchesAll}
 use Rattle.rows.specs.declared.Cause.{Cause}
-use Rattle.rows.specs.declared.Cause.the-variants.{NoRank, Count, Misfit, Unassigned}
+use Rattle.rows.specs.declared.Cause.the-variants.{Below, NoRank, Count, Misfit, Unassigned}
 use Rattle.rows.specs.Verdict.{Verdict, sort, refused, need, numberOf}
 use Rattle.rows.specs.Lists.{firsts, others, remaining}
-use Rattle.rows.specs.Term.{Site}
+use Rattle.rows.specs.Term.{Site, Terms, term, constantsOf, verdictOf, verdictsOf}
 use Rattle.checked.specs.Rank.{Rank}
-use Rattle.checked.specs.Checked.{values, parameters, listOf, settled, delivered, called, application, operated, checked}
+use Rattle.checked.specs.RankSound.{Sound}
+use Rattle.checked.specs.Checked.{values, parameters, listOf, settled, delivered, called, application, operated, checked, check}
 use Rattle.checked.specs.FitLaws.{operated-ranked, byRanked, sort-refused}
+use Rattle.checked.specs.Rules.{HaveSorts}
+use Rattle.checked.specs.RuleTheorems.{have-only, have-when}
 use Rattle.checked.specs.RefusalLaws.{refused-inj, byNumber}
 use Rattle.checked.specs.RefusalTheorems.{constant-refusals, vector-refusals, var-refusals, binder-refusals, let-refusals, as-refusals, concat-refusals}
 use Rattle.checked.specs.IndexRefusals.{index-refusals}
@@ -84,3 +89,17 @@ checked-causes R z c h =
   where
     beyond : (k : ℕ) → 3 < z .kind → k ≤ 3 → eqb (z .kind) k ≡ false
     beyond k l m = ne-eqb (z .kind) k (λ e. omega arith)
+
+-- A TERM IS REFUSED BY 20 exactly where its terms, or its index terms, do not all have sorts by the rules.
+pub term-below : (R : ℕ → List Rank) → ((n : ℕ) → Sound (R n)) → (k a n : ℕ) (o : Sort) (ts : Terms) (bs : List Binding) (ns : List ℕ) (is : Terms)
+    → check R (term k a n o ts bs ns is) ≡ refused Below ↔ ((ss js : Sorts) → HaveSorts R ts ss → HaveSorts R is js → ⊥)
+unfolding check verdictOf
+term-below R S k a n o ts bs ns is = (
+  λ h ss js H J. let site : Site = record { kind = k; number = n; own = o; args = ss; bindings = bs; constants = constantsOf ts; indices = constantsOf is } in
+      let z = checked-causes R site Below (rw (have-when R S ts ss H, have-when R S is js J) at h) in omega arith,
+  λ none-there. byOption (verdictsOf (checked R) ts)
+      (λ p. rw p refl)
+      (λ ss p. byOption (verdictsOf (checked R) is)
+      (λ q. rw (p, q) refl)
+      (λ js q. absurd (none-there ss js (have-only R S ts ss p) (have-only R S is js q)))),
+)

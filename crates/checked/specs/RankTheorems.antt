@@ -127,10 +127,6 @@ sameCount-number end (t then ts) = (λ e. absurd (false≢true e), λ e. absurd 
 sameCount-number (p then ps) end = (λ e. absurd (false≢true e), λ e. absurd (omega arith))
 sameCount-number (p then ps) (t then ts) = let (f, g) = sameCount-number ps ts in (λ e. ap suc (f e), λ e. g (omega arith))
 
-pub counts-exact : (vs : Bool) (ps : Sorts) (r : Sort) (ts : Sorts) → counts (rank false vs ps r) ts ≡ true ↔ count ps ≡ count ts
-unfolding counts
-counts-exact vs ps r ts = sameCount-number ps ts
-
 pub repeated-count : (p : Sort) (ts : Sorts) → sameCount (repeated p ts) ts ≡ true
 unfolding repeated sameCount
 repeated-count p end = refl

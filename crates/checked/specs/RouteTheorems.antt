@@ -23,6 +23,8 @@ use Rattle.checked.specs.RankSound.{Sound, smtLib-sound}
 use Rattle.checked.specs.Checked.{check}
 use Rattle.checked.specs.Routes.{replaceBindings, replace, replaceAll, clearBindings, clearTerm, clearTerms}
 use Rattle.checked.specs.RouteLaws.{routes}
+use Rattle.checked.specs.Parts.{Proper}
+use Rattle.checked.specs.PartTheorems.{proper-exactly}
 
 ---------------------------------------------------------------- the parameters that count
 -- A name is a parameter of a Par in a sort,
@@ -58,7 +60,7 @@ unfoldable mutual
 -- THE PREMISES: "Replaced names, and names inside replacements, must be no parametric sort's parameters; replacements hold no
 -- parametric, unknown-width, zero-width or Type sort".
 pub record Allowed (σ : Map) (t : Term) : Type 0 where
-  pub replacements : (v : ℕ) (r : Sort) → find σ v ≡ some r → proper r ≡ true
+  pub replacements : (v : ℕ) (r : Sort) → find σ v ≡ some r → Proper r
   pub replaced : (n : ℕ) → parameterOf n t ≡ true → find σ n ≡ none
   pub inside : (n : ℕ) → parameterOf n t ≡ true → (v : ℕ) (r : Sort) → find σ v ≡ some r → occurs n r ≡ false
 
@@ -221,7 +223,7 @@ routes-allowed R S σ t s A h =
     let τ = newest σ in
     let o = newest-once σ in
     let same : (v : ℕ) → find τ v ≡ find σ v = newest-find σ in
-    let p = once-proper τ o (λ v r f. A .replacements v r (sym (same v) ∙ f)) in
+    let p = once-proper τ o (λ v r f. proper-exactly r .1 (A .replacements v r (sym (same v) ∙ f))) in
     let c = parameters-term τ t (λ n e. once-touches n τ o (same n ∙ A .replaced n e) (λ v r f. A .inside n e v r (sym (same v) ∙ f))) in
     ap (check R) (sym (replace-agree τ σ t same)) ∙ routes R S τ t s p c h ∙ ap sort (apply-agree τ σ s (λ v e. same v))
 

@@ -42,9 +42,6 @@ pub need-sort : (b : Bool) (c : Cause) (v : Verdict) (s : Sort) → need b c v �
 need-sort true c v s e = (refl, e)
 need-sort false c v s e = refused-sort e
 
-pub test-sort : (c : Cause) (v : Verdict) (b : Bool) (s : Sort) → need b c v ≡ sort s → b ≡ true
-test-sort c v b s e = (need-sort b c v s e) .0
-
 ---------------------------------------------------------------- App
 -- The list of a head that takes arguments is proper, since the head is one that a Var may carry.
 pub applied-only : (ts : Sorts) (s : Sort) → carriedAll ts ≡ true → application ts ≡ sort s → Applied ts s

@@ -45,7 +45,7 @@ cause-back Unassigned = refl
 cause-back Barred = refl
 cause-back NoAssignment = refl
 
-one-cause : (c d : Cause) → numberOf c * 65536 ≡ numberOf d * 65536 → c ≡ d
+pub one-cause : (c d : Cause) → numberOf c * 65536 ≡ numberOf d * 65536 → c ≡ d
 one-cause c d h = let e : numberOf c ≡ numberOf d = omega arith in sym (cause-back c) ∙ rw e (cause-back d)
 
 -- A CODE STANDS FOR A CAUSE other than 22 and 23 exactly where the verdict is refused for it: so of every row, too.

@@ -1,8 +1,8 @@
--- A row that gives a sort stands over rows that give sorts: a record gets a verdict of its own only where each term that it names has a
--- sort in the same column, and else 20. So no limit is met at such a term or below it.
+-- A row that is not 20 stands over rows that give sorts: a record gets a verdict of its own only where each term that it names has a
+-- sort in the same column, and else 20. So where it is not 22 or 23 either, no limit is met at its term or below it.
 use Prim.Native.Nat.{ℕ, zero, suc, _+_, _*_, _<_}
-use mathlib.Core.Path.{_≡_, refl, sym, subst}
-use mathlib.Core.Bool.{true, false≢true}
+use mathlib.Core.Path.{_≡_, refl, subst}
+use mathlib.Core.Bool.{true, false, false≢true}
 use mathlib.Core.List.{List, [], _∷_}
 use mathlib.Core.Option.{Option, none, some}
 use native.Mathlib.Omega.{arith}
@@ -12,23 +12,23 @@ use lib.Dec.{eqb, ltb}
 use borrow.Author.Tests.{eqb-true, eqb-false, ltb-true}
 use Rattle.record.specs.Sort.{Sort, Sorts}
 use Rattle.record.specs.Names.{member}
-use Rattle.record.specs.Cases.{three-right, or-cases, byTest, none-some, below-other}
+use Rattle.record.specs.Cases.{three-right, or-cases, byTest, byOption, none-some, below-other}
 use Rattle.reader.specs.Reader.{allBelow}
 use Rattle.sheet.specs.Sheet.{Lengths, Sheet, TermFields}
 use Rattle.sheet.specs.SheetLaws.{referring}
-use Rattle.rows.specs.Verdict.{Verdict}
-use Rattle.rows.specs.Term.{Site, constantsAt, consed, sortsAt, verdictAt}
-use Rattle.rows.specs.Outcome.{rowSort}
-use Rattle.rows.specs.Meaning.{free}
+use Rattle.rows.specs.declared.Cause.the-variants.{Below}
+use Rattle.rows.specs.Verdict.{Verdict, numberOf}
+use Rattle.rows.specs.Term.{Site, consed, sortsAt, verdictAt}
+use Rattle.rows.specs.Outcome.{outcome, rowSort}
+use Rattle.rows.specs.Meaning.{limited, free}
 use Rattle.rows.specs.FreeLaws.{recordAt, named, AtOrBelow, itself, below, named-below, free-exactly}
 use Rattle.rows.specs.OutcomeLaws.{not-limited}
 use Rattle.inferred.specs.Inferred.{inferred}
 use Rattle.checked.specs.Rank.{Rank}
 use Rattle.checked.specs.Checked.{checked}
-use Rattle.checked.specs.RouteLaws.{parts}
 use Rattle.judged.specs.Rows.{rowOf, rowsOf}
 use Rattle.judged.specs.Judged.{accepted, judgedBy}
-use Rattle.judged.specs.RowLaws.{row-accepted, rows-new, rows-old}
+use Rattle.judged.specs.RowLaws.{rows-new, rows-old}
 use Rattle.judged.specs.JudgedLaws.{told}
 
 ---------------------------------------------------------------- one row
@@ -52,40 +52,43 @@ sorts-member row (i ∷ is) ss e j m =
     (λ k. (s, subst (λ (x : ℕ). row x ≡ some s) (eqb-true i j k) p))
     (λ k. sorts-member row is ts q j (rw k at m))
 
--- An accepted row's record names terms of accepted rows.
+-- A record whose row is not 20 names terms of accepted rows.
 module _ (J : Site → Verdict) (column : ℕ) (l : Lengths) (rs : List TermFields) (r : TermFields) (rows : List ℕ) (now : List Sort) where
-  named-low : rowOf J column l rs r rows now .code < 65536 → (j : ℕ) → named r j ≡ true → getD rows (2 * j + column) 0 < 65536
-  unfolding verdictAt named
-  named-low low j m =
+  named-low : (rowOf J column l rs r rows now .code ≡ numberOf Below * 65536 → ⊥) → (j : ℕ) → named r j ≡ true → getD rows (2 * j + column) 0 < 65536
+  unfolding rowOf outcome verdictAt named
+  named-low own j m =
       let row : ℕ → Option Sort = λ i. rowSort now rows column i in
-      let (s, v, a) = row-accepted J column l rs r rows now low in
-      let (ts, js, p, q, z) = parts J (r .kind) (r .number) (r .own) (r .bindings) (constantsAt rs (r .list)) (constantsAt rs (r .second)) (sortsAt row (r .list)) (sortsAt row (r .second)) s v in
-      or-cases (member j (r .list)) (member j (r .second)) m
+      byOption (sortsAt row (r .list))
+      (λ p. absurd (own (rw p refl)))
+      (λ ts p. byOption (sortsAt row (r .second))
+      (λ q. absurd (own (rw (p, q) refl)))
+      (λ js q. or-cases (member j (r .list)) (member j (r .second)) m
       (λ o. let (x, e) = sorts-member row (r .list) ts p j o in row-low now rows column j x e)
-      (λ o. let (x, e) = sorts-member row (r .second) js q j o in row-low now rows column j x e)
+      (λ o. let (x, e) = sorts-member row (r .second) js q j o in row-low now rows column j x e)))
 
 ---------------------------------------------------------------- all rows
 module _ (R : ℕ → List Rank) (l : Lengths) (st : List Sort) where
-  new-low : (rs : List TermFields) (r : TermFields) (column : ℕ) → column < 2 → getD (rowsOf R l st (r ∷ rs) .rows) (2 * length rs + column) 0 < 65536
+  new-low : (rs : List TermFields) (r : TermFields) (column : ℕ) → column < 2
+      → (getD (rowsOf R l st (r ∷ rs) .rows) (2 * length rs + column) 0 ≡ numberOf Below * 65536 → ⊥)
       → (j : ℕ) → named r j ≡ true → getD (rowsOf R l st rs .rows) (2 * j + column) 0 < 65536
-  new-low rs r zero col h = named-low inferred 0 l rs r (rowsOf R l st rs .rows) (rowsOf R l st rs .store) (rw (rows-new R l st rs r 0) at h)
-  new-low rs r (suc zero) col h =
-      named-low (checked R) 1 l rs r (rowsOf R l st rs .rows) (rowOf inferred 0 l rs r (rowsOf R l st rs .rows) (rowsOf R l st rs .store) .store) (rw (rows-new R l st rs r 1) at h)
-  new-low rs r (suc (suc column)) col h = absurd (omega arith)
+  new-low rs r zero col own = named-low inferred 0 l rs r (rowsOf R l st rs .rows) (rowsOf R l st rs .store) (rw (rows-new R l st rs r 0) at own)
+  new-low rs r (suc zero) col own =
+      named-low (checked R) 1 l rs r (rowsOf R l st rs .rows) (rowOf inferred 0 l rs r (rowsOf R l st rs .rows) (rowsOf R l st rs .store) .store) (rw (rows-new R l st rs r 1) at own)
+  new-low rs r (suc (suc column)) col own = absurd (omega arith)
 
   one-low : (rs : List TermFields) → referring rs ≡ true → (column n j : ℕ) → column < 2 → n < length rs → named (recordAt rs n) j ≡ true
-      → getD (rowsOf R l st rs .rows) (2 * n + column) 0 < 65536 → getD (rowsOf R l st rs .rows) (2 * j + column) 0 < 65536
+      → (getD (rowsOf R l st rs .rows) (2 * n + column) 0 ≡ numberOf Below * 65536 → ⊥) → getD (rowsOf R l st rs .rows) (2 * j + column) 0 < 65536
   unfolding recordAt referring
-  one-low [] refs column n j col low m h = absurd (not-suc-le-zero low)
-  one-low (r ∷ rs) refs column n j col low m h =
+  one-low [] refs column n j col low m own = absurd (not-suc-le-zero low)
+  one-low (r ∷ rs) refs column n j col low m own =
       let earlier = three-right (allBelow (length rs) (r .list)) (allBelow (length rs) (r .second)) (referring rs) refs .2 in
       let early = named-below (r ∷ rs) refs n low j m in
       rw (rows-old R l st rs r (2 * j + column) (omega arith))
       (byTest (eqb n (length rs))
-      (λ q. new-low rs r column col (subst (λ (k : ℕ). getD (rowsOf R l st (r ∷ rs) .rows) (2 * k + column) 0 < 65536) (eqb-true n (length rs) q) h) j (rw q at m))
+      (λ q. new-low rs r column col (subst (λ (k : ℕ). getD (rowsOf R l st (r ∷ rs) .rows) (2 * k + column) 0 ≡ numberOf Below * 65536 → ⊥) (eqb-true n (length rs) q) own) j (rw q at m))
       (λ q.
       let o : n < length rs = below-other n (length rs) low (eqb-false n (length rs) q) in
-      one-low rs earlier column n j col o (rw q at m) (rw (rows-old R l st rs r (2 * n + column) (omega arith)) at h)))
+      one-low rs earlier column n j col o (rw q at m) (rw (rows-old R l st rs r (2 * n + column) (omega arith)) at own)))
 
   -- WHERE A ROW GIVES A SORT, so does every row at its term or below it, in the same column.
   pub given-below : (rs : List TermFields) → referring rs ≡ true → (column n u : ℕ) → column < 2 → n < length rs → AtOrBelow rs n u
@@ -93,22 +96,39 @@ module _ (R : ℕ → List Rank) (l : Lengths) (st : List Sort) where
   given-below rs refs column n u col low itself h = h
   given-below rs refs column n u col low (below j m b) h =
       let early = named-below rs refs n low j m in
-      given-below rs refs column j u col (omega arith) b (one-low rs refs column n j col low m h)
+      given-below rs refs column j u col (omega arith) b (one-low rs refs column n j col low m (λ e. omega arith))
 
-  -- A ROW THAT GIVES A SORT HAS MET NO LIMIT at its term or below it.
+  own-below : (rs : List TermFields) → referring rs ≡ true → (column n u : ℕ) → column < 2 → n < length rs → AtOrBelow rs n u
+      → (getD (rowsOf R l st rs .rows) (2 * n + column) 0 ≡ numberOf Below * 65536 → ⊥) → limited (getD (rowsOf R l st rs .rows) (2 * n + column) 0) ≡ false
+      → limited (getD (rowsOf R l st rs .rows) (2 * u + column) 0) ≡ false
+  own-below rs refs column n u col low itself own f = f
+  own-below rs refs column n u col low (below j m b) own f =
+      let early = named-below rs refs n low j m in
+      not-limited (getD (rowsOf R l st rs .rows) (2 * u + column) 0)
+      (given-below rs refs column j u col (omega arith) b (one-low rs refs column n j col low m own))
+
+  -- A ROW THAT IS NOT 20, 22 OR 23 HAS MET NO LIMIT at its term or below it: it has a verdict of its own,
+  pub own-free : (rs : List TermFields) → referring rs ≡ true → (column n : ℕ) → column < 2 → n < length rs
+      → (getD (rowsOf R l st rs .rows) (2 * n + column) 0 ≡ numberOf Below * 65536 → ⊥) → limited (getD (rowsOf R l st rs .rows) (2 * n + column) 0) ≡ false
+      → free (rowsOf R l st rs .rows) column rs n ≡ true
+  own-free rs refs column n col low own f =
+      free-exactly (rowsOf R l st rs .rows) column rs refs n low .1 (λ u b. own-below rs refs column n u col low b own f)
+
+  -- AND SO HAS A ROW THAT GIVES A SORT.
   pub given-free : (rs : List TermFields) → referring rs ≡ true → (column n : ℕ) → column < 2 → n < length rs
       → getD (rowsOf R l st rs .rows) (2 * n + column) 0 < 65536 → free (rowsOf R l st rs .rows) column rs n ≡ true
   given-free rs refs column n col low h =
-      free-exactly (rowsOf R l st rs .rows) column rs refs n low .1
-      (λ u b. not-limited (getD (rowsOf R l st rs .rows) (2 * u + column) 0) (given-below rs refs column n u col low b h))
+      own-free rs refs column n col low (λ e. omega arith) (not-limited (getD (rowsOf R l st rs .rows) (2 * n + column) 0) h)
 
 ---------------------------------------------------------------- an accepted sheet
 -- The same of the rows of an accepted sheet.
-pub judged-given : (R : ℕ → List Rank) (s : List ℕ) (l : Lengths) (h : Sheet) (st : List Sort) (rows answers : List ℕ)
-    → judgedBy R s l ≡ accepted h st rows answers → (column t : ℕ) → column < 2 → t < length (h .terms)
-    → getD rows (2 * t + column) 0 < 65536 → free rows column (h .terms) t ≡ true
-judged-given R s l h st rows answers e column t col low g =
-    let k = told R s l h st rows answers e in
-    subst (λ (z : List ℕ). free z column (h .terms) t ≡ true) (k .rows-are)
-    (given-free R l (h .store) (h .terms) (k .sheet .terms-are .below) column t col low
-    (subst (λ (z : List ℕ). getD z (2 * t + column) 0 < 65536) (sym (k .rows-are)) g))
+module _ (R : ℕ → List Rank) (s : List ℕ) (l : Lengths) (h : Sheet) (st : List Sort) (rows answers : List ℕ)
+    (e : judgedBy R s l ≡ accepted h st rows answers) (column t : ℕ) (col : column < 2) (low : t < length (h .terms)) where
+  pub judged-own : (getD rows (2 * t + column) 0 ≡ numberOf Below * 65536 → ⊥) → limited (getD rows (2 * t + column) 0) ≡ false → free rows column (h .terms) t ≡ true
+  judged-own =
+      let k = told R s l h st rows answers e in
+      subst (λ (z : List ℕ). (getD z (2 * t + column) 0 ≡ numberOf Below * 65536 → ⊥) → limited (getD z (2 * t + column) 0) ≡ false → free z column (h .terms) t ≡ true) (k .rows-are)
+      (own-free R l (h .store) (h .terms) (k .sheet .terms-are .below) column t col low)
+
+  pub judged-given : getD rows (2 * t + column) 0 < 65536 → free rows column (h .terms) t ≡ true
+  judged-given g = judged-own (λ e. omega arith) (not-limited (getD rows (2 * t + column) 0) g)

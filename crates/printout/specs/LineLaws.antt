@@ -9,14 +9,13 @@ use lib.Dec.{eqb, ltb}
 use borrow.Author.Tests.{lt-ltb, le-ltb, eq-eqb, ne-eqb, ltb-true, ltb-false, eqb-true, eqb-false}
 use Rattle.record.specs.Sort.{Sort}
 use Rattle.record.specs.Decode.{storeOf, sortAt}
-use Rattle.store.specs.Good.{Good}
 use Rattle.printout.specs.Text.{ascii, decimal, text}
 use Rattle.printout.specs.Lines.{refusalText, refusalLine, rowText, answerText, termLine, questionLine}
 use Rattle.printout.specs.Trees.{treeAt, rowAt, answerAt}
-use Rattle.printout.specs.TreeLaws.{tree-at, text-asks}
+use Rattle.printout.specs.TreeLaws.{tree-at}
 use Rattle.printout.specs.Wrote.{Wrote, wrote-as, total, Room}
 use Rattle.printout.specs.declared.Shown.the-variants.{To, Full}
-use Rattle.printout.specs.LineAsks.{RowAsks, Known, TermAsks, TermHas, QuestionAsks, QuestionHas, labelText, termAt, questionAt}
+use Rattle.printout.specs.LineAsks.{Known, TermAsks, TermHas, QuestionAsks, QuestionHas, labelText, termAt, questionAt}
 
 pub refusal-length : (n : ℕ) → length (refusalText n) ≡ 1 + length (decimal n)
 unfolding refusalText
@@ -49,10 +48,6 @@ row-at b p n code k = go (ltb code 65536) refl
     go false e =
         let h = ltb-false code 65536 e in
         row-refused b p code h ∙ sym (refused-by (storeOf b p n) code h)
-
--- A row of a good store meets what printing it asks.
-pub row-asks : (b p ix : List ℕ) (n u code : ℕ) → Good b p ix n u → Known n code → RowAsks b p code
-row-asks b p ix n u code g known h = text-asks b p n code (g .stored) (known h) (g .sized .small code (known h))
 
 pub answer-no : (b p : List ℕ) (kind code : ℕ) → kind ≡ 0 → code ≡ 0 → answerAt b p kind code ≡ ascii "no"
 unfolding answerText

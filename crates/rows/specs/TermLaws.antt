@@ -1,5 +1,6 @@
--- The verdict on one record, from rows that mean the verdicts of the trees below it, is the verdict of its tree.
-use Prim.Native.Nat.{ℕ, _+_, _*_, _≤_, _<_}
+-- The verdict on one record, from rows that mean the verdicts of the trees below it, is the verdict of its tree; and a record has one entry
+-- in its list of constants for each argument.
+use Prim.Native.Nat.{ℕ, suc, _+_, _*_, _≤_, _<_}
 use mathlib.Core.Path.{_≡_, refl, ap, ap₂, _∙_}
 use mathlib.Core.Bool.{Bool, true}
 use mathlib.Core.List.{List, [], _∷_}
@@ -8,12 +9,12 @@ use native.Mathlib.Omega.{arith}
 use lib.ListN.{length, getD}
 use lib.Dec.{eqb, ltb}
 use borrow.Author.Tests.{lt-ltb, le-ltb, ltb-true}
-use Rattle.record.specs.Sort.{Sort, Sorts}
-use Rattle.record.specs.Cases.{and-left, and-right, byTest}
+use Rattle.record.specs.Sort.{Sort, Sorts, _then_, count}
+use Rattle.record.specs.Cases.{and-left, and-right, byTest, byOption, none-some, some-inj}
 use Rattle.reader.specs.Reader.{allBelow}
 use Rattle.sheet.specs.Sheet.{TermFields}
 use Rattle.rows.specs.Verdict.{Verdict, sort, refused}
-use Rattle.rows.specs.Term.{Site, Term, termsOf, treeOf, termAt, constantOf, constantsOf, besides, verdictOf, verdictsOf, constantAt, constantsAt, consed, sortsAt, verdictAt}
+use Rattle.rows.specs.Term.{Site, Term, Terms, stop, _also_, termsOf, treeOf, termAt, constantOf, constantsOf, besides, verdictOf, verdictsOf, constantAt, constantsAt, consed, sortsAt, verdictAt}
 use Rattle.rows.specs.Outcome.{rowSort}
 use Rattle.rows.specs.Meaning.{Means, allOf}
 use Rattle.rows.specs.OutcomeLaws.{refusal-large}
@@ -65,3 +66,25 @@ verdict-is J st rows column rs r ok few h bl bs al as′ =
       sorts-are J st rows column (length rs) (λ j. termAt rs j) ok few h (r .list) bl al,
       sorts-are J st rows column (length rs) (λ j. termAt rs j) ok few h (r .second) bs as′,
     ) refl
+
+---------------------------------------------------------------- counts
+-- A record has an entry in its list of constants for each of its arguments: by the rows of the terms that it names, and by their trees.
+pub constants-count : (rs : List TermFields) (row : ℕ → Option Sort) (is : List ℕ) (ss : Sorts) → sortsAt row is ≡ some ss → length (constantsAt rs is) ≡ count ss
+unfolding constantsAt sortsAt count
+constants-count rs row [] ss e = ap count (some-inj e)
+constants-count rs row (i ∷ is) ss e =
+    byOption (row i)
+    (λ p. none-some (rw p at e))
+    (λ s p. byOption (sortsAt row is)
+    (λ q. none-some (rw (p, q) at e))
+    (λ ts q. let z : some (s then ts) ≡ some ss = rw (p, q) at e in ap suc (constants-count rs row is ts q) ∙ ap count (some-inj z)))
+
+pub constants-each : (J : Site → Verdict) (ts : Terms) (ss : Sorts) → verdictsOf J ts ≡ some ss → length (constantsOf ts) ≡ count ss
+unfolding constantsOf verdictOf count
+constants-each J stop ss e = ap count (some-inj e)
+constants-each J (t also ts) ss e = by (verdictOf J t) (verdictsOf J ts) e (λ rs q. constants-each J ts rs q)
+  where
+    by : (v : Verdict) (o : Option Sorts) → besides v o ≡ some ss → ((rs : Sorts) → o ≡ some rs → length (constantsOf ts) ≡ count rs) → suc (length (constantsOf ts)) ≡ count ss
+    by (refused c) o e h = none-some e
+    by (sort s) none e h = none-some e
+    by (sort s) (some rs) e h = ap suc (h rs refl) ∙ ap count (some-inj e)

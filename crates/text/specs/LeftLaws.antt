@@ -30,12 +30,12 @@ use Rattle.printout.specs.declared.kinds.Totals.{Totals}
 use Rattle.printout.specs.declared.whole.Piece.{Piece}
 use Rattle.printout.specs.Lines.{rowText, answerText, termLine, questionLine, sortRoom, checkedRoom, lineRoom}
 use Rattle.printout.specs.TextLaws.{pars, parsAll, row-fits, row-fits-one, term-fits, answer-fits, question-fits}
-use Rattle.printout.specs.Printed.{kindsOf, printed, programLengths}
+use Rattle.printout.specs.Printed.{kindsOf, programLengths}
 use Rattle.printout.specs.Kinds.{KindsAre}
 use Rattle.printout.specs.Whole.{lineAt, linesFrom, Judged, PieceIs}
-use Rattle.printout.specs.WholeLaws.{line-term, line-question, lines-same}
+use Rattle.printout.specs.WholeLaws.{line-term, line-question}
 use Rattle.text.specs.Text.{lineCount, lineOf}
-use Rattle.text.specs.PrintedLaws.{kinds-count, lines-printed}
+use Rattle.text.specs.PrintedLaws.{kinds-count}
 
 ---------------------------------------------------------------- every piece goes on
 -- Every checked row that is no refusal names a sort of the store that has at most one Par.
@@ -275,12 +275,3 @@ left s b p w g a k k′ r room kinds =
           ∙ ap (λ (t : ℕ). lineAt (j .store) (j .rows) (kindsOf (h .questions)) (j .answers) t i) (f .terms)
           ∙ sym (ap (λ (x : Judgement). lineOf x i) (j .is));
     }
-
--- So all lines over the buffers, in order, are the printout of the judgement.
-pub print-whole : (s b p w k g : List ℕ) (r : Totals) (l : Left s b p w k g r)
-    → printed (judged s programLengths) ≡ linesFrom (λ i. lineAt (storeOf b p (l .many)) w k g (r .terms) i) 0 (r .terms + r .questions)
-print-whole s b p w k g r l =
-    let j = judged s programLengths in
-    lines-printed s programLengths
-    ∙ ap (linesFrom (lineOf j) 0) (sym (l .count))
-    ∙ sym (lines-same (λ i. lineAt (storeOf b p (l .many)) w k g (r .terms) i) (lineOf j) 0 (r .terms + r .questions) (λ i x y. l .line i (omega arith)))

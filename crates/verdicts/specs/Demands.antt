@@ -16,10 +16,16 @@ use Rattle.sheet.specs.Sheet.{Lengths, Sheet, readSheet}
 use Rattle.sheet.specs.Sheet.Reading.{got}
 use Rattle.substitution.specs.Substitution.{Map, apply}
 use Rattle.substitution.specs.Premises.{properMap}
+use Rattle.rows.specs.declared.Cause.{Cause}
+use Rattle.rows.specs.declared.Cause.the-variants.{Below, Panics}
+use Rattle.rows.specs.Verdict.{sort, refused, numberOf}
 use Rattle.rows.specs.Term.{termAt}
 use Rattle.rows.specs.Meaning.{free}
 use Rattle.rows.specs.FreeLaws.{free-same}
+use Rattle.rows.specs.OutcomeLaws.{plain}
+use Rattle.inferred.specs.Inferred.{infer}
 use Rattle.checked.specs.Ranks.{smtLib}
+use Rattle.checked.specs.Checked.{check}
 use Rattle.checked.specs.Rules.{HasSort}
 use Rattle.checked.specs.Routes.{replace, clearTerm}
 use Rattle.judged.specs.Rows.{rowsOf}
@@ -27,7 +33,7 @@ use Rattle.judged.specs.Questions.{answersOf}
 use Rattle.judged.specs.Judged.{Judgement, accepted, judgedSheet, judgedBy, judged, rowsAfter}
 use Rattle.judged.specs.JudgedLaws.{told, judged-counts}
 use Rattle.judged.specs.KnownLaws.{judged-rows-known}
-use Rattle.judged.specs.RowExactly.{checkedRow, Gives, row-has, row-exactly}
+use Rattle.judged.specs.RowExactly.{checkedRow, row-has, row-exactly, row-infers, row-infers-exactly, row-refused-for, row-refused-exactly, row-panics-for, row-panics-exactly}
 use Rattle.judged.specs.TwoRoutes.{two-routes}
 use Rattle.verdicts.specs.declared.Outcome.{Outcome}
 use Rattle.verdicts.specs.Judge.{ReadsBack, JudgeIs}
@@ -63,40 +69,80 @@ module _ {s : List ℕ} {l : Lengths} {b p rw an : List ℕ} {o : Outcome} (j : 
       sort-made b p k (suc k) (omega arith) ∙ sym (sort-made b p k (length st) low)
       ∙ ap (λ (z : List Sort). getD z k leaf) (subst (λ (z : Judgement). ReadsBack z b p) e (j .buffers .reads) .back)
 
-  free-here : (t : ℕ) → t < length (h .terms) → free rw 1 (h .terms) t ≡ true → free rows 1 (h .terms) t ≡ true
+  free-here : (column : ℕ) → column < 2 → (t : ℕ) → t < length (h .terms) → free rw column (h .terms) t ≡ true → free rows column (h .terms) t ≡ true
   unfolding judged
-  free-here t low =
-      free-same rw rows 1 (omega arith) (h .terms) (told smtLib s l h st rows answers e .sheet .terms-are .below) row-here t low
+  free-here column col t low =
+      free-same rw rows column col (h .terms) (told smtLib s l h st rows answers e .sheet .terms-are .below) row-here t low
 
-  -- The buffers give what the judgement gives.
-  module _ (t : ℕ) (low : t < length (h .terms)) (a : Sort) where
-    known : checkedRow rows t < 65536 → checkedRow rows t < length st
+  -- The buffers give what the judgement gives, in either column.
+  module _ (column : ℕ) (col : column < 2) (t : ℕ) (low : t < length (h .terms)) (a : Sort) where
+    known : getD rows (2 * t + column) 0 < 65536 → getD rows (2 * t + column) 0 < length st
     unfolding judged
-    known small = judged-rows-known smtLib s l h st rows answers e (2 * t + 1) (omega arith) small
+    known small = judged-rows-known smtLib s l h st rows answers e (2 * t + column) (omega arith) small
 
-    gives-in : Gives st rows t a → GivesIn b p rw t a
+    gives-in : (getD rows (2 * t + column) 0 < 65536) × (getD st (getD rows (2 * t + column) 0) leaf ≡ a)
+        → (getD rw (2 * t + column) 0 < 65536) × (sortAt b p (suc (getD rw (2 * t + column) 0)) (getD rw (2 * t + column) 0) ≡ a)
     gives-in g =
-        subst (λ (k : ℕ). (k < 65536) × (sortAt b p (suc k) k ≡ a)) (sym (row-here (2 * t + 1) (omega arith)))
-        (g .0, sort-here (checkedRow rows t) (known (g .0)) ∙ g .1)
+        subst (λ (k : ℕ). (k < 65536) × (sortAt b p (suc k) k ≡ a)) (sym (row-here (2 * t + column) (omega arith)))
+        (g .0, sort-here (getD rows (2 * t + column) 0) (known (g .0)) ∙ g .1)
 
-    gives-out : GivesIn b p rw t a → Gives st rows t a
+    gives-out : (getD rw (2 * t + column) 0 < 65536) × (sortAt b p (suc (getD rw (2 * t + column) 0)) (getD rw (2 * t + column) 0) ≡ a)
+        → (getD rows (2 * t + column) 0 < 65536) × (getD st (getD rows (2 * t + column) 0) leaf ≡ a)
     gives-out g =
-        let k = subst (λ (k : ℕ). (k < 65536) × (sortAt b p (suc k) k ≡ a)) (row-here (2 * t + 1) (omega arith)) g in
-        (k .0, sym (sort-here (checkedRow rows t) (known (k .0))) ∙ k .1)
+        let k = subst (λ (k : ℕ). (k < 65536) × (sortAt b p (suc k) k ≡ a)) (row-here (2 * t + column) (omega arith)) g in
+        (k .0, sym (sort-here (getD rows (2 * t + column) 0) (known (k .0))) ∙ k .1)
 
 -- A call of `judge` for bytes s that are read as the sheet h, so that it accepts them.
 module _ {s : List ℕ} {l : Lengths} {b p rw an : List ℕ} {o : Outcome} (j : JudgeIs s l b p rw an o) {h : Sheet} {x : ℕ} (q : readSheet s l ≡ got h x)
-    (t : ℕ) (low : t < length (h .terms)) (a : Sort) where
+    (t : ℕ) (low : t < length (h .terms)) where
   -- DEMAND 2 ON THE BYTES: what the checked row gives, the rules give to the term's tree; and where no limit is met at the term or below
   -- it, the row gives a sort exactly when the rules give it (`row-has`, `row-exactly`).
-  pub judge-has : GivesIn b p rw t a → HasSort smtLib (termAt (h .terms) t) a
-  judge-has g = let (st, rows, answers, e) = judgement s l q in row-has s l h st rows answers e t low a (gives-out j e t low a g)
+  pub judge-has : (a : Sort) → GivesIn b p rw t a → HasSort smtLib (termAt (h .terms) t) a
+  judge-has a g = let (st, rows, answers, e) = judgement s l q in row-has s l h st rows answers e t low a (gives-out j e 1 (omega arith) t low a g)
 
-  pub judge-exactly : free rw 1 (h .terms) t ≡ true → GivesIn b p rw t a ↔ HasSort smtLib (termAt (h .terms) t) a
-  judge-exactly f = (
-    judge-has,
-    λ r. let (st, rows, answers, e) = judgement s l q in gives-in j e t low a (row-exactly s l h st rows answers e t low a (free-here j e t low f) .1 r),
+  pub judge-exactly : (a : Sort) → free rw 1 (h .terms) t ≡ true → GivesIn b p rw t a ↔ HasSort smtLib (termAt (h .terms) t) a
+  judge-exactly a f = (
+    judge-has a,
+    λ r. let (st, rows, answers, e) = judgement s l q in gives-in j e 1 (omega arith) t low a (row-exactly s l h st rows answers e t low a (free-here j e 1 (omega arith) t low f) .1 r),
   )
+
+  -- THE SAME OF REFUSALS: a checked row that is refused for a cause other than 20, 22 and 23 stands for a tree that is refused for it; and where
+  -- no limit is met at the term or below it, exactly for these (`row-refused-for`, `row-refused-exactly`).
+  pub judge-refused-for : (c : Cause) → plain (refused c) ≡ true → (c ≡ Below → ⊥) → checkedRow rw t ≡ numberOf c * 65536 → check smtLib (termAt (h .terms) t) ≡ refused c
+  judge-refused-for c p d k =
+      let (st, rows, answers, e) = judgement s l q in
+      row-refused-for s l h st rows answers e t low c p d (sym (row-here j e (2 * t + 1) (omega arith)) ∙ k)
+
+  pub judge-refused-exactly : (c : Cause) → free rw 1 (h .terms) t ≡ true → checkedRow rw t ≡ numberOf c * 65536 ↔ check smtLib (termAt (h .terms) t) ≡ refused c
+  judge-refused-exactly c f =
+      let (st, rows, answers, e) = judgement s l q in
+      let same = row-here j e (2 * t + 1) (omega arith) in
+      let (there, back) = row-refused-exactly s l h st rows answers e t low c (free-here j e 1 (omega arith) t low f) in
+      (λ k. there (sym same ∙ k), λ v. same ∙ back v)
+
+  -- THE INFERRED ROW: what it gives, `infer` gives to the term's tree, and where no limit is met exactly that (`row-infers`, `row-infers-exactly`);
+  pub judge-infers : (a : Sort) → (getD rw (2 * t + 0) 0 < 65536) × (sortAt b p (suc (getD rw (2 * t + 0) 0)) (getD rw (2 * t + 0) 0) ≡ a) → infer (termAt (h .terms) t) ≡ sort a
+  judge-infers a g = let (st, rows, answers, e) = judgement s l q in row-infers s l h st rows answers e t low a (gives-out j e 0 (omega arith) t low a g)
+
+  pub judge-infers-exactly : (a : Sort) → free rw 0 (h .terms) t ≡ true
+      → (getD rw (2 * t + 0) 0 < 65536) × (sortAt b p (suc (getD rw (2 * t + 0) 0)) (getD rw (2 * t + 0) 0) ≡ a) ↔ infer (termAt (h .terms) t) ≡ sort a
+  judge-infers-exactly a f = (
+    judge-infers a,
+    λ v. let (st, rows, answers, e) = judgement s l q in gives-in j e 0 (omega arith) t low a (row-infers-exactly s l h st rows answers e t low a (free-here j e 0 (omega arith) t low f) .1 v),
+  )
+
+  -- and it is 21 where `infer` panics on the tree (`row-panics-for`, `row-panics-exactly`).
+  pub judge-panics-for : getD rw (2 * t + 0) 0 ≡ numberOf Panics * 65536 → infer (termAt (h .terms) t) ≡ refused Panics
+  judge-panics-for k =
+      let (st, rows, answers, e) = judgement s l q in
+      row-panics-for s l h st rows answers e t low (sym (row-here j e (2 * t + 0) (omega arith)) ∙ k)
+
+  pub judge-panics-exactly : free rw 0 (h .terms) t ≡ true → getD rw (2 * t + 0) 0 ≡ numberOf Panics * 65536 ↔ infer (termAt (h .terms) t) ≡ refused Panics
+  judge-panics-exactly f =
+      let (st, rows, answers, e) = judgement s l q in
+      let same = row-here j e (2 * t + 0) (omega arith) in
+      let (there, back) = row-panics-exactly s l h st rows answers e t low (free-here j e 0 (omega arith) t low f) in
+      (λ k. there (sym same ∙ k), λ v. same ∙ back v)
 
 -- DEMAND 3 ON THE BYTES (`two-routes`): for any two calls of `judge`, with bytes A and B that are read as the sheets hA and hB, so that it
 -- accepts both; any term t of A, and t′ of B whose tree is that of t with its sort variables replaced by σ; where σ's images hold no
@@ -114,6 +160,6 @@ pub judge-routes : {A B : List ℕ} {lA lB : Lengths} {bA pA rwA anA bB pB rwB a
 judge-routes {A} {B} {lA} {lB} jA jB {hA} {hB} qA qB t t′ lowA lowB σ proper clear same f s g =
     let (stA, rowsA, answersA, eA) = judgement A lA qA in
     let (stB, rowsB, answersB, eB) = judgement B lB qB in
-    gives-in jB eB t′ lowB (apply σ s)
+    gives-in jB eB 1 (omega arith) t′ lowB (apply σ s)
     (two-routes A B lA lB hA hB stA stB rowsA rowsB answersA answersB eA eB
-    t t′ lowA lowB σ proper clear same (free-here jB eB t′ lowB f) s (gives-out jA eA t lowA s g) .1)
+    t t′ lowA lowB σ proper clear same (free-here jB eB 1 (omega arith) t′ lowB f) s (gives-out jA eA 1 (omega arith) t lowA s g) .1)
