@@ -1,5 +1,6 @@
 // A sort made from its fields: the record's bytes, put together from left to right, and interned.
 use record::limits::LONGEST_RECORD;
+use record::tables::map_of;
 use store::Interned;
 use store::entries::tree_size;
 use store::intern;
@@ -8,24 +9,12 @@ ghost use mathlib.Core.List.{[], _∷_};
 ghost use Prim.Native.Nat.{_+_, _*_, _≤_, _<_};
 ghost use lib.ListN.{length};
 ghost use Rattle.record.specs.Number.{u16Bytes};
-ghost use Rattle.record.specs.Record.{mapOf, nameBytes, numberBytes, listBytes, recordBytes, sortOf};
+ghost use Rattle.record.specs.Record.{nameBytes, numberBytes, listBytes, recordBytes, sortOf};
 ghost use Rattle.record.specs.Decode.{storeOf};
 ghost use Rattle.store.specs.Entry.{isOne};
 ghost use Rattle.replacing.specs.Lists.{numbersOf, held};
 ghost use Rattle.replacing.specs.Draft.{draft, Put, ByteAsks, WordAsks, WidthAsks, ListAsks, DraftAsks, Drafted, fieldsIn};
 ghost use Rattle.replacing.specs.Made.{MakeAsks, MadeIs};
-
-const MAPS: [usize; 16] = [17, 19, 3, 1, 1, 1, 1, 1, 17, 5, 1, 19, 81, 1, 17, 17];
-
-// The bit map of a kind; 0 for an unknown one.
-pub fn map_of(kind: usize) -> usize
-    ensures { λ r. ⌜ r ≡ mapOf kind ⌝ }
-{
-    if kind < 16 {
-        return MAPS[kind];
-    }
-    0
-}
 
 // One byte more behind the first `len`; how many there are then, as of each below.
 pub fn put_byte(bytes: &mut [u8], len: usize, v: usize) -> usize
