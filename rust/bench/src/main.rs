@@ -3,7 +3,8 @@
 //! - `bench all [RUNS]`: all cases, and how the families grow from 256 to 4,096 terms; RUNS of each (25, if not said);
 //! - `bench cases [RUNS [TEXT]]`, `bench growth [RUNS]`: one of the two; with TEXT the cases in whose name it stands;
 //! - `bench once CASE library|pool [TIMES]`: one case, one side, so many times, without a word; for a profiler;
-//! - `bench list`: the cases.
+//! - `bench list`: the cases;
+//! - `bench sheets FOLDER`: writes the sheets, `CASE.SHEET` each by its numbers, and the cases' names and lent lengths in `cases.txt`.
 //!
 //! What is timed:
 //!
@@ -29,7 +30,9 @@ use measure::{Spread, in_turn};
 use napsilo::{Lent, judge_into};
 use pool::Decoded;
 use special::Asked;
+use std::fs;
 use std::hint::black_box;
+use std::path::Path;
 use std::process::ExitCode;
 use std::time::{Duration, Instant};
 
@@ -179,6 +182,19 @@ fn long_case() -> Case {
     Case::new("worst: 2,000 heads give 4,033 nodes, 2,000 sorts in one bucket", special::great_collisions(2_000))
 }
 
+/// Writes the sheets of all cases into a folder.
+fn write_sheets(folder: &Path) -> std::io::Result<()> {
+    let mut lines = String::new();
+    for (number, case) in cases().iter().enumerate() {
+        let Lent { records, places, rows, answers } = case.lent;
+        lines += &format!("{number} {} {records} {places} {rows} {answers} {}\n", case.sheets.len(), case.name);
+        for (at, sheet) in case.sheets.iter().enumerate() {
+            fs::write(folder.join(format!("{number}.{at}")), sheet)?;
+        }
+    }
+    fs::write(folder.join("cases.txt"), lines)
+}
+
 /// Runs one side of a case so many times.
 fn once(name: &str, side: &str, times: usize) -> Option<()> {
     let mut cases = cases();
@@ -210,6 +226,7 @@ fn main() -> ExitCode {
             "growth" => measure_growth(number(1, 25)),
             "list" => cases().iter().chain([&long_case()]).for_each(|case| println!("{}", case.name)),
             "once" => return once(text(1), text(2), number(3, 1)),
+            "sheets" => return write_sheets(Path::new(text(1))).ok(),
             _ => return None,
         }
         Some(())
@@ -218,7 +235,7 @@ fn main() -> ExitCode {
         Some(()) => ExitCode::SUCCESS,
         None => {
             eprintln!(
-                "bench all|growth [RUNS] | bench cases [RUNS [TEXT]] | bench list | bench once CASE library|pool [TIMES]"
+                "bench all|growth [RUNS] | bench cases [RUNS [TEXT]] | bench list | bench once CASE library|pool [TIMES] | bench sheets FOLDER"
             );
             ExitCode::FAILURE
         }
