@@ -1,40 +1,61 @@
 -- Laws of the key: what a walk has of its bits, step by step.
 use Prim.Native.Nat.{ℕ, zero, suc, _+_, _/_, _%_, _^_, _≤_, _<_}
-use mathlib.Core.Path.{_≡_, refl}
+use mathlib.Core.Path.{_≡_, refl, ap, _∙_}
 use mathlib.Core.List.{List}
 use native.Mathlib.Omega.{arith}
-use Rattle.store.specs.Index.{hashOf, secondOf, doubled, keyOf, bucketOf, restOf}
+use Rattle.store.specs.Index.{hashOf, secondOf, doubled, lastOf, keyOf, Refilled, bucketOf, restOf}
 
--- After d steps the walk has the bits x at hand, and r are all that are left of a key with the second hash s: the first 54 steps go by the
--- hash, and s lies above what is at hand.
-pub data Bits (s d x r : ℕ) : Type 0 where
-  first : (m : ℕ) → d + suc m ≡ 54 → x < 2 ^ suc m → r ≡ x + doubled (suc m) s → Bits s d x r
-  behind : 54 ≤ d → r ≡ x → Bits s d x r
-
--- What is at hand after the step to d: the second hash when the first is used up, else what is left.
-pub data Refilled (s d x y : ℕ) : Type 0 where
-  made : d ≡ 54 → y ≡ s → Refilled s d x y
-  left : (d ≡ 54 → ⊥) → y ≡ x → Refilled s d x y
+-- After d steps the walk has the bits x at hand, and z are all that are left of the key of r: 12 steps go by the hash, 64 by the second one,
+-- and the others by the rest of the first.
+pub data Bits (r : List ℕ) (d x z : ℕ) : Type 0 where
+  first : (m : ℕ) → d + suc m ≡ 12 → x < 2 ^ suc m → z ≡ x + doubled (suc m) (secondOf r + doubled 64 (lastOf (hashOf r))) → Bits r d x z
+  middle : (m : ℕ) → 12 ≤ d → d + suc m ≡ 76 → x < 2 ^ suc m → z ≡ x + doubled (suc m) (lastOf (hashOf r)) → Bits r d x z
+  behind : 76 ≤ d → z ≡ x → Bits r d x z
 
 pub key-bucket : (r : List ℕ) {h : ℕ} → h ≡ hashOf r → h % 1024 ≡ bucketOf (keyOf r)
 unfolding keyOf
 key-bucket r {h} e = omega (arith, e)
 
-pub key-start : (r : List ℕ) {h : ℕ} → h ≡ hashOf r → h < 2 ^ 64 → Bits (secondOf r) 0 (h / 1024) (restOf (keyOf r))
+pub key-start : (r : List ℕ) {h : ℕ} → h ≡ hashOf r → Bits r 0 (h / 1024 % 4096) (restOf (keyOf r))
 unfolding keyOf
-key-start r {h} e l = first 53 refl (omega arith) (omega (arith, e))
+key-start r {h} e = first 11 refl (omega arith) (omega (arith, e))
 
-module _ (s : ℕ) where
-  pub bit-same : {d x r : ℕ} → Bits s d x r → x % 2 ≡ r % 2
-  unfolding doubled
-  bit-same {d} {x} {r} (first m o l e) = omega (arith, e)
-  bit-same {d} {x} {r} (behind o e) = omega (arith, e)
+-- One step in a part of the key with v above it, and the last one.
+part-bit : (m x z v : ℕ) → z ≡ x + doubled (suc m) v → x % 2 ≡ z % 2
+unfolding doubled
+part-bit m x z v e = omega (arith, e)
 
-  pub bits-next : {d x r y : ℕ} → Bits s d x r → Refilled s (d + 1) (x / 2) y → Bits s (d + 1) y (r / 2)
-  unfolding doubled
-  bits-next {d} {x} {r} {y} (first zero o l e) (made q z) = behind (omega arith) (omega (arith, e, z))
-  bits-next {d} {x} {r} {y} (first (suc m) o l e) (made q z) = absurd (omega arith)
-  bits-next {d} {x} {r} {y} (first zero o l e) (left q z) = absurd (q (omega arith))
-  bits-next {d} {x} {r} {y} (first (suc m) o l e) (left q z) = first m (omega arith) (omega arith) (omega (arith, e, z))
-  bits-next {d} {x} {r} {y} (behind o e) (made q z) = absurd (omega arith)
-  bits-next {d} {x} {r} {y} (behind o e) (left q z) = behind (omega arith) (omega (arith, e, z))
+part-next : (m x z v : ℕ) → z ≡ x + doubled (suc (suc m)) v → z / 2 ≡ x / 2 + doubled (suc m) v
+unfolding doubled
+part-next m x z v e = omega (arith, e)
+
+part-end : (x z v : ℕ) → x < 2 ^ 1 → z ≡ x + doubled 1 v → z / 2 ≡ v
+unfolding doubled
+part-end x z v l e = omega (arith, e)
+
+module _ (r : List ℕ) where
+  pub bit-same : {d x z : ℕ} → Bits r d x z → x % 2 ≡ z % 2
+  bit-same {d} {x} {z} (first m o l e) = part-bit m x z (secondOf r + doubled 64 (lastOf (hashOf r))) e
+  bit-same {d} {x} {z} (middle m g o l e) = part-bit m x z (lastOf (hashOf r)) e
+  bit-same {d} {x} {z} (behind o e) = omega (arith, e)
+
+  pub bits-next : {d x z y : ℕ} → Bits r d x z → Refilled r (d + 1) (x / 2) y → Bits r (d + 1) y (z / 2)
+  bits-next {d} {x} {z} {y} (first zero o l e) (Refilled.second q w b) =
+      middle 63 (omega arith) (omega arith) b (omega (arith, w, part-end x z (secondOf r + doubled 64 (lastOf (hashOf r))) l e))
+  bits-next {d} {x} {z} {y} (first zero o l e) (Refilled.last q w) = absurd (omega arith)
+  bits-next {d} {x} {z} {y} (first zero o l e) (Refilled.left p q w) = absurd (p (omega arith))
+  bits-next {d} {x} {z} {y} (first (suc m) o l e) (Refilled.second q w b) = absurd (omega arith)
+  bits-next {d} {x} {z} {y} (first (suc m) o l e) (Refilled.last q w) = absurd (omega arith)
+  bits-next {d} {x} {z} {y} (first (suc m) o l e) (Refilled.left p q w) =
+      first m (omega arith) (omega arith) (omega (arith, w, part-next m x z (secondOf r + doubled 64 (lastOf (hashOf r))) e))
+  bits-next {d} {x} {z} {y} (middle zero g o l e) (Refilled.second q w b) = absurd (omega arith)
+  bits-next {d} {x} {z} {y} (middle zero g o l e) (Refilled.last q w) =
+      behind (omega arith) (omega (arith, w, part-end x z (lastOf (hashOf r)) l e))
+  bits-next {d} {x} {z} {y} (middle zero g o l e) (Refilled.left p q w) = absurd (q (omega arith))
+  bits-next {d} {x} {z} {y} (middle (suc m) g o l e) (Refilled.second q w b) = absurd (omega arith)
+  bits-next {d} {x} {z} {y} (middle (suc m) g o l e) (Refilled.last q w) = absurd (omega arith)
+  bits-next {d} {x} {z} {y} (middle (suc m) g o l e) (Refilled.left p q w) =
+      middle m (omega arith) (omega arith) (omega arith) (omega (arith, w, part-next m x z (lastOf (hashOf r)) e))
+  bits-next {d} {x} {z} {y} (behind o e) (Refilled.second q w b) = absurd (omega arith)
+  bits-next {d} {x} {z} {y} (behind o e) (Refilled.last q w) = absurd (omega arith)
+  bits-next {d} {x} {z} {y} (behind o e) (Refilled.left p q w) = behind (omega arith) (omega (arith, e, w))
