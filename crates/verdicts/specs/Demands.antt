@@ -10,7 +10,7 @@ use lib.ListN.{length, getD, replicate, List·getD-append}
 use Rattle.record.specs.Sort.{Sort}
 use Rattle.record.specs.Record.{leaf}
 use Rattle.record.specs.Store.{padded}
-use Rattle.record.specs.Decode.{sortAt}
+use Rattle.record.specs.Decode.{storeOf, sortAt}
 use Rattle.record.specs.StoreLaws.{sort-made}
 use Rattle.sheet.specs.Sheet.{Lengths, Sheet, readSheet}
 use Rattle.sheet.specs.Sheet.Reading.{got}
@@ -30,8 +30,9 @@ use Rattle.checked.specs.Rules.{HasSort}
 use Rattle.checked.specs.Routes.{replace, clearTerm}
 use Rattle.judged.specs.Rows.{rowsOf}
 use Rattle.judged.specs.Questions.{answersOf}
-use Rattle.judged.specs.Judged.{Judgement, accepted, judgedSheet, judgedBy, judged, rowsAfter}
-use Rattle.judged.specs.JudgedLaws.{told, judged-counts}
+use Rattle.judged.specs.Judged.{Judgement, accepted, judgedSheet, judgedBy, judged, rowsAfter, answersAfter}
+use Rattle.judged.specs.QuestionLaws.{Answers, questionAt}
+use Rattle.judged.specs.JudgedLaws.{told, judged-counts, judged-answer}
 use Rattle.judged.specs.KnownLaws.{judged-rows-known}
 use Rattle.judged.specs.RowExactly.{checkedRow, row-has, row-exactly, row-infers, row-infers-exactly, row-refused-for, row-refused-exactly, row-panics-for, row-panics-exactly}
 use Rattle.judged.specs.TwoRoutes.{two-routes}
@@ -55,7 +56,7 @@ judgement s l {h} q =
 -- A call of `judge` for bytes s that it accepts as the sheet h.
 module _ {s : List ℕ} {l : Lengths} {b p rw an : List ℕ} {o : Outcome} (j : JudgeIs s l b p rw an o)
     {h : Sheet} {st : List Sort} {rows answers : List ℕ} (e : judged s l ≡ accepted h st rows answers) where
-  -- Its buffers: the rows stand first in the lent ones, and the sort of each number is read back.
+  -- Its buffers: rows and answers stand first in the lent ones, and the sort of each number is read back.
   row-here : (i : ℕ) → i < 2 * length (h .terms) → getD rw i 0 ≡ getD rows i 0
   unfolding judged rowsAfter padded
   row-here i low =
@@ -63,11 +64,20 @@ module _ {s : List ℕ} {l : Lengths} {b p rw an : List ℕ} {o : Outcome} (j : 
       ∙ List·getD-append rows (replicate (l .rows - length rows) 0) 0 i
       (omega (arith, judged-counts smtLib s l h st rows answers e .0))
 
+  answer-here : (k : ℕ) → k < length (h .questions) → getD an k 0 ≡ getD answers k 0
+  unfolding judged answersAfter padded
+  answer-here k low =
+      ap (λ (z : List ℕ). getD z k 0) (j .buffers .answers ∙ ap (answersAfter l) e)
+      ∙ List·getD-append answers (replicate (l .answers - length answers) 0) 0 k
+      (omega (arith, judged-counts smtLib s l h st rows answers e .1))
+
+  store-here : storeOf b p (length st) ≡ st
+  store-here = subst (λ (z : Judgement). ReadsBack z b p) e (j .buffers .reads) .back
+
   sort-here : (k : ℕ) → k < length st → sortAt b p (suc k) k ≡ getD st k leaf
   unfolding sortAt
   sort-here k low =
-      sort-made b p k (suc k) (omega arith) ∙ sym (sort-made b p k (length st) low)
-      ∙ ap (λ (z : List Sort). getD z k leaf) (subst (λ (z : Judgement). ReadsBack z b p) e (j .buffers .reads) .back)
+      sort-made b p k (suc k) (omega arith) ∙ sym (sort-made b p k (length st) low) ∙ ap (λ (z : List Sort). getD z k leaf) store-here
 
   free-here : (column : ℕ) → column < 2 → (t : ℕ) → t < length (h .terms) → free rw column (h .terms) t ≡ true → free rows column (h .terms) t ≡ true
   unfolding judged
@@ -143,6 +153,19 @@ module _ {s : List ℕ} {l : Lengths} {b p rw an : List ℕ} {o : Outcome} (j : 
       let same = row-here j e (2 * t + 0) (omega arith) in
       let (there, back) = row-panics-exactly s l h st rows answers e t low (free-here j e 0 (omega arith) t low f) in
       (λ k. there (sym same ∙ k), λ v. same ∙ back v)
+
+-- THE ANSWERS ON THE BYTES: each says what its question asks, over the sorts that are read from the records: 1 or 0 as two sorts are compatible;
+-- and where it is not 22 or 23, the sort or the cause of the question's verdict (`judged-answer`).
+pub judge-answers : {s : List ℕ} {l : Lengths} {b p rw an : List ℕ} {o : Outcome} → JudgeIs s l b p rw an o → {h : Sheet} {x : ℕ} → readSheet s l ≡ got h x
+    → (k : ℕ) → k < length (h .questions) → (n : ℕ) × Answers (storeOf b p n) (getD an k 0) (questionAt (h .questions) k)
+unfolding judged
+judge-answers {s} {l} {b} {p} {rw} {an} j {h} q k low =
+    let (st, rows, answers, e) = judgement s l q in (
+      length st,
+      subst (λ (z : List Sort). Answers z (getD an k 0) (questionAt (h .questions) k)) (sym (store-here j e))
+          (subst (λ (c : ℕ). Answers st c (questionAt (h .questions) k)) (sym (answer-here j e k low))
+          (judged-answer smtLib s l h st rows answers e k low)),
+    )
 
 -- DEMAND 3 ON THE BYTES (`two-routes`): for any two calls of `judge`, with bytes A and B that are read as the sheets hA and hB, so that it
 -- accepts both; any term t of A, and t′ of B whose tree is that of t with its sort variables replaced by σ; where σ's images hold no
