@@ -1,7 +1,7 @@
 -- A sort made in the store: the store after it, or that there is no room for it. What every answer that adds sorts
 -- promises, and how answers of several new sorts are put together.
 use Prim.Native.Nat.{ℕ, _≤_, _<_}
-use mathlib.Core.Path.{_≡_, refl, sym, ap, ap₂, subst, _∙_}
+use mathlib.Core.Path.{_≡_, refl, sym, ap, subst, _∙_}
 use mathlib.Core.Bool.{true, false}
 use mathlib.Core.List.{List}
 use native.Mathlib.Omega.{arith}
@@ -15,7 +15,7 @@ use Rattle.record.specs.SortLists.{index-found, Starts, starts-count, starts-by
 use Rattle.record.specs.StoreLaws.{storeOf-length}
 use Rattle.record.specs.Entries.{store-ordered}
 use Rattle.record.specs.Whole.{store-once}
-use Rattle.store.specs.Good.{Good, Kept, good-room}
+use Rattle.store.specs.Good.{Good, Kept}
 use Rattle.store.specs.Contract.{Untouched}
 use Rattle.store.specs.declared.Interned.{Interned}
 use Rattle.store.specs.declared.Interned.the-variants.{Is, NoRoom}
@@ -50,12 +50,6 @@ module _ (b p : List ℕ) (n u : ℕ) (s : Sort) (b′ p′ ix′ : List ℕ) (i
 
   pub made-more : n ≤ n′
   made-more = omega (arith, starts-count (storeOf b p n) (storeOf b′ p′ n′) made-starts, storeOf-length b p n, storeOf-length b′ p′ n′)
-
-  pub made-room : room (length b) (length p) (intern s (storeOf b p n)) ≡ true
-  made-room =
-      sym (ap₂ (λ (x y : ℕ). room x y (intern s (storeOf b p n))) (m .kept .long) (m .kept .wide))
-      ∙ ap (room (length b′) (length p′)) (sym (m .added))
-      ∙ good-room b′ p′ ix′ n′ u′ (m .good)
 
   pub made-there : memb s (storeOf b′ p′ n′) ≡ true
   made-there = ap (memb s) (m .added) ∙ memb-intern s (storeOf b p n)
