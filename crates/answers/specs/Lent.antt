@@ -6,7 +6,6 @@ use mathlib.Core.List.{List}
 use lib.ListN.{length}
 use lib.Dec.{eqb}
 use Rattle.record.specs.Sort.{Sort, Sorts, var, par, node}
-use Rattle.record.specs.Record.{leaf}
 use Rattle.record.specs.Decode.{storeOf, sortAt}
 use Rattle.sheet.specs.Sheet.{Lengths}
 use Rattle.substitution.specs.Premises.{parless}
@@ -16,7 +15,7 @@ use Rattle.rows.specs.Outcome.{Outcome}
 use Rattle.rows.specs.ParlessLaws.{ParlessVerdict, parlessEach, parless-at, parless-outcome}
 use Rattle.answers.specs.declared.Answer.{Answer}
 use Rattle.answers.specs.Answer.{AnswerIs}
-use Rattle.answers.specs.Heads.{Headed, plain, under, other, headIn}
+use Rattle.answers.specs.Heads.{plain, under, other, headIn}
 
 -- TABLES LENT OVER THE STORE of n sorts in b p: of all names and blank; or, as no sort of it has a Par, of any length and unused.
 pub data Lent (b p : List ℕ) (n : ℕ) (prm imgs bnd : List ℕ) : Type 0 where

@@ -7,15 +7,15 @@ use mathlib.Core.List.{List, [], _∷_}
 use mathlib.Core.Option.{Option, none, some}
 use lib.Dec.{eqb, leb, ltb}
 use Rattle.record.specs.Sort.{Sort, Sorts, var, par, node, end, _then_, bool, int, reglan, array, numberIn, count, same}
-use Rattle.record.specs.Cases.{and-left, and-right, conj, and-true, byTest, byOption, none-some, some-inj}
+use Rattle.record.specs.Cases.{and-left, conj, and-true, byTest, byOption, none-some, some-inj}
 use Rattle.substitution.specs.Substitution.{Map, empty, bind, find, apply, applyAll}
 use Rattle.substitution.specs.SubstitutionLaws.{proper-parless}
 use Rattle.substitution.specs.Matching.{matches, matchesAll}
 use Rattle.substitution.specs.MatchingLaws.{keep-rest, andThen-middle}
 use Rattle.substitution.specs.Premises.{proper, properAll, parless, parlessAll}
 use Rattle.rows.specs.declared.Cause.the-variants.{NoRank, Count, Misfit, Unassigned, Barred}
-use Rattle.rows.specs.Verdict.{Verdict, sort, orElse}
-use Rattle.rows.specs.Lists.{firsts, others, remaining, joined, bindingSorts}
+use Rattle.rows.specs.Verdict.{sort, orElse}
+use Rattle.rows.specs.Lists.{firsts, others, remaining, bindingSorts}
 use Rattle.rows.specs.Term.{Site}
 use Rattle.rows.specs.ParlessLaws.{ParlessVerdict, ParlessSite, parless-cond, parless-need, parless-others, parless-remaining, parless-last, parless-joined}
 use Rattle.checked.specs.Rank.{Rank, rank, vector, vectorsIn, patterns, every, answer, fit, firstFit, someCounts}

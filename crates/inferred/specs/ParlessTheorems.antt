@@ -19,7 +19,7 @@ use Rattle.rows.specs.ParlessLaws.{ParlessVerdict, ParlessSite, parless-cond, p
 use Rattle.inferred.specs.declared.Family.{Family}
 use Rattle.inferred.specs.declared.Family.the-variants.{Truth, Integer, Decimal, Text, Regular, Vector, OneBit, Bits, Constant, Concat, First, Second, Last, Sum, Element, RareList, Singleton, Tuple, UnitTuple, Transpose, Join, Product}
 use Rattle.inferred.specs.Family.{familyOf}
-use Rattle.inferred.specs.Inferred.{hasWidth, firstVector, concatUnknown, concatFrom, firstOf, secondOf, finalOf, constantWidth, someReal, sumOf, elementOf, rareOf, columns, overColumns, overBoth, relation, backwards, allButLast, joinOf, productOf, transposeOf, selected, singletonOf, operatedBy, plainApp, applied, chosen, lambda, bound, matched, extracted, resizedOf, resized, widthOf, indexed, inferred}
+use Rattle.inferred.specs.Inferred.{hasWidth, firstVector, concatUnknown, concatFrom, firstOf, secondOf, finalOf, constantWidth, someReal, sumOf, rareOf, columns, overColumns, overBoth, relation, backwards, allButLast, joinOf, productOf, transposeOf, selected, singletonOf, operatedBy, plainApp, applied, chosen, lambda, bound, matched, extracted, resized, widthOf, indexed, inferred}
 
 ---------------------------------------------------------------- operators
 vector-parless : (ss : Sorts) → parlessAll ss ≡ true → ParlessVerdict (firstVector ss)

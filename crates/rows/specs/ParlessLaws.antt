@@ -1,7 +1,7 @@
 -- NO PAR: verdicts, records and stores in which none stands, what keeps it so in lists of sorts, and that a row leaves a store
 -- without a Par as it found it in this.
 use Prim.Native.Nat.{ℕ, zero, suc, _+_, _*_}
-use mathlib.Core.Path.{_≡_, refl, sym, subst}
+use mathlib.Core.Path.{_≡_, refl}
 use mathlib.Core.Bool.{Bool, true, false, cond, _&&_, false≢true}
 use mathlib.Core.List.{List, [], _∷_, _++_}
 use mathlib.Core.Option.{Option, none, some}
@@ -9,7 +9,7 @@ use lib.ListN.{getD}
 use lib.Dec.{ltb}
 use Rattle.record.specs.Sort.{Sort, Sorts, var, par, node, end, _then_}
 use Rattle.record.specs.Record.{leaf, sortsOf}
-use Rattle.record.specs.Store.{memb, addOnce, intern, internAll, room}
+use Rattle.record.specs.Store.{memb, addOnce, intern, internAll}
 use Rattle.record.specs.Cases.{and-left, and-right, conj, and-true, byTest, byOption, none-some, some-inj}
 use Rattle.sheet.specs.Sheet.{Lengths, Binding, bindingsOf}
 use Rattle.substitution.specs.Premises.{parless, parlessAll}
@@ -18,7 +18,7 @@ use Rattle.rows.specs.declared.Cause.the-variants.{Limit, Full}
 use Rattle.rows.specs.Verdict.{Verdict, sort, refused, need}
 use Rattle.rows.specs.Lists.{others, remaining, lastOf, joined, appended, bindingSorts}
 use Rattle.rows.specs.Term.{Site, overParts, sortsAt}
-use Rattle.rows.specs.Outcome.{within, outcome, numbered, inLimits, hasRoom, rowSort}
+use Rattle.rows.specs.Outcome.{outcome, numbered, inLimits, hasRoom, rowSort}
 
 ---------------------------------------------------------------- definitions
 -- A verdict's sort has no Par in it; a refusal has no sort.
