@@ -19,7 +19,7 @@ use Rattle.inference.specs.Terms.{constant, variable, qualified, PlainAs
 use Rattle.inference.proofs.IndexedLaws.{after}
 use Rattle.inference.proofs.TermLaws.{site-app}
 
-module _ {b p ix : List ℕ} {n u : ℕ} {prm imgs bnd s tbl xs rows : List ℕ} {r : TermRecord} {a : List ℕ} (h : SiteAsks b p ix n u prm imgs bnd s tbl xs rows r a) where
+module _ {b p ix : List ℕ} {n u : ℕ} {prm imgs bnd s tbl xs : List ℕ} {r : TermRecord} {a : List ℕ} (h : SiteAsks b p ix n u prm imgs bnd s tbl xs r a) where
   pub app-asks : AppAsks b p ix n u prm imgs bnd a (r .count)
   app-asks =
       record { good = h .asks .good; zeroed = h .asks .zeroed; few = count-few (h .asks .standing); room = h .asks .room; below = h .below }

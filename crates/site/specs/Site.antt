@@ -95,8 +95,9 @@ pub record TermIs (J : Site → Verdict) (column : ℕ) (b p : List ℕ) (n : �
   pub images : imgs′ ≡ imgs
   pub bound : bnd′ ≡ bnd
 
--- The same once the arguments' numbers stand in a.
-pub record SiteAsks (b p ix : List ℕ) (n u : ℕ) (prm imgs bnd s tbl xs rows : List ℕ) (r : TermRecord) (a : List ℕ) : Type 0 where
+-- The same once the arguments' numbers stand in a, whatever the rows are.
+pub record SiteAsks (b p ix : List ℕ) (n u : ℕ) (prm imgs bnd s tbl xs : List ℕ) (r : TermRecord) (a : List ℕ) : Type 0 where
+  pub rows : List ℕ
   pub asks : TermAsks b p ix n u prm imgs bnd s tbl xs rows r a
   pub below : (j : ℕ) → j < r .count → u16At a (3 + 2 * j) < n
 
