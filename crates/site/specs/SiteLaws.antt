@@ -41,7 +41,7 @@ pub parts-site : {b p ix : List ℕ} {n u : ℕ} {prm imgs bnd s tbl xs rows : L
 parts-site {n = n} {tbl = tbl} {xs = xs} {rows = rows} h e on d =
     record {
       rows = rows;
-      asks = record { good = h .good; zeroed = h .zeroed; standing = h .standing; room = omega (arith, e, h .room) };
+      asks = record { good = h .good; tables = h .tables; standing = h .standing; room = omega (arith, e, h .room) };
       below = d .below on n tbl xs (h .standing);
     }
 

@@ -32,7 +32,7 @@ returns c =
 application-requires : tie.Need-application-requires
 application-requires c κs =
     let s = c .before .before .before .before .before .before .before .before .before .before .before .before .before .before .before .before .before .before .before in
-    record { good = s .pre .asks .good; zeroed = s .pre .asks .zeroed; few = count-few (s .pre .asks .standing); room = s .pre .asks .room; below = s .pre .below }
+    record { good = s .pre .asks .good; tables = s .pre .asks .tables; few = count-few (s .pre .asks .standing); room = s .pre .asks .room; below = s .pre .below }
 
 returns-2 : tie.Need-returns-2
 returns-2 c =
