@@ -7,7 +7,7 @@ use native.Mathlib.Omega.{arith}
 use lib.ListN.{length, getD}
 use Rattle.record.specs.Number.{u16At, numbersAt}
 use Rattle.record.specs.Codec.{length-numbersAt}
-use Rattle.record.specs.Sort.{Sort, count, size, sizes}
+use Rattle.record.specs.Sort.{Sort, _then_, count, size, sizes}
 use Rattle.record.specs.Record.{leaf, sortsOf}
 use Rattle.record.specs.Sizes.{count-sorts}
 use Rattle.matching.specs.Contract.{Refs}
