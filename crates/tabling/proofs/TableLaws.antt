@@ -442,7 +442,6 @@ module _ {b p ix : List ℕ} {n u : ℕ} {prm imgs bnd s tbl : List ℕ} {m : �
               ∙ ap₂ (λ (x y : List ℕ). x ++ y) (sym (ap (λ (r : Tabled). r .rows) (whole e l f g)))
               (subst (λ (k : ℕ). drop (2 * k) rows′ ≡ drop (2 * k) rows) e (a .rest));
           starts = a .starts;
-          tables = a .tables;
           params = a .params;
           images = a .images;
           bound = a .bound;
