@@ -10,9 +10,9 @@ use Rattle.answers.specs.Answer.{refusing}
 use Rattle.answers.specs.AnswerLaws.{judged-as, answered-as, answer-refused}
 use Rattle.application.specs.Contract.{AppIs}
 
-pub app-refused : (b p ix : List ℕ) (n u : ℕ) (prm imgs bnd : List ℕ) → Good b p ix n u → (v : Verdict) (o : Cause) → v ≡ refused o → (r : Answer) → r ≡ refusing o n u
+pub app-refused : {b p ix : List ℕ} {n u : ℕ} {prm imgs bnd : List ℕ} {v : Verdict} {r : Answer} → Good b p ix n u → (o : Cause) → v ≡ refused o → r ≡ refusing o n u
     → AppIs v b p n prm imgs bnd b p ix prm imgs bnd r
-app-refused b p ix n u prm imgs bnd good v o e r g =
+app-refused {b} {p} {ix} {n} {u} good o e g =
     record { answer = judged-as e (answered-as g (answer-refused b p ix n u good o)); params = refl; images = refl; bound = refl }
 
 pub app-as : {b p : List ℕ} {n : ℕ} {prm imgs bnd b′ p′ ix′ prm′ imgs′ bnd′ : List ℕ} {r : Answer} {v w : Verdict} → v ≡ w

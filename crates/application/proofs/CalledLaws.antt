@@ -15,25 +15,25 @@ use Rattle.substitution.specs.Substitution.{Map, empty, apply}
 use Rattle.substitution.specs.Matching.{matchesAll, listedIn}
 use Rattle.matching.specs.declared.Matched.{Matched}
 use Rattle.matching.specs.declared.Matched.the-variants.{Fits, Misfits}
-use Rattle.matching.specs.Tables.{Told, listed, Added, mapOf, Mapped, Cleared}
+use Rattle.matching.specs.Tables.{Told, listed, Lists, Added, mapOf}
 use Rattle.matching.specs.TableLaws.{listed-is, added-back, cleared-mapped, cleared-map, cleared-images, cleared-bound}
 use Rattle.matching.specs.Contract.{sortsAt, AddAsks, TakeAsks, MatchAllAsks, MatchAllIs, Answered}
 use Rattle.matching.specs.Entered.{good-usable}
-use Rattle.rows.specs.declared.Cause.{Cause}
 use Rattle.rows.specs.declared.Cause.the-variants.{Count, Misfit, Unassigned}
 use Rattle.rows.specs.Verdict.{Verdict, sort, refused, need}
 use Rattle.rows.specs.Lists.{firsts, others, remaining}
 use Rattle.checked.specs.Checked.{values, delivered, called}
 use Rattle.answers.specs.declared.Answer.{Answer}
+use Rattle.answers.specs.declared.heads.Callee.{Callee}
 use Rattle.answers.specs.Answer.{refusing}
-use Rattle.answers.specs.AnswerLaws.{judged-as, answered-as, answer-refused}
+use Rattle.answers.specs.AnswerLaws.{judged-as}
+use Rattle.answers.specs.Heads.{calleeNames, calleeSorts}
 use Rattle.answers.specs.Values.{ValuesAsk, ValuesHave}
-use Rattle.instance.specs.Rest.{RestAsks, RestIs}
 use Rattle.instance.specs.Mapped.{mapped-images}
-use Rattle.application.specs.declared.called.Call.{Call}
-use Rattle.application.specs.declared.called.Call.the-variants.{Settled, Unsettled, Misfits as Fails}
-use Rattle.application.specs.Contract.{AppIs, SettledAllAsks, SettledAllIs, FitAsks, FitIs, FittedAsks, FittedIs, restAt, deliveredAt, boundIn, callOf, CalledAsks, LentAsks, DeliverAsks, Plain, PlainAsks, PlainIs}
-use Rattle.application.proofs.AppLaws.{app-refused, app-as}
+use Rattle.application.specs.declared.delivered.Call.{Call}
+use Rattle.application.specs.declared.delivered.Call.the-variants.{Settled, Fails}
+use Rattle.application.specs.Contract.{AppIs, SettledAllAsks, SettledAllIs, FitAsks, FitIs, FittedAsks, CallIs, restAt, deliveredAt, CalledAsks, DeliverAsks, DeliverIs, Plain, PlainAsks, PlainIs}
+use Rattle.application.proofs.AppLaws.{app-refused}
 use Rattle.application.proofs.ListLaws.{count-at, firsts-at, others-at, refs-part, refs-behind}
 use Rattle.application.proofs.SettledLaws.{settled-remaining}
 use Rattle.application.proofs.TableLaws.{add-asks, take-asks, listed-names}
@@ -116,14 +116,14 @@ module _ {b p : List ℕ} {n : ℕ} {prm imgs bnd : List ℕ} {x m : ℕ} {a : L
             verdict = λ f q. by-test f q ∙ ap (λ (z : Bool). need z Unassigned (sort (apply θ (restAt b p n x m k)))) o;
           }
 
-      pub fit-unsettled : t ≡ false → FitIs b p n prm x m a k l d (Unsettled c)
+      pub fit-unsettled : t ≡ false → FitIs b p n prm x m a k l d (Fails Unassigned c)
       fit-unsettled o =
           record {
             mapped = found-as (Fits c) e (listed prm) told .mapped;
             verdict = λ f q. by-test f q ∙ ap (λ (z : Bool). need z Unassigned (sort (apply θ (restAt b p n x m k)))) o;
           }
 
-    pub fit-fails : (c : ℕ) → r ≡ Misfits c → FitIs b p n prm x m a k l d (Fails c)
+    pub fit-fails : (c : ℕ) → r ≡ Misfits c → FitIs b p n prm x m a k l d (Fails Misfit c)
     fit-fails c e =
         record {
           mapped = found-as (Misfits c) e (listed prm) told .mapped;
@@ -131,12 +131,15 @@ module _ {b p : List ℕ} {n : ℕ} {prm imgs bnd : List ℕ} {x m : ℕ} {a : L
         }
 
 ---------------------------------------------------------------- listing the names and taking them off
-module _ {b p : List ℕ} {n : ℕ} {prm imgs bnd : List ℕ} {x m y q : ℕ} {a : List ℕ} {k : ℕ} (h : FittedAsks b p n prm imgs bnd x m y q a k) where
-  pub fitted-add : AddAsks prm b y q
-  fitted-add = add-asks prm (h .fit .table) (h .zeros) b y q (h .names) (h .named)
+module _ {b p : List ℕ} {n : ℕ} {prm imgs bnd : List ℕ} {f : Callee} {a : List ℕ} {k : ℕ} (h : FittedAsks b p n prm imgs bnd f a k) where
+  abbrev vs : List ℕ
+  vs = calleeNames b f
 
-  module _ {o : List ℕ} (t : Added prm (numbersAt b y q) o) where
-    pub fit-asks : FitAsks b p n o imgs bnd x m a k
+  pub fitted-add : AddAsks prm b (f .names) (f .named)
+  fitted-add = add-asks prm (h .fit .table) (h .zeros) b (f .names) (f .named) (h .names) (h .named)
+
+  module _ {o : List ℕ} (t : Added prm vs o) where
+    pub fit-asks : FitAsks b p n o imgs bnd (f .list) (f .count) a k
     fit-asks =
         record {
           usable = h .fit .usable;
@@ -147,130 +150,91 @@ module _ {b p : List ℕ} {n : ℕ} {prm imgs bnd : List ℕ} {x m y q : ℕ} {a
           fewer = h .fit .fewer;
         }
 
-    pub fitted-take : TakeAsks o b y q
-    fitted-take = take-asks prm (h .fit .table) (h .zeros) b y q (h .names) (h .named) t
+    pub fitted-take : TakeAsks o b (f .names) (f .named)
+    fitted-take = take-asks prm (h .fit .table) (h .zeros) b (f .names) (f .named) (h .names) (h .named) t
 
-    pub fitted-is : (l d : List ℕ) (r : Call) → FitIs b p n o x m a k l d r → {prm′ : List ℕ} → Added prm′ (numbersAt b y q) o → FittedIs b p n prm x m y q a k prm′ l d r
-    fitted-is l d r w {prm′} z =
-        let vs = numbersAt b y q in
-        record {
-          params = added-back prm vs o prm′ t z;
-          mapped = w .mapped;
-          verdict = w .verdict (listedIn vs) (listed-is o vs (listed-names prm (h .fit .table) (h .zeros) b y q (h .names) (h .named) t));
-        }
+    pub fitted-lists : Lists o vs
+    fitted-lists = listed-names prm (h .fit .table) (h .zeros) b (f .names) (f .named) (h .names) (h .named) t
 
----------------------------------------------------------------- what remains, delivered
-module _ (b p ix : List ℕ) (n u : ℕ) (prm imgs bnd : List ℕ) (x m y q : ℕ) (a : List ℕ) (k : ℕ) where
-  module _ (h : DeliverAsks b p ix n u prm imgs bnd x m y q a k) where
-    pub fitted-asks : FittedAsks b p n prm imgs bnd x m y q a k
+    pub fitted-is : {l d : List ℕ} {r : Call} → FitIs b p n o (f .list) (f .count) a k l d r → {prm′ : List ℕ} → Added prm′ vs o
+        → CallIs (deliveredAt (listedIn vs) b p n (f .list) (f .count) a k) b p n prm f k prm′ l d r
+    fitted-is w {prm′} z =
+        record { params = added-back prm vs o prm′ t z; mapped = w .mapped; verdict = w .verdict (listedIn vs) (listed-is o vs fitted-lists) }
+
+---------------------------------------------------------------- a head at its arguments
+module _ {b p ix : List ℕ} {n u : ℕ} {prm imgs bnd : List ℕ} {f : Callee} {a : List ℕ} {k : ℕ} (h : CalledAsks b p ix n u prm imgs bnd f a k) where
+  pub values-ask : ValuesAsk b p a 5 k
+  values-ask = record { many = n; stored = h .good .stored; refs = h .args }
+
+  abbrev names : ℕ → Bool
+  names = listedIn (calleeNames b f)
+
+  abbrev verdictOf : Verdict
+  verdictOf = called names (some (calleeSorts b p n f)) (sortsAt b p n a 5 k)
+
+  pub called-count : f .count ≤ k → {r : Answer} → r ≡ refusing Count n u → AppIs verdictOf b p n prm imgs bnd b p ix prm imgs bnd r
+  called-count l = app-refused (h .good) Count (called-over b p n (f .list) (f .count) a k names l)
+
+  -- With parameters, at no more arguments than the list has sorts.
+  module _ (l : k ≤ f .count) (q : f .named ≡ 0 → ⊥) where
+    pub fitted-asks : FittedAsks b p n prm imgs bnd f a k
     fitted-asks =
-        let c = h .called in
+        let blank = h .blank q in
         record {
           fit =
               record {
-                usable = good-usable b p ix n u (c .good);
-                table = h .blank .table;
-                cleared = h .blank .cleared;
-                list = c .list;
-                args = c .args;
-                fewer = h .fewer;
+                usable = good-usable b p ix n u (h .good);
+                table = blank .table;
+                cleared = blank .cleared;
+                list = h .list;
+                args = h .args;
+                fewer = l;
               };
-          zeros = h .blank .zeros;
-          names = c .names;
-          named = c .named;
+          zeros = blank .zeros;
+          names = h .names;
+          named = h .named;
         }
 
-    -- Over tables that bind some names.
-    pub rest-asks : {l d : List ℕ} {c : ℕ} → Mapped b p n l d c → RestAsks b p ix n u l (x + 2 * k) (m - k)
-    rest-asks {l} {d} {c} w =
-        let r = refs-behind k (h .called .list) (h .fewer) in
-        record {
-          ready = record { good = h .called .good; table = record { long = w .tabled .names; below = w .below } };
-          within = r .within;
-          below = r .below;
-          few = omega (arith, h .called .few);
-        }
+    module _ {w : Verdict} {prm′ l′ d′ : List ℕ} {c : Call} (g : CallIs w b p n prm f k prm′ l′ d′ c) where
+      pub deliver-asks : DeliverAsks b p ix n u l′ d′ f k c
+      deliver-asks = record { good = h .good; list = h .list; few = h .few; fewer = l; mapped = g .mapped }
 
-    module _ {prm′ l d : List ℕ} {c : Call} (w : FittedIs b p n prm x m y q a k prm′ l d c) where
-      pub call-mapped : (j : ℕ) → boundIn c ≡ j → Mapped b p n l d j
-      call-mapped j e = subst (λ (i : ℕ). Mapped b p n l d i) e (w .mapped)
+      -- THE ANSWER TO THE CALL is the App's, with the tables as they were.
+      pub app-delivered : {v : Verdict} → v ≡ w → {b′ p′ ix′ l″ d″ : List ℕ} {r : Answer} → DeliverIs b p n l′ d′ f k c b′ p′ ix′ l″ d″ r
+          → AppIs v b p n prm imgs bnd b′ p′ ix′ prm′ l″ d″ r
+      app-delivered e {l″ = l″} {d″ = d″} i =
+          let blank = h .blank q in
+          record {
+            answer = judged-as (e ∙ g .verdict) (i .answer);
+            params = g .params;
+            images = cleared-images imgs bnd l″ d″ (blank .cleared) (i .cleared);
+            bound = cleared-bound imgs bnd l″ d″ (blank .cleared) (i .cleared);
+          }
 
-      abbrev verdict : Verdict
-      verdict = deliveredAt (listedIn (numbersAt b y q)) b p n x m a k
+  module _ (l : k < f .count) where
+    -- Without parameters.
+    pub plain-asks : PlainAsks b p ix n u (f .list) (f .count) a k
+    plain-asks = record { good = h .good; list = h .list; few = h .few; args = h .args; fewer = l }
 
-      module _ {l′ d′ : List ℕ} (z : Cleared l′ d′) where
-        pub delivered-made : (j : ℕ) → c ≡ Settled j → (b′ p′ ix′ : List ℕ) (r : Answer) → RestIs b p n l (x + 2 * k) (m - k) b′ p′ ix′ r
-            → AppIs verdict b p n prm imgs bnd b′ p′ ix′ prm′ l′ d′ r
-        delivered-made j e b′ p′ ix′ r g =
-            record {
-              answer =
-                  judged-as (w .verdict ∙ ap (callOf (storeOf b p n) l d (restAt b p n x m k)) e)
-                  (g (mapOf (storeOf b p n) l d j) (mapped-images b p n l d j (call-mapped j (ap boundIn e))));
-              params = w .params;
-              images = cleared-images imgs bnd l′ d′ (h .blank .cleared) z;
-              bound = cleared-bound imgs bnd l′ d′ (h .blank .cleared) z;
-            }
+    plain-names : (i : ℕ) → i ≡ 0 → Plain (listedIn (numbersAt b (f .names) i))
+    unfolding numbersAt member
+    plain-names zero e v = refl
+    plain-names (suc i) e v = absurd (omega arith)
 
-        delivered-refused : (o : Cause) → callOf (storeOf b p n) l d (restAt b p n x m k) c ≡ refused o → (r : Answer) → r ≡ refusing o n u
-            → AppIs verdict b p n prm imgs bnd b p ix prm′ l′ d′ r
-        delivered-refused o e r g =
-            record {
-              answer = judged-as (w .verdict ∙ e) (answered-as g (answer-refused b p ix n u (h .called .good) o));
-              params = w .params;
-              images = cleared-images imgs bnd l′ d′ (h .blank .cleared) z;
-              bound = cleared-bound imgs bnd l′ d′ (h .blank .cleared) z;
-            }
+    pub called-plain : f .named ≡ 0 → {b′ p′ ix′ : List ℕ} {r : Answer} → PlainIs b p n (f .list) (f .count) a k b′ p′ ix′ r
+        → AppIs verdictOf b p n prm imgs bnd b′ p′ ix′ prm imgs bnd r
+    called-plain e g = record { answer = g names (plain-names (f .named) e); params = refl; images = refl; bound = refl }
 
-        pub delivered-unsettled : (j : ℕ) → c ≡ Unsettled j → (r : Answer) → r ≡ refusing Unassigned n u → AppIs verdict b p n prm imgs bnd b p ix prm′ l′ d′ r
-        delivered-unsettled j e = delivered-refused Unassigned (ap (callOf (storeOf b p n) l d (restAt b p n x m k)) e)
+    -- With parameters, by whether an argument is a Par.
+    module _ {t : Bool} (v : ValuesHave b p a 5 k t) where
+      by-values : verdictOf ≡ need t Misfit (deliveredAt names b p n (f .list) (f .count) a k)
+      by-values =
+          called-under b p n (f .list) (f .count) a k names l
+          ∙ ap (λ (z : Bool). need z Misfit (deliveredAt names b p n (f .list) (f .count) a k)) (sym (v n (h .good .stored) (h .args)))
 
-        pub delivered-fails : (j : ℕ) → c ≡ Fails j → (r : Answer) → r ≡ refusing Misfit n u → AppIs verdict b p n prm imgs bnd b p ix prm′ l′ d′ r
-        delivered-fails j e = delivered-refused Misfit (ap (callOf (storeOf b p n) l d (restAt b p n x m k)) e)
+      pub called-misfit : t ≡ false → {r : Answer} → r ≡ refusing Misfit n u → AppIs verdictOf b p n prm imgs bnd b p ix prm imgs bnd r
+      called-misfit e =
+          app-refused (h .good) Misfit (by-values ∙ ap (λ (z : Bool). need z Misfit (deliveredAt names b p n (f .list) (f .count) a k)) e)
 
-  ---------------------------------------------------------------- a head at its arguments
-  module _ (h : CalledAsks b p ix n u prm imgs bnd x m y q a k) where
-    pub values-ask : ValuesAsk b p a 5 k
-    values-ask = record { many = n; stored = h .good .stored; refs = h .args }
-
-    abbrev f : ℕ → Bool
-    f = listedIn (numbersAt b y q)
-
-    abbrev verdictOf : Verdict
-    verdictOf = called f (some (sortsAt b p n b x m)) (sortsAt b p n a 5 k)
-
-    pub called-count : m ≤ k → (r : Answer) → r ≡ refusing Count n u → AppIs verdictOf b p n prm imgs bnd b p ix prm imgs bnd r
-    called-count l = app-refused b p ix n u prm imgs bnd (h .good) verdictOf Count (called-over b p n x m a k f l)
-
-    module _ (l : k < m) where
-      -- Without parameters.
-      pub plain-asks : PlainAsks b p ix n u x m a k
-      plain-asks = record { good = h .good; list = h .list; few = h .few; args = h .args; fewer = l }
-
-      plain-names : (i : ℕ) → i ≡ 0 → Plain (listedIn (numbersAt b y i))
-      unfolding numbersAt member
-      plain-names zero e v = refl
-      plain-names (suc i) e v = absurd (omega arith)
-
-      pub called-plain : q ≡ 0 → (b′ p′ ix′ : List ℕ) (r : Answer) → PlainIs b p n x m a k b′ p′ ix′ r
-          → AppIs verdictOf b p n prm imgs bnd b′ p′ ix′ prm imgs bnd r
-      called-plain e b′ p′ ix′ r g = record { answer = g f (plain-names q e); params = refl; images = refl; bound = refl }
-
-      -- With parameters, by whether an argument is a Par.
-      pub lent-asks : LentAsks b p ix n u prm imgs bnd x m y q a k
-      lent-asks = record { called = h; fewer = omega arith }
-
-      module _ (t : Bool) (v : ValuesHave b p a 5 k t) where
-        by-values : verdictOf ≡ need t Misfit (deliveredAt f b p n x m a k)
-        by-values =
-            called-under b p n x m a k f l ∙ ap (λ (z : Bool). need z Misfit (deliveredAt f b p n x m a k)) (sym (v n (h .good .stored) (h .args)))
-
-        pub called-misfit : t ≡ false → (r : Answer) → r ≡ refusing Misfit n u → AppIs verdictOf b p n prm imgs bnd b p ix prm imgs bnd r
-        called-misfit e =
-            app-refused b p ix n u prm imgs bnd (h .good) verdictOf Misfit
-            (by-values ∙ ap (λ (z : Bool). need z Misfit (deliveredAt f b p n x m a k)) e)
-
-        pub called-delivered : t ≡ true → {b′ p′ ix′ prm′ l′ d′ : List ℕ} {r : Answer}
-            → AppIs (deliveredAt f b p n x m a k) b p n prm imgs bnd b′ p′ ix′ prm′ l′ d′ r
-            → AppIs verdictOf b p n prm imgs bnd b′ p′ ix′ prm′ l′ d′ r
-        called-delivered e {b′} {p′} {ix′} {prm′} {l′} {d′} {r} g =
-            app-as (by-values ∙ ap (λ (z : Bool). need z Misfit (deliveredAt f b p n x m a k)) e) g
+      pub called-values : t ≡ true → verdictOf ≡ deliveredAt names b p n (f .list) (f .count) a k
+      called-values e = by-values ∙ ap (λ (z : Bool). need z Misfit (deliveredAt names b p n (f .list) (f .count) a k)) e

@@ -11,7 +11,7 @@ use Rattle.record.specs.Number.{u16At, numbersAt}
 use Rattle.record.specs.Codec.{length-numbersAt, number-at}
 use Rattle.record.specs.Sort.{Sort, Sorts, var, par, node, end, _then_, size}
 use Rattle.record.specs.Record.{Fields, leaf, sortsOf, sortOf}
-use Rattle.record.specs.Decode.{fieldsAt, Shape, Below, storeOf, sortAt, Stored}
+use Rattle.record.specs.Decode.{Shape, Below, storeOf, sortAt, Stored}
 use Rattle.record.specs.Forms.{Which, isVar, isPar, isNode, which, sort-var, sort-par, sort-other, par-one}
 use Rattle.record.specs.Cases.{and-left}
 use Rattle.record.specs.StoreLaws.{sort-node, sorts-one}

@@ -14,6 +14,7 @@ use Rattle.record.specs.Decode.{storeOf, sortAt}
 use Rattle.substitution.specs.Substitution.{empty}
 use Rattle.substitution.specs.Matching.{listedIn}
 use Rattle.substitution.specs.MatchWith.{matchAllWith}
+use Rattle.matching.specs.Tables.{Blank}
 use Rattle.matching.specs.Contract.{Refs, sortsAt}
 use Rattle.matching.specs.Entered.{sorts-end, sorts-more}
 use Rattle.rows.specs.declared.Cause.the-variants.{Panics, Count, Misfit}
@@ -21,11 +22,13 @@ use Rattle.rows.specs.Verdict.{Verdict, sort, refused, need}
 use Rattle.rows.specs.Lists.{firsts, others, remaining}
 use Rattle.inferred.specs.Inferred.{substituted, plainApp, parametricApp, headApp, applied}
 use Rattle.checked.specs.Checked.{parameters, listOf, called, application}
+use Rattle.answers.specs.declared.heads.Callee.{Callee}
 use Rattle.answers.specs.declared.heads.Head.{Head}
 use Rattle.answers.specs.declared.heads.Head.the-variants.{Function, NoFunction}
-use Rattle.answers.specs.Heads.{Headed, plain, under, other, headIn, headOver, HeadAsks, FunctionIs, HeadIs, HeadHas}
+use Rattle.answers.specs.Heads.{Headed, plain, under, other, headIn, headOver, calleeNames, calleeSorts, HeadAsks, FunctionIs, HeadIs, HeadHas}
 use Rattle.answers.specs.Asks.{RemainingAsks}
-use Rattle.application.specs.Contract.{AppAsks, CalledAsks, LentParametricAsks, restAt, substitutedAt}
+use Rattle.answers.specs.Lent.{lent-under}
+use Rattle.application.specs.Contract.{AppAsks, CalledAsks, ParametricAsks, restAt, substitutedAt}
 use Rattle.application.proofs.ListLaws.{count-at, firsts-at, others-at, refs-behind, refs-args}
 
 ---------------------------------------------------------------- the checked verdict by the head
@@ -163,21 +166,27 @@ module _ {b p ix : List ℕ} {n u : ℕ} {prm imgs bnd a : List ℕ} {m : ℕ} (
       pub applied-other : r ≡ NoFunction → applied (sortsAt b p n a 3 m) ≡ refused Panics
       applied-other g = by-applied ∙ ap (λ (z : Headed). appliedOf z ts) (subst (HeadIs b p n i) g is)
 
-      module _ (x c y q : ℕ) (g : r ≡ Function x c y q) where
-        function : FunctionIs b p n i x c y q
+      module _ (f : Callee) (g : r ≡ Function f) where
+        function : FunctionIs b p n i f
         function = subst (HeadIs b p n i) g is
 
         abbrev ss : Sorts
-        ss = sortsAt b p n b x c
+        ss = calleeSorts b p n f
 
-        refs : Refs b x c n
+        refs : Refs b (f .list) (f .count) n
         refs = record { within = function .list; below = λ j l. omega (arith, function .below j l, known) }
 
-        pub called-asks : CalledAsks b p ix n u prm imgs bnd x c y q a (m - 1)
+        -- A head with parameters is a Par of the store, so the tables have all names.
+        named-blank : (q : ℕ) → headIn (sortAt b p n i) ≡ headOver (numbersAt b (f .names) q) ss → (q ≡ 0 → ⊥) → Blank prm imgs bnd
+        unfolding numbersAt
+        named-blank zero e d = absurd (d refl)
+        named-blank (suc q) e d = lent-under (h .tables) i (numbersAt b (f .names) (suc q)) ss e
+
+        pub called-asks : CalledAsks b p ix n u prm imgs bnd f a (m - 1)
         called-asks =
             record {
               good = h .good;
-              zeroed = h .zeroed;
+              blank = named-blank (f .named) (function .head);
               list = refs;
               few = function .few;
               names = function .names;
@@ -185,30 +194,31 @@ module _ {b p ix : List ℕ} {n u : ℕ} {prm imgs bnd a : List ℕ} {m : ℕ} (
               args = refs-args a n m (h .few) (h .room) (h .below);
             }
 
-        pub app-called : 2 ≤ m → application (sortsAt b p n a 3 m) ≡ called (listedIn (numbersAt b y q)) (some ss) ts
-        app-called l =
-            by-called l ∙ ap (λ (z : Headed). calledOf z ts) (function .head) ∙ called-over (numbersAt b y q) ss ts
+        pub app-called : 2 ≤ m → application (sortsAt b p n a 3 m) ≡ called (listedIn (calleeNames b f)) (some ss) ts
+        app-called l = by-called l ∙ ap (λ (z : Headed). calledOf z ts) (function .head) ∙ called-over (calleeNames b f) ss ts
 
         -- More arguments than sorts, a plain head, a head under a Par.
-        counted : (v : Verdict) → need (leb (count ts) (count ss)) Panics v ≡ need (leb (m - 1) c) Panics v
-        counted v = ap₂ (λ (i j : ℕ). need (leb i j) Panics v) (count-at (storeOf b p n) a 5 (m - 1)) (count-at (storeOf b p n) b x c)
+        counted : (v : Verdict) → need (leb (count ts) (count ss)) Panics v ≡ need (leb (m - 1) (f .count)) Panics v
+        counted v =
+            ap₂ (λ (i j : ℕ). need (leb i j) Panics v) (count-at (storeOf b p n) a 5 (m - 1)) (count-at (storeOf b p n) b (f .list) (f .count))
 
-        by-head : applied (sortsAt b p n a 3 m) ≡ appliedOf (headOver (numbersAt b y q) ss) ts
+        by-head : applied (sortsAt b p n a 3 m) ≡ appliedOf (headOver (calleeNames b f) ss) ts
         by-head = by-applied ∙ ap (λ (z : Headed). appliedOf z ts) (function .head)
 
-        over-many : (vs : List ℕ) → c < m - 1 → appliedOf (headOver vs ss) ts ≡ refused Panics
+        over-many : (vs : List ℕ) → f .count < m - 1 → appliedOf (headOver vs ss) ts ≡ refused Panics
         unfolding plainApp parametricApp
         over-many [] l =
-            counted (sort (remaining (others ss ts))) ∙ ap (λ (t : Bool). need t Panics (sort (remaining (others ss ts)))) (lt-leb (m - 1) c l)
+            counted (sort (remaining (others ss ts)))
+            ∙ ap (λ (t : Bool). need t Panics (sort (remaining (others ss ts)))) (lt-leb (m - 1) (f .count) l)
         over-many (v ∷ vs) l =
             let s = substituted (remaining (others ss ts)) (matchAllWith (v ∷ vs) (firsts ss ts) ts empty) in
-            counted s ∙ ap (λ (t : Bool). need t Panics s) (lt-leb (m - 1) c l)
+            counted s ∙ ap (λ (t : Bool). need t Panics s) (lt-leb (m - 1) (f .count) l)
 
-        pub applied-many : c < m - 1 → applied (sortsAt b p n a 3 m) ≡ refused Panics
-        applied-many l = by-head ∙ over-many (numbersAt b y q) l
+        pub applied-many : f .count < m - 1 → applied (sortsAt b p n a 3 m) ≡ refused Panics
+        applied-many l = by-head ∙ over-many (calleeNames b f) l
 
-        module _ (l : m - 1 ≤ c) where
-          pub remaining-asks : RemainingAsks b p ix n u a (x + 2 * (m - 1)) (c - (m - 1))
+        module _ (l : m - 1 ≤ f .count) where
+          pub remaining-asks : RemainingAsks b p ix n u a (f .list + 2 * (m - 1)) (f .count - (m - 1))
           remaining-asks =
               let behind = refs-behind (m - 1) refs l in
               record {
@@ -219,33 +229,35 @@ module _ {b p ix : List ℕ} {n u : ℕ} {prm imgs bnd a : List ℕ} {m : ℕ} (
                 few = omega (arith, function .few);
               }
 
-          pub applied-rest : q ≡ 0 → applied (sortsAt b p n a 3 m) ≡ sort (restAt b p n x c (m - 1))
+          pub applied-rest : f .named ≡ 0 → applied (sortsAt b p n a 3 m) ≡ sort (restAt b p n (f .list) (f .count) (m - 1))
           unfolding plainApp
           applied-rest z =
-              by-head ∙ applied-plain b y q ss ts z ∙ counted (sort (remaining (others ss ts)))
-              ∙ ap (λ (t : Bool). need t Panics (sort (remaining (others ss ts)))) (le-leb (m - 1) c l)
-              ∙ ap (λ (o : Sorts). sort (remaining o)) (others-at (storeOf b p n) b x c a 5 (m - 1) l)
+              by-head ∙ applied-plain b (f .names) (f .named) ss ts z ∙ counted (sort (remaining (others ss ts)))
+              ∙ ap (λ (t : Bool). need t Panics (sort (remaining (others ss ts)))) (le-leb (m - 1) (f .count) l)
+              ∙ ap (λ (o : Sorts). sort (remaining o)) (others-at (storeOf b p n) b (f .list) (f .count) a 5 (m - 1) l)
 
-          pub parametric-asks : LentParametricAsks b p ix n u prm imgs bnd x c y q a (m - 1)
-          parametric-asks =
+          pub parametric-asks : (f .named ≡ 0 → ⊥) → ParametricAsks b p ix n u prm imgs bnd f a (m - 1)
+          parametric-asks d =
               record {
-                lent = record { called = called-asks; fewer = l };
+                called = called-asks;
+                parameters = d;
+                fewer = l;
                 small =
                     omega (
                       arith,
-                      over-sizes (numbersAt b y q) ss,
+                      over-sizes (calleeNames b f) ss,
                       ap sizesIn (function .head),
                       head-sizes (sortAt b p n i),
                       h .good .sized .small i known,
                     );
               }
 
-          pub applied-parametric : (q ≡ 0 → ⊥) → applied (sortsAt b p n a 3 m) ≡ substitutedAt b p n x c y q a (m - 1)
+          pub applied-parametric : (f .named ≡ 0 → ⊥) → applied (sortsAt b p n a 3 m) ≡ substitutedAt b p n f a (m - 1)
           unfolding parametricApp
           applied-parametric z =
-              let vs = numbersAt b y q in
+              let vs = calleeNames b f in
               let s = substituted (remaining (others ss ts)) (matchAllWith vs (firsts ss ts) ts empty) in
-              by-head ∙ applied-under b y q ss ts z ∙ counted s ∙ ap (λ (t : Bool). need t Panics s) (le-leb (m - 1) c l)
-              ∙ ap₂ (λ (o f : Sorts). substituted (remaining o) (matchAllWith vs f ts empty))
-              (others-at (storeOf b p n) b x c a 5 (m - 1) l)
-              (firsts-at (storeOf b p n) b x c a 5 (m - 1) l)
+              by-head ∙ applied-under b (f .names) (f .named) ss ts z ∙ counted s ∙ ap (λ (t : Bool). need t Panics s) (le-leb (m - 1) (f .count) l)
+              ∙ ap₂ (λ (o e : Sorts). substituted (remaining o) (matchAllWith vs e ts empty))
+              (others-at (storeOf b p n) b (f .list) (f .count) a 5 (m - 1) l)
+              (firsts-at (storeOf b p n) b (f .list) (f .count) a 5 (m - 1) l)

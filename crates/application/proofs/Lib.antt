@@ -2,7 +2,7 @@ pub mod AppLaws
 pub mod CalledLaws
 pub mod ExactLaws
 pub mod HeadLaws
-pub mod LentLaws
+pub mod DeliveredLaws
 pub mod ListLaws
 pub mod ParametricLaws
 pub mod PlainLaws

@@ -2,41 +2,40 @@
 -- array from byte 3 on, the head first, so that its arguments stand from byte 5 on.
 use Prim.Native.Nat.{ℕ, _+_, _*_, _-_, _≤_, _<_}
 use mathlib.Core.Path.{_≡_}
-use mathlib.Core.Bool.{Bool, true, false, _&&_}
+use mathlib.Core.Bool.{Bool, true, false}
 use mathlib.Core.List.{List}
 use mathlib.Core.Option.{some}
 use lib.ListN.{length}
-use lib.Dec.{eqb}
-use Rattle.record.specs.Number.{u16At, numbersAt}
+use Rattle.record.specs.Number.{u16At}
 use Rattle.record.specs.Sort.{Sort, sizes}
 use Rattle.record.specs.Decode.{storeOf, sortAt, Zeros}
 use Rattle.store.specs.Good.{Good, Sized}
 use Rattle.substitution.specs.Substitution.{Map, empty, apply}
-use Rattle.substitution.specs.Matching.{keep, matchesAll, listedIn}
+use Rattle.substitution.specs.Matching.{keep, matchesAll}
 use Rattle.substitution.specs.MatchWith.{matchAllWith}
 use Rattle.substitution.specs.Premises.{parless}
-use Rattle.matching.specs.declared.Matched.{Matched}
-use Rattle.matching.specs.Tables.{Told, mapOf, Mapped, Cleared, Blank, Zeroed}
-use Rattle.matching.specs.Contract.{Usable, Refs, sortsAt, OneAsks, ListAsks, PairsAsk, countOf}
-use Rattle.matching.specs.Contract.{answerOf as foundBy}
+use Rattle.matching.specs.Tables.{Told, mapOf, Mapped, Cleared, Blank}
+use Rattle.matching.specs.Contract.{Usable, Refs, sortsAt, OneAsks, ListAsks, PairsAsk}
 use Rattle.matching.specs.Every.{every, passing}
 use Rattle.matching.specs.declared.each.Test.the-variants.{Settled as Settles}
 use Rattle.replacing.specs.Images.{Images}
-use Rattle.rows.specs.declared.Cause.the-variants.{Misfit, Unassigned}
 use Rattle.rows.specs.Verdict.{Verdict, sort, refused}
 use Rattle.rows.specs.Lists.{remaining}
 use Rattle.checked.specs.Checked.{settledAll, delivered, called}
 use Rattle.inferred.specs.Inferred.{substituted}
 use Rattle.answers.specs.declared.Answer.{Answer}
+use Rattle.answers.specs.declared.heads.Callee.{Callee}
 use Rattle.answers.specs.Answer.{AnswerIs}
-use Rattle.application.specs.declared.called.Call.{Call}
-use Rattle.application.specs.declared.called.Call.the-variants.{Settled, Unsettled, Misfits}
+use Rattle.answers.specs.Heads.{calleeNames, calleeSorts}
+use Rattle.answers.specs.Lent.{Lent}
+use Rattle.application.specs.declared.delivered.Call.{Call}
+use Rattle.application.specs.declared.delivered.Call.the-variants.{Settled, Fails}
 
 ---------------------------------------------------------------- an App
--- A good store, zeroed tables of names, and m numbers of its sorts in a from byte 3 on.
+-- A good store, tables of names lent over it, and m numbers of its sorts in a from byte 3 on.
 pub record AppAsks (b p ix : List ℕ) (n u : ℕ) (prm imgs bnd a : List ℕ) (m : ℕ) : Type 0 where
   pub good : Good b p ix n u
-  pub zeroed : Zeroed prm imgs bnd
+  pub tables : Lent b p n prm imgs bnd
   pub few : m ≤ 64
   pub room : 259 ≤ length a
   pub below : (j : ℕ) → j < m → u16At a (3 + 2 * j) < n
@@ -73,54 +72,57 @@ pub record FitAsks (b p : List ℕ) (n : ℕ) (prm imgs bnd : List ℕ) (x m : �
   pub args : Refs a 5 k n
   pub fewer : k ≤ m
 
--- And the q names of a Par over the Function, from y on, none of a plain one; no name is listed.
-pub record FittedAsks (b p : List ℕ) (n : ℕ) (prm imgs bnd : List ℕ) (x m y q : ℕ) (a : List ℕ) (k : ℕ) : Type 0 where
-  pub fit : FitAsks b p n prm imgs bnd x m a k
+-- The same of a head whose names lie in the store; no name is listed.
+pub record FittedAsks (b p : List ℕ) (n : ℕ) (prm imgs bnd : List ℕ) (f : Callee) (a : List ℕ) (k : ℕ) : Type 0 where
+  pub fit : FitAsks b p n prm imgs bnd (f .list) (f .count) a k
   pub zeros : Zeros prm 0
-  pub names : y + 2 * q ≤ length b
-  pub named : q ≤ 64
+  pub names : f .names + 2 * f .named ≤ length b
+  pub named : f .named ≤ 64
 
 -- What remains of the list behind the arguments.
 abbrev pub restAt : List ℕ → List ℕ → ℕ → ℕ → ℕ → ℕ → Sort
 restAt b p n x m k = remaining (sortsAt b p n b (x + 2 * k) (m - k))
 
--- A head with m sorts from x on and q names from y on, at k arguments.
-pub record CalledAsks (b p ix : List ℕ) (n u : ℕ) (prm imgs bnd : List ℕ) (x m y q : ℕ) (a : List ℕ) (k : ℕ) : Type 0 where
+-- A head at k arguments. With parameters it asks for tables of all names.
+pub record CalledAsks (b p ix : List ℕ) (n u : ℕ) (prm imgs bnd : List ℕ) (f : Callee) (a : List ℕ) (k : ℕ) : Type 0 where
   pub good : Good b p ix n u
-  pub zeroed : Zeroed prm imgs bnd
-  pub list : Refs b x m n
-  pub few : m ≤ 64
-  pub names : y + 2 * q ≤ length b
-  pub named : q ≤ 64
+  pub blank : (f .named ≡ 0 → ⊥) → Blank prm imgs bnd
+  pub list : Refs b (f .list) (f .count) n
+  pub few : f .count ≤ 64
+  pub names : f .names + 2 * f .named ≤ length b
+  pub named : f .named ≤ 64
   pub args : Refs a 5 k n
 
--- At most as many arguments as its list has sorts.
-pub record LentAsks (b p ix : List ℕ) (n u : ℕ) (prm imgs bnd : List ℕ) (x m y q : ℕ) (a : List ℕ) (k : ℕ) : Type 0 where
-  pub called : CalledAsks b p ix n u prm imgs bnd x m y q a k
-  pub fewer : k ≤ m
-
--- Tables of these lengths have all names.
-unfoldable pub full : ℕ → ℕ → ℕ → Bool
-full x y z = eqb x 65536 && (eqb y 65536 && eqb z 4096)
-
--- And tables of all names.
-pub record DeliverAsks (b p ix : List ℕ) (n u : ℕ) (prm imgs bnd : List ℕ) (x m y q : ℕ) (a : List ℕ) (k : ℕ) : Type 0 where
-  pub called : CalledAsks b p ix n u prm imgs bnd x m y q a k
-  pub fewer : k ≤ m
-  pub blank : Blank prm imgs bnd
-
----------------------------------------------------------------- the checked App
+---------------------------------------------------------------- what remains, delivered
 -- How many names are bound, and the verdict on what remains.
 abbrev pub boundIn : Call → ℕ
 boundIn (Settled c) = c
-boundIn (Unsettled c) = c
-boundIn (Misfits c) = c
+boundIn (Fails o c) = c
 
 abbrev pub callOf : List Sort → List ℕ → List ℕ → Sort → Call → Verdict
 callOf st l d s (Settled c) = sort (apply (mapOf st l d c) s)
-callOf st l d s (Unsettled c) = refused Unassigned
-callOf st l d s (Misfits c) = refused Misfit
+callOf st l d s (Fails o c) = refused o
 
+-- THE CALL FOR THE VERDICT v on the head f at k arguments: the names bound, and none listed.
+pub record CallIs (v : Verdict) (b p : List ℕ) (n : ℕ) (prm : List ℕ) (f : Callee) (k : ℕ) (prm′ l d : List ℕ) (c : Call) : Type 0 where
+  pub params : prm′ ≡ prm
+  pub mapped : Mapped b p n l d (boundIn c)
+  pub verdict : v ≡ callOf (storeOf b p n) l d (restAt b p n (f .list) (f .count) k) c
+
+-- At most as many arguments as the list has sorts, and the names bound by the call.
+pub record DeliverAsks (b p ix : List ℕ) (n u : ℕ) (l d : List ℕ) (f : Callee) (k : ℕ) (c : Call) : Type 0 where
+  pub good : Good b p ix n u
+  pub list : Refs b (f .list) (f .count) n
+  pub few : f .count ≤ 64
+  pub fewer : k ≤ f .count
+  pub mapped : Mapped b p n l d (boundIn c)
+
+-- THE ANSWER TO THE CALL; no name is bound.
+pub record DeliverIs (b p : List ℕ) (n : ℕ) (l d : List ℕ) (f : Callee) (k : ℕ) (c : Call) (b′ p′ ix′ l′ d′ : List ℕ) (r : Answer) : Type 0 where
+  pub answer : AnswerIs b p n (callOf (storeOf b p n) l d (restAt b p n (f .list) (f .count) k) c) b′ p′ ix′ r
+  pub cleared : Cleared l′ d′
+
+---------------------------------------------------------------- the checked App
 -- THE VERDICT by the test f of the head's names.
 abbrev pub deliveredAt : (ℕ → Bool) → List ℕ → List ℕ → ℕ → ℕ → ℕ → List ℕ → ℕ → Verdict
 deliveredAt f b p n x m a k = delivered f (restAt b p n x m k) (matchesAll f (sortsAt b p n b x k) (sortsAt b p n a 5 k) empty)
@@ -129,11 +131,6 @@ deliveredAt f b p n x m a k = delivered f (restAt b p n x m k) (matchesAll f (so
 pub record FitIs (b p : List ℕ) (n : ℕ) (prm : List ℕ) (x m : ℕ) (a : List ℕ) (k : ℕ) (l d : List ℕ) (r : Call) : Type 0 where
   pub mapped : Mapped b p n l d (boundIn r)
   pub verdict : (f : ℕ → Bool) → Told prm f → deliveredAt f b p n x m a k ≡ callOf (storeOf b p n) l d (restAt b p n x m k) r
-
-pub record FittedIs (b p : List ℕ) (n : ℕ) (prm : List ℕ) (x m y q : ℕ) (a : List ℕ) (k : ℕ) (prm′ l d : List ℕ) (r : Call) : Type 0 where
-  pub params : prm′ ≡ prm
-  pub mapped : Mapped b p n l d (boundIn r)
-  pub verdict : deliveredAt (listedIn (numbersAt b y q)) b p n x m a k ≡ callOf (storeOf b p n) l d (restAt b p n x m k) r
 
 ---------------------------------------------------------------- a head without parameters
 -- No name is one.
@@ -175,26 +172,18 @@ PlainIs b p n x m a k b′ p′ ix′ r =
 
 ---------------------------------------------------------------- the inferred App
 -- The sorts that are matched are together no larger than a sort of the store.
-pub record PatternsAsk (b p : List ℕ) (n : ℕ) (prm imgs bnd : List ℕ) (x m y q : ℕ) (a : List ℕ) (k : ℕ) : Type 0 where
-  pub fitted : FittedAsks b p n prm imgs bnd x m y q a k
-  pub small : sizes (sortsAt b p n b x k) ≤ 4096
+pub record PatternsAsk (b p : List ℕ) (n : ℕ) (prm imgs bnd : List ℕ) (f : Callee) (a : List ℕ) (k : ℕ) : Type 0 where
+  pub fitted : FittedAsks b p n prm imgs bnd f a k
+  pub small : sizes (sortsAt b p n b (f .list) k) ≤ 4096
 
--- The map found, or none; no name is listed.
-pub record PatternsAre (b p : List ℕ) (n : ℕ) (prm : List ℕ) (x y q : ℕ) (a : List ℕ) (k : ℕ) (prm′ l d : List ℕ) (r : Matched) : Type 0 where
-  pub params : prm′ ≡ prm
-  pub mapped : Mapped b p n l d (countOf r)
-  pub result : foundBy (storeOf b p n) l d r ≡ matchAllWith (numbersAt b y q) (sortsAt b p n b x k) (sortsAt b p n a 5 k) empty
-
--- The sorts of a Function's list are together no larger than a sort of the store.
-pub record LentParametricAsks (b p ix : List ℕ) (n u : ℕ) (prm imgs bnd : List ℕ) (x m y q : ℕ) (a : List ℕ) (k : ℕ) : Type 0 where
-  pub lent : LentAsks b p ix n u prm imgs bnd x m y q a k
-  pub small : sizes (sortsAt b p n b x m) ≤ 4096
-
--- And tables of all names.
-pub record ParametricAsks (b p ix : List ℕ) (n u : ℕ) (prm imgs bnd : List ℕ) (x m y q : ℕ) (a : List ℕ) (k : ℕ) : Type 0 where
-  pub deliver : DeliverAsks b p ix n u prm imgs bnd x m y q a k
-  pub small : sizes (sortsAt b p n b x m) ≤ 4096
+-- A head with parameters at no more arguments than it has sorts, which are together no larger than a sort of the store.
+pub record ParametricAsks (b p ix : List ℕ) (n u : ℕ) (prm imgs bnd : List ℕ) (f : Callee) (a : List ℕ) (k : ℕ) : Type 0 where
+  pub called : CalledAsks b p ix n u prm imgs bnd f a k
+  pub parameters : f .named ≡ 0 → ⊥
+  pub fewer : k ≤ f .count
+  pub small : sizes (calleeSorts b p n f) ≤ 4096
 
 -- THE VERDICT on what remains, by the map found.
-abbrev pub substitutedAt : List ℕ → List ℕ → ℕ → ℕ → ℕ → ℕ → ℕ → List ℕ → ℕ → Verdict
-substitutedAt b p n x m y q a k = substituted (restAt b p n x m k) (matchAllWith (numbersAt b y q) (sortsAt b p n b x k) (sortsAt b p n a 5 k) empty)
+abbrev pub substitutedAt : List ℕ → List ℕ → ℕ → Callee → List ℕ → ℕ → Verdict
+substitutedAt b p n f a k =
+    substituted (restAt b p n (f .list) (f .count) k) (matchAllWith (calleeNames b f) (sortsAt b p n b (f .list) k) (sortsAt b p n a 5 k) empty)

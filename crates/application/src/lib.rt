@@ -7,7 +7,7 @@ use answers::heads::head_of;
 use answers::lists::remaining;
 use answers::refuse;
 use called::called;
-use lent::parametric_lent;
+use parametric::parametric;
 use record::u16_at;
 use rows::Cause;
 ghost use Rattle.matching.specs.Contract.{sortsAt};
@@ -16,7 +16,7 @@ ghost use Rattle.checked.specs.Checked.{application};
 ghost use Rattle.application.specs.Contract.{AppAsks, AppIs};
 
 pub mod called;
-pub mod lent;
+pub mod delivered;
 pub mod parametric;
 pub mod plain;
 pub mod settled;
@@ -44,7 +44,7 @@ pub fn application(
     let h = u16_at(args, FIRST_AT);
     let head = head_of(records, places, h);
     match head {
-        Head::Function(list, m, names, named) => called(
+        Head::Function(callee) => called(
             records,
             places,
             index,
@@ -53,10 +53,7 @@ pub fn application(
             params,
             images,
             bound,
-            list,
-            m,
-            names,
-            named,
+            callee,
             args,
             total - 1,
         ),
@@ -89,15 +86,16 @@ pub fn applied(
     let h = u16_at(args, FIRST_AT);
     let head = head_of(records, places, h);
     match head {
-        Head::Function(list, m, names, named) => {
+        Head::Function(callee) => {
+            let m = callee.count;
             if m < n {
                 return refuse(Cause::Panics, count, used);
             }
-            if named == 0 {
-                let at = list + 2 * n;
+            if callee.named == 0 {
+                let at = callee.list + 2 * n;
                 return remaining(records, places, index, count, used, args, at, m - n);
             }
-            parametric_lent(
+            parametric(
                 records,
                 places,
                 index,
@@ -106,10 +104,7 @@ pub fn applied(
                 params,
                 images,
                 bound,
-                list,
-                m,
-                names,
-                named,
+                callee,
                 args,
                 n,
             )

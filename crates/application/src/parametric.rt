@@ -1,18 +1,18 @@
 // The inferred sort of an App whose head is a Par of a Function.
+use super::delivered::Call;
+use super::delivered::deliver;
 use answers::Answer;
 use answers::arguments::SECOND_AT;
-use answers::refuse;
-use instance::rest;
+use answers::heads::Callee;
 use matching::Matched;
 use matching::general::match_all_with;
-use matching::tables::clear;
 use matching::tables::list_names;
 use matching::tables::unlist_names;
 use rows::Cause;
-ghost use Rattle.application.specs.Contract.{AppIs, PatternsAsk, PatternsAre, ParametricAsks, substitutedAt};
+ghost use Rattle.application.specs.Contract.{AppIs, CallIs, PatternsAsk, ParametricAsks, substitutedAt};
 
-// The n arguments in `args` from byte 5 on matched by match_with with the first n of the m sorts that the store names from
-// `list` on, with the `named` names from `names` on listed meanwhile: `params` is zeros before and after.
+// The n arguments in `args` from byte 5 on matched by match_with with the first n sorts of the head, with its names listed
+// meanwhile, or Panics: `params` is zeros before and after.
 pub fn match_arguments(
     records: &[u8],
     places: &[u32],
@@ -20,17 +20,14 @@ pub fn match_arguments(
     params: &mut [u16],
     images: &mut [u16],
     bound: &mut [u16],
-    list: usize,
-    m: usize,
-    names: usize,
-    named: usize,
+    callee: Callee,
     args: &[u8],
     n: usize,
-) -> Matched
-    requires { ⌜ PatternsAsk (now records) (now places) count (now params) (now images) (now bound) list m names named (now args) n ⌝ }
-    ensures { λ r. ⌜ PatternsAre (now (records .entry)) (now (places .entry)) count (now (params .entry)) list names named (now (args .entry)) n (now (params .exit)) (now (images .exit)) (now (bound .exit)) r ⌝ }
+) -> Call
+    requires { ⌜ PatternsAsk (now records) (now places) count (now params) (now images) (now bound) callee (now args) n ⌝ }
+    ensures { λ r. ⌜ CallIs (substitutedAt (now (records .entry)) (now (places .entry)) count callee (now (args .entry)) n) (now (records .entry)) (now (places .entry)) count (now (params .entry)) callee n (now (params .exit)) (now (images .exit)) (now (bound .exit)) r ⌝ }
 {
-    list_names(params, records, names, named);
+    list_names(params, records, callee.names, callee.named);
     let found = match_all_with(
         records,
         places,
@@ -40,18 +37,20 @@ pub fn match_arguments(
         bound,
         0,
         records,
-        list,
+        callee.list,
         args,
         SECOND_AT,
         n,
     );
-    unlist_names(params, records, names, named);
-    found
+    unlist_names(params, records, callee.names, callee.named);
+    match found {
+        Matched::Fits(k) => Call::Settled(k),
+        Matched::Misfits(k) => Call::Fails(Cause::Panics, k),
+    }
 }
 
-// What remains of the head's m sorts at n arguments, with the map of match_with applied: the last one by itself, or the
-// Function of them, found or added, Limit or Full; Panics where an argument does not match. The tables of names are zeros
-// before and after.
+// What remains of the head's sorts at n arguments, with the map of match_with applied: the last one by itself, or the Function of
+// them, found or added, Limit or Full; Panics where an argument does not match. The tables of names are zeros before and after.
 pub fn parametric(
     records: &mut [u8],
     places: &mut [u32],
@@ -61,40 +60,34 @@ pub fn parametric(
     params: &mut [u16],
     images: &mut [u16],
     bound: &mut [u16],
-    list: usize,
-    m: usize,
-    names: usize,
-    named: usize,
+    callee: Callee,
     args: &[u8],
     n: usize,
 ) -> Answer
-    requires { ⌜ ParametricAsks (now records) (now places) (now index) count used (now params) (now images) (now bound) list m names named (now args) n ⌝ }
-    ensures { λ r. ⌜ AppIs (substitutedAt (now (records .entry)) (now (places .entry)) count list m names named (now (args .entry)) n) (now (records .entry)) (now (places .entry)) count (now (params .entry)) (now (images .entry)) (now (bound .entry)) (now (records .exit)) (now (places .exit)) (now (index .exit)) (now (params .exit)) (now (images .exit)) (now (bound .exit)) r ⌝ }
+    requires { ⌜ ParametricAsks (now records) (now places) (now index) count used (now params) (now images) (now bound) callee (now args) n ⌝ }
+    ensures { λ r. ⌜ AppIs (substitutedAt (now (records .entry)) (now (places .entry)) count callee (now (args .entry)) n) (now (records .entry)) (now (places .entry)) count (now (params .entry)) (now (images .entry)) (now (bound .entry)) (now (records .exit)) (now (places .exit)) (now (index .exit)) (now (params .exit)) (now (images .exit)) (now (bound .exit)) r ⌝ }
 {
-    let found = match_arguments(
+    let call = match_arguments(
         records,
         places,
         count,
         params,
         images,
         bound,
-        list,
-        m,
-        names,
-        named,
+        callee,
         args,
         n,
     );
-    match found {
-        Matched::Fits(k) => {
-            let at = list + 2 * n;
-            let made = rest(records, places, index, count, used, images, at, m - n);
-            clear(images, bound, k);
-            made
-        }
-        Matched::Misfits(k) => {
-            clear(images, bound, k);
-            refuse(Cause::Panics, count, used)
-        }
-    }
+    deliver(
+        records,
+        places,
+        index,
+        count,
+        used,
+        images,
+        bound,
+        callee,
+        n,
+        call,
+    )
 }

@@ -27,3 +27,4 @@ pub mod RefusalTheorems
 pub mod IndexRefusals
 pub mod AppRefusals
 pub mod CheckedCauses
+pub mod ParlessTheorems

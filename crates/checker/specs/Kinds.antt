@@ -15,7 +15,7 @@ use Rattle.rows.specs.declared.Cause.the-variants.{NoRank}
 use Rattle.rows.specs.Verdict.{Verdict, refused}
 use Rattle.checked.specs.Checked.{letting, qualified}
 use Rattle.checking.specs.Single.{variableVerdict, OverAsks}
-use Rattle.site.specs.Site.{Standing, SiteAsks}
+use Rattle.site.specs.Site.{Standing}
 use Rattle.site.specs.SiteLaws.{OwnIs}
 
 -- The kinds 5, 9 and 12 of `checked`, and no rank for another.
@@ -41,8 +41,3 @@ pub record ComposedAsks (b p ix : List ℕ) (n u : ℕ) (s tbl xs : List ℕ) (r
   pub below : (j : ℕ) → j < r .count → u16At a (3 + 2 * j) < n
   pub large : 5 ≤ r .kind
   pub other : r .kind ≡ 6 → ⊥
-
--- The same for every kind, with the tables of names.
-pub record GatheredAsks (b p ix : List ℕ) (n u : ℕ) (prm imgs bnd s tbl xs : List ℕ) (r : TermRecord) (a : List ℕ) : Type 0 where
-  pub rows : List ℕ
-  pub site : SiteAsks b p ix n u prm imgs bnd s tbl xs rows r a

@@ -1,9 +1,8 @@
-// The checked sort of one record of any kind, with its causes in the order 20, 24, 28, 25, 26, 27, 22, 23.
+// The checked sort of one record of any kind, with its causes in the order 24, 28, 25, 26, 27, 22, 23.
 pub mod binder;
 pub mod indexed;
 
 use answers::Answer;
-use answers::arguments::CHECKED;
 use answers::refuse;
 use application::application;
 use binder::binder;
@@ -22,15 +21,14 @@ use record::kinds::TERM_OP;
 use record::kinds::TERM_PARAM_OP;
 use record::kinds::TERM_VAR;
 use rows::Cause;
-use site::parts_judged;
 ghost use Rattle.record.specs.Decode.{storeOf};
 ghost use Rattle.checked.specs.Ranks.{smtLib};
 ghost use Rattle.checked.specs.Checked.{checked};
 ghost use Rattle.answers.specs.Answer.{AnswerIs};
 ghost use Rattle.checking.specs.Contract.{argsOf};
 ghost use Rattle.checking.specs.Single.{ReadIs};
-ghost use Rattle.site.specs.Site.{ownOver, siteOver, TermAsks, TermIs, SiteIs};
-ghost use Rattle.checker.specs.Kinds.{knownVerdict, KnownAsks, ComposedAsks, GatheredAsks};
+ghost use Rattle.site.specs.Site.{ownOver, siteOver, SiteAsks, SiteIs};
+ghost use Rattle.checker.specs.Kinds.{knownVerdict, KnownAsks, ComposedAsks};
 
 // A record whose sort the store has: 5 Var, 9 Let, 12 AsOp; and NoRank for 10 Match.
 pub fn known_site(
@@ -124,8 +122,9 @@ pub fn composed_site(
     known_site(records, places, count, used, table, term, args)
 }
 
-// A record whose arguments' sorts are in `args`: 0 to 4 a constant, 6 App; else as `composed_site`.
-pub fn gathered_site(
+// The checked sort of a record whose arguments' sorts are in `args` from byte 3 on: 0 to 4 a constant, 6 App; else as
+// `composed_site`. `args` is used up; the tables of names come back as they were.
+pub fn check(
     records: &mut [u8],
     places: &mut [u32],
     index: &mut [u16],
@@ -140,7 +139,7 @@ pub fn gathered_site(
     term: TermRecord,
     args: &mut [u8],
 ) -> Answer
-    requires { ⌜ GatheredAsks (now records) (now places) (now index) count used (now params) (now images) (now bound) (now sheet) (now table) (now starts) term (now args) ⌝ }
+    requires { ⌜ SiteAsks (now records) (now places) (now index) count used (now params) (now images) (now bound) (now sheet) (now table) (now starts) term (now args) ⌝ }
     ensures { λ r. ⌜ SiteIs (checked smtLib) (now (records .entry)) (now (places .entry)) count (now (params .entry)) (now (images .entry)) (now (bound .entry)) (now (sheet .entry)) (now (table .entry)) (now (starts .entry)) term (now (args .entry)) (now (records .exit)) (now (places .exit)) (now (index .exit)) (now (params .exit)) (now (images .exit)) (now (bound .exit)) r ⌝ }
 {
     let kind = term.kind;
@@ -175,45 +174,4 @@ pub fn gathered_site(
         term,
         args,
     )
-}
-
-// The checked row of a record, from the rows of the terms before it: Below where a term that it names has a refused one; else
-// as `gathered_site`.
-pub fn check(
-    records: &mut [u8],
-    places: &mut [u32],
-    index: &mut [u16],
-    count: usize,
-    used: usize,
-    params: &mut [u16],
-    images: &mut [u16],
-    bound: &mut [u16],
-    sheet: &[u8],
-    table: &[u16],
-    starts: &[u16],
-    rows: &[u32],
-    term: TermRecord,
-    args: &mut [u8],
-) -> Answer
-    requires { ⌜ TermAsks (now records) (now places) (now index) count used (now params) (now images) (now bound) (now sheet) (now table) (now starts) (now rows) term (now args) ⌝ }
-    ensures { λ r. ⌜ TermIs (checked smtLib) 1 (now (records .entry)) (now (places .entry)) count (now (params .entry)) (now (images .entry)) (now (bound .entry)) (now (sheet .entry)) (now (table .entry)) (now (starts .entry)) (now (rows .entry)) term (now (records .exit)) (now (places .exit)) (now (index .exit)) (now (params .exit)) (now (images .exit)) (now (bound .exit)) r ⌝ }
-{
-    if parts_judged(sheet, rows, CHECKED, term, args) {
-        return gathered_site(
-            records,
-            places,
-            index,
-            count,
-            used,
-            params,
-            images,
-            bound,
-            sheet,
-            table,
-            starts,
-            term,
-            args,
-        );
-    }
-    refuse(Cause::Below, count, used)
 }

@@ -19,10 +19,10 @@ use Rattle.inference.specs.Terms.{constant, variable, qualified, PlainAs
 use Rattle.inference.proofs.IndexedLaws.{after}
 use Rattle.inference.proofs.TermLaws.{site-app}
 
-module _ {b p ix : List ℕ} {n u : ℕ} {prm imgs bnd s tbl xs rows : List ℕ} {r : TermRecord} {a : List ℕ} (h : SiteAsks b p ix n u prm imgs bnd s tbl xs rows r a) where
+module _ {b p ix : List ℕ} {n u : ℕ} {prm imgs bnd s tbl xs : List ℕ} {r : TermRecord} {a : List ℕ} (h : SiteAsks b p ix n u prm imgs bnd s tbl xs r a) where
   pub app-asks : AppAsks b p ix n u prm imgs bnd a (r .count)
   app-asks =
-      record { good = h .asks .good; zeroed = h .asks .zeroed; few = count-few (h .asks .standing); room = h .asks .room; below = h .below }
+      record { good = h .asks .good; tables = h .asks .tables; few = count-few (h .asks .standing); room = h .asks .room; below = h .below }
 
   -- Kinds from 6 on and below 12, but for 6.
   pub composed-asks : (r .kind ≡ 6 → ⊥) → 6 ≤ r .kind → r .kind < 12 → ComposedAsks b p ix n u s tbl xs r a

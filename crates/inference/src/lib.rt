@@ -1,14 +1,12 @@
-// The inferred row of a term record, from the rows of the terms before it. Each function returns the row with the store's
+// The inferred sort of one record of any kind, over the sorts of its arguments. Each function returns the answer with the store's
 // count and bytes in use after it.
 pub mod binders;
 pub mod indexed;
 
 use answers::Answer;
-use answers::arguments::INFERRED;
 use answers::bit_vector;
 use answers::found;
 use answers::leaf;
-use answers::refuse;
 use application::applied;
 use binders::bound;
 use indexed::indexed;
@@ -30,12 +28,10 @@ use record::kinds::TERM_PARAM_OP;
 use record::kinds::TERM_REAL;
 use record::kinds::TERM_REG_LAN;
 use record::kinds::TERM_STRING;
-use rows::Cause;
-use site::parts_judged;
 ghost use Rattle.record.specs.Decode.{storeOf};
 ghost use Rattle.inferred.specs.Inferred.{inferred};
 ghost use Rattle.answers.specs.Answer.{AnswerIs};
-ghost use Rattle.site.specs.Site.{siteOver, TermAsks, TermIs};
+ghost use Rattle.site.specs.Site.{siteOver, SiteAsks, SiteIs};
 ghost use Rattle.inference.specs.Terms.{PlainAsks, PlainIs, ComposedAsks};
 
 // A term whose sort needs no argument: 0 integer, 1 real, 2 string, 3 RegLan constant, 4 bit-vector constant, Limit where its
@@ -135,9 +131,8 @@ pub fn composed(
     }
 }
 
-// The inferred row of a record, in the first column of the rows: Below where a term that it names has a refused row there; for
-// 6 App what remains of the head's sort; else as `composed` and `plain`. `args` is used up; the tables of names come back as
-// they were.
+// The inferred sort of a record whose arguments' sorts are in `args` from byte 3 on: for 6 App what remains of the head's sort; else
+// as `composed` and `plain`. `args` is used up; the tables of names come back as they were.
 pub fn infer(
     records: &mut [u8],
     places: &mut [u32],
@@ -150,16 +145,12 @@ pub fn infer(
     sheet: &[u8],
     table: &[u16],
     starts: &[u16],
-    rows: &[u32],
     term: TermRecord,
     args: &mut [u8],
 ) -> Answer
-    requires { ⌜ TermAsks (now records) (now places) (now index) count used (now params) (now images) (now bound) (now sheet) (now table) (now starts) (now rows) term (now args) ⌝ }
-    ensures { λ r. ⌜ TermIs inferred 0 (now (records .entry)) (now (places .entry)) count (now (params .entry)) (now (images .entry)) (now (bound .entry)) (now (sheet .entry)) (now (table .entry)) (now (starts .entry)) (now (rows .entry)) term (now (records .exit)) (now (places .exit)) (now (index .exit)) (now (params .exit)) (now (images .exit)) (now (bound .exit)) r ⌝ }
+    requires { ⌜ SiteAsks (now records) (now places) (now index) count used (now params) (now images) (now bound) (now sheet) (now table) (now starts) term (now args) ⌝ }
+    ensures { λ r. ⌜ SiteIs inferred (now (records .entry)) (now (places .entry)) count (now (params .entry)) (now (images .entry)) (now (bound .entry)) (now (sheet .entry)) (now (table .entry)) (now (starts .entry)) term (now (args .entry)) (now (records .exit)) (now (places .exit)) (now (index .exit)) (now (params .exit)) (now (images .exit)) (now (bound .exit)) r ⌝ }
 {
-    if !parts_judged(sheet, rows, INFERRED, term, args) {
-        return refuse(Cause::Below, count, used);
-    }
     let kind = term.kind;
     let n = term.count;
     match kind {

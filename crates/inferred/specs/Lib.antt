@@ -4,3 +4,4 @@ pub mod Facts
 pub mod PanicLaws
 pub mod WidthTheorems
 pub mod PanicTheorems
+pub mod ParlessTheorems

@@ -170,7 +170,7 @@ pub record Answering (b p : List ℕ) (n : ℕ) (prm imgs bnd s tbl : List ℕ) 
       → answersOf l (storeOf b p n) (questionsAt s (treesOf (storeOf b p n) tbl m) ys i) ≡ record { store = storeOf b′ p′ n′; answers = take i an′ }
   pub rest : drop i an′ ≡ drop i an
 
-module _ (b p ix : List ℕ) (n u : ℕ) (prm imgs bnd s tbl : List ℕ) (m : ℕ) (ys : List ℕ) (c : ℕ) (an : List ℕ)
+module _ {b p ix : List ℕ} {n u : ℕ} {prm imgs bnd s tbl : List ℕ} {m : ℕ} {ys : List ℕ} {c : ℕ} {an : List ℕ}
     (h : AllAsks b p ix n u prm imgs bnd s tbl m ys c an) where
   pub answering-start : Answering b p n prm imgs bnd s tbl m ys an b p ix prm imgs bnd an n u 0
   unfolding answersOf eachAt
@@ -188,12 +188,12 @@ module _ (b p ix : List ℕ) (n u : ℕ) (prm imgs bnd s tbl : List ℕ) (m : �
         rest = refl;
       }
 
-  module _ (b′ p′ ix′ prm′ imgs′ bnd′ an′ : List ℕ) (n′ u′ i : ℕ) (a : Answering b p n prm imgs bnd s tbl m ys an b′ p′ ix′ prm′ imgs′ bnd′ an′ n′ u′ i) where
+  module _ {b′ p′ ix′ prm′ imgs′ bnd′ an′ : List ℕ} {n′ u′ i : ℕ} (a : Answering b p n prm imgs bnd s tbl m ys an b′ p′ ix′ prm′ imgs′ bnd′ an′ n′ u′ i) where
     grown : n ≤ n′
     grown = omega (arith, starts-count (storeOf b p n) (storeOf b′ p′ n′) (a .starts), storeOf-length b p n, storeOf-length b′ p′ n′)
 
-    pub next-asks : (x : ℕ) → i < c → x ≡ getD ys i 0 → AtAsks b′ p′ ix′ n′ u′ prm′ imgs′ bnd′ s tbl m x
-    next-asks x o e =
+    pub next-asks : {x : ℕ} → i < c → x ≡ getD ys i 0 → AtAsks b′ p′ ix′ n′ u′ prm′ imgs′ bnd′ s tbl m x
+    next-asks o e =
         record {
           good = a .good;
           blank =
@@ -209,7 +209,7 @@ module _ (b p ix : List ℕ) (n u : ℕ) (prm imgs bnd s tbl : List ℕ) (m : �
         (trees-starts (storeOf b p n) (storeOf b′ p′ n′) tbl m (a .starts)
         (λ j o. omega (arith, h .numbered .known j o, storeOf-length b p n)))
 
-    module _ (x : ℕ) (o : i < c) (e : x ≡ getD ys i 0) (d q jx′ prm″ imgs″ bnd″ : List ℕ) (w : Word)
+    module _ {x : ℕ} (o : i < c) (e : x ≡ getD ys i 0) {d q jx′ prm″ imgs″ bnd″ : List ℕ} {w : Word}
         (t : AtIs b′ p′ n′ prm′ imgs′ bnd′ s tbl m x d q jx′ prm″ imgs″ bnd″ w) where
       one-more : (l : Lengths) → l .records ≡ length b → l .places ≡ length p
           → answersOf l (storeOf b p n) (questionsAt s (treesOf (storeOf b p n) tbl m) ys (suc i))

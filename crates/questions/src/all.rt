@@ -53,14 +53,13 @@ pub fn answer_at(
     }
 }
 
-// Writes the answers to the first `many` questions, whose places are `asked`, into `answers`; the store's count and bytes in
-// use after them.
+// Writes the answers to the first `many` questions, whose places are `asked`, into `answers`, over the store with these counts; its
+// counts after them.
 pub fn answer_all(
     records: &mut [u8],
     places: &mut [u32],
     index: &mut [u16],
-    count: usize,
-    used: usize,
+    counts: Counts,
     params: &mut [u16],
     images: &mut [u16],
     bound: &mut [u16],
@@ -71,11 +70,11 @@ pub fn answer_all(
     many: usize,
     answers: &mut [u32],
 ) -> Counts
-    requires { ⌜ AllAsks (now records) (now places) (now index) count used (now params) (now images) (now bound) (now sheet) (now table) sorts (now asked) many (now answers) ⌝ }
-    ensures { λ r. ⌜ AllIs (now (records .entry)) (now (places .entry)) count (now (params .entry)) (now (images .entry)) (now (bound .entry)) (now (sheet .entry)) (now (table .entry)) sorts (now (asked .entry)) many (now (answers .entry)) (now (records .exit)) (now (places .exit)) (now (index .exit)) (now (params .exit)) (now (images .exit)) (now (bound .exit)) (now (answers .exit)) r ⌝ }
+    requires { ⌜ AllAsks (now records) (now places) (now index) (counts .count) (counts .used) (now params) (now images) (now bound) (now sheet) (now table) sorts (now asked) many (now answers) ⌝ }
+    ensures { λ r. ⌜ AllIs (now (records .entry)) (now (places .entry)) (counts .count) (now (params .entry)) (now (images .entry)) (now (bound .entry)) (now (sheet .entry)) (now (table .entry)) sorts (now (asked .entry)) many (now (answers .entry)) (now (records .exit)) (now (places .exit)) (now (index .exit)) (now (params .exit)) (now (images .exit)) (now (bound .exit)) (now (answers .exit)) r ⌝ }
 {
-    let mut n = count;
-    let mut u = used;
+    let mut n = counts.count;
+    let mut u = counts.used;
     let mut q = 0;
     while q < many {
         let at = asked[q] as usize;

@@ -6,3 +6,4 @@ pub mod Meaning
 pub mod FreeLaws
 pub mod OutcomeLaws
 pub mod TermLaws
+pub mod ParlessLaws

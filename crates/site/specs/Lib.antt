@@ -1,3 +1,4 @@
 pub mod Site
 pub mod Constants
 pub mod SiteLaws
+pub mod LentLaws

@@ -19,12 +19,12 @@ use Rattle.sheet.specs.Sheet.{Binding, bindingsOf}
 use Rattle.sheet.specs.Contract.{TermStands}
 use Rattle.sheet.specs.Stands.{Numbered}
 use Rattle.store.specs.Good.{Good}
-use Rattle.matching.specs.Tables.{Zeroed}
 use Rattle.rows.specs.declared.Cause.the-variants.{Below}
 use Rattle.rows.specs.Verdict.{Verdict, refused}
 use Rattle.rows.specs.Term.{Site, overParts}
 use Rattle.answers.specs.declared.Answer.{Answer}
 use Rattle.answers.specs.Answer.{AnswerIs}
+use Rattle.answers.specs.Lent.{Lent}
 use Rattle.answers.specs.Arguments.{GatherAsks, JudgedAsks, argumentsOf, boundNumbers, constantsIn}
 
 ---------------------------------------------------------------- the record over the store
@@ -81,10 +81,10 @@ pub record Standing (n : ℕ) (s tbl xs rows : List ℕ) (r : TermRecord) : Type
   pub lent : 2 * term ≤ length rows
   pub known : (i : ℕ) → i < 2 * term → getD rows i 0 < 65536 → getD rows i 0 < n
 
--- A good store, zeroed tables of names, a term record, and an array for its arguments.
+-- A good store, tables of names lent over it, a term record, and an array for its arguments.
 pub record TermAsks (b p ix : List ℕ) (n u : ℕ) (prm imgs bnd s tbl xs rows : List ℕ) (r : TermRecord) (a : List ℕ) : Type 0 where
   pub good : Good b p ix n u
-  pub zeroed : Zeroed prm imgs bnd
+  pub tables : Lent b p n prm imgs bnd
   pub standing : Standing n s tbl xs rows r
   pub room : 259 ≤ length a
 
@@ -95,8 +95,9 @@ pub record TermIs (J : Site → Verdict) (column : ℕ) (b p : List ℕ) (n : �
   pub images : imgs′ ≡ imgs
   pub bound : bnd′ ≡ bnd
 
--- The same once the arguments' numbers stand in a.
-pub record SiteAsks (b p ix : List ℕ) (n u : ℕ) (prm imgs bnd s tbl xs rows : List ℕ) (r : TermRecord) (a : List ℕ) : Type 0 where
+-- The same once the arguments' numbers stand in a, whatever the rows are.
+pub record SiteAsks (b p ix : List ℕ) (n u : ℕ) (prm imgs bnd s tbl xs : List ℕ) (r : TermRecord) (a : List ℕ) : Type 0 where
+  pub rows : List ℕ
   pub asks : TermAsks b p ix n u prm imgs bnd s tbl xs rows r a
   pub below : (j : ℕ) → j < r .count → u16At a (3 + 2 * j) < n
 

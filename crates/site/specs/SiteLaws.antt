@@ -37,10 +37,11 @@ use Rattle.site.specs.Constants.{constant-asks, constants-by}
 -- The array after, as long as the one before, has the arguments.
 pub parts-site : {b p ix : List ℕ} {n u : ℕ} {prm imgs bnd s tbl xs rows : List ℕ} {r : TermRecord} {a a′ : List ℕ} {column : ℕ} {q : Bool}
     → TermAsks b p ix n u prm imgs bnd s tbl xs rows r a → length a′ ≡ length a → q ≡ true → PartsAre s rows column r a′ q
-    → SiteAsks b p ix n u prm imgs bnd s tbl xs rows r a′
-parts-site {n = n} {tbl = tbl} {xs = xs} h e on d =
+    → SiteAsks b p ix n u prm imgs bnd s tbl xs r a′
+parts-site {n = n} {tbl = tbl} {xs = xs} {rows = rows} h e on d =
     record {
-      asks = record { good = h .good; zeroed = h .zeroed; standing = h .standing; room = omega (arith, e, h .room) };
+      rows = rows;
+      asks = record { good = h .good; tables = h .tables; standing = h .standing; room = omega (arith, e, h .room) };
       below = d .below on n tbl xs (h .standing);
     }
 

@@ -28,7 +28,6 @@ use Rattle.sheet.specs.Trees.{treesOf, trees-length}
 use Rattle.sheet.specs.Contract.{eachAt, termAt, termsAt, TermStands}
 use Rattle.sheet.specs.Stands.{Numbered, term-again, term-is}
 use Rattle.store.specs.Good.{Good}
-use Rattle.matching.specs.Tables.{Zeroed}
 use Rattle.rows.specs.declared.RowVerdict.{RowVerdict}
 use Rattle.rows.specs.declared.RowVerdict.the-variants.{Sort as Number, Refused}
 use Rattle.rows.specs.Verdict.{Verdict, codeOf}
@@ -36,14 +35,19 @@ use Rattle.rows.specs.Term.{Site, overParts, consed, sortsAt}
 use Rattle.rows.specs.Outcome.{Outcome, outcome, rowSort}
 use Rattle.rows.specs.OutcomeLaws.{refusal-large}
 use Rattle.inferred.specs.Inferred.{inferred}
+use Rattle.inferred.specs.ParlessTheorems.{inferred-parless}
 use Rattle.checked.specs.Checked.{checked}
 use Rattle.checked.specs.Ranks.{smtLib}
+use Rattle.checked.specs.RankSound.{smtLib-sound}
+use Rattle.checked.specs.ParlessTheorems.{checked-parless}
 use Rattle.answers.specs.declared.Answer.{Answer}
 use Rattle.answers.specs.Answer.{AnswerIs}
 use Rattle.answers.specs.AnswerLaws.{answer-more, answer-number}
 use Rattle.answers.specs.Arguments.{argumentsOf}
+use Rattle.answers.specs.Lent.{Lent}
 use Rattle.site.specs.Site.{ownOver, bindingsOver, constantsOver, indicesOver, termVerdict, Standing, TermAsks, TermIs}
 use Rattle.site.specs.SiteLaws.{verdict-at}
+use Rattle.site.specs.LentLaws.{row-lent}
 use Rattle.judged.specs.Rows.{Tabled, rowOf, rowsAdded, checkedAfter, bothRows, rowsOf}
 use Rattle.questions.specs.All.{trees-starts}
 use Rattle.questions.specs.declared.all.Counts.{Counts}
@@ -120,12 +124,6 @@ module _ {n : ℕ} {s tbl xs rows : List ℕ} {r : TermRecord} (h : Standing n s
 numbered-grown : {n : ℕ} (n′ : ℕ) {s tbl : List ℕ} {m : ℕ} → n ≤ n′ → Numbered n s tbl m → Numbered n′ s tbl m
 numbered-grown {n} n′ {s} {tbl} {m} le h = record { inside = h .inside; known = λ j o. omega (arith, h .known j o); short = h .short }
 
--- Tables of names that are as they were are zeros still.
-zeroed-as : {prm imgs bnd prm′ imgs′ bnd′ : List ℕ} → prm′ ≡ prm → imgs′ ≡ imgs → bnd′ ≡ bnd → Zeroed prm imgs bnd → Zeroed prm′ imgs′ bnd′
-zeroed-as {prm} {imgs} {bnd} {prm′} {imgs′} {bnd′} ep ei eb h =
-    subst (λ (t : List ℕ). Zeroed t imgs′ bnd′) (sym ep)
-    (subst (λ (t : List ℕ). Zeroed prm t bnd′) (sym ei) (subst (λ (t : List ℕ). Zeroed prm imgs t) (sym eb) h))
-
 -- A standing record stands over a store that has grown.
 standing-grown : (n n′ : ℕ) (s tbl xs rows : List ℕ) (r : TermRecord) → n ≤ n′ → Standing n s tbl xs rows r → Standing n′ s tbl xs rows r
 standing-grown n n′ s tbl xs rows r le h =
@@ -188,17 +186,21 @@ module _ (rows : List ℕ) (k x y : ℕ) where
 module _ {b p ix : List ℕ} {n u : ℕ} {prm imgs bnd s tbl xs rows : List ℕ} {r : TermRecord} {t : ℕ} (h : BothAsk b p ix n u prm imgs bnd s tbl xs rows r t) where
   -- What the inferred row asks, and the checked one behind it.
   pub first-asks : (a : List ℕ) → 259 ≤ length a → TermAsks b p ix n u prm imgs bnd s tbl xs rows r a
-  first-asks a o = record { good = h .good; zeroed = h .zeroed; standing = h .standing; room = o }
+  first-asks a o = record { good = h .good; tables = h .tables; standing = h .standing; room = o }
 
   module _ {c q jx prm₁ imgs₁ bnd₁ : List ℕ} {v : Answer} (f : TermIs inferred 0 b p n prm imgs bnd s tbl xs rows r c q jx prm₁ imgs₁ bnd₁ v) where
     more : n ≤ v .count
     more = answer-more b p n (termVerdict inferred (storeOf b p n) s tbl xs rows 0 r) c q jx v (f .answer)
 
+    -- The tables of names are lent over the store after it.
+    first-lent : Lent c q (v .count) prm₁ imgs₁ bnd₁
+    first-lent = row-lent inferred-parless (h .tables) f
+
     pub second-asks : (a : List ℕ) → 259 ≤ length a → TermAsks c q jx (v .count) (v .used) prm₁ imgs₁ bnd₁ s tbl xs rows r a
     second-asks a o =
         record {
           good = f .answer .good;
-          zeroed = zeroed-as (f .params) (f .images) (f .bound) (h .zeroed);
+          tables = first-lent;
           standing = standing-grown n (v .count) s tbl xs rows r more (h .standing);
           room = o;
         }
@@ -266,6 +268,7 @@ module _ {b p ix : List ℕ} {n u : ℕ} {prm imgs bnd s tbl xs rows : List ℕ}
                 (λ d. omega (arith, code-known (g .answer) (omega (arith, ey)), ey))
                 i (omega arith);
             starts = starts-trans st st₁ st′ (f .answer .starts) (g .answer .starts);
+            tables = row-lent (checked-parless smtLib smtLib-sound) first-lent g;
             params = g .params ∙ f .params;
             images = g .images ∙ f .images;
             bound = g .bound ∙ f .bound;
@@ -294,7 +297,7 @@ module _ {b p ix : List ℕ} {n u : ℕ} {prm imgs bnd s tbl : List ℕ} {m : �
 
     -- What both rows of the record that was read ask, and that they are the sheet's term's.
     pub both-asks : BothAsk b p ix n u prm imgs bnd s tbl xs rows r t
-    both-asks = record { good = h .good; zeroed = h .zeroed; standing = standing; here = refl; room = h .room; few = h .few }
+    both-asks = record { good = h .good; tables = h .tables; standing = standing; here = refl; room = h .room; few = h .few }
 
     pub turn-is : {b′ p′ ix′ prm′ imgs′ bnd′ rows′ : List ℕ} {q : Counts} → BothAre b p n prm imgs bnd s tbl xs rows r t b′ p′ ix′ prm′ imgs′ bnd′ rows′ q
         → TurnIs b p n prm imgs bnd s tbl m xs rows t b′ p′ ix′ prm′ imgs′ bnd′ rows′ q
@@ -313,6 +316,7 @@ module _ {b p ix : List ℕ} {n u : ℕ} {prm imgs bnd s tbl : List ℕ} {m : �
           rest = a .rest;
           known = a .known;
           starts = a .starts;
+          tables = a .tables;
           params = a .params;
           images = a .images;
           bound = a .bound;
@@ -326,6 +330,7 @@ pub record Tabling (b p : List ℕ) (n : ℕ) (prm imgs bnd s tbl : List ℕ) (m
   pub wide : length p′ ≡ length p
   pub lent : length rows′ ≡ length rows
   pub starts : Starts (storeOf b p n) (storeOf b′ p′ n′)
+  pub tables : Lent b′ p′ n′ prm′ imgs′ bnd′
   pub params : prm′ ≡ prm
   pub images : imgs′ ≡ imgs
   pub bound : bnd′ ≡ bnd
@@ -344,6 +349,7 @@ module _ {b p ix : List ℕ} {n u : ℕ} {prm imgs bnd s tbl : List ℕ} {m : �
         wide = refl;
         lent = refl;
         starts = starts-self (storeOf b p n);
+        tables = h .tables;
         params = refl;
         images = refl;
         bound = refl;
@@ -360,7 +366,7 @@ module _ {b p ix : List ℕ} {n u : ℕ} {prm imgs bnd s tbl : List ℕ} {m : �
     turn-asks o =
         record {
           good = a .good;
-          zeroed = zeroed-as (a .params) (a .images) (a .bound) (h .zeroed);
+          tables = a .tables;
           numbered = numbered-grown n′ grown (h .numbered);
           stands = λ j z. h .stands j (omega arith);
           placed = omega (arith, h .placed);
@@ -406,6 +412,7 @@ module _ {b p ix : List ℕ} {n u : ℕ} {prm imgs bnd s tbl : List ℕ} {m : �
             wide = t .wide ∙ a .wide;
             lent = t .lent ∙ a .lent;
             starts = starts-trans (storeOf b p n) (storeOf b′ p′ n′) (storeOf d q (w .count)) (a .starts) (t .starts);
+            tables = t .tables;
             params = t .params ∙ a .params;
             images = t .images ∙ a .images;
             bound = t .bound ∙ a .bound;

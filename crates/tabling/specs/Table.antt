@@ -12,10 +12,9 @@ use Rattle.sheet.specs.Trees.{treesOf}
 use Rattle.sheet.specs.Contract.{termAt, termsAt, TermStands}
 use Rattle.sheet.specs.Stands.{Numbered}
 use Rattle.store.specs.Good.{Good}
-use Rattle.matching.specs.Tables.{Zeroed}
 use Rattle.checked.specs.Ranks.{smtLib}
+use Rattle.answers.specs.Lent.{Lent}
 use Rattle.site.specs.Site.{Standing}
-use Rattle.repeats.specs.Past.{PastOf}
 use Rattle.judged.specs.Rows.{Tabled, bothRows, rowsOf}
 use Rattle.questions.specs.declared.all.Counts.{Counts}
 
@@ -27,15 +26,10 @@ tabled st rows = record { store = st; rows = rows }
 abbrev pub Known : List ℕ → ℕ → ℕ → Type 0
 Known rows t n = (i : ℕ) → i < 2 * t → getD rows i 0 < 65536 → getD rows i 0 < n
 
--- The tables of Apps judged before, one a column, say the truth over the store of n sorts in b p.
-pub record Pasts (b p : List ℕ) (n : ℕ) (ws vs : List ℕ) : Type 0 where
-  pub inferences : PastOf 0 b p n ws
-  pub checks : PastOf 1 b p n vs
-
--- A good store, zeroed tables of names, and the record r of the term t, with room for its rows.
+-- A good store, tables of names lent over it, and the record r of the term t, with room for its rows.
 pub record BothAsk (b p ix : List ℕ) (n u : ℕ) (prm imgs bnd s tbl xs rows : List ℕ) (r : TermRecord) (t : ℕ) : Type 0 where
   pub good : Good b p ix n u
-  pub zeroed : Zeroed prm imgs bnd
+  pub tables : Lent b p n prm imgs bnd
   pub standing : Standing n s tbl xs rows r
   pub here : standing .term ≡ t
   pub room : 2 * t + 2 ≤ length rows
@@ -55,14 +49,15 @@ pub record BothAre (b p : List ℕ) (n : ℕ) (prm imgs bnd s tbl xs rows : List
   pub rest : drop (2 * t + 2) rows′ ≡ drop (2 * t + 2) rows
   pub known : Known rows′ (t + 1) (c .count)
   pub starts : Starts (storeOf b p n) (storeOf b′ p′ (c .count))
+  pub tables : Lent b′ p′ (c .count) prm′ imgs′ bnd′
   pub params : prm′ ≡ prm
   pub images : imgs′ ≡ imgs
   pub bound : bnd′ ≡ bnd
 
--- A good store, zeroed tables of names, m sorts with numbers of the store, and the terms up to t at the places xs.
+-- A good store, tables of names lent over it, m sorts with numbers of the store, and the terms up to t at the places xs.
 pub record TurnAsks (b p ix : List ℕ) (n u : ℕ) (prm imgs bnd s tbl : List ℕ) (m : ℕ) (xs rows : List ℕ) (t : ℕ) : Type 0 where
   pub good : Good b p ix n u
-  pub zeroed : Zeroed prm imgs bnd
+  pub tables : Lent b p n prm imgs bnd
   pub numbered : Numbered n s tbl m
   pub stands : (i : ℕ) → i < t + 1 → TermStands s m i (getD xs i 0)
   pub placed : t < length xs
@@ -83,14 +78,15 @@ pub record TurnIs (b p : List ℕ) (n : ℕ) (prm imgs bnd s tbl : List ℕ) (m 
   pub rest : drop (2 * t + 2) rows′ ≡ drop (2 * t + 2) rows
   pub known : Known rows′ (t + 1) (c .count)
   pub starts : Starts (storeOf b p n) (storeOf b′ p′ (c .count))
+  pub tables : Lent b′ p′ (c .count) prm′ imgs′ bnd′
   pub params : prm′ ≡ prm
   pub images : imgs′ ≡ imgs
   pub bound : bnd′ ≡ bnd
 
--- A good store, zeroed tables of names, m sorts with numbers of the store, and c terms at the places xs, with room for their rows.
+-- A good store, tables of names lent over it, m sorts with numbers of the store, and c terms at the places xs, with room for their rows.
 pub record RowsAsk (b p ix : List ℕ) (n u : ℕ) (prm imgs bnd s tbl : List ℕ) (m : ℕ) (xs : List ℕ) (c : ℕ) (rows : List ℕ) : Type 0 where
   pub good : Good b p ix n u
-  pub zeroed : Zeroed prm imgs bnd
+  pub tables : Lent b p n prm imgs bnd
   pub numbered : Numbered n s tbl m
   pub stands : (i : ℕ) → i < c → TermStands s m i (getD xs i 0)
   pub placed : c ≤ length xs

@@ -18,8 +18,9 @@ use Rattle.sheet.specs.Contract.{termAt, termsAt, questionAt, questionsAt, shee
 use Rattle.sheet.specs.Stands.{each-length, zeros-all}
 use Rattle.sheet.specs.declared.SheetCounts.{SheetCounts}
 use Rattle.store.specs.Good.{Good, good-bytes, good-places}
-use Rattle.matching.specs.Tables.{Blank, Zeroed}
+use Rattle.matching.specs.Tables.{Blank}
 use Rattle.checked.specs.Ranks.{smtLib}
+use Rattle.answers.specs.Lent.{Lent}
 use Rattle.judged.specs.Rows.{Tabled, rowsOf}
 use Rattle.judged.specs.RowLaws.{rows-count}
 use Rattle.judged.specs.Questions.{Answered, answersOf}
@@ -60,10 +61,6 @@ blank-tables =
             bound = zeros-all 4096;
           };
     }
-
--- And those of one entry, where no name is looked up.
-pub short-tables : Zeroed (replicate 1 0) (replicate 1 0) (replicate 1 0)
-short-tables = record { params = zeros-all 1; images = zeros-all 1; bound = zeros-all 1 }
 
 pub own-tables : ReadSheetAsks (replicate 13312 0) (replicate 2048 0) (replicate 4096 0) (replicate 1024 0) (replicate 266 0)
 own-tables =
@@ -126,12 +123,12 @@ module _ {s b p ix tbl xs ys : List ℕ} {c : SheetCounts} {rw an : List ℕ} (a
   abbrev questions : List QuestionFields
   questions = questionsAt s sorts ys (c .questions)
 
-  pub rows-ask : {prm imgs bnd : List ℕ} → Zeroed prm imgs bnd
+  pub rows-ask : {prm imgs bnd : List ℕ} → Lent b p (c .count) prm imgs bnd
       → RowsAsk b p ix (c .count) (c .used) prm imgs bnd s tbl (c .sorts) xs (c .terms) rw
-  rows-ask {prm} {imgs} {bnd} zeroed =
+  rows-ask {prm} {imgs} {bnd} tables =
       record {
         good = stands .good;
-        zeroed = zeroed;
+        tables = tables;
         numbered =
             record { inside = omega (arith, a .table, a .accepted .fewSorts); known = stands .known; short = a .accepted .short };
         stands = stands .terms;

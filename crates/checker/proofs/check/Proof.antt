@@ -1,34 +1,63 @@
--- The checked row of a record.
--- Its parts are gathered first; the verdict on them is the row.
-use native.Mathlib.Omega.{arith}
+-- The checked verdict on a record whose arguments are gathered.
+-- Constants and Apps are their lines of the definition; what does not take the tables of names leaves them.
 use borrow.Author.Needs.{needs}
-use Rattle.site.specs.SiteLaws.{parts-site, site-row, below-row, parts-ask}
+use mathlib.Core.Path.{refl}
+use Rattle.record.specs.Decode.{storeOf}
+use Rattle.answers.specs.AnswerLaws.{judged-as}
+use Rattle.site.specs.Site.{siteOver}
+use Rattle.site.specs.SiteLaws.{count-few}
+use Rattle.checker.proofs.KindLaws.{checked-constant, checked-app}
 use Rattle.checker.proofs.check.Statement.{statement}
 use Rattle.checker.proofs.check.Tie as tie
 
-parts-judged-requires : tie.Need-parts-judged-requires
-parts-judged-requires c κs =
-    let s = c .before .before .before .before .before .before .before .before .before .before .before .before in
-    let q = s .args in
-    let a = q .args .now in
-    parts-ask (s .pre .standing) 1 a (omega arith) (s .pre .room)
-
-gathered-site-requires : tie.Need-gathered-site-requires
-gathered-site-requires c κs =
-    let s = c .before .before .before .before .before .before .before .before .before .before .before .before .before .before .before .before .before .before .before .before .before .before .before in
-    let q = s .args in
-    let rs = q .rows .now in
-    record { rows = rs; site = parts-site (s .pre) (c .before .before .before .before .before .before .before .before .before .before .parts-judged .kept .1 .1 .1 .1 .0) (c .before .before .before .before .before .before .before .if1 .taken) (c .before .before .before .before .before .before .before .before .before .before .parts-judged .ensures) }
+constant-requires : tie.Need-constant-requires
+constant-requires c κs =
+    let s = c .before .before .before .before .before .before .before .before .before .before .before .before .before .before in
+    s .pre .asks .good
 
 returns : tie.Need-returns
 returns c =
-    let c₁ = c .before .before .before .before .before .before .before .before .before .before .before .before .before .before in let c₂ = c₁ .before .before .before .before .before .before .before .before in let c₃ = c₂ .before .before .before in
-    site-row (c₂ .if1 .taken) (c₃ .parts-judged .ensures) (c₁ .gathered-site .ensures)
+    let s = c .before .before .before .before .before .before .before .before .before .before .before .before .before .before .before .before .before .before .before .before .before in
+    let q = s .args in
+    let b = q .records .now in
+    let p = q .places .now in
+    let n = q .count in
+    let z = q .sheet .now in
+    let xs = q .starts .now in
+    let tbl = q .table .now in
+    let a = q .args .now in
+    let r = q .term in
+    record { answer = judged-as {b = b} {p = p} {n = n} (checked-constant (siteOver (storeOf b p n) z tbl xs a r) (c .before .before .before .before .before .before .before .before .before .before .if1 .taken)) (c .before .before .before .before .before .before .constant .ensures); params = refl; images = refl; bound = refl }
+
+application-requires : tie.Need-application-requires
+application-requires c κs =
+    let s = c .before .before .before .before .before .before .before .before .before .before .before .before .before .before .before .before .before .before .before in
+    record { good = s .pre .asks .good; tables = s .pre .asks .tables; few = count-few (s .pre .asks .standing); room = s .pre .asks .room; below = s .pre .below }
 
 returns-2 : tie.Need-returns-2
 returns-2 c =
-    let s = c .before .before .before .before .before .before .before .before .before .before .before .before .before .before .before .before .before in
-    below-row (c .before .if1 .left) (c .before .before .before .before .parts-judged .ensures) (s .pre .good) (c .refuse .ensures)
+    let s = c .before .before .before .before .before .before .before .before .before .before .before .before .before .before .before .before .before .before .before .before .before .before .before .before .before .before .before .before .before .before .before .before in
+    let q = s .args in
+    let b = q .records .now in
+    let p = q .places .now in
+    let n = q .count in
+    let z = q .sheet .now in
+    let xs = q .starts .now in
+    let tbl = q .table .now in
+    let a = q .args .now in
+    let r = q .term in
+    let e = c .before .before .before .before .before .before .before .before .before .before .before .before .application .ensures in
+    record { answer = judged-as {b = b} {p = p} {n = n} (checked-app (siteOver (storeOf b p n) z tbl xs a r) (c .before .before .before .before .before .before .before .before .before .before .before .before .before .before .before .before .before .before .before .before .if2 .taken)) (e .answer); params = e .params; images = e .images; bound = e .bound }
+
+composed-site-requires : tie.Need-composed-site-requires
+composed-site-requires c κs =
+    let s = c .before .before .before .before .before .before .before .before .before .before .before .before .before .before .before .before in
+    record { good = s .pre .asks .good; rows = s .pre .rows; standing = s .pre .asks .standing; room = s .pre .asks .room; below = s .pre .below; large = c .before .before .before .before .before .if1 .left; other = c .before .before .before .before .if2 .left }
+
+returns-3 : tie.Need-returns-3
+returns-3 c = record { answer = c .before .before .before .before .before .before .before .before .composed-site .ensures; params = refl; images = refl; bound = refl }
 
 pub check-spec : {M : Type 1} → statement M
-check-spec = tie.close (tie.spec parts-judged-requires gathered-site-requires (λ c. search needs) (λ c. search needs) (λ c. search needs) (λ c. search needs) (λ c. search needs) (λ c. search needs) (λ c. search needs) returns (λ c κs. search needs) (λ c. search needs) returns-2)
+check-spec =
+    tie.close (tie.spec constant-requires (λ c. search needs) (λ c. search needs) (λ c. search needs) returns application-requires (λ c. search needs) (λ c. search needs) (λ c. search needs) (λ c. search needs) (λ c. search needs) (λ c. search needs) (λ c. search needs) returns-2 composed-site-requires (λ c. search needs) (λ c. search needs) (λ c. search needs)
+    (λ c. search needs) returns-3)

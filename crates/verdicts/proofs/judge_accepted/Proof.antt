@@ -1,9 +1,9 @@
 -- Where names may be looked up, `judge_named` judges.
--- Else there is no question, and the rows, over tables of one entry, are all there is to write.
+-- Else there is no question and no Par, and the rows, over tables of one entry, are all there is to write.
 use borrow.Author.Needs.{needs}
-use lib.ListN.{replicate}
-use Rattle.verdicts.proofs.NamedLaws.{none-asked}
-use Rattle.verdicts.proofs.JudgeLaws.{short-tables, rows-ask, judge-unasked}
+use Rattle.answers.specs.Lent.{unused}
+use Rattle.verdicts.proofs.NamedLaws.{none-asked, none-parless}
+use Rattle.verdicts.proofs.JudgeLaws.{rows-ask, judge-unasked}
 use Rattle.verdicts.proofs.judge_accepted.Statement.{statement}
 use Rattle.verdicts.proofs.judge_accepted.Tie as tie
 
@@ -18,8 +18,12 @@ returns c = c .before .before .before .before .before .before .before .before .b
 
 rows-all-requires : tie.Need-rows-all-requires
 rows-all-requires c κs =
-    let w = c .before .before .before .before .before .before .before .before .before .before .before .before .before .before .before .before .before .before .before .before in
-    rows-ask (w .pre) short-tables
+    let c₁ = c .before .before .before .before .before .before .before in let c₂ = c₁ .before in let w = c₂ .before .before .before .before .before .before .before .before .before .before .before .before in
+    let a = w .args in
+    let b = a .records .now in
+    let p = a .places .now in
+    let k = a .counts in
+    rows-ask (w .pre) (unused (none-parless b p (k .count) (k .questions) (c₂ .uses-names .ensures) (c₁ .if1 .left)))
 
 returns-2 : tie.Need-returns-2
 returns-2 c =

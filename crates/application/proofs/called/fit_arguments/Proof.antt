@@ -6,24 +6,18 @@ use Rattle.application.proofs.called.fit_arguments.Statement.{statement
 use Rattle.application.proofs.called.fit_arguments.Tie as tie
 
 list-names-requires : tie.Need-list-names-requires
-list-names-requires c κs =
-    let s = c .before .before .before .before .before .before .before in
-    fitted-add (s .pre)
+list-names-requires c κs = fitted-add (c .before .before .before .before .before .before .before .pre)
 
 fit-listed-requires : tie.Need-fit-listed-requires
-fit-listed-requires c κs =
-    let s = c .before .before .before .before .before .before .before .before .before .before .before .before .before in
-    fit-asks (s .pre) (c .before .before .before .before .before .list-names .ensures)
+fit-listed-requires c κs = fit-asks (c .before .before .before .before .before .before .before .before .before .before .before .before .before .pre) (c .before .before .before .before .before .list-names .ensures)
 
 unlist-names-requires : tie.Need-unlist-names-requires
-unlist-names-requires c κs =
-    let s = c .before .before .before .before .before .before .before .before .before .before .before .before .before .before .before .before .before .before .before in
-    fitted-take (s .pre) (c .before .before .before .before .before .before .before .before .before .before .before .list-names .ensures)
+unlist-names-requires c κs = fitted-take (c .before .before .before .before .before .before .before .before .before .before .before .before .before .before .before .before .before .before .before .pre) (c .before .before .before .before .before .before .before .before .before .before .before .list-names .ensures)
 
 returns : tie.Need-returns
 returns c =
-    let c₁ = c .before .before .before .before .before .before .before .before in let c₂ = c₁ .before .before .before .before .before .before in let s = c₂ .before .before .before .before .before .before .before .before in
-    fitted-is (s .pre) (c₂ .list-names .ensures) (c₁ .fit-listed .last .1 .1 .1 .1 .0) (c₁ .fit-listed .last .1 .1 .1 .1 .1 .0) (c₁ .fit-listed .result) (c₁ .fit-listed .ensures) (c .before .before .unlist-names .ensures)
+    let c₁ = c .before .before in let c₂ = c₁ .before .before .before .before .before .before in let c₃ = c₂ .before .before .before .before .before .before in let c₄ = c₃ .before .before .before .before .before .before .before .before in
+    fitted-is (c₄ .pre) (c₃ .list-names .ensures) (c₂ .fit-listed .ensures) (c₁ .unlist-names .ensures)
 
 pub fit-arguments-spec : {M : Type 1} → statement M
 fit-arguments-spec = tie.close (tie.spec list-names-requires fit-listed-requires unlist-names-requires (λ c. search needs) (λ c. search needs) (λ c. search needs) returns)

@@ -2,8 +2,7 @@
 -- Both are those of the judgement, with the zeros that stood behind them.
 use borrow.Author.Needs.{needs}
 use mathlib.Core.Path.{_∙_}
-use lib.ListN.{replicate}
-use Rattle.matching.specs.TableLaws.{blank-zeroed}
+use Rattle.answers.specs.Lent.{whole}
 use Rattle.verdicts.proofs.JudgeLaws.{blank-tables, rows-ask, answers-ask, judge-written}
 use Rattle.verdicts.proofs.named.judge_named.Statement.{statement}
 use Rattle.verdicts.proofs.named.judge_named.Tie as tie
@@ -11,7 +10,7 @@ use Rattle.verdicts.proofs.named.judge_named.Tie as tie
 rows-all-requires : tie.Need-rows-all-requires
 rows-all-requires c κs =
     let w = c .before .before .before .before .before .before .before .before .before .before .before .before .before .before .before .before in
-    rows-ask (w .pre) (blank-zeroed (replicate 65536 0) (replicate 65536 0) (replicate 4096 0) blank-tables)
+    rows-ask (w .pre) (whole blank-tables)
 
 answer-all-requires : tie.Need-answer-all-requires
 answer-all-requires c κs =
