@@ -83,7 +83,7 @@ def lent_name():
     return re.search(r'pub record (Lent|Lengths)\b', s).group(1)
 
 
-HEAD = '''-- Made by ../tools/vectors.py: vectors as examples.
+HEAD = '''-- Made by tools/definition_vectors.py: vectors as examples.
 use Prim.Native.Nat.{ℕ, zero, suc, _+_, _*_, _-_}
 use Prim.Native.Char.{code}
 use Prim.Native.String.{String, [] as empty, _∷_ as _before_}

@@ -1,18 +1,20 @@
 #!/usr/bin/env python3
-"""Measures the program on large sheets: time (median, least and most of several runs, the start of the process included) and memory.
+"""Measures the program on sheets that are made here: processor time, the start of the process included, and memory.
 
-usage: measure_program.py PROGRAM [RUNS [CASE=TERMS]]
+usage: measure_program.py PROGRAM [RUNS]     the table "The program" of docs/PERFORMANCE.md
+       measure_program.py write FOLDER       writes the sheets that take longest into a folder, for `bench judge`
 
-Each sheet is made here; what it prints is thrown away after its length is counted once.
+What is printed is thrown away after its length is counted once.
 """
 import os
 import statistics
 import subprocess
 import sys
 import tempfile
-import time
 
-from sheets import APP, ARRAY, BITS, BV, FUN, INTEGER, LEAF, OP, PAR, SET, TUPLE, TVAR, VAR, equal_hashes, sheet
+from sheets import (
+    APP, APPLY, ARRAY, BINDER, BITS, BV, FUN, INTEGER, LEAF, MATCH, OP, PAR, SET, TUPLE, TVAR, VAR, equal_hashes, sheet
+)
 
 
 def mixed(n):
@@ -99,105 +101,171 @@ def filled():
     return sorts, [TVAR(1, len(sorts) - 1), INTEGER(0)] + [BITS(1000 + i) for i in range(10)]
 
 
-def again(n):
+def again():
     """One App, again and again, whose answer has no room in the store."""
     sorts, terms = filled()
-    return sheet(sorts, terms + [APP(0, 1)] * (n - len(terms)))
+    return sheet(sorts, terms + [APP(0, 1)] * (4096 - len(terms)))
 
 
-def turns(n):
+def turns(questions=0):
     """Two such Apps in turn, which share a slot of the table of Apps: their arguments' store numbers are 128 apart."""
     sorts, terms = filled()
-    return sheet(sorts, terms + [APP(0, 1 if i % 2 else 3) for i in range(n - len(terms))])
+    apps = [APP(0, 1 if i % 2 else 3) for i in range(4096 - len(terms))]
+    return sheet(sorts, terms + apps, [APPLY(len(sorts) - 3, [1], [0])] * questions)
 
 
-def unlike(n):
+def turns_and_questions():
+    """The same, and 1,024 questions for what such an App would give, which are not looked up."""
+    return turns(1024)
+
+
+def unlike():
     """Such Apps, no two of them alike: of two arguments out of 62 each."""
     sorts = chain(2, 2046)
     terms = [TVAR(1, len(sorts) - 1)] + [BITS(1000 + i) for i in range(62)]
-    return sheet(sorts, terms + [APP(0, 1 + i % 62, 1 + i // 62) for i in range(min(n - 63, 62 * 62))])
+    return sheet(sorts, terms + [APP(0, 1 + i % 62, 1 + i // 62) for i in range(62 * 62)])
 
 
-def read(n):
-    """As many sorts as a sheet holds, all but one of one hash."""
-    return sheet([LEAF(4)] + [PAR(names, 0) for names in equal_hashes(2047)], [INTEGER(0)] * n)
-
-
-def equal(n):
-    """Apps as in `unlike`, of 63 heads and 63 arguments: each makes 1,425 Pars over Int of one hash, that of 397 which stand on the sheet."""
-    names = equal_hashes(1822)
-    sorts = [LEAF(4), VAR(1), VAR(2)] + [PAR(those, 1) for those in names[:1425]]
+def equal():
+    """Apps as in `unlike`, of 63 heads and 63 arguments: each makes 1,600 Pars over Int of one hash, that of 60 which stand on the sheet."""
+    found = equal_hashes(2047)[:1660]
+    sorts = [LEAF(4), VAR(1), VAR(2)] + [PAR(those, 1) for those in found[:1600]]
     parts = range(3, len(sorts))
     sorts += [TUPLE(*parts[i:i + 64]) for i in range(0, len(parts), 64)]
     sorts += [TUPLE(*range(parts.stop, len(sorts))), ARRAY(1, 2), FUN(len(sorts) + 1, len(sorts))]
     first = len(sorts)
     sorts += [PAR([1, 2, 3 + i], first - 1) for i in range(63)] + [ARRAY(0, i) for i in range(63)]
     terms = [TVAR(1, i) for i in range(first, len(sorts))]
-    apps = [APP(i % 63, 63 + i // 63) for i in range(n - len(terms))]
-    return sheet(sorts + [PAR(those, 0) for those in names[1425:]], terms + apps)
+    apps = [APP(i % 63, 63 + i // 63) for i in range(63 * 63)]
+    return sheet(sorts + [PAR(those, 0) for those in found[1600:]], terms + apps)
 
 
-def peak(program, path):
-    """The largest resident size of the program in KiB, as GNU time tells it."""
-    with open(path, "rb") as stdin, open(os.devnull, "wb") as sink:
-        told = subprocess.run(["/usr/bin/time", "-f", "%M", program], stdin=stdin, stdout=sink, stderr=subprocess.PIPE)
-    return int(told.stderr.split()[-1])
+def read():
+    """As many sorts as a sheet holds, all but one of one hash."""
+    return sheet([LEAF(4)] + [PAR(those, 0) for those in equal_hashes(2047)], [INTEGER(0)])
+
+
+def over(sorts, leaf, levels):
+    """Appends Arrays, each over the one before: the first over `leaf`, the second part of each Int."""
+    for _ in range(levels):
+        sorts.append(ARRAY(leaf, 0))
+        leaf = len(sorts) - 1
+    return leaf
+
+
+def heads(sorts, params, function):
+    """Appends 20 heads that differ in a name that they do not use, and gives their terms."""
+    sorts.append(function)
+    body = len(sorts) - 1
+    sorts += [PAR(params + [10 + i], body) for i in range(20)]
+    return [TVAR(1, body + 1 + i) for i in range(20)]
+
+
+def too_large():
+    """Apps of 20 heads and 30 arguments, each refused for the size of its answer (22), a sum over 1,988 Arrays."""
+    sorts = [LEAF(4), VAR(1)] + [ARRAY(i, 1) for i in range(1, 1989)]
+    terms = heads(sorts, [1], FUN(1, 1989))
+    sorts += [TUPLE(*[0] * (3 + i)) for i in range(30)]
+    terms += [TVAR(2, len(sorts) - 30 + i) for i in range(30)]
+    return sheet(sorts, terms + [APP(i % 20, 20 + i // 20 % 30) for i in range(4096 - len(terms))])
+
+
+def binders():
+    """Quantifiers of 64 bindings each, whose sorts are all tested down to the last of 2,043 Arrays."""
+    sorts = [LEAF(4), LEAF(3)]
+    top = over(sorts, 0, 2043)
+    return sheet(sorts, [TVAR(1, 1)] + [BINDER(0, [(1, top)] * 64, 0)] * 189)
+
+
+def variables():
+    """4,096 variables of such a sort, which is tested for each."""
+    sorts = [LEAF(4), LEAF(3)]
+    top = over(sorts, 0, 2043)
+    return sheet(sorts, [TVAR(1, top)] * 4096)
+
+
+def late(leaf, result):
+    """Apps of 20 heads and 180 first arguments, whose second one is compared down to the last of 990 Arrays."""
+    sorts = [LEAF(4), LEAF(3), VAR(1), VAR(2), VAR(3)]
+    pattern, target = over(sorts, leaf, 990), over(sorts, 1, 990)
+    terms = heads(sorts, [1, 2, 3], FUN(3, pattern, result)) + [TVAR(2, target)] + [BITS(1000 + i) for i in range(180)]
+    return sheet(sorts, terms + [APP(i % 20, 21 + i // 20, 20) for i in range(3600)])
+
+
+def misfit():
+    """Such Apps, of which the last part does not fit (21 and 26)."""
+    return late(0, 1)
+
+
+def unassigned():
+    """Such Apps, whose result keeps a parameter (27)."""
+    return late(2, 4)
+
+
+def matches():
+    """1,024 questions to match two chains of 1,020 Arrays each, and to replace in the first."""
+    sorts = [LEAF(4), LEAF(3), VAR(1)]
+    pattern, target = over(sorts, 2, 1020), over(sorts, 1, 1020)
+    return sheet(sorts, [INTEGER(0)], [MATCH(pattern, target, pattern, [1])] * 1024)
+
+
+def names():
+    """Apps of 20 heads and 180 arguments that replace below 250 Pars of 64 names."""
+    sorts = [LEAF(4), VAR(1), VAR(2), PAR(range(100, 164), 1)]
+    sorts += [PAR(range(100 + i, 164 + i), 2 + i) for i in range(1, 250)]
+    terms = heads(sorts, [1, 2], FUN(2, len(sorts) - 1)) + [BITS(1000 + i) for i in range(180)]
+    return sheet(sorts, terms + [APP(i % 20, 20 + i // 20 % 180) for i in range(3896)])
+
+
+def run(program, path, out):
+    """Runs the program on a sheet: its processor time in ms and its largest resident size in KiB."""
+    with open(path, "rb") as stdin:
+        child = subprocess.Popen([program], stdin=stdin, stdout=out)
+        _, status, used = os.wait4(child.pid, 0)
+        child.returncode = status
+        assert status == 0, path
+    return (used.ru_utime + used.ru_stime) * 1000, used.ru_maxrss
+
+
+def printed(program, path):
+    """How many bytes the program prints."""
+    with open(path, "rb") as stdin, subprocess.Popen([program], stdin=stdin, stdout=subprocess.PIPE) as child:
+        return sum(len(piece) for piece in iter(lambda: child.stdout.read(1 << 20), b""))
 
 
 def measure(program, data, runs):
-    with tempfile.NamedTemporaryFile() as f:
+    """The bytes that are printed for a sheet, the median time in ms and the largest size in KiB."""
+    assert len(data) <= 65536, len(data)
+    with tempfile.NamedTemporaryFile() as f, open(os.devnull, "wb") as sink:
         f.write(data)
         f.flush()
-        most = peak(program, f.name)
-        with open(f.name, "rb") as stdin:
-            out = subprocess.Popen([program], stdin=stdin, stdout=subprocess.PIPE)
-            size = 0
-            while True:
-                piece = out.stdout.read(1 << 20)
-                if not piece:
-                    break
-                size += len(piece)
-            out.wait()
-        times = []
-        for _ in range(runs):
-            with open(f.name, "rb") as stdin, open(os.devnull, "wb") as sink:
-                start = time.perf_counter()
-                done = subprocess.run([program], stdin=stdin, stdout=sink)
-                times.append(time.perf_counter() - start)
-                assert done.returncode == 0
-    return size, times, most
+        times, sizes = zip(*(run(program, f.name, sink) for _ in range(runs)))
+        return printed(program, f.name), statistics.median(times), max(sizes)
 
 
-CASES = [
-    ("mixed", mixed, (256, 512, 1024, 2048, 4096)),
-    ("deep", deep, (256, 512, 1024, 2048, 4096)),
-    ("wide", wide, (256, 1024, 4096)),
-    ("long", long, (16, 64, 256)),
-    ("again", again, (4096,)),
-    ("turns", turns, (4096,)),
-    ("unlike", unlike, (3907,)),
-    ("read", read, (1,)),
-    ("equal", equal, (256,)),
-]
+CASES = [(mixed, 256), (mixed, 4096), (deep, 256), (deep, 4096), (wide, 4096), (long, 256)]
+WORST = [equal, turns_and_questions, turns, unlike, too_large, binders, matches, variables, unassigned, misfit, names, again, read]
+
+
+def write(folder):
+    """Writes the worst sheets, each by its place in the list and its name."""
+    for i, make in enumerate(WORST):
+        with open(os.path.join(folder, f"{i:02}-{make.__name__}"), "wb") as f:
+            f.write(make())
 
 
 def main():
-    program = sys.argv[1]
-    runs = int(sys.argv[2]) if len(sys.argv) > 2 else 10
-    print("| sheet | terms | bytes | printed bytes | median ms | least | most | peak KiB |")
-    print("|---|---|---|---|---|---|---|---|")
-    if len(sys.argv) > 3:
-        name, n = sys.argv[3].split("=")
-        size, times, most = measure(program, dict((name, make) for name, make, _ in CASES)[name](int(n)), runs)
-        print(name, n, size, sorted(round(t * 1000, 1) for t in times), most)
-        return
-    for name, make, counts in CASES:
-        for n in counts:
-            data = make(n)
-            assert len(data) <= 65536, (name, n, len(data))
-            size, times, most = measure(program, data, runs)
-            ms = [t * 1000 for t in times]
-            print(f"| {name} | {n} | {len(data)} | {size} | {statistics.median(ms):.1f} | {min(ms):.1f} | {max(ms):.1f} | {most} |", flush=True)
+    program, *rest = sys.argv[1:]
+    if program == "write":
+        return write(rest[0])
+    runs = int(rest[0]) if rest else 5
+    print("| sheet | terms | bytes | printed bytes | ms | peak KiB |")
+    print("|---|---|---|---|---|---|")
+    for make, n in CASES:
+        data = make(n)
+        size, ms, most = measure(program, data, runs)
+        print(f"| {make.__name__} | {n:,} | {len(data):,} | {size:,} | {ms:,.1f} | {most:,} |", flush=True)
 
 
-main()
+if __name__ == "__main__":
+    main()

@@ -2,12 +2,16 @@
 """Measures the stack that the program needs on the deepest sheets that are known: the least limit (`ulimit -s`) under which it runs to its end.
 
 usage: measure_stack.py PROGRAM [SHEET..]
+       measure_stack.py write FOLDER        writes the sheets into a folder, for `bench stack`
 
-Without sheets they are made here, as rust/beside/tests/stack.rs makes them: a chain of layers over a variable is doubled by an App, up to the
-4,096 nodes of a tree, is then pattern and, moved by a period, target, and is replaced in, compared, tested and printed; and a chain of the sheet's
-own sorts, which goes through both rows. The environment is empty, since it stands on the stack too.
+Without sheets they are the four deep ones that crates/replay_lent has recorded, and those that are made here, as rust/beside/tests/stack.rs makes
+them: a chain of layers over a variable is doubled by an App, up to the 4,096 nodes of a tree, is then pattern and, moved by a period, target, and is
+replaced in, compared, tested and printed; and a chain of the sheet's own sorts, which goes through both rows. The environment is empty, since it
+stands on the stack too.
 """
+import os
 import resource
+import struct
 import subprocess
 import sys
 import tempfile
@@ -96,17 +100,40 @@ def least(program, path):
     return high
 
 
-def main():
-    program, paths = sys.argv[1], sys.argv[2:]
-    made = {} if paths else {f"{make.__name__} {p}": make(p) for make in (doubled, declared) for p in PERIODS}
-    for path in paths:
-        print(path, least(program, path), flush=True)
-    for name, data in made.items():
-        assert len(data) <= 65536, (name, len(data))
-        with tempfile.NamedTemporaryFile() as f:
+def recorded():
+    """The deep sheets that stand last in crates/replay_lent: four lengths and the sheet's own before each."""
+    found, at = [], 0
+    with open(os.path.join(os.path.dirname(__file__), "../crates/replay_lent/data/sheets.bin"), "rb") as f:
+        data = f.read()
+    while at < len(data):
+        length = struct.unpack_from("<5H", data, at)[4]
+        found.append(data[at + 10 : at + 10 + length])
+        at += 10 + length
+    return dict(zip(("apply-4086", "nested-pars", "set-and-15-pars", "shifted-sets"), found[-4:]))
+
+
+def sheets():
+    """All deep sheets by name."""
+    return recorded() | {f"{make.__name__}-{period}": make(period) for make in (doubled, declared) for period in PERIODS}
+
+
+def write(folder):
+    for name, data in sheets().items():
+        with open(os.path.join(folder, name), "wb") as f:
             f.write(data)
-            f.flush()
-            print(name, least(program, f.name), flush=True)
+
+
+def main():
+    program, *paths = sys.argv[1:]
+    if program == "write":
+        return write(paths[0])
+    with tempfile.TemporaryDirectory() as folder:
+        if not paths:
+            write(folder)
+            paths = [os.path.join(folder, name) for name in sheets()]
+        print("| sheet | program |\n|---|---|")
+        for path in paths:
+            print(f"| {os.path.basename(path)} | {least(program, path):,} |", flush=True)
 
 
 main()

@@ -1,4 +1,5 @@
 """Records of sheets as bytes, for the scripts beside this one."""
+import functools
 import struct
 
 
@@ -33,10 +34,12 @@ BITS = lambda w: bytes([5, 4]) + struct.pack("<I", w)
 TVAR = lambda n, s: bytes([11, 5]) + u16(n) + u16(s)
 APP = lambda *l: bytes([17, 6]) + items(l)
 OP = lambda k, *l: bytes([21, 7]) + struct.pack("<I", k) + items(l)
+BINDER = lambda k, pairs, b: bytes([53, 8]) + struct.pack("<I", k) + items([b]) + bytes([len(pairs)]) + b"".join(u16(n) + u16(s) for n, s in pairs)
 
 # questions
 COMPATIBLE = lambda a, b: bytes([17, 0]) + items([a, b])
 MATCH = lambda p, t, r, names: bytes([81, 1]) + items([p, t, r]) + items(names)
+APPLY = lambda s, names, images: bytes([81, 2]) + items([s] + images) + items(names)
 
 
 # The store's hash (crates/store/src/hashes.rt): two halves of 32 bits, a step for each two bytes. Its products are undone by UNLOW and UNHIGH.
@@ -75,6 +78,7 @@ def beginnings(low, high):
     return found
 
 
+@functools.cache
 def equal_hashes(n):
     """The names of n Pars over the sort 0, six each, whose records all have the hash 0; some 20 seconds for 2,000.
 

@@ -1,12 +1,15 @@
 //! Measures the proved library beside carcara's pool, on the same sheets.
 //!
-//! - `bench all [RUNS]`: all cases, and how the families grow from 256 to 4,096 terms; RUNS of each (25, if not said);
+//! - `bench all [RUNS]`: all cases, and how the families grow from 256 to 4,096 terms; RUNS of each (16, if not said);
 //! - `bench cases [RUNS [TEXT]]`, `bench growth [RUNS]`: one of the two; with TEXT the cases in whose name it stands;
+//! - `bench turns OBJECT [RUNS [TEXT]]`: this library in turn with another build of it, a shared object; both must fill the same buffers;
+//! - `bench judge SHEET..`: what the library takes for sheets in files, in ms, the median of three runs;
+//! - `bench stack SHEET..`: the least stack on which the library runs to its end;
 //! - `bench once CASE library|pool [TIMES]`: one case, one side, so many times, without a word; for a profiler;
 //! - `bench list`: the cases;
 //! - `bench sheets FOLDER`: writes the sheets, `CASE.SHEET` each by its numbers, and the cases' names and lent lengths in `cases.txt`.
 //!
-//! What is timed:
+//! What is timed, by the processor time of the thread:
 //!
 //! - the library: `napsilo_judge`, from the bytes of the sheet to the four filled buffers, so the reading of the sheet with all its checks,
 //!   both rows of each term, the answers, the zeros of the buffers. The buffers are allocated once and have the program's lengths, if a
@@ -22,11 +25,13 @@ mod families;
 mod measure;
 mod pool;
 mod special;
+mod stack;
+mod system;
 
 use beside::Trial;
 use beside::random::Random;
 use families::FAMILIES;
-use measure::{Spread, in_turn};
+use measure::in_turn;
 use napsilo::{Lent, judge_into};
 use pool::Decoded;
 use special::Asked;
@@ -34,7 +39,8 @@ use std::fs;
 use std::hint::black_box;
 use std::path::Path;
 use std::process::ExitCode;
-use std::time::{Duration, Instant};
+use std::time::Duration;
+use system::{Buffers, Other, timed};
 
 /// What is measured together: some sheets, and the lengths that are lent.
 struct Case {
@@ -84,20 +90,29 @@ fn cases() -> Vec<Case> {
 /// One side of a case: what a pass over its sheets takes.
 type Side<'a> = Box<dyn FnMut() -> Duration + 'a>;
 
+/// A side that judges the sheets of a case; what is said must be 0.
+fn judging<'a>(case: &'a Case, judge: impl Fn(&[u8], &mut Buffers) -> u32 + 'a) -> Side<'a> {
+    let mut buffers = Buffers::new(case.lent);
+    Box::new(move || {
+        let (time, ()) = timed(|| {
+            for sheet in &case.sheets {
+                assert_eq!(judge(black_box(sheet), &mut buffers), 0);
+                black_box(&buffers.records);
+            }
+        });
+        time
+    })
+}
+
+/// What the library says of a sheet.
+fn judge(sheet: &[u8], buffers: &mut Buffers) -> u32 {
+    let Buffers { records, places, rows, answers } = buffers;
+    judge_into(sheet, records, places, rows, answers).map_or_else(|refusal| refusal.number(), |()| 0)
+}
+
 /// The library's side.
 fn library(case: &Case) -> Side<'_> {
-    let mut records = vec![0; case.lent.records];
-    let [mut places, mut rows, mut answers] =
-        [case.lent.places, case.lent.rows, case.lent.answers].map(|length| vec![0; length]);
-    Box::new(move || {
-        let start = Instant::now();
-        for sheet in &case.sheets {
-            let said = judge_into(black_box(sheet), &mut records, &mut places, &mut rows, &mut answers);
-            assert_eq!(said, Ok(()));
-            black_box((&records, &places, &rows, &answers));
-        }
-        start.elapsed()
-    })
+    judging(case, judge)
 }
 
 /// The pool's side.
@@ -106,8 +121,8 @@ fn pool(case: &Case) -> Side<'_> {
     Box::new(move || decoded.iter().map(Decoded::infer).sum())
 }
 
-/// Compares on the sheets of a case; how many terms they have, and how many of them have a checked sort.
-fn compared(case: &Case) -> (usize, usize) {
+/// Compares on the sheets of a case, of which no term and no answer may be refused.
+fn compared(case: &Case) {
     let mut trial = Trial::default();
     for sheet in &case.sheets {
         trial.sheet(sheet, &mut Random::new(1), 0).expect("no difference");
@@ -115,7 +130,6 @@ fn compared(case: &Case) -> (usize, usize) {
     let terms = trial.inferred.iter().sum();
     assert_eq!((trial.inferred[0], trial.sheets[0]), (terms, case.sheets.len()), "{}: refused", case.name);
     assert_eq!(trial.answers[0], trial.answers.iter().sum(), "{}: an answer is refused", case.name);
-    (terms, trial.checked[0])
 }
 
 /// A time in microseconds.
@@ -123,58 +137,85 @@ fn time(microseconds: f64) -> String {
     match microseconds {
         few if few < 10.0 => format!("{few:.2}"),
         some if some < 1_000.0 => format!("{some:.1}"),
-        many => format!("{many:.0}"),
+        many => commas(many.round() as usize),
     }
 }
 
-/// A median with the least time and the quartiles.
-fn shown(spread: &Spread) -> String {
-    let [median, least, first, third] = [spread.median, spread.least, spread.first, spread.third].map(time);
-    format!("{median} ({least}; {first} to {third})")
+/// A whole number with a comma before each three digits.
+fn commas(number: usize) -> String {
+    if number < 1_000 { number.to_string() } else { format!("{},{:03}", commas(number / 1_000), number % 1_000) }
+}
+
+/// How many terms a sheet has.
+fn terms_of(sheet: &[u8]) -> usize {
+    usize::from(u16::from_le_bytes([sheet[2], sheet[3]]))
 }
 
 /// Measures the cases in whose name a text stands.
 fn measure_cases(runs: usize, text: &str) {
-    println!(
-        "Times in µs: median (least; first to third quartile) of {runs} runs. Ratio: library by pool, of medians.\n"
-    );
-    println!("| case | terms | with a checked sort | bytes | library, both rows | carcara's pool, inference | ratio |");
-    println!("|---|---|---|---|---|---|---|");
+    println!("| case | terms | bytes | library | pool | ratio |");
+    println!("|---|---|---|---|---|---|");
     for case in cases().into_iter().filter(|case| case.name.contains(text)) {
-        let (terms, checked) = compared(&case);
+        compared(&case);
         let (one, other) = in_turn(runs, &mut *library(&case), &mut *pool(&case));
-        let bytes: usize = case.sheets.iter().map(Vec::len).sum();
-        let (shown_one, shown_other) = (shown(&one), shown(&other));
+        let terms = commas(case.sheets.iter().map(|sheet| terms_of(sheet)).sum());
+        let bytes = commas(case.sheets.iter().map(Vec::len).sum());
         let ratio = one.median / other.median;
-        println!("| {} | {terms} | {checked} | {bytes} | {shown_one} | {shown_other} | {ratio:.2} |", case.name);
+        println!("| {} | {terms} | {bytes} | {} | {} | {ratio:.2} |", case.name, time(one.median), time(other.median));
     }
 }
 
 /// Measures how the families grow.
 fn measure_growth(runs: usize) {
-    const SIZES: [usize; 5] = [256, 512, 1_024, 2_048, 4_096];
-    println!("Library / carcara's pool in µs: medians of {runs} runs, and the least times in brackets.");
-    println!("Growth: so many times as long take 4,096 terms as 256, by the least times.\n");
-    println!("| family | 256 | 512 | 1,024 | 2,048 | 4,096 | growth | ns a term at 4,096 |");
-    println!("|---|---|---|---|---|---|---|---|");
+    println!("| family | growth | at 4,096 |");
+    println!("|---|---|---|");
     for (name, family) in FAMILIES {
-        let spreads = SIZES.map(|terms| {
+        let [small, large] = [256, 4_096].map(|terms| {
             let case = Case::new(name, family(terms, 1));
             compared(&case);
             let (one, other) = in_turn(runs, &mut *library(&case), &mut *pool(&case));
             [one, other]
         });
-        let both = |of: &dyn Fn(usize) -> String| format!("{} / {}", of(0), of(1));
-        let cell = |spread: &[Spread; 2]| {
-            let [medians, least] = [|spread: &Spread| spread.median, |spread: &Spread| spread.least]
-                .map(|of| both(&|side| time(of(&spread[side]))));
-            format!("{medians} ({least})")
-        };
-        let cells = spreads.each_ref().map(cell).join(" | ");
-        let growth = both(&|side| format!("{:.1}", spreads[4][side].least / spreads[0][side].least));
-        let each = both(&|side| format!("{:.0}", spreads[4][side].median * 1e3 / 4_096.0));
-        println!("| {name} | {cells} | {growth} | {each} |");
+        let [library, pool] = [0, 1].map(|side| large[side].least / small[side].least);
+        let [ours, theirs] = [0, 1].map(|side| large[side].median * 1e3 / 4_096.0);
+        println!("| {name} | {library:.1} / {pool:.1} | {ours:.0} / {theirs:.0} |");
     }
+}
+
+/// Measures another build of the library, and this one in turn with it, on the cases in whose name a text stands.
+fn measure_turns(object: &str, runs: usize, text: &str) -> Option<()> {
+    let other = Other::load(object)?;
+    println!("| case | other, least | median | this, least | median | by least | by median |");
+    println!("|---|---|---|---|---|---|---|");
+    for case in cases().into_iter().filter(|case| case.name.contains(text)) {
+        for sheet in &case.sheets {
+            let (mut theirs, mut ours) = (Buffers::new(case.lent), Buffers::new(case.lent));
+            assert_eq!(other.judge(sheet, &mut theirs), judge(sheet, &mut ours));
+            assert!(theirs == ours, "{}: other buffers", case.name);
+        }
+        let mut before = judging(&case, |sheet, buffers| other.judge(sheet, buffers));
+        let (before, after) = in_turn(runs, &mut *before, &mut *library(&case));
+        let times = [before.least, before.median, after.least, after.median].map(time).join(" | ");
+        let (least, median) = (after.least / before.least, after.median / before.median);
+        println!("| {} | {times} | {least:.3} | {median:.3} |", case.name);
+    }
+    Some(())
+}
+
+/// Measures the library on sheets in files.
+fn measure_sheets(paths: &[String]) -> Option<()> {
+    println!("| sheet | terms | bytes | ms |");
+    println!("|---|---|---|---|");
+    for path in paths {
+        let sheet = fs::read(path).ok()?;
+        let name = path.rsplit('/').next().unwrap_or(path);
+        let mut buffers = Buffers::new(Lent::PROGRAM);
+        let mut times = [(); 3].map(|()| timed(|| judge(&sheet, &mut buffers)).0);
+        times.sort();
+        let [terms, bytes] = [terms_of(&sheet), sheet.len()].map(commas);
+        println!("| {name} | {terms} | {bytes} | {:.1} |", times[1].as_secs_f64() * 1e3);
+    }
+    Some(())
 }
 
 /// A case that takes too long for many runs; `once` knows it.
@@ -218,12 +259,16 @@ fn main() -> ExitCode {
     let done = oracle::on_stack(|| {
         match text(0) {
             "all" => {
-                measure_cases(number(1, 25), "");
+                measure_cases(number(1, 16), "");
                 println!();
-                measure_growth(number(1, 25));
+                measure_growth(number(1, 16));
             }
-            "cases" => measure_cases(number(1, 25), text(2)),
-            "growth" => measure_growth(number(1, 25)),
+            "cases" => measure_cases(number(1, 16), text(2)),
+            "growth" => measure_growth(number(1, 16)),
+            "turns" => return measure_turns(text(1), number(2, 16), text(3)),
+            "judge" => return measure_sheets(&arguments[1..]),
+            "stack" => return stack::measure(&arguments[1..]),
+            "stack-run" => return stack::run(text(1), text(2), number(3, 0)),
             "list" => cases().iter().chain([&long_case()]).for_each(|case| println!("{}", case.name)),
             "once" => return once(text(1), text(2), number(3, 1)),
             "sheets" => return write_sheets(Path::new(text(1))).ok(),
@@ -235,7 +280,8 @@ fn main() -> ExitCode {
         Some(()) => ExitCode::SUCCESS,
         None => {
             eprintln!(
-                "bench all|growth [RUNS] | bench cases [RUNS [TEXT]] | bench list | bench once CASE library|pool [TIMES] | bench sheets FOLDER"
+                "bench all|growth [RUNS] | bench cases [RUNS [TEXT]] | bench turns OBJECT [RUNS [TEXT]] | bench judge|stack SHEET.. | \
+                 bench list | bench once CASE library|pool [TIMES] | bench sheets FOLDER"
             );
             ExitCode::FAILURE
         }

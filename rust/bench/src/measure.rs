@@ -8,12 +8,8 @@ use std::time::Duration;
 pub struct Spread {
     /// The least.
     pub least: f64,
-    /// The first quartile.
-    pub first: f64,
     /// The median.
     pub median: f64,
-    /// The third quartile.
-    pub third: f64,
 }
 
 /// A run repeats its work until it took so long.
@@ -56,14 +52,9 @@ fn run_at(place: usize, work: &mut dyn FnMut() -> Duration) -> f64 {
 /// The spread of some times.
 fn spread(mut times: Vec<f64>) -> Spread {
     times.sort_by(f64::total_cmp);
-    // Between the two that are nearest.
-    let at = |quarter: usize| {
-        let last = times.len() - 1;
-        let (whole, rest) = (quarter * last / 4, quarter * last % 4);
-        let step = times[(whole + 1).min(last)] - times[whole];
-        times[whole] + step * [0.0, 0.25, 0.5, 0.75][rest]
-    };
-    Spread { least: times[0], first: at(1), median: at(2), third: at(3) }
+    let half = times.len() / 2;
+    let median = if times.len() % 2 == 0 { (times[half - 1] + times[half]) / 2.0 } else { times[half] };
+    Spread { least: times[0], median }
 }
 
 /// Runs two works in turn, each so many times after one time that does not count, at eight places of the stack.

@@ -1,0 +1,56 @@
+//! The least stack on which the library runs to its end: a thread of each size that is tried, in a process of its own.
+
+use napsilo::{LINE_BUFFER, Lent, judge_into, print_into};
+use std::env;
+use std::fs;
+use std::process::{Command, Stdio};
+use std::thread;
+
+/// Runs a function of the library on a sheet, on a thread of so many KiB; the process ends by a signal where they are too few.
+pub fn run(function: &str, path: &str, kib: usize) -> Option<()> {
+    let sheet = fs::read(path).ok()?;
+    let Lent { records, places, rows, answers } = Lent::PROGRAM;
+    let (mut bytes, mut from) = (vec![0; LINE_BUFFER.max(records)], 0);
+    let [mut places, mut rows, mut answers] = [places, rows, answers].map(|length| vec![0; length]);
+    let text = function == "text";
+    let work = move || {
+        if text {
+            while let end @ 1.. = print_into(&sheet, from, &mut bytes) {
+                from += bytes[..end].iter().filter(|byte| **byte == b'\n').count();
+            }
+        } else {
+            let _ = judge_into(&sheet, &mut bytes[..records], &mut places, &mut rows, &mut answers);
+        }
+    };
+    thread::Builder::new().stack_size(kib * 1024).spawn(work).ok()?.join().ok()
+}
+
+/// The least KiB, to 4, on which a function runs to its end.
+fn least(function: &str, path: &str) -> Option<usize> {
+    let enough = |kib: usize| {
+        let mut child = Command::new(env::current_exe().ok()?);
+        child.args(["stack-run", function, path, &kib.to_string()]).stderr(Stdio::null());
+        Some(child.status().ok()?.success())
+    };
+    let (mut low, mut high) = (16, 8_192);
+    while high - low > 4 {
+        let middle = (low + high) / 8 * 4;
+        if enough(middle)? {
+            high = middle;
+        } else {
+            low = middle;
+        }
+    }
+    Some(high)
+}
+
+/// Measures both functions on sheets, `napsilo_text` by all pieces of the printout.
+pub fn measure(paths: &[String]) -> Option<()> {
+    println!("| sheet | `napsilo_judge` | `napsilo_text` |");
+    println!("|---|---|---|");
+    for path in paths {
+        let name = path.rsplit('/').next().unwrap_or(path);
+        println!("| {name} | {} | {} |", least("judge", path)?, least("text", path)?);
+    }
+    Some(())
+}

@@ -1,0 +1,33 @@
+#!/usr/bin/env bash
+# Makes all tables of docs/PERFORMANCE.md again, in the page's order, on standard output: some minutes on an idle machine.
+# usage: tools/measure.sh PROGRAM FOLDER [OTHER]     FOLDER holds libexports.a; OTHER holds that of another build, which is run in turn with it
+# It needs what rust/bench needs (rust/README.md). All times are processor time.
+set -eu
+top=$(cd "$(dirname "$0")/.." && pwd -P)
+program=$(realpath "$1")
+NAPSILO_LIB_DIR=$(realpath "$2")
+other=${3:+$(realpath "$3")}
+export NAPSILO_LIB_DIR
+made=$(mktemp -d)
+trap 'rm -r "$made"' EXIT
+mkdir "$made/worst" "$made/deep"
+cd "$top/rust"
+cargo build --quiet --release --offline -p bench
+bench=${CARGO_TARGET_DIR:-target}/release/bench
+
+printf '## Beside the pool\n\n'
+"$bench" all 16
+printf '\n## The worst sheets\n\n'
+"$top/tools/measure_program.py" write "$made/worst"
+"$bench" judge "$made"/worst/*
+printf '\n## The program\n\n'
+"$top/tools/measure_program.py" "$program" 5
+printf '\n## The stack\n\n'
+"$top/tools/measure_stack.py" "$program"
+"$top/tools/measure_stack.py" write "$made/deep"
+"$bench" stack "$made"/deep/*
+if [ -n "$other" ]; then
+    printf '\n## In turn with the other build\n\n'
+    cc -shared -o "$made/other.so" -Wl,--whole-archive "$other/libexports.a" -Wl,--no-whole-archive
+    "$bench" turns "$made/other.so" 16
+fi
