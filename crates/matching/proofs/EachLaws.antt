@@ -4,6 +4,7 @@ use mathlib.Core.Path.{_≡_, refl, sym, ap, _∙_}
 use mathlib.Core.Bool.{Bool, true, false, _&&_}
 use mathlib.Core.List.{List}
 use native.Mathlib.Omega.{arith}
+use Rattle.record.specs.Cases.{byTest}
 use Rattle.record.specs.Number.{u16At}
 use Rattle.record.specs.Sort.{Sort, partsOf, size, sizes}
 use Rattle.record.specs.Decode.{sortAt}
@@ -29,6 +30,10 @@ module _ {b p : List ℕ} {n k : ℕ} (a : OneAsks b p n k) (r : SortRecord) (e 
     pub node-alone : r .count ≡ 0 → true ≡ every f (sortAt b p n k)
     unfolding every
     node-alone c = node-passes (sym (ap (everyAll f) (sorts-end b p n b (r .list) (r .count) c)))
+
+  -- Without parts, the node is the whole sort.
+  pub node-only : r .count ≡ 0 → q ≡ every f (sortAt b p n k)
+  node-only c = byTest q (λ z. z ∙ node-alone z c) (λ z. z ∙ node-fails z)
 
 ---------------------------------------------------------------- the loop along a list
 -- From x₀ and c₀ to x and c: what is left decides the whole.
