@@ -28,7 +28,7 @@ unfolding size joined
 sizes-joined end t = omega arith
 sizes-joined (s then ss) t = omega (arith, sizes-joined ss t)
 
-and-one : (a : Bool) → (a && true) ≡ a
+pub and-one : (a : Bool) → (a && true) ≡ a
 and-one true = refl
 and-one false = refl
 

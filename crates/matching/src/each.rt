@@ -1,5 +1,6 @@
-// One walk for every test of a sort's nodes: whether each node passes. It notes in `seen` the sorts whose nodes all pass, and
-// goes down no sort that is noted there. A list is walked in a loop; only a part is gone down to by a call.
+// One walk for every test of a sort's nodes: whether each node passes. It goes down no sort that is noted in `seen`, and notes
+// there sorts whose nodes all pass. A list is walked in a loop, which goes on with the parts of its last sort; only the parts of
+// a sort that is not the last are walked by a call, and only such a sort is noted, besides the first.
 use super::notes::is_noted;
 use super::notes::note;
 use super::tables::none_listed;
@@ -71,7 +72,8 @@ pub fn each(
     false
 }
 
-// Whether each node of the `left` sorts that the store names from `at` on passes the test.
+// Whether each node of the `left` sorts that the store names from `at` on passes the test. A sort without parts, or noted, is
+// done with; the parts of the last sort are walked in the loop, those of any other by a call.
 pub fn all_each(
     records: &[u8],
     places: &[u32],
@@ -90,11 +92,37 @@ pub fn all_each(
     let mut more = left;
     while 0 < more {
         let k = u16_at(records, next);
-        if !each(records, places, count, test, params, images, seen, k) {
+        let a = entry(records, places, k);
+        if !passes(test, params, images, records, a) {
             return false;
         }
         next += 2;
         more -= 1;
+        if a.count == 0 {
+            continue;
+        }
+        if is_noted(seen, k) {
+            continue;
+        }
+        if more == 0 {
+            next = a.list;
+            more = a.count;
+            continue;
+        }
+        if !all_each(
+            records,
+            places,
+            count,
+            test,
+            params,
+            images,
+            seen,
+            a.list,
+            a.count,
+        ) {
+            return false;
+        }
+        note(seen, k);
     }
     true
 }

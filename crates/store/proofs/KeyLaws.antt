@@ -1,6 +1,6 @@
 -- Laws of the key: what a walk has of its bits, step by step.
 use Prim.Native.Nat.{ℕ, zero, suc, _+_, _/_, _%_, _^_, _≤_, _<_}
-use mathlib.Core.Path.{_≡_, refl, ap, _∙_}
+use mathlib.Core.Path.{_≡_, refl}
 use mathlib.Core.List.{List}
 use native.Mathlib.Omega.{arith}
 use Rattle.store.specs.Index.{hashOf, secondOf, doubled, lastOf, keyOf, Refilled, bucketOf, restOf}
