@@ -18,14 +18,12 @@ bench=${CARGO_TARGET_DIR:-target}/release/bench
 printf '## Beside the pool\n\n'
 "$bench" all 16
 printf '\n## The worst sheets\n\n'
-"$top/tools/measure_program.py" write "$made/worst"
-"$bench" judge "$made"/worst/*
+"$bench" judge $("$top/tools/measure_program.py" write "$made/worst")
 printf '\n## The program\n\n'
 "$top/tools/measure_program.py" "$program" 5
 printf '\n## The stack\n\n'
-"$top/tools/measure_stack.py" "$program"
-"$top/tools/measure_stack.py" write "$made/deep"
-"$bench" stack "$made"/deep/*
+"$top/tools/measure_stack.py" "$program" >"$made/program"
+"$bench" stack $("$top/tools/measure_stack.py" write "$made/deep") | sed 's/^|[^|]*|//' | paste -d '\0' "$made/program" -
 if [ -n "$other" ]; then
     printf '\n## In turn with the other build\n\n'
     cc -shared -o "$made/other.so" -Wl,--whole-archive "$other/libexports.a" -Wl,--no-whole-archive

@@ -2,7 +2,7 @@
 """Measures the program on sheets that are made here: processor time, the start of the process included, and memory.
 
 usage: measure_program.py PROGRAM [RUNS]     the table "The program" of docs/PERFORMANCE.md
-       measure_program.py write FOLDER       writes the sheets that take longest into a folder, for `bench judge`
+       measure_program.py write FOLDER       writes the sheets that take longest into a folder and prints their paths, for `bench judge`
 
 What is printed is thrown away after its length is counted once.
 """
@@ -218,13 +218,19 @@ def names():
 
 
 def run(program, path, out):
-    """Runs the program on a sheet: its processor time in ms and its largest resident size in KiB."""
+    """The processor time that the program takes for a sheet, in ms."""
     with open(path, "rb") as stdin:
         child = subprocess.Popen([program], stdin=stdin, stdout=out)
-        _, status, used = os.wait4(child.pid, 0)
-        child.returncode = status
-        assert status == 0, path
-    return (used.ru_utime + used.ru_stime) * 1000, used.ru_maxrss
+        _, child.returncode, used = os.wait4(child.pid, 0)
+        assert child.returncode == 0, path
+    return (used.ru_utime + used.ru_stime) * 1000
+
+
+def peak(program, path, out):
+    """The largest resident size of the program in KiB, as GNU time tells it."""
+    with open(path, "rb") as stdin:
+        told = subprocess.run(["/usr/bin/time", "-f", "%M", program], stdin=stdin, stdout=out, stderr=subprocess.PIPE)
+    return int(told.stderr.split()[-1])
 
 
 def printed(program, path):
@@ -239,19 +245,20 @@ def measure(program, data, runs):
     with tempfile.NamedTemporaryFile() as f, open(os.devnull, "wb") as sink:
         f.write(data)
         f.flush()
-        times, sizes = zip(*(run(program, f.name, sink) for _ in range(runs)))
-        return printed(program, f.name), statistics.median(times), max(sizes)
+        times = [run(program, f.name, sink) for _ in range(runs)]
+        return printed(program, f.name), statistics.median(times), peak(program, f.name, sink)
 
 
 CASES = [(mixed, 256), (mixed, 4096), (deep, 256), (deep, 4096), (wide, 4096), (long, 256)]
-WORST = [equal, turns_and_questions, turns, unlike, too_large, binders, matches, variables, unassigned, misfit, names, again, read]
+WORST = [turns_and_questions, turns, unlike, equal, too_large, binders, matches, variables, unassigned, misfit, names, again, read]
 
 
 def write(folder):
-    """Writes the worst sheets, each by its place in the list and its name."""
-    for i, make in enumerate(WORST):
-        with open(os.path.join(folder, f"{i:02}-{make.__name__}"), "wb") as f:
+    """Writes the worst sheets and prints their paths."""
+    for make in WORST:
+        with open(os.path.join(folder, make.__name__), "wb") as f:
             f.write(make())
+        print(f.name)
 
 
 def main():

@@ -2,7 +2,7 @@
 """Measures the stack that the program needs on the deepest sheets that are known: the least limit (`ulimit -s`) under which it runs to its end.
 
 usage: measure_stack.py PROGRAM [SHEET..]
-       measure_stack.py write FOLDER        writes the sheets into a folder, for `bench stack`
+       measure_stack.py write FOLDER        writes the sheets into a folder and prints their paths, for `bench stack`
 
 Without sheets they are the four deep ones that crates/replay_lent has recorded, and those that are made here, as rust/beside/tests/stack.rs makes
 them: a chain of layers over a variable is doubled by an App, up to the 4,096 nodes of a tree, is then pattern and, moved by a period, target, and is
@@ -118,21 +118,22 @@ def sheets():
 
 
 def write(folder):
+    """Writes all deep sheets; their paths."""
+    paths = []
     for name, data in sheets().items():
-        with open(os.path.join(folder, name), "wb") as f:
+        paths.append(os.path.join(folder, name))
+        with open(paths[-1], "wb") as f:
             f.write(data)
+    return paths
 
 
 def main():
     program, *paths = sys.argv[1:]
     if program == "write":
-        return write(paths[0])
+        return print(*write(paths[0]), sep="\n")
     with tempfile.TemporaryDirectory() as folder:
-        if not paths:
-            write(folder)
-            paths = [os.path.join(folder, name) for name in sheets()]
         print("| sheet | program |\n|---|---|")
-        for path in paths:
+        for path in paths or write(folder):
             print(f"| {os.path.basename(path)} | {least(program, path):,} |", flush=True)
 
 

@@ -57,14 +57,16 @@ fn spread(mut times: Vec<f64>) -> Spread {
     Spread { least: times[0], median }
 }
 
+/// Works that take longer than this are run four times at most.
+const LONG: Duration = Duration::from_millis(50);
+
 /// Runs two works in turn, each so many times after one time that does not count, at eight places of the stack.
 pub fn in_turn(
     runs: usize,
     one: &mut dyn FnMut() -> Duration,
     other: &mut dyn FnMut() -> Duration,
 ) -> (Spread, Spread) {
-    one();
-    other();
+    let runs = if LONG < one().max(other()) { runs.min(4) } else { runs };
     let mut times = (Vec::new(), Vec::new());
     for place in 0..runs {
         times.0.push(run_at(place, one));

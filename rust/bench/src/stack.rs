@@ -1,5 +1,6 @@
 //! The least stack on which the library runs to its end: a thread of each size that is tried, in a process of its own.
 
+use crate::commas;
 use napsilo::{LINE_BUFFER, Lent, judge_into, print_into};
 use std::env;
 use std::fs;
@@ -50,7 +51,7 @@ pub fn measure(paths: &[String]) -> Option<()> {
     println!("|---|---|---|");
     for path in paths {
         let name = path.rsplit('/').next().unwrap_or(path);
-        println!("| {name} | {} | {} |", least("judge", path)?, least("text", path)?);
+        println!("| {name} | {} | {} |", commas(least("judge", path)?), commas(least("text", path)?));
     }
     Some(())
 }
