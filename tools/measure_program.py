@@ -59,7 +59,7 @@ def mixed(n):
 
 
 def deep(n):
-    """Each term a set of the one before it: row t is t levels deep. Then a parametric function over the deepest."""
+    """Seven terms fewer than n, each a set of the one before it: row t is t levels deep. Then a parametric function over the deepest."""
     sorts = [VAR(1), VAR(2), SET(0), FUN(1, 2), None, None, None]
     sorts[4] = PAR([2], 3)
     sorts[5] = FUN(0, 4)
@@ -271,7 +271,8 @@ def main():
     for make, n in CASES:
         data = make(n)
         size, ms, most = measure(program, data, runs)
-        print(f"| {make.__name__} | {n:,} | {len(data):,} | {size:,} | {ms:,.1f} | {most:,} |", flush=True)
+        terms = int.from_bytes(data[2:4], "little")
+        print(f"| {make.__name__} | {terms:,} | {len(data):,} | {size:,} | {ms:,.1f} | {most:,} |", flush=True)
 
 
 if __name__ == "__main__":
