@@ -55,7 +55,7 @@ pub fn each(
     if is_noted(seen, k) {
         return true;
     }
-    if all_each(
+    if !all_each(
         records,
         places,
         count,
@@ -66,10 +66,10 @@ pub fn each(
         a.list,
         a.count,
     ) {
-        note(seen, k);
-        return true;
+        return false;
     }
-    false
+    note(seen, k);
+    true
 }
 
 // Whether each node of the `left` sorts that the store names from `at` on passes the test. A sort without parts, or noted, is

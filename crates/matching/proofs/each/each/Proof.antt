@@ -76,13 +76,26 @@ all-each-requires c κs =
     let q = c .before .before .before .before .before .before .before .before .before .before .before .before .before .before .pre in
     record { list = parts-ask (c .before .before .before .before .before .before .before .before .entry .result) (q .one) (c .before .before .before .before .before .before .before .before .entry .ensures); lent = q .lent; noted = q .noted }
 
+returns-4 : tie.Need-returns-4
+returns-4 c =
+    let s = c .before .before .before .before .before .before .before .before .before .before .before .before .before .before .before .before .before .before in
+    let a = s .args in
+    let q = s .pre in
+    let r = c .before .before .before .before .before .before .before .before .before .before .before .before .entry .result in
+    let e = c .before .before .before .before .before .before .before .before .before .before .before .before .entry .ensures in
+    let f = passing (a .test) (a .params .now) (a .images .now) in
+    let h = c .before .before .before .before .before .before .before .before .before .before .before .passes .ensures (a .places .now) (a .count) (a .k) (q .one) e in
+    let z = not-false (c .before .before .before .before .before .before .before .before .before .before .before .passes .result) (c .before .before .before .before .before .before .before .before .before .before .if1 .left) in
+    let all = c .before .before .before .all-each in
+    record { answer = node-passes (q .one) r e f h z (sym (not-true (all .result) (c .if4 .taken)) ∙ all .ensures .answer); noted = all .ensures .noted }
+
 note-requires : tie.Need-note-requires
 note-requires c κs =
     let q = c .before .before .before .before .before .before .before .before .before .before .before .before .before .before .before .before .before .before .before .pre in
     record { long = c .before .before .before .before .all-each .ensures .noted .long; small = omega (arith, q .one .known, q .one .usable .count) }
 
-returns-4 : tie.Need-returns-4
-returns-4 c =
+returns-5 : tie.Need-returns-5
+returns-5 c =
     let s = c .before .before .before .before .before .before .before .before .before .before .before .before .before .before .before .before .before .before .before .before .before .before in
     let a = s .args in
     let q = s .pre in
@@ -93,22 +106,9 @@ returns-4 c =
     let z = not-false (c .before .before .before .before .before .before .before .before .before .before .before .before .before .before .before .passes .result) (c .before .before .before .before .before .before .before .before .before .before .before .before .before .before .if1 .left) in
     let all = c .before .before .before .before .before .before .before .all-each in
     let no = c .before .before .note in
-    let found = node-passes (q .one) r e f h z (sym (c .before .before .before .before .if4 .taken) ∙ all .ensures .answer) in
+    let found = node-passes (q .one) r e f h z (sym (not-false (all .result) (c .before .before .before .before .if4 .left)) ∙ all .ensures .answer) in
     let P : ℕ → Type 0 = λ i. every f (sortAt (a .records .now) (a .places .now) (a .count) i) ≡ true in
     record { answer = found; noted = table-put P (all .last .1 .1 .1 .1 .1 .1 .0) (a .k) (no .last .0) (all .ensures .noted) (sym found) (no .ensures) }
-
-returns-5 : tie.Need-returns-5
-returns-5 c =
-    let s = c .before .before .before .before .before .before .before .before .before .before .before .before .before .before .before .before .before .before in
-    let a = s .args in
-    let q = s .pre in
-    let r = c .before .before .before .before .before .before .before .before .before .before .before .before .entry .result in
-    let e = c .before .before .before .before .before .before .before .before .before .before .before .before .entry .ensures in
-    let f = passing (a .test) (a .params .now) (a .images .now) in
-    let h = c .before .before .before .before .before .before .before .before .before .before .before .passes .ensures (a .places .now) (a .count) (a .k) (q .one) e in
-    let z = not-false (c .before .before .before .before .before .before .before .before .before .before .before .passes .result) (c .before .before .before .before .before .before .before .before .before .before .if1 .left) in
-    let all = c .before .before .before .all-each in
-    record { answer = node-passes (q .one) r e f h z (sym (c .if4 .left) ∙ all .ensures .answer); noted = all .ensures .noted }
 
 pub each-spec : {M : Type 1} → statement M
 each-spec =
@@ -122,8 +122,8 @@ each-spec =
     (λ c. search needs)
     returns-3
     all-each-requires
-    note-requires
     (λ c. search needs)
     returns-4
+    note-requires
     (λ c. search needs)
     returns-5)
