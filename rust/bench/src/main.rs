@@ -6,6 +6,7 @@
 //! - `bench judge SHEET..`: what the library takes for sheets in files, in ms, the median of three runs;
 //! - `bench stack SHEET..`: the least stack on which the library runs to its end;
 //! - `bench once CASE library|pool [TIMES]`: one case, one side, so many times, without a word; for a profiler;
+//! - `bench compare`: compares the library on the sheets of all cases, and ends at the first difference;
 //! - `bench list`: the cases;
 //! - `bench sheets FOLDER`: writes the sheets, `CASE.SHEET` each by its numbers, and the cases' names and lent lengths in `cases.txt`.
 //!
@@ -19,7 +20,7 @@
 //!   are put (`is_compatible`, `match_with`, `SortSubstitution::apply`). It is the inferred row alone, and neither the decoding nor the
 //!   end of pool and terms is in the time. There are no panics: every term has an inferred sort.
 //!
-//! Before a case is timed, the library is compared on its sheets with the model and with carcara.
+//! `bench compare` compares the library on all these sheets with the model and with carcara.
 
 mod families;
 mod measure;
@@ -156,7 +157,6 @@ fn measure_cases(runs: usize, text: &str) {
     println!("| case | terms | bytes | library | pool | ratio |");
     println!("|---|---|---|---|---|---|");
     for case in cases().into_iter().filter(|case| case.name.contains(text)) {
-        compared(&case);
         let (one, other) = in_turn(runs, &mut *library(&case), &mut *pool(&case));
         let terms = commas(case.sheets.iter().map(|sheet| terms_of(sheet)).sum());
         let bytes = commas(case.sheets.iter().map(Vec::len).sum());
@@ -172,7 +172,6 @@ fn measure_growth(runs: usize) {
     for (name, family) in FAMILIES {
         let [small, large] = [256, 4_096].map(|terms| {
             let case = Case::new(name, family(terms, 1));
-            compared(&case);
             let (one, other) = in_turn(runs, &mut *library(&case), &mut *pool(&case));
             [one, other]
         });
@@ -269,6 +268,11 @@ fn main() -> ExitCode {
             "judge" => return measure_sheets(&arguments[1..]),
             "stack" => return stack::measure(&arguments[1..]),
             "stack-run" => return stack::run(text(1), text(2), number(3, 0)),
+            "compare" => {
+                let small = FAMILIES.iter().map(|(name, family)| Case::new(name, family(256, 1)));
+                small.chain(cases()).for_each(|case| compared(&case));
+                println!("no difference");
+            }
             "list" => cases().iter().chain([&long_case()]).for_each(|case| println!("{}", case.name)),
             "once" => return once(text(1), text(2), number(3, 1)),
             "sheets" => return write_sheets(Path::new(text(1))).ok(),
@@ -281,7 +285,7 @@ fn main() -> ExitCode {
         None => {
             eprintln!(
                 "bench all|growth [RUNS] | bench cases [RUNS [TEXT]] | bench turns OBJECT [RUNS [TEXT]] | bench judge|stack SHEET.. | \
-                 bench list | bench once CASE library|pool [TIMES] | bench sheets FOLDER"
+                 bench compare | bench list | bench once CASE library|pool [TIMES] | bench sheets FOLDER"
             );
             ExitCode::FAILURE
         }
