@@ -1,7 +1,8 @@
 //! Times: runs of both sides in turn, and how they spread.
 
+use crate::system::timed;
 use std::hint::black_box;
-use std::time::Duration;
+use std::time::{Duration, Instant};
 
 /// How the times of some runs spread, in microseconds.
 #[derive(Debug, Clone, Copy)]
@@ -15,15 +16,38 @@ pub struct Spread {
 /// A run repeats its work until it took so long.
 const LEAST_RUN: Duration = Duration::from_millis(3);
 
-/// The time of one run: what its work takes on the mean, in microseconds.
-fn run(work: &mut dyn FnMut() -> Duration) -> f64 {
+/// Works that take longer than this are run four times at most.
+const LONG: Duration = Duration::from_millis(50);
+
+/// A run in which the processor had a smaller part of the time was broken off by others, and is made again, up to so many times.
+const PART: f64 = 0.97;
+const TRIES: usize = 20;
+
+/// One run: what its work takes on the mean, in microseconds by the clock on the wall, and the processor's part of that.
+fn tried(work: &mut dyn FnMut() -> Duration) -> (f64, f64) {
     let mut sum = Duration::ZERO;
     let mut times = 0_u32;
-    while sum < LEAST_RUN {
-        sum += work();
-        times += 1;
+    let start = Instant::now();
+    let (processor, ()) = timed(|| {
+        while sum < LEAST_RUN {
+            sum += work();
+            times += 1;
+        }
+    });
+    let part = processor.as_secs_f64() / start.elapsed().as_secs_f64();
+    (sum.as_secs_f64() * 1e6 / f64::from(times), part.min(1.0))
+}
+
+/// The time of one run in microseconds of processor time.
+fn run(work: &mut dyn FnMut() -> Duration) -> f64 {
+    let mut last = tried(work);
+    for _ in 1..TRIES {
+        if PART < last.1 || LONG.as_secs_f64() * 1e6 < last.0 {
+            break;
+        }
+        last = tried(work);
     }
-    sum.as_secs_f64() * 1e6 / f64::from(times)
+    last.0 * last.1
 }
 
 /// Runs a work so many bytes further down the stack.
@@ -56,9 +80,6 @@ fn spread(mut times: Vec<f64>) -> Spread {
     let median = if times.len() % 2 == 0 { (times[half - 1] + times[half]) / 2.0 } else { times[half] };
     Spread { least: times[0], median }
 }
-
-/// Works that take longer than this are run four times at most.
-const LONG: Duration = Duration::from_millis(50);
 
 /// Runs two works in turn, each so many times after one time that does not count, at eight places of the stack.
 pub fn in_turn(

@@ -1,12 +1,11 @@
 //! carcara's side: the records of a sheet, decoded beforehand, built as terms in a fresh pool and asked for their sorts.
 
-use crate::system::timed;
 use oracle::ask::{numbered, sort, term};
 use oracle::ast::{Pool, Rc, Sort, SortSubstitution, Term};
 use oracle::sheet::{Record, Sheet, read};
 use rapidhash::{HashMapExt, RapidHashMap};
 use std::hint::black_box;
-use std::time::Duration;
+use std::time::{Duration, Instant};
 
 /// A sheet as a list of records with the strings of its names.
 pub struct Decoded {
@@ -33,31 +32,30 @@ impl Decoded {
     /// Neither the decoding of the sheet nor the end of the pool and its terms is in it.
     pub fn infer(&self) -> Duration {
         let name = |number: u16| self.names[usize::from(number)].clone();
-        let (time, kept) = timed(|| {
-            let mut pool = Pool::new();
-            let mut sorts: Vec<Rc<Sort>> = Vec::with_capacity(self.sheet.sorts.len());
-            for record in &self.sheet.sorts {
-                sorts.push(pool.add_sort(sort(record, &sorts, &name)));
+        let start = Instant::now();
+        let mut pool = Pool::new();
+        let mut sorts: Vec<Rc<Sort>> = Vec::with_capacity(self.sheet.sorts.len());
+        for record in &self.sheet.sorts {
+            sorts.push(pool.add_sort(sort(record, &sorts, &name)));
+        }
+        let mut terms: Vec<Option<Rc<Term>>> = Vec::with_capacity(self.sheet.terms.len());
+        let mut rows = Vec::with_capacity(self.sheet.terms.len());
+        for record in &self.sheet.terms {
+            let built = term(record, &sorts, &terms, &name).expect("every term has a sort");
+            let built = pool.add(built);
+            rows.push(pool.sort(&built));
+            terms.push(Some(built));
+        }
+        let mut yes = 0_usize;
+        for record in &self.sheet.questions {
+            match self.answer(record, &sorts, &mut pool) {
+                None => yes += 1,
+                Some(sort) => rows.push(sort),
             }
-            let mut terms: Vec<Option<Rc<Term>>> = Vec::with_capacity(self.sheet.terms.len());
-            let mut rows = Vec::with_capacity(self.sheet.terms.len());
-            for record in &self.sheet.terms {
-                let built = term(record, &sorts, &terms, &name).expect("every term has a sort");
-                let built = pool.add(built);
-                rows.push(pool.sort(&built));
-                terms.push(Some(built));
-            }
-            let mut yes = 0_usize;
-            for record in &self.sheet.questions {
-                match self.answer(record, &sorts, &mut pool) {
-                    None => yes += 1,
-                    Some(sort) => rows.push(sort),
-                }
-            }
-            (pool, sorts, terms, rows, yes)
-        });
-        black_box(kept);
-        time
+        }
+        let took = start.elapsed();
+        black_box((rows, yes));
+        took
     }
 
     /// The answer to a question; nothing for one that is answered by yes or no.
