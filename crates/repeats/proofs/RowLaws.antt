@@ -8,24 +8,22 @@ use mathlib.Core.Logic.{⊎-elim}
 use native.Mathlib.Omega.{arith}
 use native.Mathlib.Nat.{mul-div-cancel}
 use lib.ListN.{length, getD}
-use lib.Dec.{eqb}
-use borrow.Author.Tests.{lt-ltb, le-ltb}
 use Rattle.record.specs.Number.{u16At, numbersAt}
 use Rattle.record.specs.Codec.{length-numbersAt, number-at}
-use Rattle.record.specs.Sort.{Sort, Sorts, kindOf}
+use Rattle.record.specs.Sort.{Sort, Sorts}
 use Rattle.record.specs.Record.{sortsOf}
 use Rattle.record.specs.Store.{intern, room}
-use Rattle.record.specs.Decode.{storeOf, sortAt}
+use Rattle.record.specs.Decode.{storeOf}
 use Rattle.record.specs.StoreLaws.{storeOf-length}
 use Rattle.record.specs.SortLists.{starts-self, starts-count}
 use Rattle.record.specs.Entries.{store-ordered}
-use Rattle.reader.specs.Tables.{termLeasts, termLeastOf}
 use Rattle.reader.specs.declared.TermRecord.{TermRecord}
 use Rattle.sheet.specs.Sheet.{Lengths}
-use Rattle.store.specs.Entry.{KindHas, EntryAsks}
+use Rattle.store.specs.Entry.{EntryAsks}
 use Rattle.store.specs.Walk.{entry-asks}
 use Rattle.store.specs.Good.{Good}
 use Rattle.rows.specs.declared.Cause.{Cause}
+use Rattle.rows.specs.declared.Cause.the-variants.{Below}
 use Rattle.rows.specs.declared.RowVerdict.{RowVerdict}
 use Rattle.rows.specs.declared.RowVerdict.the-variants.{Sort as Number, Refused}
 use Rattle.rows.specs.Verdict.{Verdict, sort, refused, numberOf, codeOf}
@@ -38,32 +36,13 @@ use Rattle.checked.specs.Checked.{checked, application}
 use Rattle.answers.specs.declared.Answer.{Answer}
 use Rattle.answers.specs.Answer.{AnswerIs, Left, refusing, accepting}
 use Rattle.answers.specs.AnswerLaws.{judged-as, answered-as, answer-number}
-use Rattle.site.specs.Site.{siteOver, termVerdict, TermAsks, TermIs, PartsAsk, PartsAre}
-use Rattle.site.specs.SiteLaws.{parts-ask}
+use Rattle.site.specs.Site.{siteOver, termVerdict, TermIs, SiteAsks, SiteIs, PartsAre}
+use Rattle.site.specs.SiteLaws.{parts-site, site-row, below-row, count-few}
 use Rattle.repeats.specs.declared.slots.Look.{Look}
 use Rattle.repeats.specs.declared.slots.Look.the-variants.{Apart, Noted, Open}
-use Rattle.repeats.specs.Past.{codeEnd, judging, judgingApp, Says, Told, PastOf, KeyAsks, Found, SeekIs, RowNoteAsks, RowNotedIs, Coded, AgainIs, headRow, headIsPar, HeadAsks, LookAsks, AppIs, Looked, LookedIs, PastAsks, PastIs}
+use Rattle.repeats.specs.Past.{codeEnd, judging, judgingApp, Says, Told, PastOf, SeekAsks, Tells, Found, SeekIs, RowNoteAsks, RowNotedIs, Coded, AgainIs, LookAsks, Looked, LookedIs, PastAsks, PastIs}
 use Rattle.repeats.specs.Again.{outcome-settled}
 use Rattle.repeats.specs.PastLaws.{past-grown, sorts-grown}
-
----------------------------------------------------------------- the head
-module _ (b p : List ℕ) (n : ℕ) (s : List ℕ) (at : ℕ) (rows : List ℕ) (column : ℕ) (h : HeadAsks b p n s at rows column) {t k : ℕ} (et : t ≡ u16At s at) (ek : k ≡ getD rows (2 * t + column) 0) where
-  head-row : k ≡ headRow s at rows column
-  head-row = ek ∙ ap (λ (i : ℕ). getD rows (2 * i + column) 0) et
-
-  pub head-refused : 65536 ≤ k → false ≡ headIsPar b p n s at rows column
-  head-refused o = sym (simp (le-ltb (headRow s at rows column) 65536 (omega (arith, head-row))))
-
-  head-known : k < 65536 → k < n
-  head-known o = omega (arith, head-row, h .known (omega (arith, head-row)))
-
-  pub head-asks : k < 65536 → EntryAsks b p k
-  head-asks o = entry-asks b p n k (h .stored) (head-known o)
-
-  pub head-kind : k < 65536 → (v : ℕ) → KindHas b p k v → eqb v 12 ≡ headIsPar b p n s at rows column
-  head-kind o v e =
-      ap (λ (i : ℕ). eqb i 12) (e n (h .stored) (head-known o) ∙ ap (λ (i : ℕ). kindOf (sortAt b p n i)) head-row)
-      ∙ sym (simp (lt-ltb (headRow s at rows column) 65536 (omega (arith, head-row))))
 
 ---------------------------------------------------------------- the verdict
 -- THE VERDICT ON AN APP is one on the sorts of its head and its arguments.
@@ -79,6 +58,16 @@ app-verdict : (column : ℕ) (z : Site) → z .kind ≡ 6 → judging column z �
 unfolding judging judgingApp
 app-verdict zero z e = inferred-app z e
 app-verdict (suc c) z e = checked-app z e
+
+-- The rules of the two columns.
+module _ {b p : List ℕ} {n : ℕ} {prm imgs bnd s tbl xs : List ℕ} {r : TermRecord} {a b′ p′ ix′ prm′ imgs′ bnd′ : List ℕ} {w : Answer} where
+  pub by-inferred : SiteIs inferred b p n prm imgs bnd s tbl xs r a b′ p′ ix′ prm′ imgs′ bnd′ w → SiteIs (judging 0) b p n prm imgs bnd s tbl xs r a b′ p′ ix′ prm′ imgs′ bnd′ w
+  unfolding judging
+  by-inferred i = i
+
+  pub by-checked : SiteIs (checked smtLib) b p n prm imgs bnd s tbl xs r a b′ p′ ix′ prm′ imgs′ bnd′ w → SiteIs (judging 1) b p n prm imgs bnd s tbl xs r a b′ p′ ix′ prm′ imgs′ bnd′ w
+  unfolding judging
+  by-checked i = i
 
 ---------------------------------------------------------------- codes
 -- The numbers of the causes.
@@ -174,174 +163,143 @@ module _ {b p ix : List ℕ} {n u : ℕ} (g : Good b p ix n u) (v : Verdict) whe
       })
 
 ---------------------------------------------------------------- the look-up
-module _ {b p : List ℕ} {n : ℕ} {s rows : List ℕ} {column : ℕ} {r : TermRecord} {a : List ℕ} (h : LookAsks b p n s rows column r a) where
-  app-least : r .kind ≡ 6 → 1 ≤ r .count
-  unfolding termLeastOf termLeasts
-  app-least e = subst (λ (j : ℕ). termLeastOf j ≤ r .count) e (h .standing .was .least)
+module _ {b p : List ℕ} {r : TermRecord} {a : List ℕ} {column : ℕ} (h : LookAsks b p r a column) (two : 2 ≤ r .count) where
+  -- The head is a sort of the store.
+  pub head-asks : {k : ℕ} → k ≡ u16At a 3 → EntryAsks b p k
+  head-asks {k} e = let z : u16At a 3 < h .count = h .below 0 (omega arith) in entry-asks b p (h .count) k (h .stored) (omega (arith, e, z))
 
-  -- The head of an App has a row.
-  pub head-row-asks : r .kind ≡ 6 → HeadAsks b p n s (r .list) rows column
-  head-row-asks e =
-      let t = h .standing in
-      let z : r .list + 2 * 0 ≡ r .list = omega arith in
-      let first : u16At s (r .list) < t .term = subst (λ (x : ℕ). u16At s x < t .term) z (t .was .references 0 (omega (arith, app-least e))) in
-      record {
-        stored = h .stored;
-        within = omega (arith, t .was .list, app-least e);
-        side = h .side;
-        row = omega (arith, first, h .side, t .lent);
-        known = t .known (2 * u16At s (r .list) + column) (omega (arith, first, h .side));
-      }
-
-  -- What gathering its sorts asks, and looking them up.
-  pub key-gathered : PartsAsk s rows column r a
-  key-gathered = parts-ask (h .standing) column a (h .side) (h .room)
-
-  pub key-asks : 2 ≤ r .count → (key : List ℕ) → length key ≡ length a → KeyAsks key (r .count)
-  key-asks l key e = record { some = l; few = h .standing .was .few; within = omega (arith, e, h .room, h .standing .was .few) }
+  pub seek-asks : SeekAsks a (r .count) column
+  seek-asks = record { key = record { some = two; few = h .few; within = h .within }; side = h .side }
 
 -- Any other record says nothing.
-pub look-apart : {s rows : List ℕ} {column : ℕ} {r : TermRecord} {a ws : List ℕ} → LookedIs s rows column r a ws ws Apart
-look-apart = record { looked = tt; found = tt; less = λ key c x. x }
+pub look-apart : {r : TermRecord} {a : List ℕ} {column : ℕ} {ws : List ℕ} → LookedIs r a column ws ws Apart
+look-apart = record { looked = tt; found = tt; less = λ slot key c x. x }
 
 -- What was found of an App.
-looked-by : {s rows : List ℕ} {column : ℕ} {r : TermRecord} {a : List ℕ} (q : Look) → AppIs s rows column r a → Looked s rows column r a q
-looked-by Apart h = tt
-looked-by (Noted c) h = h
-looked-by (Open at) h = h
+looked-by : (r : TermRecord) (q : Look) → r .kind ≡ 6 → Looked r q
+looked-by r Apart e = tt
+looked-by r (Noted c) e = e
+looked-by r (Open at) e = e
 
-pub look-is : {s rows : List ℕ} {column : ℕ} {r : TermRecord} {a ws ws′ : List ℕ} {t : Bool} {q : Look} → r .kind ≡ 6 → t ≡ true → PartsAre s rows column r a t
-    → SeekIs ws a (r .count) ws′ q → LookedIs s rows column r a ws ws′ q
-look-is {s} {rows} {column} {r} {a} {ws} {ws′} {t} {q} e on d i =
-    record { looked = looked-by q (record { app = e; parts = subst (PartsAre s rows column r a) on d }); found = i .found; less = i .less }
+pub look-is : {r : TermRecord} {a : List ℕ} {column : ℕ} {ws ws′ : List ℕ} {q : Look} → r .kind ≡ 6 → SeekIs ws a (r .count) column ws′ q → LookedIs r a column ws ws′ q
+look-is {r} {q = q} e i = record { looked = looked-by r q e; found = i .found; less = i .less }
 
 ---------------------------------------------------------------- the row
 module _ {column : ℕ} {b p ix : List ℕ} {n u : ℕ} {prm imgs bnd s tbl xs rows : List ℕ} {r : TermRecord} {a ws : List ℕ}
     (h : PastAsks column b p ix n u prm imgs bnd s tbl xs rows r a ws) where
-  pub look-asks : column ≤ 1 → LookAsks b p n s rows column r a
-  look-asks o = record { table = tbl; places = xs; stored = h .asks .good .stored; standing = h .asks .standing; side = o; room = h .asks .room }
+  abbrev st : List Sort
+  st = storeOf b p n
 
-  -- The array for the arguments may hold anything.
-  pub row-asks : {a′ : List ℕ} → length a′ ≡ length a → TermAsks b p ix n u prm imgs bnd s tbl xs rows r a′
-  row-asks e = record { good = h .asks .good; zeroed = h .asks .zeroed; standing = h .asks .standing; room = omega (arith, e, h .asks .room) }
+  -- A part has no row.
+  pub row-below : {key : List ℕ} {t : Bool} {w : Answer} → t ≡ false → PartsAre s rows column r key t → w ≡ refusing Below n u
+      → PastIs column b p n prm imgs bnd s tbl xs rows r b p ix prm imgs bnd w ws
+  row-below off d e = record { row = below-row off d (h .asks .good) e; past = subst (λ (x : Answer). PastOf b p (x .count) ws) (sym e) (h .past) }
 
-  verdict-is : {key : List ℕ} → AppIs s rows column r key
-      → termVerdict (judging column) (storeOf b p n) s tbl xs rows column r ≡ judgingApp column (sortsOf (storeOf b p n) (numbersAt key 3 (r .count)))
-  verdict-is {key} d =
-      d .parts .judged refl (judging column) (storeOf b p n) tbl xs ∙ app-verdict column (siteOver (storeOf b p n) s tbl xs key r) (d .app)
+  -- The parts are gathered: their numbers stand in key.
+  module _ {key : List ℕ} (long : length key ≡ length a) {t : Bool} (on : t ≡ true) (d : PartsAre s rows column r key t) where
+    abbrev numbers : List ℕ
+    numbers = numbersAt key 3 (r .count)
 
-  past-less : {key ws′ : List ℕ} {q : Look} → LookedIs s rows column r key ws ws′ q → PastOf column b p n ws′
-  past-less l = record { each = λ k c x. h .past .each k c (l .less k c x) }
+    pub site-asks : SiteAsks b p ix n u prm imgs bnd s tbl xs r key
+    site-asks = parts-site (h .asks) long on d
 
-  -- A noted row: its code, and the row of that code.
-  module _ {key ws′ : List ℕ} {q : Look} (l : LookedIs s rows column r key ws ws′ q) (c : ℕ) (e : q ≡ Noted c) where
-    told-here : Told (judgingApp column) (length b) (length p) (storeOf b p n) (numbersAt key 3 (r .count)) c
-    told-here = h .past .each (numbersAt key 3 (r .count)) c (subst (Found ws ws′ (numbersAt key 3 (r .count)) (r .count)) e (l .found))
+    pub look-asks : column ≤ 1 → LookAsks b p r key column
+    look-asks side =
+        let few = count-few (h .asks .standing) in
+        record { side = side; count = n; stored = h .asks .good .stored; below = d .below on n tbl xs (h .asks .standing); few = few; within = omega (arith, long, h .asks .room, few) }
 
-    pub row-coded : Coded c
-    row-coded =
-        let v = judgingApp column (sortsOf (storeOf b p n) (numbersAt key 3 (r .count))) in
-        subst (λ (x : Outcome). Coded (x .code)) (told-here .is (lent b p) refl refl) (outcome-coded (lent b p) (storeOf b p n) v)
+    verdict-is : r .kind ≡ 6 → termVerdict (judging column) st s tbl xs rows column r ≡ judgingApp column (sortsOf st numbers)
+    verdict-is k = d .judged on (judging column) st tbl xs ∙ app-verdict column (siteOver st s tbl xs key r) k
 
-    pub row-recalled : {w : Answer} → AgainIs c n u w → PastIs column b p n prm imgs bnd s tbl xs rows r b p ix prm imgs bnd w ws′
-    row-recalled {w} i =
-        record {
-          row =
-              record {
-                answer =
-                    judged-as (verdict-is (subst (Looked s rows column r key) e (l .looked)))
-                    (answer-again (h .asks .good) (judgingApp column (sortsOf (storeOf b p n) (numbersAt key 3 (r .count)))) i (told-here .is));
-                params = refl;
-                images = refl;
-                bound = refl;
-              };
-          past = subst (λ (m : ℕ). PastOf column b p m ws′) (sym (i .count)) (past-less l);
-        }
+    module _ {ws′ : List ℕ} {q : Look} (l : LookedIs r key column ws ws′ q) where
+      past-less : PastOf b p n ws′
+      past-less = record { each = λ slot k c x. h .past .each slot k c (l .less slot k c x) }
 
-  -- A new answer is the row, and may be noted.
-  module _ {b′ p′ ix′ prm′ imgs′ bnd′ : List ℕ} {w : Answer}
-      (i : TermIs (judging column) column b p n prm imgs bnd s tbl xs rows r b′ p′ ix′ prm′ imgs′ bnd′ w) where
-    abbrev st : List Sort
-    st = storeOf b p n
+      -- A noted row: its code, and the row of that code.
+      module _ (c : ℕ) (e : q ≡ Noted c) where
+        told-here : Told (judgingApp column) (length b) (length p) st numbers c
+        told-here =
+            let f : Tells ws column numbers c = subst (Found ws ws′ column numbers (r .count)) e (l .found) in
+            subst (λ (k : ℕ). Told (judgingApp k) (length b) (length p) st numbers c) (f .side) (h .past .each (f .slot) numbers c (f .says))
 
-    abbrev st′ : List Sort
-    st′ = storeOf b′ p′ (w .count)
+        pub row-coded : Coded c
+        row-coded =
+            subst (λ (x : Outcome). Coded (x .code)) (told-here .is (lent b p) refl refl) (outcome-coded (lent b p) st (judgingApp column (sortsOf st numbers)))
 
-    abbrev verdict : Verdict
-    verdict = termVerdict (judging column) st s tbl xs rows column r
+        pub row-recalled : {w : Answer} → AgainIs c n u w → PastIs column b p n prm imgs bnd s tbl xs rows r b p ix prm imgs bnd w ws′
+        row-recalled {w} i =
+            record {
+              row =
+                  record {
+                    answer =
+                        judged-as (verdict-is (subst (Looked r) e (l .looked)))
+                        (answer-again (h .asks .good) (judgingApp column (sortsOf st numbers)) i (told-here .is));
+                    params = refl;
+                    images = refl;
+                    bound = refl;
+                  };
+              past = subst (λ (m : ℕ). PastOf b p m ws′) (sym (i .count)) past-less;
+            }
 
-    code-small : (v : RowVerdict) → w .verdict ≡ v → codeOf v < codeEnd
-    code-small (Number k) e = omega (arith, answer-number b p n verdict b′ p′ ix′ w (i .answer) k e .1)
-    code-small (Refused c) e = cause-small c
+      -- A new answer is the row, and may be noted.
+      module _ {b′ p′ ix′ prm′ imgs′ bnd′ : List ℕ} {w : Answer}
+          (i : SiteIs (judging column) b p n prm imgs bnd s tbl xs r key b′ p′ ix′ prm′ imgs′ bnd′ w) where
+        abbrev st′ : List Sort
+        st′ = storeOf b′ p′ (w .count)
 
-    module _ (key ws′ : List ℕ) where
-      note-asks : (q : Look) → LookedIs s rows column r key ws ws′ q → RowNoteAsks ws′ (r .count) q (w .verdict)
-      note-asks Apart l = tt
-      note-asks (Noted c) l = tt
-      note-asks (Open at) l =
-          let o = l .found in
-          record { here = o .here; some = o .some; few = o .few; small = code-small (w .verdict) refl }
+        abbrev verdict : Verdict
+        verdict = termVerdict (judging column) st s tbl xs rows column r
 
-      numbers-below : AppIs s rows column r key → (j : ℕ) → j < length (numbersAt key 3 (r .count)) → getD (numbersAt key 3 (r .count)) j 0 < length st
-      numbers-below d j o =
-          let l : j < r .count = omega (arith, length-numbersAt key 3 (r .count)) in
-          omega (
-            arith,
-            number-at key 3 (r .count) j l,
-            d .parts .below refl n tbl xs (h .asks .standing) j l,
-            storeOf-length b p n,
-          )
+        row-is : TermIs (judging column) column b p n prm imgs bnd s tbl xs rows r b′ p′ ix′ prm′ imgs′ bnd′ w
+        row-is = site-row on d i
 
-      new-told : AppIs s rows column r key → Told (judgingApp column) (length b′) (length p′) st′ (numbersAt key 3 (r .count)) (codeOf (w .verdict))
-      new-told d =
-          record {
-            below = λ j o. omega (arith, numbers-below d j o, starts-count st st′ (i .answer .starts));
-            is = λ l x y.
-                ap (λ (ss : Sorts). outcome l st′ (judgingApp column ss)) (sorts-grown st st′ (i .answer .starts) (numbersAt key 3 (r .count)) (numbers-below d))
-                ∙ ap (outcome l st′) (sym (verdict-is d))
-                ∙ outcome-settled l st verdict (store-ordered b p n (h .asks .good .stored)) (record { store = st′; code = codeOf (w .verdict) })
-                (i .answer .is l (x ∙ i .answer .long) (y ∙ i .answer .wide));
-          }
+        code-small : (v : RowVerdict) → w .verdict ≡ v → codeOf v < codeEnd
+        code-small (Number k) e = omega (arith, answer-number b p n verdict b′ p′ ix′ w (row-is .answer) k e .1)
+        code-small (Refused c) e = cause-small c
 
-      grown-past : {q : Look} → LookedIs s rows column r key ws ws′ q → PastOf column b′ p′ (w .count) ws′
-      grown-past l =
-          past-grown column b p n b′ p′ ix′ (w .count) (w .used) ws′ (i .answer .good) (i .answer .long) (i .answer .wide) (i .answer .starts) (past-less l)
+        numbers-below : (j : ℕ) → j < length numbers → getD numbers j 0 < length st
+        numbers-below j o =
+            let m : j < r .count = omega (arith, length-numbersAt key 3 (r .count)) in
+            omega (arith, number-at key 3 (r .count) j m, d .below on n tbl xs (h .asks .standing) j m, storeOf-length b p n)
 
-      noted-past : {ws″ : List ℕ} (q : Look) → LookedIs s rows column r key ws ws′ q → RowNotedIs ws′ (r .count) q (w .verdict) ws″ → PastOf column b′ p′ (w .count) ws″
-      noted-past Apart l e = subst (PastOf column b′ p′ (w .count)) (sym e) (grown-past l)
-      noted-past (Noted c) l e = subst (PastOf column b′ p′ (w .count)) (sym e) (grown-past l)
-      noted-past (Open at) l e =
-          record {
-            each = λ k c x.
-                ⊎-elim (λ (y : Says ws′ k c). grown-past l .each k c y)
-                (λ y.
-                subst (λ (m : List ℕ). Told (judgingApp column) (length b′) (length p′) st′ m c) (sym (y .0 ∙ l .found .terms))
-                (subst (Told (judgingApp column) (length b′) (length p′) st′ (numbersAt key 3 (r .count))) (sym (y .1)) (new-told (l .looked))))
-                (e k c x);
-          }
+        new-told : r .kind ≡ 6 → Told (judgingApp column) (length b′) (length p′) st′ numbers (codeOf (w .verdict))
+        new-told k =
+            let z = row-is .answer in
+            record {
+              below = λ j o. omega (arith, numbers-below j o, starts-count st st′ (z .starts));
+              is = λ m x y.
+                  ap (λ (ss : Sorts). outcome m st′ (judgingApp column ss)) (sorts-grown st st′ (z .starts) numbers numbers-below)
+                  ∙ ap (outcome m st′) (sym (verdict-is k))
+                  ∙ outcome-settled m st verdict (store-ordered b p n (h .asks .good .stored)) (record { store = st′; code = codeOf (w .verdict) })
+                  (z .is m (x ∙ z .long) (y ∙ z .wide));
+            }
 
-      row-made : {ws″ : List ℕ} {q : Look} → LookedIs s rows column r key ws ws′ q → RowNotedIs ws′ (r .count) q (w .verdict) ws″
-          → PastIs column b p n prm imgs bnd s tbl xs rows r b′ p′ ix′ prm′ imgs′ bnd′ w ws″
-      row-made {ws″} {q} l e = record { row = i; past = noted-past q l e }
+        grown-past : PastOf b′ p′ (w .count) ws′
+        grown-past =
+            let z = row-is .answer in
+            past-grown b p n b′ p′ ix′ (w .count) (w .used) ws′ (z .good) (z .long) (z .wide) (z .starts) past-less
 
--- The two columns: what infer and check answer.
-module _ {b p ix : List ℕ} {n u : ℕ} {prm imgs bnd s tbl xs rows : List ℕ} {r : TermRecord} {a ws key ws′ : List ℕ} {q : Look} {b′ p′ ix′ prm′ imgs′ bnd′ : List ℕ} {w : Answer} where
-  module _ (h : PastAsks 0 b p ix n u prm imgs bnd s tbl xs rows r a ws) (l : LookedIs s rows 0 r key ws ws′ q)
-      (i : TermIs inferred 0 b p n prm imgs bnd s tbl xs rows r b′ p′ ix′ prm′ imgs′ bnd′ w) where
-    pub inferred-note : RowNoteAsks ws′ (r .count) q (w .verdict)
-    unfolding judging
-    inferred-note = note-asks h i key ws′ q l
+        note-by : (v : Look) → Found ws ws′ column numbers (r .count) v → RowNoteAsks ws′ (r .count) v (w .verdict)
+        note-by Apart f = tt
+        note-by (Noted c) f = tt
+        note-by (Open at) f = record { here = f .ready .here; some = f .ready .some; few = f .ready .few; small = code-small (w .verdict) refl }
 
-    pub row-inferred : {ws″ : List ℕ} → RowNotedIs ws′ (r .count) q (w .verdict) ws″ → PastIs 0 b p n prm imgs bnd s tbl xs rows r b′ p′ ix′ prm′ imgs′ bnd′ w ws″
-    unfolding judging
-    row-inferred noted = row-made h i key ws′ l noted
+        pub note-asks : RowNoteAsks ws′ (r .count) q (w .verdict)
+        note-asks = note-by q (l .found)
 
-  module _ (h : PastAsks 1 b p ix n u prm imgs bnd s tbl xs rows r a ws) (l : LookedIs s rows 1 r key ws ws′ q)
-      (i : TermIs (checked smtLib) 1 b p n prm imgs bnd s tbl xs rows r b′ p′ ix′ prm′ imgs′ bnd′ w) where
-    pub checked-note : RowNoteAsks ws′ (r .count) q (w .verdict)
-    unfolding judging
-    checked-note = note-asks h i key ws′ q l
+        noted-past : {ws″ : List ℕ} (v : Look) → Looked r v → Found ws ws′ column numbers (r .count) v → RowNotedIs ws′ (r .count) v (w .verdict) ws″ → PastOf b′ p′ (w .count) ws″
+        noted-past Apart k f e = subst (PastOf b′ p′ (w .count)) (sym e) grown-past
+        noted-past (Noted c) k f e = subst (PastOf b′ p′ (w .count)) (sym e) grown-past
+        noted-past (Open at) k f e =
+            record {
+              each = λ slot m c x.
+                  ⊎-elim (λ (y : Says ws′ slot m c). grown-past .each slot m c y)
+                  (λ y.
+                  subst (λ (j : ℕ). Told (judgingApp j) (length b′) (length p′) st′ m c) (sym (f .side slot (y .0)))
+                  (subst (λ (z : List ℕ). Told (judgingApp column) (length b′) (length p′) st′ z c) (sym (y .1 ∙ f .ready .terms))
+                  (subst (Told (judgingApp column) (length b′) (length p′) st′ numbers) (sym (y .2)) (new-told k))))
+                  (e slot m c x);
+            }
 
-    pub row-checked : {ws″ : List ℕ} → RowNotedIs ws′ (r .count) q (w .verdict) ws″ → PastIs 1 b p n prm imgs bnd s tbl xs rows r b′ p′ ix′ prm′ imgs′ bnd′ w ws″
-    unfolding judging
-    row-checked noted = row-made h i key ws′ l noted
+        pub row-made : {ws″ : List ℕ} → RowNotedIs ws′ (r .count) q (w .verdict) ws″ → PastIs column b p n prm imgs bnd s tbl xs rows r b′ p′ ix′ prm′ imgs′ bnd′ w ws″
+        row-made e = record { row = row-is; past = noted-past q (l .looked) (l .found) e }

@@ -15,7 +15,7 @@ use Rattle.record.specs.Append.{written-before, written-in, written-after, leng
 use Rattle.record.specs.Codec.{u16-read}
 use Rattle.record.specs.Cases.{byTest}
 use Rattle.answers.specs.Arguments.{putAt, put-long}
-use Rattle.repeats.specs.Past.{codeEnd, slotSize, codeAt, Says, SlotAt, SlotAsks, RecalledIs, OpenedIs, NoteAsks, NotedIs}
+use Rattle.repeats.specs.Past.{codeEnd, slotSize, columnOf, slotNumber, slotOf, codeAt, Says, SlotAt, SlotAsks, RecalledIs, OpenedIs, NoteAsks, NotedIs}
 
 -- Numbers whose bytes agree.
 u16-same : (l m : List ℕ) (x y : ℕ) → getD l x 0 ≡ getD m y 0 → getD l (x + 1) 0 ≡ getD m (y + 1) 0 → u16At l x ≡ u16At m y
@@ -45,17 +45,14 @@ part-long l x k o = length-take-le k (drop x l) (omega (arith, length-drop x l))
 
 -- WHAT IS RECALLED: a slot with as many terms and their numbers.
 pub recalled-is : {ws a : List ℕ} {n at v : ℕ} → SlotAsks ws at a n → getD ws at 0 ≡ n → take (2 * n) (drop (at + 4) ws) ≡ take (2 * n) (drop 3 a) → v ≡ codeAt ws at → v < codeEnd
-    → RecalledIs ws a n (v + 1)
+    → RecalledIs ws at a n (v + 1)
 recalled-is {ws} {a} {n} {at} {v} h en key ev small =
-    let i = h .here .slot in
-    let ei = h .here .place in
-    let count : getD ws (i * slotSize) 0 ≡ n = subst (λ (x : ℕ). getD ws x 0 ≡ n) ei en in
     let same : (y : ℕ) → y < 2 * n → getD a (3 + y) 0 ≡ getD ws (at + 4 + y) 0 =
     λ y o. sym (part-at a 3 (2 * n) y o) ∙ ap (λ (l : List ℕ). getD l y 0) (sym key) ∙ part-at ws (at + 4) (2 * n) y o in
     record {
-      said = λ c e.
+      said = λ slot c ei e.
+          let count : getD ws (slot * slotSize) 0 ≡ n = subst (λ (x : ℕ). getD ws x 0 ≡ n) ei en in
           record {
-            slot = i;
             full = λ z. absurd (omega (arith, count, z, h .key .some));
             few = omega (arith, count, h .key .few);
             terms = numbers-same a ws 3 (at + 4) n same ∙ ap₂ (λ (x m : ℕ). numbersAt ws (x + 4) m) ei (sym count);
@@ -64,15 +61,22 @@ recalled-is {ws} {a} {n} {at} {v} h en key ev small =
       small = omega arith;
     }
 
+-- The slots of a column.
+pub slot-column : (column : ℕ) (a : List ℕ) (n : ℕ) → columnOf (slotNumber column a n) ≡ column
+slot-column column a n = omega arith
+
+pub open-side : (column : ℕ) (a : List ℕ) (n : ℕ) {at : ℕ} → at ≡ slotOf column a n → (slot : ℕ) → slot * slotSize ≡ at → columnOf slot ≡ column
+open-side column a n e slot d = let z : slot ≡ slotNumber column a n = omega (arith, e, d) in ap columnOf z ∙ slot-column column a n
+
 -- A slot says what it said, where its bytes are as they were.
-says-kept : (ws ws′ key : List ℕ) (c : ℕ) (s : Says ws′ key c) → ((y : ℕ) → y < slotSize → getD ws′ (s .slot * slotSize + y) 0 ≡ getD ws (s .slot * slotSize + y) 0) → Says ws key c
-says-kept ws ws′ key c s h =
-    let at = s .slot * slotSize in
+says-kept : (ws ws′ : List ℕ) (slot : ℕ) (key : List ℕ) (c : ℕ) → Says ws′ slot key c → ((y : ℕ) → y < slotSize → getD ws′ (slot * slotSize + y) 0 ≡ getD ws (slot * slotSize + y) 0)
+    → Says ws slot key c
+says-kept ws ws′ slot key c s h =
+    let at = slot * slotSize in
     let byte : (x y : ℕ) → y < slotSize → x ≡ at + y → getD ws′ x 0 ≡ getD ws x 0 =
     λ x y o e. subst (λ (z : ℕ). getD ws′ z 0 ≡ getD ws z 0) (sym e) (h y o) in
     let en : getD ws′ at 0 ≡ getD ws at 0 = byte at 0 (omega arith) (omega arith) in
     record {
-      slot = s .slot;
       full = λ z. s .full (en ∙ z);
       few = omega (arith, en, s .few);
       terms =
@@ -87,11 +91,11 @@ says-kept ws ws′ key c s h =
 
 -- THE OTHER SLOTS say what they said, where the bytes before and behind one slot are as they were.
 module _ {ws : List ℕ} (ws′ : List ℕ) {at : ℕ} (h : SlotAt ws at) (early : (y : ℕ) → y < at → getD ws′ y 0 ≡ getD ws y 0) (late : (y : ℕ) → at + slotSize ≤ y → getD ws′ y 0 ≡ getD ws y 0) where
-  other-said : (key : List ℕ) (c : ℕ) (s : Says ws′ key c) → (s .slot ≡ h .slot → ⊥) → Says ws key c
-  other-said key c s ne =
-      says-kept ws ws′ key c s (λ y o.
-      byTest (ltb (s .slot) (h .slot)) (λ q. early (s .slot * slotSize + y) (omega (arith, h .place, ltb-true (s .slot) (h .slot) q)))
-      (λ q. late (s .slot * slotSize + y) (omega (arith, h .place, ltb-false (s .slot) (h .slot) q, ne))))
+  other-said : (slot : ℕ) (key : List ℕ) (c : ℕ) → Says ws′ slot key c → (slot ≡ h .slot → ⊥) → Says ws slot key c
+  other-said slot key c s ne =
+      says-kept ws ws′ slot key c s (λ y o.
+      byTest (ltb slot (h .slot)) (λ q. early (slot * slotSize + y) (omega (arith, h .place, ltb-true slot (h .slot) q)))
+      (λ q. late (slot * slotSize + y) (omega (arith, h .place, ltb-false slot (h .slot) q, ne))))
 
 ---------------------------------------------------------------- a slot opened
 module _ {ws : List ℕ} {at : ℕ} {a : List ℕ} {n : ℕ} (h : SlotAsks ws at a n) where
@@ -145,12 +149,12 @@ module _ {ws : List ℕ} {at : ℕ} {a : List ℕ} {n : ℕ} (h : SlotAsks ws at
               few = h .key .few;
               terms = numbers-same filled a (at + 4) 3 n filled-terms;
             };
-        less = λ key c s.
-            byTest (eqb (s .slot) (h .here .slot))
+        less = λ slot key c s.
+            byTest (eqb slot (h .here .slot))
             (λ q.
-            let e : s .slot * slotSize ≡ at = omega (arith, h .here .place, eqb-true (s .slot) (h .here .slot) q) in
+            let e : slot * slotSize ≡ at = omega (arith, h .here .place, eqb-true slot (h .here .slot) q) in
             absurd (s .full (ap (λ (x : ℕ). getD filled x 0) e ∙ filled-empty)))
-            (λ q. other-said filled (h .here) filled-early filled-late key c s (eqb-false (s .slot) (h .here .slot) q));
+            (λ q. other-said filled (h .here) filled-early filled-late slot key c s (eqb-false slot (h .here .slot) q));
       }
 
   -- The same over what the calls leave, whose bytes to copy are told by an end.
@@ -222,17 +226,18 @@ module _ {ws : List ℕ} {at n c : ℕ} (h : NoteAsks ws at n c) where
       ∙ div-add-mod' c 65536
 
   noted-is : NotedIs ws at n c coded
-  noted-is key d s =
-      byTest (eqb (s .slot) (h .here .slot))
+  noted-is slot key d s =
+      byTest (eqb slot (h .here .slot))
       (λ q.
-      let e : s .slot * slotSize ≡ at = omega (arith, h .here .place, eqb-true (s .slot) (h .here .slot) q) in
+      let e : slot * slotSize ≡ at = omega (arith, h .here .place, eqb-true slot (h .here .slot) q) in
       inr (
+        e,
         s .terms ∙ ap (λ (x : ℕ). numbersAt coded (x + 4) (getD coded x 0)) e ∙ ap (numbersAt coded (at + 4)) coded-count
             ∙ numbers-same coded ws (at + 4) (at + 4) n (λ y o. coded-far (at + 4 + y) (λ z. absurd (omega (arith, z))) (omega arith)),
         s .code ∙ ap (codeAt coded) e ∙ coded-is,
       ))
       (λ q.
-      inl (other-said coded (h .here) coded-early (λ y o. coded-far y (λ z. absurd (omega (arith, z))) (omega arith)) key d s (eqb-false (s .slot) (h .here .slot) q)))
+      inl (other-said coded (h .here) coded-early (λ y o. coded-far y (λ z. absurd (omega (arith, z))) (omega arith)) slot key d s (eqb-false slot (h .here .slot) q)))
 
   -- The same over what the calls leave.
   module _ {x : List ℕ} (ex : x ≡ putAt (set ws at n) (at + 1) (c % 65536)) where

@@ -2,15 +2,13 @@
 -- Definitions only.
 use Prim.Native.Nat.{ℕ, zero, suc, _+_, _*_, _/_, _%_, _≤_, _<_}
 use mathlib.Core.Path.{_≡_}
-use mathlib.Core.Bool.{Bool, true, _&&_}
 use mathlib.Core.List.{List}
 use mathlib.Core.Logic.{_⊎_}
 use lib.ListN.{length, getD}
-use lib.Dec.{eqb, ltb}
 use Rattle.record.specs.Number.{u16At, numbersAt}
-use Rattle.record.specs.Sort.{Sort, Sorts, kindOf}
+use Rattle.record.specs.Sort.{Sort, Sorts}
 use Rattle.record.specs.Record.{sortsOf}
-use Rattle.record.specs.Decode.{Stored, storeOf, sortAt}
+use Rattle.record.specs.Decode.{Stored, storeOf}
 use Rattle.reader.specs.declared.TermRecord.{TermRecord}
 use Rattle.sheet.specs.Sheet.{Lengths}
 use Rattle.rows.specs.declared.RowVerdict.{RowVerdict}
@@ -22,7 +20,7 @@ use Rattle.inferred.specs.Inferred.{inferred, applied}
 use Rattle.checked.specs.Ranks.{smtLib}
 use Rattle.checked.specs.Checked.{checked, application}
 use Rattle.answers.specs.declared.Answer.{Answer}
-use Rattle.site.specs.Site.{Standing, TermAsks, TermIs, PartsAre}
+use Rattle.site.specs.Site.{TermAsks, TermIs}
 use Rattle.repeats.specs.declared.slots.Look.{Look}
 use Rattle.repeats.specs.declared.slots.Look.the-variants.{Apart, Noted, Open}
 
@@ -38,7 +36,7 @@ judgingApp zero = applied
 judgingApp (suc c) = application
 
 ---------------------------------------------------------------- the table
--- The bytes of a slot, how many slots there are, and how many terms an App has at most.
+-- The bytes of a slot, how many slots a column has, and how many terms an App has at most.
 abbrev pub slotSize : ℕ
 slotSize = 132
 
@@ -48,8 +46,12 @@ slotCount = 128
 abbrev pub mostTerms : ℕ
 mostTerms = 64
 
+-- The slots of the first column come first.
 abbrev pub tableSize : ℕ
-tableSize = slotCount * slotSize
+tableSize = 2 * slotCount * slotSize
+
+abbrev pub columnOf : ℕ → ℕ
+columnOf slot = slot / slotCount
 
 -- The code that the slot at a place notes in three bytes, so below this: a number of the store, and a cause, 0 for a sort.
 abbrev pub codeEnd : ℕ
@@ -59,8 +61,7 @@ abbrev pub codeAt : List ℕ → ℕ → ℕ
 codeAt ws at = getD ws (at + 3) 0 * 65536 + u16At ws (at + 1)
 
 -- WHAT THE TABLE ws SAYS: a slot that is not empty has noted the code c of an App of the terms whose sorts have the numbers key.
-pub record Says (ws key : List ℕ) (c : ℕ) : Type 0 where
-  pub slot : ℕ
+pub record Says (ws : List ℕ) (slot : ℕ) (key : List ℕ) (c : ℕ) : Type 0 where
   pub full : getD ws (slot * slotSize) 0 ≡ 0 → ⊥
   pub few : getD ws (slot * slotSize) 0 ≤ mostTerms
   pub terms : key ≡ numbersAt ws (slot * slotSize + 4) (getD ws (slot * slotSize) 0)
@@ -68,7 +69,7 @@ pub record Says (ws key : List ℕ) (c : ℕ) : Type 0 where
 
 -- What ws′ says, ws said.
 abbrev pub Less : List ℕ → List ℕ → Type 0
-Less ws ws′ = (key : List ℕ) (c : ℕ) → Says ws′ key c → Says ws key c
+Less ws ws′ = (slot : ℕ) (key : List ℕ) (c : ℕ) → Says ws′ slot key c → Says ws slot key c
 
 -- The truth about an App of the terms with these numbers, by a verdict f on Apps, over the sorts st in buffers of the lengths lb
 -- and lp: its row has the code c, and nothing is added to the store.
@@ -76,24 +77,32 @@ pub record Told (f : Sorts → Verdict) (lb lp : ℕ) (st : List Sort) (key : Li
   pub below : (j : ℕ) → j < length key → getD key j 0 < length st
   pub is : (l : Lengths) → l .records ≡ lb → l .places ≡ lp → outcome l st (f (sortsOf st key)) ≡ record { store = st; code = c }
 
--- WHAT THE TABLE SAYS IS TRUE.
-pub record Past (f : Sorts → Verdict) (lb lp : ℕ) (st : List Sort) (ws : List ℕ) : Type 0 where
-  pub each : (key : List ℕ) (c : ℕ) → Says ws key c → Told f lb lp st key c
+-- WHAT THE TABLE SAYS IS TRUE, of each slot by the verdict of its column.
+pub record Past (lb lp : ℕ) (st : List Sort) (ws : List ℕ) : Type 0 where
+  pub each : (slot : ℕ) (key : List ℕ) (c : ℕ) → Says ws slot key c → Told (judgingApp (columnOf slot)) lb lp st key c
 
--- The same of a column, over the store of n sorts in b p.
-abbrev pub PastOf : ℕ → List ℕ → List ℕ → ℕ → List ℕ → Type 0
-PastOf column b p n ws = Past (judgingApp column) (length b) (length p) (storeOf b p n) ws
+-- The same over the store of n sorts in b p.
+abbrev pub PastOf : List ℕ → List ℕ → ℕ → List ℕ → Type 0
+PastOf b p n ws = Past (length b) (length p) (storeOf b p n) ws
 
 ---------------------------------------------------------------- the functions on it
--- Where the slot of an App stands.
-abbrev pub slotOf : List ℕ → ℕ → ℕ
-slotOf a n = (u16At a 3 * 31 + u16At a 5 * 6 + u16At a (1 + 2 * n)) % slotCount * slotSize
+-- The slot of an App in a column, and where it stands.
+abbrev pub slotNumber : ℕ → List ℕ → ℕ → ℕ
+slotNumber column a n = column * slotCount + (u16At a 3 * 31 + u16At a 5 * 6 + u16At a (1 + 2 * n)) % slotCount
+
+abbrev pub slotOf : ℕ → List ℕ → ℕ → ℕ
+slotOf column a n = slotNumber column a n * slotSize
 
 -- The numbers of an App's terms in a from byte 3 on.
 pub record KeyAsks (a : List ℕ) (n : ℕ) : Type 0 where
   pub some : 2 ≤ n
   pub few : n ≤ mostTerms
   pub within : 3 + 2 * n ≤ length a
+
+-- The same with a column of the rows.
+pub record SeekAsks (a : List ℕ) (n column : ℕ) : Type 0 where
+  pub key : KeyAsks a n
+  pub side : column ≤ 1
 
 -- The place of a slot in ws.
 pub record SlotAt (ws : List ℕ) (at : ℕ) : Type 0 where
@@ -105,9 +114,9 @@ pub record SlotAsks (ws : List ℕ) (at : ℕ) (a : List ℕ) (n : ℕ) : Type 0
   pub key : KeyAsks a n
   pub here : SlotAt ws at
 
--- One more than a code that the table says, or 0.
-pub record RecalledIs (ws a : List ℕ) (n r : ℕ) : Type 0 where
-  pub said : (c : ℕ) → r ≡ suc c → Says ws (numbersAt a 3 n) c
+-- One more than a code that the slot at a place says, or 0.
+pub record RecalledIs (ws : List ℕ) (at : ℕ) (a : List ℕ) (n r : ℕ) : Type 0 where
+  pub said : (slot c : ℕ) → at ≡ slot * slotSize → r ≡ suc c → Says ws slot (numbersAt a 3 n) c
   pub small : r ≤ codeEnd
 
 -- A slot of ws that has the numbers key of n terms.
@@ -121,14 +130,25 @@ pub record OpenedIs (ws : List ℕ) (at : ℕ) (a : List ℕ) (n : ℕ) (ws′ :
   pub ready : OpenAt ws′ at n (numbersAt a 3 n)
   pub less : Less ws ws′
 
--- What a look-up of the terms with the numbers key found in ws, and left in ws′.
-abbrev pub Found : List ℕ → List ℕ → List ℕ → ℕ → Look → Type 0
-Found ws ws′ key n Apart = Unit {0}
-Found ws ws′ key n (Noted c) = Says ws key c
-Found ws ws′ key n (Open at) = OpenAt ws′ at n key
+-- A slot of a column that says the code c.
+pub record Tells (ws : List ℕ) (column : ℕ) (key : List ℕ) (c : ℕ) : Type 0 where
+  pub slot : ℕ
+  pub side : columnOf slot ≡ column
+  pub says : Says ws slot key c
 
-pub record SeekIs (ws a : List ℕ) (n : ℕ) (ws′ : List ℕ) (q : Look) : Type 0 where
-  pub found : Found ws ws′ (numbersAt a 3 n) n q
+-- A slot of a column that has the numbers key of n terms.
+pub record OpenIn (ws : List ℕ) (column at n : ℕ) (key : List ℕ) : Type 0 where
+  pub ready : OpenAt ws at n key
+  pub side : (slot : ℕ) → slot * slotSize ≡ at → columnOf slot ≡ column
+
+-- What a look-up in a column of the terms with the numbers key found in ws, and left in ws′.
+abbrev pub Found : List ℕ → List ℕ → ℕ → List ℕ → ℕ → Look → Type 0
+Found ws ws′ column key n Apart = Unit {0}
+Found ws ws′ column key n (Noted c) = Tells ws column key c
+Found ws ws′ column key n (Open at) = OpenIn ws′ column at n key
+
+pub record SeekIs (ws a : List ℕ) (n column : ℕ) (ws′ : List ℕ) (q : Look) : Type 0 where
+  pub found : Found ws ws′ column (numbersAt a 3 n) n q
   pub less : Less ws ws′
 
 -- A slot, how many terms it has the numbers of, and a code for them.
@@ -140,7 +160,7 @@ pub record NoteAsks (ws : List ℕ) (at n c : ℕ) : Type 0 where
 
 -- ONLY ONE NOTE IS NEW: that code, of the terms whose numbers stand in the slot.
 abbrev pub NotedIs : List ℕ → ℕ → ℕ → ℕ → List ℕ → Type 0
-NotedIs ws at n c ws′ = (key : List ℕ) (d : ℕ) → Says ws′ key d → Says ws key d ⊎ ((key ≡ numbersAt ws (at + 4) n) × (d ≡ c))
+NotedIs ws at n c ws′ = (slot : ℕ) (key : List ℕ) (d : ℕ) → Says ws′ slot key d → Says ws slot key d ⊎ ((slot * slotSize ≡ at) × (key ≡ numbersAt ws (at + 4) n) × (d ≡ c))
 
 -- The same of a row, which is noted where the look-up left a slot for it.
 abbrev pub RowNoteAsks : List ℕ → ℕ → Look → RowVerdict → Type 0
@@ -166,52 +186,32 @@ pub record AgainIs (c n u : ℕ) (r : Answer) : Type 0 where
   pub used : r .used ≡ u
 
 ---------------------------------------------------------------- the rows of a record
--- The row in a column of the term that the sheet names at a place.
-abbrev pub headRow : List ℕ → ℕ → List ℕ → ℕ → ℕ
-headRow s at rows column = getD rows (2 * u16At s at + column) 0
-
--- A good store, and a row in it or a refused one.
-pub record HeadAsks (b p : List ℕ) (n : ℕ) (s : List ℕ) (at : ℕ) (rows : List ℕ) (column : ℕ) : Type 0 where
-  pub stored : Stored b p n
-  pub within : at + 2 ≤ length s
+-- A column of the rows, and a record with the numbers of its arguments, which are those of a store, in a from byte 3 on.
+pub record LookAsks (b p : List ℕ) (r : TermRecord) (a : List ℕ) (column : ℕ) : Type 0 where
   pub side : column ≤ 1
-  pub row : 2 * u16At s at + column < length rows
-  pub known : headRow s at rows column < 65536 → headRow s at rows column < n
-
-abbrev pub headIsPar : List ℕ → List ℕ → ℕ → List ℕ → ℕ → List ℕ → ℕ → Bool
-headIsPar b p n s at rows column = ltb (headRow s at rows column) 65536 && eqb (kindOf (sortAt b p n (headRow s at rows column))) 12
-
--- A stored record in one of the two columns, and an array for its arguments.
-pub record LookAsks (b p : List ℕ) (n : ℕ) (s rows : List ℕ) (column : ℕ) (r : TermRecord) (a : List ℕ) : Type 0 where
-  pub table : List ℕ
-  pub places : List ℕ
-  pub stored : Stored b p n
-  pub standing : Standing n s table places rows r
-  pub side : column ≤ 1
-  pub room : 259 ≤ length a
-
--- An App whose sorts stand in a.
-pub record AppIs (s rows : List ℕ) (column : ℕ) (r : TermRecord) (a : List ℕ) : Type 0 where
-  pub app : r .kind ≡ 6
-  pub parts : PartsAre s rows column r a true
+  pub count : ℕ
+  pub stored : Stored b p count
+  pub below : (j : ℕ) → j < r .count → u16At a (3 + 2 * j) < count
+  pub few : r .count ≤ mostTerms
+  pub within : 3 + 2 * r .count ≤ length a
 
 -- APART SAYS NOTHING; else the record is an App, and its terms were looked up.
-abbrev pub Looked : List ℕ → List ℕ → ℕ → TermRecord → List ℕ → Look → Type 0
-Looked s rows column r a Apart = Unit {0}
-Looked s rows column r a (Noted c) = AppIs s rows column r a
-Looked s rows column r a (Open at) = AppIs s rows column r a
+abbrev pub Looked : TermRecord → Look → Type 0
+Looked r Apart = Unit {0}
+Looked r (Noted c) = r .kind ≡ 6
+Looked r (Open at) = r .kind ≡ 6
 
-pub record LookedIs (s rows : List ℕ) (column : ℕ) (r : TermRecord) (a ws ws′ : List ℕ) (q : Look) : Type 0 where
-  pub looked : Looked s rows column r a q
-  pub found : Found ws ws′ (numbersAt a 3 (r .count)) (r .count) q
+pub record LookedIs (r : TermRecord) (a : List ℕ) (column : ℕ) (ws ws′ : List ℕ) (q : Look) : Type 0 where
+  pub looked : Looked r q
+  pub found : Found ws ws′ column (numbersAt a 3 (r .count)) (r .count) q
   pub less : Less ws ws′
 
 -- What a row asks, and a table that says the truth.
 pub record PastAsks (column : ℕ) (b p ix : List ℕ) (n u : ℕ) (prm imgs bnd s tbl xs rows : List ℕ) (r : TermRecord) (a ws : List ℕ) : Type 0 where
   pub asks : TermAsks b p ix n u prm imgs bnd s tbl xs rows r a
-  pub past : PastOf column b p n ws
+  pub past : PastOf b p n ws
 
 -- THE ROW IN A COLUMN, and a table that says the truth over the store after it.
 pub record PastIs (column : ℕ) (b p : List ℕ) (n : ℕ) (prm imgs bnd s tbl xs rows : List ℕ) (r : TermRecord) (b′ p′ ix′ prm′ imgs′ bnd′ : List ℕ) (q : Answer) (ws′ : List ℕ) : Type 0 where
   pub row : TermIs (judging column) column b p n prm imgs bnd s tbl xs rows r b′ p′ ix′ prm′ imgs′ bnd′ q
-  pub past : PastOf column b′ p′ (q .count) ws′
+  pub past : PastOf b′ p′ (q .count) ws′

@@ -16,11 +16,11 @@ use Rattle.store.specs.Good.{Good, good-room}
 use Rattle.rows.specs.Verdict.{Verdict}
 use Rattle.rows.specs.Outcome.{outcome}
 use Rattle.answers.specs.AnswerLaws.{good-once}
-use Rattle.repeats.specs.Past.{slotSize, judgingApp, Told, PastOf}
+use Rattle.repeats.specs.Past.{slotSize, columnOf, judgingApp, Told, PastOf}
 use Rattle.repeats.specs.Again.{outcome-stays}
 
-pub past-none : (column : ℕ) (b p : List ℕ) (n m : ℕ) → PastOf column b p n (replicate m 0)
-past-none column b p n m = record { each = λ key c s. absurd (s .full (zeros-all m (s .slot * slotSize) (omega arith))) }
+pub past-none : (b p : List ℕ) (n m : ℕ) → PastOf b p n (replicate m 0)
+past-none b p n m = record { each = λ slot key c s. absurd (s .full (zeros-all m (slot * slotSize) (omega arith))) }
 
 -- The sorts of numbers that a store has are those of one that has grown from it.
 pub sorts-grown : (st st′ : List Sort) → Starts st st′ → (key : List ℕ) → ((j : ℕ) → j < length key → getD key j 0 < length st) → sortsOf st′ key ≡ sortsOf st key
@@ -41,14 +41,13 @@ told-grown f lb lp st st′ key c g once ordered fits h =
           ∙ outcome-stays l st st′ g once ordered (ap₂ (λ (x y : ℕ). room x y st′) e d ∙ fits) c (f (sortsOf st key)) (h .is l e d);
     }
 
--- THE TABLE OF A COLUMN SAYS THE TRUTH OVER A STORE THAT HAS GROWN, in buffers of the same lengths.
-pub past-grown : (column : ℕ) (b p : List ℕ) (n : ℕ) (b′ p′ ix′ : List ℕ) (n′ u′ : ℕ) (ws : List ℕ) → Good b′ p′ ix′ n′ u′ → length b′ ≡ length b → length p′ ≡ length p
-    → Starts (storeOf b p n) (storeOf b′ p′ n′) → PastOf column b p n ws → PastOf column b′ p′ n′ ws
-past-grown column b p n b′ p′ ix′ n′ u′ ws good long wide g h =
-    let f = judgingApp column in
+-- THE TABLE SAYS THE TRUTH OVER A STORE THAT HAS GROWN, in buffers of the same lengths.
+pub past-grown : (b p : List ℕ) (n : ℕ) (b′ p′ ix′ : List ℕ) (n′ u′ : ℕ) (ws : List ℕ) → Good b′ p′ ix′ n′ u′ → length b′ ≡ length b → length p′ ≡ length p
+    → Starts (storeOf b p n) (storeOf b′ p′ n′) → PastOf b p n ws → PastOf b′ p′ n′ ws
+past-grown b p n b′ p′ ix′ n′ u′ ws good long wide g h =
     record {
-      each = λ key c s.
-          told-grown f (length b′) (length p′) (storeOf b p n) (storeOf b′ p′ n′) key c g (good-once b′ p′ ix′ n′ u′ good)
+      each = λ slot key c s.
+          told-grown (judgingApp (columnOf slot)) (length b′) (length p′) (storeOf b p n) (storeOf b′ p′ n′) key c g (good-once b′ p′ ix′ n′ u′ good)
           (store-ordered b′ p′ n′ (good .stored)) (good-room b′ p′ ix′ n′ u′ good)
-          (let t = h .each key c s in record { below = t .below; is = λ l e d. t .is l (e ∙ long) (d ∙ wide) });
+          (let t = h .each slot key c s in record { below = t .below; is = λ l e d. t .is l (e ∙ long) (d ∙ wide) });
     }

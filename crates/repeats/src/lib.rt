@@ -3,6 +3,7 @@
 // So its row, a sort or a refusal, is what an App of the same sorts was found to be.
 use answers::Answer;
 use answers::arguments::CHECKED;
+use answers::arguments::FIRST_AT;
 use answers::arguments::INFERRED;
 use answers::arguments::REFUSED;
 use answers::found;
@@ -22,29 +23,16 @@ use store::entries::kind_at;
 ghost use mathlib.Core.Path.{_≡_};
 ghost use Prim.Native.Nat.{_≤_};
 ghost use Rattle.rows.specs.Verdict.{numberOf};
-ghost use Rattle.repeats.specs.Past.{Coded, AgainIs, HeadAsks, headIsPar, LookAsks, LookedIs, PastAsks, PastIs};
+ghost use Rattle.repeats.specs.Past.{Coded, AgainIs, LookAsks, LookedIs, PastAsks, PastIs};
 
 pub mod slots;
 
-// Whether the row in a column of the term that the sheet names at `at` is a Par of the store.
-pub fn head_is_par(
-    records: &[u8],
-    places: &[u32],
-    count: usize,
-    sheet: &[u8],
-    at: usize,
-    rows: &[u32],
-    column: usize,
-) -> bool
-    requires { ⌜ HeadAsks (now records) (now places) count (now sheet) at (now rows) column ⌝ }
-    ensures { λ r. ⌜ r ≡ headIsPar (now (records .entry)) (now (places .entry)) count (now (sheet .entry)) at (now (rows .entry)) column ⌝ }
-{
-    let t = u16_at(sheet, at);
-    let k = rows[2 * t + column] as usize;
-    if REFUSED <= k {
-        return false;
-    }
-    kind_at(records, places, k) == SORT_PAR
+// A record whose row is asked, over the store of `count` sorts with `used` bytes. These two stand apart: side by side they are copied at
+// once, which waits for the stores of both.
+pub struct Task {
+    pub count: usize,
+    pub term: TermRecord,
+    pub used: usize,
 }
 
 // The cause with this number.
@@ -78,48 +66,41 @@ pub fn row_again(row: usize, count: usize, used: usize) -> Answer
     refuse(c, count, used)
 }
 
-// Looks up an App of two terms or more whose head is a Par, with the numbers of its sorts in `args` from byte 3 on: the code of its
-// row, or the slot where it is to be noted; Apart for any other record, and where a term that it names has a refused row.
+// Looks up an App of two terms or more whose head is a Par, the numbers of its sorts in `args` from byte 3 on: the code of its row in
+// a column, or the slot where it is to be noted; Apart for any other record.
 pub fn looked_up(
     records: &[u8],
     places: &[u32],
-    count: usize,
-    sheet: &[u8],
-    rows: &[u32],
-    column: usize,
     term: TermRecord,
-    args: &mut [u8],
+    args: &[u8],
+    column: usize,
     past: &mut [u8],
 ) -> Look
-    requires { ⌜ LookAsks (now records) (now places) count (now sheet) (now rows) column term (now args) ⌝ }
-    ensures { λ r. ⌜ LookedIs (now (sheet .entry)) (now (rows .entry)) column term (now (args .exit)) (now (past .entry)) (now (past .exit)) r ⌝ }
+    requires { ⌜ LookAsks (now records) (now places) term (now args) column ⌝ }
+    ensures { λ r. ⌜ LookedIs term (now (args .entry)) column (now (past .entry)) (now (past .exit)) r ⌝ }
 {
     let kind = term.kind;
     let n = term.count;
-    let at = term.list;
     if kind != TERM_APP {
         return Look::Apart;
     }
     if n < 2 {
         return Look::Apart;
     }
-    if !head_is_par(records, places, count, sheet, at, rows, column) {
+    let head = u16_at(args, FIRST_AT);
+    if kind_at(records, places, head) != SORT_PAR {
         return Look::Apart;
     }
-    if !parts_judged(sheet, rows, column, term, args) {
-        return Look::Apart;
-    }
-    seek(past, args, n)
+    seek(past, args, n, column)
 }
 
-// The inferred row of a record: what `past` has noted of it, or what `infer` answers, and then `past` has it. `args` is used up; the
-// tables of names come back as they were.
+// The inferred row of the task's record: Below where a term that it names has a refused one; what `past` has noted of it; or what `infer`
+// answers, and then `past` has it. `args` is used up; the tables of names come back as they were.
 pub fn inferred_row(
     records: &mut [u8],
     places: &mut [u32],
     index: &mut [u16],
-    count: usize,
-    used: usize,
+    task: Task,
     params: &mut [u16],
     images: &mut [u16],
     bound: &mut [u16],
@@ -127,27 +108,22 @@ pub fn inferred_row(
     table: &[u16],
     starts: &[u16],
     rows: &[u32],
-    term: TermRecord,
     args: &mut [u8],
     past: &mut [u8],
 ) -> Answer
-    requires { ⌜ PastAsks 0 (now records) (now places) (now index) count used (now params) (now images) (now bound) (now sheet) (now table) (now starts) (now rows) term (now args) (now past) ⌝ }
-    ensures { λ r. ⌜ PastIs 0 (now (records .entry)) (now (places .entry)) count (now (params .entry)) (now (images .entry)) (now (bound .entry)) (now (sheet .entry)) (now (table .entry)) (now (starts .entry)) (now (rows .entry)) term (now (records .exit)) (now (places .exit)) (now (index .exit)) (now (params .exit)) (now (images .exit)) (now (bound .exit)) r (now (past .exit)) ⌝ }
+    requires { ⌜ PastAsks 0 (now records) (now places) (now index) (task .count) (task .used) (now params) (now images) (now bound) (now sheet) (now table) (now starts) (now rows) (task .term) (now args) (now past) ⌝ }
+    ensures { λ r. ⌜ PastIs 0 (now (records .entry)) (now (places .entry)) (task .count) (now (params .entry)) (now (images .entry)) (now (bound .entry)) (now (sheet .entry)) (now (table .entry)) (now (starts .entry)) (now (rows .entry)) (task .term) (now (records .exit)) (now (places .exit)) (now (index .exit)) (now (params .exit)) (now (images .exit)) (now (bound .exit)) r (now (past .exit)) ⌝ }
 {
+    let term = task.term;
+    let count = task.count;
+    let used = task.used;
+    if !parts_judged(sheet, rows, INFERRED, term, args) {
+        return refuse(Cause::Below, count, used);
+    }
     let n = term.count;
-    let look = looked_up(
-        records,
-        places,
-        count,
-        sheet,
-        rows,
-        INFERRED,
-        term,
-        args,
-        past,
-    );
-    if let Look::Noted(row) = look {
-        return row_again(row, count, used);
+    let look = looked_up(records, places, term, args, INFERRED, past);
+    if let Look::Noted(code) = look {
+        return row_again(code, count, used);
     }
     let made = infer(
         records,
@@ -161,7 +137,6 @@ pub fn inferred_row(
         sheet,
         table,
         starts,
-        rows,
         term,
         args,
     );
@@ -175,8 +150,7 @@ pub fn checked_row(
     records: &mut [u8],
     places: &mut [u32],
     index: &mut [u16],
-    count: usize,
-    used: usize,
+    task: Task,
     params: &mut [u16],
     images: &mut [u16],
     bound: &mut [u16],
@@ -184,27 +158,22 @@ pub fn checked_row(
     table: &[u16],
     starts: &[u16],
     rows: &[u32],
-    term: TermRecord,
     args: &mut [u8],
     past: &mut [u8],
 ) -> Answer
-    requires { ⌜ PastAsks 1 (now records) (now places) (now index) count used (now params) (now images) (now bound) (now sheet) (now table) (now starts) (now rows) term (now args) (now past) ⌝ }
-    ensures { λ r. ⌜ PastIs 1 (now (records .entry)) (now (places .entry)) count (now (params .entry)) (now (images .entry)) (now (bound .entry)) (now (sheet .entry)) (now (table .entry)) (now (starts .entry)) (now (rows .entry)) term (now (records .exit)) (now (places .exit)) (now (index .exit)) (now (params .exit)) (now (images .exit)) (now (bound .exit)) r (now (past .exit)) ⌝ }
+    requires { ⌜ PastAsks 1 (now records) (now places) (now index) (task .count) (task .used) (now params) (now images) (now bound) (now sheet) (now table) (now starts) (now rows) (task .term) (now args) (now past) ⌝ }
+    ensures { λ r. ⌜ PastIs 1 (now (records .entry)) (now (places .entry)) (task .count) (now (params .entry)) (now (images .entry)) (now (bound .entry)) (now (sheet .entry)) (now (table .entry)) (now (starts .entry)) (now (rows .entry)) (task .term) (now (records .exit)) (now (places .exit)) (now (index .exit)) (now (params .exit)) (now (images .exit)) (now (bound .exit)) r (now (past .exit)) ⌝ }
 {
+    let term = task.term;
+    let count = task.count;
+    let used = task.used;
+    if !parts_judged(sheet, rows, CHECKED, term, args) {
+        return refuse(Cause::Below, count, used);
+    }
     let n = term.count;
-    let look = looked_up(
-        records,
-        places,
-        count,
-        sheet,
-        rows,
-        CHECKED,
-        term,
-        args,
-        past,
-    );
-    if let Look::Noted(row) = look {
-        return row_again(row, count, used);
+    let look = looked_up(records, places, term, args, CHECKED, past);
+    if let Look::Noted(code) = look {
+        return row_again(code, count, used);
     }
     let made = check(
         records,
@@ -218,7 +187,6 @@ pub fn checked_row(
         sheet,
         table,
         starts,
-        rows,
         term,
         args,
     );

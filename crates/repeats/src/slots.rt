@@ -1,6 +1,7 @@
 // What an App was found to be, noted in a lent table by the numbers of its head and its arguments. The table has 128 slots of 132
-// bytes, or fewer where it is shorter: how many terms (0 in an empty slot), the row's code in three bytes, a number of the store and
-// a cause, and from byte 4 on the numbers of the terms' sorts, two bytes each. A slot keeps the last App that was looked up there.
+// bytes for each column of the rows, or fewer where it is shorter: how many terms (0 in an empty slot), the row's code in three bytes,
+// a number of the store and a cause, and from byte 4 on the numbers of the terms' sorts, two bytes each. A slot keeps the last App that
+// was looked up there.
 use answers::arguments::FIRST_AT;
 use answers::arguments::REFUSED;
 use answers::arguments::SECOND_AT;
@@ -12,14 +13,14 @@ use rows::RowVerdict;
 use store::buffers::copy_at;
 ghost use mathlib.Core.Path.{_≡_};
 ghost use Prim.Native.Nat.{_≤_, _<_};
-ghost use Rattle.repeats.specs.Past.{slotOf, KeyAsks, SlotAsks, RecalledIs, OpenedIs, SeekIs, NoteAsks, NotedIs, RowNoteAsks, RowNotedIs};
+ghost use Rattle.repeats.specs.Past.{slotOf, SeekAsks, SlotAsks, RecalledIs, OpenedIs, SeekIs, NoteAsks, NotedIs, RowNoteAsks, RowNotedIs};
 
-// How many slots there are, the bytes of a slot, and of the whole table.
+// How many slots a column has, the bytes of a slot, and of the whole table.
 const SLOTS: usize = 128;
 
 pub const SLOT: usize = 132;
 
-pub const TABLE: usize = SLOTS * SLOT;
+pub const TABLE: usize = 2 * SLOTS * SLOT;
 
 // What a look-up gave.
 pub enum Look {
@@ -31,21 +32,21 @@ pub enum Look {
     Open(usize),
 }
 
-// Where the slot of an App of these `n` terms stands: by its head, its first and its last argument.
-pub fn slot_of(args: &[u8], n: usize) -> usize
-    requires { ⌜ KeyAsks (now args) n ⌝ }
-    ensures { λ r. ⌜ r ≡ slotOf (now (args .entry)) n ⌝ }
+// Where the slot of an App of these `n` terms stands in a column: by its head, its first and its last argument.
+pub fn slot_of(args: &[u8], n: usize, column: usize) -> usize
+    requires { ⌜ SeekAsks (now args) n column ⌝ }
+    ensures { λ r. ⌜ r ≡ slotOf column (now (args .entry)) n ⌝ }
 {
     let head = u16_at(args, FIRST_AT);
     let first = u16_at(args, SECOND_AT);
     let last = u16_at(args, 1 + 2 * n);
-    (head * 31 + first * 6 + last) % SLOTS * SLOT
+    (column * SLOTS + (head * 31 + first * 6 + last) % SLOTS) * SLOT
 }
 
 // One more than the code in the slot at `at`, where that has noted the `n` terms whose numbers are in `args` from byte 3 on; else 0.
 pub fn recalled(past: &[u8], at: usize, args: &[u8], n: usize) -> usize
     requires { ⌜ SlotAsks (now past) at (now args) n ⌝ }
-    ensures { λ r. ⌜ RecalledIs (now (past .entry)) (now (args .entry)) n r ⌝ }
+    ensures { λ r. ⌜ RecalledIs (now (past .entry)) at (now (args .entry)) n r ⌝ }
 {
     if past[at] as usize != n {
         return 0;
@@ -69,13 +70,13 @@ pub fn opened(past: &mut [u8], at: usize, args: &[u8], n: usize)
     copy_at(past, at + 4, &args[FIRST_AT..end]);
 }
 
-// Looks up an App of the `n` terms whose numbers are in `args` from byte 3 on: its code, or its slot, which is emptied and has the
-// numbers then; Apart where the table has no such slot.
-pub fn seek(past: &mut [u8], args: &[u8], n: usize) -> Look
-    requires { ⌜ KeyAsks (now args) n ⌝ }
-    ensures { λ r. ⌜ SeekIs (now (past .entry)) (now (args .entry)) n (now (past .exit)) r ⌝ }
+// Looks up an App of the `n` terms whose numbers are in `args` from byte 3 on: its code in a column, or its slot, which is emptied and
+// has the numbers then; Apart where the table has no such slot.
+pub fn seek(past: &mut [u8], args: &[u8], n: usize, column: usize) -> Look
+    requires { ⌜ SeekAsks (now args) n column ⌝ }
+    ensures { λ r. ⌜ SeekIs (now (past .entry)) (now (args .entry)) n column (now (past .exit)) r ⌝ }
 {
-    let at = slot_of(args, n);
+    let at = slot_of(args, n, column);
     if past.len() < at + SLOT {
         return Look::Apart;
     }

@@ -1,9 +1,8 @@
--- Only an App of two terms or more whose head is a Par is looked up, with its sorts gathered.
+-- Only an App of two terms or more whose head is a Par is looked up.
 -- For any other record nothing is said.
 use native.Mathlib.Omega.{arith}
 use borrow.Author.Needs.{needs}
-use Rattle.record.specs.Cases.{not-false}
-use Rattle.repeats.proofs.RowLaws.{head-row-asks, key-gathered, key-asks, look-apart, look-is}
+use Rattle.repeats.proofs.RowLaws.{head-asks, seek-asks, look-apart, look-is}
 use Rattle.repeats.proofs.looked_up.Statement.{statement}
 use Rattle.repeats.proofs.looked_up.Tie as tie
 
@@ -13,25 +12,20 @@ returns c = look-apart
 returns-2 : tie.Need-returns-2
 returns-2 c = look-apart
 
-head-is-par-requires : tie.Need-head-is-par-requires
-head-is-par-requires c κs = head-row-asks (c .before .before .before .before .before .before .before .before .pre) (c .before .if1 .left)
+u16-at-requires : tie.Need-u16-at-requires
+u16-at-requires c κs = omega (arith, c .before .before .before .before .before .before .pre .within, c .if2 .left)
+
+kind-at-requires : tie.Need-kind-at-requires
+kind-at-requires c κs = head-asks (c .before .before .before .before .before .before .before .pre) (omega (arith, c .before .if2 .left)) (c .u16-at .ensures .0)
 
 returns-3 : tie.Need-returns-3
 returns-3 c = look-apart
 
-parts-judged-requires : tie.Need-parts-judged-requires
-parts-judged-requires c κs = key-gathered (c .before .before .before .before .before .before .before .before .before .before .before .pre)
+seek-requires : tie.Need-seek-requires
+seek-requires c κs = seek-asks (c .before .before .before .before .before .before .before .before .before .before .pre) (omega (arith, c .before .before .before .before .if2 .left))
 
 returns-4 : tie.Need-returns-4
-returns-4 c = look-apart
-
-seek-requires : tie.Need-seek-requires
-seek-requires c κs = key-asks (c .before .before .before .before .before .before .before .before .before .before .before .before .before .before .before .before .before .pre) (omega (arith, c .before .before .before .before .before .before .before .before .before .if2 .left)) _ (c .before .before .before .before .before .parts-judged .kept .1 .1 .1 .1 .0)
-
-returns-5 : tie.Need-returns-5
-returns-5 c =
-    let c₁ = c .before .before .before .before .before in let c₂ = c₁ .before .before .before in let c₃ = c₂ .before .before .before .before .before in
-    look-is (c₃ .if1 .left) (not-false (c₂ .parts-judged .result) (c₁ .if4 .left)) (c₂ .parts-judged .ensures) (c .before .before .seek .ensures)
+returns-4 c = look-is (c .before .before .before .before .before .before .before .before .if1 .left) (c .before .before .seek .ensures)
 
 pub looked-up-spec : {M : Type 1} → statement M
-looked-up-spec = tie.close (tie.spec returns returns-2 head-is-par-requires returns-3 parts-judged-requires (λ c. search needs) returns-4 seek-requires (λ c. search needs) (λ c. search needs) returns-5)
+looked-up-spec = tie.close (tie.spec returns returns-2 u16-at-requires kind-at-requires returns-3 seek-requires (λ c. search needs) returns-4)

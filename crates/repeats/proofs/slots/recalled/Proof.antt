@@ -14,7 +14,7 @@ cast-if1 : tie.Need-cast-if1
 cast-if1 c = omega (arith, c .shared-slice-known3 .given (c .before .before .before .args .at))
 
 returns : tie.Need-returns
-returns c = record { said = λ c e. absurd (omega (arith, e)); small = omega arith }
+returns c = record { said = λ slot c ei e. absurd (omega (arith, e)); small = omega arith }
 
 cast-result : tie.Need-cast-result
 cast-result c = omega (arith, c .shared-slice-known4 .given (c .before .before .before .before .before .before .before .before .before .args .at + 3))
@@ -36,7 +36,7 @@ returns-2 c =
     recalled-is (s .pre) (c .before .before .before .before .before .before .if1 .left) key (ap (λ (x : ℕ). getD (a .past .now) (a .at + 3) 0 * 65536 + x) (c .u16-at .ensures .0)) (omega (arith, c .before .shared-slice-known4 .given (c .before .before .before .before .before .before .before .before .before .before .args .at + 3), c .u16-at .ensures .1))
 
 returns-3 : tie.Need-returns-3
-returns-3 c = record { said = λ c e. absurd (omega (arith, e)); small = omega arith }
+returns-3 c = record { said = λ slot c ei e. absurd (omega (arith, e)); small = omega arith }
 
 pub recalled-spec : {M : Type 1} → statement M
 recalled-spec =

@@ -12,8 +12,9 @@ returns : tie.Need-returns
 returns c =
     let a = c .before .before .before .before .args in
     let l = a .args .now in
-    ap₂ (λ (h f : ℕ). (h * 31 + f * 6 + c .u16-at3 .result) % slotCount * slotSize) (c .before .before .u16-at .ensures .0) (c .before .u16-at2 .ensures .0)
-    ∙ ap (λ (z : ℕ). (u16At l 3 * 31 + u16At l 5 * 6 + z) % slotCount * slotSize) (c .u16-at3 .ensures .0)
+    let k = a .column in
+    ap₂ (λ (h f : ℕ). (k * slotCount + (h * 31 + f * 6 + c .u16-at3 .result) % slotCount) * slotSize) (c .before .before .u16-at .ensures .0) (c .before .u16-at2 .ensures .0)
+    ∙ ap (λ (z : ℕ). (k * slotCount + (u16At l 3 * 31 + u16At l 5 * 6 + z) % slotCount) * slotSize) (c .u16-at3 .ensures .0)
 
 pub slot-of-spec : {M : Type 1} → statement M
-slot-of-spec = tie.close (tie.spec (λ c κs. search needs) (λ c κs. search needs) (λ c. search needs) (λ c. search needs) (λ c κs. search needs) (λ c. search needs) (λ c. search needs) (λ c. search needs) (λ c. search needs) (λ c. search needs) returns)
+slot-of-spec = tie.close (tie.spec (λ c κs. search needs) (λ c κs. search needs) (λ c. search needs) (λ c. search needs) (λ c κs. search needs) (λ c. search needs) (λ c. search needs) (λ c. search needs) (λ c. search needs) (λ c. search needs) (λ c. search needs) (λ c. search needs) returns)
