@@ -15,7 +15,6 @@ use Rattle.store.specs.Good.{Good}
 use Rattle.checked.specs.Ranks.{smtLib}
 use Rattle.answers.specs.Lent.{Lent}
 use Rattle.site.specs.Site.{Standing}
-use Rattle.repeats.specs.Past.{PastOf}
 use Rattle.judged.specs.Rows.{Tabled, bothRows, rowsOf}
 use Rattle.questions.specs.declared.all.Counts.{Counts}
 
@@ -26,11 +25,6 @@ tabled st rows = record { store = st; rows = rows }
 -- The rows before those of the term t have numbers of the store of n sorts.
 abbrev pub Known : List ℕ → ℕ → ℕ → Type 0
 Known rows t n = (i : ℕ) → i < 2 * t → getD rows i 0 < 65536 → getD rows i 0 < n
-
--- The tables of Apps judged before, one a column, say the truth over the store of n sorts in b p.
-pub record Pasts (b p : List ℕ) (n : ℕ) (ws vs : List ℕ) : Type 0 where
-  pub inferences : PastOf 0 b p n ws
-  pub checks : PastOf 1 b p n vs
 
 -- A good store, tables of names lent over it, and the record r of the term t, with room for its rows.
 pub record BothAsk (b p ix : List ℕ) (n u : ℕ) (prm imgs bnd s tbl xs rows : List ℕ) (r : TermRecord) (t : ℕ) : Type 0 where

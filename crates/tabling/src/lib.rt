@@ -6,19 +6,28 @@ use reader::ReadTerm;
 use reader::TermRecord;
 use record::limits::LONGEST_RECORD;
 use record::limits::NAMES;
+use repeats::Task;
 use repeats::checked_row;
 use repeats::inferred_row;
 use repeats::slots::TABLE;
-ghost use Rattle.tabling.specs.Table.{Pasts, BothAsk, BothAre, TurnAsks, TurnIs, RowsAsk, RowsAre};
+use sheet::SheetCounts;
+ghost use Rattle.repeats.specs.Past.{PastOf};
+ghost use Rattle.tabling.specs.Table.{BothAsk, BothAre, TurnAsks, TurnIs, RowsAsk, RowsAre};
 
-// Writes both rows of the term t with this record at 2 t: the inferred one, then the checked one over the store after it; the
-// store's count and bytes in use after them. `inferences` and `checks` note what Apps were found to be, as of each below.
+// A term by its number, and the store's count and bytes in use before its rows; these two apart, as in `Task`.
+pub struct Turn {
+    pub count: usize,
+    pub t: usize,
+    pub used: usize,
+}
+
+// Writes both rows of the turn's term, with this record, at 2 t: the inferred one, then the checked one over the store after it; the
+// store's count and bytes in use after them. `past` notes what Apps were found to be, as of each below.
 pub fn rows_of(
     records: &mut [u8],
     places: &mut [u32],
     index: &mut [u16],
-    count: usize,
-    used: usize,
+    turn: Turn,
     params: &mut [u16],
     images: &mut [u16],
     bound: &mut [u16],
@@ -27,20 +36,22 @@ pub fn rows_of(
     starts: &[u16],
     rows: &mut [u32],
     term: TermRecord,
-    t: usize,
-    inferences: &mut [u8],
-    checks: &mut [u8],
+    past: &mut [u8],
 ) -> Counts
-    requires { ⌜ BothAsk (now records) (now places) (now index) count used (now params) (now images) (now bound) (now sheet) (now table) (now starts) (now rows) term t × Pasts (now records) (now places) count (now inferences) (now checks) ⌝ }
-    ensures { λ r. ⌜ BothAre (now (records .entry)) (now (places .entry)) count (now (params .entry)) (now (images .entry)) (now (bound .entry)) (now (sheet .entry)) (now (table .entry)) (now (starts .entry)) (now (rows .entry)) term t (now (records .exit)) (now (places .exit)) (now (index .exit)) (now (params .exit)) (now (images .exit)) (now (bound .exit)) (now (rows .exit)) r × Pasts (now (records .exit)) (now (places .exit)) (r .count) (now (inferences .exit)) (now (checks .exit)) ⌝ }
+    requires { ⌜ BothAsk (now records) (now places) (now index) (turn .count) (turn .used) (now params) (now images) (now bound) (now sheet) (now table) (now starts) (now rows) term (turn .t) × PastOf (now records) (now places) (turn .count) (now past) ⌝ }
+    ensures { λ r. ⌜ BothAre (now (records .entry)) (now (places .entry)) (turn .count) (now (params .entry)) (now (images .entry)) (now (bound .entry)) (now (sheet .entry)) (now (table .entry)) (now (starts .entry)) (now (rows .entry)) term (turn .t) (now (records .exit)) (now (places .exit)) (now (index .exit)) (now (params .exit)) (now (images .exit)) (now (bound .exit)) (now (rows .exit)) r × PastOf (now (records .exit)) (now (places .exit)) (r .count) (now (past .exit)) ⌝ }
 {
     let mut args = [0u8; LONGEST_RECORD];
+    let first = Task {
+        term,
+        count: turn.count,
+        used: turn.used,
+    };
     let one = inferred_row(
         records,
         places,
         index,
-        count,
-        used,
+        first,
         params,
         images,
         bound,
@@ -48,18 +59,19 @@ pub fn rows_of(
         table,
         starts,
         rows,
-        term,
         &mut args,
-        inferences,
+        past,
     );
-    let m = one.count;
-    let v = one.used;
+    let second = Task {
+        term,
+        count: one.count,
+        used: one.used,
+    };
     let two = checked_row(
         records,
         places,
         index,
-        m,
-        v,
+        second,
         params,
         images,
         bound,
@@ -67,10 +79,10 @@ pub fn rows_of(
         table,
         starts,
         rows,
-        term,
         &mut args,
-        checks,
+        past,
     );
+    let t = turn.t;
     let inferred = one.verdict;
     let checked = two.verdict;
     rows[2 * t] = code(inferred);
@@ -81,13 +93,12 @@ pub fn rows_of(
     }
 }
 
-// Both rows of the term t, whose record is read again at its place. Where none is read, which what is asked rules out, no row.
+// Both rows of the turn's term, whose record is read again at its place. Where none is read, which what is asked rules out, no row.
 pub fn term_rows(
     records: &mut [u8],
     places: &mut [u32],
     index: &mut [u16],
-    count: usize,
-    used: usize,
+    turn: Turn,
     params: &mut [u16],
     images: &mut [u16],
     bound: &mut [u16],
@@ -96,13 +107,12 @@ pub fn term_rows(
     sorts: usize,
     starts: &[u16],
     rows: &mut [u32],
-    t: usize,
-    inferences: &mut [u8],
-    checks: &mut [u8],
+    past: &mut [u8],
 ) -> Counts
-    requires { ⌜ TurnAsks (now records) (now places) (now index) count used (now params) (now images) (now bound) (now sheet) (now table) sorts (now starts) (now rows) t × Pasts (now records) (now places) count (now inferences) (now checks) ⌝ }
-    ensures { λ r. ⌜ TurnIs (now (records .entry)) (now (places .entry)) count (now (params .entry)) (now (images .entry)) (now (bound .entry)) (now (sheet .entry)) (now (table .entry)) sorts (now (starts .entry)) (now (rows .entry)) t (now (records .exit)) (now (places .exit)) (now (index .exit)) (now (params .exit)) (now (images .exit)) (now (bound .exit)) (now (rows .exit)) r × Pasts (now (records .exit)) (now (places .exit)) (r .count) (now (inferences .exit)) (now (checks .exit)) ⌝ }
+    requires { ⌜ TurnAsks (now records) (now places) (now index) (turn .count) (turn .used) (now params) (now images) (now bound) (now sheet) (now table) sorts (now starts) (now rows) (turn .t) × PastOf (now records) (now places) (turn .count) (now past) ⌝ }
+    ensures { λ r. ⌜ TurnIs (now (records .entry)) (now (places .entry)) (turn .count) (now (params .entry)) (now (images .entry)) (now (bound .entry)) (now (sheet .entry)) (now (table .entry)) sorts (now (starts .entry)) (now (rows .entry)) (turn .t) (now (records .exit)) (now (places .exit)) (now (index .exit)) (now (params .exit)) (now (images .exit)) (now (bound .exit)) (now (rows .exit)) r × PastOf (now (records .exit)) (now (places .exit)) (r .count) (now (past .exit)) ⌝ }
 {
+    let t = turn.t;
     let at = starts[t] as usize;
     let cursor = Cursor { at };
     let read = cursor.term(sheet, sorts, t);
@@ -111,8 +121,7 @@ pub fn term_rows(
             records,
             places,
             index,
-            count,
-            used,
+            turn,
             params,
             images,
             bound,
@@ -121,47 +130,50 @@ pub fn term_rows(
             starts,
             rows,
             term,
-            t,
-            inferences,
-            checks,
+            past,
         ),
-        ReadTerm::NoTerm(_) => Counts { count, used },
+        ReadTerm::NoTerm(_) => Counts {
+            count: turn.count,
+            used: turn.used,
+        },
     }
 }
 
-// Writes both rows of each of the first `terms` terms, whose places are `starts`, into `rows`; the store's count and bytes in
-// use after them.
+// Writes both rows of each term of a sheet that was read, whose places are `starts`, into `rows`; the store's count and bytes in use
+// after them.
 pub fn rows_past(
     records: &mut [u8],
     places: &mut [u32],
     index: &mut [u16],
-    count: usize,
-    used: usize,
+    counts: SheetCounts,
     params: &mut [u16],
     images: &mut [u16],
     bound: &mut [u16],
     sheet: &[u8],
     table: &[u16],
-    sorts: usize,
     starts: &[u16],
-    terms: usize,
     rows: &mut [u32],
-    inferences: &mut [u8],
-    checks: &mut [u8],
+    past: &mut [u8],
 ) -> Counts
-    requires { ⌜ RowsAsk (now records) (now places) (now index) count used (now params) (now images) (now bound) (now sheet) (now table) sorts (now starts) terms (now rows) × Pasts (now records) (now places) count (now inferences) (now checks) ⌝ }
-    ensures { λ r. ⌜ RowsAre (now (records .entry)) (now (places .entry)) count (now (params .entry)) (now (images .entry)) (now (bound .entry)) (now (sheet .entry)) (now (table .entry)) sorts (now (starts .entry)) terms (now (rows .entry)) (now (records .exit)) (now (places .exit)) (now (index .exit)) (now (params .exit)) (now (images .exit)) (now (bound .exit)) (now (rows .exit)) r × Pasts (now (records .exit)) (now (places .exit)) (r .count) (now (inferences .exit)) (now (checks .exit)) ⌝ }
+    requires { ⌜ RowsAsk (now records) (now places) (now index) (counts .count) (counts .used) (now params) (now images) (now bound) (now sheet) (now table) (counts .sorts) (now starts) (counts .terms) (now rows) × PastOf (now records) (now places) (counts .count) (now past) ⌝ }
+    ensures { λ r. ⌜ RowsAre (now (records .entry)) (now (places .entry)) (counts .count) (now (params .entry)) (now (images .entry)) (now (bound .entry)) (now (sheet .entry)) (now (table .entry)) (counts .sorts) (now (starts .entry)) (counts .terms) (now (rows .entry)) (now (records .exit)) (now (places .exit)) (now (index .exit)) (now (params .exit)) (now (images .exit)) (now (bound .exit)) (now (rows .exit)) r × PastOf (now (records .exit)) (now (places .exit)) (r .count) (now (past .exit)) ⌝ }
 {
-    let mut n = count;
-    let mut u = used;
+    let sorts = counts.sorts;
+    let terms = counts.terms;
+    let mut n = counts.count;
+    let mut u = counts.used;
     let mut t = 0;
     while t < terms {
+        let turn = Turn {
+            t,
+            count: n,
+            used: u,
+        };
         let done = term_rows(
             records,
             places,
             index,
-            n,
-            u,
+            turn,
             params,
             images,
             bound,
@@ -170,9 +182,7 @@ pub fn rows_past(
             sorts,
             starts,
             rows,
-            t,
-            inferences,
-            checks,
+            past,
         );
         n = done.count;
         u = done.used;
@@ -181,67 +191,54 @@ pub fn rows_past(
     Counts { count: n, used: u }
 }
 
-// The same over tables of its own for what Apps were found to be: they are long only where the tables of names are, since else no
-// head is known to be a Par.
+// The same over a table of its own for what Apps were found to be: it is long only where the tables of names are, since else no head
+// is known to be a Par.
 pub fn rows_all(
     records: &mut [u8],
     places: &mut [u32],
     index: &mut [u16],
-    count: usize,
-    used: usize,
+    counts: SheetCounts,
     params: &mut [u16],
     images: &mut [u16],
     bound: &mut [u16],
     sheet: &[u8],
     table: &[u16],
-    sorts: usize,
     starts: &[u16],
-    terms: usize,
     rows: &mut [u32],
 ) -> Counts
-    requires { ⌜ RowsAsk (now records) (now places) (now index) count used (now params) (now images) (now bound) (now sheet) (now table) sorts (now starts) terms (now rows) ⌝ }
-    ensures { λ r. ⌜ RowsAre (now (records .entry)) (now (places .entry)) count (now (params .entry)) (now (images .entry)) (now (bound .entry)) (now (sheet .entry)) (now (table .entry)) sorts (now (starts .entry)) terms (now (rows .entry)) (now (records .exit)) (now (places .exit)) (now (index .exit)) (now (params .exit)) (now (images .exit)) (now (bound .exit)) (now (rows .exit)) r ⌝ }
+    requires { ⌜ RowsAsk (now records) (now places) (now index) (counts .count) (counts .used) (now params) (now images) (now bound) (now sheet) (now table) (counts .sorts) (now starts) (counts .terms) (now rows) ⌝ }
+    ensures { λ r. ⌜ RowsAre (now (records .entry)) (now (places .entry)) (counts .count) (now (params .entry)) (now (images .entry)) (now (bound .entry)) (now (sheet .entry)) (now (table .entry)) (counts .sorts) (now (starts .entry)) (counts .terms) (now (rows .entry)) (now (records .exit)) (now (places .exit)) (now (index .exit)) (now (params .exit)) (now (images .exit)) (now (bound .exit)) (now (rows .exit)) r ⌝ }
 {
     if params.len() < NAMES {
-        let mut few = [0u8; 1];
         let mut none = [0u8; 1];
         return rows_past(
             records,
             places,
             index,
-            count,
-            used,
+            counts,
             params,
             images,
             bound,
             sheet,
             table,
-            sorts,
             starts,
-            terms,
             rows,
-            &mut few,
             &mut none,
         );
     }
-    let mut inferences = [0u8; TABLE];
-    let mut checks = [0u8; TABLE];
+    let mut past = [0u8; TABLE];
     rows_past(
         records,
         places,
         index,
-        count,
-        used,
+        counts,
         params,
         images,
         bound,
         sheet,
         table,
-        sorts,
         starts,
-        terms,
         rows,
-        &mut inferences,
-        &mut checks,
+        &mut past,
     )
 }

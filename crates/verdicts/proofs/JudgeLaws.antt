@@ -203,13 +203,8 @@ module _ {s b p ix tbl xs ys : List ℕ} {c : SheetCounts} {rw an : List ℕ} (a
     -- Without questions the rows are all there is to write.
     pub judge-unasked : c .questions ≡ 0 → JudgeIs s lengths b₁ p₁ rw₁ an Accepted
     judge-unasked e =
-        let g : List ℕ = replicate 65536 0 in
-        let d : List ℕ = replicate 4096 0 in
         let h = asks-over blank-tables in
-        judge-written
-        (answering-end b₁ p₁ ix₁ (r .count) (r .used) g g d s tbl (c .sorts) ys (c .questions) an h b₁ p₁ ix₁ g g d an (r .count) (r .used) 0
-        (answering-start b₁ p₁ ix₁ (r .count) (r .used) g g d s tbl (c .sorts) ys (c .questions) an h)
-        (sym e))
+        judge-written (answering-end h (answering-start h) (sym e))
 
 ---------------------------------------------------------------- reading first
 -- Buffers as long as those have their lengths.

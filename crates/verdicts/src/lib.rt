@@ -86,16 +86,13 @@ pub fn judge_accepted(
         records,
         places,
         index,
-        count,
-        counts.used,
+        counts,
         &mut params,
         &mut images,
         &mut bound,
         sheet,
         table,
-        counts.sorts,
         starts,
-        counts.terms,
         rows,
     );
 }

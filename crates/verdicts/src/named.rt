@@ -57,35 +57,30 @@ pub fn judge_named(
     let mut params = [0u16; NAMES];
     let mut images = [0u16; NAMES];
     let mut bound = [0u16; MOST_BOUND];
-    let sorts = counts.sorts;
     let done = rows_all(
         records,
         places,
         index,
-        counts.count,
-        counts.used,
+        counts,
         &mut params,
         &mut images,
         &mut bound,
         sheet,
         table,
-        sorts,
         starts,
-        counts.terms,
         rows,
     );
     answer_all(
         records,
         places,
         index,
-        done.count,
-        done.used,
+        done,
         &mut params,
         &mut images,
         &mut bound,
         sheet,
         table,
-        sorts,
+        counts.sorts,
         asked,
         counts.questions,
         answers,
