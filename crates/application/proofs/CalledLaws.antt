@@ -32,7 +32,7 @@ use Rattle.answers.specs.Values.{ValuesAsk, ValuesHave}
 use Rattle.instance.specs.Mapped.{mapped-images}
 use Rattle.application.specs.declared.delivered.Call.{Call}
 use Rattle.application.specs.declared.delivered.Call.the-variants.{Settled, Fails}
-use Rattle.application.specs.Contract.{AppIs, SettledAllAsks, SettledAllIs, FitAsks, FitIs, FittedAsks, CallIs, restAt, deliveredAt, CalledAsks, DeliverAsks, DeliverIs, Plain, PlainAsks, PlainIs}
+use Rattle.application.specs.Contract.{AppIs, SettledAllAsks, SettledAllIs, FitAsks, FitIs, FittedAsks, FittedIs, CallIs, restAt, deliveredAt, CalledAsks, DeliverAsks, DeliverIs, Plain, PlainAsks, PlainIs}
 use Rattle.application.proofs.AppLaws.{app-refused}
 use Rattle.application.proofs.ListLaws.{count-at, firsts-at, others-at, refs-part, refs-behind}
 use Rattle.application.proofs.SettledLaws.{settled-remaining}
@@ -113,6 +113,7 @@ module _ {b p : List ℕ} {n : ℕ} {prm imgs bnd : List ℕ} {x m : ℕ} {a : L
       fit-settled o =
           record {
             mapped = found-as (Fits c) e (listed prm) told .mapped;
+            found = λ f q. sym (found-as (Fits c) e f q .result);
             verdict = λ f q. by-test f q ∙ ap (λ (z : Bool). need z Unassigned (sort (apply θ (restAt b p n x m k)))) o;
           }
 
@@ -120,6 +121,7 @@ module _ {b p : List ℕ} {n : ℕ} {prm imgs bnd : List ℕ} {x m : ℕ} {a : L
       fit-unsettled o =
           record {
             mapped = found-as (Fits c) e (listed prm) told .mapped;
+            found = λ f q. tt;
             verdict = λ f q. by-test f q ∙ ap (λ (z : Bool). need z Unassigned (sort (apply θ (restAt b p n x m k)))) o;
           }
 
@@ -127,6 +129,7 @@ module _ {b p : List ℕ} {n : ℕ} {prm imgs bnd : List ℕ} {x m : ℕ} {a : L
     fit-fails c e =
         record {
           mapped = found-as (Misfits c) e (listed prm) told .mapped;
+          found = λ f q. tt;
           verdict = λ f q. ap (delivered f (restAt b p n x m k)) (sym (found-as (Misfits c) e f q .result));
         }
 
@@ -157,9 +160,12 @@ module _ {b p : List ℕ} {n : ℕ} {prm imgs bnd : List ℕ} {f : Callee} {a : 
     fitted-lists = listed-names prm (h .fit .table) (h .zeros) b (f .names) (f .named) (h .names) (h .named) t
 
     pub fitted-is : {l d : List ℕ} {r : Call} → FitIs b p n o (f .list) (f .count) a k l d r → {prm′ : List ℕ} → Added prm′ vs o
-        → CallIs (deliveredAt (listedIn vs) b p n (f .list) (f .count) a k) b p n prm f k prm′ l d r
+        → FittedIs b p n prm f a k prm′ l d r
     fitted-is w {prm′} z =
-        record { params = added-back prm vs o prm′ t z; mapped = w .mapped; verdict = w .verdict (listedIn vs) (listed-is o vs fitted-lists) }
+        record {
+          call = record { params = added-back prm vs o prm′ t z; mapped = w .mapped; verdict = w .verdict (listedIn vs) (listed-is o vs fitted-lists) };
+          found = w .found (listedIn vs) (listed-is o vs fitted-lists);
+        }
 
 ---------------------------------------------------------------- a head at its arguments
 module _ {b p ix : List ℕ} {n u : ℕ} {prm imgs bnd : List ℕ} {f : Callee} {a : List ℕ} {k : ℕ} (h : CalledAsks b p ix n u prm imgs bnd f a k) where

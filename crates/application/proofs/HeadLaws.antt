@@ -20,6 +20,7 @@ use Rattle.matching.specs.Entered.{sorts-end, sorts-more}
 use Rattle.rows.specs.declared.Cause.the-variants.{Panics, Count, Misfit}
 use Rattle.rows.specs.Verdict.{Verdict, sort, refused, need}
 use Rattle.rows.specs.Lists.{firsts, others, remaining}
+use Rattle.rows.specs.Outcome.{outcome}
 use Rattle.inferred.specs.Inferred.{substituted, plainApp, parametricApp, headApp, applied}
 use Rattle.checked.specs.Checked.{parameters, listOf, called, application}
 use Rattle.answers.specs.declared.heads.Callee.{Callee}
@@ -28,7 +29,7 @@ use Rattle.answers.specs.declared.heads.Head.the-variants.{Function, NoFunction
 use Rattle.answers.specs.Heads.{Headed, plain, under, other, headIn, headOver, calleeNames, calleeSorts, HeadAsks, FunctionIs, HeadIs, HeadHas}
 use Rattle.answers.specs.Asks.{RemainingAsks}
 use Rattle.answers.specs.Lent.{lent-under}
-use Rattle.application.specs.Contract.{AppAsks, CalledAsks, ParametricAsks, restAt, substitutedAt}
+use Rattle.application.specs.Contract.{AppAsks, AppCrowded, CalledAsks, CalledCrowded, ParametricAsks, restAt, substitutedAt}
 use Rattle.application.proofs.ListLaws.{count-at, firsts-at, others-at, refs-behind, refs-args}
 
 ---------------------------------------------------------------- the checked verdict by the head
@@ -261,3 +262,7 @@ module _ {b p ix : List ℕ} {n u : ℕ} {prm imgs bnd a : List ℕ} {m : ℕ} (
               ∙ ap₂ (λ (o e : Sorts). substituted (remaining o) (matchAllWith vs e ts empty))
               (others-at (storeOf b p n) b (f .list) (f .count) a 5 (m - 1) l)
               (firsts-at (storeOf b p n) b (f .list) (f .count) a 5 (m - 1) l)
+
+        -- No room for the inferred verdict is none for the head's.
+        pub app-crowded : (t : Bool) → AppCrowded t b p n a m → CalledCrowded t b p n f a (m - 1)
+        app-crowded t x e d l ln y z = ap (outcome ln (storeOf b p n)) (sym (applied-parametric l d)) ∙ x e ln y z

@@ -1,4 +1,5 @@
 pub mod AppLaws
+pub mod BothLaws
 pub mod CalledLaws
 pub mod ExactLaws
 pub mod HeadLaws
@@ -8,3 +9,4 @@ pub mod ParametricLaws
 pub mod PlainLaws
 pub mod SettledLaws
 pub mod TableLaws
+pub mod UnmadeLaws

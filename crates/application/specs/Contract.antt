@@ -2,16 +2,17 @@
 -- array from byte 3 on, the head first, so that its arguments stand from byte 5 on.
 use Prim.Native.Nat.{ℕ, _+_, _*_, _-_, _≤_, _<_}
 use mathlib.Core.Path.{_≡_}
-use mathlib.Core.Bool.{Bool, true, false}
+use mathlib.Core.Bool.{Bool, true, false, cond, _||_}
 use mathlib.Core.List.{List}
-use mathlib.Core.Option.{some}
+use mathlib.Core.Option.{Option, some}
 use lib.ListN.{length}
 use Rattle.record.specs.Number.{u16At}
-use Rattle.record.specs.Sort.{Sort, sizes}
+use Rattle.record.specs.Sort.{Sort, var, same, sizes}
 use Rattle.record.specs.Decode.{storeOf, sortAt, Zeros}
 use Rattle.store.specs.Good.{Good, Sized}
-use Rattle.substitution.specs.Substitution.{Map, empty, apply}
-use Rattle.substitution.specs.Matching.{keep, matchesAll}
+use Rattle.sheet.specs.Sheet.{Lengths}
+use Rattle.substitution.specs.Substitution.{Map, empty, bind, apply}
+use Rattle.substitution.specs.Matching.{keep, matchesAll, listedIn}
 use Rattle.substitution.specs.MatchWith.{matchAllWith}
 use Rattle.substitution.specs.Premises.{parless}
 use Rattle.matching.specs.Tables.{Told, mapOf, Mapped, Cleared, Blank}
@@ -19,10 +20,12 @@ use Rattle.matching.specs.Contract.{Usable, Refs, sortsAt, OneAsks, ListAsks, P
 use Rattle.matching.specs.Every.{every, passing}
 use Rattle.matching.specs.declared.each.Test.the-variants.{Settled as Settles}
 use Rattle.replacing.specs.Images.{Images}
+use Rattle.rows.specs.declared.Cause.the-variants.{Full}
 use Rattle.rows.specs.Verdict.{Verdict, sort, refused}
+use Rattle.rows.specs.Outcome.{refusal, outcome}
 use Rattle.rows.specs.Lists.{remaining}
 use Rattle.checked.specs.Checked.{settledAll, delivered, called}
-use Rattle.inferred.specs.Inferred.{substituted}
+use Rattle.inferred.specs.Inferred.{substituted, applied}
 use Rattle.answers.specs.declared.Answer.{Answer}
 use Rattle.answers.specs.declared.heads.Callee.{Callee}
 use Rattle.answers.specs.Answer.{AnswerIs}
@@ -46,6 +49,14 @@ pub record AppIs (v : Verdict) (b p : List ℕ) (n : ℕ) (prm imgs bnd b′ p�
   pub params : prm′ ≡ prm
   pub images : imgs′ ≡ imgs
   pub bound : bnd′ ≡ bnd
+
+-- OVER THE STORE of n sorts in b p THE VERDICT v HAS NO ROOM, in buffers of these lengths.
+abbrev pub Crowded : List ℕ → List ℕ → ℕ → Verdict → Type 0
+Crowded b p n v = (l : Lengths) → l .records ≡ length b → l .places ≡ length p → outcome l (storeOf b p n) v ≡ refusal (storeOf b p n) Full
+
+-- Where t says so, the inferred verdict on m sorts in a from byte 3 on has none.
+abbrev pub AppCrowded : Bool → List ℕ → List ℕ → ℕ → List ℕ → ℕ → Type 0
+AppCrowded t b p n a m = t ≡ true → Crowded b p n (applied (sortsAt b p n a 3 m))
 
 ---------------------------------------------------------------- settled
 pub record SettledAllAsks (b p : List ℕ) (n : ℕ) (prm imgs : List ℕ) (x m : ℕ) : Type 0 where
@@ -127,10 +138,24 @@ pub record DeliverIs (b p : List ℕ) (n : ℕ) (l d : List ℕ) (f : Callee) (k
 abbrev pub deliveredAt : (ℕ → Bool) → List ℕ → List ℕ → ℕ → ℕ → ℕ → List ℕ → ℕ → Verdict
 deliveredAt f b p n x m a k = delivered f (restAt b p n x m k) (matchesAll f (sortsAt b p n b x k) (sortsAt b p n a 5 k) empty)
 
+-- The map found by a test f of names; where the call is settled, it is that of the tables.
+abbrev pub fitted : (ℕ → Bool) → List ℕ → List ℕ → ℕ → ℕ → List ℕ → ℕ → Option Map
+fitted f b p n x a k = matchesAll f (sortsAt b p n b x k) (sortsAt b p n a 5 k) empty
+
+abbrev pub FoundBy : List Sort → List ℕ → List ℕ → Option Map → Call → Type 0
+FoundBy st l d o (Settled c) = o ≡ some (mapOf st l d c)
+FoundBy st l d o (Fails e c) = Unit {0}
+
 -- For every test of names that the table stands for.
 pub record FitIs (b p : List ℕ) (n : ℕ) (prm : List ℕ) (x m : ℕ) (a : List ℕ) (k : ℕ) (l d : List ℕ) (r : Call) : Type 0 where
   pub mapped : Mapped b p n l d (boundIn r)
+  pub found : (f : ℕ → Bool) → Told prm f → FoundBy (storeOf b p n) l d (fitted f b p n x a k) r
   pub verdict : (f : ℕ → Bool) → Told prm f → deliveredAt f b p n x m a k ≡ callOf (storeOf b p n) l d (restAt b p n x m k) r
+
+-- The same by the names of the head f.
+pub record FittedIs (b p : List ℕ) (n : ℕ) (prm : List ℕ) (f : Callee) (a : List ℕ) (k : ℕ) (prm′ l d : List ℕ) (c : Call) : Type 0 where
+  pub call : CallIs (deliveredAt (listedIn (calleeNames b f)) b p n (f .list) (f .count) a k) b p n prm f k prm′ l d c
+  pub found : FoundBy (storeOf b p n) l d (fitted (listedIn (calleeNames b f)) b p n (f .list) a k) c
 
 ---------------------------------------------------------------- a head without parameters
 -- No name is one.
@@ -187,3 +212,25 @@ pub record ParametricAsks (b p ix : List ℕ) (n u : ℕ) (prm imgs bnd : List �
 abbrev pub substitutedAt : List ℕ → List ℕ → ℕ → Callee → List ℕ → ℕ → Verdict
 substitutedAt b p n f a k =
     substituted (restAt b p n (f .list) (f .count) k) (matchAllWith (calleeNames b f) (sortsAt b p n b (f .list) k) (sortsAt b p n a 5 k) empty)
+
+---------------------------------------------------------------- without room
+-- Where t says so, the inferred verdict on the head f at k arguments, no more than its sorts, has no room.
+abbrev pub CalledCrowded : Bool → List ℕ → List ℕ → ℕ → Callee → List ℕ → ℕ → Type 0
+CalledCrowded t b p n f a k = t ≡ true → (f .named ≡ 0 → ⊥) → k ≤ f .count → Crowded b p n (substitutedAt b p n f a k)
+
+-- A name is bound to the variable of that name.
+unfoldable pub owned : Map → Bool
+unfolding same
+owned empty = false
+owned (bind v s m) = same s (var v) || owned m
+
+-- The tables of m bound names over a store.
+pub record OwnAsks (b p : List ℕ) (n : ℕ) (l d : List ℕ) (m : ℕ) : Type 0 where
+  pub usable : Usable b p n
+  pub mapped : Mapped b p n l d m
+
+-- THE CALL WHERE THE INFERRED SORT HAS NO ROOM: one whose map binds no name to its own variable fails with Full.
+abbrev pub unmadeOf : Bool → List Sort → List ℕ → List ℕ → Call → Call
+unmadeOf false st l d c = c
+unmadeOf true st l d (Settled c) = cond (owned (mapOf st l d c)) (Settled c) (Fails Full c)
+unmadeOf true st l d (Fails o c) = Fails o c

@@ -3,6 +3,7 @@ use super::delivered::Call;
 use super::delivered::deliver;
 use super::plain::plain;
 use super::settled::all_settled;
+use super::unmade::unmade;
 use answers::Answer;
 use answers::arguments::SECOND_AT;
 use answers::heads::Callee;
@@ -19,7 +20,7 @@ ghost use Rattle.substitution.specs.Matching.{listedIn};
 ghost use Rattle.matching.specs.Contract.{sortsAt};
 ghost use Rattle.checked.specs.Checked.{called};
 ghost use Rattle.answers.specs.Heads.{calleeNames, calleeSorts};
-ghost use Rattle.application.specs.Contract.{AppIs, FitAsks, FitIs, FittedAsks, CallIs, deliveredAt, CalledAsks};
+ghost use Rattle.application.specs.Contract.{AppIs, FitAsks, FitIs, FittedAsks, FittedIs, CalledAsks, CalledCrowded};
 
 // With the head's names listed, the n arguments in `args` from byte 5 on matched with the first n of the m sorts that the
 // store names from `list` on, and what remains of these.
@@ -78,7 +79,7 @@ pub fn fit_arguments(
     n: usize,
 ) -> Call
     requires { ⌜ FittedAsks (now records) (now places) count (now params) (now images) (now bound) callee (now args) n ⌝ }
-    ensures { λ r. ⌜ CallIs (deliveredAt (listedIn (calleeNames (now (records .entry)) callee)) (now (records .entry)) (now (places .entry)) count (callee .list) (callee .count) (now (args .entry)) n) (now (records .entry)) (now (places .entry)) count (now (params .entry)) callee n (now (params .exit)) (now (images .exit)) (now (bound .exit)) r ⌝ }
+    ensures { λ r. ⌜ FittedIs (now (records .entry)) (now (places .entry)) count (now (params .entry)) callee (now (args .entry)) n (now (params .exit)) (now (images .exit)) (now (bound .exit)) r ⌝ }
 {
     list_names(params, records, callee.names, callee.named);
     let call = fit_listed(
@@ -99,7 +100,8 @@ pub fn fit_arguments(
 
 // A head at the n arguments in `args` from byte 5 on: Count unless n is under the count of its sorts; as `plain` without
 // parameters; else Misfit where an argument is a Par or does not fit, Unassigned where a parameter left in what remains is unbound,
-// or what remains with the parameters replaced. The tables of names are zeros before and after.
+// or what remains with the parameters replaced. The tables of names are zeros before and after. `crowded` says that the inferred sort
+// of the same App has no room in the store.
 pub fn called(
     records: &mut [u8],
     places: &mut [u32],
@@ -112,8 +114,9 @@ pub fn called(
     callee: Callee,
     args: &[u8],
     n: usize,
+    crowded: bool,
 ) -> Answer
-    requires { ⌜ CalledAsks (now records) (now places) (now index) count used (now params) (now images) (now bound) callee (now args) n ⌝ }
+    requires { ⌜ CalledAsks (now records) (now places) (now index) count used (now params) (now images) (now bound) callee (now args) n × CalledCrowded crowded (now records) (now places) count callee (now args) n ⌝ }
     ensures { λ r. ⌜ AppIs (called (listedIn (calleeNames (now (records .entry)) callee)) (some (calleeSorts (now (records .entry)) (now (places .entry)) count callee)) (sortsAt (now (records .entry)) (now (places .entry)) count (now (args .entry)) 5 n)) (now (records .entry)) (now (places .entry)) count (now (params .entry)) (now (images .entry)) (now (bound .entry)) (now (records .exit)) (now (places .exit)) (now (index .exit)) (now (params .exit)) (now (images .exit)) (now (bound .exit)) r ⌝ }
 {
     let list = callee.list;
@@ -127,7 +130,7 @@ pub fn called(
     if !all_values(records, places, args, SECOND_AT, n) {
         return refuse(Cause::Misfit, count, used);
     }
-    let call = fit_arguments(
+    let found = fit_arguments(
         records,
         places,
         count,
@@ -138,6 +141,7 @@ pub fn called(
         args,
         n,
     );
+    let call = unmade(records, places, count, images, bound, crowded, found);
     deliver(
         records,
         places,

@@ -13,16 +13,17 @@ use rows::Cause;
 ghost use Rattle.matching.specs.Contract.{sortsAt};
 ghost use Rattle.inferred.specs.Inferred.{applied};
 ghost use Rattle.checked.specs.Checked.{application};
-ghost use Rattle.application.specs.Contract.{AppAsks, AppIs};
+ghost use Rattle.application.specs.Contract.{AppAsks, AppCrowded, AppIs};
 
 pub mod called;
 pub mod delivered;
 pub mod parametric;
 pub mod plain;
 pub mod settled;
+pub mod unmade;
 
 // The checked sort of an App of `total` terms: Count without an argument, for any head; Misfit where the head is no Function
-// or Par of one; else as `called`.
+// or Par of one; else as `called`. `crowded` says that the inferred sort of the same App has no room in the store.
 pub fn application(
     records: &mut [u8],
     places: &mut [u32],
@@ -34,8 +35,9 @@ pub fn application(
     bound: &mut [u16],
     args: &[u8],
     total: usize,
+    crowded: bool,
 ) -> Answer
-    requires { ⌜ AppAsks (now records) (now places) (now index) count used (now params) (now images) (now bound) (now args) total ⌝ }
+    requires { ⌜ AppAsks (now records) (now places) (now index) count used (now params) (now images) (now bound) (now args) total × AppCrowded crowded (now records) (now places) count (now args) total ⌝ }
     ensures { λ r. ⌜ AppIs (application (sortsAt (now (records .entry)) (now (places .entry)) count (now (args .entry)) 3 total)) (now (records .entry)) (now (places .entry)) count (now (params .entry)) (now (images .entry)) (now (bound .entry)) (now (records .exit)) (now (places .exit)) (now (index .exit)) (now (params .exit)) (now (images .exit)) (now (bound .exit)) r ⌝ }
 {
     if total < 2 {
@@ -56,6 +58,7 @@ pub fn application(
             callee,
             args,
             total - 1,
+            crowded,
         ),
         Head::NoFunction => refuse(Cause::Misfit, count, used),
     }

@@ -160,6 +160,7 @@ pub fn check(
             bound,
             args,
             n,
+            false,
         );
     }
     composed_site(

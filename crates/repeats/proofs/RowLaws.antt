@@ -1,6 +1,6 @@
 -- The row of a record in a column, looked up or judged: the verdict on an App is one on the sorts of its head and its arguments, so
 -- what is noted of these is its row.
-use Prim.Native.Nat.{ℕ, zero, suc, _+_, _*_, _/_, _≤_, _<_}
+use Prim.Native.Nat.{ℕ, zero, suc, _*_, _/_, _≤_, _<_}
 use mathlib.Core.Path.{_≡_, refl, sym, ap, ap₂, subst, _∙_}
 use mathlib.Core.Bool.{Bool, true, false}
 use mathlib.Core.List.{List}
@@ -36,11 +36,12 @@ use Rattle.checked.specs.Checked.{checked, application}
 use Rattle.answers.specs.declared.Answer.{Answer}
 use Rattle.answers.specs.Answer.{AnswerIs, Left, refusing, accepting}
 use Rattle.answers.specs.AnswerLaws.{judged-as, answered-as, answer-number}
+use Rattle.application.specs.Contract.{AppAsks, AppIs, Crowded, AppCrowded}
 use Rattle.site.specs.Site.{siteOver, termVerdict, TermIs, SiteAsks, SiteIs, PartsAre}
 use Rattle.site.specs.SiteLaws.{parts-site, site-row, below-row, count-few}
 use Rattle.repeats.specs.declared.slots.Look.{Look}
 use Rattle.repeats.specs.declared.slots.Look.the-variants.{Apart, Noted, Open}
-use Rattle.repeats.specs.Past.{codeEnd, judging, judgingApp, Says, Told, PastOf, SeekAsks, Tells, Found, SeekIs, RowNoteAsks, RowNotedIs, Coded, AgainIs, LookAsks, Looked, LookedIs, PastAsks, PastIs}
+use Rattle.repeats.specs.Past.{codeEnd, noRoom, judging, judgingApp, Says, Told, PastOf, SeekAsks, Tells, LackAsks, Lacks, LackIs, Found, SeekIs, RowNoteAsks, RowNotedIs, Coded, AgainIs, LookAsks, Looked, LookedIs, PastAsks, PastIs}
 use Rattle.repeats.specs.Again.{outcome-settled}
 use Rattle.repeats.specs.PastLaws.{past-grown, sorts-grown}
 
@@ -68,6 +69,17 @@ module _ {b p : List ℕ} {n : ℕ} {prm imgs bnd s tbl xs : List ℕ} {r : Term
   pub by-checked : SiteIs (checked smtLib) b p n prm imgs bnd s tbl xs r a b′ p′ ix′ prm′ imgs′ bnd′ w → SiteIs (judging 1) b p n prm imgs bnd s tbl xs r a b′ p′ ix′ prm′ imgs′ bnd′ w
   unfolding judging
   by-checked i = i
+
+-- An App in the place of the checked row: what it asks, and that it is the row.
+module _ {b p ix : List ℕ} {n u : ℕ} {prm imgs bnd s tbl xs : List ℕ} {r : TermRecord} {a : List ℕ} (h : SiteAsks b p ix n u prm imgs bnd s tbl xs r a) where
+  pub app-asks : AppAsks b p ix n u prm imgs bnd a (r .count)
+  app-asks = record { good = h .asks .good; tables = h .asks .tables; few = count-few (h .asks .standing); room = h .asks .room; below = h .below }
+
+  pub app-row : r .kind ≡ 6 → {b′ p′ ix′ prm′ imgs′ bnd′ : List ℕ} {w : Answer}
+      → AppIs (application (sortsOf (storeOf b p n) (numbersAt a 3 (r .count)))) b p n prm imgs bnd b′ p′ ix′ prm′ imgs′ bnd′ w
+      → SiteIs (checked smtLib) b p n prm imgs bnd s tbl xs r a b′ p′ ix′ prm′ imgs′ bnd′ w
+  app-row k e =
+      record { answer = judged-as (checked-app (siteOver (storeOf b p n) s tbl xs a r) k) (e .answer); params = e .params; images = e .images; bound = e .bound }
 
 ---------------------------------------------------------------- codes
 -- The numbers of the causes.
@@ -214,6 +226,25 @@ module _ {column : ℕ} {b p ix : List ℕ} {n u : ℕ} {prm imgs bnd s tbl xs r
     module _ {ws′ : List ℕ} {q : Look} (l : LookedIs r key column ws ws′ q) where
       past-less : PastOf b p n ws′
       past-less = record { each = λ slot k c x. h .past .each slot k c (l .less slot k c x) }
+
+      -- No room for the inferred sort of an App: what is asked for the note, and what it says.
+      lack-by : (v : Look) → Found ws ws′ column numbers (r .count) v → LackAsks key (r .count) v
+      lack-by Apart f = tt
+      lack-by (Noted c) f = tt
+      lack-by (Open at) f = record { some = f .ready .some; few = f .ready .few; within = omega (arith, long, h .asks .room, f .ready .few) }
+
+      pub lack-asks : LackAsks key (r .count) q
+      lack-asks = lack-by q (l .found)
+
+      crowded-by : (v : Look) → Lacks ws′ key (r .count) v → Crowded b p n (applied (sortsOf st numbers))
+      unfolding judgingApp
+      crowded-by Apart x = absurd x
+      crowded-by (Noted c) x = absurd x
+      crowded-by (Open at) x =
+          subst (λ (i : ℕ). Told (judgingApp i) (length b) (length p) st numbers noRoom) (x .side) (past-less .each (x .slot) numbers noRoom (x .says)) .is
+
+      pub row-crowded : {t : Bool} → LackIs ws′ key (r .count) q t → AppCrowded t b p n key (r .count)
+      row-crowded i e = crowded-by q (i e)
 
       -- A noted row: its code, and the row of that code.
       module _ (c : ℕ) (e : q ≡ Noted c) where

@@ -1,6 +1,7 @@
 -- The slots of the table: what is recalled there is said, an opened slot says nothing, and a note leaves the other slots as they were.
 use Prim.Native.Nat.{ℕ, zero, suc, _+_, _*_, _-_, _/_, _%_, _≤_, _<_}
 use mathlib.Core.Path.{_≡_, refl, sym, ap, ap₂, subst, _∙_}
+use mathlib.Core.Bool.{Bool, true}
 use mathlib.Core.List.{List, _∷_}
 use mathlib.Core.Logic.{inl, inr}
 use native.Mathlib.Omega.{arith}
@@ -15,7 +16,9 @@ use Rattle.record.specs.Append.{written-before, written-in, written-after, leng
 use Rattle.record.specs.Codec.{u16-read}
 use Rattle.record.specs.Cases.{byTest}
 use Rattle.answers.specs.Arguments.{putAt, put-long}
-use Rattle.repeats.specs.Past.{codeEnd, slotSize, columnOf, slotNumber, slotOf, codeAt, Says, SlotAt, SlotAsks, RecalledIs, OpenedIs, NoteAsks, NotedIs}
+use Rattle.repeats.specs.declared.slots.Look.{Look}
+use Rattle.repeats.specs.declared.slots.Look.the-variants.{Open}
+use Rattle.repeats.specs.Past.{codeEnd, noRoom, KeyAsks, Tells, LackAsks, LackIs, slotSize, columnOf, slotNumber, slotOf, codeAt, Says, SlotAt, SlotAsks, RecalledIs, OpenedIs, NoteAsks, NotedIs}
 
 -- Numbers whose bytes agree.
 u16-same : (l m : List ℕ) (x y : ℕ) → getD l x 0 ≡ getD m y 0 → getD l (x + 1) 0 ≡ getD m (y + 1) 0 → u16At l x ≡ u16At m y
@@ -246,3 +249,10 @@ module _ {ws : List ℕ} {at n c : ℕ} (h : NoteAsks ws at n c) where
 
     pub note-is : NotedIs ws at n c (set x (at + 3) (c / 65536))
     note-is = subst (λ (y : List ℕ). NotedIs ws at n c (set y (at + 3) (c / 65536))) (sym ex) noted-is
+
+---------------------------------------------------------------- no room
+pub lack-open : {a : List ℕ} {n at : ℕ} {q : Look} → LackAsks a n q → q ≡ Open at → KeyAsks a n
+lack-open {a} {n} h e = subst (LackAsks a n) e h
+
+pub lack-is : (ws a : List ℕ) (n : ℕ) {at : ℕ} {q : Look} {t : Bool} → q ≡ Open at → (t ≡ true → Tells ws 0 (numbersAt a 3 n) noRoom) → LackIs ws a n q t
+lack-is ws a n {t = t} e f = subst (λ (z : Look). LackIs ws a n z t) (sym e) f

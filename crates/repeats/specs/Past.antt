@@ -2,6 +2,7 @@
 -- Definitions only.
 use Prim.Native.Nat.{ℕ, zero, suc, _+_, _*_, _/_, _%_, _≤_, _<_}
 use mathlib.Core.Path.{_≡_}
+use mathlib.Core.Bool.{Bool, true}
 use mathlib.Core.List.{List}
 use mathlib.Core.Logic.{_⊎_}
 use lib.ListN.{length, getD}
@@ -13,7 +14,8 @@ use Rattle.reader.specs.declared.TermRecord.{TermRecord}
 use Rattle.sheet.specs.Sheet.{Lengths}
 use Rattle.rows.specs.declared.RowVerdict.{RowVerdict}
 use Rattle.rows.specs.declared.RowVerdict.the-variants.{Sort as Number}
-use Rattle.rows.specs.Verdict.{Verdict, codeOf}
+use Rattle.rows.specs.declared.Cause.the-variants.{Full}
+use Rattle.rows.specs.Verdict.{Verdict, numberOf, codeOf}
 use Rattle.rows.specs.Term.{Site}
 use Rattle.rows.specs.Outcome.{outcome}
 use Rattle.inferred.specs.Inferred.{inferred, applied}
@@ -150,6 +152,24 @@ Found ws ws′ column key n (Open at) = OpenIn ws′ column at n key
 pub record SeekIs (ws a : List ℕ) (n column : ℕ) (ws′ : List ℕ) (q : Look) : Type 0 where
   pub found : Found ws ws′ column (numbersAt a 3 n) n q
   pub less : Less ws ws′
+
+-- The code of a row without room.
+abbrev pub noRoom : ℕ
+noRoom = numberOf Full * 65536
+
+-- Whether the inferred sort of the n terms that were looked up is noted to have none: asked where the look-up left a slot.
+abbrev pub LackAsks : List ℕ → ℕ → Look → Type 0
+LackAsks a n Apart = Unit {0}
+LackAsks a n (Noted c) = Unit {0}
+LackAsks a n (Open at) = KeyAsks a n
+
+abbrev pub Lacks : List ℕ → List ℕ → ℕ → Look → Type 0
+Lacks ws a n Apart = ⊥
+Lacks ws a n (Noted c) = ⊥
+Lacks ws a n (Open at) = Tells ws 0 (numbersAt a 3 n) noRoom
+
+abbrev pub LackIs : List ℕ → List ℕ → ℕ → Look → Bool → Type 0
+LackIs ws a n q t = t ≡ true → Lacks ws a n q
 
 -- A slot, how many terms it has the numbers of, and a code for them.
 pub record NoteAsks (ws : List ℕ) (at n c : ℕ) : Type 0 where

@@ -8,6 +8,7 @@ use answers::arguments::INFERRED;
 use answers::arguments::REFUSED;
 use answers::found;
 use answers::refuse;
+use application::application;
 use checker::check;
 use inference::infer;
 use reader::TermRecord;
@@ -17,12 +18,17 @@ use record::u16_at;
 use rows::Cause;
 use site::parts_judged;
 use slots::Look;
+use slots::lacks_room;
 use slots::row_noted;
 use slots::seek;
 use store::entries::kind_at;
 ghost use mathlib.Core.Path.{_≡_};
 ghost use Prim.Native.Nat.{_≤_};
 ghost use Rattle.rows.specs.Verdict.{numberOf};
+ghost use Rattle.checked.specs.Ranks.{smtLib};
+ghost use Rattle.checked.specs.Checked.{checked};
+ghost use Rattle.site.specs.Site.{SiteAsks, SiteIs};
+ghost use Rattle.application.specs.Contract.{AppCrowded};
 ghost use Rattle.repeats.specs.Past.{Coded, AgainIs, LookAsks, LookedIs, PastAsks, PastIs};
 
 pub mod slots;
@@ -145,7 +151,63 @@ pub fn inferred_row(
     made
 }
 
-// The same of the checked row, which `check` answers.
+// The checked row of the task's record, whose parts are gathered in `args`: an App by `application`, any other by `check`. `crowded` says
+// that the inferred sort of the App has no room: its own is then not made where it is the same.
+pub fn checked_anew(
+    records: &mut [u8],
+    places: &mut [u32],
+    index: &mut [u16],
+    task: Task,
+    params: &mut [u16],
+    images: &mut [u16],
+    bound: &mut [u16],
+    sheet: &[u8],
+    table: &[u16],
+    starts: &[u16],
+    args: &mut [u8],
+    crowded: bool,
+) -> Answer
+    requires { ⌜ SiteAsks (now records) (now places) (now index) (task .count) (task .used) (now params) (now images) (now bound) (now sheet) (now table) (now starts) (task .term) (now args) × AppCrowded crowded (now records) (now places) (task .count) (now args) (task .term .count) ⌝ }
+    ensures { λ r. ⌜ SiteIs (checked smtLib) (now (records .entry)) (now (places .entry)) (task .count) (now (params .entry)) (now (images .entry)) (now (bound .entry)) (now (sheet .entry)) (now (table .entry)) (now (starts .entry)) (task .term) (now (args .entry)) (now (records .exit)) (now (places .exit)) (now (index .exit)) (now (params .exit)) (now (images .exit)) (now (bound .exit)) r ⌝ }
+{
+    let term = task.term;
+    let count = task.count;
+    let used = task.used;
+    let kind = term.kind;
+    if kind == TERM_APP {
+        let n = term.count;
+        return application(
+            records,
+            places,
+            index,
+            count,
+            used,
+            params,
+            images,
+            bound,
+            args,
+            n,
+            crowded,
+        );
+    }
+    check(
+        records,
+        places,
+        index,
+        count,
+        used,
+        params,
+        images,
+        bound,
+        sheet,
+        table,
+        starts,
+        term,
+        args,
+    )
+}
+
+// The same of the checked row, which `checked_anew` answers.
 pub fn checked_row(
     records: &mut [u8],
     places: &mut [u32],
@@ -175,20 +237,20 @@ pub fn checked_row(
     if let Look::Noted(code) = look {
         return row_again(code, count, used);
     }
-    let made = check(
+    let crowded = lacks_room(past, look, args, n);
+    let made = checked_anew(
         records,
         places,
         index,
-        count,
-        used,
+        task,
         params,
         images,
         bound,
         sheet,
         table,
         starts,
-        term,
         args,
+        crowded,
     );
     let v = made.verdict;
     row_noted(past, n, look, v);

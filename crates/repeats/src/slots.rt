@@ -3,17 +3,21 @@
 // a number of the store and a cause, and from byte 4 on the numbers of the terms' sorts, two bytes each. A slot keeps the last App that
 // was looked up there.
 use answers::arguments::FIRST_AT;
+use answers::arguments::INFERRED;
 use answers::arguments::REFUSED;
 use answers::arguments::SECOND_AT;
 use answers::arguments::put_u16;
 use answers::code;
 use check::same;
 use record::u16_at;
+use rows::Cause;
 use rows::RowVerdict;
 use store::buffers::copy_at;
 ghost use mathlib.Core.Path.{_≡_};
 ghost use Prim.Native.Nat.{_≤_, _<_};
-ghost use Rattle.repeats.specs.Past.{slotOf, SeekAsks, SlotAsks, RecalledIs, OpenedIs, SeekIs, NoteAsks, NotedIs, RowNoteAsks, RowNotedIs};
+ghost use mathlib.Core.Bool.{true};
+ghost use Rattle.record.specs.Number.{numbersAt};
+ghost use Rattle.repeats.specs.Past.{slotOf, noRoom, KeyAsks, Tells, LackAsks, LackIs, SeekAsks, SlotAsks, RecalledIs, OpenedIs, SeekIs, NoteAsks, NotedIs, RowNoteAsks, RowNotedIs};
 
 // How many slots a column has, the bytes of a slot, and of the whole table.
 const SLOTS: usize = 128;
@@ -86,6 +90,32 @@ pub fn seek(past: &mut [u8], args: &[u8], n: usize, column: usize) -> Look
     }
     opened(past, at, args, n);
     Look::Open(at)
+}
+
+// Whether the inferred sort of an App of the `n` terms whose numbers are in `args` from byte 3 on is noted to have no room.
+pub fn noted_full(past: &[u8], args: &[u8], n: usize) -> bool
+    requires { ⌜ KeyAsks (now args) n ⌝ }
+    ensures { λ r. ⌜ (r ≡ true → Tells (now (past .entry)) 0 (numbersAt (now (args .entry)) 3 n) noRoom) ⌝ }
+{
+    let at = slot_of(args, n, INFERRED);
+    if past.len() < at + SLOT {
+        return false;
+    }
+    let known = recalled(past, at, args, n);
+    let full = code(RowVerdict::Refused(Cause::Full)) as usize;
+    known == full + 1
+}
+
+// The same of an App for which the look-up left a slot; no for any other record.
+pub fn lacks_room(past: &[u8], look: Look, args: &[u8], n: usize) -> bool
+    requires { ⌜ LackAsks (now args) n look ⌝ }
+    ensures { λ r. ⌜ LackIs (now (past .entry)) (now (args .entry)) n look r ⌝ }
+{
+    match look {
+        Look::Open(_) => noted_full(past, args, n),
+        Look::Apart => false,
+        Look::Noted(_) => false,
+    }
 }
 
 // Notes a code in the slot at `at`, which has the numbers of `n` terms.

@@ -2,6 +2,7 @@
 -- Constants and Apps are their lines of the definition; what does not take the tables of names leaves them.
 use borrow.Author.Needs.{needs}
 use mathlib.Core.Path.{refl}
+use mathlib.Core.Bool.{false≢true}
 use Rattle.record.specs.Decode.{storeOf}
 use Rattle.answers.specs.AnswerLaws.{judged-as}
 use Rattle.site.specs.Site.{siteOver}
@@ -32,7 +33,7 @@ returns c =
 application-requires : tie.Need-application-requires
 application-requires c κs =
     let s = c .before .before .before .before .before .before .before .before .before .before .before .before .before .before .before .before .before .before .before in
-    record { good = s .pre .asks .good; tables = s .pre .asks .tables; few = count-few (s .pre .asks .standing); room = s .pre .asks .room; below = s .pre .below }
+    (record { good = s .pre .asks .good; tables = s .pre .asks .tables; few = count-few (s .pre .asks .standing); room = s .pre .asks .room; below = s .pre .below }, λ e. absurd (false≢true e))
 
 returns-2 : tie.Need-returns-2
 returns-2 c =
