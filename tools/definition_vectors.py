@@ -133,16 +133,16 @@ lent a b c d = record { records = a; places = b; rows = c; answers = d }
 %(more)s
 '''
 
-READER_USES = '''use Rattle.sheet.specs.Sheet.{Sheet, Reading, refused, got, readSheet}
+READER_USES = '''use Rattle.sheet.specs.Sheet.{Sheet, Reading, readRefused, got, readSheet}
 use Rattle.reader.specs.Reader.{refusalNumber}'''
 READER_MORE = '''
 abbrev outcomeOf : Reading Sheet → ℕ
-outcomeOf (refused e) = refusalNumber e
+outcomeOf (readRefused e) = refusalNumber e
 outcomeOf (got a x) = 0
 '''
-PROGRAM_USES = '''use Rattle.judged.specs.Judged.{judged}
+PROGRAM_USES = '''use Rattle.judge_rules.specs.Judged.{judged}
 use Rattle.printout.specs.Printed.{printed}'''
-LIBRARY_USES = '''use Rattle.judged.specs.Judged.{Judgement, outcomeNumber, judged, recordsAfter, placesAfter, rowsAfter, answersAfter}'''
+LIBRARY_USES = '''use Rattle.judge_rules.specs.Judged.{Judgement, outcomeNumber, judged, recordsAfter, placesAfter, rowsAfter, answersAfter}'''
 LIBRARY_MORE = '''
 -- the outcome and the four buffers at exit, one after the other; the lengths are those lent
 abbrev exits : %(lent)s → Judgement → List ℕ → List ℕ → List ℕ → List ℕ → ℕ → Bool

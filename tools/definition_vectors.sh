@@ -21,7 +21,7 @@ if [ "${KEEP:-0}" != 1 ]; then
     mkdir -p "$out/crates"
     : > "$out/crates.txt"
     # the crates that the definitions under test need, and no others
-    case $mode in reader|readlib) want="record reader sheet" ;; library) want="record sheet judged" ;; *) want="record sheet judged printout" ;; esac
+    case $mode in reader|readlib) want="record reader sheet" ;; library) want="record sheet judge_rules" ;; *) want="record sheet judge_rules printout" ;; esac
     todo=$want; seen=
     while [ -n "$todo" ]; do
         next=

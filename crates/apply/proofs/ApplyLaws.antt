@@ -2,8 +2,8 @@
 use Prim.Native.Nat.{ℕ, _≤_, _<_}
 use mathlib.Core.List.{List}
 use Rattle.record.specs.Sort.{size}
-use Rattle.replacing.specs.Contract.{answerAt, SizeAsks, SizeIs, SortAsks}
-use Rattle.replacing.specs.CapLaws.{capped-over, capped-small}
+use Rattle.apply_walk.specs.Contract.{answerAt, SizeAsks, SizeIs, SortAsks}
+use Rattle.apply_walk.specs.CapLaws.{capped-over, capped-small}
 use Rattle.apply.specs.Contract.{ApplyAsks}
 
 module _ {b p ix : List ℕ} {n u k : ℕ} {l : List ℕ} (a : ApplyAsks b p ix n u k l) where

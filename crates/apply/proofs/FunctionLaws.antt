@@ -23,15 +23,15 @@ use Rattle.record.specs.StoreLaws.{storeOf-length}
 use Rattle.record.specs.Entries.{store-ordered}
 use Rattle.store.specs.Contract.{Untouched}
 use Rattle.substitution.specs.SubstitutionLaws.{count-applied}
-use Rattle.replacing.specs.Lists.{Numbers, numbersOf, Has, ReadAsks}
-use Rattle.replacing.specs.Draft.{fieldsIn}
-use Rattle.replacing.specs.Images.{imagesOf}
-use Rattle.replacing.specs.Made.{Made, MakeAsks, intern-first}
-use Rattle.replacing.specs.Halted.{Halted, made-over, halted-over}
-use Rattle.replacing.specs.Contract.{answersAt, SizesAsk, SizesAre, PartsAsk, PartsMade}
-use Rattle.replacing.specs.HeldLaws.{has-length, has-own}
-use Rattle.replacing.specs.CapLaws.{capped-small, within}
-use Rattle.replacing.specs.InternLaws.{sorts-back, indices-below}
+use Rattle.apply_walk.specs.Lists.{Numbers, numbersOf, Has, ReadAsks}
+use Rattle.apply_walk.specs.Draft.{fieldsIn}
+use Rattle.apply_walk.specs.Images.{imagesOf}
+use Rattle.apply_walk.specs.Made.{Made, FieldsMakeAsks, intern-first}
+use Rattle.apply_walk.specs.Halted.{Halted, made-over, halted-over}
+use Rattle.apply_walk.specs.Contract.{answersAt, SizesAsk, SizesAre, PartsAsk, PartsMade}
+use Rattle.apply_walk.specs.HeldLaws.{has-length, has-own}
+use Rattle.apply_walk.specs.CapLaws.{capped-small, cap-within}
+use Rattle.apply_walk.specs.InternLaws.{sorts-back, indices-below}
 use Rattle.apply.specs.Contract.{functionAt, FunctionAsks, FunctionFits}
 
 -- The Function itself counts as one.
@@ -71,13 +71,13 @@ module _ {b p ix : List ℕ} {n u : ℕ} {l : List ℕ} {x m : ℕ} (a : Functio
   function-over v e h = go (leb (sizes answers) 4096) refl
     where
       go : (t : Bool) → leb (sizes answers) 4096 ≡ t → 4096 < size (functionAt b p n l x m)
-      go true q = omega (arith, e, within (sizes answers) (leb-true (sizes answers) 4096 q), size-function answers)
+      go true q = omega (arith, e, cap-within (sizes answers) (leb-true (sizes answers) 4096 q), size-function answers)
       go false q = omega (arith, leb-false (sizes answers) 4096 q, size-function answers)
 
   pub function-fits : (v : ℕ) → SizesAre b p n x m l v → v ≤ 4095 → FunctionFits b p ix n u l x m
   function-fits v e h =
       let s = capped-small (sizes answers) v e (omega arith) in
-      record { asks = a; small = omega (arith, e, within (sizes answers) s, size-function answers) }
+      record { asks = a; small = omega (arith, e, cap-within (sizes answers) s, size-function answers) }
 
   pub function-read : ReadAsks b x m
   function-read = record { within = a .within; few = a .few }
@@ -148,7 +148,7 @@ module _ {b p ix : List ℕ} {n u : ℕ} {l : List ℕ} {x m : ℕ} (f : Functio
         ap length (has .is) ∙ length-indices ps st ∙ count-applied (imagesOf (storeOf b p n) l) (sortsOf (storeOf b p n) (numbersAt b x m))
         ∙ count-sorts (storeOf b p n) (numbersAt b x m) ∙ length-numbersAt b x m
 
-    pub function-make : MakeAsks c q kx m′ v (fieldsIn 0 0 0 r none) r none
+    pub function-make : FieldsMakeAsks c q kx m′ v (fieldsIn 0 0 0 r none) r none
     function-make =
         record {
           good = w .good;

@@ -23,19 +23,19 @@ use Rattle.record.specs.declared.SortRecord.{SortRecord}
 use Rattle.store.specs.Entry.{EntryIs}
 use Rattle.substitution.specs.Substitution.{Map, left, under, apply, applyAll}
 use Rattle.substitution.specs.SubstitutionLaws.{apply-var, apply-var-free}
-use Rattle.replacing.specs.declared.Replaced.{Replaced}
-use Rattle.replacing.specs.declared.Replaced.the-variants.{Is as Found, Stuck}
-use Rattle.replacing.specs.Lists.{Numbers, numbersOf, held}
-use Rattle.replacing.specs.Images.{imageAt, imagesOf, Table, find-images}
-use Rattle.replacing.specs.Made.{Made, intern-first}
-use Rattle.replacing.specs.Halted.{Halted, made-over}
-use Rattle.replacing.specs.Contract.{answerAt, answersAt, SortAsks}
-use Rattle.replacing.specs.Known.{Known, KnownAsks, KnownIs}
-use Rattle.replacing.specs.HeldLaws.{zeros-are}
-use Rattle.replacing.specs.InternLaws.{intern-under}
-use Rattle.replacing.specs.KnownLaws.{table-set}
-use Rattle.replacing.specs.AlongLaws.{Along, along-start, along-same, along-asks, along-halted, along-more, along-done}
-use Rattle.apply.specs.Order.{answer, listed, Base, Covers, Within, zeros, OrderAsks, OrderIs, InOrderAsk, InOrderMade}
+use Rattle.apply_walk.specs.declared.Replaced.{Replaced}
+use Rattle.apply_walk.specs.declared.Replaced.the-variants.{Is as Found, Stuck}
+use Rattle.apply_walk.specs.Lists.{Numbers, numbersOf, held}
+use Rattle.apply_walk.specs.Images.{imageAt, imagesOf, ImageTable, find-images}
+use Rattle.apply_walk.specs.Made.{Made, intern-first}
+use Rattle.apply_walk.specs.Halted.{Halted, made-over}
+use Rattle.apply_walk.specs.Contract.{answerAt, answersAt, SortAsks}
+use Rattle.apply_walk.specs.Known.{Known, KnownWalkAsks, KnownIs}
+use Rattle.apply_walk.specs.HeldLaws.{zeros-held}
+use Rattle.apply_walk.specs.InternLaws.{intern-under}
+use Rattle.apply_walk.specs.KnownLaws.{table-set}
+use Rattle.apply_walk.specs.AlongLaws.{Along, along-start, along-same, along-asks, along-halted, along-more, along-done}
+use Rattle.apply.specs.Order.{sortAnswer, answersListed, Base, Covers, SizesWithin, zeros, OrderAsks, OrderIs, InOrderAsk, InOrderMade}
 
 -- INTERNING AN ANSWER AFTER THOSE OF THE PARTS is interning it.
 intern-after : (θ : Map) (s : Sort) (st : List Sort) → Ordered st → intern (apply θ s) (internAll (applyAll θ (partsOf s)) st) ≡ intern (apply θ s) st
@@ -58,10 +58,10 @@ sizes-after θ (node k a w ss) = omega arith
 
 -- One number more.
 listed-more : (θ : Map) (S : List Sort) (vs : List ℕ) (k : ℕ) (st : List Sort)
-    → internAll (applyAll θ (sortsOf S (vs ++ (k ∷ [])))) st ≡ intern (answer θ S k) (internAll (applyAll θ (sortsOf S vs)) st)
+    → internAll (applyAll θ (sortsOf S (vs ++ (k ∷ [])))) st ≡ intern (sortAnswer θ S k) (internAll (applyAll θ (sortsOf S vs)) st)
 unfolding sortsOf applyAll internAll
 listed-more θ S [] k st = refl
-listed-more θ S (v ∷ vs) k st = listed-more θ S vs k (intern (answer θ S v) st)
+listed-more θ S (v ∷ vs) k st = listed-more θ S vs k (intern (sortAnswer θ S v) st)
 
 -- An entry that is no longer 0.
 zeros-by : (t : Bool) (x y : ℕ) → suc x ≡ y → suc (cond t (suc x) x) ≡ cond t (suc y) y
@@ -89,10 +89,10 @@ pub record OrderInv (b p seen₀ : List ℕ) (o₀ : Numbers) (n k : ℕ) (seen 
   pub room : o .count + zeros seen ≤ length (o .list)
   pub covers : Covers (storeOf b p n) seen o
   pub total : (θ : Map) (st : List Sort) → Base θ (storeOf b p n) st
-      → internAll (applyAll θ (sortsOf (storeOf b p n) (numbersAt b x left))) (listed θ (storeOf b p n) o st)
-      ≡ internAll (applyAll θ (partsOf (getD (storeOf b p n) k leaf))) (listed θ (storeOf b p n) o₀ st)
-  pub fits : (θ : Map) → sizes (applyAll θ (sortsOf (storeOf b p n) (numbersAt b x left))) ≤ size (answer θ (storeOf b p n) k)
-  pub within : (θ : Map) (z : ℕ) → size (answer θ (storeOf b p n) k) ≤ z → Within θ (storeOf b p n) z o₀ → Within θ (storeOf b p n) z o
+      → internAll (applyAll θ (sortsOf (storeOf b p n) (numbersAt b x left))) (answersListed θ (storeOf b p n) o st)
+      ≡ internAll (applyAll θ (partsOf (getD (storeOf b p n) k leaf))) (answersListed θ (storeOf b p n) o₀ st)
+  pub fits : (θ : Map) → sizes (applyAll θ (sortsOf (storeOf b p n) (numbersAt b x left))) ≤ size (sortAnswer θ (storeOf b p n) k)
+  pub within : (θ : Map) (z : ℕ) → size (sortAnswer θ (storeOf b p n) k) ≤ z → SizesWithin θ (storeOf b p n) z o₀ → SizesWithin θ (storeOf b p n) z o
 
 module _ {b p seen : List ℕ} {o : Numbers} {n k : ℕ} (a : OrderAsks b p seen o n k) where
   abbrev S : List Sort
@@ -102,14 +102,14 @@ module _ {b p seen : List ℕ} {o : Numbers} {n k : ℕ} (a : OrderAsks b p seen
   many = omega (arith, a .known, storeOf-length b p n)
 
   -- Nothing is listed where the answer is there.
-  there : ((θ : Map) (st : List Sort) → Base θ S st → memb (answer θ S k) (listed θ S o st) ≡ true) → OrderIs b p seen o n k seen o
+  there : ((θ : Map) (st : List Sort) → Base θ S st → memb (sortAnswer θ S k) (answersListed θ S o st) ≡ true) → OrderIs b p seen o n k seen o
   there h =
       record {
         above = λ j l. refl;
         room = a .room;
         covers = a .covers;
         adds = λ θ st w.
-            sym (intern-known (answer θ S k) (listed θ S o st) (ordered-intern-all (applyAll θ (sortsOf S (numbersOf o))) st (w .ordered)) (h θ st w));
+            sym (intern-known (sortAnswer θ S k) (answersListed θ S o st) (ordered-intern-all (applyAll θ (sortsOf S (numbersOf o))) st (w .ordered)) (h θ st w));
         within = λ θ z l w. w;
       }
 
@@ -126,7 +126,7 @@ module _ {b p seen : List ℕ} {o : Numbers} {n k : ℕ} (a : OrderAsks b p seen
     order-leaf z =
         let bare : partsOf (getD S k leaf) ≡ end = sym parts-are ∙ ap (λ (x : ℕ). sortsOf S (numbersAt b (e .list) x)) z in
         there (λ θ st w.
-        memb-starts st (listed θ S o st) (answer θ S k) (starts-intern-all (applyAll θ (sortsOf S (numbersOf o))) st) (w .leaves k many bare))
+        memb-starts st (answersListed θ S o st) (sortAnswer θ S k) (starts-intern-all (applyAll θ (sortsOf S (numbersOf o))) st) (w .leaves k many bare))
 
     pub order-start : OrderInv b p seen o n k seen o (e .list) (e .count)
     order-start =
@@ -138,7 +138,7 @@ module _ {b p seen : List ℕ} {o : Numbers} {n k : ℕ} (a : OrderAsks b p seen
           wide = refl;
           room = a .room;
           covers = a .covers;
-          total = λ θ st w. ap (λ (ss : Sorts). internAll (applyAll θ ss) (listed θ S o st)) parts-are;
+          total = λ θ st w. ap (λ (ss : Sorts). internAll (applyAll θ ss) (answersListed θ S o st)) parts-are;
           fits = λ θ. omega (arith, ap (λ (ss : Sorts). sizes (applyAll θ ss)) parts-are, sizes-after θ (getD S k leaf));
           within = λ θ z h w. w;
         }
@@ -164,7 +164,7 @@ module _ {b p seen : List ℕ} {o : Numbers} {n k : ℕ} (a : OrderAsks b p seen
         },
       )
 
-      size-part : (θ : Map) → size (answer θ S part) + sizes (applyAll θ (sortsOf S (numbersAt b (x + 2) (rest - 1)))) ≤ size (answer θ S k)
+      size-part : (θ : Map) → size (sortAnswer θ S part) + sizes (applyAll θ (sortsOf S (numbersAt b (x + 2) (rest - 1)))) ≤ size (sortAnswer θ S k)
       unfolding sortsOf applyAll size
       size-part θ = omega (arith, i .fits θ, ap (λ (vs : List ℕ). sizes (applyAll θ (sortsOf S vs))) now-more)
 
@@ -184,7 +184,7 @@ module _ {b p seen : List ℕ} {o : Numbers} {n k : ℕ} (a : OrderAsks b p seen
             covers = w .covers;
             total = λ θ st y.
                 ap (internAll (applyAll θ (sortsOf S (numbersAt b (x + 2) (rest - 1))))) (w .adds θ st y)
-                ∙ sym (ap (λ (vs : List ℕ). internAll (applyAll θ (sortsOf S vs)) (listed θ S o′ st)) now-more)
+                ∙ sym (ap (λ (vs : List ℕ). internAll (applyAll θ (sortsOf S vs)) (answersListed θ S o′ st)) now-more)
                 ∙ i .total θ st y;
             fits = λ θ. omega (arith, size-part θ);
             within = λ θ z l y. w .within θ z (omega (arith, size-part θ)) (i .within θ z l y);
@@ -203,23 +203,23 @@ module _ {b p seen : List ℕ} {o : Numbers} {n k : ℕ} (a : OrderAsks b p seen
           ap (λ (y : ℕ). take y (set (o′ .list) (o′ .count) k)) (add-one (o′ .count))
           ∙ take-suc-set (o′ .list) (o′ .count) k (order-free z)
 
-      last-adds : (θ : Map) (st : List Sort) → listed θ S last st ≡ intern (answer θ S k) (listed θ S o′ st)
+      last-adds : (θ : Map) (st : List Sort) → answersListed θ S last st ≡ intern (sortAnswer θ S k) (answersListed θ S o′ st)
       last-adds θ st = ap (λ (vs : List ℕ). internAll (applyAll θ (sortsOf S vs)) st) last-is ∙ listed-more θ S (numbersOf o′) k st
 
-      parts-made : {θ : Map} {st : List Sort} → Base θ S st → listed θ S o′ st ≡ internAll (applyAll θ (partsOf (getD S k leaf))) (listed θ S o st)
+      parts-made : {θ : Map} {st : List Sort} → Base θ S st → answersListed θ S o′ st ≡ internAll (applyAll θ (partsOf (getD S k leaf))) (answersListed θ S o st)
       unfolding numbersAt sortsOf applyAll internAll
       parts-made {θ} {st} w =
-          sym (ap (λ (y : ℕ). internAll (applyAll θ (sortsOf S (numbersAt b x y))) (listed θ S o′ st)) h) ∙ i .total θ st w
+          sym (ap (λ (y : ℕ). internAll (applyAll θ (sortsOf S (numbersAt b x y))) (answersListed θ S o′ st)) h) ∙ i .total θ st w
 
       last-covers : Covers S (set seen′ k 1) last
       last-covers θ st w =
-          let g : Starts (listed θ S o′ st) (listed θ S last st) =
-          subst (Starts (listed θ S o′ st)) (sym (last-adds θ st)) (starts-intern (answer θ S k) (listed θ S o′ st)) in
-          table-set (λ (j v : ℕ). (v ≡ 0 → ⊥) → memb (answer θ S j) (listed θ S last st) ≡ true) seen′ k 1
-          (λ j d. memb-starts (listed θ S o′ st) (listed θ S last st) (answer θ S j) g (i .covers θ st w j d))
-          (λ d. ap (memb (answer θ S k)) (last-adds θ st) ∙ memb-intern (answer θ S k) (listed θ S o′ st))
+          let g : Starts (answersListed θ S o′ st) (answersListed θ S last st) =
+          subst (Starts (answersListed θ S o′ st)) (sym (last-adds θ st)) (starts-intern (sortAnswer θ S k) (answersListed θ S o′ st)) in
+          table-set (λ (j v : ℕ). (v ≡ 0 → ⊥) → memb (sortAnswer θ S j) (answersListed θ S last st) ≡ true) seen′ k 1
+          (λ j d. memb-starts (answersListed θ S o′ st) (answersListed θ S last st) (sortAnswer θ S j) g (i .covers θ st w j d))
+          (λ d. ap (memb (sortAnswer θ S k)) (last-adds θ st) ∙ memb-intern (sortAnswer θ S k) (answersListed θ S o′ st))
 
-      last-within : (θ : Map) (y : ℕ) → size (answer θ S k) ≤ y → Within θ S y o′ → Within θ S y last
+      last-within : (θ : Map) (y : ℕ) → size (sortAnswer θ S k) ≤ y → SizesWithin θ S y o′ → SizesWithin θ S y last
       last-within θ y l w j q =
           below-suc (λ (j : ℕ). Fits (getD (set (o′ .list) (o′ .count) k) j 0)) (o′ .count)
           (λ j r. subst Fits (sym (getD-set-other (o′ .list) (o′ .count) j k 0 (λ e. omega arith))) (w j r))
@@ -227,7 +227,7 @@ module _ {b p seen : List ℕ} {o : Numbers} {n k : ℕ} (a : OrderAsks b p seen
           j (omega arith)
         where
           Fits : ℕ → Type 0
-          Fits v = (v < length S) × (size (answer θ S v) ≤ y)
+          Fits v = (v < length S) × (size (sortAnswer θ S v) ≤ y)
 
       pub order-last : OrderIs b p seen o n k (set seen′ k 1) last
       order-last =
@@ -243,8 +243,8 @@ module _ {b p seen : List ℕ} {o : Numbers} {n k : ℕ} (a : OrderAsks b p seen
             covers = last-covers;
             adds = λ θ st w.
                 last-adds θ st
-                ∙ ap (intern (answer θ S k)) (parts-made w)
-                ∙ intern-after θ (getD S k leaf) (listed θ S o st) (ordered-intern-all (applyAll θ (sortsOf S (numbersOf o))) st (w .ordered));
+                ∙ ap (intern (sortAnswer θ S k)) (parts-made w)
+                ∙ intern-after θ (getD S k leaf) (answersListed θ S o st) (ordered-intern-all (applyAll θ (sortsOf S (numbersOf o))) st (w .ordered));
             within = λ θ y l w. last-within θ y l (i .within θ y l w);
           }
 
@@ -256,19 +256,19 @@ image-there st l v m zero e h =
 image-there st l v m (suc j) e h =
     ap (λ (s : Sort). memb s st) (apply-var (imagesOf st l) v (getD st j leaf) (find-images st l v ∙ ap (imageAt st) e)) ∙ memb-at st leaf j h
 
-leaf-there : (st : List Sort) {l : List ℕ} → Table l (length st) → (s : Sort) → memb s st ≡ true → partsOf s ≡ end → memb (apply (imagesOf st l) s) st ≡ true
+leaf-there : (st : List Sort) {l : List ℕ} → ImageTable l (length st) → (s : Sort) → memb s st ≡ true → partsOf s ≡ end → memb (apply (imagesOf st l) s) st ≡ true
 unfolding apply
 leaf-there st {l} t (var v) m e = image-there st l v m (getD l v 0) refl (t .below v)
 leaf-there st {l} t (par ns b) m e = let z : _≡_ {A = ℕ} 0 1 = cc in absurd (omega arith)
 leaf-there st {l} t (node k a w ss) m e =
     ap (λ (x : Sort). memb x st) (ap (λ (x : Sorts). node k a w (applyAll (imagesOf st l) x)) e ∙ sym (ap (node k a w) e)) ∙ m
 
-base-self : {b p : List ℕ} {n : ℕ} {l : List ℕ} → Stored b p n → Table l n → Base (imagesOf (storeOf b p n) l) (storeOf b p n) (storeOf b p n)
+base-self : {b p : List ℕ} {n : ℕ} {l : List ℕ} → Stored b p n → ImageTable l n → Base (imagesOf (storeOf b p n) l) (storeOf b p n) (storeOf b p n)
 base-self {b} {p} {n} {l} s t =
     record {
       ordered = store-ordered b p n s;
       leaves = λ k h e.
-          leaf-there (storeOf b p n) (subst (Table l) (sym (storeOf-length b p n)) t) (getD (storeOf b p n) k leaf) (memb-at (storeOf b p n) leaf k h) e;
+          leaf-there (storeOf b p n) (subst (ImageTable l) (sym (storeOf-length b p n)) t) (getD (storeOf b p n) k leaf) (memb-at (storeOf b p n) leaf k h) e;
     }
 
 -- IN ORDER: the answers of the first j are made, and the table of answers stays true and as long as it was.
@@ -307,7 +307,7 @@ module _ {b p ix ws : List ℕ} {n u : ℕ} {o : Numbers} {l : List ℕ} (a : In
       here : getD (numbersOf o) j 0 ≡ k
       here = getD-take (o .count) (o .list) j 0 h
 
-      pub in-order-asks : KnownAsks c q jx vs m v k l
+      pub in-order-asks : KnownWalkAsks c q jx vs m v k l
       in-order-asks =
           record {
             asks =
@@ -346,7 +346,7 @@ module _ {b p ix : List ℕ} {n u k : ℕ} {l : List ℕ} (a : SortAsks b p ix n
         known = a .known;
         table = length-replicate {A = ℕ} 4096 0;
         room = omega (arith, zeros-all 4096, length-replicate {A = ℕ} 4096 0);
-        covers = λ θ st w j d. absurd (d (zeros-are 4096 j));
+        covers = λ θ st w j d. absurd (d (zeros-held 4096 j));
       }
 
   module _ {seen′ : List ℕ} {o : Numbers} (w : OrderIs b p (replicate 4096 0) blank n k seen′ o) where
@@ -385,7 +385,7 @@ module _ {b p ix : List ℕ} {n u k : ℕ} {l : List ℕ} (a : SortAsks b p ix n
       unfolding sortAt sortsOf applyAll internAll
       along = record { good = y .good; starts = grows; kept = y .kept; total = again }
 
-      pub deep-last : KnownAsks c q jx ws m v k l
+      pub deep-last : KnownWalkAsks c q jx ws m v k l
       deep-last =
           record {
             asks = along-asks b p ix n u l (a .ready) (k ∷ []) c q jx m v 0 along k (a .known) (omega arith) refl (a .small);

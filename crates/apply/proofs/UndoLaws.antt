@@ -5,8 +5,8 @@ use mathlib.Core.List.{List}
 use Rattle.record.specs.Sort.{Sort}
 use Rattle.store.specs.Good.{Good}
 use Rattle.store.specs.Contract.{Untouched, UndoAsks, UndoIs}
-use Rattle.replacing.specs.Made.{grown-count, grown-take}
-use Rattle.replacing.specs.Halted.{Halted}
+use Rattle.apply_walk.specs.Made.{grown-count, grown-take}
+use Rattle.apply_walk.specs.Halted.{Halted}
 
 -- UNDOING gives back the store that it was grown from, every buffer whole.
 module _ {b p ix : List ℕ} {n u : ℕ} (g : Good b p ix n u) {st : List Sort} {c q jx : List ℕ} {m v : ℕ} (h : Halted b p n u st c q jx m v) where

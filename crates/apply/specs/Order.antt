@@ -13,35 +13,35 @@ use Rattle.record.specs.Decode.{storeOf, Stored}
 use Rattle.record.specs.SortLists.{Ordered}
 use Rattle.store.specs.Good.{Good, Kept}
 use Rattle.substitution.specs.Substitution.{Map, apply, applyAll}
-use Rattle.replacing.specs.declared.Parts.{Parts}
-use Rattle.replacing.specs.declared.Parts.the-variants.{Are, Stuck as Short}
-use Rattle.replacing.specs.Lists.{Numbers, numbersOf}
-use Rattle.replacing.specs.Images.{imagesOf}
-use Rattle.replacing.specs.Halted.{Halted}
-use Rattle.replacing.specs.Contract.{answersAt, Ready}
-use Rattle.replacing.specs.Known.{Known}
+use Rattle.apply_walk.specs.declared.Parts.{Parts}
+use Rattle.apply_walk.specs.declared.Parts.the-variants.{Are, Stuck as Short}
+use Rattle.apply_walk.specs.Lists.{Numbers, numbersOf}
+use Rattle.apply_walk.specs.Images.{imagesOf}
+use Rattle.apply_walk.specs.Halted.{Halted}
+use Rattle.apply_walk.specs.Contract.{answersAt, Ready}
+use Rattle.apply_walk.specs.Known.{Known}
 
 -- The answer of the sort k of S.
-abbrev pub answer : Map → List Sort → ℕ → Sort
-answer θ S k = apply θ (getD S k leaf)
+abbrev pub sortAnswer : Map → List Sort → ℕ → Sort
+sortAnswer θ S k = apply θ (getD S k leaf)
 
 -- THE STORE st WITH THE ANSWERS of a list of numbers of S, made one after the other.
-abbrev pub listed : Map → List Sort → Numbers → List Sort → List Sort
-listed θ S o st = internAll (applyAll θ (sortsOf S (numbersOf o))) st
+abbrev pub answersListed : Map → List Sort → Numbers → List Sort → List Sort
+answersListed θ S o st = internAll (applyAll θ (sortsOf S (numbersOf o))) st
 
 -- A store to make the answers in: parts stand before wholes, and it has the answers of the sorts without parts.
 pub record Base (θ : Map) (S st : List Sort) : Type 0 where
   pub ordered : Ordered st
-  pub leaves : (k : ℕ) → k < length S → partsOf (getD S k leaf) ≡ end → memb (answer θ S k) st ≡ true
+  pub leaves : (k : ℕ) → k < length S → partsOf (getD S k leaf) ≡ end → memb (sortAnswer θ S k) st ≡ true
 
 -- The list o covers the sorts noted in seen: with its answers made, theirs are there.
 abbrev pub Covers : List Sort → List ℕ → Numbers → Type 0
 Covers S seen o =
-    (θ : Map) (st : List Sort) → Base θ S st → (k : ℕ) → (getD seen k 0 ≡ 0 → ⊥) → memb (answer θ S k) (listed θ S o st) ≡ true
+    (θ : Map) (st : List Sort) → Base θ S st → (k : ℕ) → (getD seen k 0 ≡ 0 → ⊥) → memb (sortAnswer θ S k) (answersListed θ S o st) ≡ true
 
 -- Each of the list is a number of S, and its answer has at most the size z.
-abbrev pub Within : Map → List Sort → ℕ → Numbers → Type 0
-Within θ S z o = (j : ℕ) → j < o .count → (getD (o .list) j 0 < length S) × (size (answer θ S (getD (o .list) j 0)) ≤ z)
+abbrev pub SizesWithin : Map → List Sort → ℕ → Numbers → Type 0
+SizesWithin θ S z o = (j : ℕ) → j < o .count → (getD (o .list) j 0 < length S) × (size (sortAnswer θ S (getD (o .list) j 0)) ≤ z)
 
 -- How many entries are 0.
 unfoldable pub zeros : List ℕ → ℕ
@@ -64,15 +64,15 @@ pub record OrderIs (b p seen : List ℕ) (o : Numbers) (n k : ℕ) (seen′ : Li
   pub room : o′ .count + zeros seen′ ≤ length (o′ .list)
   pub covers : Covers (storeOf b p n) seen′ o′
   pub adds : (θ : Map) (st : List Sort) → Base θ (storeOf b p n) st
-      → listed θ (storeOf b p n) o′ st ≡ intern (answer θ (storeOf b p n) k) (listed θ (storeOf b p n) o st)
-  pub within : (θ : Map) (z : ℕ) → size (answer θ (storeOf b p n) k) ≤ z → Within θ (storeOf b p n) z o → Within θ (storeOf b p n) z o′
+      → answersListed θ (storeOf b p n) o′ st ≡ intern (sortAnswer θ (storeOf b p n) k) (answersListed θ (storeOf b p n) o st)
+  pub within : (θ : Map) (z : ℕ) → size (sortAnswer θ (storeOf b p n) k) ≤ z → SizesWithin θ (storeOf b p n) z o → SizesWithin θ (storeOf b p n) z o′
 
 -- A list of sorts whose answers are to be made, and a table of answers that says the truth.
 pub record InOrderAsk (b p ix ws : List ℕ) (n u : ℕ) (o : Numbers) (l : List ℕ) : Type 0 where
   pub ready : Ready b p ix n u l
   pub known : Known b p n l ws
   pub many : o .count ≤ length (o .list)
-  pub within : Within (imagesOf (storeOf b p n) l) (storeOf b p n) 4096 o
+  pub within : SizesWithin (imagesOf (storeOf b p n) l) (storeOf b p n) 4096 o
 
 -- THE STORE WITH THEIR ANSWERS, of which the table says the truth; or there is no room for that store.
 pub record InOrderMade (b p : List ℕ) (n u : ℕ) (o : Numbers) (l c q ix′ ws′ : List ℕ) (m v : ℕ) : Type 0 where

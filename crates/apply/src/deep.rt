@@ -1,14 +1,14 @@
 // Substitution in a deep sort with little stack: its sorts with parts are put in order first, parts before what they stand in,
 // so that the walk that makes the answers finds those of the parts in its table.
+use apply_walk::Parts;
+use apply_walk::Replaced;
+use apply_walk::apply_sort;
 use record::limits::MOST_SORTS;
 use record::u16_at;
-use replacing::Parts;
-use replacing::Replaced;
-use replacing::apply_sort;
 use store::entries::entry;
 use store::entries::size_at;
-ghost use Rattle.replacing.specs.Lists.{held};
-ghost use Rattle.replacing.specs.Known.{KnownAsks, KnownIs, KnownAllAsk, KnownAllAre};
+ghost use Rattle.apply_walk.specs.Lists.{held};
+ghost use Rattle.apply_walk.specs.Known.{KnownWalkAsks, KnownIs, KnownAllAsk, KnownAllAre};
 ghost use Rattle.apply.specs.Order.{OrderAsks, OrderIs, InOrderAsk, InOrderAre};
 
 // The largest tree that is walked without an order: up to it the stack that an order saves is not worth its time.
@@ -96,7 +96,7 @@ pub fn apply_deep(
     k: usize,
     images: &[u16],
 ) -> Replaced
-    requires { ⌜ KnownAsks (now records) (now places) (now index) (now known) count used k (now images) ⌝ }
+    requires { ⌜ KnownWalkAsks (now records) (now places) (now index) (now known) count used k (now images) ⌝ }
     ensures { λ r. ⌜ KnownIs (now (records .entry)) (now (places .entry)) count used k (now (images .entry)) (now (records .exit)) (now (places .exit)) (now (index .exit)) (now (known .exit)) r ⌝ }
 {
     if size_at(index, k) <= SHALLOW {

@@ -2,16 +2,16 @@
 use super::Applied;
 use super::whole::answer_sizes;
 use super::whole::make_answers;
+use apply_walk::Parts;
+use apply_walk::Replaced;
+use apply_walk::build::make_fields;
+use apply_walk::lists::read_numbers;
 use record::kinds::SORT_FUNCTION;
 use record::limits::LARGEST_PARTS;
 use record::limits::LONGEST_LIST;
-use replacing::Parts;
-use replacing::Replaced;
-use replacing::build::make;
-use replacing::lists::read_numbers;
 use store::Interned;
 use store::undo;
-ghost use Rattle.replacing.specs.Contract.{ReplacedIs};
+ghost use Rattle.apply_walk.specs.Contract.{ReplacedIs};
 ghost use Rattle.apply.specs.Contract.{functionAt, FunctionAsks, FunctionFits, AppliedIs};
 
 // The number of the Function of the `left` sorts replaced whose numbers stand from `at` on, in the store with its sorts
@@ -44,7 +44,7 @@ pub fn make_function(
     match done {
         Parts::Are(n, u) => {
             let none = [0u16; LONGEST_LIST];
-            let made = make(
+            let made = make_fields(
                 records,
                 places,
                 index,

@@ -3,12 +3,12 @@ pub mod deep;
 pub mod function;
 pub mod whole;
 
+use apply_walk::Replaced;
 use record::limits::LARGEST_TREE;
-use replacing::Replaced;
 use store::undo;
 use whole::answer_size;
 use whole::make_answer;
-ghost use Rattle.replacing.specs.Contract.{answerAt};
+ghost use Rattle.apply_walk.specs.Contract.{answerAt};
 ghost use Rattle.apply.specs.Contract.{ApplyAsks, AppliedIs};
 
 pub enum Applied {

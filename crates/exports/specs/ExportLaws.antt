@@ -1,16 +1,16 @@
--- The newlines of a piece count its lines, and the theorems of crate text for `napsilo_text`.
+-- The newlines of a piece count its lines, and the theorems of crate printout_text for `napsilo_text`.
 use Prim.Native.Nat.{ℕ, _≤_}
 use mathlib.Core.Path.{_≡_}
 use mathlib.Core.List.{List}
 use native.Mathlib.Omega.{arith}
 use lib.ListN.{length, take}
-use Rattle.judged.specs.Judged.{judged}
+use Rattle.judge_rules.specs.Judged.{judged}
 use Rattle.printout.specs.declared.whole.Piece.{Piece}
 use Rattle.printout.specs.Lines.{lineRoom}
 use Rattle.printout.specs.Printed.{printed, programLengths}
-use Rattle.text.specs.Text.{lineCount, TextIs}
-use Rattle.text.specs.TextLaws.{text-done, text-whole}
-use Rattle.text.specs.NewlineLaws.{wrote-first, lines-counted}
+use Rattle.printout_text.specs.Text.{lineCount, TextIs}
+use Rattle.printout_text.specs.TextLaws.{text-done, text-whole}
+use Rattle.printout_text.specs.NewlineLaws.{wrote-first, lines-counted}
 use Rattle.exports.specs.Exports.{EndIs}
 
 -- The end of what `text` wrote tells the next line.

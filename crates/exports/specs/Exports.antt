@@ -3,8 +3,8 @@ use Prim.Native.Nat.{ℕ, _+_}
 use mathlib.Core.Path.{_≡_}
 use mathlib.Core.List.{List}
 use lib.ListN.{take}
-use Rattle.text.specs.Text.{TextIs}
-use Rattle.text.specs.Newlines.{newlines}
+use Rattle.printout_text.specs.Text.{TextIs}
+use Rattle.printout_text.specs.Newlines.{newlines}
 
 -- THE PROMISE OF `napsilo_text`: lines of the printout from the number `from` on are written up to the place r, and the number of the
 -- next line is told by the newlines among the bytes written.

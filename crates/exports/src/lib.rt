@@ -1,6 +1,6 @@
 // What programs in C and Rust call, in one static library: a sheet judged into lent buffers, and its printout as text in a lent
 // buffer. Each slice is a pointer and a length. No logic of its own.
-use text::text;
+use printout_text::text;
 ghost use Rattle.verdicts.specs.Judge.{lengthsOf, NumberIs};
 ghost use Rattle.exports.specs.Exports.{EndIs};
 

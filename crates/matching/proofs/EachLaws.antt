@@ -12,7 +12,7 @@ use Rattle.record.specs.declared.SortRecord.{SortRecord}
 use Rattle.store.specs.Entry.{EntryHas}
 use Rattle.matching.specs.Contract.{sortsAt, OneAsks, ListAsks}
 use Rattle.matching.specs.Entered.{sorts-end, sorts-more, sizes-more, entry-size}
-use Rattle.matching.specs.Every.{every, everyAll, Noted, Found}
+use Rattle.matching.specs.Every.{every, everyAll, Noted, EveryFound}
 use Rattle.matching.specs.EveryLaws.{every-parts}
 use Rattle.matching.proofs.WalkLaws.{parts-ask, first-asks, rest-asks}
 use Rattle.matching.proofs.LastLaws.{and-one}
@@ -48,7 +48,7 @@ pub each-start : {b p : List ℕ} {n : ℕ} {f : Sort → Bool} {x c : ℕ} {o :
 each-start a t = record { asks = a; noted = t; less = omega arith; whole = refl }
 
 module _ {b p : List ℕ} {n : ℕ} {f : Sort → Bool} {x₀ c₀ : ℕ} {o : List ℕ} {x c : ℕ} (v : EachInv b p n f x₀ c₀ o x c) where
-  pub each-end : c ≤ 0 → Found b p n f (everyAll f (sortsAt b p n b x₀ c₀)) o true
+  pub each-end : c ≤ 0 → EveryFound b p n f (everyAll f (sortsAt b p n b x₀ c₀)) o true
   unfolding every
   each-end h =
       let z : c ≡ 0 = omega arith in
@@ -65,7 +65,7 @@ module _ {b p : List ℕ} {n : ℕ} {f : Sort → Bool} {x₀ c₀ : ℕ} {o : L
     unfolding every
     first g = rw (g, i) (sym (ap (everyAll f) (sorts-more b p n b x c some)) ∙ v .whole)
 
-    pub each-stop : {o′ : List ℕ} → false ≡ every f (sortAt b p n k) → Noted b p n f o′ → Found b p n f (everyAll f (sortsAt b p n b x₀ c₀)) o′ false
+    pub each-stop : {o′ : List ℕ} → false ≡ every f (sortAt b p n k) → Noted b p n f o′ → EveryFound b p n f (everyAll f (sortsAt b p n b x₀ c₀)) o′ false
     each-stop g t = record { answer = first g; noted = t }
 
     pub each-step : {o′ : List ℕ} → true ≡ every f (sortAt b p n k) → Noted b p n f o′ → EachInv b p n f x₀ c₀ o′ (x + 2) (c - 1)

@@ -23,12 +23,12 @@ use Rattle.matching.specs.declared.Turn.{Turn}
 use Rattle.matching.specs.declared.Turn.the-variants.{Holds, Fails, Meets, Under, Past, Parts}
 use Rattle.matching.specs.declared.Move.the-variants.{Ends, Under as Down, Past as Through, Parts as Several}
 use Rattle.matching.specs.declared.Walked.{Walked}
-use Rattle.matching.specs.Tables.{times, Lists, Added, mapOf, Mapped}
+use Rattle.matching.specs.Tables.{times, Lists, Added, tableMap, Mapped}
 use Rattle.matching.specs.TableLaws.{times-append, lists-added, added-back}
-use Rattle.matching.specs.Contract.{Refs, sortsAt, TakeAsks, countOf, answerOf, MeetWithIs, WithAsks, WithIs, PairWith, PairsWith, TurnIs}
+use Rattle.matching.specs.Contract.{Refs, sortsAt, TakeAsks, countOf, matchedMap, MeetWithIs, WithAsks, WithIs, PairWith, PairsWith, TurnIs}
 use Rattle.matching.specs.Notes.{pairOf, MatchedWith, WithBefore, WithAfter}
 use Rattle.matching.specs.NoteLaws.{pairs-none}
-use Rattle.matching.specs.Way.{lastOf, wayEnd, wayNames, Deep, CloseAsks, CloseIs, Instead, Leads, Split, MoveIs, WalkIs}
+use Rattle.matching.specs.Way.{lastSort, wayEnd, wayNames, Deep, CloseAsks, CloseIs, Instead, Leads, Split, MoveIs, WalkIs}
 use Rattle.matching.specs.Entered.{entry-names, entry-refs}
 use Rattle.matching.proofs.WalkLaws.{count-at}
 use Rattle.matching.proofs.LastLaws.{and-some, sizes-more, refs-less}
@@ -37,8 +37,8 @@ use Rattle.matching.proofs.GeneralLaws.{under, body-asks, through, targ
 
 ---------------------------------------------------------------- all but the last, then the last
 -- The last of c + 1 sorts.
-last-at : (b p : List ℕ) (n : ℕ) (s : List ℕ) (x c : ℕ) → lastOf (sortsAt b p n s x (suc c)) ≡ sortAt b p n (u16At s (x + 2 * c))
-unfolding lastOf sortsOf numbersAt sortAt
+last-at : (b p : List ℕ) (n : ℕ) (s : List ℕ) (x c : ℕ) → lastSort (sortsAt b p n s x (suc c)) ≡ sortAt b p n (u16At s (x + 2 * c))
+unfolding lastSort sortsOf numbersAt sortAt
 last-at b p n s x zero = let e : x ≡ x + 2 * 0 = omega arith in ap (λ (i : ℕ). getD (storeOf b p n) (u16At s i) leaf) e
 last-at b p n s x (suc c) =
     let e : x + 2 + 2 * c ≡ x + 2 * suc c = omega arith in
@@ -109,20 +109,20 @@ module _ {b p : List ℕ} {n : ℕ} {prm imgs bnd : List ℕ} {m k j : ℕ} (a :
 
     pub move-under : (i x c : ℕ) → z ≡ Under i x c → {prm′ l′ : List ℕ} → Added prm (numbersAt b x c) prm′ → l′ ≡ replicate 32 0
         → MoveIs b p n prm imgs bnd m k j prm′ imgs bnd l′ (Down i)
-    unfolding count lastOf
+    unfolding count lastSort
     move-under i x c e {prm′} {l′} s f =
         let o = under a z g i x c e in (
           record {
             added = subst (λ (us : List ℕ). Added prm us prm′) (sym (o .names)) s;
             asks = body-asks a z g i x c e s;
-            noted = subst (WithBefore b p n prm′ imgs bnd m) (sym f) (pairs-none (MatchedWith b p n prm′ (mapOf (storeOf b p n) imgs bnd m)));
+            noted = subst (WithBefore b p n prm′ imgs bnd m) (sym f) (pairs-none (MatchedWith b p n prm′ (tableMap (storeOf b p n) imgs bnd m)));
             whole = λ ns h.
                 ap (λ (us : List ℕ). PairWith b p n imgs bnd m i j (ns ++ us)) (o .names)
-                ∙ o .whole ns (mapOf (storeOf b p n) imgs bnd m);
+                ∙ o .whole ns (tableMap (storeOf b p n) imgs bnd m);
           },
           record {
             some = omega (arith, ap count (o .parts));
-            last = ap lastOf (o .parts);
+            last = ap lastSort (o .parts);
             less = omega (arith, o .falls);
           },
         )
@@ -136,7 +136,7 @@ module _ {b p : List ℕ} {n : ℕ} {prm imgs bnd : List ℕ} {m k j : ℕ} (a :
             noted = w;
             whole = λ ns h.
                 ap (λ (us : List ℕ). PairWith b p n imgs bnd m k i us) (append-nil ns)
-                ∙ o .whole ns h (mapOf (storeOf b p n) imgs bnd m);
+                ∙ o .whole ns h (tableMap (storeOf b p n) imgs bnd m);
           },
           omega (arith, o .falls),
         )
@@ -168,14 +168,14 @@ module _ {b p : List ℕ} {n : ℕ} {prm imgs bnd : List ℕ} {m k j : ℕ} (a :
             leads =
                 record {
                   some = omega (arith, ap count (o .parts), count-at b p n b x (suc d));
-                  last = ap lastOf (o .parts) ∙ last-at b p n b x d;
+                  last = ap lastSort (o .parts) ∙ last-at b p n b x d;
                   less = omega (arith, o .less, sizes-more b p n b x d);
                 };
             nameless = o .names;
             falls = omega (arith, o .falls, sizes-more b p n b x d, sizes-more b p n b y d);
             whole = λ ns h.
-                sym (with-last b p n ns b b x y d (mapOf (storeOf b p n) imgs bnd m))
-                ∙ o .whole ns (mapOf (storeOf b p n) imgs bnd m);
+                sym (with-last b p n ns b b x y d (tableMap (storeOf b p n) imgs bnd m))
+                ∙ o .whole ns (tableMap (storeOf b p n) imgs bnd m);
           }
 
 ---------------------------------------------------------------- turn after turn
@@ -228,7 +228,7 @@ module _ {b p : List ℕ} {n : ℕ} {prm imgs bnd : List ℕ} {m k j : ℕ} {prm
 
   step-ends : {i : ℕ} → Leads b p n k₁ i → wayEnd (sortAt b p n k) (suc steps) ≡ sortAt b p n i
   unfolding wayEnd
-  step-ends {i} e = ap (λ (s : Sort). lastOf (partsOf s)) (a .ends) ∙ e .last
+  step-ends {i} e = ap (λ (s : Sort). lastSort (partsOf s)) (a .ends) ∙ e .last
 
   step-names : wayNames (sortAt b p n k) (suc steps) ≡ wayNames (sortAt b p n k) down ++ namesOf (sortAt b p n k₁)
   unfolding wayNames
@@ -292,7 +292,7 @@ module _ {b p : List ℕ} {n : ℕ} {prm imgs bnd : List ℕ} {m k j : ℕ} {prm
   module _ {prm₂ imgs₂ bnd₂ l₂ : List ℕ} {x y c : ℕ} (s : Split b p n prm₁ imgs₁ bnd₁ m₁ k₁ j₁ prm₂ imgs₂ bnd₂ l₂ x y c) {prm₃ imgs₃ bnd₃ : List ℕ} (l₃ : List ℕ) {z : Matched} (g : WithIs b p n prm₂ prm₃ imgs₃ bnd₃ z (PairsWith b p n imgs₂ bnd₂ m₁ b x b y c)) where
     -- All but the last, then the last, from what is found for the first.
     parts-on : {ns : List ℕ} → Lists prm₁ ns
-        → andThen (answerOf (storeOf b p n) imgs₃ bnd₃ z) (λ θ. matchWith ns (sortAt b p n (u16At b (x + 2 * c))) (sortAt b p n (u16At b (y + 2 * c))) θ)
+        → andThen (matchedMap (storeOf b p n) imgs₃ bnd₃ z) (λ θ. matchWith ns (sortAt b p n (u16At b (x + 2 * c))) (sortAt b p n (u16At b (y + 2 * c))) θ)
         ≡ PairWith b p n imgs₁ bnd₁ m₁ k₁ j₁ ns
     parts-on {ns} h =
         ap (λ (o : Option Map). andThen o (λ θ. matchWith ns (sortAt b p n (u16At b (x + 2 * c))) (sortAt b p n (u16At b (y + 2 * c))) θ))
@@ -309,7 +309,7 @@ module _ {b p : List ℕ} {n : ℕ} {prm imgs bnd : List ℕ} {m k j : ℕ} {prm
             params = same-params;
             mapped = subst (λ (q : Matched). Mapped b p n imgs₃ bnd₃ (countOf q)) e (g .mapped);
             result = λ ns h.
-                sym (ap (λ (q : Matched). andThen (answerOf (storeOf b p n) imgs₃ bnd₃ q) (λ θ. matchWith ns (sortAt b p n (u16At b (x + 2 * c))) (sortAt b p n (u16At b (y + 2 * c))) θ)) e)
+                sym (ap (λ (q : Matched). andThen (matchedMap (storeOf b p n) imgs₃ bnd₃ q) (λ θ. matchWith ns (sortAt b p n (u16At b (x + 2 * c))) (sortAt b p n (u16At b (y + 2 * c))) θ)) e)
                 ∙ parts-on h;
           },
           tt,
@@ -330,7 +330,7 @@ module _ {b p : List ℕ} {n : ℕ} {prm imgs bnd : List ℕ} {m k j : ℕ} {prm
             noted = with-next b p n prm₂ imgs₃ bnd₃ l₃ i (g .params) e w;
             whole = λ ns h.
                 ap (PairWith b p n imgs₃ bnd₃ i (u16At b (x + 2 * c)) (u16At b (y + 2 * c))) (append-nil ns)
-                ∙ sym (ap (λ (q : Matched). andThen (answerOf (storeOf b p n) imgs₃ bnd₃ q) (λ θ. matchWith ns (sortAt b p n (u16At b (x + 2 * c))) (sortAt b p n (u16At b (y + 2 * c))) θ)) e)
+                ∙ sym (ap (λ (q : Matched). andThen (matchedMap (storeOf b p n) imgs₃ bnd₃ q) (λ θ. matchWith ns (sortAt b p n (u16At b (x + 2 * c))) (sortAt b p n (u16At b (y + 2 * c))) θ)) e)
                 ∙ parts-on h;
           }
 
@@ -384,7 +384,7 @@ module _ {b p : List ℕ} {n : ℕ} {prm imgs bnd : List ℕ} {m k j : ℕ} (a :
   )
     where
       forgot : (q : Matched) → WithAfter b p n prm imgs₁ bnd₁ l₂ q
-      forgot (Fits i) = subst (WithBefore b p n prm imgs₁ bnd₁ i) (sym e) (pairs-none (MatchedWith b p n prm (mapOf (storeOf b p n) imgs₁ bnd₁ i)))
+      forgot (Fits i) = subst (WithBefore b p n prm imgs₁ bnd₁ i) (sym e) (pairs-none (MatchedWith b p n prm (tableMap (storeOf b p n) imgs₁ bnd₁ i)))
       forgot (Misfits i) = tt
 
 ---------------------------------------------------------------- the names taken off
@@ -452,9 +452,9 @@ module _ {b p : List ℕ} {n : ℕ} {prm : List ℕ} {k i : ℕ} (a : CloseAsks 
         record {
           known = omega (arith, q, entry-refs b p n k₁ (a .one .usable) (c .known) r e .below (r .count - 1) (omega (arith, closing-some)));
           ends =
-              ap (λ (s : Sort). lastOf (partsOf s)) (c .ends)
-              ∙ ap lastOf (sym (e n (a .one .usable .stored) (c .known) .parts))
-              ∙ ap (λ (u : ℕ). lastOf (sortsAt b p n b (r .list) u)) f
+              ap (λ (s : Sort). lastSort (partsOf s)) (c .ends)
+              ∙ ap lastSort (sym (e n (a .one .usable .stored) (c .known) .parts))
+              ∙ ap (λ (u : ℕ). lastSort (sortsAt b p n b (r .list) u)) f
               ∙ last-at b p n b (r .list) (r .count - 1)
               ∙ ap (sortAt b p n) (sym q);
           taken = record { long = c .taken .long ∙ t .long; each = λ v. omega (arith, c .taken .each v, t .each v, closing-names v) };

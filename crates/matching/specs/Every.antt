@@ -12,7 +12,7 @@ use Rattle.store.specs.Entry.{EntryHas}
 use Rattle.substitution.specs.Premises.{usual}
 use Rattle.matching.specs.Tables.{listed}
 use Rattle.matching.specs.Contract.{sortsAt, OneAsks, ListAsks, noneOf}
-use Rattle.matching.specs.Notes.{Table}
+use Rattle.matching.specs.Notes.{NoteTable}
 use Rattle.matching.specs.declared.each.Test.{Test}
 use Rattle.matching.specs.declared.each.Test.the-variants.{Known, Proper, Unlisted, Settled, Parless}
 
@@ -74,12 +74,12 @@ BoundFor Unlisted d = Unit {0}
 BoundFor Settled d = length d ≡ 65536
 BoundFor Parless d = Unit {0}
 
-pub record Lent (t : Test) (l d : List ℕ) : Type 0 where
+pub record TestLent (t : Test) (l d : List ℕ) : Type 0 where
   pub listed : ListedFor t l
   pub bound : BoundFor t d
 
 pub record NameAsks (t : Test) (l d : List ℕ) (v : ℕ) : Type 0 where
-  pub lent : Lent t l d
+  pub lent : TestLent t l d
   pub small : v < 65536
 
 pub record ParAsks (t : Test) (l b : List ℕ) (x m : ℕ) : Type 0 where
@@ -87,7 +87,7 @@ pub record ParAsks (t : Test) (l b : List ℕ) (x m : ℕ) : Type 0 where
   pub within : x + 2 * m ≤ length b
 
 pub record PassAsks (t : Test) (l d b : List ℕ) (r : SortRecord) : Type 0 where
-  pub lent : Lent t l d
+  pub lent : TestLent t l d
   pub name : r .name < 65536
   pub names : r .names + 2 * r .named ≤ length b
 
@@ -98,25 +98,25 @@ PassIs t l d b r q = (p : List ℕ) (n k : ℕ) → OneAsks b p n k → EntryHas
 ---------------------------------------------------------------- the walk
 -- What is noted: sorts whose nodes all pass.
 abbrev pub Noted : List ℕ → List ℕ → ℕ → (Sort → Bool) → List ℕ → Type 0
-Noted b p n f o = Table (λ k. every f (sortAt b p n k) ≡ true) o
+Noted b p n f o = NoteTable (λ k. every f (sortAt b p n k) ≡ true) o
 
 pub record EachAsks (b p : List ℕ) (n : ℕ) (t : Test) (l d o : List ℕ) (k : ℕ) : Type 0 where
   pub one : OneAsks b p n k
-  pub lent : Lent t l d
+  pub lent : TestLent t l d
   pub noted : Noted b p n (passing t l d) o
 
 pub record AllEachAsks (b p : List ℕ) (n : ℕ) (t : Test) (l d o : List ℕ) (x m : ℕ) : Type 0 where
   pub list : ListAsks b p n b x m
-  pub lent : Lent t l d
+  pub lent : TestLent t l d
   pub noted : Noted b p n (passing t l d) o
 
 -- THE ANSWER IS v, and the table is right again.
-pub record Found (b p : List ℕ) (n : ℕ) (f : Sort → Bool) (v : Bool) (o : List ℕ) (r : Bool) : Type 0 where
+pub record EveryFound (b p : List ℕ) (n : ℕ) (f : Sort → Bool) (v : Bool) (o : List ℕ) (r : Bool) : Type 0 where
   pub answer : r ≡ v
   pub noted : Noted b p n f o
 
 abbrev pub EachIs : List ℕ → List ℕ → ℕ → Test → List ℕ → List ℕ → ℕ → List ℕ → Bool → Type 0
-EachIs b p n t l d k o r = Found b p n (passing t l d) (every (passing t l d) (sortAt b p n k)) o r
+EachIs b p n t l d k o r = EveryFound b p n (passing t l d) (every (passing t l d) (sortAt b p n k)) o r
 
 abbrev pub AllEachIs : List ℕ → List ℕ → ℕ → Test → List ℕ → List ℕ → ℕ → ℕ → List ℕ → Bool → Type 0
-AllEachIs b p n t l d x m o r = Found b p n (passing t l d) (everyAll (passing t l d) (sortsAt b p n b x m)) o r
+AllEachIs b p n t l d x m o r = EveryFound b p n (passing t l d) (everyAll (passing t l d) (sortsAt b p n b x m)) o r

@@ -15,9 +15,9 @@ use Rattle.substitution.specs.Premises.{proper, properAll, parless, parlessAll}
 use Rattle.matching.specs.Tables.{Lists}
 use Rattle.matching.specs.TableLaws.{listed-is}
 use Rattle.matching.specs.Contract.{OneAsks, noneOf}
-use Rattle.matching.specs.Notes.{Table}
+use Rattle.matching.specs.Notes.{NoteTable}
 use Rattle.matching.specs.NoteLaws.{table-as}
-use Rattle.matching.specs.Every.{every, everyAll, passing, Lent, EachAsks, Found}
+use Rattle.matching.specs.Every.{every, everyAll, passing, TestLent, EachAsks, EveryFound}
 use Rattle.matching.specs.declared.each.Test.{Test}
 use Rattle.matching.specs.declared.each.Test.the-variants.{Known, Proper, Unlisted, Parless}
 
@@ -90,10 +90,10 @@ module _ {l ns : List ℕ} (h : Lists l ns) where
 ---------------------------------------------------------------- the walk for such a function
 -- What was noted of the function is noted of the test.
 pub each-by : {b p : List ℕ} {n k : ℕ} {t : Test} {l d o : List ℕ} {g : Sort → Bool} {h : Sorts → Bool} → Tests (passing t l d) g h
-    → OneAsks b p n k → Lent t l d → Table (λ i. g (sortAt b p n i) ≡ true) o → EachAsks b p n t l d o k
+    → OneAsks b p n k → TestLent t l d → NoteTable (λ i. g (sortAt b p n i) ≡ true) o → EachAsks b p n t l d o k
 each-by {b} {p} {n} c a e t = record { one = a; lent = e; noted = table-as (λ i q. every-is c (sortAt b p n i) ∙ q) t }
 
 -- The walk's answer is the function's.
 pub found-by : {b p : List ℕ} {n : ℕ} {f g : Sort → Bool} {h : Sorts → Bool} {s : Sort} {o : List ℕ} {r : Bool} → Tests f g h
-    → Found b p n f (every f s) o r → (r ≡ g s) × Table (λ i. g (sortAt b p n i) ≡ true) o
+    → EveryFound b p n f (every f s) o r → (r ≡ g s) × NoteTable (λ i. g (sortAt b p n i) ≡ true) o
 found-by {b} {p} {n} {s = s} c a = (a .answer ∙ every-is c s, table-as (λ i q. sym (every-is c (sortAt b p n i)) ∙ q) (a .noted))

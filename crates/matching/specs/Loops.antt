@@ -31,11 +31,11 @@ pub record FitParts (b p : List ℕ) (n k j x y c : ℕ) : Type 0 where
   pub whole : compatibleAll (sortsAt b p n b x c) (sortsAt b p n b y c) ≡ compatible (sortAt b p n k) (sortAt b p n j)
 
 -- WHAT IS TO BE DONE GIVES THE WHOLE.
-abbrev pub FitIs : List ℕ → List ℕ → ℕ → ℕ → ℕ → Fit → Type 0
-FitIs b p n k j Holds = true ≡ compatible (sortAt b p n k) (sortAt b p n j)
-FitIs b p n k j Fails = false ≡ compatible (sortAt b p n k) (sortAt b p n j)
-FitIs b p n k j (On i l) = FitOn b p n k j i l
-FitIs b p n k j (Parts x y c) = FitParts b p n k j x y c
+abbrev pub CompatibleIs : List ℕ → List ℕ → ℕ → ℕ → ℕ → Fit → Type 0
+CompatibleIs b p n k j Holds = true ≡ compatible (sortAt b p n k) (sortAt b p n j)
+CompatibleIs b p n k j Fails = false ≡ compatible (sortAt b p n k) (sortAt b p n j)
+CompatibleIs b p n k j (On i l) = FitOn b p n k j i l
+CompatibleIs b p n k j (Parts x y c) = FitParts b p n k j x y c
 
 ---------------------------------------------------------------- matching by the definition
 -- The pattern k is matched with the target j by matching the c parts at x with those at y.

@@ -11,22 +11,22 @@ use Rattle.substitution.specs.Matching.{andThen}
 use Rattle.substitution.specs.MatchWith.{matchWith}
 use Rattle.matching.specs.Tables.{times, Lists, Added, Mapped}
 use Rattle.matching.specs.Notes.{WithBefore, WithAfter}
-use Rattle.matching.specs.Contract.{sortsAt, OneAsks, PairAsks, countOf, answerOf, WithAsks, WithAllAsks, WithIs, PairWith, PairsWith}
+use Rattle.matching.specs.Contract.{sortsAt, OneAsks, PairAsks, countOf, matchedMap, WithAsks, WithAllAsks, WithIs, PairWith, PairsWith}
 use Rattle.matching.specs.declared.Move.{Move}
 use Rattle.matching.specs.declared.Move.the-variants.{Ends, Under, Past, Parts}
 use Rattle.matching.specs.declared.Walked.{Walked}
 
 ---------------------------------------------------------------- the way
 -- The last sort of a list; of none, a leaf.
-unfoldable pub lastOf : Sorts → Sort
-lastOf end = leaf
-lastOf (s then end) = s
-lastOf (s then (t then ts)) = lastOf (t then ts)
+unfoldable pub lastSort : Sorts → Sort
+lastSort end = leaf
+lastSort (s then end) = s
+lastSort (s then (t then ts)) = lastSort (t then ts)
 
 -- Where i steps from s lead, each to the last part, of a Par to its body; and the names of the Pars left behind.
 unfoldable pub wayEnd : Sort → ℕ → Sort
 wayEnd s zero = s
-wayEnd s (suc i) = lastOf (partsOf (wayEnd s i))
+wayEnd s (suc i) = lastSort (partsOf (wayEnd s i))
 
 unfoldable pub wayNames : Sort → ℕ → List ℕ
 wayNames s zero = []
@@ -56,7 +56,7 @@ pub record Instead (b p : List ℕ) (n : ℕ) (prm imgs bnd : List ℕ) (m k j :
 -- One step down the way, from k to its last part i.
 pub record Leads (b p : List ℕ) (n k i : ℕ) : Type 0 where
   pub some : 0 < count (partsOf (sortAt b p n k))
-  pub last : lastOf (partsOf (sortAt b p n k)) ≡ sortAt b p n i
+  pub last : lastSort (partsOf (sortAt b p n k)) ≡ sortAt b p n i
   pub less : size (sortAt b p n i) < size (sortAt b p n k)
 
 -- The first c parts at x are matched with those at y, then the two behind them: the last of the nodes k and j.
@@ -91,5 +91,5 @@ pub record WalkIs (b p : List ℕ) (n : ℕ) (prm imgs bnd : List ℕ) (m k j : 
   pub added : Added prm (wayNames (sortAt b p n k) (r .down)) prm′
   pub deep : Deep (sortAt b p n k) (r .down)
   pub mapped : Mapped b p n imgs′ bnd′ (countOf (r .found))
-  pub result : (ns : List ℕ) → Lists prm ns → answerOf (storeOf b p n) imgs′ bnd′ (r .found) ≡ PairWith b p n imgs bnd m k j ns
+  pub result : (ns : List ℕ) → Lists prm ns → matchedMap (storeOf b p n) imgs′ bnd′ (r .found) ≡ PairWith b p n imgs bnd m k j ns
   pub noted : r .down ≡ 0 → WithAfter b p n prm imgs′ bnd′ l (r .found)

@@ -11,18 +11,18 @@ use Rattle.record.specs.SortLists.{below-suc}
 use Rattle.reader.specs.declared.Refusal.{Refusal}
 use Rattle.sheet.specs.declared.SheetCounts.{SheetCounts}
 use Rattle.sheet.specs.Sheet.{Sheet, Reading, readSheet, QuestionFields, questionFields}
-use Rattle.sheet.specs.Sheet.Reading.{refused, got}
+use Rattle.sheet.specs.Sheet.Reading.{readRefused, got}
 use Rattle.sheet.specs.Trees.{trees-length}
-use Rattle.sheet.specs.Contract.{eachAt, questionAt, questionsAt, QuestionStands, SheetAccepted}
+use Rattle.sheet.specs.Contract.{eachAt, questionReadAt, questionsAt, QuestionStands, SheetAccepted}
 use Rattle.sheet.specs.Stands.{each-length, question-is}
 use Rattle.printout.specs.Printed.{kindsOf, programLengths}
-use Rattle.printout.specs.Kinds.{Put, Listed, KindsAre}
+use Rattle.printout.specs.Kinds.{KindsPut, Listed, KindsAre}
 
 ---------------------------------------------------------------- the loop
-pub put-none : (s ys kinds : List ℕ) → Put s ys 0 kinds kinds
+pub put-none : (s ys kinds : List ℕ) → KindsPut s ys 0 kinds kinds
 put-none s ys kinds = record { long = refl; each = λ i h. absurd (omega arith) }
 
-pub put-one : (s ys : List ℕ) (c : ℕ) (kinds kinds′ : List ℕ) → c < length kinds → Put s ys c kinds kinds′ → (v : ℕ) → v ≡ getD s (getD ys c 0 + 1) 0 → Put s ys (c + 1) kinds (set kinds′ c v)
+pub put-one : (s ys : List ℕ) (c : ℕ) (kinds kinds′ : List ℕ) → c < length kinds → KindsPut s ys c kinds kinds′ → (v : ℕ) → v ≡ getD s (getD ys c 0 + 1) 0 → KindsPut s ys (c + 1) kinds (set kinds′ c v)
 put-one s ys c kinds kinds′ h p v e =
     record {
       long = length-set kinds′ c v ∙ p .long;
@@ -38,7 +38,7 @@ pub question-inside : (s : List ℕ) (m x : ℕ) → QuestionStands s m x → x 
 question-inside s m x o = omega (arith, o .was .after, o .was .inside)
 
 ---------------------------------------------------------------- the sheet
-question-kind : (s : List ℕ) (ts : List Sort) (m x i : ℕ) → length ts ≡ m → QuestionStands s m x → questionAt s ts i x .kind ≡ getD s (x + 1) 0
+question-kind : (s : List ℕ) (ts : List Sort) (m x i : ℕ) → length ts ≡ m → QuestionStands s m x → questionReadAt s ts i x .kind ≡ getD s (x + 1) 0
 unfolding questionFields
 question-kind s ts m x i e o =
     ap (λ (q : QuestionFields). q .kind) (question-is s m x o (o .fields) (o .next) (o .read) i ts e) ∙ sym (o .was .tag)
@@ -58,7 +58,7 @@ got-sheet {h} {k} e = cc
 
 -- THE SHEET THAT WAS READ is the definition's, so the kinds are those of its questions.
 pub kinds-listed : (s b p ix tbl xs ys : List ℕ) (c : SheetCounts) → SheetAccepted s programLengths b p ix tbl xs ys c
-    → (kinds kinds′ : List ℕ) → 1024 ≤ length kinds → Put s ys (c .questions) kinds kinds′
+    → (kinds kinds′ : List ℕ) → 1024 ≤ length kinds → KindsPut s ys (c .questions) kinds kinds′
     → KindsAre s kinds kinds′ (record { terms = c .terms; questions = c .questions })
 kinds-listed s b p ix tbl xs ys c a kinds kinds′ room put =
     record {
@@ -74,8 +74,8 @@ kinds-listed s b p ix tbl xs ys c a kinds kinds′ room put =
           });
     }
 
-refused-got : {e : Refusal} {h : Sheet} {x : ℕ} → _≡_ {A = Reading Sheet} (refused e) (got h x) → ⊥
+refused-got : {e : Refusal} {h : Sheet} {x : ℕ} → _≡_ {A = Reading Sheet} (readRefused e) (got h x) → ⊥
 refused-got {e} {h} {x} q = let z : _≡_ {A = ℕ} 0 1 = cc in omega arith
 
-pub kinds-refused : (s kinds kinds′ : List ℕ) (e : Refusal) → readSheet s programLengths ≡ refused e → length kinds′ ≡ length kinds → KindsAre s kinds kinds′ (record { terms = 0; questions = 0 })
+pub kinds-refused : (s kinds kinds′ : List ℕ) (e : Refusal) → readSheet s programLengths ≡ readRefused e → length kinds′ ≡ length kinds → KindsAre s kinds kinds′ (record { terms = 0; questions = 0 })
 kinds-refused s kinds kinds′ e q l = record { long = l; accepted = λ h x g. absurd (refused-got (sym q ∙ g)) }

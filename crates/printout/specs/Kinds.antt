@@ -10,7 +10,7 @@ use Rattle.printout.specs.declared.kinds.Totals.{Totals}
 use Rattle.printout.specs.Printed.{kindsOf, programLengths}
 
 -- c question records of a sheet of m sorts stand at the places ys, and there is room for their kinds.
-pub record PutAsks (s ys : List ℕ) (c : ℕ) (kinds : List ℕ) : Type 0 where
+pub record PutKindsAsk (s ys : List ℕ) (c : ℕ) (kinds : List ℕ) : Type 0 where
   pub sorts : ℕ
   pub stands : (i : ℕ) → i < c → QuestionStands s sorts (getD ys i 0)
   pub asked : c ≤ length ys
@@ -19,7 +19,7 @@ pub record PutAsks (s ys : List ℕ) (c : ℕ) (kinds : List ℕ) : Type 0 where
   pub short : length s ≤ 65536
 
 -- The kind of a record is its second byte.
-pub record Put (s ys : List ℕ) (c : ℕ) (kinds kinds′ : List ℕ) : Type 0 where
+pub record KindsPut (s ys : List ℕ) (c : ℕ) (kinds kinds′ : List ℕ) : Type 0 where
   pub long : length kinds′ ≡ length kinds
   pub each : (i : ℕ) → i < c → getD kinds′ i 0 ≡ getD s (getD ys i 0 + 1) 0
 

@@ -8,7 +8,7 @@ use Rattle.printout.specs.declared.Shown.{Shown}
 use Rattle.printout.specs.Text.{ascii, decimal}
 use Rattle.printout.specs.Lines.{termLine, questionLine}
 use Rattle.printout.specs.Wrote.{ShownIs}
-use Rattle.printout.specs.Trees.{TextAsks, rowAt, answerAt}
+use Rattle.printout.specs.Trees.{TextAsks, rowTextAt, answerTextAt}
 
 -- A row that names a sort of the store, or none.
 abbrev pub RowAsks : List ℕ → List ℕ → ℕ → Type 0
@@ -19,25 +19,25 @@ abbrev pub AnswerAsks : List ℕ → List ℕ → ℕ → ℕ → Type 0
 AnswerAsks b p kind code = (kind ≡ 0 → ⊥) → RowAsks b p code
 
 -- The row is of a store of n sorts.
-abbrev pub Known : ℕ → ℕ → Type 0
-Known n code = code < 65536 → code < n
+abbrev pub RowKnown : ℕ → ℕ → Type 0
+RowKnown n code = code < 65536 → code < n
 
 -- WHAT A LINE SHOWS, over the store of n sorts that its rows or its answer are of.
 abbrev pub TermHas : List ℕ → List ℕ → ℕ → ℕ → ℕ → List ℕ → ℕ → List ℕ → Shown → Type 0
 TermHas b p t i c o to o′ r =
-    (n : ℕ) → Known n i → Known n c → ShownIs o to (termLine (storeOf b p n) t i c) o′ r
+    (n : ℕ) → RowKnown n i → RowKnown n c → ShownIs o to (termLine (storeOf b p n) t i c) o′ r
 
 abbrev pub QuestionHas : List ℕ → List ℕ → ℕ → ℕ → ℕ → List ℕ → ℕ → List ℕ → Shown → Type 0
 QuestionHas b p q kind code o to o′ r =
-    (n : ℕ) → ((kind ≡ 0 → ⊥) → Known n code) → ShownIs o to (questionLine (storeOf b p n) q kind code) o′ r
+    (n : ℕ) → ((kind ≡ 0 → ⊥) → RowKnown n code) → ShownIs o to (questionLine (storeOf b p n) q kind code) o′ r
 
-pub record TermAsks (b p : List ℕ) (t i c : ℕ) (o : List ℕ) (to : ℕ) : Type 0 where
+pub record TermLineAsks (b p : List ℕ) (t i c : ℕ) (o : List ℕ) (to : ℕ) : Type 0 where
   pub number : t < 100000
   pub inferred : RowAsks b p i
   pub checked : RowAsks b p c
   pub within : to ≤ length o
 
-pub record QuestionAsks (b p : List ℕ) (q kind code : ℕ) (o : List ℕ) (to : ℕ) : Type 0 where
+pub record QuestionLineAsks (b p : List ℕ) (q kind code : ℕ) (o : List ℕ) (to : ℕ) : Type 0 where
   pub number : q < 100000
   pub answer : AnswerAsks b p kind code
   pub within : to ≤ length o
@@ -48,10 +48,10 @@ unfolding decimal
 labelText mark v = (mark ∷ decimal v) ++ ascii " "
 
 -- The lines, over as much of the store as each row names.
-unfoldable pub termAt : List ℕ → List ℕ → ℕ → ℕ → ℕ → List ℕ
+unfoldable pub termLineAt : List ℕ → List ℕ → ℕ → ℕ → ℕ → List ℕ
 unfolding labelText
-termAt b p t i c = labelText 84 t ++ (rowAt b p i ++ (ascii " " ++ (rowAt b p c ++ ascii "\n")))
+termLineAt b p t i c = labelText 84 t ++ (rowTextAt b p i ++ (ascii " " ++ (rowTextAt b p c ++ ascii "\n")))
 
-unfoldable pub questionAt : List ℕ → List ℕ → ℕ → ℕ → ℕ → List ℕ
+unfoldable pub questionLineAt : List ℕ → List ℕ → ℕ → ℕ → ℕ → List ℕ
 unfolding labelText
-questionAt b p q kind code = labelText 81 q ++ (answerAt b p kind code ++ ascii "\n")
+questionLineAt b p q kind code = labelText 81 q ++ (answerTextAt b p kind code ++ ascii "\n")

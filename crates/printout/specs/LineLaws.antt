@@ -11,23 +11,23 @@ use Rattle.record.specs.Sort.{Sort}
 use Rattle.record.specs.Decode.{storeOf, sortAt}
 use Rattle.printout.specs.Text.{ascii, decimal, text}
 use Rattle.printout.specs.Lines.{refusalText, refusalLine, rowText, answerText, termLine, questionLine}
-use Rattle.printout.specs.Trees.{treeAt, rowAt, answerAt}
+use Rattle.printout.specs.Trees.{treeAt, rowTextAt, answerTextAt}
 use Rattle.printout.specs.TreeLaws.{tree-at}
-use Rattle.printout.specs.Wrote.{Wrote, wrote-as, total, Room}
+use Rattle.printout.specs.Wrote.{Wrote, wrote-as, total, TextRoom}
 use Rattle.printout.specs.declared.Shown.the-variants.{To, Full}
-use Rattle.printout.specs.LineAsks.{Known, TermAsks, TermHas, QuestionAsks, QuestionHas, labelText, termAt, questionAt}
+use Rattle.printout.specs.LineAsks.{RowKnown, TermLineAsks, TermHas, QuestionLineAsks, QuestionHas, labelText, termLineAt, questionLineAt}
 
 pub refusal-length : (n : ℕ) → length (refusalText n) ≡ 1 + length (decimal n)
 unfolding refusalText
 refusal-length n = omega arith
 
-pub row-sort : (b p : List ℕ) (code : ℕ) → code < 65536 → rowAt b p code ≡ text (treeAt b p code)
+pub row-sort : (b p : List ℕ) (code : ℕ) → code < 65536 → rowTextAt b p code ≡ text (treeAt b p code)
 unfolding rowText treeAt sortAt
 row-sort b p code h = rw (lt-ltb code 65536 h)
 
-pub row-refused : (b p : List ℕ) (code : ℕ) → 65536 ≤ code → rowAt b p code ≡ refusalText (code / 65536)
+pub row-text-refused : (b p : List ℕ) (code : ℕ) → 65536 ≤ code → rowTextAt b p code ≡ refusalText (code / 65536)
 unfolding rowText
-row-refused b p code h = rw (le-ltb code 65536 h)
+row-text-refused b p code h = rw (le-ltb code 65536 h)
 
 pub sort-by : (b p : List ℕ) (n code : ℕ) → code < 65536 → rowText (storeOf b p n) code ≡ text (sortAt b p n code)
 unfolding rowText sortAt
@@ -38,22 +38,22 @@ unfolding rowText
 refused-by st code h = rw (le-ltb code 65536 h)
 
 -- A ROW over any store that has its sort.
-pub row-at : (b p : List ℕ) (n code : ℕ) → Known n code → rowAt b p code ≡ rowText (storeOf b p n) code
+pub row-at : (b p : List ℕ) (n code : ℕ) → RowKnown n code → rowTextAt b p code ≡ rowText (storeOf b p n) code
 row-at b p n code k = go (ltb code 65536) refl
   where
-    go : (t : Bool) → ltb code 65536 ≡ t → rowAt b p code ≡ rowText (storeOf b p n) code
+    go : (t : Bool) → ltb code 65536 ≡ t → rowTextAt b p code ≡ rowText (storeOf b p n) code
     go true e =
         let h = ltb-true code 65536 e in
         row-sort b p code h ∙ ap text (tree-at b p code n (k h)) ∙ sym (sort-by b p n code h)
     go false e =
         let h = ltb-false code 65536 e in
-        row-refused b p code h ∙ sym (refused-by (storeOf b p n) code h)
+        row-text-refused b p code h ∙ sym (refused-by (storeOf b p n) code h)
 
-pub answer-no : (b p : List ℕ) (kind code : ℕ) → kind ≡ 0 → code ≡ 0 → answerAt b p kind code ≡ ascii "no"
+pub answer-no : (b p : List ℕ) (kind code : ℕ) → kind ≡ 0 → code ≡ 0 → answerTextAt b p kind code ≡ ascii "no"
 unfolding answerText
 answer-no b p kind code e q = rw (eq-eqb kind 0 e, eq-eqb code 0 q)
 
-pub answer-yes : (b p : List ℕ) (kind code : ℕ) → kind ≡ 0 → (code ≡ 0 → ⊥) → answerAt b p kind code ≡ ascii "yes"
+pub answer-yes : (b p : List ℕ) (kind code : ℕ) → kind ≡ 0 → (code ≡ 0 → ⊥) → answerTextAt b p kind code ≡ ascii "yes"
 unfolding answerText
 answer-yes b p kind code e q = rw (eq-eqb kind 0 e, ne-eqb code 0 q)
 
@@ -61,7 +61,7 @@ row-by : (st : List Sort) (kind code : ℕ) → (kind ≡ 0 → ⊥) → answerT
 unfolding answerText
 row-by st kind code h = rw (ne-eqb kind 0 h)
 
-pub answer-row : (b p : List ℕ) (kind code : ℕ) → (kind ≡ 0 → ⊥) → answerAt b p kind code ≡ rowAt b p code
+pub answer-row : (b p : List ℕ) (kind code : ℕ) → (kind ≡ 0 → ⊥) → answerTextAt b p kind code ≡ rowTextAt b p code
 answer-row b p kind code h = row-by (storeOf b p (suc code)) kind code h
 
 plain-by : (st ts : List Sort) (kind code : ℕ) → kind ≡ 0 → answerText st kind code ≡ answerText ts kind code
@@ -69,10 +69,10 @@ unfolding answerText
 plain-by st ts kind code e = rw (eq-eqb kind 0 e)
 
 -- AN ANSWER over any store that has its sort.
-pub answer-at : (b p : List ℕ) (n kind code : ℕ) → ((kind ≡ 0 → ⊥) → Known n code) → answerAt b p kind code ≡ answerText (storeOf b p n) kind code
+pub answer-at : (b p : List ℕ) (n kind code : ℕ) → ((kind ≡ 0 → ⊥) → RowKnown n code) → answerTextAt b p kind code ≡ answerText (storeOf b p n) kind code
 answer-at b p n kind code k = go (eqb kind 0) refl
   where
-    go : (t : Bool) → eqb kind 0 ≡ t → answerAt b p kind code ≡ answerText (storeOf b p n) kind code
+    go : (t : Bool) → eqb kind 0 ≡ t → answerTextAt b p kind code ≡ answerText (storeOf b p n) kind code
     go true e = plain-by (storeOf b p (suc code)) (storeOf b p n) kind code (eqb-true kind 0 e)
     go false e =
         let h = eqb-false kind 0 e in
@@ -83,70 +83,70 @@ unfolding labelText
 label-length mark v = omega (arith, length-append (mark ∷ decimal v) (ascii " "))
 
 -- THE LINE OF A TERM.
-pub term-at : (b p : List ℕ) (n t i c : ℕ) → Known n i → Known n c → termAt b p t i c ≡ termLine (storeOf b p n) t i c
-unfolding termAt labelText termLine
+pub term-at : (b p : List ℕ) (n t i c : ℕ) → RowKnown n i → RowKnown n c → termLineAt b p t i c ≡ termLine (storeOf b p n) t i c
+unfolding termLineAt labelText termLine
 term-at b p n t i c ki kc =
-    let rest = rowAt b p i ++ (ascii " " ++ (rowAt b p c ++ ascii "\n")) in
+    let rest = rowTextAt b p i ++ (ascii " " ++ (rowTextAt b p c ++ ascii "\n")) in
     append-assoc (84 ∷ decimal t) (ascii " ") rest
     ∙ ap₂ (λ (x y : List ℕ). ascii "T" ++ (decimal t ++ (ascii " " ++ (x ++ (ascii " " ++ (y ++ ascii "\n"))))))
     (row-at b p n i ki) (row-at b p n c kc)
 
-pub term-length : (b p : List ℕ) (t i c : ℕ) → length (termAt b p t i c) ≡ 4 + length (decimal t) + length (rowAt b p i) + length (rowAt b p c)
-unfolding termAt
+pub term-length : (b p : List ℕ) (t i c : ℕ) → length (termLineAt b p t i c) ≡ 4 + length (decimal t) + length (rowTextAt b p i) + length (rowTextAt b p c)
+unfolding termLineAt
 term-length b p t i c =
-    let last = rowAt b p c ++ ascii "\n" in
+    let last = rowTextAt b p c ++ ascii "\n" in
     omega (
       arith,
       label-length 84 t,
-      length-append (labelText 84 t) (rowAt b p i ++ (ascii " " ++ last)),
-      length-append (rowAt b p i) (ascii " " ++ last),
-      length-append (rowAt b p c) (ascii "\n"),
+      length-append (labelText 84 t) (rowTextAt b p i ++ (ascii " " ++ last)),
+      length-append (rowTextAt b p i) (ascii " " ++ last),
+      length-append (rowTextAt b p c) (ascii "\n"),
     )
 
 -- It does not fit, or there is room for its pieces.
-module _ {b p o : List ℕ} {t i c to : ℕ} (a : TermAsks b p t i c o to) {d x y : ℕ} (ed : d ≡ length (decimal t)) (ex : x ≡ length (rowAt b p i))
-    (ey : y ≡ length (rowAt b p c)) where
+module _ {b p o : List ℕ} {t i c to : ℕ} (a : TermLineAsks b p t i c o to) {d x y : ℕ} (ed : d ≡ length (decimal t)) (ex : x ≡ length (rowTextAt b p i))
+    (ey : y ≡ length (rowTextAt b p c)) where
   pub term-full : length o - to < 4 + d + x + y → TermHas b p t i c o to o Full
   term-full h n ki kc = (refl, omega (arith, term-length b p t i c, ap length (term-at b p n t i c ki kc)))
 
-  pub term-room : 4 + d + x + y ≤ length o - to → Room o to (labelText 84 t ∷ rowAt b p i ∷ ascii " " ∷ rowAt b p c ∷ ascii "\n" ∷ [])
+  pub term-room : 4 + d + x + y ≤ length o - to → TextRoom o to (labelText 84 t ∷ rowTextAt b p i ∷ ascii " " ∷ rowTextAt b p c ∷ ascii "\n" ∷ [])
   unfolding total
   term-room h = record { fits = omega (arith, label-length 84 t, a .within) }
 
 pub term-wrote : (b p : List ℕ) (t i c : ℕ) {o : List ℕ} {to : ℕ} {o′ : List ℕ} {e : ℕ}
-    → Wrote o to (labelText 84 t ++ (rowAt b p i ++ (ascii " " ++ (rowAt b p c ++ ascii "\n")))) o′ e → TermHas b p t i c o to o′ (To e)
-unfolding termAt
+    → Wrote o to (labelText 84 t ++ (rowTextAt b p i ++ (ascii " " ++ (rowTextAt b p c ++ ascii "\n")))) o′ e → TermHas b p t i c o to o′ (To e)
+unfolding termLineAt
 term-wrote b p t i c w n ki kc = wrote-as (term-at b p n t i c ki kc) w
 
 -- THE LINE OF A QUESTION.
-pub question-at : (b p : List ℕ) (n q kind code : ℕ) → ((kind ≡ 0 → ⊥) → Known n code) → questionAt b p q kind code ≡ questionLine (storeOf b p n) q kind code
-unfolding questionAt labelText questionLine
+pub question-at : (b p : List ℕ) (n q kind code : ℕ) → ((kind ≡ 0 → ⊥) → RowKnown n code) → questionLineAt b p q kind code ≡ questionLine (storeOf b p n) q kind code
+unfolding questionLineAt labelText questionLine
 question-at b p n q kind code k =
-    append-assoc (81 ∷ decimal q) (ascii " ") (answerAt b p kind code ++ ascii "\n")
+    append-assoc (81 ∷ decimal q) (ascii " ") (answerTextAt b p kind code ++ ascii "\n")
     ∙ ap (λ (x : List ℕ). ascii "Q" ++ (decimal q ++ (ascii " " ++ (x ++ ascii "\n")))) (answer-at b p n kind code k)
 
-pub question-length : (b p : List ℕ) (q kind code : ℕ) → length (questionAt b p q kind code) ≡ 3 + length (decimal q) + length (answerAt b p kind code)
-unfolding questionAt
+pub question-length : (b p : List ℕ) (q kind code : ℕ) → length (questionLineAt b p q kind code) ≡ 3 + length (decimal q) + length (answerTextAt b p kind code)
+unfolding questionLineAt
 question-length b p q kind code =
     omega (
       arith,
       label-length 81 q,
-      length-append (labelText 81 q) (answerAt b p kind code ++ ascii "\n"),
-      length-append (answerAt b p kind code) (ascii "\n"),
+      length-append (labelText 81 q) (answerTextAt b p kind code ++ ascii "\n"),
+      length-append (answerTextAt b p kind code) (ascii "\n"),
     )
 
-module _ {b p o : List ℕ} {q kind code to : ℕ} (a : QuestionAsks b p q kind code o to) {d x : ℕ} (ed : d ≡ length (decimal q))
-    (ex : x ≡ length (answerAt b p kind code)) where
+module _ {b p o : List ℕ} {q kind code to : ℕ} (a : QuestionLineAsks b p q kind code o to) {d x : ℕ} (ed : d ≡ length (decimal q))
+    (ex : x ≡ length (answerTextAt b p kind code)) where
   pub question-full : length o - to < 3 + d + x → QuestionHas b p q kind code o to o Full
   question-full h n k = (refl, omega (arith, question-length b p q kind code, ap length (question-at b p n q kind code k)))
 
-  pub question-room : 3 + d + x ≤ length o - to → Room o to (labelText 81 q ∷ answerAt b p kind code ∷ ascii "\n" ∷ [])
+  pub question-room : 3 + d + x ≤ length o - to → TextRoom o to (labelText 81 q ∷ answerTextAt b p kind code ∷ ascii "\n" ∷ [])
   unfolding total
   question-room h = record { fits = omega (arith, label-length 81 q, a .within) }
 
 pub question-wrote : (b p : List ℕ) (q kind code : ℕ) {o : List ℕ} {to : ℕ} {o′ : List ℕ} {e : ℕ}
-    → Wrote o to (labelText 81 q ++ (answerAt b p kind code ++ ascii "\n")) o′ e → QuestionHas b p q kind code o to o′ (To e)
-unfolding questionAt
+    → Wrote o to (labelText 81 q ++ (answerTextAt b p kind code ++ ascii "\n")) o′ e → QuestionHas b p q kind code o to o′ (To e)
+unfolding questionLineAt
 question-wrote b p q kind code w n k = wrote-as (question-at b p n q kind code k) w
 
 -- THE LINE OF A REFUSED SHEET.

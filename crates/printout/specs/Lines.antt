@@ -69,7 +69,7 @@ sortRoom = 456 * 4096
 abbrev pub checkedRoom : ℕ
 checkedRoom = 17 * 4096 + 439
 
--- ANY LINE of a judged sheet (`line-short` of crate text): the longest is a term's, with its two sorts and 7 bytes more; rounded up to
+-- ANY LINE of a judged sheet (`line-short` of crate printout_text): the longest is a term's, with its two sorts and 7 bytes more; rounded up to
 -- a multiple of 64.
 abbrev pub lineRoom : ℕ
 lineRoom = 1937856

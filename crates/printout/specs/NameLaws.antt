@@ -6,7 +6,7 @@ use native.Mathlib.Omega.{arith}
 use lib.ListN.{length, length-append}
 use Rattle.record.specs.Number.{u16At, numbersAt}
 use Rattle.printout.specs.Text.{ascii, decimal, nameText, moreNames, namesText}
-use Rattle.printout.specs.Wrote.{Left, Wrote, wrote-as, total, Room}
+use Rattle.printout.specs.Wrote.{TextLeft, Wrote, wrote-as, total, TextRoom}
 
 pub name-none : (a : ℕ) → a ≡ 0 → nameText a ≡ ascii "?"
 unfolding nameText
@@ -44,7 +44,7 @@ names-own b x m h =
     ∙ append-assoc (nameText (u16At b x)) (moreNames (numbersAt b (x + 2) (m - 1))) (ascii ")")
 
 pub names-room : (b : List ℕ) (x m : ℕ) (o : List ℕ) (to : ℕ) → 0 < m → to + length (namesText (numbersAt b x m) ++ ascii ")") ≤ length o
-    → Room o to (nameText (u16At b x) ∷ moreNames (numbersAt b (x + 2) (m - 1)) ∷ ascii ")" ∷ [])
+    → TextRoom o to (nameText (u16At b x) ∷ moreNames (numbersAt b (x + 2) (m - 1)) ∷ ascii ")" ∷ [])
 unfolding total
 names-room b x m o to h r =
     let rest = moreNames (numbersAt b (x + 2) (m - 1)) in
@@ -71,13 +71,13 @@ names-bracket b x m h =
     )
 
 -- Counting: what is counted and what is left make the whole, of at most 7 bytes a name.
-pub record NamesInv (b : List ℕ) (at m sum next left : ℕ) : Type 0 where
+pub record NamesSizeInv (b : List ℕ) (at m sum next left : ℕ) : Type 0 where
   pub within : next + 2 * left ≤ length b
   pub all : sum + length (moreNames (numbersAt b next left)) ≡ length (moreNames (numbersAt b at m))
   pub most : sum + 7 * left ≤ 448
 
-pub names-step : (b : List ℕ) (at m sum next left v r : ℕ) → NamesInv b at m sum next left → 0 < left → v ≡ u16At b next
-    → r ≡ length (nameText v) → r ≤ 6 → NamesInv b at m (sum + (1 + r)) (next + 2) (left - 1)
+pub names-step : (b : List ℕ) (at m sum next left v r : ℕ) → NamesSizeInv b at m sum next left → 0 < left → v ≡ u16At b next
+    → r ≡ length (nameText v) → r ≤ 6 → NamesSizeInv b at m (sum + (1 + r)) (next + 2) (left - 1)
 names-step b at m sum next left v r i h e q l =
     record {
       within = omega (arith, i .within);
@@ -94,16 +94,16 @@ names-step b at m sum next left v r i h e q l =
     }
 
 -- Writing: what is left to write gives the whole.
-pub record PutInv (b : List ℕ) (at m : ℕ) (o : List ℕ) (to : ℕ) (o′ : List ℕ) (e next left : ℕ) : Type 0 where
+pub record NamesPutInv (b : List ℕ) (at m : ℕ) (o : List ℕ) (to : ℕ) (o′ : List ℕ) (e next left : ℕ) : Type 0 where
   pub within : next + 2 * left ≤ length b
-  pub rest : Left o to (moreNames (numbersAt b at m)) o′ e (moreNames (numbersAt b next left))
+  pub rest : TextLeft o to (moreNames (numbersAt b at m)) o′ e (moreNames (numbersAt b next left))
 
-pub put-left : (b : List ℕ) (at m : ℕ) (o : List ℕ) (to : ℕ) (o′ : List ℕ) (e next left : ℕ) → PutInv b at m o to o′ e next left → 0 < left
-    → Left o to (moreNames (numbersAt b at m)) o′ e ((ascii " " ++ nameText (u16At b next)) ++ moreNames (numbersAt b (next + 2) (left - 1)))
+pub put-left : (b : List ℕ) (at m : ℕ) (o : List ℕ) (to : ℕ) (o′ : List ℕ) (e next left : ℕ) → NamesPutInv b at m o to o′ e next left → 0 < left
+    → TextLeft o to (moreNames (numbersAt b at m)) o′ e ((ascii " " ++ nameText (u16At b next)) ++ moreNames (numbersAt b (next + 2) (left - 1)))
 put-left b at m o to o′ e next left i h = rw (names-more b next left h) at (i .rest)
 
 -- There is room for the blank and the name.
-pub put-room : (b : List ℕ) (at m : ℕ) (o : List ℕ) (to : ℕ) (o′ : List ℕ) (e next left : ℕ) → PutInv b at m o to o′ e next left → 0 < left
+pub put-room : (b : List ℕ) (at m : ℕ) (o : List ℕ) (to : ℕ) (o′ : List ℕ) (e next left : ℕ) → NamesPutInv b at m o to o′ e next left → 0 < left
     → e + 1 + length (nameText (u16At b next)) ≤ length o′
 put-room b at m o to o′ e next left i h =
     let l = put-left b at m o to o′ e next left i h in

@@ -1,7 +1,7 @@
 -- Whole sheets from their bytes to their printed bytes, by computation from the definitions.
 use mathlib.Core.Path.{_≡_, refl}
 use mathlib.Core.List.{[], _∷_}
-use Rattle.judged.specs.Judged.{judged}
+use Rattle.judge_rules.specs.Judged.{judged}
 use Rattle.printout.specs.Text.{ascii}
 use Rattle.printout.specs.Printed.{printed, programLengths}
 
@@ -20,8 +20,8 @@ unfolding printed judged
 k12 = refl
 
 -- A store with one place keeps Int and has no room for Bool: 1, True, (+ 1 1).
-pub full : printed (judged (0 ∷ 0 ∷ 3 ∷ 0 ∷ 0 ∷ 0 ∷ 5 ∷ 0 ∷ 1 ∷ 0 ∷ 0 ∷ 0 ∷ 21 ∷ 7 ∷ 0 ∷ 0 ∷ 0 ∷ 0 ∷ 0
+pub fullStore : printed (judged (0 ∷ 0 ∷ 3 ∷ 0 ∷ 0 ∷ 0 ∷ 5 ∷ 0 ∷ 1 ∷ 0 ∷ 0 ∷ 0 ∷ 21 ∷ 7 ∷ 0 ∷ 0 ∷ 0 ∷ 0 ∷ 0
     ∷ 21 ∷ 7 ∷ 10 ∷ 0 ∷ 0 ∷ 0 ∷ 2 ∷ 0 ∷ 0 ∷ 0 ∷ 0 ∷ []) (record { records = 65536; places = 1; rows = 8192; answers = 1024 }))
     ≡ ascii "T0 Int Int\nT1 !23 !23\nT2 Int Int\n"
 unfolding printed judged
-full = refl
+fullStore = refl

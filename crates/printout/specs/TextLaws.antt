@@ -22,7 +22,7 @@ use Rattle.printout.specs.Text.{ascii, decimal, nameText, moreNames, nam
 use Rattle.printout.specs.DecimalLaws.{ten, decimal-one, decimal-more}
 use Rattle.printout.specs.Pieces.{formOf, inners, innerBy, innerText}
 use Rattle.printout.specs.Lines.{rowText, answerText, termLine, questionLine, sortRoom, checkedRoom, lineRoom}
-use Rattle.printout.specs.LineAsks.{Known}
+use Rattle.printout.specs.LineAsks.{RowKnown}
 use Rattle.printout.specs.LineLaws.{sort-by, refused-by, refusal-length}
 use Rattle.printout.specs.PieceLaws.{pieces-text, pieces-length, innerMosts, frame-most, form-below, form-par, names-form}
 
@@ -213,7 +213,7 @@ module _ (b p : List ℕ) (n : ℕ) (stored : Stored b p n) (bytes : Bytes b) wh
             decimal-short (code / 65536) (omega arith),
           )
 
-  module _ (code : ℕ) (u32 : code < 4294967296) (known : Known n code) (small : code < 65536 → size (sortAt b p n code) ≤ 4096) where
+  module _ (code : ℕ) (u32 : code < 4294967296) (known : RowKnown n code) (small : code < 65536 → size (sortAt b p n code) ≤ 4096) where
     pub row-fits : length (rowText (storeOf b p n) code) < sortRoom
     row-fits = row-by sortRoom code u32 (omega arith) (λ h. text-fits code (known h) (small h))
 

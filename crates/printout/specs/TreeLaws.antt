@@ -18,19 +18,19 @@ use Rattle.store.specs.Walk.{walk-size, size-pos}
 use Rattle.printout.specs.Text.{ascii, text, texts}
 use Rattle.printout.specs.Pieces.{formOf, wordText, closeText, frames, piecesText}
 use Rattle.printout.specs.PieceLaws.{pieces-text, pieces-length, form-below, form-par, names-form, own-short, after}
-use Rattle.printout.specs.Wrote.{Wrote, wrote-as, total, Room}
-use Rattle.printout.specs.Trees.{treeAt, treesAt, innerOf, TextAsks, TextsAsk, InnerAsks, InnerIs, TextIs, TextsAre}
+use Rattle.printout.specs.Wrote.{Wrote, wrote-as, total, TextRoom}
+use Rattle.printout.specs.Trees.{treeAt, treesAt, innerTextOf, TextAsks, TextsAsk, InnerAsks, InnerIs, TextSizeIs, TextsAre}
 
 -- THE SORT k, whatever the count of the store's sorts is.
 pub tree-at : (b p : List ℕ) (k n : ℕ) → k < n → treeAt b p k ≡ sortAt b p n k
 unfolding treeAt
 tree-at b p k n l = sort-made b p k (suc k) (omega arith) ∙ sym (sort-made b p k n l)
 
-pub trees-at : (b p : List ℕ) (n : ℕ) (l : List ℕ) → ((j : ℕ) → j < length l → getD l j 0 < n) → sortsOf (storeOf b p n) l ≡ treesAt b p l
+pub trees-known : (b p : List ℕ) (n : ℕ) (l : List ℕ) → ((j : ℕ) → j < length l → getD l j 0 < n) → sortsOf (storeOf b p n) l ≡ treesAt b p l
 unfolding treesAt sortsOf sortAt
-trees-at b p n [] h = refl
-trees-at b p n (r ∷ l) h =
-    ap₂ _then_ (sym (tree-at b p r n (h 0 (omega arith)))) (trees-at b p n l (λ j q. h (suc j) (omega arith)))
+trees-known b p n [] h = refl
+trees-known b p n (r ∷ l) h =
+    ap₂ _then_ (sym (tree-at b p r n (h 0 (omega arith)))) (trees-known b p n l (λ j q. h (suc j) (omega arith)))
 
 -- The law of a list of numbers.
 pub trees-none : (b p : List ℕ) (x m : ℕ) → m ≡ 0 → treesAt b p (numbersAt b x m) ≡ end
@@ -64,7 +64,7 @@ text-as b p q w = wrote-as (ap (λ (i : ℕ). text (treeAt b p i)) q) w
 
 -- Room for a list is room for a blank, its first sort and the rest.
 pub texts-room : (b p : List ℕ) (x m : ℕ) (o : List ℕ) (to : ℕ) → (m ≡ 0 → ⊥) → to + length (texts (treesAt b p (numbersAt b x m))) ≤ length o
-    → Room o to (ascii " " ∷ text (treeAt b p (u16At b x)) ∷ texts (treesAt b p (numbersAt b (x + 2) (m - 1))) ∷ [])
+    → TextRoom o to (ascii " " ∷ text (treeAt b p (u16At b x)) ∷ texts (treesAt b p (numbersAt b (x + 2) (m - 1))) ∷ [])
 unfolding total
 texts-room b p x m o to h r =
     let first = text (treeAt b p (u16At b x)) in
@@ -129,7 +129,7 @@ module _ {b p : List ℕ} {k : ℕ} (a : TextAsks b p k) {r : SortRecord} (e : E
       omega (arith, number-at b (r .list) (r .count) j q, e .below j q)
 
   trees : sortsOf (storeOf b p (suc k)) numbers ≡ treesAt b p numbers
-  trees = trees-at b p (suc k) numbers below
+  trees = trees-known b p (suc k) numbers below
 
   parts : partsOf (treeAt b p k) ≡ treesAt b p numbers
   unfolding treeAt
@@ -151,7 +151,7 @@ module _ {b p : List ℕ} {k : ℕ} (a : TextAsks b p k) {r : SortRecord} (e : E
 
   -- room for the text is room for its pieces
   pub entry-room : (o : List ℕ) (to : ℕ) → to + length (text (treeAt b p k)) ≤ length o
-      → Room o to (wordText form ∷ innerOf b form r ∷ texts (treesAt b p numbers) ∷ closeText form ∷ [])
+      → TextRoom o to (wordText form ∷ innerTextOf b form r ∷ texts (treesAt b p numbers) ∷ closeText form ∷ [])
   unfolding piecesText total
   entry-room o to h =
       let ts = texts (treesAt b p numbers) in
@@ -160,27 +160,27 @@ module _ {b p : List ℕ} {k : ℕ} (a : TextAsks b p k) {r : SortRecord} (e : E
             omega (
               arith,
               ap length entry-text,
-              length-append (wordText form) (innerOf b form r ++ (ts ++ closeText form)),
-              length-append (innerOf b form r) (ts ++ closeText form),
+              length-append (wordText form) (innerTextOf b form r ++ (ts ++ closeText form)),
+              length-append (innerTextOf b form r) (ts ++ closeText form),
               length-append ts (closeText form),
             );
       }
 
   pub entry-wrote : {o : List ℕ} {to : ℕ} {o′ : List ℕ} {d : ℕ}
-      → Wrote o to (wordText form ++ (innerOf b form r ++ (texts (treesAt b p numbers) ++ closeText form))) o′ d → Wrote o to (text (treeAt b p k)) o′ d
+      → Wrote o to (wordText form ++ (innerTextOf b form r ++ (texts (treesAt b p numbers) ++ closeText form))) o′ d → Wrote o to (text (treeAt b p k)) o′ d
   unfolding piecesText
   entry-wrote w = wrote-as (sym entry-text) w
 
   pub entry-form : form < 17
   entry-form = subst (λ (f : ℕ). f < 17) (sym is) (form-below (r .kind) (r .count) (shape .known))
 
-  pub entry-size : size (treeAt b p k) ≡ 1 + sizes (treesAt b p numbers)
+  pub entry-text-size : size (treeAt b p k) ≡ 1 + sizes (treesAt b p numbers)
   unfolding treeAt
-  entry-size =
+  entry-text-size =
       walk-size b p (suc k) k (a .stored) (omega arith) r e ∙ ap (λ (ss : Sorts). 1 + sizes ss) trees
 
   pub entry-falls : (t : ℕ) → 2 * size (treeAt b p k) ≡ t → 2 * sizes (treesAt b p numbers) + 1 < t
-  entry-falls t q = omega (arith, entry-size)
+  entry-falls t q = omega (arith, entry-text-size)
 
   pub inner-asks : InnerAsks b form r
   inner-asks =
@@ -203,11 +203,11 @@ module _ {b p : List ℕ} {k : ℕ} (a : TextAsks b p k) {r : SortRecord} (e : E
       record {
         within = e .place .list;
         stored = λ j l. stored-first b p (suc (u16At b (r .list + 2 * j))) (suc k) (omega (arith, e .below j l)) (a .stored);
-        small = omega (arith, entry-size, a .small);
+        small = omega (arith, entry-text-size, a .small);
       }
 
   pub entry-length : {z i t : ℕ} → z ≡ getD frames form 0 → InnerIs b form r i → TextsAre (texts (treesAt b p numbers)) (sizes (treesAt b p numbers)) t
-      → TextIs (text (treeAt b p k)) (size (treeAt b p k)) (z + i + t)
+      → TextSizeIs (text (treeAt b p k)) (size (treeAt b p k)) (z + i + t)
   entry-length {z} {i} {t} ez ei et =
       record {
         is =
@@ -219,15 +219,15 @@ module _ {b p : List ℕ} {k : ℕ} (a : TextAsks b p k) {r : SortRecord} (e : E
               ap length entry-text,
               pieces-length form (r .name) (r .number) (numbersAt b (r .names) (r .named)) (texts (treesAt b p numbers)) entry-form,
             );
-        most = omega (arith, ez, et .most, own-short form i entry-form (ei .most) (ei .low), entry-size);
+        most = omega (arith, ez, et .most, own-short form i entry-form (ei .most) (ei .low), entry-text-size);
       }
 
 -- The length of a list: a blank, its first, and the rest.
-pub list-length : (b p : List ℕ) (x m k : ℕ) {f t : ℕ} → (m ≡ 0 → ⊥) → k ≡ u16At b x → TextIs (text (treeAt b p k)) (size (treeAt b p k)) f
+pub list-length : (b p : List ℕ) (x m k : ℕ) {f t : ℕ} → (m ≡ 0 → ⊥) → k ≡ u16At b x → TextSizeIs (text (treeAt b p k)) (size (treeAt b p k)) f
     → TextsAre (texts (treesAt b p (numbersAt b (x + 2) (m - 1)))) (sizes (treesAt b p (numbersAt b (x + 2) (m - 1)))) t
     → TextsAre (texts (treesAt b p (numbersAt b x m))) (sizes (treesAt b p (numbersAt b x m))) (1 + f + t)
 list-length b p x m k {f} {t} h q eq et =
-    let ef : TextIs (text (treeAt b p (u16At b x))) (size (treeAt b p (u16At b x))) f = rw q at eq in
+    let ef : TextSizeIs (text (treeAt b p (u16At b x))) (size (treeAt b p (u16At b x))) f = rw q at eq in
     record {
       is =
           omega (

@@ -22,11 +22,11 @@ treesAt b p [] = end
 treesAt b p (r ∷ rs) = treeAt b p r then treesAt b p rs
 
 -- A row and an answer, over as much of the store as they name.
-abbrev pub rowAt : List ℕ → List ℕ → ℕ → List ℕ
-rowAt b p code = rowText (storeOf b p (suc code)) code
+abbrev pub rowTextAt : List ℕ → List ℕ → ℕ → List ℕ
+rowTextAt b p code = rowText (storeOf b p (suc code)) code
 
-abbrev pub answerAt : List ℕ → List ℕ → ℕ → ℕ → List ℕ
-answerAt b p kind code = answerText (storeOf b p (suc code)) kind code
+abbrev pub answerTextAt : List ℕ → List ℕ → ℕ → ℕ → List ℕ
+answerTextAt b p kind code = answerText (storeOf b p (suc code)) kind code
 
 -- A sort k whose records are well formed, of a tree size within document 01's limit.
 pub record TextAsks (b p : List ℕ) (k : ℕ) : Type 0 where
@@ -40,8 +40,8 @@ pub record TextsAsk (b p : List ℕ) (x m : ℕ) : Type 0 where
   pub small : sizes (treesAt b p (numbersAt b x m)) ≤ 4096
 
 -- What stands between the word and the parts of an entry, and when it can be read.
-abbrev pub innerOf : List ℕ → ℕ → SortRecord → List ℕ
-innerOf b f r = innerText f (r .name) (r .number) (numbersAt b (r .names) (r .named))
+abbrev pub innerTextOf : List ℕ → ℕ → SortRecord → List ℕ
+innerTextOf b f r = innerText f (r .name) (r .number) (numbersAt b (r .names) (r .named))
 
 pub record InnerAsks (b : List ℕ) (f : ℕ) (r : SortRecord) : Type 0 where
   pub name : r .name < 65536
@@ -53,12 +53,12 @@ pub record InnerAsks (b : List ℕ) (f : ℕ) (r : SortRecord) : Type 0 where
 
 -- Its length, which is over 6 only of a Par's names.
 pub record InnerIs (b : List ℕ) (f : ℕ) (a : SortRecord) (r : ℕ) : Type 0 where
-  pub is : r ≡ length (innerOf b f a)
+  pub is : r ≡ length (innerTextOf b f a)
   pub most : r ≤ 448
   pub low : (getD inners f 0 ≡ 3 → ⊥) → r ≤ 6
 
 -- The length of a sort's text, with the bound that its size gives; one byte is left for the blank before it.
-pub record TextIs (t : List ℕ) (z r : ℕ) : Type 0 where
+pub record TextSizeIs (t : List ℕ) (z r : ℕ) : Type 0 where
   pub is : r ≡ length t
   pub most : r + 1 ≤ 456 * z
 

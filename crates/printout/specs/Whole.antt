@@ -12,7 +12,7 @@ use Rattle.printout.specs.declared.Shown.{Shown}
 use Rattle.printout.specs.declared.whole.Piece.{Piece}
 use Rattle.printout.specs.Lines.{termLine, questionLine}
 use Rattle.printout.specs.Wrote.{Wrote, ShownIs}
-use Rattle.printout.specs.LineAsks.{Known}
+use Rattle.printout.specs.LineAsks.{RowKnown}
 
 -- The line with the number k of a sheet of t terms: its terms' lines, then its questions'.
 unfoldable pub lineAt : List Sort → List ℕ → List ℕ → List ℕ → ℕ → ℕ → List ℕ
@@ -34,8 +34,8 @@ pub record Judged (b p rows kinds answers : List ℕ) (t q n : ℕ) : Type 0 whe
   pub asked : q ≤ length kinds
   pub few : t ≤ 4096
   pub fewer : q ≤ 1024
-  pub row : (i : ℕ) → i < 2 * t → Known n (getD rows i 0)
-  pub answer : (i : ℕ) → i < q → (getD kinds i 0 ≡ 0 → ⊥) → Known n (getD answers i 0)
+  pub row : (i : ℕ) → i < 2 * t → RowKnown n (getD rows i 0)
+  pub answer : (i : ℕ) → i < q → (getD kinds i 0 ≡ 0 → ⊥) → RowKnown n (getD answers i 0)
 
 pub record LineAsks (b p rows kinds answers : List ℕ) (t q k : ℕ) (o : List ℕ) (to : ℕ) : Type 0 where
   pub many : ℕ

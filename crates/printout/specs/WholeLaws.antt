@@ -12,7 +12,7 @@ use Rattle.printout.specs.declared.Shown.the-variants.{To, Full}
 use Rattle.printout.specs.Lines.{termLine, questionLine, termLines, questionLines, linesOf}
 use Rattle.printout.specs.Wrote.{Wrote, ShownIs, wrote-none, wrote-as, wrote-more, wrote-long}
 use Rattle.printout.specs.TreeLaws.{text-asks}
-use Rattle.printout.specs.LineAsks.{RowAsks, Known, TermAsks, QuestionAsks, TermHas, QuestionHas}
+use Rattle.printout.specs.LineAsks.{RowAsks, RowKnown, TermLineAsks, QuestionLineAsks, TermHas, QuestionHas}
 use Rattle.printout.specs.Whole.{lineAt, linesFrom, Judged, LineAsks, LineHas, PieceAsks, PieceHas}
 
 ---------------------------------------------------------------- one line
@@ -27,11 +27,11 @@ line-question st rows kinds answers t k h = rw (le-ltb k t h) refl
 
 module _ (b p rows kinds answers : List ℕ) (t q : ℕ) where
   -- A row of the store can be printed.
-  row-asks : (n : ℕ) → Judged b p rows kinds answers t q n → (code : ℕ) → Known n code → RowAsks b p code
+  row-asks : (n : ℕ) → Judged b p rows kinds answers t q n → (code : ℕ) → RowKnown n code → RowAsks b p code
   row-asks n j code known h = text-asks b p n code (j .stored) (known h) (j .small code (known h))
 
   pub term-line-asks : (k : ℕ) (o : List ℕ) (to : ℕ) → LineAsks b p rows kinds answers t q k o to → k < t
-      → TermAsks b p k (getD rows (2 * k) 0) (getD rows (2 * k + 1) 0) o to
+      → TermLineAsks b p k (getD rows (2 * k) 0) (getD rows (2 * k + 1) 0) o to
   term-line-asks k o to h l =
       let j = h .judged in
       record {
@@ -42,7 +42,7 @@ module _ (b p rows kinds answers : List ℕ) (t q : ℕ) where
       }
 
   pub question-line-asks : (k : ℕ) (o : List ℕ) (to : ℕ) → LineAsks b p rows kinds answers t q k o to → t ≤ k
-      → QuestionAsks b p (k - t) (getD kinds (k - t) 0) (getD answers (k - t) 0) o to
+      → QuestionLineAsks b p (k - t) (getD kinds (k - t) 0) (getD answers (k - t) 0) o to
   question-line-asks k o to h l =
       let j = h .judged in
       record {

@@ -72,29 +72,29 @@ unfoldable pub total : List (List ℕ) → ℕ
 total [] = 0
 total (s ∷ ts) = length s + total ts
 
-pub record Room (o : List ℕ) (to : ℕ) (ts : List (List ℕ)) : Type 0 where
+pub record TextRoom (o : List ℕ) (to : ℕ) (ts : List (List ℕ)) : Type 0 where
   pub fits : to + total ts ≤ length o
 
-pub room-now : {o : List ℕ} {to : ℕ} {s : List ℕ} {ts : List (List ℕ)} → Room o to (s ∷ ts) → to + length s ≤ length o
+pub room-now : {o : List ℕ} {to : ℕ} {s : List ℕ} {ts : List (List ℕ)} → TextRoom o to (s ∷ ts) → to + length s ≤ length o
 unfolding total
 room-now r = omega (arith, r .fits)
 
-pub room-then : {o : List ℕ} {to : ℕ} {s : List ℕ} {ts : List (List ℕ)} {o₁ : List ℕ} {e : ℕ} → Room o to (s ∷ ts) → Wrote o to s o₁ e → Room o₁ e ts
+pub room-then : {o : List ℕ} {to : ℕ} {s : List ℕ} {ts : List (List ℕ)} {o₁ : List ℕ} {e : ℕ} → TextRoom o to (s ∷ ts) → Wrote o to s o₁ e → TextRoom o₁ e ts
 unfolding total
 room-then r w = record { fits = omega (arith, r .fits, w .next, wrote-long w) }
 
 -- A buffer o′ in which the rest of a text, written at e, gives o with the whole text at `to`.
-pub record Left (o : List ℕ) (to : ℕ) (whole o′ : List ℕ) (e : ℕ) (rest : List ℕ) : Type 0 where
+pub record TextLeft (o : List ℕ) (to : ℕ) (whole o′ : List ℕ) (e : ℕ) (rest : List ℕ) : Type 0 where
   pub same : written o′ e rest ≡ written o to whole
   pub next : e + length rest ≡ to + length whole
   pub long : length o′ ≡ length o
   pub fits : to + length whole ≤ length o
 
-pub left-start : (o : List ℕ) (to : ℕ) (t : List ℕ) → to + length t ≤ length o → Left o to t o to t
+pub left-start : (o : List ℕ) (to : ℕ) (t : List ℕ) → to + length t ≤ length o → TextLeft o to t o to t
 left-start o to t h = record { same = refl; next = refl; long = refl; fits = h }
 
 pub left-step : {o : List ℕ} {to : ℕ} {whole o₁ : List ℕ} {e : ℕ} {s o₂ : List ℕ} {d : ℕ} (rest : List ℕ)
-    → Left o to whole o₁ e (s ++ rest) → Wrote o₁ e s o₂ d → Left o to whole o₂ d rest
+    → TextLeft o to whole o₁ e (s ++ rest) → Wrote o₁ e s o₂ d → TextLeft o to whole o₂ d rest
 left-step {o} {to} {whole} {o₁} {e} {s} rest l w =
     record {
       same =
@@ -104,6 +104,6 @@ left-step {o} {to} {whole} {o₁} {e} {s} rest l w =
       fits = l .fits;
     }
 
-pub left-done : {o : List ℕ} {to : ℕ} {whole o′ : List ℕ} {e : ℕ} → Left o to whole o′ e [] → Wrote o to whole o′ e
+pub left-done : {o : List ℕ} {to : ℕ} {whole o′ : List ℕ} {e : ℕ} → TextLeft o to whole o′ e [] → Wrote o to whole o′ e
 left-done {o} {to} {whole} {o′} {e} l =
     record { is = written-none o′ e ∙ l .same; next = omega (arith, l .next); fits = l .fits }

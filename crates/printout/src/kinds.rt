@@ -3,7 +3,7 @@ use sheet::SheetRead;
 use sheet::read_sheet;
 ghost use Prim.Native.Nat.{_≤_};
 ghost use lib.ListN.{length};
-ghost use Rattle.printout.specs.Kinds.{PutAsks, Put, KindsAre};
+ghost use Rattle.printout.specs.Kinds.{PutKindsAsk, KindsPut, KindsAre};
 
 // How many terms and questions a sheet has.
 pub struct Totals {
@@ -13,8 +13,8 @@ pub struct Totals {
 
 // Writes the kinds of the first `many` questions, whose records stand at the places `asked`, into `kinds`.
 fn put_kinds(sheet: &[u8], asked: &[u16], many: usize, kinds: &mut [u8])
-    requires { ⌜ PutAsks (now sheet) (now asked) many (now kinds) ⌝ }
-    ensures { λ _. ⌜ Put (now (sheet .entry)) (now (asked .entry)) many (now (kinds .entry)) (now (kinds .exit)) ⌝ }
+    requires { ⌜ PutKindsAsk (now sheet) (now asked) many (now kinds) ⌝ }
+    ensures { λ _. ⌜ KindsPut (now (sheet .entry)) (now (asked .entry)) many (now (kinds .entry)) (now (kinds .exit)) ⌝ }
 {
     let mut q = 0;
     while q < many {

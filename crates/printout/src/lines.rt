@@ -11,8 +11,8 @@ ghost use Prim.Native.Nat.{_+_, _≤_, _<_};
 ghost use lib.ListN.{length};
 ghost use Rattle.printout.specs.Lines.{refusalText, refusalLine, sortRoom};
 ghost use Rattle.printout.specs.Wrote.{Wrote, ShownIs};
-ghost use Rattle.printout.specs.Trees.{rowAt, answerAt};
-ghost use Rattle.printout.specs.LineAsks.{RowAsks, AnswerAsks, TermHas, QuestionHas, TermAsks, QuestionAsks, labelText};
+ghost use Rattle.printout.specs.Trees.{rowTextAt, answerTextAt};
+ghost use Rattle.printout.specs.LineAsks.{RowAsks, AnswerAsks, TermHas, QuestionHas, TermLineAsks, QuestionLineAsks, labelText};
 
 // Writes `!` and the number of a refusal at `to`.
 fn put_refusal(out: &mut [u8], to: usize, number: usize) -> usize
@@ -26,7 +26,7 @@ fn put_refusal(out: &mut [u8], to: usize, number: usize) -> usize
 // The length of the text of a row.
 fn row_size(records: &[u8], places: &[u32], code: u32) -> usize
     requires { ⌜ RowAsks (now records) (now places) code ⌝ }
-    ensures { λ r. ⌜ (r ≡ length (rowAt (now (records .entry)) (now (places .entry)) code)) × (r ≤ sortRoom) ⌝ }
+    ensures { λ r. ⌜ (r ≡ length (rowTextAt (now (records .entry)) (now (places .entry)) code)) × (r ≤ sortRoom) ⌝ }
 {
     let v = code as usize;
     if v < 65536 {
@@ -37,8 +37,8 @@ fn row_size(records: &[u8], places: &[u32], code: u32) -> usize
 
 // Writes the text of a row at `to`: its sort, or `!` and the number of its refusal.
 fn put_row(records: &[u8], places: &[u32], code: u32, out: &mut [u8], to: usize) -> usize
-    requires { ⌜ RowAsks (now records) (now places) code × (to + length (rowAt (now records) (now places) code) ≤ length (now out)) ⌝ }
-    ensures { λ r. ⌜ Wrote (now (out .entry)) to (rowAt (now (records .entry)) (now (places .entry)) code) (now (out .exit)) r ⌝ }
+    requires { ⌜ RowAsks (now records) (now places) code × (to + length (rowTextAt (now records) (now places) code) ≤ length (now out)) ⌝ }
+    ensures { λ r. ⌜ Wrote (now (out .entry)) to (rowTextAt (now (records .entry)) (now (places .entry)) code) (now (out .exit)) r ⌝ }
 {
     let v = code as usize;
     if v < 65536 {
@@ -48,9 +48,9 @@ fn put_row(records: &[u8], places: &[u32], code: u32, out: &mut [u8], to: usize)
 }
 
 // The length of the text of an answer to a question of this kind.
-fn answer_size(records: &[u8], places: &[u32], kind: usize, code: u32) -> usize
+fn answer_text_size(records: &[u8], places: &[u32], kind: usize, code: u32) -> usize
     requires { ⌜ AnswerAsks (now records) (now places) kind code ⌝ }
-    ensures { λ r. ⌜ (r ≡ length (answerAt (now (records .entry)) (now (places .entry)) kind code)) × (r ≤ sortRoom) ⌝ }
+    ensures { λ r. ⌜ (r ≡ length (answerTextAt (now (records .entry)) (now (places .entry)) kind code)) × (r ≤ sortRoom) ⌝ }
 {
     if kind != QUESTION_COMPATIBLE {
         return row_size(records, places, code);
@@ -70,8 +70,8 @@ fn put_answer(
     out: &mut [u8],
     to: usize,
 ) -> usize
-    requires { ⌜ AnswerAsks (now records) (now places) kind code × (to + length (answerAt (now records) (now places) kind code) ≤ length (now out)) ⌝ }
-    ensures { λ r. ⌜ Wrote (now (out .entry)) to (answerAt (now (records .entry)) (now (places .entry)) kind code) (now (out .exit)) r ⌝ }
+    requires { ⌜ AnswerAsks (now records) (now places) kind code × (to + length (answerTextAt (now records) (now places) kind code) ≤ length (now out)) ⌝ }
+    ensures { λ r. ⌜ Wrote (now (out .entry)) to (answerTextAt (now (records .entry)) (now (places .entry)) kind code) (now (out .exit)) r ⌝ }
 {
     if kind != QUESTION_COMPATIBLE {
         return put_row(records, places, code, out, to);
@@ -102,7 +102,7 @@ pub fn term_line(
     out: &mut [u8],
     to: usize,
 ) -> Shown
-    requires { ⌜ TermAsks (now records) (now places) t inferred checked (now out) to ⌝ }
+    requires { ⌜ TermLineAsks (now records) (now places) t inferred checked (now out) to ⌝ }
     ensures { λ r. ⌜ TermHas (now (records .entry)) (now (places .entry)) t inferred checked (now (out .entry)) to (now (out .exit)) r ⌝ }
 {
     let one = row_size(records, places, inferred);
@@ -128,10 +128,10 @@ pub fn question_line(
     out: &mut [u8],
     to: usize,
 ) -> Shown
-    requires { ⌜ QuestionAsks (now records) (now places) q kind code (now out) to ⌝ }
+    requires { ⌜ QuestionLineAsks (now records) (now places) q kind code (now out) to ⌝ }
     ensures { λ r. ⌜ QuestionHas (now (records .entry)) (now (places .entry)) q kind code (now (out .entry)) to (now (out .exit)) r ⌝ }
 {
-    let size = answer_size(records, places, kind, code);
+    let size = answer_text_size(records, places, kind, code);
     if out.len() - to < 3 + digits(q) + size {
         return Shown::Full;
     }

@@ -34,7 +34,7 @@ ghost use mathlib.Core.List.{_++_};
 ghost use Rattle.printout.specs.Text.{ascii, namesText, text, texts};
 ghost use Rattle.printout.specs.Pieces.{formOf, wordText, closeText, frames};
 ghost use Rattle.printout.specs.Wrote.{Wrote};
-ghost use Rattle.printout.specs.Trees.{treeAt, treesAt, innerOf, InnerAsks, InnerIs, TextAsks, TextsAsk, TextIs, TextsAre};
+ghost use Rattle.printout.specs.Trees.{treeAt, treesAt, innerTextOf, InnerAsks, InnerIs, TextAsks, TextsAsk, TextSizeIs, TextsAre};
 
 // The form behind those of the kinds.
 const BARE_ATOM: usize = 16;
@@ -130,7 +130,7 @@ fn inner_size(records: &[u8], form: usize, a: SortRecord) -> usize
 // The length of the text of the sort `k`.
 pub fn text_size(records: &[u8], places: &[u32], k: usize) -> usize
     requires { ⌜ TextAsks (now records) (now places) k ⌝ }
-    ensures { λ r. ⌜ TextIs (text (treeAt (now (records .entry)) (now (places .entry)) k)) (size (treeAt (now (records .entry)) (now (places .entry)) k)) r ⌝ }
+    ensures { λ r. ⌜ TextSizeIs (text (treeAt (now (records .entry)) (now (places .entry)) k)) (size (treeAt (now (records .entry)) (now (places .entry)) k)) r ⌝ }
 {
     let a = entry(records, places, k);
     let form = form_of(a.kind, a.count);
@@ -193,8 +193,8 @@ fn put_par_names(records: &[u8], names: usize, named: usize, out: &mut [u8], to:
 
 // Writes what stands between the word and the parts at `to`.
 fn put_inner(records: &[u8], form: usize, a: SortRecord, out: &mut [u8], to: usize) -> usize
-    requires { ⌜ InnerAsks (now records) form a × (to + length (innerOf (now records) form a) ≤ length (now out)) ⌝ }
-    ensures { λ r. ⌜ Wrote (now (out .entry)) to (innerOf (now (records .entry)) form a) (now (out .exit)) r ⌝ }
+    requires { ⌜ InnerAsks (now records) form a × (to + length (innerTextOf (now records) form a) ≤ length (now out)) ⌝ }
+    ensures { λ r. ⌜ Wrote (now (out .entry)) to (innerTextOf (now (records .entry)) form a) (now (out .exit)) r ⌝ }
 {
     let inner = INNERS[form];
     match inner {

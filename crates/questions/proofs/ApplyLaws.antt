@@ -13,18 +13,18 @@ use Rattle.record.specs.StoreLaws.{storeOf-length}
 use Rattle.reader.specs.declared.QuestionRecord.{QuestionRecord}
 use Rattle.sheet.specs.Trees.{mapped}
 use Rattle.substitution.specs.Substitution.{apply}
-use Rattle.replacing.specs.Images.{Images}
+use Rattle.apply_walk.specs.Images.{Images}
 use Rattle.apply.specs.Contract.{ApplyAsks as ReplaceAsks}
-use Rattle.rows.specs.Verdict.{sort}
-use Rattle.answers.specs.declared.Answer.{Answer}
-use Rattle.answers.specs.AnswerLaws.{judged-as}
-use Rattle.instance.specs.Instance.{InstanceIs}
-use Rattle.judged.specs.Questions.{firstOf, restOf, imagesOf, applyAnswer}
+use Rattle.row_rules.specs.Verdict.{sort}
+use Rattle.row_answer.specs.declared.Answer.{Answer}
+use Rattle.row_answer.specs.AnswerLaws.{judged-as}
+use Rattle.row_instance.specs.Instance.{InstanceIs}
+use Rattle.judge_rules.specs.Questions.{firstSort, restSorts, imagesGiven, applyAnswer}
 use Rattle.questions.specs.Fill.{FillAsks, FilledIs, EmptyAsks, emptied, filled-images, emptied-back}
-use Rattle.questions.specs.Contract.{ApplyAsks, ApplyIs}
-use Rattle.questions.specs.Asked.{sortsBy, sorts-first, sorts-rest, mapped-known}
+use Rattle.questions.specs.Contract.{AnswerApplyAsks, ApplyIs}
+use Rattle.questions.specs.Asked.{sortsBy, sorts-by-first, sorts-rest, mapped-known}
 
-module _ {b p ix : List ℕ} {n u : ℕ} {imgs s tbl : List ℕ} {q : QuestionRecord} (h : ApplyAsks b p ix n u imgs s tbl q) where
+module _ {b p ix : List ℕ} {n u : ℕ} {imgs s tbl : List ℕ} {q : QuestionRecord} (h : AnswerApplyAsks b p ix n u imgs s tbl q) where
   later : (j : ℕ) → j < q .named → getD tbl (u16At s (q .list + 2 + 2 * j)) 0 < n
   later j o =
       let e : q .list + 2 * (j + 1) ≡ q .list + 2 + 2 * j = omega arith in
@@ -43,12 +43,12 @@ module _ {b p ix : List ℕ} {n u : ℕ} {imgs s tbl : List ℕ} {q : QuestionRe
       }
 
   module _ {l : List ℕ} (f : FilledIs imgs s tbl (q .names) (q .list + 2) (q .named) l) where
-    pub filled-map : Images (storeOf b p n) l (imagesOf (numbersAt s (q .names) (q .named)) (sortsBy (storeOf b p n) tbl s (q .list + 2) (q .named)))
+    pub filled-map : Images (storeOf b p n) l (imagesGiven (numbersAt s (q .names) (q .named)) (sortsBy (storeOf b p n) tbl s (q .list + 2) (q .named)))
     filled-map =
         let vs = numbersAt s (q .names) (q .named) in
         let rs = numbersAt s (q .list + 2) (q .named) in
         let m = length-numbersAt s (q .list + 2) (q .named) in
-        subst (λ (t : List ℕ). Images (storeOf b p n) t (imagesOf vs (sortsOf (storeOf b p n) (mapped tbl rs)))) (sym (f .whole))
+        subst (λ (t : List ℕ). Images (storeOf b p n) t (imagesGiven vs (sortsOf (storeOf b p n) (mapped tbl rs)))) (sym (f .whole))
         (filled-images (storeOf b p n) imgs vs (mapped tbl rs) (h .zeros) (h .table)
         (λ j o. f .below j (omega (arith, length-numbersAt s (q .names) (q .named))))
         (λ j o.
@@ -79,14 +79,14 @@ module _ {b p ix : List ℕ} {n u : ℕ} {imgs s tbl : List ℕ} {q : QuestionRe
         let st = storeOf b p n in
         let vs = numbersAt s (q .names) (q .named) in
         let c : q .count - 1 ≡ q .named = omega (arith, h .count) in
-        let first : firstOf (sortsBy st tbl s (q .list) (q .count)) ≡ getD st k leaf =
-        sorts-first st tbl s (q .list) (q .count) (omega (arith, h .count)) ∙ ap (λ (i : ℕ). getD st i leaf) (sym e) in
-        let rest : restOf (sortsBy st tbl s (q .list) (q .count)) ≡ sortsBy st tbl s (q .list + 2) (q .named) =
+        let first : firstSort (sortsBy st tbl s (q .list) (q .count)) ≡ getD st k leaf =
+        sorts-by-first st tbl s (q .list) (q .count) (omega (arith, h .count)) ∙ ap (λ (i : ℕ). getD st i leaf) (sym e) in
+        let rest : restSorts (sortsBy st tbl s (q .list) (q .count)) ≡ sortsBy st tbl s (q .list + 2) (q .named) =
         sorts-rest st tbl s (q .list) (q .count) (omega (arith, h .count)) ∙ ap (sortsBy st tbl s (q .list + 2)) c in
         record {
           answer =
-              judged-as (ap₂ (λ (x : Sort) (y : Sorts). sort (apply (imagesOf vs y) x)) first rest)
-              (a (imagesOf vs (sortsBy st tbl s (q .list + 2) (q .named))) filled-map);
+              judged-as (ap₂ (λ (x : Sort) (y : Sorts). sort (apply (imagesGiven vs y) x)) first rest)
+              (a (imagesGiven vs (sortsBy st tbl s (q .list + 2) (q .named))) filled-map);
           images =
               d ∙ ap (λ (t : List ℕ). emptied t vs) (f .whole)
               ∙ emptied-back imgs vs (mapped tbl (numbersAt s (q .list + 2) (q .named))) (h .zeros);

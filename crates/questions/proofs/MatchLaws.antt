@@ -17,22 +17,22 @@ use Rattle.substitution.specs.Substitution.{Map, empty}
 use Rattle.substitution.specs.Matching.{matches, listedIn, premise}
 use Rattle.matching.specs.declared.Matched.{Matched}
 use Rattle.matching.specs.declared.Matched.the-variants.{Fits, Misfits}
-use Rattle.matching.specs.Tables.{Lists, Told, listed, Added, mapOf, Tabled, Mapped, Cleared}
+use Rattle.matching.specs.Tables.{Lists, Told, listed, Added, tableMap, Tabled, Mapped, Cleared}
 use Rattle.matching.specs.TableLaws.{times-few, listed-is, lists-none, lists-added, added-back, cleared-mapped, cleared-map, cleared-images, cleared-bound}
 use Rattle.matching.specs.Contract.{PairAsks, TestAsks, PremiseIs, AddAsks, TakeAsks, Answered}
 use Rattle.matching.specs.Contract.{MatchAsks as PlainAsks, MatchIs as PlainIs}
 use Rattle.matching.specs.Entered.{good-usable}
 use Rattle.apply.specs.Contract.{ApplyAsks as ReplaceAsks}
-use Rattle.rows.specs.declared.Cause.the-variants.{Barred, NoAssignment}
-use Rattle.rows.specs.Verdict.{refused, need}
-use Rattle.answers.specs.declared.Answer.{Answer}
-use Rattle.answers.specs.Answer.{refusing}
-use Rattle.answers.specs.AnswerLaws.{judged-as, answered-as, answer-refused}
-use Rattle.instance.specs.Instance.{InstanceIs}
-use Rattle.instance.specs.Mapped.{mapped-images}
-use Rattle.judged.specs.Questions.{firstOf, restOf, assigned, matchAnswer}
-use Rattle.questions.specs.Contract.{ListedAsks, ListedIs, MatchAsks, MatchIs}
-use Rattle.questions.specs.Asked.{sortsBy, sorts-first, sorts-second, sorts-third}
+use Rattle.row_rules.specs.declared.Cause.the-variants.{Barred, NoAssignment}
+use Rattle.row_rules.specs.Verdict.{refused, need}
+use Rattle.row_answer.specs.declared.Answer.{Answer}
+use Rattle.row_answer.specs.Answer.{refusing}
+use Rattle.row_answer.specs.AnswerLaws.{judged-as, answered-as, made-refused}
+use Rattle.row_instance.specs.Instance.{InstanceIs}
+use Rattle.row_instance.specs.Mapped.{mapped-images}
+use Rattle.judge_rules.specs.Questions.{firstSort, restSorts, assigned, matchAnswer}
+use Rattle.questions.specs.Contract.{MatchListedAsks, ListedIs, AnswerMatchAsks, AnswerMatchIs}
+use Rattle.questions.specs.Asked.{sortsBy, sorts-by-first, sorts-second, sorts-third}
 
 ---------------------------------------------------------------- the definition by its three cases
 pub match-by : (vs : List ℕ) (p t r : Sort) (a : Bool) (o : Option Map) → a ≡ premise vs p t → o ≡ matches (listedIn vs) p t empty
@@ -44,7 +44,7 @@ pub match-barred : (vs : List ℕ) (p t r : Sort) → false ≡ premise vs p t �
 match-barred vs p t r e = match-by vs p t r false (matches (listedIn vs) p t empty) e refl
 
 ---------------------------------------------------------------- with the names listed
-module _ {b p ix : List ℕ} {n u : ℕ} {prm imgs bnd : List ℕ} {k j i : ℕ} (h : ListedAsks b p ix n u prm imgs bnd k j i) where
+module _ {b p ix : List ℕ} {n u : ℕ} {prm imgs bnd : List ℕ} {k j i : ℕ} (h : MatchListedAsks b p ix n u prm imgs bnd k j i) where
   pub pair-asks : PairAsks b p n k j
   pair-asks = record { usable = good-usable b p ix n u (h .good); left = h .pattern; right = h .target }
 
@@ -60,7 +60,7 @@ module _ {b p ix : List ℕ} {n u : ℕ} {prm imgs bnd : List ℕ} {k j i : ℕ}
       record {
         answer = λ vs ls.
             judged-as (match-barred vs (sortAt b p n k) (sortAt b p n j) (sortAt b p n i) (sym (not-true t e) ∙ q vs ls))
-            (answered-as d (answer-refused b p ix n u (h .good) Barred));
+            (answered-as d (made-refused b p ix n u (h .good) Barred));
         images = refl;
         bound = refl;
       }
@@ -76,10 +76,10 @@ module _ {b p ix : List ℕ} {n u : ℕ} {prm imgs bnd : List ℕ} {k j i : ℕ}
         (w (listedIn vs) (listed-is prm vs ls))
 
     pub fits-mapped : (c : ℕ) → x ≡ Fits c → Mapped b p n l m c
-    fits-mapped c e = subst (λ (y : Matched). Answered b p n l m y (matches (listed prm) (sortAt b p n k) (sortAt b p n j) (mapOf (storeOf b p n) imgs bnd 0))) e (w (listed prm) told) .mapped
+    fits-mapped c e = subst (λ (y : Matched). Answered b p n l m y (matches (listed prm) (sortAt b p n k) (sortAt b p n j) (tableMap (storeOf b p n) imgs bnd 0))) e (w (listed prm) told) .mapped
 
     pub misfits-tabled : (c : ℕ) → x ≡ Misfits c → Tabled l m c
-    misfits-tabled c e = subst (λ (y : Matched). Answered b p n l m y (matches (listed prm) (sortAt b p n k) (sortAt b p n j) (mapOf (storeOf b p n) imgs bnd 0))) e (w (listed prm) told) .mapped .tabled
+    misfits-tabled c e = subst (λ (y : Matched). Answered b p n l m y (matches (listed prm) (sortAt b p n k) (sortAt b p n j) (tableMap (storeOf b p n) imgs bnd 0))) e (w (listed prm) told) .mapped .tabled
 
     pub result-asks : (c : ℕ) → x ≡ Fits c → ReplaceAsks b p ix n u i l
     result-asks c e =
@@ -90,7 +90,7 @@ module _ {b p ix : List ℕ} {n u : ℕ} {prm imgs bnd : List ℕ} {k j i : ℕ}
       pub listed-fits : (c : ℕ) → x ≡ Fits c → (b′ p′ ix′ : List ℕ) (r : Answer) → InstanceIs b p n l i b′ p′ ix′ r
           → ListedIs b p n prm imgs bnd k j i b′ p′ ix′ l′ m′ r
       listed-fits c e b′ p′ ix′ r a =
-          let θ = mapOf (storeOf b p n) l m c in
+          let θ = tableMap (storeOf b p n) l m c in
           record {
             answer = λ vs ls.
                 judged-as
@@ -108,13 +108,13 @@ module _ {b p ix : List ℕ} {n u : ℕ} {prm imgs bnd : List ℕ} {k j i : ℕ}
                 judged-as
                 (match-by vs (sortAt b p n k) (sortAt b p n j) (sortAt b p n i) true none (sym (not-false t o) ∙ q vs ls)
                 (subst (λ (y : Matched). Answered b p n l m y (matches (listedIn vs) (sortAt b p n k) (sortAt b p n j) empty)) e (found-by ls) .result))
-                (answered-as d (answer-refused b p ix n u (h .good) NoAssignment));
+                (answered-as d (made-refused b p ix n u (h .good) NoAssignment));
             images = cleared-images imgs bnd l′ m′ (h .cleared) z;
             bound = cleared-bound imgs bnd l′ m′ (h .cleared) z;
           }
 
 ---------------------------------------------------------------- listing the names and taking them off
-module _ {b p ix : List ℕ} {n u : ℕ} {prm imgs bnd s tbl : List ℕ} {q : QuestionRecord} (h : MatchAsks b p ix n u prm imgs bnd s tbl q) where
+module _ {b p ix : List ℕ} {n u : ℕ} {prm imgs bnd s tbl : List ℕ} {q : QuestionRecord} (h : AnswerMatchAsks b p ix n u prm imgs bnd s tbl q) where
   pub add-asks : AddAsks prm s (q .names) (q .named)
   add-asks =
       record {
@@ -124,7 +124,7 @@ module _ {b p ix : List ℕ} {n u : ℕ} {prm imgs bnd s tbl : List ℕ} {q : Qu
       }
 
   module _ {m : List ℕ} (a : Added prm (numbersAt s (q .names) (q .named)) m) where
-    pub listed-asks : (k j i : ℕ) → k < n → j < n → i < n → ListedAsks b p ix n u m imgs bnd k j i
+    pub listed-asks : (k j i : ℕ) → k < n → j < n → i < n → MatchListedAsks b p ix n u m imgs bnd k j i
     listed-asks k j i x y z =
         record { good = h .good; table = a .long ∙ h .table; cleared = h .cleared; pattern = x; target = y; result = z }
 
@@ -137,19 +137,19 @@ module _ {b p ix : List ℕ} {n u : ℕ} {prm imgs bnd s tbl : List ℕ} {q : Qu
 
     pub match-is : {k j i : ℕ} → k ≡ getD tbl (u16At s (q .list)) 0 → j ≡ getD tbl (u16At s (q .list + 2)) 0 → i ≡ getD tbl (u16At s (q .list + 4)) 0
         → {b′ p′ ix′ l′ m′ prm′ : List ℕ} {r : Answer} → ListedIs b p n m imgs bnd k j i b′ p′ ix′ l′ m′ r
-        → Added prm′ (numbersAt s (q .names) (q .named)) m → MatchIs b p n prm imgs bnd s tbl q b′ p′ ix′ prm′ l′ m′ r
+        → Added prm′ (numbersAt s (q .names) (q .named)) m → AnswerMatchIs b p n prm imgs bnd s tbl q b′ p′ ix′ prm′ l′ m′ r
     unfolding sortAt
     match-is {k} {j} {i} ek ej ei {b′} {p′} {ix′} {l′} {m′} {prm′} {r} w d =
         let st = storeOf b p n in
         let vs = numbersAt s (q .names) (q .named) in
         let S = sortsBy st tbl s (q .list) (q .count) in
-        let e1 : firstOf S ≡ getD st k leaf = sorts-first st tbl s (q .list) (q .count) (omega (arith, h .count)) ∙ ap (λ (x : ℕ). getD st x leaf) (sym ek) in
-        let e2 : firstOf (restOf S) ≡ getD st j leaf = sorts-second st tbl s (q .list) (q .count) (omega (arith, h .count)) ∙ ap (λ (x : ℕ). getD st x leaf) (sym ej) in
-        let e3 : firstOf (restOf (restOf S)) ≡ getD st i leaf = sorts-third st tbl s (q .list) (q .count) (omega (arith, h .count)) ∙ ap (λ (x : ℕ). getD st x leaf) (sym ei) in
+        let e1 : firstSort S ≡ getD st k leaf = sorts-by-first st tbl s (q .list) (q .count) (omega (arith, h .count)) ∙ ap (λ (x : ℕ). getD st x leaf) (sym ek) in
+        let e2 : firstSort (restSorts S) ≡ getD st j leaf = sorts-second st tbl s (q .list) (q .count) (omega (arith, h .count)) ∙ ap (λ (x : ℕ). getD st x leaf) (sym ej) in
+        let e3 : firstSort (restSorts (restSorts S)) ≡ getD st i leaf = sorts-third st tbl s (q .list) (q .count) (omega (arith, h .count)) ∙ ap (λ (x : ℕ). getD st x leaf) (sym ei) in
         record {
           answer =
               judged-as
-              (ap₂ (λ (x y : Sort). matchAnswer vs x y (firstOf (restOf (restOf S)))) e1 e2 ∙ ap (matchAnswer vs (getD st k leaf) (getD st j leaf)) e3)
+              (ap₂ (λ (x y : Sort). matchAnswer vs x y (firstSort (restSorts (restSorts S)))) e1 e2 ∙ ap (matchAnswer vs (getD st k leaf) (getD st j leaf)) e3)
               (w .answer vs (lists-added prm [] vs m (lists-none prm (h .table) (h .zeros)) a));
           params = added-back prm vs m prm′ a d;
           images = w .images;

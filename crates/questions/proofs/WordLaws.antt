@@ -18,39 +18,39 @@ use Rattle.store.specs.Good.{Good}
 use Rattle.substitution.specs.Compatible.{compatible}
 use Rattle.matching.specs.Contract.{PairAsks}
 use Rattle.matching.specs.Entered.{good-usable}
-use Rattle.rows.specs.Outcome.{Outcome, outcome}
-use Rattle.answers.specs.declared.Answer.{Answer}
-use Rattle.judged.specs.Questions.{firstOf, restOf, yesNo, matchAnswer, applyAnswer, answerOf}
+use Rattle.row_rules.specs.Outcome.{CodedStore, outcome}
+use Rattle.row_answer.specs.declared.Answer.{Answer}
+use Rattle.judge_rules.specs.Questions.{firstSort, restSorts, yesNo, matchAnswer, applyAnswer, answerOf}
 use Rattle.questions.specs.declared.Word.{Word}
-use Rattle.questions.specs.Contract.{questionOver, ApplyAsks, ApplyIs, MatchAsks, MatchIs, WordIs, QuestionAsks, QuestionIs}
-use Rattle.questions.specs.Asked.{sortsBy, sorts-first, sorts-second}
+use Rattle.questions.specs.Contract.{questionOver, AnswerApplyAsks, ApplyIs, AnswerMatchAsks, AnswerMatchIs, WordIs, QuestionAsks, QuestionIs}
+use Rattle.questions.specs.Asked.{sortsBy, sorts-by-first, sorts-second}
 
 -- The three cases of the definition.
-abbrev compatibleCase : List Sort → List ℕ → List ℕ → QuestionRecord → Outcome
+abbrev compatibleCase : List Sort → List ℕ → List ℕ → QuestionRecord → CodedStore
 compatibleCase st tbl s q =
     record {
       store = st;
-      code = yesNo (compatible (firstOf (sortsBy st tbl s (q .list) (q .count))) (firstOf (restOf (sortsBy st tbl s (q .list) (q .count)))));
+      code = yesNo (compatible (firstSort (sortsBy st tbl s (q .list) (q .count))) (firstSort (restSorts (sortsBy st tbl s (q .list) (q .count)))));
     }
 
-abbrev matchCase : Lengths → List Sort → List ℕ → List ℕ → QuestionRecord → Outcome
+abbrev matchCase : Lengths → List Sort → List ℕ → List ℕ → QuestionRecord → CodedStore
 matchCase l st tbl s q =
     outcome l st
-    (matchAnswer (numbersAt s (q .names) (q .named)) (firstOf (sortsBy st tbl s (q .list) (q .count)))
-    (firstOf (restOf (sortsBy st tbl s (q .list) (q .count)))) (firstOf (restOf (restOf (sortsBy st tbl s (q .list) (q .count))))))
+    (matchAnswer (numbersAt s (q .names) (q .named)) (firstSort (sortsBy st tbl s (q .list) (q .count)))
+    (firstSort (restSorts (sortsBy st tbl s (q .list) (q .count)))) (firstSort (restSorts (restSorts (sortsBy st tbl s (q .list) (q .count))))))
 
-abbrev applyCase : Lengths → List Sort → List ℕ → List ℕ → QuestionRecord → Outcome
+abbrev applyCase : Lengths → List Sort → List ℕ → List ℕ → QuestionRecord → CodedStore
 applyCase l st tbl s q =
     outcome l st
-    (applyAnswer (numbersAt s (q .names) (q .named)) (firstOf (sortsBy st tbl s (q .list) (q .count))) (restOf (sortsBy st tbl s (q .list) (q .count))))
+    (applyAnswer (numbersAt s (q .names) (q .named)) (firstSort (sortsBy st tbl s (q .list) (q .count))) (restSorts (sortsBy st tbl s (q .list) (q .count))))
 
-pick-0 : (A B C : Outcome) {k : ℕ} → k ≡ 0 → cond (eqb k 0) A (cond (eqb k 1) B C) ≡ A
+pick-0 : (A B C : CodedStore) {k : ℕ} → k ≡ 0 → cond (eqb k 0) A (cond (eqb k 1) B C) ≡ A
 pick-0 A B C {k} e = ap (λ (t : Bool). cond t A (cond (eqb k 1) B C)) (eq-eqb k 0 e)
 
-pick-1 : (A B C : Outcome) {k : ℕ} → k ≡ 1 → cond (eqb k 0) A (cond (eqb k 1) B C) ≡ B
+pick-1 : (A B C : CodedStore) {k : ℕ} → k ≡ 1 → cond (eqb k 0) A (cond (eqb k 1) B C) ≡ B
 pick-1 A B C {k} e = ap₂ (λ (t v : Bool). cond t A (cond v B C)) (ne-eqb k 0 (λ z. omega arith)) (eq-eqb k 1 e)
 
-pick-2 : (A B C : Outcome) (k : ℕ) → (k ≡ 0 → ⊥) → (k ≡ 1 → ⊥) → cond (eqb k 0) A (cond (eqb k 1) B C) ≡ C
+pick-2 : (A B C : CodedStore) (k : ℕ) → (k ≡ 0 → ⊥) → (k ≡ 1 → ⊥) → cond (eqb k 0) A (cond (eqb k 1) B C) ≡ C
 pick-2 A B C k d e = ap₂ (λ (t v : Bool). cond t A (cond v B C)) (ne-eqb k 0 d) (ne-eqb k 1 e)
 
 worded : {c q ix : List ℕ} {r : Answer} {w : Word} → WordIs r w → Good c q ix (r .count) (r .used) → Good c q ix (w .count) (w .used)
@@ -58,11 +58,11 @@ worded {c} {q} {ix} {r} {w} e g =
     subst (λ (i : ℕ). Good c q ix i (w .used)) (sym (e .count)) (subst (λ (i : ℕ). Good c q ix (r .count) i) (sym (e .used)) g)
 
 module _ {b p ix : List ℕ} {n u : ℕ} {prm imgs bnd s tbl : List ℕ} {q : QuestionRecord} (h : QuestionAsks b p ix n u prm imgs bnd s tbl q) where
-  pub match-part : q .kind ≡ 1 → MatchAsks b p ix n u prm imgs bnd s tbl q
+  pub match-part : q .kind ≡ 1 → AnswerMatchAsks b p ix n u prm imgs bnd s tbl q
   match-part e =
       record { good = h .good; table = h .table; zeros = h .zeros; cleared = h .cleared; asked = h .asked; count = h .three e }
 
-  pub apply-part : (q .kind ≡ 0 → ⊥) → (q .kind ≡ 1 → ⊥) → ApplyAsks b p ix n u imgs s tbl q
+  pub apply-part : (q .kind ≡ 0 → ⊥) → (q .kind ≡ 1 → ⊥) → AnswerApplyAsks b p ix n u imgs s tbl q
   apply-part d e =
       record { good = h .good; table = h .cleared .names; zeros = h .cleared .images; asked = h .asked; count = h .pairs (two (q .kind) (h .kind) d e) }
     where
@@ -77,9 +77,9 @@ module _ {b p ix : List ℕ} {n u : ℕ} {prm imgs bnd s tbl : List ℕ} {q : Qu
   unfolding answerOf questionOver sortAt
   answered-0 e {k} {j} {v} ek ej ev =
       let st = storeOf b p n in
-      let e1 : firstOf (sortsBy st tbl s (q .list) (q .count)) ≡ getD st k leaf =
-      sorts-first st tbl s (q .list) (q .count) (omega (arith, h .two e)) ∙ ap (λ (x : ℕ). getD st x leaf) (sym ek) in
-      let e2 : firstOf (restOf (sortsBy st tbl s (q .list) (q .count))) ≡ getD st j leaf =
+      let e1 : firstSort (sortsBy st tbl s (q .list) (q .count)) ≡ getD st k leaf =
+      sorts-by-first st tbl s (q .list) (q .count) (omega (arith, h .two e)) ∙ ap (λ (x : ℕ). getD st x leaf) (sym ek) in
+      let e2 : firstSort (restSorts (sortsBy st tbl s (q .list) (q .count))) ≡ getD st j leaf =
       sorts-second st tbl s (q .list) (q .count) (omega (arith, h .two e)) ∙ ap (λ (x : ℕ). getD st x leaf) (sym ej) in
       record {
         good = h .good;
@@ -95,7 +95,7 @@ module _ {b p ix : List ℕ} {n u : ℕ} {prm imgs bnd s tbl : List ℕ} {q : Qu
       }
 
   module _ (b′ p′ ix′ prm′ imgs′ bnd′ : List ℕ) {r : Answer} {w : Word} (e : WordIs r w) where
-    pub answered-1 : q .kind ≡ 1 → MatchIs b p n prm imgs bnd s tbl q b′ p′ ix′ prm′ imgs′ bnd′ r
+    pub answered-1 : q .kind ≡ 1 → AnswerMatchIs b p n prm imgs bnd s tbl q b′ p′ ix′ prm′ imgs′ bnd′ r
         → QuestionIs b p n prm imgs bnd s tbl q b′ p′ ix′ prm′ imgs′ bnd′ w
     unfolding answerOf questionOver
     answered-1 k a =

@@ -20,12 +20,12 @@ use Rattle.reader.specs.declared.ReadQuestion.the-variants.{Question as Questio
 use Rattle.sheet.specs.declared.SheetCounts.{SheetCounts}
 use Rattle.sheet.specs.Sheet.{Lengths, QuestionFields, questionFields}
 use Rattle.sheet.specs.Trees.{treesOf, trees-length, trees-same, mapped-sorts}
-use Rattle.sheet.specs.Contract.{eachAt, questionAt, questionsAt, QuestionStands, SheetStands}
+use Rattle.sheet.specs.Contract.{eachAt, questionReadAt, questionsAt, QuestionStands, SheetStands}
 use Rattle.sheet.specs.Stands.{Numbered, question-again, question-is}
 use Rattle.store.specs.Good.{Good}
 use Rattle.matching.specs.Tables.{Blank}
-use Rattle.rows.specs.Outcome.{Outcome}
-use Rattle.judged.specs.Questions.{answerOf, Answered, answerAdded, answersOf}
+use Rattle.row_rules.specs.Outcome.{CodedStore}
+use Rattle.judge_rules.specs.Questions.{answerOf, AnswersSoFar, answerAdded, answersOf}
 use Rattle.questions.specs.declared.Word.{Word}
 use Rattle.questions.specs.declared.all.Counts.{Counts}
 use Rattle.questions.specs.Contract.{questionOver, QuestionAsks, QuestionIs}
@@ -42,7 +42,7 @@ pub record AtIs (b p : List ℕ) (n : ℕ) (prm imgs bnd s tbl : List ℕ) (m x 
   pub long : length b′ ≡ length b
   pub wide : length p′ ≡ length p
   pub is : (i : ℕ) (l : Lengths) → l .records ≡ length b → l .places ≡ length p
-      → answerOf l (questionAt s (treesOf (storeOf b p n) tbl m) i x) (storeOf b p n) ≡ record { store = storeOf b′ p′ (r .count); code = r .code }
+      → answerOf l (questionReadAt s (treesOf (storeOf b p n) tbl m) i x) (storeOf b p n) ≡ record { store = storeOf b′ p′ (r .count); code = r .code }
   pub starts : Starts (storeOf b p n) (storeOf b′ p′ (r .count))
   pub params : prm′ ≡ prm
   pub images : imgs′ ≡ imgs
@@ -128,7 +128,7 @@ module _ (b p ix : List ℕ) (n u : ℕ) (prm imgs bnd s tbl : List ℕ) (m x : 
       }
 
   -- The question over the store is the sheet's.
-  over-same : (i : ℕ) → questionAt s (treesOf (storeOf b p n) tbl m) i x ≡ questionOver (storeOf b p n) tbl s r
+  over-same : (i : ℕ) → questionReadAt s (treesOf (storeOf b p n) tbl m) i x ≡ questionOver (storeOf b p n) tbl s r
   unfolding questionFields questionOver
   over-same i =
       let st = storeOf b p n in
@@ -217,10 +217,10 @@ module _ {b p ix : List ℕ} {n u : ℕ} {prm imgs bnd s tbl : List ℕ} {m : �
       unfolding answersOf eachAt
       one-more l f g =
           let st = storeOf b′ p′ n′ in
-          let same : questionAt s (treesOf (storeOf b p n) tbl m) i (getD ys i 0) ≡ questionAt s (treesOf st tbl m) i x =
-          ap₂ (λ (ts : List Sort) (y : ℕ). questionAt s ts i y) trees-kept (sym e) in
-          ap (λ (r : Answered). answerAdded (r .answers) (answerOf l (questionAt s (treesOf (storeOf b p n) tbl m) i (getD ys i 0)) (r .store))) (a .is l f g)
-          ∙ ap (λ (r : Outcome). answerAdded (take i an′) r)
+          let same : questionReadAt s (treesOf (storeOf b p n) tbl m) i (getD ys i 0) ≡ questionReadAt s (treesOf st tbl m) i x =
+          ap₂ (λ (ts : List Sort) (y : ℕ). questionReadAt s ts i y) trees-kept (sym e) in
+          ap (λ (r : AnswersSoFar). answerAdded (r .answers) (answerOf l (questionReadAt s (treesOf (storeOf b p n) tbl m) i (getD ys i 0)) (r .store))) (a .is l f g)
+          ∙ ap (λ (r : CodedStore). answerAdded (take i an′) r)
           (ap (λ (z : QuestionFields). answerOf l z st) same ∙ t .is i l (f ∙ sym (a .long)) (g ∙ sym (a .wide)))
           ∙ ap (λ (r : List ℕ). record { store = storeOf d q (w .count); answers = r }) (sym (take-suc-set an′ i (w .code) (omega (arith, a .room, h .room))))
 
@@ -265,10 +265,10 @@ module _ {b p ix : List ℕ} {n u : ℕ} {prm imgs bnd s tbl : List ℕ} {m : �
           good = a .good;
           long = a .long;
           wide = a .wide;
-          after = λ l f g. sym (ap (λ (r : Answered). r .store) (whole e l f g));
+          after = λ l f g. sym (ap (λ (r : AnswersSoFar). r .store) (whole e l f g));
           written = λ l f g.
               sym (take-append-drop c an′)
-              ∙ ap₂ (λ (x y : List ℕ). x ++ y) (sym (ap (λ (r : Answered). r .answers) (whole e l f g))) (rest-whole e l f g);
+              ∙ ap₂ (λ (x y : List ℕ). x ++ y) (sym (ap (λ (r : AnswersSoFar). r .answers) (whole e l f g))) (rest-whole e l f g);
           starts = a .starts;
           params = a .params;
           images = a .images;

@@ -12,35 +12,35 @@ use Rattle.record.specs.Record.{leaf, sortsOf}
 use Rattle.record.specs.Codec.{numbers-more}
 use Rattle.reader.specs.declared.QuestionRecord.{QuestionRecord}
 use Rattle.sheet.specs.Trees.{mapped}
-use Rattle.judged.specs.Questions.{firstOf, restOf}
-use Rattle.questions.specs.Fill.{SortAsks}
+use Rattle.judge_rules.specs.Questions.{firstSort, restSorts}
+use Rattle.questions.specs.Fill.{SortAtAsks}
 use Rattle.questions.specs.Contract.{Asked}
 
 -- The sorts of m numbers at x.
 abbrev pub sortsBy : List Sort → List ℕ → List ℕ → ℕ → ℕ → Sorts
 sortsBy st tbl s x m = sortsOf st (mapped tbl (numbersAt s x m))
 
-pub sorts-first : (st : List Sort) (tbl s : List ℕ) (x m : ℕ) → 0 < m → firstOf (sortsBy st tbl s x m) ≡ getD st (getD tbl (u16At s x) 0) leaf
+pub sorts-by-first : (st : List Sort) (tbl s : List ℕ) (x m : ℕ) → 0 < m → firstSort (sortsBy st tbl s x m) ≡ getD st (getD tbl (u16At s x) 0) leaf
 unfolding mapped sortsOf
-sorts-first st tbl s x m h = ap (λ (rs : List ℕ). firstOf (sortsOf st (mapped tbl rs))) (numbers-more s x m h)
+sorts-by-first st tbl s x m h = ap (λ (rs : List ℕ). firstSort (sortsOf st (mapped tbl rs))) (numbers-more s x m h)
 
-pub sorts-rest : (st : List Sort) (tbl s : List ℕ) (x m : ℕ) → 0 < m → restOf (sortsBy st tbl s x m) ≡ sortsBy st tbl s (x + 2) (m - 1)
+pub sorts-rest : (st : List Sort) (tbl s : List ℕ) (x m : ℕ) → 0 < m → restSorts (sortsBy st tbl s x m) ≡ sortsBy st tbl s (x + 2) (m - 1)
 unfolding mapped sortsOf
-sorts-rest st tbl s x m h = ap (λ (rs : List ℕ). restOf (sortsOf st (mapped tbl rs))) (numbers-more s x m h)
+sorts-rest st tbl s x m h = ap (λ (rs : List ℕ). restSorts (sortsOf st (mapped tbl rs))) (numbers-more s x m h)
 
-pub sorts-second : (st : List Sort) (tbl s : List ℕ) (x m : ℕ) → 1 < m → firstOf (restOf (sortsBy st tbl s x m)) ≡ getD st (getD tbl (u16At s (x + 2)) 0) leaf
-sorts-second st tbl s x m h = ap firstOf (sorts-rest st tbl s x m (omega arith)) ∙ sorts-first st tbl s (x + 2) (m - 1) (omega arith)
+pub sorts-second : (st : List Sort) (tbl s : List ℕ) (x m : ℕ) → 1 < m → firstSort (restSorts (sortsBy st tbl s x m)) ≡ getD st (getD tbl (u16At s (x + 2)) 0) leaf
+sorts-second st tbl s x m h = ap firstSort (sorts-rest st tbl s x m (omega arith)) ∙ sorts-by-first st tbl s (x + 2) (m - 1) (omega arith)
 
 pub sorts-third : (st : List Sort) (tbl s : List ℕ) (x m : ℕ) → 2 < m
-    → firstOf (restOf (restOf (sortsBy st tbl s x m))) ≡ getD st (getD tbl (u16At s (x + 4)) 0) leaf
+    → firstSort (restSorts (restSorts (sortsBy st tbl s x m))) ≡ getD st (getD tbl (u16At s (x + 4)) 0) leaf
 sorts-third st tbl s x m h =
     let e : x + 2 + 2 ≡ x + 4 = omega arith in
-    ap (λ (ss : Sorts). firstOf (restOf ss)) (sorts-rest st tbl s x m (omega arith)) ∙ sorts-second st tbl s (x + 2) (m - 1) (omega arith)
+    ap (λ (ss : Sorts). firstSort (restSorts ss)) (sorts-rest st tbl s x m (omega arith)) ∙ sorts-second st tbl s (x + 2) (m - 1) (omega arith)
     ∙ ap (λ (y : ℕ). getD st (getD tbl (u16At s y) 0) leaf) e
 
 -- A sort of the question at x.
 module _ (n : ℕ) (s tbl : List ℕ) (q : QuestionRecord) (h : Asked n s tbl q) (j x : ℕ) (o : j < q .count) (e : x ≡ q .list + 2 * j) where
-  pub sort-asks : SortAsks s x tbl
+  pub sort-asks : SortAtAsks s x tbl
   sort-asks =
       record {
         within = omega (arith, h .within);

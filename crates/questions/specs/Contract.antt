@@ -14,10 +14,10 @@ use Rattle.sheet.specs.Sheet.{Lengths, QuestionFields}
 use Rattle.sheet.specs.Trees.{mapped}
 use Rattle.store.specs.Good.{Good}
 use Rattle.matching.specs.Tables.{Lists, Cleared}
-use Rattle.rows.specs.Verdict.{codeOf}
-use Rattle.answers.specs.declared.Answer.{Answer}
-use Rattle.answers.specs.Answer.{AnswerIs}
-use Rattle.judged.specs.Questions.{firstOf, restOf, matchAnswer, applyAnswer, answerOf}
+use Rattle.row_rules.specs.Verdict.{codeOf}
+use Rattle.row_answer.specs.declared.Answer.{Answer}
+use Rattle.row_answer.specs.Answer.{AnswerIs}
+use Rattle.judge_rules.specs.Questions.{firstSort, restSorts, matchAnswer, applyAnswer, answerOf}
 use Rattle.questions.specs.declared.Word.{Word}
 
 -- THE QUESTION over the store st: the sheet's sorts by their store numbers, tbl.
@@ -39,7 +39,7 @@ pub record Asked (n : ℕ) (s tbl : List ℕ) (r : QuestionRecord) : Type 0 wher
   pub short : length s ≤ 65536
 
 ---------------------------------------------------------------- question 2
-pub record ApplyAsks (b p ix : List ℕ) (n u : ℕ) (imgs s tbl : List ℕ) (r : QuestionRecord) : Type 0 where
+pub record AnswerApplyAsks (b p ix : List ℕ) (n u : ℕ) (imgs s tbl : List ℕ) (r : QuestionRecord) : Type 0 where
   pub good : Good b p ix n u
   pub table : length imgs ≡ 65536
   pub zeros : Zeros imgs 0
@@ -48,13 +48,13 @@ pub record ApplyAsks (b p ix : List ℕ) (n u : ℕ) (imgs s tbl : List ℕ) (r 
 
 pub record ApplyIs (b p : List ℕ) (n : ℕ) (imgs s tbl : List ℕ) (q : QuestionRecord) (b′ p′ ix′ imgs′ : List ℕ) (r : Answer) : Type 0 where
   pub answer : AnswerIs b p n
-      (applyAnswer (numbersAt s (q .names) (q .named)) (firstOf (sortsOf (storeOf b p n) (mapped tbl (numbersAt s (q .list) (q .count)))))
-      (restOf (sortsOf (storeOf b p n) (mapped tbl (numbersAt s (q .list) (q .count))))))
+      (applyAnswer (numbersAt s (q .names) (q .named)) (firstSort (sortsOf (storeOf b p n) (mapped tbl (numbersAt s (q .list) (q .count)))))
+      (restSorts (sortsOf (storeOf b p n) (mapped tbl (numbersAt s (q .list) (q .count))))))
       b′ p′ ix′ r
   pub images : imgs′ ≡ imgs
 
 ---------------------------------------------------------------- question 1
-pub record ListedAsks (b p ix : List ℕ) (n u : ℕ) (prm imgs bnd : List ℕ) (k j i : ℕ) : Type 0 where
+pub record MatchListedAsks (b p ix : List ℕ) (n u : ℕ) (prm imgs bnd : List ℕ) (k j i : ℕ) : Type 0 where
   pub good : Good b p ix n u
   pub table : length prm ≡ 65536
   pub cleared : Cleared imgs bnd
@@ -67,7 +67,7 @@ pub record ListedIs (b p : List ℕ) (n : ℕ) (prm imgs bnd : List ℕ) (k j i 
   pub images : imgs′ ≡ imgs
   pub bound : bnd′ ≡ bnd
 
-pub record MatchAsks (b p ix : List ℕ) (n u : ℕ) (prm imgs bnd s tbl : List ℕ) (r : QuestionRecord) : Type 0 where
+pub record AnswerMatchAsks (b p ix : List ℕ) (n u : ℕ) (prm imgs bnd s tbl : List ℕ) (r : QuestionRecord) : Type 0 where
   pub good : Good b p ix n u
   pub table : length prm ≡ 65536
   pub zeros : Zeros prm 0
@@ -75,11 +75,11 @@ pub record MatchAsks (b p ix : List ℕ) (n u : ℕ) (prm imgs bnd s tbl : List 
   pub asked : Asked n s tbl r
   pub count : r .count ≡ 3
 
-pub record MatchIs (b p : List ℕ) (n : ℕ) (prm imgs bnd s tbl : List ℕ) (q : QuestionRecord) (b′ p′ ix′ prm′ imgs′ bnd′ : List ℕ) (r : Answer) : Type 0 where
+pub record AnswerMatchIs (b p : List ℕ) (n : ℕ) (prm imgs bnd s tbl : List ℕ) (q : QuestionRecord) (b′ p′ ix′ prm′ imgs′ bnd′ : List ℕ) (r : Answer) : Type 0 where
   pub answer : AnswerIs b p n
-      (matchAnswer (numbersAt s (q .names) (q .named)) (firstOf (sortsOf (storeOf b p n) (mapped tbl (numbersAt s (q .list) (q .count)))))
-      (firstOf (restOf (sortsOf (storeOf b p n) (mapped tbl (numbersAt s (q .list) (q .count))))))
-      (firstOf (restOf (restOf (sortsOf (storeOf b p n) (mapped tbl (numbersAt s (q .list) (q .count))))))))
+      (matchAnswer (numbersAt s (q .names) (q .named)) (firstSort (sortsOf (storeOf b p n) (mapped tbl (numbersAt s (q .list) (q .count)))))
+      (firstSort (restSorts (sortsOf (storeOf b p n) (mapped tbl (numbersAt s (q .list) (q .count))))))
+      (firstSort (restSorts (restSorts (sortsOf (storeOf b p n) (mapped tbl (numbersAt s (q .list) (q .count))))))))
       b′ p′ ix′ r
   pub params : prm′ ≡ prm
   pub images : imgs′ ≡ imgs

@@ -20,8 +20,8 @@ use Rattle.record.specs.Codec.{numbers-more}
 use Rattle.sheet.specs.Trees.{mapped}
 use Rattle.substitution.specs.Substitution.{find}
 use Rattle.matching.specs.TableLaws.{numbers-none}
-use Rattle.replacing.specs.Images.{imageAt, Images}
-use Rattle.judged.specs.Questions.{imagesOf}
+use Rattle.apply_walk.specs.Images.{imageAt, Images}
+use Rattle.judge_rules.specs.Questions.{imagesGiven}
 
 -- The table l with each name bound to the sort with its number, and with these names unbound; the last name first.
 unfoldable pub filled : List ℕ → List ℕ → List ℕ → List ℕ
@@ -35,7 +35,7 @@ emptied l (v ∷ vs) = set (emptied l vs) v 0
 
 ---------------------------------------------------------------- contracts
 -- A sort number of the sheet at x, in the table of sorts.
-pub record SortAsks (s : List ℕ) (x : ℕ) (tbl : List ℕ) : Type 0 where
+pub record SortAtAsks (s : List ℕ) (x : ℕ) (tbl : List ℕ) : Type 0 where
   pub within : x + 2 ≤ length s
   pub inside : u16At s x < length tbl
 
@@ -161,8 +161,8 @@ filled-length l (v ∷ vs) (k ∷ ks) = length-set (filled l vs ks) v (k + 1) �
 
 -- A NAME IS BOUND as in the definition's map.
 pub filled-find : (st : List Sort) (l vs ks : List ℕ) → Zeros l 0 → ((j : ℕ) → j < length vs → getD vs j 0 < length l) → (v : ℕ)
-    → find (imagesOf vs (sortsOf st ks)) v ≡ imageAt st (getD (filled l vs ks) v 0)
-unfolding filled imagesOf sortsOf find
+    → find (imagesGiven vs (sortsOf st ks)) v ≡ imageAt st (getD (filled l vs ks) v 0)
+unfolding filled imagesGiven sortsOf find
 filled-find st l [] ks z h v = sym (ap (imageAt st) (z v (omega arith)))
 filled-find st l (w ∷ vs) [] z h v = sym (ap (imageAt st) (z v (omega arith)))
 filled-find st l (w ∷ vs) (k ∷ ks) z h v =
@@ -203,7 +203,7 @@ filled-below m l (w ∷ vs) (k ∷ ks) z h v =
 
 -- THE FILLED TABLE STANDS FOR THE DEFINITION'S MAP.
 pub filled-images : (st : List Sort) (l vs ks : List ℕ) → Zeros l 0 → length l ≡ 65536 → ((j : ℕ) → j < length vs → getD vs j 0 < 65536)
-    → ((j : ℕ) → j < length ks → getD ks j 0 < length st) → Images st (filled l vs ks) (imagesOf vs (sortsOf st ks))
+    → ((j : ℕ) → j < length ks → getD ks j 0 < length st) → Images st (filled l vs ks) (imagesGiven vs (sortsOf st ks))
 filled-images st l vs ks z long names sorts =
     record {
       table = record { long = filled-length l vs ks ∙ long; below = filled-below (length st) l vs ks z sorts };

@@ -1,17 +1,17 @@
 // Question 2: the first sort with the names replaced by the other sorts. The table of images is filled by name and emptied.
-use answers::Answer;
-use instance::instance;
 use reader::QuestionRecord;
 use record::u16_at;
+use row_answer::Answer;
+use row_instance::instance;
 ghost use mathlib.Core.Path.{_≡_};
 ghost use lib.ListN.{getD};
 ghost use Rattle.record.specs.Number.{u16At, numbersAt};
-ghost use Rattle.questions.specs.Fill.{SortAsks, FillAsks, FilledIs, EmptyAsks, emptied};
-ghost use Rattle.questions.specs.Contract.{ApplyAsks, ApplyIs};
+ghost use Rattle.questions.specs.Fill.{SortAtAsks, FillAsks, FilledIs, EmptyAsks, emptied};
+ghost use Rattle.questions.specs.Contract.{AnswerApplyAsks, ApplyIs};
 
 // The store number of the sort that the sheet names at `at`.
 pub fn sort_at(sheet: &[u8], at: usize, table: &[u16]) -> usize
-    requires { ⌜ SortAsks (now sheet) at (now table) ⌝ }
+    requires { ⌜ SortAtAsks (now sheet) at (now table) ⌝ }
     ensures { λ r. ⌜ r ≡ getD (now (table .entry)) (u16At (now (sheet .entry)) at) 0 ⌝ }
 {
     let v = u16_at(sheet, at);
@@ -65,7 +65,7 @@ pub fn answer_apply(
     table: &[u16],
     question: QuestionRecord,
 ) -> Answer
-    requires { ⌜ ApplyAsks (now records) (now places) (now index) count used (now images) (now sheet) (now table) question ⌝ }
+    requires { ⌜ AnswerApplyAsks (now records) (now places) (now index) count used (now images) (now sheet) (now table) question ⌝ }
     ensures { λ r. ⌜ ApplyIs (now (records .entry)) (now (places .entry)) count (now (images .entry)) (now (sheet .entry)) (now (table .entry)) question (now (records .exit)) (now (places .exit)) (now (index .exit)) (now (images .exit)) r ⌝ }
 {
     let list = question.list;

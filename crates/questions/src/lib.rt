@@ -3,8 +3,6 @@ pub mod all;
 pub mod images;
 pub mod matched;
 
-use answers::Answer;
-use answers::code;
 use images::answer_apply;
 use images::sort_at;
 use matched::answer_match;
@@ -12,11 +10,13 @@ use matching::compatible::is_compatible;
 use reader::QuestionRecord;
 use record::kinds::QUESTION_COMPATIBLE;
 use record::kinds::QUESTION_MATCH;
+use row_answer::Answer;
+use row_answer::code;
 ghost use mathlib.Core.Path.{_≡_};
 ghost use Rattle.record.specs.Decode.{sortAt};
 ghost use Rattle.substitution.specs.Compatible.{compatible};
 ghost use Rattle.matching.specs.Contract.{PairAsks};
-ghost use Rattle.judged.specs.Questions.{yesNo};
+ghost use Rattle.judge_rules.specs.Questions.{yesNo};
 ghost use Rattle.questions.specs.Contract.{CodeAsks, WordIs, QuestionAsks, QuestionIs};
 
 // The word of an answer as it is written, and the store's count and bytes in use after it.

@@ -1,8 +1,5 @@
 // Question 1: the result after Substitution by the assignment that turns the pattern into the target.
 use super::images::sort_at;
-use answers::Answer;
-use answers::refuse;
-use instance::instance;
 use matching::Matched;
 use matching::plain::matches;
 use matching::premises::in_premise;
@@ -10,8 +7,11 @@ use matching::tables::clear;
 use matching::tables::list_names;
 use matching::tables::unlist_names;
 use reader::QuestionRecord;
-use rows::Cause;
-ghost use Rattle.questions.specs.Contract.{ListedAsks, ListedIs, MatchAsks, MatchIs};
+use row_answer::Answer;
+use row_answer::refuse;
+use row_instance::instance;
+use row_rules::Cause;
+ghost use Rattle.questions.specs.Contract.{MatchListedAsks, ListedIs, AnswerMatchAsks, AnswerMatchIs};
 
 // With its names listed: Barred outside matching's premise; NoAssignment where the pattern does not fit; else the result
 // with the assignment applied, found or added, Limit or Full. The tables of the map are zeros before and after.
@@ -28,7 +28,7 @@ pub fn match_listed(
     target: usize,
     result: usize,
 ) -> Answer
-    requires { ⌜ ListedAsks (now records) (now places) (now index) count used (now params) (now images) (now bound) pattern target result ⌝ }
+    requires { ⌜ MatchListedAsks (now records) (now places) (now index) count used (now params) (now images) (now bound) pattern target result ⌝ }
     ensures { λ r. ⌜ ListedIs (now (records .entry)) (now (places .entry)) count (now (params .entry)) (now (images .entry)) (now (bound .entry)) pattern target result (now (records .exit)) (now (places .exit)) (now (index .exit)) (now (images .exit)) (now (bound .exit)) r ⌝ }
 {
     if !in_premise(records, places, count, params, pattern, target) {
@@ -73,8 +73,8 @@ pub fn answer_match(
     table: &[u16],
     question: QuestionRecord,
 ) -> Answer
-    requires { ⌜ MatchAsks (now records) (now places) (now index) count used (now params) (now images) (now bound) (now sheet) (now table) question ⌝ }
-    ensures { λ r. ⌜ MatchIs (now (records .entry)) (now (places .entry)) count (now (params .entry)) (now (images .entry)) (now (bound .entry)) (now (sheet .entry)) (now (table .entry)) question (now (records .exit)) (now (places .exit)) (now (index .exit)) (now (params .exit)) (now (images .exit)) (now (bound .exit)) r ⌝ }
+    requires { ⌜ AnswerMatchAsks (now records) (now places) (now index) count used (now params) (now images) (now bound) (now sheet) (now table) question ⌝ }
+    ensures { λ r. ⌜ AnswerMatchIs (now (records .entry)) (now (places .entry)) count (now (params .entry)) (now (images .entry)) (now (bound .entry)) (now (sheet .entry)) (now (table .entry)) question (now (records .exit)) (now (places .exit)) (now (index .exit)) (now (params .exit)) (now (images .exit)) (now (bound .exit)) r ⌝ }
 {
     let list = question.list;
     let names = question.names;

@@ -32,7 +32,7 @@ use Rattle.reader.specs.declared.ReadTerm.the-variants.{Term, NoTerm}
 use Rattle.reader.specs.declared.ReadQuestion.{ReadQuestion}
 use Rattle.reader.specs.declared.ReadQuestion.the-variants.{Question, NoQuestion}
 use Rattle.reader.specs.Reader.{place, allBelow, pairSortsAt, readByte, readU16, readU32, readHead, readName, readNumber, readOwn, readList, readReferences, readNames, readSecond, readPairs, readSortFields, readSort, readTermFields, readTerm, readQuestionFields, readQuestion}
-use Rattle.reader.specs.Parts.{scalars, sortOf, termOf, readSortLists, readTermLists}
+use Rattle.reader.specs.Parts.{scalars, sortRecordOf, termOf, readSortLists, readTermLists}
 
 -- NUMBERS: all their bytes are there, or not
 module _ (s : List ℕ) (x : ℕ) where
@@ -317,9 +317,9 @@ module _ (s : List ℕ) (m sorts x : ℕ) where
       pairs-short l = simp (bit-on 32 m h, sym p, r, lt-leb (c .at + 4 * n) (length s) (omega (arith, byte-inside s x p r)))
 
       module _ (l : n ≤ (length s - c .at) / 4) where
-        pub pairs-more : 64 < n → NoList Value ≡ readPairs s m sorts x
+        pub pairs-read-more : 64 < n → NoList Value ≡ readPairs s m sorts x
         unfolding readPairs
-        pairs-more d = simp (bit-on 32 m h, sym p, r, le-leb (c .at + 4 * n) (length s) (pairs-within s x p r l), lt-leb n 64 d)
+        pairs-read-more d = simp (bit-on 32 m h, sym p, r, le-leb (c .at + 4 * n) (length s) (pairs-within s x p r l), lt-leb n 64 d)
 
         module _ (d : n ≤ 64) {t : Bool} (q : t ≡ allBelow sorts (pairSortsAt s (c .at) n)) where
           pub pairs-far : t ≡ false → NoList Reference ≡ readPairs s m sorts x
@@ -342,7 +342,7 @@ module _ (s : List ℕ) (m i : ℕ) (f : Scalars) (x : ℕ) {lo hi : ℕ} (el : 
     unfolding readSortLists
     sort-lists-2 r6 = simp (sym (rw (el, eh) at p5), r5, sym p6, r6)
 
-    pub sort-lists-3 : {ns q : ℕ} {c6 : Cursor} → o6 ≡ Found ns q c6 → Sort (sortOf f l n ns q) c6 ≡ readSortLists s m i f x
+    pub sort-lists-3 : {ns q : ℕ} {c6 : Cursor} → o6 ≡ Found ns q c6 → Sort (sortRecordOf f l n ns q) c6 ≡ readSortLists s m i f x
     unfolding readSortLists
     sort-lists-3 r6 = simp (sym (rw (el, eh) at p5), r5, sym p6, r6)
 

@@ -18,8 +18,8 @@ abbrev pub scalars : ℕ → ℕ → ℕ → ℕ → Scalars
 scalars k a w o = record { kind = k; name = a; number = w; sort = o }
 
 -- The records with these fields and lists.
-abbrev pub sortOf : Scalars → ℕ → ℕ → ℕ → ℕ → SortRecord
-sortOf f l n ns q = record { kind = f .kind; name = f .name; number = f .number; list = l; count = n; names = ns; named = q }
+abbrev pub sortRecordOf : Scalars → ℕ → ℕ → ℕ → ℕ → SortRecord
+sortRecordOf f l n ns q = record { kind = f .kind; name = f .name; number = f .number; list = l; count = n; names = ns; named = q }
 
 abbrev pub termOf : Scalars → ℕ → ℕ → ℕ → ℕ → ℕ → ℕ → TermRecord
 termOf f l n ps p r q =
@@ -42,7 +42,7 @@ unfolding readReferences readNames leastOf mostOf
 readSortLists s m i f x =
     byList (readReferences s m (leastOf (f .kind)) (mostOf (f .kind)) i x) NoSort (λ l n x5.
     byList (readNames s m 1 64 x5) NoSort (λ ns q x6.
-    Sort (sortOf f l n ns q) (place x6)))
+    Sort (sortRecordOf f l n ns q) (place x6)))
 
 -- The list, the pairs and the second list of a term record with the number t.
 unfoldable pub readTermLists : List ℕ → ℕ → ℕ → ℕ → Scalars → ℕ → ReadTerm

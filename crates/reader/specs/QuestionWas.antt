@@ -18,7 +18,7 @@ use Rattle.reader.specs.declared.Cursor.{Cursor}
 use Rattle.reader.specs.declared.QuestionRecord.{QuestionRecord}
 use Rattle.reader.specs.declared.ReadQuestion.the-variants.{Question, NoQuestion}
 use Rattle.reader.specs.Reader.{allBelow, readHead, readReferences, readNames, readQuestionFields, readQuestion}
-use Rattle.reader.specs.Was.{by-need, by-list, by-head, false-true, HeadWas, head-was, ListWas, references-were, names-were, references-below, or-right}
+use Rattle.reader.specs.Was.{by-need, by-list, by-head, false-true, HeadWas, head-was, ListWas, references-were, names-were, references-low, or-last}
 
 -- THE RECORD THAT WAS READ at x, on a sheet of `sorts` sorts
 pub record QuestionWas (s : List ℕ) (sorts x : ℕ) (r : QuestionRecord) (c : Cursor) : Type 0 where
@@ -58,7 +58,7 @@ with-list i m = false || bit 16 m
 
 listed : (k : ℕ) → k < 3 → bit 16 (questionMapOf k) ≡ true
 unfolding bit questionMapOf questionMaps
-listed k l = or-right false (bit 16 (questionMapOf k)) (at with-list questionMaps tt k l) refl
+listed k l = or-last false (bit 16 (questionMapOf k)) (at with-list questionMaps tt k l) refl
 
 abbrev few-at-most : ℕ → ℕ → Bool
 few-at-most i n = leb n 64
@@ -132,7 +132,7 @@ module _ (s : List ℕ) (sorts x m k : ℕ) (c2 : Cursor) (head : HeadWas s x m 
         most = r4 .most here;
         few = few;
         list = omega (arith, r4 .ends, in4);
-        references = references-below s l n sorts below;
+        references = references-low s l n sorts below;
         two = is-two;
         three = is-three;
         images = is-images;

@@ -39,9 +39,9 @@ refusalNumber TreeSize = 9
 refusalNumber Store = 10
 
 -- What follows where a test holds, and the refusal where it does not.
-abbrev pub need : {A : Type 0} → Bool → A → A → A
-need true fail go = go
-need false fail go = fail
+abbrev pub demand : {A : Type 0} → Bool → A → A → A
+demand true fail go = go
+demand false fail go = fail
 
 -- The steps of a chain of fields: a refusal ends it, else the value and the next place go on.
 abbrev pub byNumber : {A : Type 0} → ReadNumber → (Refusal → A) → (ℕ → ℕ → A) → A
@@ -61,22 +61,22 @@ place x = record { at = x }
 
 -- Numbers: all their bytes, or 3.
 unfoldable pub readByte : List ℕ → ℕ → ReadNumber
-readByte s x = need (leb (x + 1) (length s)) (NoNumber PastEnd) (Number (getD s x 0) (place (x + 1)))
+readByte s x = demand (leb (x + 1) (length s)) (NoNumber PastEnd) (Number (getD s x 0) (place (x + 1)))
 
 unfoldable pub readU16 : List ℕ → ℕ → ReadNumber
 unfolding u16At
-readU16 s x = need (leb (x + 2) (length s)) (NoNumber PastEnd) (Number (u16At s x) (place (x + 2)))
+readU16 s x = demand (leb (x + 2) (length s)) (NoNumber PastEnd) (Number (u16At s x) (place (x + 2)))
 
 unfoldable pub readU32 : List ℕ → ℕ → ReadNumber
 unfolding u32At
-readU32 s x = need (leb (x + 4) (length s)) (NoNumber PastEnd) (Number (u32At s x) (place (x + 4)))
+readU32 s x = demand (leb (x + 4) (length s)) (NoNumber PastEnd) (Number (u32At s x) (place (x + 4)))
 
 -- "A record starts with a one-byte bit map": the map byte, 3; bit 1, 4; the kind byte, 3.
 unfoldable pub readHead : List ℕ → ℕ → ReadHead
 unfolding readByte bit
 readHead s x =
     byNumber (readByte s x) NoHead (λ m x1.
-    need (bit 1 m) (NoHead Map)
+    demand (bit 1 m) (NoHead Map)
     (byNumber (readByte s x1) NoHead (λ k x2.
     Head m k (place x2))))
 
@@ -90,7 +90,7 @@ unfoldable pub readNumber : List ℕ → ℕ → ℕ → ℕ → ReadNumber
 unfolding readU32 bit
 readNumber s m most x =
     cond (bit 4 m)
-    (byNumber (readU32 s x) NoNumber (λ v y. need (leb v most) (NoNumber Value) (Number v (place y))))
+    (byNumber (readU32 s x) NoNumber (λ v y. demand (leb v most) (NoNumber Value) (Number v (place y))))
     (Number 0 (place x))
 
 -- Bit 8: the sort, a u16 that names one of the `sorts` sorts of the sheet, 6.
@@ -98,7 +98,7 @@ unfoldable pub readOwn : List ℕ → ℕ → ℕ → ℕ → ReadNumber
 unfolding readU16 bit
 readOwn s m sorts x =
     cond (bit 8 m)
-    (byNumber (readU16 s x) NoNumber (λ v y. need (ltb v sorts) (NoNumber Reference) (Number v (place y))))
+    (byNumber (readU16 s x) NoNumber (λ v y. demand (ltb v sorts) (NoNumber Reference) (Number v (place y))))
     (Number 0 (place x))
 
 -- A list: all its bytes, 3; then its length, 5.
@@ -106,9 +106,9 @@ unfoldable pub readList : List ℕ → ℕ → ℕ → ℕ → ReadList
 unfolding readByte
 readList s least most x =
     byNumber (readByte s x) NoList (λ n y.
-    need (leb (y + 2 * n) (length s)) (NoList PastEnd)
-    (need (leb least n) (NoList Value)
-    (need (leb n most) (NoList Value)
+    demand (leb (y + 2 * n) (length s)) (NoList PastEnd)
+    (demand (leb least n) (NoList Value)
+    (demand (leb n most) (NoList Value)
     (Found y n (place (y + 2 * n))))))
 
 -- References: each below the number of records that it may name.
@@ -122,7 +122,7 @@ unfolding readList bit allBelow numbersAt
 readReferences s m least most limit x =
     cond (bit 16 m)
     (byList (readList s least most x) NoList (λ a n y.
-    need (allBelow limit (numbersAt s a n)) (NoList Reference) (Found a n (place y))))
+    demand (allBelow limit (numbersAt s a n)) (NoList Reference) (Found a n (place y))))
     (Found x 0 (place x))
 
 -- Bit 64 of a sort or a question: a list of distinct names, 5.
@@ -131,7 +131,7 @@ unfolding readList bit distinct numbersAt
 readNames s m least most x =
     cond (bit 64 m)
     (byList (readList s least most x) NoList (λ a n y.
-    need (distinct (numbersAt s a n)) (NoList Value) (Found a n (place y))))
+    demand (distinct (numbersAt s a n)) (NoList Value) (Found a n (place y))))
     (Found x 0 (place x))
 
 -- Bit 64 of a term of kind k with a list of n: the names of a Let (9), which may be any, or the index terms of a ParamOp, 6.
@@ -140,7 +140,7 @@ unfolding readList bit allBelow numbersAt secondLeastOf secondMostOf
 readSecond s m k n limit x =
     cond (bit 64 m)
     (byList (readList s (secondLeastOf k n) (secondMostOf k n) x) NoList (λ a q y.
-    need (eqb k 9 || allBelow limit (numbersAt s a q)) (NoList Reference) (Found a q (place y))))
+    demand (eqb k 9 || allBelow limit (numbersAt s a q)) (NoList Reference) (Found a q (place y))))
     (Found x 0 (place x))
 
 -- The names and the sorts of n pairs from x on.
@@ -160,9 +160,9 @@ unfolding readByte bit allBelow pairSortsAt
 readPairs s m sorts x =
     cond (bit 32 m)
     (byNumber (readByte s x) NoList (λ n y.
-    need (leb (y + 4 * n) (length s)) (NoList PastEnd)
-    (need (leb n 64) (NoList Value)
-    (need (allBelow sorts (pairSortsAt s y n)) (NoList Reference)
+    demand (leb (y + 4 * n) (length s)) (NoList PastEnd)
+    (demand (leb n 64) (NoList Value)
+    (demand (allBelow sorts (pairSortsAt s y n)) (NoList Reference)
     (Found y n (place (y + 4 * n)))))))
     (Found x 0 (place x))
 
@@ -180,7 +180,7 @@ unfoldable pub readSort : List ℕ → ℕ → ℕ → ReadSort
 unfolding readHead readSortFields mapOf
 readSort s i x =
     byHead (readHead s x) NoSort (λ m k y.
-    need (eqb m (mapOf k)) (NoSort Map) (readSortFields s m k i y))
+    demand (eqb m (mapOf k)) (NoSort Map) (readSortFields s m k i y))
 
 -- THE TERM RECORD with the number t at x, on a sheet of `sorts` sorts; it may name the t terms before it.
 unfoldable pub readTermFields : List ℕ → ℕ → ℕ → ℕ → ℕ → ℕ → ReadTerm
@@ -199,7 +199,7 @@ unfoldable pub readTerm : List ℕ → ℕ → ℕ → ℕ → ReadTerm
 unfolding readHead readTermFields termMapOf
 readTerm s sorts t x =
     byHead (readHead s x) NoTerm (λ m k y.
-    need (eqb m (termMapOf k)) (NoTerm Map) (readTermFields s m k sorts t y))
+    demand (eqb m (termMapOf k)) (NoTerm Map) (readTermFields s m k sorts t y))
 
 -- THE QUESTION RECORD at x; "questions may name every sort".
 unfoldable pub readQuestionFields : List ℕ → ℕ → ℕ → ℕ → ℕ → ReadQuestion
@@ -213,4 +213,4 @@ unfoldable pub readQuestion : List ℕ → ℕ → ℕ → ReadQuestion
 unfolding readHead readQuestionFields questionMapOf
 readQuestion s sorts x =
     byHead (readHead s x) NoQuestion (λ m k y.
-    need (eqb m (questionMapOf k)) (NoQuestion Map) (readQuestionFields s m k sorts y))
+    demand (eqb m (questionMapOf k)) (NoQuestion Map) (readQuestionFields s m k sorts y))

@@ -12,7 +12,7 @@ use Rattle.record.specs.Number.{u16At, u32At, numbersAt}
 use Rattle.record.specs.Names.{distinct}
 use Rattle.record.specs.Record.{Fields, maps, mapOf, leasts, leastOf, mostOf, bit, recordBytes}
 use Rattle.record.specs.Store.{given}
-use Rattle.record.specs.Decode.{listOf, numberPlace, listPlace, namesPlace, endPlace, fields, fieldsBy, fieldsAt, Proper, Shape, Below, Held}
+use Rattle.record.specs.Decode.{listOf, numberPlace, listPlace, namesPlace, endPlace, fields, fieldsBy, fieldsAt, ProperFields, Shape, Below, Held}
 use Rattle.record.specs.Table.{at}
 use Rattle.record.specs.Codec.{Bytes, canonical, record-end, length-numbersAt, fields-equal}
 use Rattle.reader.specs.declared.Refusal.{Refusal}
@@ -20,7 +20,7 @@ use Rattle.reader.specs.declared.Cursor.{Cursor}
 use Rattle.record.specs.declared.SortRecord.{SortRecord}
 use Rattle.reader.specs.declared.ReadSort.the-variants.{Sort, NoSort}
 use Rattle.reader.specs.Reader.{allBelow, readHead, readName, readNumber, readReferences, readNames, readSortFields, readSort}
-use Rattle.reader.specs.Was.{by-need, by-number, by-list, by-head, false-true, NumberWas, HeadWas, head-was, name-was, number-was, ListWas, references-were, names-were, all-below-each, u16-small, given-small, low-by, high-by, or-right}
+use Rattle.reader.specs.Was.{by-need, by-number, by-list, by-head, false-true, NumberWas, HeadWas, head-was, name-was, number-was, ListWas, references-were, names-were, all-below-each, u16-small, given-small, low-by, high-by, or-last}
 
 -- THE RECORD THAT WAS READ with the number i at x: it lies whole there, its fields are those read, and the next record
 -- starts behind it
@@ -44,7 +44,7 @@ none-least i m = bit 16 m || eqb (leastOf i) 0
 
 no-least : (k : ℕ) → k < 16 → bit 16 (mapOf k) ≡ false → leastOf k ≡ 0
 unfolding bit mapOf maps leastOf leasts
-no-least k l e = eqb-true (leastOf k) 0 (or-right (bit 16 (mapOf k)) (eqb (leastOf k) 0) (at none-least maps tt k l) e)
+no-least k l e = eqb-true (leastOf k) 0 (or-last (bit 16 (mapOf k)) (eqb (leastOf k) 0) (at none-least maps tt k l) e)
 
 known-by : (k : ℕ) (t : Bool) → leb 16 k ≡ t → bit 1 (mapOf k) ≡ true → k < 16
 unfolding bit mapOf maps
@@ -69,7 +69,7 @@ module _ (s : List ℕ) (bytes : Bytes s) (i x m k : ℕ) (c2 : Cursor) (head : 
   off : (v : ℕ) → bit v (mapOf k) ≡ false → bit v m ≡ false
   off v e = ap (bit v) mk ∙ e
 
-  proper : Proper (fields k a w (numbersAt s l n) (numbersAt s ns q))
+  proper : ProperFields (fields k a w (numbersAt s l n) (numbersAt s ns q))
   proper =
       record {
         noName = λ e. r3 .value ∙ ap (λ (t : Bool). given t (u16At s (x + 2))) (off 2 e);

@@ -20,7 +20,7 @@ use Rattle.reader.specs.declared.Cursor.{Cursor}
 use Rattle.reader.specs.declared.TermRecord.{TermRecord}
 use Rattle.reader.specs.declared.ReadTerm.the-variants.{Term, NoTerm}
 use Rattle.reader.specs.Reader.{allBelow, readHead, readName, readNumber, readOwn, readReferences, readPairs, readSecond, readTermFields, readTerm}
-use Rattle.reader.specs.Was.{by-need, by-number, by-list, by-head, false-true, NumberWas, HeadWas, head-was, name-was, number-was, own-was, ListWas, references-were, second-was, PairsWere, pairs-were, references-below, pairs-below, u16-small, given-small, low-by, high-by, or-right}
+use Rattle.reader.specs.Was.{by-need, by-number, by-list, by-head, false-true, NumberWas, HeadWas, head-was, name-was, number-was, own-was, ListWas, references-were, second-was, PairsWere, pairs-were, references-low, pairs-below, u16-small, given-small, low-by, high-by, or-last}
 
 -- THE RECORD THAT WAS READ with the number t at x, on a sheet of `sorts` sorts
 pub record TermWas (s : List ℕ) (sorts t x : ℕ) (r : TermRecord) (c : Cursor) : Type 0 where
@@ -72,7 +72,7 @@ none-least i m = bit 16 m || eqb (termLeastOf i) 0
 
 no-least : (k : ℕ) → k < 13 → bit 16 (termMapOf k) ≡ false → termLeastOf k ≡ 0
 unfolding bit termMapOf termMaps termLeastOf termLeasts
-no-least k l e = eqb-true (termLeastOf k) 0 (or-right (bit 16 (termMapOf k)) (eqb (termLeastOf k) 0) (at none-least termMaps tt k l) e)
+no-least k l e = eqb-true (termLeastOf k) 0 (or-last (bit 16 (termMapOf k)) (eqb (termLeastOf k) 0) (at none-least termMaps tt k l) e)
 
 abbrev few-at-most : ℕ → ℕ → Bool
 few-at-most i n = leb n 64
@@ -141,14 +141,14 @@ module _ (s : List ℕ) (bytes : Bytes s) (sorts t x m k : ℕ) (c2 : Cursor) (h
         most = most;
         few = few;
         list = omega (arith, r6 .ends, r6 .inside in5);
-        references = references-below s l n t below;
+        references = references-low s l n t below;
         paired = r7 .few;
         pairs = omega (arith, r7 .ends, in7);
         bindings = pairs-below s ps p sorts (r7 .below);
         seconds = second-few k n q (bit 64 m) few (r8 .most) (r8 .empty);
         second = omega (arith, r8 .ends, r8 .inside in7);
         values = let-values;
-        indices = λ d. references-below s z q t (or-other (eqb k 9) (allBelow t (numbersAt s z q)) (ne-eqb k 9 d) indexed);
+        indices = λ d. references-low s z q t (or-other (eqb k 9) (allBelow t (numbersAt s z q)) (ne-eqb k 9 d) indexed);
         noName = λ e. r3 .value ∙ ap (λ (b : Bool). given b (u16At s (c2 .at))) (on 2 e);
         noNumber = λ e. r4 .value ∙ ap (λ (b : Bool). given b (u32At s (c3 .at))) (on 4 e);
         noSort = λ e. r5 .value ∙ ap (λ (b : Bool). given b (u16At s (c4 .at))) (on 8 e);

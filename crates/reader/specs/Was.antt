@@ -25,12 +25,12 @@ use Rattle.reader.specs.declared.ReadList.{ReadList}
 use Rattle.reader.specs.declared.ReadList.the-variants.{List as Found, NoList}
 use Rattle.reader.specs.declared.ReadHead.{ReadHead}
 use Rattle.reader.specs.declared.ReadHead.the-variants.{Head, NoHead}
-use Rattle.reader.specs.Reader.{need, byNumber, byList, byHead, place, allBelow, pairSortsAt, readByte, readU16, readU32, readHead, readName, readNumber, readOwn, readList, readReferences, readNames, readSecond, readPairs}
+use Rattle.reader.specs.Reader.{demand, byNumber, byList, byHead, place, allBelow, pairSortsAt, readByte, readU16, readU32, readHead, readName, readNumber, readOwn, readList, readReferences, readNames, readSecond, readPairs}
 use Rattle.reader.specs.Cases.{byte-inside, ListIs, list-was}
 
 -- A CHAIN TAKEN APART: the answer v of a step comes from its refusal or from what goes on, and each way gives B
 module _ {A B : Type 0} {v : A} where
-  pub by-need : {fail go : A} (t : Bool) → need t fail go ≡ v → (fail ≡ v → B) → (t ≡ true → go ≡ v → B) → B
+  pub by-need : {fail go : A} (t : Bool) → demand t fail go ≡ v → (fail ≡ v → B) → (t ≡ true → go ≡ v → B) → B
   by-need true h f g = g refl h
   by-need false h f g = f h
 
@@ -85,7 +85,7 @@ pub record NumberWas (s : List ℕ) (x v w a : ℕ) (c : Cursor) : Type 0 where
   pub next : c .at ≡ x + w
   pub inside : x ≤ length s → c .at ≤ length s
 
-need-number : (s : List ℕ) (x v w : ℕ) {a : ℕ} {c : Cursor} → need (leb (x + w) (length s)) (NoNumber PastEnd) (Number v (place (x + w))) ≡ Number a c → NumberWas s x v w a c
+need-number : (s : List ℕ) (x v w : ℕ) {a : ℕ} {c : Cursor} → demand (leb (x + w) (length s)) (NoNumber PastEnd) (Number v (place (x + w))) ≡ Number a c → NumberWas s x v w a c
 need-number s x v w {a} {c} r =
     by-need (leb (x + w) (length s)) r no-number
     (λ e q. record { value = sym (number-value q); next = sym (number-next q); inside = λ h. omega (arith, number-next q, leb-true (x + w) (length s) e) })
@@ -154,7 +154,7 @@ passed : {s : List ℕ} {x v w a b : ℕ} {c d : Cursor} → NumberWas s x v w b
 passed r e = record { value = sym (number-value e) ∙ r .value; next = sym (number-next e) ∙ r .next; inside = λ h. omega (arith, number-next e, r .inside h) }
 
 number-by : (s : List ℕ) (most x : ℕ) {a : ℕ} {c : Cursor} (t : Bool)
-    → cond t (byNumber (readU32 s x) NoNumber (λ v y. need (leb v most) (NoNumber Value) (Number v (place y)))) (Number 0 (place x)) ≡ Number a c
+    → cond t (byNumber (readU32 s x) NoNumber (λ v y. demand (leb v most) (NoNumber Value) (Number v (place y)))) (Number 0 (place x)) ≡ Number a c
     → NumberWas s x (given t (u32At s x)) (given t 4) a c × (a ≤ most)
 number-by s most x false r = let w = none-was s x r in (w, omega (arith, w .value))
 number-by s most x true r =
@@ -169,7 +169,7 @@ unfolding readNumber
 number-was s m most x r = number-by s most x (bit 4 m) r
 
 own-by : (s : List ℕ) (sorts x : ℕ) {a : ℕ} {c : Cursor} (t : Bool)
-    → cond t (byNumber (readU16 s x) NoNumber (λ v y. need (ltb v sorts) (NoNumber Reference) (Number v (place y)))) (Number 0 (place x)) ≡ Number a c
+    → cond t (byNumber (readU16 s x) NoNumber (λ v y. demand (ltb v sorts) (NoNumber Reference) (Number v (place y)))) (Number 0 (place x)) ≡ Number a c
     → NumberWas s x (given t (u16At s x)) (given t 2) a c × (t ≡ true → a < sorts)
 own-by s sorts x false r = (none-was s x r, false-true)
 own-by s sorts x true r =
@@ -227,7 +227,7 @@ list-none s low high x {a} {n} {c} r =
 -- a test on the numbers that were read
 module _ (s : List ℕ) (low high x : ℕ) (test : List ℕ → Bool) (why : Refusal) (passes : test [] ≡ true) where
   tested : {a n : ℕ} {c : Cursor} (t : Bool)
-      → cond t (byList (readList s low high x) NoList (λ b k y. need (test (numbersAt s b k)) (NoList why) (Found b k (place y)))) (Found x 0 (place x)) ≡ Found a n c
+      → cond t (byList (readList s low high x) NoList (λ b k y. demand (test (numbersAt s b k)) (NoList why) (Found b k (place y)))) (Found x 0 (place x)) ≡ Found a n c
       → ListWas s t low high x a n c × (test (numbersAt s a n) ≡ true)
   tested false r = let l = list-none s low high x r in (l, ap test (l .values) ∙ passes)
   tested true r =
@@ -267,9 +267,9 @@ pub record PairsWere (s : List ℕ) (t : Bool) (sorts x a n : ℕ) (c : Cursor) 
 pairs-by : (s : List ℕ) (sorts x : ℕ) {a n : ℕ} {c : Cursor} (t : Bool)
     → cond t
     (byNumber (readByte s x) NoList (λ k y.
-    need (leb (y + 4 * k) (length s)) (NoList PastEnd)
-    (need (leb k 64) (NoList Value)
-    (need (allBelow sorts (pairSortsAt s y k)) (NoList Reference)
+    demand (leb (y + 4 * k) (length s)) (NoList PastEnd)
+    (demand (leb k 64) (NoList Value)
+    (demand (allBelow sorts (pairSortsAt s y k)) (NoList Reference)
     (Found y k (place (y + 4 * k)))))))
     (Found x 0 (place x)) ≡ Found a n c
     → PairsWere s t sorts x a n c
@@ -323,8 +323,8 @@ unfolding pairSortsAt
 length-pairs s x zero = refl
 length-pairs s x (suc n) = ap suc (length-pairs s (x + 4) n)
 
-pub references-below : (s : List ℕ) (x n i : ℕ) → allBelow i (numbersAt s x n) ≡ true → (j : ℕ) → j < n → u16At s (x + 2 * j) < i
-references-below s x n i e j l = omega (arith, number-at s x n j l, all-below-each i (numbersAt s x n) e j (omega (arith, length-numbersAt s x n)))
+pub references-low : (s : List ℕ) (x n i : ℕ) → allBelow i (numbersAt s x n) ≡ true → (j : ℕ) → j < n → u16At s (x + 2 * j) < i
+references-low s x n i e j l = omega (arith, number-at s x n j l, all-below-each i (numbersAt s x n) e j (omega (arith, length-numbersAt s x n)))
 
 pub pairs-below : (s : List ℕ) (x n i : ℕ) → allBelow i (pairSortsAt s x n) ≡ true → (j : ℕ) → j < n → u16At s (x + 4 * j + 2) < i
 pairs-below s x n i e j l = omega (arith, pair-sort-at s x n j l, all-below-each i (pairSortsAt s x n) e j (omega (arith, length-pairs s x n)))
@@ -346,7 +346,7 @@ pub high-by : (t : Bool) (n high : ℕ) → (t ≡ true → n ≤ high) → (t �
 high-by true n high h k = h refl
 high-by false n high h k = omega (arith, k refl)
 
-pub or-right : (a c : Bool) → T (a || c) → a ≡ false → c ≡ true
-or-right true c t e = false-true (sym e)
-or-right false true t e = refl
-or-right false false t e = absurd t
+pub or-last : (a c : Bool) → T (a || c) → a ≡ false → c ≡ true
+or-last true c t e = false-true (sym e)
+or-last false true t e = refl
+or-last false false t e = absurd t

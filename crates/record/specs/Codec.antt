@@ -9,7 +9,7 @@ use lib.ListN.{length, getD, length-append}
 use Rattle.record.specs.Number.{u16At, u32At, numbersAt, numbersBytes}
 use Rattle.record.specs.Record.{Fields, mapOf, bit, nameBytes, numberBytes, listBytes, recordBytes}
 use Rattle.record.specs.Store.{given}
-use Rattle.record.specs.Decode.{listOf, listWidth, numberPlace, listPlace, namesPlace, endPlace, fields, fieldsBy, fieldsAt, Proper, Stands}
+use Rattle.record.specs.Decode.{listOf, listWidth, numberPlace, listPlace, namesPlace, endPlace, fields, fieldsBy, fieldsAt, ProperFields, Stands}
 use Rattle.record.specs.Bytes.{stands-move, stands-left, stands-right, stands-append}
 
 abbrev pub Bytes : List ℕ → Type 0
@@ -168,7 +168,7 @@ laid f b x h =
     }
 
 -- DECODING AN ENCODING GIVES IT BACK, wherever it stands.
-pub decoded : (f : Fields) (b : List ℕ) (x : ℕ) → Proper f → Stands (recordBytes f) b x → fieldsAt b x ≡ f
+pub decoded : (f : Fields) (b : List ℕ) (x : ℕ) → ProperFields f → Stands (recordBytes f) b x → fieldsAt b x ≡ f
 unfolding fieldsAt fieldsBy
 decoded f b x p h =
     let m = mapOf (f .kind) in

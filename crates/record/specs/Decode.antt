@@ -53,7 +53,7 @@ unfolding fieldsBy
 fieldsAt b x = fieldsBy (getD b x 0) b x
 
 -- Fields with none that the map of the kind leaves out.
-pub record Proper (f : Fields) : Type 0 where
+pub record ProperFields (f : Fields) : Type 0 where
   pub noName : bit 2 (mapOf (f .kind)) ≡ false → f .name ≡ 0
   pub noNumber : bit 4 (mapOf (f .kind)) ≡ false → f .number ≡ 0
   pub noList : bit 16 (mapOf (f .kind)) ≡ false → f .list ≡ []
@@ -62,7 +62,7 @@ pub record Proper (f : Fields) : Type 0 where
 -- Fields of a sort record of document 01: a known kind, ranges, list lengths, distinct names.
 pub record Shape (f : Fields) : Type 0 where
   pub known : f .kind < 16
-  pub proper : Proper f
+  pub proper : ProperFields f
   pub name : f .name < 65536
   pub number : f .number < 65536
   pub least : leastOf (f .kind) ≤ length (f .list)

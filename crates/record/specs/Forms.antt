@@ -9,7 +9,7 @@ use lib.Dec.{eqb, T}
 use borrow.Author.Tests.{eqb-true, eqb-false, eq-eqb, ne-eqb}
 use Rattle.record.specs.Sort.{Sort, var, par, node}
 use Rattle.record.specs.Record.{Fields, maps, mapOf, bit, leasts, leastOf, mosts, mostOf, leaf, sortsOf, sortOf}
-use Rattle.record.specs.Decode.{Proper, Shape}
+use Rattle.record.specs.Decode.{ProperFields, Shape}
 use Rattle.record.specs.Table.{at}
 
 -- The three forms of a kind.
@@ -51,7 +51,7 @@ pub no-names : (k : ℕ) → k < 16 → (k ≡ 12 → ⊥) → bit 64 (mapOf k) 
 unfolding bit mapOf maps
 no-names k l h = or-false (eqb k 12) (bit 64 (mapOf k)) (at only-par maps tt k l) (ne-eqb k 12 h)
 
-module _ (f : Fields) (p : Proper f) where
+module _ (f : Fields) (p : ProperFields f) where
   pub var-number : f .kind ≡ 2 → f .number ≡ 0
   unfolding bit mapOf maps
   var-number e = p .noNumber (ap (λ (k : ℕ). bit 4 (mapOf k)) e)

@@ -3,13 +3,13 @@ use Prim.Native.Nat.{ℕ, zero, suc, _+_, _/_, _%_, _^_, _≤_, _<_}
 use mathlib.Core.Path.{_≡_, refl}
 use mathlib.Core.List.{List}
 use native.Mathlib.Omega.{arith}
-use Rattle.store.specs.Index.{hashOf, secondOf, doubled, lastOf, keyOf, Refilled, bucketOf, restOf}
+use Rattle.store.specs.Index.{hashOf, secondHash, doubled, hashLast, keyOf, Refilled, bucketOf, restOf}
 
 -- After d steps the walk has the bits x at hand, and z are all that are left of the key of r: 12 steps go by the hash, 64 by the second one,
 -- and the others by the rest of the first.
 pub data Bits (r : List ℕ) (d x z : ℕ) : Type 0 where
-  first : (m : ℕ) → d + suc m ≡ 12 → x < 2 ^ suc m → z ≡ x + doubled (suc m) (secondOf r + doubled 64 (lastOf (hashOf r))) → Bits r d x z
-  middle : (m : ℕ) → 12 ≤ d → d + suc m ≡ 76 → x < 2 ^ suc m → z ≡ x + doubled (suc m) (lastOf (hashOf r)) → Bits r d x z
+  first : (m : ℕ) → d + suc m ≡ 12 → x < 2 ^ suc m → z ≡ x + doubled (suc m) (secondHash r + doubled 64 (hashLast (hashOf r))) → Bits r d x z
+  middle : (m : ℕ) → 12 ≤ d → d + suc m ≡ 76 → x < 2 ^ suc m → z ≡ x + doubled (suc m) (hashLast (hashOf r)) → Bits r d x z
   behind : 76 ≤ d → z ≡ x → Bits r d x z
 
 pub key-bucket : (r : List ℕ) {h : ℕ} → h ≡ hashOf r → h % 1024 ≡ bucketOf (keyOf r)
@@ -35,27 +35,27 @@ part-end x z v l e = omega (arith, e)
 
 module _ (r : List ℕ) where
   pub bit-same : {d x z : ℕ} → Bits r d x z → x % 2 ≡ z % 2
-  bit-same {d} {x} {z} (first m o l e) = part-bit m x z (secondOf r + doubled 64 (lastOf (hashOf r))) e
-  bit-same {d} {x} {z} (middle m g o l e) = part-bit m x z (lastOf (hashOf r)) e
+  bit-same {d} {x} {z} (first m o l e) = part-bit m x z (secondHash r + doubled 64 (hashLast (hashOf r))) e
+  bit-same {d} {x} {z} (middle m g o l e) = part-bit m x z (hashLast (hashOf r)) e
   bit-same {d} {x} {z} (behind o e) = omega (arith, e)
 
   pub bits-next : {d x z y : ℕ} → Bits r d x z → Refilled r (d + 1) (x / 2) y → Bits r (d + 1) y (z / 2)
   bits-next {d} {x} {z} {y} (first zero o l e) (Refilled.second q w b) =
-      middle 63 (omega arith) (omega arith) b (omega (arith, w, part-end x z (secondOf r + doubled 64 (lastOf (hashOf r))) l e))
+      middle 63 (omega arith) (omega arith) b (omega (arith, w, part-end x z (secondHash r + doubled 64 (hashLast (hashOf r))) l e))
   bits-next {d} {x} {z} {y} (first zero o l e) (Refilled.last q w) = absurd (omega arith)
   bits-next {d} {x} {z} {y} (first zero o l e) (Refilled.left p q w) = absurd (p (omega arith))
   bits-next {d} {x} {z} {y} (first (suc m) o l e) (Refilled.second q w b) = absurd (omega arith)
   bits-next {d} {x} {z} {y} (first (suc m) o l e) (Refilled.last q w) = absurd (omega arith)
   bits-next {d} {x} {z} {y} (first (suc m) o l e) (Refilled.left p q w) =
-      first m (omega arith) (omega arith) (omega (arith, w, part-next m x z (secondOf r + doubled 64 (lastOf (hashOf r))) e))
+      first m (omega arith) (omega arith) (omega (arith, w, part-next m x z (secondHash r + doubled 64 (hashLast (hashOf r))) e))
   bits-next {d} {x} {z} {y} (middle zero g o l e) (Refilled.second q w b) = absurd (omega arith)
   bits-next {d} {x} {z} {y} (middle zero g o l e) (Refilled.last q w) =
-      behind (omega arith) (omega (arith, w, part-end x z (lastOf (hashOf r)) l e))
+      behind (omega arith) (omega (arith, w, part-end x z (hashLast (hashOf r)) l e))
   bits-next {d} {x} {z} {y} (middle zero g o l e) (Refilled.left p q w) = absurd (q (omega arith))
   bits-next {d} {x} {z} {y} (middle (suc m) g o l e) (Refilled.second q w b) = absurd (omega arith)
   bits-next {d} {x} {z} {y} (middle (suc m) g o l e) (Refilled.last q w) = absurd (omega arith)
   bits-next {d} {x} {z} {y} (middle (suc m) g o l e) (Refilled.left p q w) =
-      middle m (omega arith) (omega arith) (omega arith) (omega (arith, w, part-next m x z (lastOf (hashOf r)) e))
+      middle m (omega arith) (omega arith) (omega arith) (omega (arith, w, part-next m x z (hashLast (hashOf r)) e))
   bits-next {d} {x} {z} {y} (behind o e) (Refilled.second q w b) = absurd (omega arith)
   bits-next {d} {x} {z} {y} (behind o e) (Refilled.last q w) = absurd (omega arith)
   bits-next {d} {x} {z} {y} (behind o e) (Refilled.left p q w) = behind (omega arith) (omega (arith, e, w))

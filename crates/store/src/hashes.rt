@@ -1,7 +1,7 @@
 // The hashes of a record's bytes. A record is found by the first; where that is used up, the second tells those apart that share it.
 ghost use mathlib.Core.Path.{_≡_};
 ghost use Prim.Native.Nat.{_<_};
-ghost use Rattle.store.specs.Index.{hashBy, hashOf, secondOf};
+ghost use Rattle.store.specs.Index.{hashBy, hashOf, secondHash};
 
 // The hash of bytes by two multipliers, two halves of 32 bits. It begins with the last byte. Then each pair of bytes is a number that goes
 // into the low half by a product and a rotation by 17 bits; the product goes into the high half in the same way.
@@ -36,7 +36,7 @@ pub fn hash(rec: &[u8]) -> usize
 
 // The hash of records that share the first one.
 pub fn second(rec: &[u8]) -> usize
-    ensures { λ r. ⌜ r ≡ secondOf (now (rec .entry)) ⌝ }
+    ensures { λ r. ⌜ r ≡ secondHash (now (rec .entry)) ⌝ }
 {
     hash_by(rec, 739982445, 695872825)
 }

@@ -12,26 +12,26 @@ use Rattle.record.specs.Decode.{storeOf, sortAt, Stored, Zeros}
 use Rattle.record.specs.StoreLaws.{storeOf-length}
 use Rattle.reader.specs.declared.Refusal.{Refusal}
 use Rattle.sheet.specs.Sheet.{Lengths, Sheet, Reading, TermFields, QuestionFields, readSheet}
-use Rattle.sheet.specs.Sheet.Reading.{refused as unread, got}
+use Rattle.sheet.specs.Sheet.Reading.{readRefused as unread, got}
 use Rattle.sheet.specs.Trees.{treesOf}
-use Rattle.sheet.specs.Contract.{termAt, termsAt, questionAt, questionsAt, sheetIn, SheetStands, SheetAccepted, ReadSheetAsks}
+use Rattle.sheet.specs.Contract.{termReadAt, termsAt, questionReadAt, questionsAt, sheetIn, SheetStands, SheetAccepted, ReadSheetAsks}
 use Rattle.sheet.specs.Stands.{each-length, zeros-all}
 use Rattle.sheet.specs.declared.SheetCounts.{SheetCounts}
 use Rattle.store.specs.Good.{Good, good-bytes, good-places}
 use Rattle.matching.specs.Tables.{Blank}
-use Rattle.checked.specs.Ranks.{smtLib}
-use Rattle.answers.specs.Lent.{Lent}
-use Rattle.judged.specs.Rows.{Tabled, rowsOf}
-use Rattle.judged.specs.RowLaws.{rows-count}
-use Rattle.judged.specs.Questions.{Answered, answersOf}
-use Rattle.judged.specs.QuestionLaws.{answers-count}
-use Rattle.judged.specs.Judged.{Judgement, refused, accepted, judgedSheet, judgedBy, judged, recordsAfter, placesAfter, rowsAfter, answersAfter}
+use Rattle.check_rules.specs.Ranks.{smtLib}
+use Rattle.row_answer.specs.Lent.{Lent}
+use Rattle.judge_rules.specs.Rows.{RowsSoFar, rowsOf}
+use Rattle.judge_rules.specs.RowLaws.{rows-count}
+use Rattle.judge_rules.specs.Questions.{AnswersSoFar, answersOf}
+use Rattle.judge_rules.specs.QuestionLaws.{answers-count}
+use Rattle.judge_rules.specs.Judged.{Judgement, sheetRefused, accepted, judgedSheet, judgedBy, judged, recordsAfter, placesAfter, rowsAfter, answersAfter}
 use Rattle.questions.specs.All.{AllAsks, AllIs, stands-asks, trees-starts, answering-start, answering-end}
 use Rattle.questions.specs.declared.all.Counts.{Counts}
 use Rattle.verdicts.specs.declared.Outcome.{Outcome}
 use Rattle.verdicts.specs.declared.Outcome.the-variants.{Accepted, Refused}
-use Rattle.tabling.specs.Table.{RowsAsk, RowsAre}
-use Rattle.verdicts.specs.Judge.{lengthsOf, outcomeOf, numberOf, Reads, ReadsBack, JudgeIs, NumberIs, ClearedAsks, AcceptedAsks, judge-number}
+use Rattle.row_table.specs.Table.{RowsAsk, RowsAre}
+use Rattle.verdicts.specs.Judge.{lengthsOf, outcomeOf, numberOfOutcome, Reads, ReadsBack, JudgeIs, NumberIs, ClearedAsks, AcceptedAsks, judge-number}
 
 ---------------------------------------------------------------- zeros
 -- Zeros with their first entries taken off.
@@ -153,7 +153,7 @@ module _ {s b p ix tbl xs ys : List ℕ} {c : SheetCounts} {rw an : List ℕ} (a
         (subst (λ (z : List ℕ). Blank prm z bnd₁) (sym (t .images)) (subst (λ (z : List ℕ). Blank prm imgs z) (sym (t .bound)) blank)))
 
     -- The store after the rows, and the questions over it.
-    abbrev tabled : Tabled
+    abbrev tabled : RowsSoFar
     tabled = rowsOf smtLib lengths (storeOf b p (c .count)) terms
 
     ruled : storeOf b₁ p₁ (r .count) ≡ tabled .store
@@ -167,19 +167,19 @@ module _ {s b p ix tbl xs ys : List ℕ} {c : SheetCounts} {rw an : List ℕ} (a
 
     -- After the answers: THE JUDGEMENT.
     module _ {g l d b₂ p₂ ix₂ prm₂ imgs₂ bnd₂ an₂ : List ℕ} {q : Counts} (o : AllIs b₁ p₁ (r .count) g l d s tbl (c .sorts) ys (c .questions) an b₂ p₂ ix₂ prm₂ imgs₂ bnd₂ an₂ q) where
-      abbrev answered : Answered
+      abbrev answered : AnswersSoFar
       answered = answersOf lengths (tabled .store) questions
 
       same-answers : answersOf lengths (storeOf b₁ p₁ (r .count)) (questionsAt s (treesOf (storeOf b₁ p₁ (r .count)) tbl (c .sorts)) ys (c .questions)) ≡ answered
       same-answers = ap₂ (λ (st : List Sort) (qs : List QuestionFields). answersOf lengths st qs) ruled asked
 
       left-store : storeOf b₂ p₂ (q .count) ≡ answered .store
-      left-store = o .after lengths (sym (t .long)) (sym (t .wide)) ∙ ap (λ (z : Answered). z .store) same-answers
+      left-store = o .after lengths (sym (t .long)) (sym (t .wide)) ∙ ap (λ (z : AnswersSoFar). z .store) same-answers
 
       left-answers : an₂ ≡ answered .answers ++ drop (c .questions) an
       left-answers =
           o .written lengths (sym (t .long)) (sym (t .wide))
-          ∙ ap (λ (z : Answered). z .answers ++ drop (c .questions) an) same-answers
+          ∙ ap (λ (z : AnswersSoFar). z .answers ++ drop (c .questions) an) same-answers
 
       judgement : judged s lengths ≡ accepted (sheetIn s b p tbl xs ys c) (answered .store) (tabled .rows) (answered .answers)
       judgement = judged-by s lengths (got (sheetIn s b p tbl xs ys c) (length s)) (a .accepted .result)
@@ -193,10 +193,10 @@ module _ {s b p ix tbl xs ys : List ℕ} {c : SheetCounts} {rw an : List ℕ} (a
           (good-places b₂ p₂ ix₂ (q .count) (q .used) (o .good)
           ∙ ap₂ storePlaces (o .wide ∙ t .wide) left-store)
           (over-zeros (tabled .rows) (2 * c .terms) (a .cleared .rows)
-          (rows-count smtLib lengths (storeOf b p (c .count)) terms ∙ ap (λ (k : ℕ). 2 * k) (each-length (termAt s sorts) xs (c .terms)))
+          (rows-count smtLib lengths (storeOf b p (c .count)) terms ∙ ap (λ (k : ℕ). 2 * k) (each-length (termReadAt s sorts) xs (c .terms)))
           (t .written lengths refl refl))
           (over-zeros (answered .answers) (c .questions) (a .cleared .answers)
-          (answers-count lengths (tabled .store) questions ∙ each-length (questionAt s sorts) ys (c .questions))
+          (answers-count lengths (tabled .store) questions ∙ each-length (questionReadAt s sorts) ys (c .questions))
           left-answers)
           (reads-good (o .good) (answered .store) left-store)
 
@@ -237,7 +237,7 @@ pub refused-is : (s b p : List ℕ) {rw an : List ℕ} → ClearedAsks rw an →
 unfolding recordsAfter placesAfter rowsAfter answersAfter
 refused-is s b p {rw} {an} z e b₁ p₁ {b₂} {p₂} h eb ep =
     let l = lengthsOf b p rw an in
-    judge-as s l (refused e) (judged-by s l (unread e) (h .0)) (eb ∙ ap (λ (n : ℕ). replicate n 0) (h .1))
+    judge-as s l (sheetRefused e) (judged-by s l (unread e) (h .0)) (eb ∙ ap (λ (n : ℕ). replicate n 0) (h .1))
     (ep ∙ ap (λ (n : ℕ). replicate n 0) (h .2)) (z .rows) (z .answers) tt
 
 -- THE PROMISE is over lengths alone: those at entry, where buffers were written on the way.
@@ -254,5 +254,5 @@ cleared-asks rw an {rw₁} {an₁} lr la er ea =
     record { rows = er ∙ ap (λ (n : ℕ). replicate n 0) (sym lr); answers = ea ∙ ap (λ (n : ℕ). replicate n 0) (sym la) }
 
 ---------------------------------------------------------------- the number
-pub number-is : {s : List ℕ} {l : Lengths} {b p rw an : List ℕ} {o : Outcome} {r : ℕ} → JudgeIs s l b p rw an o → r ≡ numberOf o → NumberIs s l b p rw an r
+pub number-is : {s : List ℕ} {l : Lengths} {b p rw an : List ℕ} {o : Outcome} {r : ℕ} → JudgeIs s l b p rw an o → r ≡ numberOfOutcome o → NumberIs s l b p rw an r
 number-is {s} {l} {b} {p} {rw} {an} {o} {r} j e = record { number = e ∙ judge-number j; buffers = j .buffers }

@@ -13,7 +13,7 @@ use Rattle.record.specs.Decode.{fieldsAt, storeOf, sortAt, Stored}
 use Rattle.record.specs.StoreLaws.{sort-made}
 use Rattle.store.specs.Entry.{KindHas}
 use Rattle.substitution.specs.Premises.{parless}
-use Rattle.rows.specs.ParlessLaws.{parlessEach, parless-sorts, parless-append}
+use Rattle.row_rules.specs.ParlessLaws.{parlessEach, parless-sorts, parless-append}
 use Rattle.verdicts.specs.Named.{ParIn, UsesNames}
 
 -- None of the first k sorts is a Par.

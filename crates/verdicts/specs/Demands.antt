@@ -1,4 +1,4 @@
--- DEMANDS 2 AND 3 ON THE BYTES THAT `judge` WRITES: what is proved of judgements (RowExactly and TwoRoutes of the crate judged), said
+-- DEMANDS 2 AND 3 ON THE BYTES THAT `judge` WRITES: what is proved of judgements (RowExactly and TwoRoutes of the crate judge_rules), said
 -- of the lent buffers at exit as `JudgeIs` promises them, since their rows are the judgement's and their records read back as its store.
 use Prim.Native.Nat.{ℕ, suc, _+_, _*_, _-_, _<_}
 use mathlib.Core.Path.{_≡_, sym, ap, subst, _∙_}
@@ -16,26 +16,26 @@ use Rattle.sheet.specs.Sheet.{Lengths, Sheet, readSheet}
 use Rattle.sheet.specs.Sheet.Reading.{got}
 use Rattle.substitution.specs.Substitution.{Map, apply}
 use Rattle.substitution.specs.Premises.{properMap}
-use Rattle.rows.specs.declared.Cause.{Cause}
-use Rattle.rows.specs.declared.Cause.the-variants.{Below, Panics}
-use Rattle.rows.specs.Verdict.{sort, refused, numberOf}
-use Rattle.rows.specs.Term.{termAt}
-use Rattle.rows.specs.Meaning.{free}
-use Rattle.rows.specs.FreeLaws.{free-same}
-use Rattle.rows.specs.OutcomeLaws.{plain}
-use Rattle.inferred.specs.Inferred.{infer}
-use Rattle.checked.specs.Ranks.{smtLib}
-use Rattle.checked.specs.Checked.{check}
-use Rattle.checked.specs.Rules.{HasSort}
-use Rattle.checked.specs.Routes.{replace, clearTerm}
-use Rattle.judged.specs.Rows.{rowsOf}
-use Rattle.judged.specs.Questions.{answersOf}
-use Rattle.judged.specs.Judged.{Judgement, accepted, judgedSheet, judgedBy, judged, rowsAfter, answersAfter}
-use Rattle.judged.specs.QuestionLaws.{Answers, questionAt}
-use Rattle.judged.specs.JudgedLaws.{told, judged-counts, judged-answer}
-use Rattle.judged.specs.KnownLaws.{judged-rows-known}
-use Rattle.judged.specs.RowExactly.{checkedRow, row-has, row-exactly, row-infers, row-infers-exactly, row-refused-for, row-refused-exactly, row-panics-for, row-panics-exactly}
-use Rattle.judged.specs.TwoRoutes.{two-routes}
+use Rattle.row_rules.specs.declared.Cause.{Cause}
+use Rattle.row_rules.specs.declared.Cause.the-variants.{Below, Panics}
+use Rattle.row_rules.specs.Verdict.{sort, refused, numberOf}
+use Rattle.row_rules.specs.Term.{termAt}
+use Rattle.row_rules.specs.Meaning.{free}
+use Rattle.row_rules.specs.FreeLaws.{free-same}
+use Rattle.row_rules.specs.OutcomeLaws.{noLimit}
+use Rattle.infer_rules.specs.Inferred.{infer}
+use Rattle.check_rules.specs.Ranks.{smtLib}
+use Rattle.check_rules.specs.Checked.{check}
+use Rattle.check_rules.specs.Rules.{HasSort}
+use Rattle.check_rules.specs.Routes.{replace, clearTerm}
+use Rattle.judge_rules.specs.Rows.{rowsOf}
+use Rattle.judge_rules.specs.Questions.{answersOf}
+use Rattle.judge_rules.specs.Judged.{Judgement, accepted, judgedSheet, judgedBy, judged, rowsAfter, answersAfter}
+use Rattle.judge_rules.specs.QuestionLaws.{Answers, questionAt}
+use Rattle.judge_rules.specs.JudgedLaws.{told, judged-counts, judged-answer}
+use Rattle.judge_rules.specs.KnownLaws.{judged-rows-known}
+use Rattle.judge_rules.specs.RowExactly.{checkedRow, row-has, row-exactly, row-infers, row-infers-exactly, row-refused-for, row-refused-exactly, row-panics-for, row-panics-exactly}
+use Rattle.judge_rules.specs.TwoRoutes.{two-routes}
 use Rattle.verdicts.specs.declared.Outcome.{Outcome}
 use Rattle.verdicts.specs.Judge.{ReadsBack, JudgeIs}
 
@@ -118,7 +118,7 @@ module _ {s : List ℕ} {l : Lengths} {b p rw an : List ℕ} {o : Outcome} (j : 
 
   -- THE SAME OF REFUSALS: a checked row that is refused for a cause other than 20, 22 and 23 stands for a tree that is refused for it; and where
   -- no limit is met at the term or below it, exactly for these (`row-refused-for`, `row-refused-exactly`).
-  pub judge-refused-for : (c : Cause) → plain (refused c) ≡ true → (c ≡ Below → ⊥) → checkedRow rw t ≡ numberOf c * 65536 → check smtLib (termAt (h .terms) t) ≡ refused c
+  pub judge-refused-for : (c : Cause) → noLimit (refused c) ≡ true → (c ≡ Below → ⊥) → checkedRow rw t ≡ numberOf c * 65536 → check smtLib (termAt (h .terms) t) ≡ refused c
   judge-refused-for c p d k =
       let (st, rows, answers, e) = judgement s l q in
       row-refused-for s l h st rows answers e t low c p d (sym (row-here j e (2 * t + 1) (omega arith)) ∙ k)

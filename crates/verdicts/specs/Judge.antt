@@ -9,7 +9,7 @@ use Rattle.reader.specs.Reader.{refusalNumber}
 use Rattle.sheet.specs.Sheet.{Lengths}
 use Rattle.sheet.specs.Contract.{SheetAccepted}
 use Rattle.sheet.specs.declared.SheetCounts.{SheetCounts}
-use Rattle.judged.specs.Judged.{Judgement, refused, accepted, judged, outcomeNumber, recordsAfter, placesAfter, rowsAfter, answersAfter}
+use Rattle.judge_rules.specs.Judged.{Judgement, sheetRefused, accepted, judged, outcomeNumber, recordsAfter, placesAfter, rowsAfter, answersAfter}
 use Rattle.verdicts.specs.declared.Outcome.{Outcome}
 use Rattle.verdicts.specs.declared.Outcome.the-variants.{Accepted, Refused}
 
@@ -19,13 +19,13 @@ lengthsOf b p rw an = record { records = length b; places = length p; rows = len
 
 -- The outcome of a judgement.
 abbrev pub outcomeOf : Judgement → Outcome
-outcomeOf (refused e) = Refused e
+outcomeOf (sheetRefused e) = Refused e
 outcomeOf (accepted h st rows answers) = Accepted
 
 -- The number of an outcome: 0 where the sheet is accepted, else that of the refusal.
-abbrev pub numberOf : Outcome → ℕ
-numberOf Accepted = 0
-numberOf (Refused e) = refusalNumber e
+abbrev pub numberOfOutcome : Outcome → ℕ
+numberOfOutcome Accepted = 0
+numberOfOutcome (Refused e) = refusalNumber e
 
 -- THE STORE IS READ BACK: the records at the places are well formed, they are the sorts st, and no tree passes 4,096.
 pub record Reads (b p : List ℕ) (st : List Sort) : Type 0 where
@@ -34,7 +34,7 @@ pub record Reads (b p : List ℕ) (st : List Sort) : Type 0 where
   pub small : (k : ℕ) → k < length st → size (sortAt b p (length st) k) ≤ 4096
 
 abbrev pub ReadsBack : Judgement → List ℕ → List ℕ → Type 0
-ReadsBack (refused e) b p = Unit {0}
+ReadsBack (sheetRefused e) b p = Unit {0}
 ReadsBack (accepted h st rows answers) b p = Reads b p st
 
 -- THE FOUR BUFFERS b p rw an are, over their whole length, those of the judgement of s; and the store can be read from them.
@@ -70,10 +70,10 @@ pub record AcceptedAsks (s b p ix tbl xs ys : List ℕ) (c : SheetCounts) (rw an
   pub cleared : ClearedAsks rw an
 
 -- The number of a judgement's outcome is the judgement's.
-number-of : (j : Judgement) → numberOf (outcomeOf j) ≡ outcomeNumber j
-number-of (refused e) = refl
+number-of : (j : Judgement) → numberOfOutcome (outcomeOf j) ≡ outcomeNumber j
+number-of (sheetRefused e) = refl
 number-of (accepted h st rows answers) = refl
 
 -- So the outcome of `judge` tells the number that `napsilo_judge` returns.
-pub judge-number : {s : List ℕ} {l : Lengths} {b p rw an : List ℕ} {o : Outcome} → JudgeIs s l b p rw an o → numberOf o ≡ outcomeNumber (judged s l)
-judge-number {s} {l} j = ap numberOf (j .outcome) ∙ number-of (judged s l)
+pub judge-number : {s : List ℕ} {l : Lengths} {b p rw an : List ℕ} {o : Outcome} → JudgeIs s l b p rw an o → numberOfOutcome o ≡ outcomeNumber (judged s l)
+judge-number {s} {l} j = ap numberOfOutcome (j .outcome) ∙ number-of (judged s l)

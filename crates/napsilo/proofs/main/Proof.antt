@@ -5,7 +5,7 @@ use borrow.Author.Needs.{needs}
 use mathlib.Core.Path.{sym, subst}
 use lib.ListN.{length}
 use lib.Seq.{length-take-le}
-use Rattle.input.specs.Input.{InputWithin}
+use Rattle.program_input.specs.Input.{InputWithin}
 use Rattle.napsilo.proofs.main.Statement.{statement}
 use Rattle.napsilo.proofs.main.Tie as tie
 

@@ -1,7 +1,7 @@
 -- The test says which of the two.
 -- Its answer is `compatible` of the two sorts.
 use mathlib.Core.Path.{sym, ap, _∙_}
-use Rattle.judged.specs.Questions.{yesNo}
+use Rattle.judge_rules.specs.Questions.{yesNo}
 use Rattle.questions.proofs.answer_compatible.Statement.{statement}
 use Rattle.questions.proofs.answer_compatible.Tie as tie
 

@@ -4,7 +4,7 @@ use native.Mathlib.Omega.{arith}
 use borrow.Author.Needs.{needs}
 use Prim.Native.Nat.{_+_}
 use mathlib.Core.Path.{refl}
-use Rattle.answers.specs.AnswerLaws.{answer-code}
+use Rattle.row_answer.specs.AnswerLaws.{answer-code}
 use Rattle.questions.specs.Asked.{sort-asks, sort-known}
 use Rattle.questions.proofs.WordLaws.{match-part, apply-part, pair-part, answered-0, answered-1, answered-2}
 use Rattle.questions.proofs.answer_question.Statement.{statement}

@@ -1,7 +1,7 @@
 -- Where names may be looked up, `judge_named` judges.
 -- Else there is no question and no Par, and the rows, over tables of one entry, are all there is to write.
 use borrow.Author.Needs.{needs}
-use Rattle.answers.specs.Lent.{unused}
+use Rattle.row_answer.specs.Lent.{unused}
 use Rattle.verdicts.proofs.NamedLaws.{none-asked, none-parless}
 use Rattle.verdicts.proofs.JudgeLaws.{rows-ask, judge-unasked}
 use Rattle.verdicts.proofs.judge_accepted.Statement.{statement}

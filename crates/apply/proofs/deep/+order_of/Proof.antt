@@ -4,7 +4,7 @@ use native.Mathlib.Omega.{arith}
 use mathlib.Core.Path.{_∙_}
 use lib.ListN.{length-set}
 use Rattle.store.specs.Walk.{entry-asks}
-use Rattle.replacing.specs.Lists.{held}
+use Rattle.apply_walk.specs.Lists.{held}
 use Rattle.apply.proofs.OrderLaws.{OrderInv, order-leaf, order-noted, order-start, order-asks, order-more, order-free, order-last}
 use Prim.Native.Nat.{ℕ, _<_}
 use borrow.Fn.Kinds.{In}

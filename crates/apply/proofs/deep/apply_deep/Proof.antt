@@ -4,7 +4,7 @@ use borrow.Author.Needs.{needs}
 use Prim.Native.Nat.{ℕ}
 use mathlib.Core.Path.{sym, subst, _∙_}
 use lib.ListN.{length-replicate}
-use Rattle.replacing.specs.Lists.{held}
+use Rattle.apply_walk.specs.Lists.{held}
 use Rattle.apply.specs.Order.{InOrderAre}
 use Rattle.apply.proofs.OrderLaws.{deep-order, deep-asks, deep-stuck, deep-last, deep-is}
 use Rattle.apply.proofs.deep.apply_deep.Statement.{statement}

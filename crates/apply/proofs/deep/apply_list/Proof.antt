@@ -5,9 +5,9 @@ use borrow.Author.Needs.{needs}
 use Prim.Native.Nat.{_-_}
 use mathlib.Core.Path.{refl, sym, subst, _∙_}
 use lib.ListN.{getD}
-use Rattle.replacing.specs.Lists.{held}
-use Rattle.replacing.specs.Known.{KnownIs}
-use Rattle.replacing.specs.PartLaws.{KnownInv, parts-start, parts-asks, parts-number, parts-halted, parts-more, parts-done}
+use Rattle.apply_walk.specs.Lists.{held}
+use Rattle.apply_walk.specs.Known.{KnownIs}
+use Rattle.apply_walk.specs.PartLaws.{KnownInv, parts-start, parts-asks, parts-number, parts-halted, parts-inv-more, parts-done}
 use Rattle.apply.proofs.deep.apply_list.Statement.{statement}
 use Rattle.apply.proofs.deep.apply_list.Tie as tie
 
@@ -136,7 +136,7 @@ loop-again c =
     let d = c₁ .apply-deep .last in
     let v = c .before .made .given .0 in
     let w = subst (KnownIs (i .records) (i .places) (i .n) (i .u) (getD (i .parts) (i .j) 0) l (d .0) (d .1 .0) (d .1 .1 .0) (d .1 .1 .1 .0)) (c .before .made .given .1) (c₁ .apply-deep .ensures) in
-    record { inv = parts-more b p ix n u o l (s .pre .asks) (i .records) (i .places) (i .index) (i .parts) (i .n) (i .u) (i .j) (i .inv .inv) (c₂ .loop-test .taken) (d .0) (d .1 .0) (d .1 .1 .0) (v .0) (v .1 .0) (v .1 .1 .0) (w .made); known = w .known; lasts = c₁ .apply-deep .kept .1 .1 .1 .0 ∙ i .inv .lasts }
+    record { inv = parts-inv-more b p ix n u o l (s .pre .asks) (i .records) (i .places) (i .index) (i .parts) (i .n) (i .u) (i .j) (i .inv .inv) (c₂ .loop-test .taken) (d .0) (d .1 .0) (d .1 .1 .0) (v .0) (v .1 .0) (v .1 .1 .0) (w .made); known = w .known; lasts = c₁ .apply-deep .kept .1 .1 .1 .0 ∙ i .inv .lasts }
 
 same-length-6 : tie.Need-same-length-6 Inv-loop μ-loop
 same-length-6 c = let i = c .before .loop in i .inv .inv .kept .long

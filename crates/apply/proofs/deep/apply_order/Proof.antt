@@ -4,8 +4,8 @@ use borrow.Author.Needs.{needs}
 use Prim.Native.Nat.{_-_}
 use mathlib.Core.Path.{sym, subst, _∙_}
 use lib.ListN.{getD}
-use Rattle.replacing.specs.Lists.{held}
-use Rattle.replacing.specs.Known.{KnownIs}
+use Rattle.apply_walk.specs.Lists.{held}
+use Rattle.apply_walk.specs.Known.{KnownIs}
 use Rattle.apply.proofs.OrderLaws.{InOrderInv, in-order-start, in-order-asks, in-order-halted, in-order-more, in-order-done}
 use Rattle.apply.proofs.deep.apply_order.Statement.{statement}
 use Rattle.apply.proofs.deep.apply_order.Tie as tie

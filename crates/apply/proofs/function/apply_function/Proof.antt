@@ -4,7 +4,7 @@ use borrow.Author.Needs.{needs}
 use mathlib.Core.Path.{refl, subst}
 use Rattle.record.specs.Store.{intern}
 use Rattle.record.specs.Decode.{storeOf}
-use Rattle.replacing.specs.Contract.{ReplacedIs}
+use Rattle.apply_walk.specs.Contract.{ReplacedIs}
 use Rattle.apply.specs.Contract.{functionAt}
 use Rattle.apply.proofs.UndoLaws.{undo-asks, undo-back}
 use Rattle.apply.proofs.FunctionLaws.{function-sizes, function-over, function-fits}

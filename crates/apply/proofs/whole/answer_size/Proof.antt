@@ -1,7 +1,7 @@
 -- A table of zeros says nothing, so it says the truth.
 use native.Mathlib.Omega.{arith}
 use borrow.Author.Needs.{needs}
-use Rattle.replacing.specs.KnownLaws.{weighed-none}
+use Rattle.apply_walk.specs.KnownLaws.{weighed-none}
 use Rattle.apply.proofs.whole.answer_size.Statement.{statement}
 use Rattle.apply.proofs.whole.answer_size.Tie as tie
 

@@ -1,7 +1,7 @@
 -- A table of zeros says nothing, so it says the truth; what it says afterwards is dropped.
 use native.Mathlib.Omega.{arith}
 use borrow.Author.Needs.{needs}
-use Rattle.replacing.specs.KnownLaws.{known-none, known-replaced}
+use Rattle.apply_walk.specs.KnownLaws.{known-none, known-replaced}
 use Rattle.apply.proofs.whole.make_answer.Statement.{statement}
 use Rattle.apply.proofs.whole.make_answer.Tie as tie
 

@@ -1,7 +1,7 @@
 -- A table of zeros says nothing, so it says the truth; what it says afterwards is dropped.
 use borrow.Author.Needs.{needs}
-use Rattle.replacing.specs.Lists.{held}
-use Rattle.replacing.specs.KnownLaws.{known-none, known-parts}
+use Rattle.apply_walk.specs.Lists.{held}
+use Rattle.apply_walk.specs.KnownLaws.{known-none, known-parts}
 use Rattle.apply.proofs.whole.make_answers.Statement.{statement}
 use Rattle.apply.proofs.whole.make_answers.Tie as tie
 

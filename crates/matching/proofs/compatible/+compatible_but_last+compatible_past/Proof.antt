@@ -8,7 +8,7 @@ use Rattle.record.specs.Cases.{not-true, not-false}
 use Rattle.record.specs.Sort.{size, sizes}
 use Rattle.record.specs.Decode.{sortAt}
 use Rattle.matching.specs.Contract.{sortsAt}
-use Rattle.matching.specs.Loops.{FitIs}
+use Rattle.matching.specs.Loops.{CompatibleIs}
 use Rattle.matching.proofs.WalkLaws.{pair-first}
 use Rattle.matching.proofs.LastLaws.{pairs-others}
 use Rattle.matching.proofs.CompatibleLaws.{FitsInv, fits-start, fits-fall, fits-fails, fits-more, fits-end, FitInv, fit-start, fit-on, fit-fall, fit-fails, fit-less, fit-last}
@@ -174,7 +174,7 @@ compatible-past-returns t c =
     let v = c .before .before .before .before .loop .inv in
     let k = c .before .before .before .before .loop .k in
     let j = c .before .before .before .before .loop .j in
-    let o = subst (FitIs b p n k j) (c .enum-told .given .1) (c .before .before .next-fit .ensures) in
+    let o = subst (CompatibleIs b p n k j) (c .enum-told .given .1) (c .before .before .next-fit .ensures) in
     (o ∙ v .whole, v .noted)
 
 compatible-past-enum-told-2 : (t : ℕ) → compatible-past-lts.Need-enum-told-2 (compatible-past-env t) (compatible-past-at t) compatible-past.Post compatible-past-Inv-loop compatible-past-μ-loop
@@ -196,7 +196,7 @@ compatible-past-returns-2 t c =
     let v = c .before .before .before .before .loop .inv in
     let k = c .before .before .before .before .loop .k in
     let j = c .before .before .before .before .loop .j in
-    let o = subst (FitIs b p n k j) (c .enum-told2 .given .1) (c .before .before .next-fit .ensures) in
+    let o = subst (CompatibleIs b p n k j) (c .enum-told2 .given .1) (c .before .before .next-fit .ensures) in
     (o ∙ v .whole, v .noted)
 
 compatible-past-enum-known-next : (t : ℕ) → compatible-past-lts.Need-enum-known-next (compatible-past-env t) (compatible-past-at t) compatible-past.Post compatible-past-Inv-loop compatible-past-μ-loop
@@ -211,7 +211,7 @@ compatible-past-loop-less t c =
     let n = a .count in
     let k = c .before .before .before .before .before .loop .k in
     let j = c .before .before .before .before .before .loop .j in
-    let o = subst (FitIs b p n k j) (c .before .next .given .1) (c .before .before .before .next-fit .ensures) in
+    let o = subst (CompatibleIs b p n k j) (c .before .next .given .1) (c .before .before .before .next-fit .ensures) in
     o .falls
 
 compatible-past-loop-again : (t : ℕ) → compatible-past-lts.Need-loop-again (compatible-past-env t) (compatible-past-at t) compatible-past.Post compatible-past-Inv-loop compatible-past-μ-loop
@@ -224,7 +224,7 @@ compatible-past-loop-again t c =
     let v = c .before .before .before .before .before .loop .inv in
     let k = c .before .before .before .before .before .loop .k in
     let j = c .before .before .before .before .before .loop .j in
-    let o = subst (FitIs b p n k j) (c .before .next .given .1) (c .before .before .before .next-fit .ensures) in
+    let o = subst (CompatibleIs b p n k j) (c .before .next .given .1) (c .before .before .before .next-fit .ensures) in
     fit-on v o
 
 compatible-past-enum-known-next-2 : (t : ℕ) → compatible-past-lts.Need-enum-known-next-2 (compatible-past-env t) (compatible-past-at t) compatible-past.Post compatible-past-Inv-loop compatible-past-μ-loop
@@ -239,7 +239,7 @@ compatible-past-sub-last t c =
     let n = a .count in
     let k = c .before .before .before .before .before .loop .k in
     let j = c .before .before .before .before .before .loop .j in
-    let o = subst (FitIs b p n k j) (c .before .next2 .given .1) (c .before .before .before .next-fit .ensures) in
+    let o = subst (CompatibleIs b p n k j) (c .before .next2 .given .1) (c .before .before .before .next-fit .ensures) in
     o .some
 
 compatible-past-compatible-but-last-requires : (t : ℕ) → compatible-past-lts.Need-compatible-but-last-requires (compatible-past-env t) (compatible-past-at t) compatible-past.Post compatible-past-Inv-loop compatible-past-μ-loop
@@ -252,7 +252,7 @@ compatible-past-compatible-but-last-requires t c κs =
     let v = c .before .before .before .before .before .before .loop .inv in
     let k = c .before .before .before .before .before .before .loop .k in
     let j = c .before .before .before .before .before .before .loop .j in
-    let o = subst (FitIs b p n k j) (c .before .before .next2 .given .1) (c .before .before .before .before .next-fit .ensures) in
+    let o = subst (CompatibleIs b p n k j) (c .before .before .next2 .given .1) (c .before .before .before .before .next-fit .ensures) in
     (omega (arith, s .pre .0, fit-fall v o), (pairs-others b p n b _ b _ _ (o .some) (o .asks), v .noted))
 
 compatible-past-same-length-3 : (t : ℕ) → compatible-past-lts.Need-same-length-3 (compatible-past-env t) (compatible-past-at t) compatible-past.Post compatible-past-Inv-loop compatible-past-μ-loop
@@ -270,7 +270,7 @@ compatible-past-returns-3 t c =
     let v = c .before .before .before .before .before .before .before .before .before .before .loop .inv in
     let k = c .before .before .before .before .before .before .before .before .before .before .loop .k in
     let j = c .before .before .before .before .before .before .before .before .before .before .loop .j in
-    let o = subst (FitIs b p n k j) (c .before .before .before .before .before .before .next2 .given .1) (c .before .before .before .before .before .before .before .before .next-fit .ensures) in
+    let o = subst (CompatibleIs b p n k j) (c .before .before .before .before .before .before .next2 .given .1) (c .before .before .before .before .before .before .before .before .next-fit .ensures) in
     (fit-fails v o (c .before .before .before .compatible-but-last .ensures .0) (not-true (c .before .before .before .compatible-but-last .result) (c .if1 .taken)), c .before .before .before .compatible-but-last .ensures .1)
 
 compatible-past-mul-u16-at : (t : ℕ) → compatible-past-lts.Need-mul-u16-at (compatible-past-env t) (compatible-past-at t) compatible-past.Post compatible-past-Inv-loop compatible-past-μ-loop
@@ -282,7 +282,7 @@ compatible-past-mul-u16-at t c =
     let n = a .count in
     let k = c .before .before .before .before .before .before .before .before .before .before .loop .k in
     let j = c .before .before .before .before .before .before .before .before .before .before .loop .j in
-    let o = subst (FitIs b p n k j) (c .before .before .before .before .before .before .next2 .given .1) (c .before .before .before .before .before .before .before .before .next-fit .ensures) in
+    let o = subst (CompatibleIs b p n k j) (c .before .before .before .before .before .before .next2 .given .1) (c .before .before .before .before .before .before .before .before .next-fit .ensures) in
     omega (arith, o .some, o .asks .left .within, s .good)
 
 compatible-past-add-u16-at : (t : ℕ) → compatible-past-lts.Need-add-u16-at (compatible-past-env t) (compatible-past-at t) compatible-past.Post compatible-past-Inv-loop compatible-past-μ-loop
@@ -294,7 +294,7 @@ compatible-past-add-u16-at t c =
     let n = a .count in
     let k = c .before .before .before .before .before .before .before .before .before .before .loop .k in
     let j = c .before .before .before .before .before .before .before .before .before .before .loop .j in
-    let o = subst (FitIs b p n k j) (c .before .before .before .before .before .before .next2 .given .1) (c .before .before .before .before .before .before .before .before .next-fit .ensures) in
+    let o = subst (CompatibleIs b p n k j) (c .before .before .before .before .before .before .next2 .given .1) (c .before .before .before .before .before .before .before .before .next-fit .ensures) in
     omega (arith, o .some, o .asks .left .within, s .good)
 
 compatible-past-u16-at-requires : (t : ℕ) → compatible-past-lts.Need-u16-at-requires (compatible-past-env t) (compatible-past-at t) compatible-past.Post compatible-past-Inv-loop compatible-past-μ-loop
@@ -306,7 +306,7 @@ compatible-past-u16-at-requires t c κs =
     let n = a .count in
     let k = c .before .before .before .before .before .before .before .before .before .before .loop .k in
     let j = c .before .before .before .before .before .before .before .before .before .before .loop .j in
-    let o = subst (FitIs b p n k j) (c .before .before .before .before .before .before .next2 .given .1) (c .before .before .before .before .before .before .before .before .next-fit .ensures) in
+    let o = subst (CompatibleIs b p n k j) (c .before .before .before .before .before .before .next2 .given .1) (c .before .before .before .before .before .before .before .before .next-fit .ensures) in
     omega (arith, o .some, o .asks .left .within)
 
 compatible-past-mul-u16-at-2 : (t : ℕ) → compatible-past-lts.Need-mul-u16-at-2 (compatible-past-env t) (compatible-past-at t) compatible-past.Post compatible-past-Inv-loop compatible-past-μ-loop
@@ -318,7 +318,7 @@ compatible-past-mul-u16-at-2 t c =
     let n = a .count in
     let k = c .before .before .before .before .before .before .before .before .before .before .before .loop .k in
     let j = c .before .before .before .before .before .before .before .before .before .before .before .loop .j in
-    let o = subst (FitIs b p n k j) (c .before .before .before .before .before .before .before .next2 .given .1) (c .before .before .before .before .before .before .before .before .before .next-fit .ensures) in
+    let o = subst (CompatibleIs b p n k j) (c .before .before .before .before .before .before .before .next2 .given .1) (c .before .before .before .before .before .before .before .before .before .next-fit .ensures) in
     omega (arith, o .some, o .asks .right .within, s .good)
 
 compatible-past-add-u16-at-2 : (t : ℕ) → compatible-past-lts.Need-add-u16-at-2 (compatible-past-env t) (compatible-past-at t) compatible-past.Post compatible-past-Inv-loop compatible-past-μ-loop
@@ -330,7 +330,7 @@ compatible-past-add-u16-at-2 t c =
     let n = a .count in
     let k = c .before .before .before .before .before .before .before .before .before .before .before .loop .k in
     let j = c .before .before .before .before .before .before .before .before .before .before .before .loop .j in
-    let o = subst (FitIs b p n k j) (c .before .before .before .before .before .before .before .next2 .given .1) (c .before .before .before .before .before .before .before .before .before .next-fit .ensures) in
+    let o = subst (CompatibleIs b p n k j) (c .before .before .before .before .before .before .before .next2 .given .1) (c .before .before .before .before .before .before .before .before .before .next-fit .ensures) in
     omega (arith, o .some, o .asks .right .within, s .good)
 
 compatible-past-u16-at-requires-2 : (t : ℕ) → compatible-past-lts.Need-u16-at-requires-2 (compatible-past-env t) (compatible-past-at t) compatible-past.Post compatible-past-Inv-loop compatible-past-μ-loop
@@ -342,7 +342,7 @@ compatible-past-u16-at-requires-2 t c κs =
     let n = a .count in
     let k = c .before .before .before .before .before .before .before .before .before .before .before .loop .k in
     let j = c .before .before .before .before .before .before .before .before .before .before .before .loop .j in
-    let o = subst (FitIs b p n k j) (c .before .before .before .before .before .before .before .next2 .given .1) (c .before .before .before .before .before .before .before .before .before .next-fit .ensures) in
+    let o = subst (CompatibleIs b p n k j) (c .before .before .before .before .before .before .before .next2 .given .1) (c .before .before .before .before .before .before .before .before .before .next-fit .ensures) in
     omega (arith, o .some, o .asks .right .within)
 
 compatible-past-loop-less-2 : (t : ℕ) → compatible-past-lts.Need-loop-less-2 (compatible-past-env t) (compatible-past-at t) compatible-past.Post compatible-past-Inv-loop compatible-past-μ-loop
@@ -355,7 +355,7 @@ compatible-past-loop-less-2 t c =
     let v = c .before .before .before .before .before .before .before .before .before .before .before .before .loop .inv in
     let k = c .before .before .before .before .before .before .before .before .before .before .before .before .loop .k in
     let j = c .before .before .before .before .before .before .before .before .before .before .before .before .loop .j in
-    let o = subst (FitIs b p n k j) (c .before .before .before .before .before .before .before .before .next2 .given .1) (c .before .before .before .before .before .before .before .before .before .before .next-fit .ensures) in
+    let o = subst (CompatibleIs b p n k j) (c .before .before .before .before .before .before .before .before .next2 .given .1) (c .before .before .before .before .before .before .before .before .before .before .next-fit .ensures) in
     fit-less v o (c .before .before .before .before .before .compatible-but-last .ensures .0) (not-false (c .before .before .before .before .before .compatible-but-last .result) (c .before .before .if1 .left)) (c .before .before .before .before .before .compatible-but-last .ensures .1) (c .before .u16-at .ensures .0) (c .u16-at2 .ensures .0)
 
 compatible-past-loop-again-2 : (t : ℕ) → compatible-past-lts.Need-loop-again-2 (compatible-past-env t) (compatible-past-at t) compatible-past.Post compatible-past-Inv-loop compatible-past-μ-loop
@@ -368,7 +368,7 @@ compatible-past-loop-again-2 t c =
     let v = c .before .before .before .before .before .before .before .before .before .before .before .before .loop .inv in
     let k = c .before .before .before .before .before .before .before .before .before .before .before .before .loop .k in
     let j = c .before .before .before .before .before .before .before .before .before .before .before .before .loop .j in
-    let o = subst (FitIs b p n k j) (c .before .before .before .before .before .before .before .before .next2 .given .1) (c .before .before .before .before .before .before .before .before .before .before .next-fit .ensures) in
+    let o = subst (CompatibleIs b p n k j) (c .before .before .before .before .before .before .before .before .next2 .given .1) (c .before .before .before .before .before .before .before .before .before .before .next-fit .ensures) in
     fit-last v o (c .before .before .before .before .before .compatible-but-last .ensures .0) (not-false (c .before .before .before .before .before .compatible-but-last .result) (c .before .before .if1 .left)) (c .before .before .before .before .before .compatible-but-last .ensures .1) (c .before .u16-at .ensures .0) (c .u16-at2 .ensures .0)
 
 pub +compatible-but-last+compatible-past-spec : {M : Type 1} → statement M

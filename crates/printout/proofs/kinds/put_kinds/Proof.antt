@@ -5,13 +5,13 @@ use borrow.Author.Needs.{needs}
 use Prim.Native.Nat.{ℕ, _+_, _-_, _≤_}
 use mathlib.Core.Path.{_≡_, refl, subst}
 use lib.ListN.{length, getD}
-use Rattle.printout.specs.Kinds.{Put}
+use Rattle.printout.specs.Kinds.{KindsPut}
 use Rattle.printout.specs.KindLaws.{put-none, put-one, question-inside}
 use Rattle.printout.proofs.kinds.put_kinds.Statement.{statement}
 use Rattle.printout.proofs.kinds.put_kinds.Tie as tie
 
 abbrev Inv-loop : tie.InvT-loop
-Inv-loop sheet asked many kinds₀ q₀ kinds q = (q ≤ many) × Put sheet asked q kinds₀ kinds
+Inv-loop sheet asked many kinds₀ q₀ kinds q = (q ≤ many) × KindsPut sheet asked q kinds₀ kinds
 
 abbrev μ-loop : tie.MeasureT-loop
 μ-loop sheet asked many kinds₀ q₀ kinds q = many - q
@@ -65,7 +65,7 @@ returns c =
     let k = a .kinds .now in
     let l = c .before .loop in
     let e : l .q ≡ a .many = omega (arith, c .loop-test .left, l .inv .0) in
-    subst (λ (c′ : ℕ). Put x y c′ k (l .kinds)) e (l .inv .1)
+    subst (λ (c′ : ℕ). KindsPut x y c′ k (l .kinds)) e (l .inv .1)
 
 pub put-kinds-spec : {M : Type 1} → statement M
 put-kinds-spec = tie.close (tie.spec Inv-loop μ-loop loop-holds (λ c. search needs) (λ c. search needs) cast-at add-kinds shared-slice-read-kinds (λ c. search needs) (λ c. search needs) (λ c. search needs) loop-again (λ c. search needs) returns)

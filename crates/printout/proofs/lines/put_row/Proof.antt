@@ -4,7 +4,7 @@ use native.Mathlib.Omega.{arith}
 use borrow.Author.Needs.{needs}
 use mathlib.Core.Path.{sym, ap}
 use lib.ListN.{length}
-use Rattle.printout.specs.LineLaws.{row-sort, row-refused}
+use Rattle.printout.specs.LineLaws.{row-sort, row-text-refused}
 use Rattle.printout.specs.Wrote.{wrote-as}
 use Rattle.printout.proofs.lines.put_row.Statement.{statement}
 use Rattle.printout.proofs.lines.put_row.Tie as tie
@@ -26,10 +26,10 @@ put-refusal-requires c κs =
     let a = s .args in
     let b = a .records .now in
     let p = a .places .now in
-    omega (arith, s .pre .1, ap length (row-refused b p (a .code) (c .before .if1 .left)))
+    omega (arith, s .pre .1, ap length (row-text-refused b p (a .code) (c .before .if1 .left)))
 
 returns-2 : tie.Need-returns-2
-returns-2 c = wrote-as (sym (row-refused _ _ _ (c .before .before .before .before .if1 .left))) (c .before .before .put-refusal .ensures)
+returns-2 c = wrote-as (sym (row-text-refused _ _ _ (c .before .before .before .before .if1 .left))) (c .before .before .put-refusal .ensures)
 
 pub put-row-spec : {M : Type 1} → statement M
 put-row-spec = tie.close (tie.spec put-sort-requires (λ c. search needs) returns put-refusal-requires (λ c. search needs) returns-2)

@@ -5,7 +5,7 @@ use borrow.Author.Needs.{needs}
 use mathlib.Core.Path.{ap}
 use Prim.Native.Nat.{_/_}
 use lib.ListN.{length}
-use Rattle.printout.specs.LineLaws.{row-sort, row-refused, refusal-length}
+use Rattle.printout.specs.LineLaws.{row-sort, row-text-refused, refusal-length}
 use Rattle.printout.proofs.lines.row_size.Statement.{statement}
 use Rattle.printout.proofs.lines.row_size.Tie as tie
 
@@ -29,7 +29,7 @@ returns-2 c =
     let a = s .args in
     let b = a .records .now in
     let p = a .places .now in
-    let e = row-refused b p (a .code) (c .before .if1 .left) in
+    let e = row-text-refused b p (a .code) (c .before .if1 .left) in
     (omega (arith, c .digits .ensures .0, ap length e, refusal-length (a .code / 65536)), omega (arith, c .digits .ensures .1))
 
 pub row-size-spec : {M : Type 1} → statement M

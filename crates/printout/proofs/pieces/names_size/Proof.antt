@@ -3,12 +3,12 @@
 use native.Mathlib.Omega.{arith}
 use mathlib.Core.Path.{ap}
 use lib.ListN.{length}
-use Rattle.printout.specs.NameLaws.{NamesInv, names-step, names-end}
+use Rattle.printout.specs.NameLaws.{NamesSizeInv, names-step, names-end}
 use Rattle.printout.proofs.pieces.names_size.Statement.{statement}
 use Rattle.printout.proofs.pieces.names_size.Tie as tie
 
 abbrev Inv-loop : tie.InvT-loop
-Inv-loop records at count sum₀ next₀ left₀ sum next left = NamesInv records at count sum next left
+Inv-loop records at count sum₀ next₀ left₀ sum next left = NamesSizeInv records at count sum next left
 
 abbrev μ-loop : tie.MeasureT-loop
 μ-loop records at count sum₀ next₀ left₀ sum next left = left

@@ -7,14 +7,14 @@ use Prim.Native.Nat.{ℕ, _+_, _-_}
 use lib.ListN.{length}
 use mathlib.Core.List.{_++_}
 use Rattle.record.specs.Number.{numbersAt}
-use Rattle.printout.specs.NameLaws.{PutInv, put-left, put-room, names-end}
+use Rattle.printout.specs.NameLaws.{NamesPutInv, put-left, put-room, names-end}
 use Rattle.printout.specs.Text.{ascii, nameText, moreNames}
 use Rattle.printout.specs.Wrote.{wrote-as, wrote-more, wrote-long, left-start, left-step, left-done}
 use Rattle.printout.proofs.pieces.put_names.Statement.{statement}
 use Rattle.printout.proofs.pieces.put_names.Tie as tie
 
 abbrev Inv-loop : tie.InvT-loop
-Inv-loop records at count out₀ to end₀ next₀ left₀ blank out end next left = PutInv records at count out₀ to out end next left
+Inv-loop records at count out₀ to end₀ next₀ left₀ blank out end next left = NamesPutInv records at count out₀ to out end next left
 
 abbrev μ-loop : tie.MeasureT-loop
 μ-loop records at count out₀ to end₀ next₀ left₀ blank out end next left = left

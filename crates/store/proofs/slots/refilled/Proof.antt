@@ -3,7 +3,7 @@
 use native.Mathlib.Omega.{arith}
 use borrow.Author.Needs.{needs}
 use mathlib.Core.Path.{refl, ap}
-use Rattle.store.specs.Index.{lastOf, Refilled}
+use Rattle.store.specs.Index.{hashLast, Refilled}
 use Rattle.store.proofs.slots.refilled.Statement.{statement}
 use Rattle.store.proofs.slots.refilled.Tie as tie
 
@@ -13,7 +13,7 @@ returns c =
 
 returns-2 : tie.Need-returns-2
 returns-2 c =
-    Refilled.last (c .if2 .taken) (ap lastOf (c .before .before .before .pre))
+    Refilled.last (c .if2 .taken) (ap hashLast (c .before .before .before .pre))
 
 returns-3 : tie.Need-returns-3
 returns-3 c =

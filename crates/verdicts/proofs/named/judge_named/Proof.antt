@@ -2,7 +2,7 @@
 -- Both are those of the judgement, with the zeros that stood behind them.
 use borrow.Author.Needs.{needs}
 use mathlib.Core.Path.{_∙_}
-use Rattle.answers.specs.Lent.{whole}
+use Rattle.row_answer.specs.Lent.{whole}
 use Rattle.verdicts.proofs.JudgeLaws.{blank-tables, rows-ask, answers-ask, judge-written}
 use Rattle.verdicts.proofs.named.judge_named.Statement.{statement}
 use Rattle.verdicts.proofs.named.judge_named.Tie as tie

@@ -1,0 +1,4 @@
+pub mod RangeLaws
+pub mod ArgumentLaws
+pub mod FitLaws
+pub mod OperatedLaws

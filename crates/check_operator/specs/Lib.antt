@@ -1,0 +1,4 @@
+pub mod Rule
+pub mod RuleLaws
+pub mod Contract
+pub mod KindLaws

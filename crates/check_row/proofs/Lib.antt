@@ -1,0 +1,4 @@
+pub mod SingleLaws
+pub mod IndexedLaws
+pub mod BinderLaws
+pub mod KindLaws

@@ -1,0 +1,4 @@
+pub mod Single
+pub mod Indexed
+pub mod Bound
+pub mod Kinds

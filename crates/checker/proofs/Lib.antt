@@ -1,3 +1,0 @@
-pub mod IndexedLaws
-pub mod BinderLaws
-pub mod KindLaws

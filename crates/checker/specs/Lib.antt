@@ -1,3 +1,0 @@
-pub mod Indexed
-pub mod Bound
-pub mod Kinds

@@ -1,5 +1,0 @@
-pub mod RangeLaws
-pub mod ArgumentLaws
-pub mod FitLaws
-pub mod OperatedLaws
-pub mod SingleLaws

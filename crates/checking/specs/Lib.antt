@@ -1,5 +1,0 @@
-pub mod Rule
-pub mod RuleLaws
-pub mod Contract
-pub mod KindLaws
-pub mod Single

@@ -1,4 +1,0 @@
-// The checked sort of one record, with its causes in the order 20, 24, 28, 25, 26, 27, 22, 23.
-pub mod op;
-pub mod rule;
-pub mod single;

@@ -1,0 +1,74 @@
+// How much of a printout was written. The one call of `write_all` in this crate stands here, in `hand`, and so does all that makes a
+// `Written`: its fields are private, so that elsewhere a line counts as written only where its bytes were handed over.
+use libc::STDOUT_FILENO;
+use reader::Refusal;
+ghost use mathlib.Core.Path.{_≡_};
+ghost use Rattle.reader.specs.Reader.{refusalNumber};
+ghost use Rattle.judge_rules.specs.Judged.{sheetRefused, judged};
+ghost use Rattle.printout.specs.Lines.{refusalLine};
+ghost use Rattle.printout.specs.Printed.{programLengths};
+ghost use Rattle.printout_write.specs.Print.{NextLines, HandAsks, WentOn, PrintedIs, noneWritten};
+
+// How many lines of a printout, from the first on, were handed to writes that took them whole; and whether a write of the lines
+// behind them failed.
+pub struct Written {
+    lines: usize,
+    failed: bool,
+}
+
+impl Written {
+    // Whether a write failed.
+    pub fn has_failed(self) -> bool
+        ensures { λ r. ⌜ r ≡ self .failed ⌝ }
+    {
+        self.failed
+    }
+}
+
+// No line written, and no write failed.
+pub fn nothing_written() -> Written
+    ensures { λ r. ⌜ r ≡ noneWritten ⌝ }
+{
+    Written {
+        lines: 0,
+        failed: false,
+    }
+}
+
+// Hands this text, that of the lines from the first unwritten one up to the line `next`, to standard output. Where the write took
+// all, these lines are written too; else it failed, and the lines written are those of before.
+fn hand(done: Written, next: usize, text: &[u8]) -> Written
+    requires { ⌜ HandAsks done next (now text) ⌝ }
+    ensures { λ r. ⌜ WentOn done next r ⌝ }
+{
+    if io::write_all(STDOUT_FILENO, text) {
+        Written {
+            lines: next,
+            failed: false,
+        }
+    } else {
+        Written {
+            lines: done.lines,
+            failed: true,
+        }
+    }
+}
+
+// Writes the lines of the printout of this sheet from the first unwritten one up to the line `next`; this is their text. Where the
+// write took all, these lines are written too; else it failed, and the lines written are those of before. Only the contract reads
+// the sheet.
+pub fn write_lines(done: Written, sheet: &[u8], next: usize, text: &[u8]) -> Written
+    requires { ⌜ NextLines (judged (now sheet) programLengths) done next (now text) ⌝ }
+    ensures { λ r. ⌜ WentOn done next r ⌝ }
+{
+    hand(done, next, text)
+}
+
+// Writes the line of a sheet that is refused for this reason; this is its text. Where the write took all, that line is written; else it
+// failed, and none is. Only the contract reads the reason.
+pub fn write_refusal(e: Refusal, text: &[u8]) -> Written
+    requires { ⌜ now text ≡ refusalLine (refusalNumber e) ⌝ }
+    ensures { λ r. ⌜ PrintedIs (sheetRefused e) r ⌝ }
+{
+    hand(nothing_written(), 1, text)
+}

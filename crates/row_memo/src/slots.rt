@@ -1,0 +1,144 @@
+// What an App was found to be, noted in a lent table by the numbers of its head and its arguments. The table has 128 slots of 132
+// bytes for each column of the rows, or fewer where it is shorter: how many terms (0 in an empty slot), the row's code in three bytes,
+// a number of the store and a cause, and from byte 4 on the numbers of the terms' sorts, two bytes each. A slot keeps the last App that
+// was looked up there.
+use check::same;
+use record::u16_at;
+use row_answer::arguments::FIRST_AT;
+use row_answer::arguments::INFERRED;
+use row_answer::arguments::REFUSED;
+use row_answer::arguments::SECOND_AT;
+use row_answer::arguments::put_u16;
+use row_answer::code;
+use row_rules::Cause;
+use row_rules::RowVerdict;
+use store::buffers::copy_at;
+ghost use mathlib.Core.Path.{_≡_};
+ghost use Prim.Native.Nat.{_≤_, _<_};
+ghost use mathlib.Core.Bool.{true};
+ghost use Rattle.record.specs.Number.{numbersAt};
+ghost use Rattle.row_memo.specs.Past.{slotOf, noRoom, KeyAsks, Tells, LackAsks, LackIs, SeekAsks, PastSlotAsks, RecalledIs, OpenedIs, SeekIs, SlotNoteAsks, SlotNotedIs, RowNoteAsks, RowNotedIs};
+
+// How many slots a column has, the bytes of a slot, and of the whole table.
+const SLOTS: usize = 128;
+
+pub const SLOT: usize = 132;
+
+pub const TABLE: usize = 2 * SLOTS * SLOT;
+
+// What a look-up gave.
+pub enum Look {
+    // Nothing: the record is none that is noted, or the table has no slot for it.
+    Apart,
+    // The code of its row.
+    Noted(usize),
+    // No note: the slot at this place is empty and has the numbers of its terms.
+    Open(usize),
+}
+
+// Where the slot of an App of these `n` terms stands in a column: by its head, its first and its last argument.
+pub fn slot_of(args: &[u8], n: usize, column: usize) -> usize
+    requires { ⌜ SeekAsks (now args) n column ⌝ }
+    ensures { λ r. ⌜ r ≡ slotOf column (now (args .entry)) n ⌝ }
+{
+    let head = u16_at(args, FIRST_AT);
+    let first = u16_at(args, SECOND_AT);
+    let last = u16_at(args, 1 + 2 * n);
+    (column * SLOTS + (head * 31 + first * 6 + last) % SLOTS) * SLOT
+}
+
+// One more than the code in the slot at `at`, where that has noted the `n` terms whose numbers are in `args` from byte 3 on; else 0.
+pub fn recalled(past: &[u8], at: usize, args: &[u8], n: usize) -> usize
+    requires { ⌜ PastSlotAsks (now past) at (now args) n ⌝ }
+    ensures { λ r. ⌜ RecalledIs (now (past .entry)) at (now (args .entry)) n r ⌝ }
+{
+    if past[at] as usize != n {
+        return 0;
+    }
+    let from = at + 4;
+    let to = from + 2 * n;
+    let end = FIRST_AT + 2 * n;
+    if same(&past[from..to], &args[FIRST_AT..end]) {
+        return past[at + 3] as usize * REFUSED + u16_at(past, at + 1) + 1;
+    }
+    0
+}
+
+// Empties the slot at `at` and writes the numbers of the `n` terms there, which are in `args` from byte 3 on.
+pub fn opened(past: &mut [u8], at: usize, args: &[u8], n: usize)
+    requires { ⌜ PastSlotAsks (now past) at (now args) n ⌝ }
+    ensures { λ _. ⌜ OpenedIs (now (past .entry)) at (now (args .entry)) n (now (past .exit)) ⌝ }
+{
+    past[at] = 0;
+    let end = FIRST_AT + 2 * n;
+    copy_at(past, at + 4, &args[FIRST_AT..end]);
+}
+
+// Looks up an App of the `n` terms whose numbers are in `args` from byte 3 on: its code in a column, or its slot, which is emptied and
+// has the numbers then; Apart where the table has no such slot.
+pub fn seek(past: &mut [u8], args: &[u8], n: usize, column: usize) -> Look
+    requires { ⌜ SeekAsks (now args) n column ⌝ }
+    ensures { λ r. ⌜ SeekIs (now (past .entry)) (now (args .entry)) n column (now (past .exit)) r ⌝ }
+{
+    let at = slot_of(args, n, column);
+    if past.len() < at + SLOT {
+        return Look::Apart;
+    }
+    let known = recalled(past, at, args, n);
+    if 0 < known {
+        return Look::Noted(known - 1);
+    }
+    opened(past, at, args, n);
+    Look::Open(at)
+}
+
+// Whether the inferred sort of an App of the `n` terms whose numbers are in `args` from byte 3 on is noted to have no room.
+pub fn noted_full(past: &[u8], args: &[u8], n: usize) -> bool
+    requires { ⌜ KeyAsks (now args) n ⌝ }
+    ensures { λ r. ⌜ (r ≡ true → Tells (now (past .entry)) 0 (numbersAt (now (args .entry)) 3 n) noRoom) ⌝ }
+{
+    let at = slot_of(args, n, INFERRED);
+    if past.len() < at + SLOT {
+        return false;
+    }
+    let known = recalled(past, at, args, n);
+    let full = code(RowVerdict::Refused(Cause::Full)) as usize;
+    known == full + 1
+}
+
+// The same of an App for which the look-up left a slot; no for any other record.
+pub fn lacks_room(past: &[u8], look: Look, args: &[u8], n: usize) -> bool
+    requires { ⌜ LackAsks (now args) n look ⌝ }
+    ensures { λ r. ⌜ LackIs (now (past .entry)) (now (args .entry)) n look r ⌝ }
+{
+    match look {
+        Look::Open(_) => noted_full(past, args, n),
+        Look::Apart => false,
+        Look::Noted(_) => false,
+    }
+}
+
+// Notes a code in the slot at `at`, which has the numbers of `n` terms.
+pub fn noted(past: &mut [u8], at: usize, n: usize, row: usize)
+    requires { ⌜ SlotNoteAsks (now past) at n row ⌝ }
+    ensures { λ _. ⌜ SlotNotedIs (now (past .entry)) at n row (now (past .exit)) ⌝ }
+{
+    past[at] = n as u8;
+    put_u16(past, at + 1, row % REFUSED);
+    past[at + 3] = (row / REFUSED) as u8;
+}
+
+// Notes a row of `n` terms where the look-up left a slot for it; else the table stays as it was.
+pub fn row_noted(past: &mut [u8], n: usize, look: Look, v: RowVerdict)
+    requires { ⌜ RowNoteAsks (now past) n look v ⌝ }
+    ensures { λ _. ⌜ RowNotedIs (now (past .entry)) n look v (now (past .exit)) ⌝ }
+{
+    match look {
+        Look::Open(at) => {
+            let row = code(v) as usize;
+            noted(past, at, n, row);
+        }
+        Look::Apart => {}
+        Look::Noted(_) => {}
+    }
+}
