@@ -95,40 +95,40 @@ module _ (k w : ℕ) (own : Sort) (ts : Sorts) where
   known-none h9 h5 h12 = rw (ne-eqb k 5 h5, ne-eqb k 9 h9, ne-eqb k 12 h12) refl
 
 module _ {b p : List ℕ} {n : ℕ} {tbl : List ℕ} {r : TermRecord} {a : List ℕ} (f : KnownSiteAsks b p n tbl r a) where
-  pub let-is : r .kind ≡ 9 → knownVerdict (r .kind) (r .number) (ownOver (storeOf b p n) tbl r) (argsOf b p n a (r .count)) ≡ letting (argsOf b p n a (r .count))
-  let-is e = known-let (r .kind) (r .number) (ownOver (storeOf b p n) tbl r) (argsOf b p n a (r .count)) e
+  pub let-is : r .kind ≡ 9 → knownVerdict (r .kind) (r .number) (ownOver (storeOf b p n) tbl r) (argsOf b p n a (r .«list_count»)) ≡ letting (argsOf b p n a (r .«list_count»))
+  let-is e = known-let (r .kind) (r .number) (ownOver (storeOf b p n) tbl r) (argsOf b p n a (r .«list_count»)) e
 
   pub var-asks : r .kind ≡ 5 → OneAsks b p n (getD tbl (r .sort) 0)
   var-asks e = record { usable = f .usable; known = f .variable e .known }
 
-  pub var-is : r .kind ≡ 5 → knownVerdict (r .kind) (r .number) (ownOver (storeOf b p n) tbl r) (argsOf b p n a (r .count))
+  pub var-is : r .kind ≡ 5 → knownVerdict (r .kind) (r .number) (ownOver (storeOf b p n) tbl r) (argsOf b p n a (r .«list_count»))
       ≡ variableVerdict (sortAt b p n (getD tbl (r .sort) 0))
-  var-is e = known-var (r .kind) (r .number) (ownOver (storeOf b p n) tbl r) (argsOf b p n a (r .count)) e ∙ ap variableVerdict (f .variable e .is)
+  var-is e = known-var (r .kind) (r .number) (ownOver (storeOf b p n) tbl r) (argsOf b p n a (r .«list_count»)) e ∙ ap variableVerdict (f .variable e .is)
 
-  pub as-asks : r .kind ≡ 12 → QualifiedAsks b p n (getD tbl (r .sort) 0) a (r .count)
+  pub as-asks : r .kind ≡ 12 → QualifiedAsks b p n (getD tbl (r .sort) 0) a (r .«list_count»)
   as-asks e = record { args = f .args; own = record { usable = f .usable; known = f .typed e .known } }
 
-  pub as-is : r .kind ≡ 12 → knownVerdict (r .kind) (r .number) (ownOver (storeOf b p n) tbl r) (argsOf b p n a (r .count))
-      ≡ qualified (r .number) (sortAt b p n (getD tbl (r .sort) 0)) (argsOf b p n a (r .count))
+  pub as-is : r .kind ≡ 12 → knownVerdict (r .kind) (r .number) (ownOver (storeOf b p n) tbl r) (argsOf b p n a (r .«list_count»))
+      ≡ qualified (r .number) (sortAt b p n (getD tbl (r .sort) 0)) (argsOf b p n a (r .«list_count»))
   as-is e =
-      known-as (r .kind) (r .number) (ownOver (storeOf b p n) tbl r) (argsOf b p n a (r .count)) e
-      ∙ ap (λ (t : Sort). qualified (r .number) t (argsOf b p n a (r .count))) (f .typed e .is)
+      known-as (r .kind) (r .number) (ownOver (storeOf b p n) tbl r) (argsOf b p n a (r .«list_count»)) e
+      ∙ ap (λ (t : Sort). qualified (r .number) t (argsOf b p n a (r .«list_count»))) (f .typed e .is)
 
 ---------------------------------------------------------------- sorts that are made
 module _ {b p ix : List ℕ} {n u : ℕ} {s tbl xs : List ℕ} {r : TermRecord} {a : List ℕ} (f : CheckComposedAsks b p ix n u s tbl xs r a) where
-  few : r .count ≤ 64
+  few : r .«list_count» ≤ 64
   few = count-few (f .standing)
 
-  within : 3 + 2 * r .count ≤ length a
+  within : 3 + 2 * r .«list_count» ≤ length a
   within = omega (arith, few, f .room)
 
-  pub op-asks : r .kind ≡ 7 → CheckOperatorAsks b p ix n u (r .number) a (r .count)
+  pub op-asks : r .kind ≡ 7 → CheckOperatorAsks b p ix n u (r .number) a (r .«list_count»)
   op-asks e = record { good = f .good; few = op-number (f .standing) e; within = within; below = f .below }
 
-  pub op-is : r .kind ≡ 7 → checked smtLib (siteOver (storeOf b p n) s tbl xs a r) ≡ operated smtLib (r .number) (argsOf b p n a (r .count))
+  pub op-is : r .kind ≡ 7 → checked smtLib (siteOver (storeOf b p n) s tbl xs a r) ≡ operated smtLib (r .number) (argsOf b p n a (r .«list_count»))
   op-is e = checked-op (siteOver (storeOf b p n) s tbl xs a r) e
 
-  pub binder-asks : r .kind ≡ 8 → BinderAsks b p ix n u s tbl (r .pairs) (r .paired) a
+  pub binder-asks : r .kind ≡ 8 → BinderAsks b p ix n u s tbl (r .«pairs_at») (r .«pairs_count») a
   binder-asks e =
       let h = bindings-bound (f .standing) in
       let one = binder-one (f .standing) e in
@@ -141,19 +141,19 @@ module _ {b p ix : List ℕ} {n u : ℕ} {s tbl xs : List ℕ} {r : TermRecord} 
       }
 
   pub binder-kind : r .kind ≡ 8 → checked smtLib (siteOver (storeOf b p n) s tbl xs a r)
-      ≡ binder (r .number) (sortsOf (storeOf b p n) (boundNumbers tbl s (r .pairs) (r .paired))) (argsOf b p n a 1)
+      ≡ binder (r .number) (sortsOf (storeOf b p n) (boundNumbers tbl s (r .«pairs_at») (r .«pairs_count»))) (argsOf b p n a 1)
   binder-kind e =
       checked-binder (siteOver (storeOf b p n) s tbl xs a r) e
       ∙ ap₂ (λ (bs : Sorts) (m : ℕ). binder (r .number) bs (argsOf b p n a m)) (bindings-sorts (storeOf b p n) tbl s r) (binder-one (f .standing) e)
 
-  pub index-asks : r .kind ≡ 11 → IndexingAsks b p ix n u s xs (r .second) (r .seconds) a (r .count)
+  pub index-asks : r .kind ≡ 11 → IndexingAsks b p ix n u s xs (r .«second_at») (r .«second_count») a (r .«list_count»)
   index-asks e = record { good = f .good; constants = index-constants (f .standing) e; within = within; below = f .below }
 
   pub index-kind : r .kind ≡ 11 → checked smtLib (siteOver (storeOf b p n) s tbl xs a r)
-      ≡ indexing (r .number) (constantsIn s xs (r .second) (r .seconds)) (argsOf b p n a (r .count))
+      ≡ indexing (r .number) (constantsIn s xs (r .«second_at») (r .«second_count»)) (argsOf b p n a (r .«list_count»))
   index-kind e =
       checked-indexed (siteOver (storeOf b p n) s tbl xs a r) e
-      ∙ ap (λ (t : Bool). indexing (r .number) (cond t (constantsIn s xs (r .second) (r .seconds)) []) (argsOf b p n a (r .count))) (eq-eqb (r .kind) 11 e)
+      ∙ ap (λ (t : Bool). indexing (r .number) (cond t (constantsIn s xs (r .«second_at») (r .«second_count»)) []) (argsOf b p n a (r .«list_count»))) (eq-eqb (r .kind) 11 e)
 
   pub known-asks : KnownSiteAsks b p n tbl r a
   known-asks =
@@ -165,5 +165,5 @@ module _ {b p ix : List ℕ} {n u : ℕ} {s tbl xs : List ℕ} {r : TermRecord} 
       }
 
   pub known-is : (r .kind ≡ 7 → ⊥) → (r .kind ≡ 8 → ⊥) → (r .kind ≡ 11 → ⊥) → checked smtLib (siteOver (storeOf b p n) s tbl xs a r)
-      ≡ knownVerdict (r .kind) (r .number) (ownOver (storeOf b p n) tbl r) (argsOf b p n a (r .count))
+      ≡ knownVerdict (r .kind) (r .number) (ownOver (storeOf b p n) tbl r) (argsOf b p n a (r .«list_count»))
   known-is h7 h8 h11 = checked-known (siteOver (storeOf b p n) s tbl xs a r) (f .large) (f .other) h7 h8 h11

@@ -30,7 +30,7 @@ pub record KnownSiteAsks (b p : List ℕ) (n : ℕ) (tbl : List ℕ) (r : TermRe
   pub usable : Usable b p n
   pub variable : r .kind ≡ 5 → OwnIs b p n tbl r
   pub typed : r .kind ≡ 12 → OwnIs b p n tbl r
-  pub args : OverAsks b p n a (r .count)
+  pub args : OverAsks b p n a (r .«list_count»)
 
 -- A record that stands, whatever the rows are; neither a constant nor an App.
 pub record CheckComposedAsks (b p ix : List ℕ) (n u : ℕ) (s tbl xs : List ℕ) (r : TermRecord) (a : List ℕ) : Type 0 where
@@ -38,6 +38,6 @@ pub record CheckComposedAsks (b p ix : List ℕ) (n u : ℕ) (s tbl xs : List �
   pub rows : List ℕ
   pub standing : Standing n s tbl xs rows r
   pub room : 259 ≤ length a
-  pub below : (j : ℕ) → j < r .count → u16At a (3 + 2 * j) < n
+  pub below : (j : ℕ) → j < r .«list_count» → u16At a (3 + 2 * j) < n
   pub large : 5 ≤ r .kind
   pub other : r .kind ≡ 6 → ⊥

@@ -42,10 +42,10 @@ pub fn known_site(
     args: &[u8],
 ) -> Answer
     requires { ⌜ KnownSiteAsks (now records) (now places) count (now table) term (now args) ⌝ }
-    ensures { λ r. ⌜ ReadIs (now (records .entry)) (now (places .entry)) count used (knownVerdict (term .kind) (term .number) (ownOver (storeOf (now (records .entry)) (now (places .entry)) count) (now (table .entry)) term) (argsOf (now (records .entry)) (now (places .entry)) count (now (args .entry)) (term .count))) r ⌝ }
+    ensures { λ r. ⌜ ReadIs (now (records .entry)) (now (places .entry)) count used (knownVerdict (term .kind) (term .number) (ownOver (storeOf (now (records .entry)) (now (places .entry)) count) (now (table .entry)) term) (argsOf (now (records .entry)) (now (places .entry)) count (now (args .entry)) (term .«list_count»))) r ⌝ }
 {
     let kind = term.kind;
-    let n = term.count;
+    let n = term.list_count;
     let v = term.sort;
     if kind == TERM_LET {
         return checked_let(records, places, count, used, args, n);
@@ -81,13 +81,13 @@ pub fn composed_site(
 {
     let kind = term.kind;
     let number = term.number;
-    let n = term.count;
+    let n = term.list_count;
     if kind == TERM_OP {
         return checked_operator(records, places, index, count, used, number, args, n);
     }
     if kind == TERM_BINDER {
-        let pairs = term.pairs;
-        let paired = term.paired;
+        let pairs = term.pairs_at;
+        let paired = term.pairs_count;
         return checked_binder(
             records,
             places,
@@ -103,8 +103,8 @@ pub fn composed_site(
         );
     }
     if kind == TERM_PARAM_OP {
-        let second = term.second;
-        let seconds = term.seconds;
+        let second = term.second_at;
+        let seconds = term.second_count;
         return checked_indexed(
             records,
             places,
@@ -149,7 +149,7 @@ pub fn check(
         return checked_constant(records, places, index, count, used, kind, number);
     }
     if kind == TERM_APP {
-        let n = term.count;
+        let n = term.list_count;
         return checked_app(
             records,
             places,

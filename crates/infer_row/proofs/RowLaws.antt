@@ -20,7 +20,7 @@ use Rattle.infer_row.proofs.IndexedLaws.{after}
 use Rattle.infer_row.proofs.TermLaws.{site-app}
 
 module _ {b p ix : List ℕ} {n u : ℕ} {prm imgs bnd s tbl xs : List ℕ} {r : TermRecord} {a : List ℕ} (h : SiteAsks b p ix n u prm imgs bnd s tbl xs r a) where
-  pub app-asks : AppAsks b p ix n u prm imgs bnd a (r .count)
+  pub app-asks : AppAsks b p ix n u prm imgs bnd a (r .«list_count»)
   app-asks =
       record { good = h .asks .good; tables = h .asks .tables; few = count-few (h .asks .standing); room = h .asks .room; below = h .below }
 
@@ -61,7 +61,7 @@ pub site-is : {b p : List ℕ} {n : ℕ} {prm imgs bnd s tbl xs : List ℕ} {r :
 site-is h = record { answer = h; params = refl; images = refl; bound = refl }
 
 pub app-is : {b p : List ℕ} {n : ℕ} {prm imgs bnd s tbl xs : List ℕ} {r : TermRecord} {a b′ p′ ix′ prm′ imgs′ bnd′ : List ℕ} {q : Answer} → r .kind ≡ 6
-    → AppIs (inferredApp (sortsAt b p n a 3 (r .count))) b p n prm imgs bnd b′ p′ ix′ prm′ imgs′ bnd′ q
+    → AppIs (inferredApp (sortsAt b p n a 3 (r .«list_count»))) b p n prm imgs bnd b′ p′ ix′ prm′ imgs′ bnd′ q
     → SiteIs inferred b p n prm imgs bnd s tbl xs r a b′ p′ ix′ prm′ imgs′ bnd′ q
 app-is {b} {p} {n} {s = s} {tbl = tbl} {xs = xs} {r = r} {a = a} e h =
     record {

@@ -81,14 +81,14 @@ module _ (z : Site) where
   site-as e = rw e refl
 
 -- A ParamOp has its index terms' constants.
-indices-there : (s xs : List ℕ) (r : TermRecord) → r .kind ≡ 11 → indicesOver s xs r ≡ constantsIn s xs (r .second) (r .seconds)
+indices-there : (s xs : List ℕ) (r : TermRecord) → r .kind ≡ 11 → indicesOver s xs r ≡ constantsIn s xs (r .«second_at») (r .«second_count»)
 indices-there s xs r e = rw (eq-eqb (r .kind) 11 e) refl
 
 pub site-indexed : (st : List Sort) (s tbl xs a : List ℕ) (r : TermRecord) → r .kind ≡ 11
-    → inferred (siteOver st s tbl xs a r) ≡ indexed (r .number) (constantsIn s xs (r .second) (r .seconds)) (sortsOf st (numbersAt a 3 (r .count)))
+    → inferred (siteOver st s tbl xs a r) ≡ indexed (r .number) (constantsIn s xs (r .«second_at») (r .«second_count»)) (sortsOf st (numbersAt a 3 (r .«list_count»)))
 site-indexed st s tbl xs a r e =
     site-param (siteOver st s tbl xs a r) e
-    ∙ ap (λ (is : List (Option ℕ)). indexed (r .number) is (sortsOf st (numbersAt a 3 (r .count)))) (indices-there s xs r e)
+    ∙ ap (λ (is : List (Option ℕ)). indexed (r .number) is (sortsOf st (numbersAt a 3 (r .«list_count»)))) (indices-there s xs r e)
 
 ---------------------------------------------------------------- what single numbers leave
 pub from-five : (k : ℕ) → (k ≡ 0 → ⊥) → (k ≡ 1 → ⊥) → (k ≡ 2 → ⊥) → (k ≡ 3 → ⊥) → (k ≡ 4 → ⊥) → 5 ≤ k
@@ -124,22 +124,22 @@ truth-of k bs ss c d = rw (ne-eqb k 3 c, ne-eqb k 2 d) refl
 
 module _ (b p : List ℕ) (n : ℕ) (s tbl : List ℕ) (r : TermRecord) (a : List ℕ) where
   -- The body is the first argument.
-  pub lambda-is : Referring b p n a 3 (r .count) → 0 < r .count → {k : ℕ} → k ≡ u16At a 3 → r .number ≡ 3
-      → inferredBinder (r .number) (bindingsOver (storeOf b p n) tbl s r) (sortsIn b p n a 3 (r .count))
-      ≡ sort (function (joined (sortsOf (storeOf b p n) (boundNumbers tbl s (r .pairs) (r .paired))) (sortAt b p n k)))
+  pub lambda-is : Referring b p n a 3 (r .«list_count») → 0 < r .«list_count» → {k : ℕ} → k ≡ u16At a 3 → r .number ≡ 3
+      → inferredBinder (r .number) (bindingsOver (storeOf b p n) tbl s r) (sortsIn b p n a 3 (r .«list_count»))
+      ≡ sort (function (joined (sortsOf (storeOf b p n) (boundNumbers tbl s (r .«pairs_at») (r .«pairs_count»))) (sortAt b p n k)))
   lambda-is h some {k} e q =
-      lambda-of (bindingsOver (storeOf b p n) tbl s r) (sortsIn b p n a 3 (r .count)) q
+      lambda-of (bindingsOver (storeOf b p n) tbl s r) (sortsIn b p n a 3 (r .«list_count»)) q
       ∙ ap (inferredLambda (bindingsOver (storeOf b p n) tbl s r)) (first-then h some e)
       ∙ ap (λ (ss : Sorts). sort (function (joined ss (sortAt b p n k)))) (bindings-sorts (storeOf b p n) tbl s r)
 
-  pub choice-none : r .number ≡ 2 → r .paired ≡ 0 → inferredBinder (r .number) (bindingsOver (storeOf b p n) tbl s r) (sortsIn b p n a 3 (r .count)) ≡ refused Panics
+  pub choice-none : r .number ≡ 2 → r .«pairs_count» ≡ 0 → inferredBinder (r .number) (bindingsOver (storeOf b p n) tbl s r) (sortsIn b p n a 3 (r .«list_count»)) ≡ refused Panics
   choice-none q z =
-      choice-of (bindingsOver (storeOf b p n) tbl s r) (sortsIn b p n a 3 (r .count)) q
+      choice-of (bindingsOver (storeOf b p n) tbl s r) (sortsIn b p n a 3 (r .«list_count»)) q
       ∙ ap chosen (bindings-none (storeOf b p n) tbl s r z)
 
   -- The first pair's sort stands two bytes behind its name.
-  module _ (h : Bound n s tbl r) (some : 0 < r .paired) {v : ℕ} (e : v ≡ u16At s (r .pairs + 2)) where
-    place : r .pairs + 4 * 0 + 2 ≡ r .pairs + 2
+  module _ (h : Bound n s tbl r) (some : 0 < r .«pairs_count») {v : ℕ} (e : v ≡ u16At s (r .«pairs_at» + 2)) where
+    place : r .«pairs_at» + 4 * 0 + 2 ≡ r .«pairs_at» + 2
     place = omega arith
 
     pub choice-in : v < length tbl
@@ -151,10 +151,10 @@ module _ (b p : List ℕ) (n : ℕ) (s tbl : List ℕ) (r : TermRecord) (a : Lis
         (subst (λ (y : ℕ). getD tbl (u16At s y) 0 < n) place (h .below 0 some))
 
     pub choice-is : r .number ≡ 2
-        → inferredBinder (r .number) (bindingsOver (storeOf b p n) tbl s r) (sortsIn b p n a 3 (r .count)) ≡ sort (sortAt b p n (getD tbl v 0))
+        → inferredBinder (r .number) (bindingsOver (storeOf b p n) tbl s r) (sortsIn b p n a 3 (r .«list_count»)) ≡ sort (sortAt b p n (getD tbl v 0))
     unfolding sortAt
     choice-is q =
-        choice-of (bindingsOver (storeOf b p n) tbl s r) (sortsIn b p n a 3 (r .count)) q
+        choice-of (bindingsOver (storeOf b p n) tbl s r) (sortsIn b p n a 3 (r .«list_count»)) q
         ∙ ap chosen (bindings-first (storeOf b p n) tbl s r some)
         ∙ ap (λ (y : ℕ). sort (sortAt b p n (getD tbl (u16At s y) 0))) place
         ∙ ap (λ (i : ℕ). sort (sortAt b p n (getD tbl i 0))) (sym e)

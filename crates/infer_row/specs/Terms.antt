@@ -30,16 +30,16 @@ PlainTermIs b p n tbl r b′ p′ ix′ q = (s xs a : List ℕ) → AnswerIs b p
 
 -- A good store, a Binder's body in a, and its pairs.
 pub record BoundAsks (b p ix : List ℕ) (n u : ℕ) (s tbl : List ℕ) (r : TermRecord) (a : List ℕ) : Type 0 where
-  pub args : ArgsAsks b p ix n u a (r .count)
-  pub body : 0 < r .count
+  pub args : ArgsAsks b p ix n u a (r .«list_count»)
+  pub body : 0 < r .«list_count»
   pub pairs : Bound n s tbl r
 
 -- A good store, the arguments of a record of a kind from 7 to 11, and what its kind has besides.
 pub record InferComposedAsks (b p ix : List ℕ) (n u : ℕ) (s tbl xs : List ℕ) (r : TermRecord) (a : List ℕ) : Type 0 where
-  pub args : ArgsAsks b p ix n u a (r .count)
+  pub args : ArgsAsks b p ix n u a (r .«list_count»)
   pub low : 7 ≤ r .kind
   pub high : r .kind ≤ 11
-  pub terms : ConstantsAsk s xs (r .list) (r .count)
-  pub body : r .kind ≡ 8 → 0 < r .count
+  pub terms : ConstantsAsk s xs (r .«list_at») (r .«list_count»)
+  pub body : r .kind ≡ 8 → 0 < r .«list_count»
   pub pairs : Bound n s tbl r
-  pub indices : r .kind ≡ 11 → ConstantsAsk s xs (r .second) (r .seconds)
+  pub indices : r .kind ≡ 11 → ConstantsAsk s xs (r .«second_at») (r .«second_count»)

@@ -32,11 +32,11 @@ pub fn inferred_binder(
     args: &mut [u8],
 ) -> Answer
     requires { ⌜ BoundAsks (now records) (now places) (now index) count used (now sheet) (now table) term (now args) ⌝ }
-    ensures { λ r. ⌜ AnswerIs (now (records .entry)) (now (places .entry)) count (inferredBinder (term .number) (bindingsOver (storeOf (now (records .entry)) (now (places .entry)) count) (now (table .entry)) (now (sheet .entry)) term) (sortsIn (now (records .entry)) (now (places .entry)) count (now (args .entry)) 3 (term .count))) (now (records .exit)) (now (places .exit)) (now (index .exit)) r ⌝ }
+    ensures { λ r. ⌜ AnswerIs (now (records .entry)) (now (places .entry)) count (inferredBinder (term .number) (bindingsOver (storeOf (now (records .entry)) (now (places .entry)) count) (now (table .entry)) (now (sheet .entry)) term) (sortsIn (now (records .entry)) (now (places .entry)) count (now (args .entry)) 3 (term .«list_count»))) (now (records .exit)) (now (places .exit)) (now (index .exit)) r ⌝ }
 {
     let number = term.number;
-    let pairs = term.pairs;
-    let paired = term.paired;
+    let pairs = term.pairs_at;
+    let paired = term.pairs_count;
     if number == BINDER_LAMBDA {
         let body = u16_at(args, FIRST_AT);
         return lambda(

@@ -83,10 +83,10 @@ pub fn inferred_composed(
 {
     let kind = term.kind;
     let number = term.number;
-    let list = term.list;
-    let n = term.count;
-    let second = term.second;
-    let seconds = term.seconds;
+    let list = term.list_at;
+    let n = term.list_count;
+    let second = term.second_at;
+    let seconds = term.second_count;
     match kind {
         TERM_OP => inferred_operator(
             records,
@@ -152,7 +152,7 @@ pub fn infer(
     ensures { λ r. ⌜ SiteIs inferred (now (records .entry)) (now (places .entry)) count (now (params .entry)) (now (images .entry)) (now (bound .entry)) (now (sheet .entry)) (now (table .entry)) (now (starts .entry)) term (now (args .entry)) (now (records .exit)) (now (places .exit)) (now (index .exit)) (now (params .exit)) (now (images .exit)) (now (bound .exit)) r ⌝ }
 {
     let kind = term.kind;
-    let n = term.count;
+    let n = term.list_count;
     match kind {
         TERM_APP => inferred_app(
             records,

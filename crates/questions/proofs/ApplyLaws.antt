@@ -25,40 +25,40 @@ use Rattle.questions.specs.Contract.{AnswerApplyAsks, ApplyIs}
 use Rattle.questions.specs.Asked.{sortsBy, sorts-by-first, sorts-rest, mapped-known}
 
 module _ {b p ix : List ℕ} {n u : ℕ} {imgs s tbl : List ℕ} {q : QuestionRecord} (h : AnswerApplyAsks b p ix n u imgs s tbl q) where
-  later : (j : ℕ) → j < q .named → getD tbl (u16At s (q .list + 2 + 2 * j)) 0 < n
+  later : (j : ℕ) → j < q .«names_count» → getD tbl (u16At s (q .«list_at» + 2 + 2 * j)) 0 < n
   later j o =
-      let e : q .list + 2 * (j + 1) ≡ q .list + 2 + 2 * j = omega arith in
+      let e : q .«list_at» + 2 * (j + 1) ≡ q .«list_at» + 2 + 2 * j = omega arith in
       subst (λ (x : ℕ). getD tbl (u16At s x) 0 < n) e (h .asked .known (j + 1) (omega (arith, h .count)))
 
-  pub fill-asks : FillAsks imgs s tbl (q .names) (q .list + 2) (q .named)
+  pub fill-asks : FillAsks imgs s tbl (q .«names_at») (q .«list_at» + 2) (q .«names_count»)
   fill-asks =
       record {
         table = h .table;
         names = h .asked .names;
         sorts = omega (arith, h .asked .within, h .count);
         inside = λ j o.
-            let e : q .list + 2 * (j + 1) ≡ q .list + 2 + 2 * j = omega arith in
+            let e : q .«list_at» + 2 * (j + 1) ≡ q .«list_at» + 2 + 2 * j = omega arith in
             subst (λ (x : ℕ). u16At s x < length tbl) e (h .asked .inside (j + 1) (omega (arith, h .count)));
         small = λ j o. omega (arith, later j o, h .good .indexed .count);
       }
 
-  module _ {l : List ℕ} (f : FilledIs imgs s tbl (q .names) (q .list + 2) (q .named) l) where
-    pub filled-map : Images (storeOf b p n) l (imagesGiven (numbersAt s (q .names) (q .named)) (sortsBy (storeOf b p n) tbl s (q .list + 2) (q .named)))
+  module _ {l : List ℕ} (f : FilledIs imgs s tbl (q .«names_at») (q .«list_at» + 2) (q .«names_count») l) where
+    pub filled-map : Images (storeOf b p n) l (imagesGiven (numbersAt s (q .«names_at») (q .«names_count»)) (sortsBy (storeOf b p n) tbl s (q .«list_at» + 2) (q .«names_count»)))
     filled-map =
-        let vs = numbersAt s (q .names) (q .named) in
-        let rs = numbersAt s (q .list + 2) (q .named) in
-        let m = length-numbersAt s (q .list + 2) (q .named) in
+        let vs = numbersAt s (q .«names_at») (q .«names_count») in
+        let rs = numbersAt s (q .«list_at» + 2) (q .«names_count») in
+        let m = length-numbersAt s (q .«list_at» + 2) (q .«names_count») in
         subst (λ (t : List ℕ). Images (storeOf b p n) t (imagesGiven vs (sortsOf (storeOf b p n) (mapped tbl rs)))) (sym (f .whole))
         (filled-images (storeOf b p n) imgs vs (mapped tbl rs) (h .zeros) (h .table)
-        (λ j o. f .below j (omega (arith, length-numbersAt s (q .names) (q .named))))
+        (λ j o. f .below j (omega (arith, length-numbersAt s (q .«names_at») (q .«names_count»))))
         (λ j o.
         omega (
           arith,
           storeOf-length b p n,
           mapped-known tbl n rs
               (λ i w.
-              let y : i < q .named = omega arith in
-              omega (arith, ap (λ (x : ℕ). getD tbl x 0) (number-at s (q .list + 2) (q .named) i y), later i y))
+              let y : i < q .«names_count» = omega arith in
+              omega (arith, ap (λ (x : ℕ). getD tbl x 0) (number-at s (q .«list_at» + 2) (q .«names_count») i y), later i y))
               j o,
         )))
 
@@ -69,25 +69,25 @@ module _ {b p ix : List ℕ} {n u : ℕ} {imgs s tbl : List ℕ} {q : QuestionRe
           known = o;
         }
 
-    pub empty-asks : EmptyAsks l s (q .names) (q .named)
+    pub empty-asks : EmptyAsks l s (q .«names_at») (q .«names_count»)
     empty-asks = record { table = filled-map .table .long; names = h .asked .names }
 
-    pub apply-is : {k : ℕ} → k ≡ getD tbl (u16At s (q .list)) 0 → (b′ p′ ix′ : List ℕ) (r : Answer) → InstanceIs b p n l k b′ p′ ix′ r
-        → {l′ : List ℕ} → l′ ≡ emptied l (numbersAt s (q .names) (q .named)) → ApplyIs b p n imgs s tbl q b′ p′ ix′ l′ r
+    pub apply-is : {k : ℕ} → k ≡ getD tbl (u16At s (q .«list_at»)) 0 → (b′ p′ ix′ : List ℕ) (r : Answer) → InstanceIs b p n l k b′ p′ ix′ r
+        → {l′ : List ℕ} → l′ ≡ emptied l (numbersAt s (q .«names_at») (q .«names_count»)) → ApplyIs b p n imgs s tbl q b′ p′ ix′ l′ r
     unfolding applyAnswer sortAt
     apply-is {k} e b′ p′ ix′ r a {l′} d =
         let st = storeOf b p n in
-        let vs = numbersAt s (q .names) (q .named) in
-        let c : q .count - 1 ≡ q .named = omega (arith, h .count) in
-        let first : firstSort (sortsBy st tbl s (q .list) (q .count)) ≡ getD st k leaf =
-        sorts-by-first st tbl s (q .list) (q .count) (omega (arith, h .count)) ∙ ap (λ (i : ℕ). getD st i leaf) (sym e) in
-        let rest : restSorts (sortsBy st tbl s (q .list) (q .count)) ≡ sortsBy st tbl s (q .list + 2) (q .named) =
-        sorts-rest st tbl s (q .list) (q .count) (omega (arith, h .count)) ∙ ap (sortsBy st tbl s (q .list + 2)) c in
+        let vs = numbersAt s (q .«names_at») (q .«names_count») in
+        let c : q .«list_count» - 1 ≡ q .«names_count» = omega (arith, h .count) in
+        let first : firstSort (sortsBy st tbl s (q .«list_at») (q .«list_count»)) ≡ getD st k leaf =
+        sorts-by-first st tbl s (q .«list_at») (q .«list_count») (omega (arith, h .count)) ∙ ap (λ (i : ℕ). getD st i leaf) (sym e) in
+        let rest : restSorts (sortsBy st tbl s (q .«list_at») (q .«list_count»)) ≡ sortsBy st tbl s (q .«list_at» + 2) (q .«names_count») =
+        sorts-rest st tbl s (q .«list_at») (q .«list_count») (omega (arith, h .count)) ∙ ap (sortsBy st tbl s (q .«list_at» + 2)) c in
         record {
           answer =
               judged-as (ap₂ (λ (x : Sort) (y : Sorts). sort (apply (imagesGiven vs y) x)) first rest)
-              (a (imagesGiven vs (sortsBy st tbl s (q .list + 2) (q .named))) filled-map);
+              (a (imagesGiven vs (sortsBy st tbl s (q .«list_at» + 2) (q .«names_count»))) filled-map);
           images =
               d ∙ ap (λ (t : List ℕ). emptied t vs) (f .whole)
-              ∙ emptied-back imgs vs (mapped tbl (numbersAt s (q .list + 2) (q .named))) (h .zeros);
+              ∙ emptied-back imgs vs (mapped tbl (numbersAt s (q .«list_at» + 2) (q .«names_count»))) (h .zeros);
         }

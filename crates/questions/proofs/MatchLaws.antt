@@ -115,37 +115,37 @@ module _ {b p ix : List ℕ} {n u : ℕ} {prm imgs bnd : List ℕ} {k j i : ℕ}
 
 ---------------------------------------------------------------- listing the names and taking them off
 module _ {b p ix : List ℕ} {n u : ℕ} {prm imgs bnd s tbl : List ℕ} {q : QuestionRecord} (h : AnswerMatchAsks b p ix n u prm imgs bnd s tbl q) where
-  pub add-asks : AddAsks prm s (q .names) (q .named)
+  pub add-asks : AddAsks prm s (q .«names_at») (q .«names_count»)
   add-asks =
       record {
         names = record { table = h .table; within = h .asked .names };
         room = λ v.
-            omega (arith, h .zeros v (omega arith), times-few v (numbersAt s (q .names) (q .named)), length-numbersAt s (q .names) (q .named), h .asked .few);
+            omega (arith, h .zeros v (omega arith), times-few v (numbersAt s (q .«names_at») (q .«names_count»)), length-numbersAt s (q .«names_at») (q .«names_count»), h .asked .few);
       }
 
-  module _ {m : List ℕ} (a : Added prm (numbersAt s (q .names) (q .named)) m) where
+  module _ {m : List ℕ} (a : Added prm (numbersAt s (q .«names_at») (q .«names_count»)) m) where
     pub listed-asks : (k j i : ℕ) → k < n → j < n → i < n → MatchListedAsks b p ix n u m imgs bnd k j i
     listed-asks k j i x y z =
         record { good = h .good; table = a .long ∙ h .table; cleared = h .cleared; pattern = x; target = y; result = z }
 
-    pub take-asks : TakeAsks m s (q .names) (q .named)
+    pub take-asks : TakeAsks m s (q .«names_at») (q .«names_count»)
     take-asks =
         record {
           names = record { table = a .long ∙ h .table; within = h .asked .names };
           there = λ v. omega (arith, a .each v);
         }
 
-    pub match-is : {k j i : ℕ} → k ≡ getD tbl (u16At s (q .list)) 0 → j ≡ getD tbl (u16At s (q .list + 2)) 0 → i ≡ getD tbl (u16At s (q .list + 4)) 0
+    pub match-is : {k j i : ℕ} → k ≡ getD tbl (u16At s (q .«list_at»)) 0 → j ≡ getD tbl (u16At s (q .«list_at» + 2)) 0 → i ≡ getD tbl (u16At s (q .«list_at» + 4)) 0
         → {b′ p′ ix′ l′ m′ prm′ : List ℕ} {r : Answer} → ListedIs b p n m imgs bnd k j i b′ p′ ix′ l′ m′ r
-        → Added prm′ (numbersAt s (q .names) (q .named)) m → AnswerMatchIs b p n prm imgs bnd s tbl q b′ p′ ix′ prm′ l′ m′ r
+        → Added prm′ (numbersAt s (q .«names_at») (q .«names_count»)) m → AnswerMatchIs b p n prm imgs bnd s tbl q b′ p′ ix′ prm′ l′ m′ r
     unfolding sortAt
     match-is {k} {j} {i} ek ej ei {b′} {p′} {ix′} {l′} {m′} {prm′} {r} w d =
         let st = storeOf b p n in
-        let vs = numbersAt s (q .names) (q .named) in
-        let S = sortsBy st tbl s (q .list) (q .count) in
-        let e1 : firstSort S ≡ getD st k leaf = sorts-by-first st tbl s (q .list) (q .count) (omega (arith, h .count)) ∙ ap (λ (x : ℕ). getD st x leaf) (sym ek) in
-        let e2 : firstSort (restSorts S) ≡ getD st j leaf = sorts-second st tbl s (q .list) (q .count) (omega (arith, h .count)) ∙ ap (λ (x : ℕ). getD st x leaf) (sym ej) in
-        let e3 : firstSort (restSorts (restSorts S)) ≡ getD st i leaf = sorts-third st tbl s (q .list) (q .count) (omega (arith, h .count)) ∙ ap (λ (x : ℕ). getD st x leaf) (sym ei) in
+        let vs = numbersAt s (q .«names_at») (q .«names_count») in
+        let S = sortsBy st tbl s (q .«list_at») (q .«list_count») in
+        let e1 : firstSort S ≡ getD st k leaf = sorts-by-first st tbl s (q .«list_at») (q .«list_count») (omega (arith, h .count)) ∙ ap (λ (x : ℕ). getD st x leaf) (sym ek) in
+        let e2 : firstSort (restSorts S) ≡ getD st j leaf = sorts-second st tbl s (q .«list_at») (q .«list_count») (omega (arith, h .count)) ∙ ap (λ (x : ℕ). getD st x leaf) (sym ej) in
+        let e3 : firstSort (restSorts (restSorts S)) ≡ getD st i leaf = sorts-third st tbl s (q .«list_at») (q .«list_count») (omega (arith, h .count)) ∙ ap (λ (x : ℕ). getD st x leaf) (sym ei) in
         record {
           answer =
               judged-as

@@ -30,19 +30,19 @@ abbrev compatibleCase : List Sort → List ℕ → List ℕ → QuestionRecord �
 compatibleCase st tbl s q =
     record {
       store = st;
-      code = yesNo (compatible (firstSort (sortsBy st tbl s (q .list) (q .count))) (firstSort (restSorts (sortsBy st tbl s (q .list) (q .count)))));
+      code = yesNo (compatible (firstSort (sortsBy st tbl s (q .«list_at») (q .«list_count»))) (firstSort (restSorts (sortsBy st tbl s (q .«list_at») (q .«list_count»)))));
     }
 
 abbrev matchCase : Lengths → List Sort → List ℕ → List ℕ → QuestionRecord → CodedStore
 matchCase l st tbl s q =
     outcome l st
-    (matchAnswer (numbersAt s (q .names) (q .named)) (firstSort (sortsBy st tbl s (q .list) (q .count)))
-    (firstSort (restSorts (sortsBy st tbl s (q .list) (q .count)))) (firstSort (restSorts (restSorts (sortsBy st tbl s (q .list) (q .count))))))
+    (matchAnswer (numbersAt s (q .«names_at») (q .«names_count»)) (firstSort (sortsBy st tbl s (q .«list_at») (q .«list_count»)))
+    (firstSort (restSorts (sortsBy st tbl s (q .«list_at») (q .«list_count»)))) (firstSort (restSorts (restSorts (sortsBy st tbl s (q .«list_at») (q .«list_count»))))))
 
 abbrev applyCase : Lengths → List Sort → List ℕ → List ℕ → QuestionRecord → CodedStore
 applyCase l st tbl s q =
     outcome l st
-    (applyAnswer (numbersAt s (q .names) (q .named)) (firstSort (sortsBy st tbl s (q .list) (q .count))) (restSorts (sortsBy st tbl s (q .list) (q .count))))
+    (applyAnswer (numbersAt s (q .«names_at») (q .«names_count»)) (firstSort (sortsBy st tbl s (q .«list_at») (q .«list_count»))) (restSorts (sortsBy st tbl s (q .«list_at») (q .«list_count»))))
 
 pick-0 : (A B C : CodedStore) {k : ℕ} → k ≡ 0 → cond (eqb k 0) A (cond (eqb k 1) B C) ≡ A
 pick-0 A B C {k} e = ap (λ (t : Bool). cond t A (cond (eqb k 1) B C)) (eq-eqb k 0 e)
@@ -72,15 +72,15 @@ module _ {b p ix : List ℕ} {n u : ℕ} {prm imgs bnd s tbl : List ℕ} {q : Qu
   pub pair-part : (k j : ℕ) → k < n → j < n → PairAsks b p n k j
   pair-part k j x y = record { usable = good-usable b p ix n u (h .good); left = x; right = y }
 
-  pub answered-0 : q .kind ≡ 0 → {k j v : ℕ} → k ≡ getD tbl (u16At s (q .list)) 0 → j ≡ getD tbl (u16At s (q .list + 2)) 0
+  pub answered-0 : q .kind ≡ 0 → {k j v : ℕ} → k ≡ getD tbl (u16At s (q .«list_at»)) 0 → j ≡ getD tbl (u16At s (q .«list_at» + 2)) 0
       → v ≡ yesNo (compatible (sortAt b p n k) (sortAt b p n j)) → QuestionIs b p n prm imgs bnd s tbl q b p ix prm imgs bnd (record { code = v; count = n; used = u })
   unfolding answerOf questionOver sortAt
   answered-0 e {k} {j} {v} ek ej ev =
       let st = storeOf b p n in
-      let e1 : firstSort (sortsBy st tbl s (q .list) (q .count)) ≡ getD st k leaf =
-      sorts-by-first st tbl s (q .list) (q .count) (omega (arith, h .two e)) ∙ ap (λ (x : ℕ). getD st x leaf) (sym ek) in
-      let e2 : firstSort (restSorts (sortsBy st tbl s (q .list) (q .count))) ≡ getD st j leaf =
-      sorts-second st tbl s (q .list) (q .count) (omega (arith, h .two e)) ∙ ap (λ (x : ℕ). getD st x leaf) (sym ej) in
+      let e1 : firstSort (sortsBy st tbl s (q .«list_at») (q .«list_count»)) ≡ getD st k leaf =
+      sorts-by-first st tbl s (q .«list_at») (q .«list_count») (omega (arith, h .two e)) ∙ ap (λ (x : ℕ). getD st x leaf) (sym ek) in
+      let e2 : firstSort (restSorts (sortsBy st tbl s (q .«list_at») (q .«list_count»))) ≡ getD st j leaf =
+      sorts-second st tbl s (q .«list_at») (q .«list_count») (omega (arith, h .two e)) ∙ ap (λ (x : ℕ). getD st x leaf) (sym ej) in
       record {
         good = h .good;
         long = refl;

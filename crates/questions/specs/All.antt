@@ -116,7 +116,7 @@ module _ (b p ix : List ℕ) (n u : ℕ) (prm imgs bnd s tbl : List ℕ) (m x : 
             record {
               within = was .list;
               inside = λ j o. omega (arith, was .references j o, h .numbered .inside);
-              known = λ j o. h .numbered .known (u16At s (r .list + 2 * j)) (was .references j o);
+              known = λ j o. h .numbered .known (u16At s (r .«list_at» + 2 * j)) (was .references j o);
               names = was .names;
               few = was .named;
               short = h .numbered .short;
@@ -132,14 +132,14 @@ module _ (b p ix : List ℕ) (n u : ℕ) (prm imgs bnd s tbl : List ℕ) (m x : 
   unfolding questionFields questionOver
   over-same i =
       let st = storeOf b p n in
-      let rs = numbersAt s (r .list) (r .count) in
+      let rs = numbersAt s (r .«list_at») (r .«list_count») in
       question-is s m x (h .stands) r c e i (treesOf st tbl m) (trees-length st tbl m)
-      ∙ ap (λ (ss : Sorts). record { kind = r .kind; sorts = ss; names = numbersAt s (r .names) (r .named) })
+      ∙ ap (λ (ss : Sorts). record { kind = r .kind; sorts = ss; names = numbersAt s (r .«names_at») (r .«names_count») })
       (sym
       (mapped-sorts st tbl m rs
       (λ j o.
-      let y : j < r .count = omega (arith, length-numbersAt s (r .list) (r .count)) in
-      omega (arith, number-at s (r .list) (r .count) j y, was .references j y))))
+      let y : j < r .«list_count» = omega (arith, length-numbersAt s (r .«list_at») (r .«list_count»)) in
+      omega (arith, number-at s (r .«list_at») (r .«list_count») j y, was .references j y))))
 
   pub at-is : (b′ p′ ix′ prm′ imgs′ bnd′ : List ℕ) (w : Word) → QuestionIs b p n prm imgs bnd s tbl r b′ p′ ix′ prm′ imgs′ bnd′ w
       → AtIs b p n prm imgs bnd s tbl m x b′ p′ ix′ prm′ imgs′ bnd′ w

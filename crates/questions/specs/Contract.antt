@@ -25,17 +25,17 @@ unfoldable pub questionOver : List Sort → List ℕ → List ℕ → QuestionRe
 questionOver st tbl s r =
     record {
       kind = r .kind;
-      sorts = sortsOf st (mapped tbl (numbersAt s (r .list) (r .count)));
-      names = numbersAt s (r .names) (r .named);
+      sorts = sortsOf st (mapped tbl (numbersAt s (r .«list_at») (r .«list_count»)));
+      names = numbersAt s (r .«names_at») (r .«names_count»);
     }
 
 -- Its lists lie in the sheet, its sorts have numbers of the store.
 pub record Asked (n : ℕ) (s tbl : List ℕ) (r : QuestionRecord) : Type 0 where
-  pub within : r .list + 2 * r .count ≤ length s
-  pub inside : (j : ℕ) → j < r .count → u16At s (r .list + 2 * j) < length tbl
-  pub known : (j : ℕ) → j < r .count → getD tbl (u16At s (r .list + 2 * j)) 0 < n
-  pub names : r .names + 2 * r .named ≤ length s
-  pub few : r .named ≤ 64
+  pub within : r .«list_at» + 2 * r .«list_count» ≤ length s
+  pub inside : (j : ℕ) → j < r .«list_count» → u16At s (r .«list_at» + 2 * j) < length tbl
+  pub known : (j : ℕ) → j < r .«list_count» → getD tbl (u16At s (r .«list_at» + 2 * j)) 0 < n
+  pub names : r .«names_at» + 2 * r .«names_count» ≤ length s
+  pub few : r .«names_count» ≤ 64
   pub short : length s ≤ 65536
 
 ---------------------------------------------------------------- question 2
@@ -44,12 +44,12 @@ pub record AnswerApplyAsks (b p ix : List ℕ) (n u : ℕ) (imgs s tbl : List �
   pub table : length imgs ≡ 65536
   pub zeros : Zeros imgs 0
   pub asked : Asked n s tbl r
-  pub count : r .count ≡ r .named + 1
+  pub count : r .«list_count» ≡ r .«names_count» + 1
 
 pub record ApplyIs (b p : List ℕ) (n : ℕ) (imgs s tbl : List ℕ) (q : QuestionRecord) (b′ p′ ix′ imgs′ : List ℕ) (r : Answer) : Type 0 where
   pub answer : AnswerIs b p n
-      (applyAnswer (numbersAt s (q .names) (q .named)) (firstSort (sortsOf (storeOf b p n) (mapped tbl (numbersAt s (q .list) (q .count)))))
-      (restSorts (sortsOf (storeOf b p n) (mapped tbl (numbersAt s (q .list) (q .count))))))
+      (applyAnswer (numbersAt s (q .«names_at») (q .«names_count»)) (firstSort (sortsOf (storeOf b p n) (mapped tbl (numbersAt s (q .«list_at») (q .«list_count»)))))
+      (restSorts (sortsOf (storeOf b p n) (mapped tbl (numbersAt s (q .«list_at») (q .«list_count»))))))
       b′ p′ ix′ r
   pub images : imgs′ ≡ imgs
 
@@ -73,13 +73,13 @@ pub record AnswerMatchAsks (b p ix : List ℕ) (n u : ℕ) (prm imgs bnd s tbl :
   pub zeros : Zeros prm 0
   pub cleared : Cleared imgs bnd
   pub asked : Asked n s tbl r
-  pub count : r .count ≡ 3
+  pub count : r .«list_count» ≡ 3
 
 pub record AnswerMatchIs (b p : List ℕ) (n : ℕ) (prm imgs bnd s tbl : List ℕ) (q : QuestionRecord) (b′ p′ ix′ prm′ imgs′ bnd′ : List ℕ) (r : Answer) : Type 0 where
   pub answer : AnswerIs b p n
-      (matchAnswer (numbersAt s (q .names) (q .named)) (firstSort (sortsOf (storeOf b p n) (mapped tbl (numbersAt s (q .list) (q .count)))))
-      (firstSort (restSorts (sortsOf (storeOf b p n) (mapped tbl (numbersAt s (q .list) (q .count))))))
-      (firstSort (restSorts (restSorts (sortsOf (storeOf b p n) (mapped tbl (numbersAt s (q .list) (q .count))))))))
+      (matchAnswer (numbersAt s (q .«names_at») (q .«names_count»)) (firstSort (sortsOf (storeOf b p n) (mapped tbl (numbersAt s (q .«list_at») (q .«list_count»)))))
+      (firstSort (restSorts (sortsOf (storeOf b p n) (mapped tbl (numbersAt s (q .«list_at») (q .«list_count»))))))
+      (firstSort (restSorts (restSorts (sortsOf (storeOf b p n) (mapped tbl (numbersAt s (q .«list_at») (q .«list_count»))))))))
       b′ p′ ix′ r
   pub params : prm′ ≡ prm
   pub images : imgs′ ≡ imgs
@@ -102,9 +102,9 @@ pub record QuestionAsks (b p ix : List ℕ) (n u : ℕ) (prm imgs bnd s tbl : Li
   pub cleared : Cleared imgs bnd
   pub asked : Asked n s tbl r
   pub kind : r .kind < 3
-  pub two : r .kind ≡ 0 → r .count ≡ 2
-  pub three : r .kind ≡ 1 → r .count ≡ 3
-  pub pairs : r .kind ≡ 2 → r .count ≡ r .named + 1
+  pub two : r .kind ≡ 0 → r .«list_count» ≡ 2
+  pub three : r .kind ≡ 1 → r .«list_count» ≡ 3
+  pub pairs : r .kind ≡ 2 → r .«list_count» ≡ r .«names_count» + 1
 
 -- THE ANSWER TO A QUESTION: the store after it and its code are the definition's, whatever other lengths were lent.
 pub record QuestionIs (b p : List ℕ) (n : ℕ) (prm imgs bnd s tbl : List ℕ) (q : QuestionRecord) (b′ p′ ix′ prm′ imgs′ bnd′ : List ℕ) (r : Word) : Type 0 where

@@ -68,9 +68,9 @@ pub fn answer_apply(
     requires { ⌜ AnswerApplyAsks (now records) (now places) (now index) count used (now images) (now sheet) (now table) question ⌝ }
     ensures { λ r. ⌜ ApplyIs (now (records .entry)) (now (places .entry)) count (now (images .entry)) (now (sheet .entry)) (now (table .entry)) question (now (records .exit)) (now (places .exit)) (now (index .exit)) (now (images .exit)) r ⌝ }
 {
-    let list = question.list;
-    let names = question.names;
-    let named = question.named;
+    let list = question.list_at;
+    let names = question.names_at;
+    let named = question.names_count;
     fill_images(images, sheet, table, names, list + 2, named);
     let k = sort_at(sheet, list, table);
     let made = instance(records, places, index, count, used, images, k);

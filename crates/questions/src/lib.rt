@@ -70,7 +70,7 @@ pub fn answer_question(
     ensures { λ r. ⌜ QuestionIs (now (records .entry)) (now (places .entry)) count (now (params .entry)) (now (images .entry)) (now (bound .entry)) (now (sheet .entry)) (now (table .entry)) question (now (records .exit)) (now (places .exit)) (now (index .exit)) (now (params .exit)) (now (images .exit)) (now (bound .exit)) r ⌝ }
 {
     let kind = question.kind;
-    let list = question.list;
+    let list = question.list_at;
     if kind == QUESTION_COMPATIBLE {
         let p = sort_at(sheet, list, table);
         let t = sort_at(sheet, list + 2, table);

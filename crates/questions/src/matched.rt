@@ -76,9 +76,9 @@ pub fn answer_match(
     requires { ⌜ AnswerMatchAsks (now records) (now places) (now index) count used (now params) (now images) (now bound) (now sheet) (now table) question ⌝ }
     ensures { λ r. ⌜ AnswerMatchIs (now (records .entry)) (now (places .entry)) count (now (params .entry)) (now (images .entry)) (now (bound .entry)) (now (sheet .entry)) (now (table .entry)) question (now (records .exit)) (now (places .exit)) (now (index .exit)) (now (params .exit)) (now (images .exit)) (now (bound .exit)) r ⌝ }
 {
-    let list = question.list;
-    let names = question.names;
-    let named = question.named;
+    let list = question.list_at;
+    let names = question.names_at;
+    let named = question.names_count;
     let p = sort_at(sheet, list, table);
     let t = sort_at(sheet, list + 2, table);
     let k = sort_at(sheet, list + 4, table);

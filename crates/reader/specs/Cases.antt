@@ -446,7 +446,7 @@ module _ (s : List ℕ) (m k sorts x : ℕ) {lo hi : ℕ} (el : lo ≡ questionL
     question-fields-2 r5 = simp (sym (rw (el, eh) at p4), r4, sym (rw (ef, em) at p5), r5)
 
     pub question-fields-3 : {ns q : ℕ} {c5 : Cursor} → o5 ≡ Found ns q c5
-        → Question (record { kind = k; list = l; count = n; names = ns; named = q }) c5 ≡ readQuestionFields s m k sorts x
+        → Question (record { kind = k; «list_at» = l; «list_count» = n; «names_at» = ns; «names_count» = q }) c5 ≡ readQuestionFields s m k sorts x
     unfolding readQuestionFields namesLeastOf namesMostOf
     question-fields-3 r5 = simp (sym (rw (el, eh) at p4), r4, sym (rw (ef, em) at p5), r5)
 

@@ -60,16 +60,16 @@ pairs-cut = refl
 
 -- accepted: K1's second term and its question, and a Let whose name is 65,535
 k1-term : readTerm (21 ∷ 7 ∷ 10 ∷ 0 ∷ 0 ∷ 0 ∷ 2 ∷ 0 ∷ 0 ∷ 0 ∷ 0 ∷ []) 1 1 0
-    ≡ Term (record { kind = 7; name = 0; number = 10; sort = 0; list = 7; count = 2; pairs = 11; paired = 0; second = 11; seconds = 0 }) (place 11)
+    ≡ Term (record { kind = 7; name = 0; number = 10; sort = 0; «list_at» = 7; «list_count» = 2; «pairs_at» = 11; «pairs_count» = 0; «second_at» = 11; «second_count» = 0 }) (place 11)
 unfolding readTerm
 k1-term = refl
 
-k1-question : readQuestion (17 ∷ 0 ∷ 2 ∷ 0 ∷ 0 ∷ 0 ∷ 0 ∷ []) 1 0 ≡ Question (record { kind = 0; list = 3; count = 2; names = 7; named = 0 }) (place 7)
+k1-question : readQuestion (17 ∷ 0 ∷ 2 ∷ 0 ∷ 0 ∷ 0 ∷ 0 ∷ []) 1 0 ≡ Question (record { kind = 0; «list_at» = 3; «list_count» = 2; «names_at» = 7; «names_count» = 0 }) (place 7)
 unfolding readQuestion
 k1-question = refl
 
 let-name : readTerm (81 ∷ 9 ∷ 2 ∷ 0 ∷ 0 ∷ 0 ∷ 0 ∷ 1 ∷ 255 ∷ 255 ∷ []) 0 1 0
-    ≡ Term (record { kind = 9; name = 0; number = 0; sort = 0; list = 3; count = 2; pairs = 7; paired = 0; second = 8; seconds = 1 }) (place 10)
+    ≡ Term (record { kind = 9; name = 0; number = 0; sort = 0; «list_at» = 3; «list_count» = 2; «pairs_at» = 7; «pairs_count» = 0; «second_at» = 8; «second_count» = 1 }) (place 10)
 unfolding readTerm
 let-name = refl
 

@@ -28,12 +28,12 @@ termOf f l n ps p r q =
       name = f .name;
       number = f .number;
       sort = f .sort;
-      list = l;
-      count = n;
-      pairs = ps;
-      paired = p;
-      second = r;
-      seconds = q;
+      «list_at» = l;
+      «list_count» = n;
+      «pairs_at» = ps;
+      «pairs_count» = p;
+      «second_at» = r;
+      «second_count» = q;
     }
 
 -- The list and the names of a sort record with the number i.

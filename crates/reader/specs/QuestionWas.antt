@@ -27,24 +27,24 @@ pub record QuestionWas (s : List ℕ) (sorts x : ℕ) (r : QuestionRecord) (c : 
   pub map : getD s x 0 ≡ questionMapOf (r .kind)
   pub tag : getD s (x + 1) 0 ≡ r .kind
   -- the list: sorts of the sheet
-  pub least : questionLeastOf (r .kind) ≤ r .count
-  pub most : r .count ≤ questionMostOf (r .kind)
-  pub few : r .count ≤ 64
-  pub list : r .list + 2 * r .count ≤ length s
-  pub references : (j : ℕ) → j < r .count → u16At s (r .list + 2 * j) < sorts
+  pub least : questionLeastOf (r .kind) ≤ r .«list_count»
+  pub most : r .«list_count» ≤ questionMostOf (r .kind)
+  pub few : r .«list_count» ≤ 64
+  pub list : r .«list_at» + 2 * r .«list_count» ≤ length s
+  pub references : (j : ℕ) → j < r .«list_count» → u16At s (r .«list_at» + 2 * j) < sorts
   -- two sorts are compatible; pattern, target and result; a sort, then one image per name
-  pub two : r .kind ≡ 0 → r .count ≡ 2
-  pub three : r .kind ≡ 1 → r .count ≡ 3
-  pub images : r .kind ≡ 2 → r .count ≡ r .named + 1
+  pub two : r .kind ≡ 0 → r .«list_count» ≡ 2
+  pub three : r .kind ≡ 1 → r .«list_count» ≡ 3
+  pub images : r .kind ≡ 2 → r .«list_count» ≡ r .«names_count» + 1
   -- the names
-  pub none : r .kind ≡ 0 → r .named ≡ 0
-  pub named : r .named ≤ 64
-  pub names : r .names + 2 * r .named ≤ length s
-  pub once : distinct (numbersAt s (r .names) (r .named)) ≡ true
+  pub none : r .kind ≡ 0 → r .«names_count» ≡ 0
+  pub named : r .«names_count» ≤ 64
+  pub names : r .«names_at» + 2 * r .«names_count» ≤ length s
+  pub once : distinct (numbersAt s (r .«names_at») (r .«names_count»)) ≡ true
   -- the next record starts behind all of it, in the slice
   pub after : x + 2 ≤ c .at
-  pub listEnds : r .list + 2 * r .count ≤ c .at
-  pub namesEnd : r .names + 2 * r .named ≤ c .at
+  pub listEnds : r .«list_at» + 2 * r .«list_count» ≤ c .at
+  pub namesEnd : r .«names_at» + 2 * r .«names_count» ≤ c .at
   pub inside : c .at ≤ length s
 
 -- what the tables say
@@ -122,7 +122,7 @@ module _ (s : List ℕ) (sorts x m k : ℕ) (c2 : Cursor) (head : HeadWas s x m 
   unfolding bit questionMapOf questionMaps
   is-none e = r5 .empty (ap (bit 64) mk ∙ ap (λ (j : ℕ). bit 64 (questionMapOf j)) e)
 
-  fields-were : QuestionWas s sorts x (record { kind = k; list = l; count = n; names = ns; named = q }) c5
+  fields-were : QuestionWas s sorts x (record { kind = k; «list_at» = l; «list_count» = n; «names_at» = ns; «names_count» = q }) c5
   fields-were =
       record {
         known = known;

@@ -192,7 +192,7 @@ readTermFields s m k sorts t x =
     byList (readReferences s m (termLeastOf k) (termMostOf k) t x5) NoTerm (λ l n x6.
     byList (readPairs s m sorts x6) NoTerm (λ ps p x7.
     byList (readSecond s m k n t x7) NoTerm (λ r q x8.
-    Term (record { kind = k; name = a; number = w; sort = o; list = l; count = n; pairs = ps; paired = p; second = r; seconds = q })
+    Term (record { kind = k; name = a; number = w; sort = o; «list_at» = l; «list_count» = n; «pairs_at» = ps; «pairs_count» = p; «second_at» = r; «second_count» = q })
     (place x8)))))))
 
 unfoldable pub readTerm : List ℕ → ℕ → ℕ → ℕ → ReadTerm
@@ -207,7 +207,7 @@ unfolding readReferences readNames questionLeastOf questionMostOf namesLeastOf n
 readQuestionFields s m k sorts x =
     byList (readReferences s m (questionLeastOf k) (questionMostOf k) sorts x) NoQuestion (λ l n x4.
     byList (readNames s m (namesLeastOf k n) (namesMostOf k n) x4) NoQuestion (λ ns q x5.
-    Question (record { kind = k; list = l; count = n; names = ns; named = q }) (place x5)))
+    Question (record { kind = k; «list_at» = l; «list_count» = n; «names_at» = ns; «names_count» = q }) (place x5)))
 
 unfoldable pub readQuestion : List ℕ → ℕ → ℕ → ReadQuestion
 unfolding readHead readQuestionFields questionMapOf

@@ -33,32 +33,32 @@ pub record TermWas (s : List ℕ) (sorts t x : ℕ) (r : TermRecord) (c : Cursor
   pub number : r .number ≤ termNumberOf (r .kind)
   pub sort : bit 8 (termMapOf (r .kind)) ≡ true → r .sort < sorts
   -- the list: terms before this one
-  pub least : termLeastOf (r .kind) ≤ r .count
-  pub most : r .count ≤ termMostOf (r .kind)
-  pub few : r .count ≤ 64
-  pub list : r .list + 2 * r .count ≤ length s
-  pub references : (j : ℕ) → j < r .count → u16At s (r .list + 2 * j) < t
+  pub least : termLeastOf (r .kind) ≤ r .«list_count»
+  pub most : r .«list_count» ≤ termMostOf (r .kind)
+  pub few : r .«list_count» ≤ 64
+  pub list : r .«list_at» + 2 * r .«list_count» ≤ length s
+  pub references : (j : ℕ) → j < r .«list_count» → u16At s (r .«list_at» + 2 * j) < t
   -- the pairs: sorts of the sheet
-  pub paired : r .paired ≤ 64
-  pub pairs : r .pairs + 4 * r .paired ≤ length s
-  pub bindings : (j : ℕ) → j < r .paired → u16At s (r .pairs + 4 * j + 2) < sorts
+  pub paired : r .«pairs_count» ≤ 64
+  pub pairs : r .«pairs_at» + 4 * r .«pairs_count» ≤ length s
+  pub bindings : (j : ℕ) → j < r .«pairs_count» → u16At s (r .«pairs_at» + 4 * j + 2) < sorts
   -- the second list: a Let's names, one a value, or index terms before this one
-  pub seconds : r .seconds ≤ 64
-  pub second : r .second + 2 * r .seconds ≤ length s
-  pub values : r .kind ≡ 9 → r .seconds ≡ r .count - 1
-  pub indices : (r .kind ≡ 9 → ⊥) → (j : ℕ) → j < r .seconds → u16At s (r .second + 2 * j) < t
+  pub seconds : r .«second_count» ≤ 64
+  pub second : r .«second_at» + 2 * r .«second_count» ≤ length s
+  pub values : r .kind ≡ 9 → r .«second_count» ≡ r .«list_count» - 1
+  pub indices : (r .kind ≡ 9 → ⊥) → (j : ℕ) → j < r .«second_count» → u16At s (r .«second_at» + 2 * j) < t
   -- what the map leaves out is 0 or empty
   pub noName : bit 2 (termMapOf (r .kind)) ≡ false → r .name ≡ 0
   pub noNumber : bit 4 (termMapOf (r .kind)) ≡ false → r .number ≡ 0
   pub noSort : bit 8 (termMapOf (r .kind)) ≡ false → r .sort ≡ 0
-  pub noList : bit 16 (termMapOf (r .kind)) ≡ false → r .count ≡ 0
-  pub noPairs : bit 32 (termMapOf (r .kind)) ≡ false → r .paired ≡ 0
-  pub noSecond : bit 64 (termMapOf (r .kind)) ≡ false → r .seconds ≡ 0
+  pub noList : bit 16 (termMapOf (r .kind)) ≡ false → r .«list_count» ≡ 0
+  pub noPairs : bit 32 (termMapOf (r .kind)) ≡ false → r .«pairs_count» ≡ 0
+  pub noSecond : bit 64 (termMapOf (r .kind)) ≡ false → r .«second_count» ≡ 0
   -- the next record starts behind all of it, in the slice
   pub after : x + 2 ≤ c .at
-  pub listEnds : r .list + 2 * r .count ≤ c .at
-  pub pairsEnd : r .pairs + 4 * r .paired ≤ c .at
-  pub secondEnds : r .second + 2 * r .seconds ≤ c .at
+  pub listEnds : r .«list_at» + 2 * r .«list_count» ≤ c .at
+  pub pairsEnd : r .«pairs_at» + 4 * r .«pairs_count» ≤ c .at
+  pub secondEnds : r .«second_at» + 2 * r .«second_count» ≤ c .at
   pub inside : c .at ≤ length s
 
 -- what the tables say
@@ -128,7 +128,7 @@ module _ (s : List ℕ) (bytes : Bytes s) (sorts t x m k : ℕ) (c2 : Cursor) (h
       second-let n q (subst (λ (j : ℕ). secondLeastOf j n ≤ q) e (r8 .least b)) (subst (λ (j : ℕ). q ≤ secondMostOf j n) e (r8 .most b))
 
   fields-were : TermWas s sorts t x
-      (record { kind = k; name = a; number = w; sort = o; list = l; count = n; pairs = ps; paired = p; second = z; seconds = q }) c8
+      (record { kind = k; name = a; number = w; sort = o; «list_at» = l; «list_count» = n; «pairs_at» = ps; «pairs_count» = p; «second_at» = z; «second_count» = q }) c8
   fields-were =
       record {
         known = known;

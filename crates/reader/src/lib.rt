@@ -76,14 +76,14 @@ pub struct TermRecord {
     pub number: usize,
     pub sort: usize,
     // The place of the list, and its count.
-    pub list: usize,
-    pub count: usize,
+    pub list_at: usize,
+    pub list_count: usize,
     // The place of the pairs, and their count.
-    pub pairs: usize,
-    pub paired: usize,
+    pub pairs_at: usize,
+    pub pairs_count: usize,
     // The place of the second list, and its count.
-    pub second: usize,
-    pub seconds: usize,
+    pub second_at: usize,
+    pub second_count: usize,
 }
 
 // A term record and the place behind it.
@@ -95,10 +95,10 @@ pub enum ReadTerm {
 // The fields of a question record; of its two lists the place where it starts, then how many entries it has.
 pub struct QuestionRecord {
     pub kind: usize,
-    pub list: usize,
-    pub count: usize,
-    pub names: usize,
-    pub named: usize,
+    pub list_at: usize,
+    pub list_count: usize,
+    pub names_at: usize,
+    pub names_count: usize,
 }
 
 // A question record and the place behind it.

@@ -46,12 +46,12 @@ impl Scalars {
             name: self.name,
             number: self.number,
             sort: self.sort,
-            list,
-            count,
-            pairs,
-            paired,
-            second,
-            seconds,
+            list_at: list,
+            list_count: count,
+            pairs_at: pairs,
+            pairs_count: paired,
+            second_at: second,
+            second_count: seconds,
         }
     }
 }
@@ -234,10 +234,10 @@ impl Cursor {
                     ReadList::List(names, named, c5) => ReadQuestion::Question(
                         QuestionRecord {
                             kind,
-                            list,
-                            count,
-                            names,
-                            named,
+                            list_at: list,
+                            list_count: count,
+                            names_at: names,
+                            names_count: named,
                         },
                         c5,
                     ),

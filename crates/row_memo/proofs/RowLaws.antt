@@ -72,11 +72,11 @@ module _ {b p : List ℕ} {n : ℕ} {prm imgs bnd s tbl xs : List ℕ} {r : Term
 
 -- An App in the place of the checked row: what it asks, and that it is the row.
 module _ {b p ix : List ℕ} {n u : ℕ} {prm imgs bnd s tbl xs : List ℕ} {r : TermRecord} {a : List ℕ} (h : SiteAsks b p ix n u prm imgs bnd s tbl xs r a) where
-  pub app-asks : AppAsks b p ix n u prm imgs bnd a (r .count)
+  pub app-asks : AppAsks b p ix n u prm imgs bnd a (r .«list_count»)
   app-asks = record { good = h .asks .good; tables = h .asks .tables; few = count-few (h .asks .standing); room = h .asks .room; below = h .below }
 
   pub app-row : r .kind ≡ 6 → {b′ p′ ix′ prm′ imgs′ bnd′ : List ℕ} {w : Answer}
-      → AppIs (checkedApp (sortsOf (storeOf b p n) (numbersAt a 3 (r .count)))) b p n prm imgs bnd b′ p′ ix′ prm′ imgs′ bnd′ w
+      → AppIs (checkedApp (sortsOf (storeOf b p n) (numbersAt a 3 (r .«list_count»)))) b p n prm imgs bnd b′ p′ ix′ prm′ imgs′ bnd′ w
       → SiteIs (checked smtLib) b p n prm imgs bnd s tbl xs r a b′ p′ ix′ prm′ imgs′ bnd′ w
   app-row k e =
       record { answer = judged-as (checked-app (siteOver (storeOf b p n) s tbl xs a r) k) (e .answer); params = e .params; images = e .images; bound = e .bound }
@@ -175,12 +175,12 @@ module _ {b p ix : List ℕ} {n u : ℕ} (g : Good b p ix n u) (v : Verdict) whe
       })
 
 ---------------------------------------------------------------- the look-up
-module _ {b p : List ℕ} {r : TermRecord} {a : List ℕ} {column : ℕ} (h : LookAsks b p r a column) (two : 2 ≤ r .count) where
+module _ {b p : List ℕ} {r : TermRecord} {a : List ℕ} {column : ℕ} (h : LookAsks b p r a column) (two : 2 ≤ r .«list_count») where
   -- The head is a sort of the store.
   pub head-asks : {k : ℕ} → k ≡ u16At a 3 → EntryAsks b p k
   head-asks {k} e = let z : u16At a 3 < h .count = h .below 0 (omega arith) in entry-asks b p (h .count) k (h .stored) (omega (arith, e, z))
 
-  pub seek-asks : SeekAsks a (r .count) column
+  pub seek-asks : SeekAsks a (r .«list_count») column
   seek-asks = record { key = record { some = two; few = h .few; within = h .within }; side = h .side }
 
 -- Any other record says nothing.
@@ -193,7 +193,7 @@ looked-by r Apart e = tt
 looked-by r (Noted c) e = e
 looked-by r (Open at) e = e
 
-pub look-is : {r : TermRecord} {a : List ℕ} {column : ℕ} {ws ws′ : List ℕ} {q : Look} → r .kind ≡ 6 → SeekIs ws a (r .count) column ws′ q → LookedIs r a column ws ws′ q
+pub look-is : {r : TermRecord} {a : List ℕ} {column : ℕ} {ws ws′ : List ℕ} {q : Look} → r .kind ≡ 6 → SeekIs ws a (r .«list_count») column ws′ q → LookedIs r a column ws ws′ q
 look-is {r} {q = q} e i = record { looked = looked-by r q e; found = i .found; less = i .less }
 
 ---------------------------------------------------------------- the row
@@ -210,7 +210,7 @@ module _ {column : ℕ} {b p ix : List ℕ} {n u : ℕ} {prm imgs bnd s tbl xs r
   -- The parts are gathered: their numbers stand in key.
   module _ {key : List ℕ} (long : length key ≡ length a) {t : Bool} (on : t ≡ true) (d : PartsJudgedIs s rows column r key t) where
     abbrev numbers : List ℕ
-    numbers = numbersAt key 3 (r .count)
+    numbers = numbersAt key 3 (r .«list_count»)
 
     pub site-asks : SiteAsks b p ix n u prm imgs bnd s tbl xs r key
     site-asks = parts-site (h .asks) long on d
@@ -228,29 +228,29 @@ module _ {column : ℕ} {b p ix : List ℕ} {n u : ℕ} {prm imgs bnd s tbl xs r
       past-less = record { each = λ slot k c x. h .past .each slot k c (l .less slot k c x) }
 
       -- No room for the inferred sort of an App: what is asked for the note, and what it says.
-      lack-by : (v : Look) → LookFound ws ws′ column numbers (r .count) v → LackAsks key (r .count) v
+      lack-by : (v : Look) → LookFound ws ws′ column numbers (r .«list_count») v → LackAsks key (r .«list_count») v
       lack-by Apart f = tt
       lack-by (Noted c) f = tt
       lack-by (Open at) f = record { some = f .ready .some; few = f .ready .few; within = omega (arith, long, h .asks .room, f .ready .few) }
 
-      pub lack-asks : LackAsks key (r .count) q
+      pub lack-asks : LackAsks key (r .«list_count») q
       lack-asks = lack-by q (l .found)
 
-      crowded-by : (v : Look) → Lacks ws′ key (r .count) v → Crowded b p n (inferredApp (sortsOf st numbers))
+      crowded-by : (v : Look) → Lacks ws′ key (r .«list_count») v → Crowded b p n (inferredApp (sortsOf st numbers))
       unfolding judgingApp
       crowded-by Apart x = absurd x
       crowded-by (Noted c) x = absurd x
       crowded-by (Open at) x =
           subst (λ (i : ℕ). AppTold (judgingApp i) (length b) (length p) st numbers noRoom) (x .side) (past-less .each (x .slot) numbers noRoom (x .says)) .is
 
-      pub row-crowded : {t : Bool} → LackIs ws′ key (r .count) q t → AppCrowded t b p n key (r .count)
+      pub row-crowded : {t : Bool} → LackIs ws′ key (r .«list_count») q t → AppCrowded t b p n key (r .«list_count»)
       row-crowded i e = crowded-by q (i e)
 
       -- A noted row: its code, and the row of that code.
       module _ (c : ℕ) (e : q ≡ Noted c) where
         told-here : AppTold (judgingApp column) (length b) (length p) st numbers c
         told-here =
-            let f : Tells ws column numbers c = subst (LookFound ws ws′ column numbers (r .count)) e (l .found) in
+            let f : Tells ws column numbers c = subst (LookFound ws ws′ column numbers (r .«list_count»)) e (l .found) in
             subst (λ (k : ℕ). AppTold (judgingApp k) (length b) (length p) st numbers c) (f .side) (h .past .each (f .slot) numbers c (f .says))
 
         pub row-coded : Coded c
@@ -290,8 +290,8 @@ module _ {column : ℕ} {b p ix : List ℕ} {n u : ℕ} {prm imgs bnd s tbl xs r
 
         numbers-below : (j : ℕ) → j < length numbers → getD numbers j 0 < length st
         numbers-below j o =
-            let m : j < r .count = omega (arith, length-numbersAt key 3 (r .count)) in
-            omega (arith, number-at key 3 (r .count) j m, d .below on n tbl xs (h .asks .standing) j m, storeOf-length b p n)
+            let m : j < r .«list_count» = omega (arith, length-numbersAt key 3 (r .«list_count»)) in
+            omega (arith, number-at key 3 (r .«list_count») j m, d .below on n tbl xs (h .asks .standing) j m, storeOf-length b p n)
 
         new-told : r .kind ≡ 6 → AppTold (judgingApp column) (length b′) (length p′) st′ numbers (codeOf (w .verdict))
         new-told k =
@@ -310,15 +310,15 @@ module _ {column : ℕ} {b p ix : List ℕ} {n u : ℕ} {prm imgs bnd s tbl xs r
             let z = row-is .answer in
             past-grown b p n b′ p′ ix′ (w .count) (w .used) ws′ (z .good) (z .long) (z .wide) (z .starts) past-less
 
-        note-by : (v : Look) → LookFound ws ws′ column numbers (r .count) v → RowNoteAsks ws′ (r .count) v (w .verdict)
+        note-by : (v : Look) → LookFound ws ws′ column numbers (r .«list_count») v → RowNoteAsks ws′ (r .«list_count») v (w .verdict)
         note-by Apart f = tt
         note-by (Noted c) f = tt
         note-by (Open at) f = record { here = f .ready .here; some = f .ready .some; few = f .ready .few; small = code-small (w .verdict) refl }
 
-        pub note-asks : RowNoteAsks ws′ (r .count) q (w .verdict)
+        pub note-asks : RowNoteAsks ws′ (r .«list_count») q (w .verdict)
         note-asks = note-by q (l .found)
 
-        noted-past : {ws″ : List ℕ} (v : Look) → Looked r v → LookFound ws ws′ column numbers (r .count) v → RowNotedIs ws′ (r .count) v (w .verdict) ws″ → PastOf b′ p′ (w .count) ws″
+        noted-past : {ws″ : List ℕ} (v : Look) → Looked r v → LookFound ws ws′ column numbers (r .«list_count») v → RowNotedIs ws′ (r .«list_count») v (w .verdict) ws″ → PastOf b′ p′ (w .count) ws″
         noted-past Apart k f e = subst (PastOf b′ p′ (w .count)) (sym e) grown-past
         noted-past (Noted c) k f e = subst (PastOf b′ p′ (w .count)) (sym e) grown-past
         noted-past (Open at) k f e =
@@ -332,5 +332,5 @@ module _ {column : ℕ} {b p ix : List ℕ} {n u : ℕ} {prm imgs bnd s tbl xs r
                   (e slot m c x);
             }
 
-        pub row-made : {ws″ : List ℕ} → RowNotedIs ws′ (r .count) q (w .verdict) ws″ → PastIs column b p n prm imgs bnd s tbl xs rows r b′ p′ ix′ prm′ imgs′ bnd′ w ws″
+        pub row-made : {ws″ : List ℕ} → RowNotedIs ws′ (r .«list_count») q (w .verdict) ws″ → PastIs column b p n prm imgs bnd s tbl xs rows r b′ p′ ix′ prm′ imgs′ bnd′ w ws″
         row-made e = record { row = row-is; past = noted-past q (l .looked) (l .found) e }

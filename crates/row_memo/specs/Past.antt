@@ -211,9 +211,9 @@ pub record LookAsks (b p : List ℕ) (r : TermRecord) (a : List ℕ) (column : �
   pub side : column ≤ 1
   pub count : ℕ
   pub stored : Stored b p count
-  pub below : (j : ℕ) → j < r .count → u16At a (3 + 2 * j) < count
-  pub few : r .count ≤ mostTerms
-  pub within : 3 + 2 * r .count ≤ length a
+  pub below : (j : ℕ) → j < r .«list_count» → u16At a (3 + 2 * j) < count
+  pub few : r .«list_count» ≤ mostTerms
+  pub within : 3 + 2 * r .«list_count» ≤ length a
 
 -- APART SAYS NOTHING; else the record is an App, and its terms were looked up.
 abbrev pub Looked : TermRecord → Look → Type 0
@@ -223,7 +223,7 @@ Looked r (Open at) = r .kind ≡ 6
 
 pub record LookedIs (r : TermRecord) (a : List ℕ) (column : ℕ) (ws ws′ : List ℕ) (q : Look) : Type 0 where
   pub looked : Looked r q
-  pub found : LookFound ws ws′ column (numbersAt a 3 (r .count)) (r .count) q
+  pub found : LookFound ws ws′ column (numbersAt a 3 (r .«list_count»)) (r .«list_count») q
   pub less : Less ws ws′
 
 -- What a row asks, and a table that says the truth.

@@ -86,7 +86,7 @@ pub fn looked_up(
     ensures { λ r. ⌜ LookedIs term (now (args .entry)) column (now (past .entry)) (now (past .exit)) r ⌝ }
 {
     let kind = term.kind;
-    let n = term.count;
+    let n = term.list_count;
     if kind != TERM_APP {
         return Look::Apart;
     }
@@ -126,7 +126,7 @@ pub fn inferred_row(
     if !parts_judged(sheet, rows, INFERRED, term, args) {
         return refuse(Cause::Below, count, used);
     }
-    let n = term.count;
+    let n = term.list_count;
     let look = looked_up(records, places, term, args, INFERRED, past);
     if let Look::Noted(code) = look {
         return row_again(code, count, used);
@@ -167,7 +167,7 @@ pub fn checked_anew(
     args: &mut [u8],
     crowded: bool,
 ) -> Answer
-    requires { ⌜ SiteAsks (now records) (now places) (now index) (task .count) (task .used) (now params) (now images) (now bound) (now sheet) (now table) (now starts) (task .term) (now args) × AppCrowded crowded (now records) (now places) (task .count) (now args) (task .term .count) ⌝ }
+    requires { ⌜ SiteAsks (now records) (now places) (now index) (task .count) (task .used) (now params) (now images) (now bound) (now sheet) (now table) (now starts) (task .term) (now args) × AppCrowded crowded (now records) (now places) (task .count) (now args) (task .term .«list_count») ⌝ }
     ensures { λ r. ⌜ SiteIs (checked smtLib) (now (records .entry)) (now (places .entry)) (task .count) (now (params .entry)) (now (images .entry)) (now (bound .entry)) (now (sheet .entry)) (now (table .entry)) (now (starts .entry)) (task .term) (now (args .entry)) (now (records .exit)) (now (places .exit)) (now (index .exit)) (now (params .exit)) (now (images .exit)) (now (bound .exit)) r ⌝ }
 {
     let term = task.term;
@@ -175,7 +175,7 @@ pub fn checked_anew(
     let used = task.used;
     let kind = term.kind;
     if kind == TERM_APP {
-        let n = term.count;
+        let n = term.list_count;
         return checked_app(
             records,
             places,
@@ -232,7 +232,7 @@ pub fn checked_row(
     if !parts_judged(sheet, rows, CHECKED, term, args) {
         return refuse(Cause::Below, count, used);
     }
-    let n = term.count;
+    let n = term.list_count;
     let look = looked_up(records, places, term, args, CHECKED, past);
     if let Look::Noted(code) = look {
         return row_again(code, count, used);

@@ -27,7 +27,7 @@ module _ (s rows : List ℕ) (column : ℕ) (r : TermRecord) (a : List ℕ) wher
   over J st tbl xs o i = overParts J (r .kind) (r .number) (ownOver st tbl r) (bindingsOver st tbl s r) (constantsOver s xs r) (indicesOver s xs r) o i
 
   -- A row of the list is refused.
-  pub parts-lacking : (t : Bool) → not t ≡ true → GatherIs s (r .list) (r .count) rows column a t → PartsJudgedIs s rows column r a false
+  pub parts-lacking : (t : Bool) → not t ≡ true → GatherIs s (r .«list_at») (r .«list_count») rows column a t → PartsJudgedIs s rows column r a false
   unfolding termVerdict
   parts-lacking true d g = absurd (false≢true d)
   parts-lacking false d g =
@@ -38,12 +38,12 @@ module _ (s rows : List ℕ) (column : ℕ) (r : TermRecord) (a : List ℕ) wher
       }
 
   -- None is: t is the test of the list's rows.
-  module _ (t : Bool) (f : not t ≡ false) (g : GatherIs s (r .list) (r .count) rows column a t) (side : column ≤ 1) where
+  module _ (t : Bool) (f : not t ≡ false) (g : GatherIs s (r .«list_at») (r .«list_count») rows column a t) (side : column ≤ 1) where
     on : t ≡ true
     on = not-false t f
 
-    known : (n : ℕ) (tbl xs : List ℕ) → Standing n s tbl xs rows r → (j : ℕ) → j < r .count → u16At a (3 + 2 * j) < n
-    known n tbl xs h = gathered-known s (r .list) (r .count) rows column a t g on side (h .term) n (h .known) (h .was .references)
+    known : (n : ℕ) (tbl xs : List ℕ) → Standing n s tbl xs rows r → (j : ℕ) → j < r .«list_count» → u16At a (3 + 2 * j) < n
+    known n tbl xs h = gathered-known s (r .«list_at») (r .«list_count») rows column a t g on side (h .term) n (h .known) (h .was .references)
 
     -- The list has its numbers, and the index terms some sorts js.
     both : (J : Site → Verdict) (st : List Sort) (tbl xs : List ℕ) (js : Sorts) → indexSorts st s r rows column ≡ some js
@@ -56,21 +56,21 @@ module _ (s rows : List ℕ) (column : ℕ) (r : TermRecord) (a : List ℕ) wher
     unfolding numbersAt sortsGiven
     parts-plain d =
         record {
-          judged = λ e J st tbl xs. both J st tbl xs end (ap (λ (b : Bool). argumentsOf st s (r .second) (cond b (r .seconds) 0) rows column) (ne-eqb (r .kind) 11 d));
+          judged = λ e J st tbl xs. both J st tbl xs end (ap (λ (b : Bool). argumentsOf st s (r .«second_at») (cond b (r .«second_count») 0) rows column) (ne-eqb (r .kind) 11 d));
           below = λ e. known;
           lacking = λ e. absurd (true≢false e);
         }
 
     -- The index terms decide.
-    pub parts-indexed : r .kind ≡ 11 → (q : Bool) → JudgedIs s (r .second) (r .seconds) rows column q → PartsJudgedIs s rows column r a q
+    pub parts-indexed : r .kind ≡ 11 → (q : Bool) → JudgedIs s (r .«second_at») (r .«second_count») rows column q → PartsJudgedIs s rows column r a q
     unfolding termVerdict
     parts-indexed k q i =
-        let on11 : (st : List Sort) → indexSorts st s r rows column ≡ argumentsOf st s (r .second) (r .seconds) rows column =
-        λ st. ap (λ (j : ℕ). argumentsOf st s (r .second) (cond (eqb j 11) (r .seconds) 0) rows column) k in
+        let on11 : (st : List Sort) → indexSorts st s r rows column ≡ argumentsOf st s (r .«second_at») (r .«second_count») rows column =
+        λ st. ap (λ (j : ℕ). argumentsOf st s (r .«second_at») (cond (eqb j 11) (r .«second_count») 0) rows column) k in
         record {
-          judged = λ e J st tbl xs. both J st tbl xs (sortsOf st (codesOf rows column (numbersAt s (r .second) (r .seconds)))) (on11 st ∙ i .sorts e st);
+          judged = λ e J st tbl xs. both J st tbl xs (sortsOf st (codesOf rows column (numbersAt s (r .«second_at») (r .«second_count»)))) (on11 st ∙ i .sorts e st);
           below = λ e. known;
           lacking = λ e J st tbl xs.
-              ap (over J st tbl xs (argumentsOf st s (r .list) (r .count) rows column)) (on11 st ∙ i .lacking e st)
-              ∙ over-none J st s tbl xs r (argumentsOf st s (r .list) (r .count) rows column);
+              ap (over J st tbl xs (argumentsOf st s (r .«list_at») (r .«list_count») rows column)) (on11 st ∙ i .lacking e st)
+              ∙ over-none J st s tbl xs r (argumentsOf st s (r .«list_at») (r .«list_count») rows column);
         }

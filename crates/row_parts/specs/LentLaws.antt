@@ -35,11 +35,11 @@ unfolding termVerdict parless
 term-parless J f st s tbl xs rows column r h =
     let own = getD st (getD tbl (r .sort) 0) leaf in
     parless-over J f (r .kind) (r .number) (ownOver st tbl r) (bindingsOver st tbl s r) (constantsOver s xs r) (indicesOver s xs r)
-    (argumentsOf st s (r .list) (r .count) rows column) (indexSorts st s r rows column)
+    (argumentsOf st s (r .«list_at») (r .«list_count») rows column) (indexSorts st s r rows column)
     (parless-one (eqb (r .kind) 5) own (cond (eqb (r .kind) 12) own bool) (parless-at st (getD tbl (r .sort) 0) h)
     (parless-one (eqb (r .kind) 12) own bool (parless-at st (getD tbl (r .sort) 0) h) refl))
-    (parless-bindings st (pairNamesAt s (r .pairs) (r .paired)) (boundNumbers tbl s (r .pairs) (r .paired)) h)
-    (λ ts e. parless-rows st rows column (numbersAt s (r .list) (r .count)) h ts e)
+    (parless-bindings st (pairNamesAt s (r .«pairs_at») (r .«pairs_count»)) (boundNumbers tbl s (r .«pairs_at») (r .«pairs_count»)) h)
+    (λ ts e. parless-rows st rows column (numbersAt s (r .«list_at») (r .«list_count»)) h ts e)
 
 -- THE TABLES LENT BEFORE A ROW ARE LENT AFTER IT.
 pub row-lent : {J : Site → Verdict} {column : ℕ} {b p : List ℕ} {n : ℕ} {prm imgs bnd s tbl xs rows : List ℕ} {r : TermRecord} {b′ p′ ix′ prm′ imgs′ bnd′ : List ℕ} {q : Answer} → Parless J → Lent b p n prm imgs bnd

@@ -34,14 +34,14 @@ ownOver st tbl r = cond (eqb (r .kind) 5) (getD st (getD tbl (r .sort) 0) leaf) 
 
 -- The bindings of a Binder.
 abbrev pub bindingsOver : List Sort → List ℕ → List ℕ → TermRecord → List Binding
-bindingsOver st tbl s r = bindingsOf st (pairNamesAt s (r .pairs) (r .paired)) (boundNumbers tbl s (r .pairs) (r .paired))
+bindingsOver st tbl s r = bindingsOf st (pairNamesAt s (r .«pairs_at») (r .«pairs_count»)) (boundNumbers tbl s (r .«pairs_at») (r .«pairs_count»))
 
 -- The integer constants among the terms of its list, and among the index terms of a ParamOp (11).
 abbrev pub constantsOver : List ℕ → List ℕ → TermRecord → List (Option ℕ)
-constantsOver s xs r = constantsIn s xs (r .list) (r .count)
+constantsOver s xs r = constantsIn s xs (r .«list_at») (r .«list_count»)
 
 abbrev pub indicesOver : List ℕ → List ℕ → TermRecord → List (Option ℕ)
-indicesOver s xs r = cond (eqb (r .kind) 11) (constantsIn s xs (r .second) (r .seconds)) []
+indicesOver s xs r = cond (eqb (r .kind) 11) (constantsIn s xs (r .«second_at») (r .«second_count»)) []
 
 -- The record with the sorts of its arguments, whose numbers stand in a from byte 3 on.
 abbrev pub siteOver : List Sort → List ℕ → List ℕ → List ℕ → List ℕ → TermRecord → Site
@@ -50,7 +50,7 @@ siteOver st s tbl xs a r =
       kind = r .kind;
       number = r .number;
       own = ownOver st tbl r;
-      args = sortsOf st (numbersAt a 3 (r .count));
+      args = sortsOf st (numbersAt a 3 (r .«list_count»));
       bindings = bindingsOver st tbl s r;
       constants = constantsOver s xs r;
       indices = indicesOver s xs r;
@@ -58,13 +58,13 @@ siteOver st s tbl xs a r =
 
 -- The sorts of the index terms by their rows: none but a ParamOp's are asked.
 abbrev pub indexSorts : List Sort → List ℕ → TermRecord → List ℕ → ℕ → Option Sorts
-indexSorts st s r rows column = argumentsOf st s (r .second) (cond (eqb (r .kind) 11) (r .seconds) 0) rows column
+indexSorts st s r rows column = argumentsOf st s (r .«second_at») (cond (eqb (r .kind) 11) (r .«second_count») 0) rows column
 
 -- THE VERDICT J ON THE RECORD in a column of the rows: 20 where a row that it needs is refused.
 unfoldable pub termVerdict : (Site → Verdict) → List Sort → List ℕ → List ℕ → List ℕ → List ℕ → ℕ → TermRecord → Verdict
 termVerdict J st s tbl xs rows column r =
     overParts J (r .kind) (r .number) (ownOver st tbl r) (bindingsOver st tbl s r) (constantsOver s xs r) (indicesOver s xs r)
-    (argumentsOf st s (r .list) (r .count) rows column) (indexSorts st s r rows column)
+    (argumentsOf st s (r .«list_at») (r .«list_count») rows column) (indexSorts st s r rows column)
 
 ---------------------------------------------------------------- what is asked and promised
 -- The record r of some term of a sheet of some sorts: it was read there, the terms before it stand at the places xs, and the
@@ -99,7 +99,7 @@ pub record TermIs (J : Site → Verdict) (column : ℕ) (b p : List ℕ) (n : �
 pub record SiteAsks (b p ix : List ℕ) (n u : ℕ) (prm imgs bnd s tbl xs : List ℕ) (r : TermRecord) (a : List ℕ) : Type 0 where
   pub rows : List ℕ
   pub asks : TermAsks b p ix n u prm imgs bnd s tbl xs rows r a
-  pub below : (j : ℕ) → j < r .count → u16At a (3 + 2 * j) < n
+  pub below : (j : ℕ) → j < r .«list_count» → u16At a (3 + 2 * j) < n
 
 pub record SiteIs (J : Site → Verdict) (b p : List ℕ) (n : ℕ) (prm imgs bnd s tbl xs : List ℕ) (r : TermRecord) (a b′ p′ ix′ prm′ imgs′ bnd′ : List ℕ) (q : Answer) : Type 0 where
   pub answer : AnswerIs b p n (J (siteOver (storeOf b p n) s tbl xs a r)) b′ p′ ix′ q
@@ -110,11 +110,11 @@ pub record SiteIs (J : Site → Verdict) (b p : List ℕ) (n : ℕ) (prm imgs bn
 ---------------------------------------------------------------- the parts
 -- The terms of the list have rows and a has room for their numbers; the index terms of a ParamOp (11) have rows.
 pub record PartsJudgedAsk (s rows : List ℕ) (column : ℕ) (r : TermRecord) (a : List ℕ) : Type 0 where
-  pub list : GatherAsks s (r .list) (r .count) rows column a
-  pub indices : r .kind ≡ 11 → JudgedAsks s (r .second) (r .seconds) rows column
+  pub list : GatherAsks s (r .«list_at») (r .«list_count») rows column a
+  pub indices : r .kind ≡ 11 → JudgedAsks s (r .«second_at») (r .«second_count») rows column
 
 -- No row that the record needs is refused, and a has the numbers of its arguments, which are the store's; or one is.
 pub record PartsJudgedIs (s rows : List ℕ) (column : ℕ) (r : TermRecord) (a : List ℕ) (q : Bool) : Type 0 where
   pub judged : q ≡ true → (J : Site → Verdict) (st : List Sort) (tbl xs : List ℕ) → termVerdict J st s tbl xs rows column r ≡ J (siteOver st s tbl xs a r)
-  pub below : q ≡ true → (n : ℕ) (tbl xs : List ℕ) → Standing n s tbl xs rows r → (j : ℕ) → j < r .count → u16At a (3 + 2 * j) < n
+  pub below : q ≡ true → (n : ℕ) (tbl xs : List ℕ) → Standing n s tbl xs rows r → (j : ℕ) → j < r .«list_count» → u16At a (3 + 2 * j) < n
   pub lacking : q ≡ false → (J : Site → Verdict) (st : List Sort) (tbl xs : List ℕ) → termVerdict J st s tbl xs rows column r ≡ refused Below

@@ -73,13 +73,13 @@ pair-sorts st tbl s x zero = refl
 pair-sorts st tbl s x (suc n) = ap (λ ss. getD st (getD tbl (u16At s (x + 2)) 0) leaf then ss) (pair-sorts st tbl s (x + 4) n)
 
 -- The sorts of the bindings are those of their store numbers.
-pub bindings-sorts : (st : List Sort) (tbl s : List ℕ) (r : TermRecord) → bindingSorts (bindingsOver st tbl s r) ≡ sortsOf st (boundNumbers tbl s (r .pairs) (r .paired))
-bindings-sorts st tbl s r = pair-sorts st tbl s (r .pairs) (r .paired)
+pub bindings-sorts : (st : List Sort) (tbl s : List ℕ) (r : TermRecord) → bindingSorts (bindingsOver st tbl s r) ≡ sortsOf st (boundNumbers tbl s (r .«pairs_at») (r .«pairs_count»))
+bindings-sorts st tbl s r = pair-sorts st tbl s (r .«pairs_at») (r .«pairs_count»)
 
 -- Without pairs there is no binding.
-pub bindings-none : (st : List Sort) (tbl s : List ℕ) (r : TermRecord) → r .paired ≡ 0 → bindingsOver st tbl s r ≡ []
+pub bindings-none : (st : List Sort) (tbl s : List ℕ) (r : TermRecord) → r .«pairs_count» ≡ 0 → bindingsOver st tbl s r ≡ []
 unfolding bindingsOf pairNamesAt
-bindings-none st tbl s r e = ap (λ (n : ℕ). bindingsOf st (pairNamesAt s (r .pairs) n) (boundNumbers tbl s (r .pairs) n)) e
+bindings-none st tbl s r e = ap (λ (n : ℕ). bindingsOf st (pairNamesAt s (r .«pairs_at») n) (boundNumbers tbl s (r .«pairs_at») n)) e
 
 first-binding : (st : List Sort) (tbl s : List ℕ) (x n : ℕ) → 0 < n
     → bindingsOf st (pairNamesAt s x n) (boundNumbers tbl s x n)
@@ -93,11 +93,11 @@ first-binding st tbl s x (suc n) l =
     (λ (y m : ℕ). record { name = u16At s x; sort = getD st (getD tbl (u16At s y) 0) leaf } ∷ bindingsOf st (pairNamesAt s (x + 4) m) (boundNumbers tbl s (x + 4) m)) e f
 
 -- The first binding.
-pub bindings-first : (st : List Sort) (tbl s : List ℕ) (r : TermRecord) → 0 < r .paired
+pub bindings-first : (st : List Sort) (tbl s : List ℕ) (r : TermRecord) → 0 < r .«pairs_count»
     → bindingsOver st tbl s r
-    ≡ record { name = u16At s (r .pairs); sort = getD st (bindingAt s (r .pairs) tbl 0) leaf }
-    ∷ bindingsOf st (pairNamesAt s (r .pairs + 4) (r .paired - 1)) (boundNumbers tbl s (r .pairs + 4) (r .paired - 1))
-bindings-first st tbl s r l = first-binding st tbl s (r .pairs) (r .paired) l
+    ≡ record { name = u16At s (r .«pairs_at»); sort = getD st (bindingAt s (r .«pairs_at») tbl 0) leaf }
+    ∷ bindingsOf st (pairNamesAt s (r .«pairs_at» + 4) (r .«pairs_count» - 1)) (boundNumbers tbl s (r .«pairs_at» + 4) (r .«pairs_count» - 1))
+bindings-first st tbl s r l = first-binding st tbl s (r .«pairs_at») (r .«pairs_count») l
 
 ---------------------------------------------------------------- what a record that stands tells
 -- The own sort of the record over the store: a number of the sheet's table, one of the store, and its sort.
@@ -108,10 +108,10 @@ pub record OwnIs (b p : List ℕ) (n : ℕ) (tbl : List ℕ) (r : TermRecord) : 
 
 -- At most 64 pairs that lie in the sheet, their sorts numbers of the sheet's table and of the store.
 pub record Bound (n : ℕ) (s tbl : List ℕ) (r : TermRecord) : Type 0 where
-  pub few : r .paired ≤ 64
-  pub within : r .pairs + 4 * r .paired ≤ length s
-  pub each : (j : ℕ) → j < r .paired → u16At s (r .pairs + 4 * j + 2) < length tbl
-  pub below : (j : ℕ) → j < r .paired → bindingAt s (r .pairs) tbl j < n
+  pub few : r .«pairs_count» ≤ 64
+  pub within : r .«pairs_at» + 4 * r .«pairs_count» ≤ length s
+  pub each : (j : ℕ) → j < r .«pairs_count» → u16At s (r .«pairs_at» + 4 * j + 2) < length tbl
+  pub below : (j : ℕ) → j < r .«pairs_count» → bindingAt s (r .«pairs_at») tbl j < n
 
 module _ {n : ℕ} {s tbl xs rows : List ℕ} {r : TermRecord} (h : Standing n s tbl xs rows r) where
   -- Its parts can be gathered in either column.
@@ -158,30 +158,30 @@ module _ {n : ℕ} {s tbl xs rows : List ℕ} {r : TermRecord} (h : Standing n s
         few = h .was .paired;
         within = h .was .pairs;
         each = λ j l. omega (arith, h .was .bindings j l, h .numbered .inside);
-        below = λ j l. h .numbered .known (u16At s (r .pairs + 4 * j + 2)) (h .was .bindings j l);
+        below = λ j l. h .numbered .known (u16At s (r .«pairs_at» + 4 * j + 2)) (h .was .bindings j l);
       }
 
   -- The terms of its list can be asked for their constants.
-  pub list-constants : ConstantsAsk s xs (r .list) (r .count)
+  pub list-constants : ConstantsAsk s xs (r .«list_at») (r .«list_count»)
   list-constants =
       record {
         within = h .was .list;
         term = λ j l. omega (arith, h .was .references j l, h .starts);
-        start = λ j l. let i = u16At s (r .list + 2 * j) in constant-asks s (h .sorts) i (getD xs i 0) (h .before i (h .was .references j l));
+        start = λ j l. let i = u16At s (r .«list_at» + 2 * j) in constant-asks s (h .sorts) i (getD xs i 0) (h .before i (h .was .references j l));
       }
 
   -- The index terms of a ParamOp (11) can be asked for their constants.
-  pub index-constants : r .kind ≡ 11 → ConstantsAsk s xs (r .second) (r .seconds)
+  pub index-constants : r .kind ≡ 11 → ConstantsAsk s xs (r .«second_at») (r .«second_count»)
   index-constants e =
-      let other : (j : ℕ) → j < r .seconds → u16At s (r .second + 2 * j) < h .term = h .was .indices (λ d. absurd (omega arith)) in
+      let other : (j : ℕ) → j < r .«second_count» → u16At s (r .«second_at» + 2 * j) < h .term = h .was .indices (λ d. absurd (omega arith)) in
       record {
         within = h .was .second;
         term = λ j l. omega (arith, other j l, h .starts);
-        start = λ j l. let i = u16At s (r .second + 2 * j) in constant-asks s (h .sorts) i (getD xs i 0) (h .before i (other j l));
+        start = λ j l. let i = u16At s (r .«second_at» + 2 * j) in constant-asks s (h .sorts) i (getD xs i 0) (h .before i (other j l));
       }
 
   -- At most 64 terms in its list.
-  pub count-few : r .count ≤ 64
+  pub count-few : r .«list_count» ≤ 64
   count-few = h .was .few
 
   -- A known kind.
@@ -192,27 +192,27 @@ module _ {n : ℕ} {s tbl xs rows : List ℕ} {r : TermRecord} (h : Standing n s
   number-most : (k : ℕ) → r .kind ≡ k → r .number ≤ termNumberOf k
   number-most k e = subst (λ (j : ℕ). r .number ≤ termNumberOf j) e (h .was .number)
 
-  count-least : (k : ℕ) → r .kind ≡ k → termLeastOf k ≤ r .count
-  count-least k e = subst (λ (j : ℕ). termLeastOf j ≤ r .count) e (h .was .least)
+  count-least : (k : ℕ) → r .kind ≡ k → termLeastOf k ≤ r .«list_count»
+  count-least k e = subst (λ (j : ℕ). termLeastOf j ≤ r .«list_count») e (h .was .least)
 
-  count-most : (k : ℕ) → r .kind ≡ k → r .count ≤ termMostOf k
-  count-most k e = subst (λ (j : ℕ). r .count ≤ termMostOf j) e (h .was .most)
+  count-most : (k : ℕ) → r .kind ≡ k → r .«list_count» ≤ termMostOf k
+  count-most k e = subst (λ (j : ℕ). r .«list_count» ≤ termMostOf j) e (h .was .most)
 
   -- The operator of an Op (7).
   pub op-number : r .kind ≡ 7 → r .number ≤ 134
   unfolding termNumberOf termNumbers
   op-number e = number-most 7 e
 
-  binder-least : r .kind ≡ 8 → 1 ≤ r .count
+  binder-least : r .kind ≡ 8 → 1 ≤ r .«list_count»
   unfolding termLeastOf termLeasts
   binder-least e = count-least 8 e
 
-  binder-most : r .kind ≡ 8 → r .count ≤ 1
+  binder-most : r .kind ≡ 8 → r .«list_count» ≤ 1
   unfolding termMostOf termMosts
   binder-most e = count-most 8 e
 
   -- A Binder (8) has just its body.
-  pub binder-one : r .kind ≡ 8 → r .count ≡ 1
+  pub binder-one : r .kind ≡ 8 → r .«list_count» ≡ 1
   binder-one e = omega (arith, binder-least e, binder-most e)
 
 ---------------------------------------------------------------- the verdict on the sheet's record
@@ -284,9 +284,9 @@ module _ {n : ℕ} {s tbl xs rows : List ℕ} {r : TermRecord} (h : Standing n s
       ≡ verdictAt J (λ i. rowSort st rows column i) (termsAt s (treesOf st tbl (h .sorts)) xs (h .term)) (termFields s (treesOf st tbl (h .sorts)) r)
   unfolding termVerdict verdictAt termFields
   verdict-at J column =
-      over-same J (r .kind) (r .number) (argumentsOf st s (r .list) (r .count) rows column) own-by
-      (bindings-by st tbl s (h .sorts) (r .pairs) (r .paired) (h .was .bindings))
-      (constants-at (r .list) (r .count) (h .was .references))
-      (indices-by s xs (r .second) (r .seconds) records (eqb (r .kind) 11)
-      (λ e. let k = eqb-true (r .kind) 11 e in constants-at (r .second) (r .seconds) (h .was .indices (λ d. absurd (omega arith)))))
-      (ap (sortsGiven (λ i. rowSort st rows column i)) (numbers-by s (r .second) (r .seconds) (eqb (r .kind) 11)))
+      over-same J (r .kind) (r .number) (argumentsOf st s (r .«list_at») (r .«list_count») rows column) own-by
+      (bindings-by st tbl s (h .sorts) (r .«pairs_at») (r .«pairs_count») (h .was .bindings))
+      (constants-at (r .«list_at») (r .«list_count») (h .was .references))
+      (indices-by s xs (r .«second_at») (r .«second_count») records (eqb (r .kind) 11)
+      (λ e. let k = eqb-true (r .kind) 11 e in constants-at (r .«second_at») (r .«second_count») (h .was .indices (λ d. absurd (omega arith)))))
+      (ap (sortsGiven (λ i. rowSort st rows column i)) (numbers-by s (r .«second_at») (r .«second_count») (eqb (r .kind) 11)))

@@ -18,15 +18,15 @@ pub fn parts_judged(
     ensures { λ r. ⌜ PartsJudgedIs (now (sheet .entry)) (now (rows .entry)) column term (now (args .exit)) r ⌝ }
 {
     let kind = term.kind;
-    let list = term.list;
-    let count = term.count;
+    let list = term.list_at;
+    let count = term.list_count;
     if !gather(sheet, list, count, rows, column, args) {
         return false;
     }
     if kind != TERM_PARAM_OP {
         return true;
     }
-    let second = term.second;
-    let seconds = term.seconds;
+    let second = term.second_at;
+    let seconds = term.second_count;
     all_judged(sheet, second, seconds, rows, column)
 }

@@ -75,7 +75,7 @@ module _ (st : List Sort) (rows rows′ : List ℕ) (column t : ℕ) (same : (i 
 
 -- The references that a record's rows are read by.
 second-below : {s : List ℕ} {m t x : ℕ} {r : TermRecord} {c : Cursor} → TermWas s m t x r c
-    → (j : ℕ) → j < cond (eqb (r .kind) 11) (r .seconds) 0 → u16At s (r .second + 2 * j) < t
+    → (j : ℕ) → j < cond (eqb (r .kind) 11) (r .«second_count») 0 → u16At s (r .«second_at» + 2 * j) < t
 second-below {s} {m} {t} {x} {r} {c} w j =
     byTest (eqb (r .kind) 11)
     (λ q. rw q (λ o. let e = eqb-true (r .kind) 11 q in w .indices (λ z. absurd (omega (arith, e, z))) j o))
@@ -94,8 +94,8 @@ module _ {n : ℕ} {s tbl xs rows : List ℕ} {r : TermRecord} (h : Standing n s
   verdict-taken =
       ap₂
       (λ (o q : Option Sorts). overParts J (r .kind) (r .number) (ownOver st tbl r) (bindingsOver st tbl s r) (constantsOver s xs r) (indicesOver s xs r) o q)
-      (arguments-agree st rows before column (h .term) taken s (r .list) (r .count) (h .was .references))
-      (arguments-agree st rows before column (h .term) taken s (r .second) (cond (eqb (r .kind) 11) (r .seconds) 0)
+      (arguments-agree st rows before column (h .term) taken s (r .«list_at») (r .«list_count») (h .was .references))
+      (arguments-agree st rows before column (h .term) taken s (r .«second_at») (cond (eqb (r .kind) 11) (r .«second_count») 0)
       (second-below (h .was)))
 
   -- It stands before those rows alone.

@@ -86,7 +86,7 @@ returns-4 c =
     let tbl = q .table .now in
     let a = q .args .now in
     let r = q .term in
-    λ ix g. judged-as (known-none (r .kind) (r .number) (ownOver (storeOf b p n) tbl r) (argsOf b p n a (r .count)) (c .before .before .before .if1 .left) (c .before .before .if2 .left) (c .before .if3 .left)) (answered-as (c .refuse .ensures) (made-refused b p ix n u g NoRank))
+    λ ix g. judged-as (known-none (r .kind) (r .number) (ownOver (storeOf b p n) tbl r) (argsOf b p n a (r .«list_count»)) (c .before .before .before .if1 .left) (c .before .before .if2 .left) (c .before .if3 .left)) (answered-as (c .refuse .ensures) (made-refused b p ix n u g NoRank))
 
 pub known-site-spec : {M : Type 1} → statement M
 known-site-spec = tie.close (tie.spec checked-let-requires returns mul-k shared-slice-read-k cast-k checked-variable-requires returns-2 mul-k-2 shared-slice-read-k-2 cast-k-2 checked-as-requires returns-3 (λ c κs. search needs) returns-4)

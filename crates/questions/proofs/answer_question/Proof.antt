@@ -18,7 +18,7 @@ sort-at-requires c κs =
     let d = a .sheet .now in
     let t = a .table .now in
     let q = a .question in
-    sort-asks n d t q (s .pre .asked) 0 (q .list) (omega (arith, s .pre .two (c .if1 .taken))) (omega arith)
+    sort-asks n d t q (s .pre .asked) 0 (q .«list_at») (omega (arith, s .pre .two (c .if1 .taken))) (omega arith)
 
 add-sort-at : tie.Need-add-sort-at
 add-sort-at c =
@@ -33,7 +33,7 @@ sort-at-requires-2 c κs =
     let d = a .sheet .now in
     let t = a .table .now in
     let q = a .question in
-    sort-asks n d t q (s .pre .asked) 1 (q .list + 2) (omega (arith, s .pre .two (c .before .if1 .taken))) (omega arith)
+    sort-asks n d t q (s .pre .asked) 1 (q .«list_at» + 2) (omega (arith, s .pre .two (c .before .if1 .taken))) (omega arith)
 
 answer-compatible-requires : tie.Need-answer-compatible-requires
 answer-compatible-requires c κs =
@@ -44,8 +44,8 @@ answer-compatible-requires c κs =
     let t = a .table .now in
     let q = a .question in
     pair-part (s .pre) (c .before .before .before .sort-at .result) (c .before .before .sort-at2 .result)
-    (sort-known n d t q (s .pre .asked) 0 (q .list) (omega (arith, s .pre .two (c .before .before .before .before .if1 .taken))) (omega arith) (c .before .before .before .sort-at .result) (c .before .before .before .sort-at .ensures))
-    (sort-known n d t q (s .pre .asked) 1 (q .list + 2) (omega (arith, s .pre .two (c .before .before .before .before .if1 .taken))) (omega arith) (c .before .before .sort-at2 .result) (c .before .before .sort-at2 .ensures))
+    (sort-known n d t q (s .pre .asked) 0 (q .«list_at») (omega (arith, s .pre .two (c .before .before .before .before .if1 .taken))) (omega arith) (c .before .before .before .sort-at .result) (c .before .before .before .sort-at .ensures))
+    (sort-known n d t q (s .pre .asked) 1 (q .«list_at» + 2) (omega (arith, s .pre .two (c .before .before .before .before .if1 .taken))) (omega arith) (c .before .before .sort-at2 .result) (c .before .before .sort-at2 .ensures))
 
 returns : tie.Need-returns
 returns c =

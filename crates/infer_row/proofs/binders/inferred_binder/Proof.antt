@@ -31,7 +31,7 @@ lambda-requires c κs =
     let n = a .count in
     let u = a .used in
     let x = a .args .now in
-    let m = a .term .count in
+    let m = a .term .«list_count» in
     record {
       good = s .pre .args .good;
       within = s .pre .pairs .within;
@@ -52,7 +52,7 @@ returns c =
     let n = a .count in
     let u = a .used in
     let x = a .args .now in
-    let m = a .term .count in
+    let m = a .term .«list_count» in
     let z = a .sheet .now in
     let t = a .table .now in
     let r = a .term in
@@ -73,7 +73,7 @@ returns-2 c =
     let p = a .places .now in
     let n = a .count in
     let x = a .args .now in
-    let m = a .term .count in
+    let m = a .term .«list_count» in
     let z = a .sheet .now in
     let t = a .table .now in
     let r = a .term in
@@ -99,14 +99,14 @@ add-u16-at c =
     let s = c .before .before .before .before .before .before .before .before .before in
     let a = s .args in
     let r = a .term in
-    let q = positive (r .paired) (c .if3 .left) in omega (arith, s .pre .pairs .within, s .good .1 .1 .1 .1 .1 .0)
+    let q = positive (r .«pairs_count») (c .if3 .left) in omega (arith, s .pre .pairs .within, s .good .1 .1 .1 .1 .1 .0)
 
 u16-at-requires-2 : tie.Need-u16-at-requires-2
 u16-at-requires-2 c κs =
     let s = c .before .before .before .before .before .before .before .before .before in
     let a = s .args in
     let r = a .term in
-    let q = positive (r .paired) (c .if3 .left) in omega (arith, s .pre .pairs .within)
+    let q = positive (r .«pairs_count») (c .if3 .left) in omega (arith, s .pre .pairs .within)
 
 mul-k : tie.Need-mul-k
 mul-k c = omega (arith, c .u16-at2 .ensures .1)
@@ -122,7 +122,7 @@ shared-slice-read-k c =
     let z = a .sheet .now in
     let t = a .table .now in
     let r = a .term in
-    choice-in b p n z t r x (s .pre .pairs) (positive (r .paired) (c .before .before .if3 .left)) (c .before .u16-at2 .ensures .0)
+    choice-in b p n z t r x (s .pre .pairs) (positive (r .«pairs_count») (c .before .before .if3 .left)) (c .before .u16-at2 .ensures .0)
 
 cast-k : tie.Need-cast-k
 cast-k c = omega (arith, c .shared-slice-known3 .given (c .before .u16-at2 .result))
@@ -140,8 +140,8 @@ returns-4 c =
     let z = a .sheet .now in
     let t = a .table .now in
     let r = a .term in
-    judged-as (choice-is b p n z t r x (s .pre .pairs) (positive (r .paired) (c .before .before .before .if3 .left)) (c .before .before .u16-at2 .ensures .0) (c₁ .if2 .left))
-    (answered-as (c .found .ensures) (answer-known b p ix n u (s .pre .args .good) (getD t (c .before .before .u16-at2 .result) 0) (choice-known b p n z t r x (s .pre .pairs) (positive (r .paired) (c .before .before .before .if3 .left)) (c .before .before .u16-at2 .ensures .0))))
+    judged-as (choice-is b p n z t r x (s .pre .pairs) (positive (r .«pairs_count») (c .before .before .before .if3 .left)) (c .before .before .u16-at2 .ensures .0) (c₁ .if2 .left))
+    (answered-as (c .found .ensures) (answer-known b p ix n u (s .pre .args .good) (getD t (c .before .before .u16-at2 .result) 0) (choice-known b p n z t r x (s .pre .pairs) (positive (r .«pairs_count») (c .before .before .before .if3 .left)) (c .before .before .u16-at2 .ensures .0))))
 
 pub inferred-binder-spec : {M : Type 1} → statement M
 inferred-binder-spec = tie.close (tie.spec u16-at-requires lambda-requires (λ c. search needs) (λ c. search needs) (λ c. search needs) (λ c. search needs) returns leaf-requires (λ c. search needs) (λ c. search needs) (λ c. search needs) returns-2 (λ c κs. search needs) returns-3 add-u16-at u16-at-requires-2 mul-k shared-slice-read-k cast-k (λ c κs. search needs) returns-4)

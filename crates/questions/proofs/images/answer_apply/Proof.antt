@@ -25,7 +25,7 @@ sort-at-requires c κs =
     let d = a .sheet .now in
     let t = a .table .now in
     let q = a .question in
-    sort-asks n d t q (s .pre .asked) 0 (q .list) (omega (arith, s .pre .count)) (omega arith)
+    sort-asks n d t q (s .pre .asked) 0 (q .«list_at») (omega (arith, s .pre .count)) (omega arith)
 
 instance-requires : tie.Need-instance-requires
 instance-requires c κs =
@@ -35,7 +35,7 @@ instance-requires c κs =
     let d = a .sheet .now in
     let t = a .table .now in
     let q = a .question in
-    let k = c .before .before .before .before .sort-at .result in replace-asks (s .pre) (c .before .before .before .before .before .before .before .fill-images .ensures) k (sort-known n d t q (s .pre .asked) 0 (q .list) (omega (arith, s .pre .count)) (omega arith) k (c .before .before .before .before .sort-at .ensures))
+    let k = c .before .before .before .before .sort-at .result in replace-asks (s .pre) (c .before .before .before .before .before .before .before .fill-images .ensures) k (sort-known n d t q (s .pre .asked) 0 (q .«list_at») (omega (arith, s .pre .count)) (omega arith) k (c .before .before .before .before .sort-at .ensures))
 
 empty-images-requires : tie.Need-empty-images-requires
 empty-images-requires c κs =

@@ -16,7 +16,7 @@ sort-at-requires c κs =
     let d = a .sheet .now in
     let t = a .table .now in
     let q = a .question in
-    sort-asks n d t q (s .pre .asked) 0 (q .list) (omega (arith, s .pre .count)) (omega arith)
+    sort-asks n d t q (s .pre .asked) 0 (q .«list_at») (omega (arith, s .pre .count)) (omega arith)
 
 add-sort-at : tie.Need-add-sort-at
 add-sort-at c =
@@ -31,7 +31,7 @@ sort-at-requires-2 c κs =
     let d = a .sheet .now in
     let t = a .table .now in
     let q = a .question in
-    sort-asks n d t q (s .pre .asked) 1 (q .list + 2) (omega (arith, s .pre .count)) (omega arith)
+    sort-asks n d t q (s .pre .asked) 1 (q .«list_at» + 2) (omega (arith, s .pre .count)) (omega arith)
 
 add-sort-at-2 : tie.Need-add-sort-at-2
 add-sort-at-2 c =
@@ -46,7 +46,7 @@ sort-at-requires-3 c κs =
     let d = a .sheet .now in
     let t = a .table .now in
     let q = a .question in
-    sort-asks n d t q (s .pre .asked) 2 (q .list + 4) (omega (arith, s .pre .count)) (omega arith)
+    sort-asks n d t q (s .pre .asked) 2 (q .«list_at» + 4) (omega (arith, s .pre .count)) (omega arith)
 
 list-names-requires : tie.Need-list-names-requires
 list-names-requires c κs =
@@ -62,9 +62,9 @@ match-listed-requires c κs =
     let t = a .table .now in
     let q = a .question in
     listed-asks (s .pre) (c₁ .list-names .ensures) (c₄ .sort-at .result) (c₃ .sort-at2 .result) (c₂ .sort-at3 .result)
-    (sort-known n d t q (s .pre .asked) 0 (q .list) (omega (arith, s .pre .count)) (omega arith) (c₄ .sort-at .result) (c₄ .sort-at .ensures))
-    (sort-known n d t q (s .pre .asked) 1 (q .list + 2) (omega (arith, s .pre .count)) (omega arith) (c₃ .sort-at2 .result) (c₃ .sort-at2 .ensures))
-    (sort-known n d t q (s .pre .asked) 2 (q .list + 4) (omega (arith, s .pre .count)) (omega arith) (c₂ .sort-at3 .result) (c₂ .sort-at3 .ensures))
+    (sort-known n d t q (s .pre .asked) 0 (q .«list_at») (omega (arith, s .pre .count)) (omega arith) (c₄ .sort-at .result) (c₄ .sort-at .ensures))
+    (sort-known n d t q (s .pre .asked) 1 (q .«list_at» + 2) (omega (arith, s .pre .count)) (omega arith) (c₃ .sort-at2 .result) (c₃ .sort-at2 .ensures))
+    (sort-known n d t q (s .pre .asked) 2 (q .«list_at» + 4) (omega (arith, s .pre .count)) (omega arith) (c₂ .sort-at3 .result) (c₂ .sort-at3 .ensures))
 
 unlist-names-requires : tie.Need-unlist-names-requires
 unlist-names-requires c κs =
