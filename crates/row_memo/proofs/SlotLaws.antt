@@ -16,6 +16,8 @@ use Rattle.record.specs.Append.{written-before, written-in, written-after, leng
 use Rattle.record.specs.Codec.{u16-read}
 use Rattle.record.specs.Cases.{byTest}
 use Rattle.row_answer.specs.Arguments.{putAt, put-long}
+use Rattle.row_memo.specs.declared.slots.Recall.{Recall}
+use Rattle.row_memo.specs.declared.slots.Recall.the-variants.{Code}
 use Rattle.row_memo.specs.declared.slots.Look.{Look}
 use Rattle.row_memo.specs.declared.slots.Look.the-variants.{Open}
 use Rattle.row_memo.specs.Past.{codeEnd, noRoom, KeyAsks, Tells, LackAsks, LackIs, slotSize, columnOf, slotNumber, slotOf, codeAt, PastSays, PastSlotAt, PastSlotAsks, RecalledIs, OpenedIs, SlotNoteAsks, SlotNotedIs}
@@ -48,21 +50,23 @@ part-long l x k o = length-take-le k (drop x l) (omega (arith, length-drop x l))
 
 -- WHAT IS RECALLED: a slot with as many terms and their numbers.
 pub recalled-is : {ws a : List ℕ} {n at v : ℕ} → PastSlotAsks ws at a n → getD ws at 0 ≡ n → take (2 * n) (drop (at + 4) ws) ≡ take (2 * n) (drop 3 a) → v ≡ codeAt ws at → v < codeEnd
-    → RecalledIs ws at a n (v + 1)
+    → RecalledIs ws at a n (Code v)
 recalled-is {ws} {a} {n} {at} {v} h en key ev small =
     let same : (y : ℕ) → y < 2 * n → getD a (3 + y) 0 ≡ getD ws (at + 4 + y) 0 =
-    λ y o. sym (part-at a 3 (2 * n) y o) ∙ ap (λ (l : List ℕ). getD l y 0) (sym key) ∙ part-at ws (at + 4) (2 * n) y o in
-    record {
-      said = λ slot c ei e.
+    λ y o. sym (part-at a 3 (2 * n) y o) ∙ ap (λ (l : List ℕ). getD l y 0) (sym key) ∙ part-at ws (at + 4) (2 * n) y o in (
+      small,
+      λ slot ei.
           let count : getD ws (slot * slotSize) 0 ≡ n = subst (λ (x : ℕ). getD ws x 0 ≡ n) ei en in
           record {
             full = λ z. absurd (omega (arith, count, z, h .key .some));
             few = omega (arith, count, h .key .few);
             terms = numbers-same a ws 3 (at + 4) n same ∙ ap₂ (λ (x m : ℕ). numbersAt ws (x + 4) m) ei (sym count);
-            code = (let z : c ≡ v = omega (arith, e) in z) ∙ ev ∙ ap (codeAt ws) ei;
-          };
-      small = omega arith;
-    }
+            code = ev ∙ ap (codeAt ws) ei;
+          },
+    )
+
+pub recalled-said : (ws a : List ℕ) (at n : ℕ) {c : ℕ} (q : Recall) → RecalledIs ws at a n q → q ≡ Code c → (slot : ℕ) → at ≡ slot * slotSize → PastSays ws slot (numbersAt a 3 n) c
+recalled-said ws a at n q i e = (subst (RecalledIs ws at a n) e i) .1
 
 -- The slots of a column.
 pub slot-column : (column : ℕ) (a : List ℕ) (n : ℕ) → columnOf (slotNumber column a n) ≡ column

@@ -23,6 +23,8 @@ use Rattle.check_rules.specs.Ranks.{smtLib}
 use Rattle.check_rules.specs.Checked.{checked, checkedApp}
 use Rattle.row_answer.specs.declared.Answer.{Answer}
 use Rattle.row_parts.specs.Site.{TermAsks, TermIs}
+use Rattle.row_memo.specs.declared.slots.Recall.{Recall}
+use Rattle.row_memo.specs.declared.slots.Recall.the-variants.{Code, Unnoted}
 use Rattle.row_memo.specs.declared.slots.Look.{Look}
 use Rattle.row_memo.specs.declared.slots.Look.the-variants.{Apart, Noted, Open}
 
@@ -116,10 +118,10 @@ pub record PastSlotAsks (ws : List ℕ) (at : ℕ) (a : List ℕ) (n : ℕ) : Ty
   pub key : KeyAsks a n
   pub here : PastSlotAt ws at
 
--- One more than a code that the slot at a place says, or 0.
-pub record RecalledIs (ws : List ℕ) (at : ℕ) (a : List ℕ) (n r : ℕ) : Type 0 where
-  pub said : (slot c : ℕ) → at ≡ slot * slotSize → r ≡ suc c → PastSays ws slot (numbersAt a 3 n) c
-  pub small : r ≤ codeEnd
+-- What is recalled of the slot at a place is said there.
+abbrev pub RecalledIs : List ℕ → ℕ → List ℕ → ℕ → Recall → Type 0
+RecalledIs ws at a n (Code c) = (c < codeEnd) × ((slot : ℕ) → at ≡ slot * slotSize → PastSays ws slot (numbersAt a 3 n) c)
+RecalledIs ws at a n Unnoted = Unit {0}
 
 -- A slot of ws that has the numbers key of n terms.
 pub record OpenAt (ws : List ℕ) (at n : ℕ) (key : List ℕ) : Type 0 where

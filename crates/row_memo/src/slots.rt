@@ -36,6 +36,14 @@ pub enum Look {
     Open(usize),
 }
 
+// What a slot has of an App.
+pub enum Recall {
+    // The code of its row.
+    Code(usize),
+    // Nothing: the slot is empty, or has another App.
+    Unnoted,
+}
+
 // Where the slot of an App of these `n` terms stands in a column: by its head, its first and its last argument.
 pub fn slot_of(args: &[u8], n: usize, column: usize) -> usize
     requires { ⌜ SeekAsks (now args) n column ⌝ }
@@ -47,21 +55,22 @@ pub fn slot_of(args: &[u8], n: usize, column: usize) -> usize
     (column * SLOTS + (head * 31 + first * 6 + last) % SLOTS) * SLOT
 }
 
-// One more than the code in the slot at `at`, where that has noted the `n` terms whose numbers are in `args` from byte 3 on; else 0.
-pub fn recalled(past: &[u8], at: usize, args: &[u8], n: usize) -> usize
+// The code in the slot at `at`, where that has noted the `n` terms whose numbers are in `args` from byte 3 on; else Unnoted.
+pub fn recalled(past: &[u8], at: usize, args: &[u8], n: usize) -> Recall
     requires { ⌜ PastSlotAsks (now past) at (now args) n ⌝ }
     ensures { λ r. ⌜ RecalledIs (now (past .entry)) at (now (args .entry)) n r ⌝ }
 {
     if past[at] as usize != n {
-        return 0;
+        return Recall::Unnoted;
     }
     let from = at + 4;
     let to = from + 2 * n;
     let end = FIRST_AT + 2 * n;
     if same(&past[from..to], &args[FIRST_AT..end]) {
-        return past[at + 3] as usize * REFUSED + u16_at(past, at + 1) + 1;
+        let row = past[at + 3] as usize * REFUSED + u16_at(past, at + 1);
+        return Recall::Code(row);
     }
-    0
+    Recall::Unnoted
 }
 
 // Empties the slot at `at` and writes the numbers of the `n` terms there, which are in `args` from byte 3 on.
@@ -85,8 +94,8 @@ pub fn seek(past: &mut [u8], args: &[u8], n: usize, column: usize) -> Look
         return Look::Apart;
     }
     let known = recalled(past, at, args, n);
-    if 0 < known {
-        return Look::Noted(known - 1);
+    if let Recall::Code(row) = known {
+        return Look::Noted(row);
     }
     opened(past, at, args, n);
     Look::Open(at)
@@ -102,8 +111,10 @@ pub fn noted_full(past: &[u8], args: &[u8], n: usize) -> bool
         return false;
     }
     let known = recalled(past, at, args, n);
-    let full = code(RowVerdict::Refused(Cause::Full)) as usize;
-    known == full + 1
+    match known {
+        Recall::Code(row) => row == code(RowVerdict::Refused(Cause::Full)) as usize,
+        Recall::Unnoted => false,
+    }
 }
 
 // The same of an App for which the look-up left a slot; no for any other record.

@@ -1,5 +1,5 @@
 -- A code is recalled only from a slot with as many terms and the same bytes.
--- The law on such a slot is the promise; where 0 is returned, nothing is said.
+-- The law on such a slot is the promise; where there is no note, nothing is said.
 use native.Mathlib.Omega.{arith}
 use borrow.Author.Needs.{needs}
 use Prim.Native.Nat.{ℕ, _+_, _*_}
@@ -14,19 +14,16 @@ cast-if1 : tie.Need-cast-if1
 cast-if1 c = omega (arith, c .shared-slice-known3 .given (c .before .before .before .args .at))
 
 returns : tie.Need-returns
-returns c = record { said = λ slot c ei e. absurd (omega (arith, e)); small = omega arith }
+returns c = tt
 
-cast-result : tie.Need-cast-result
-cast-result c = omega (arith, c .shared-slice-known4 .given (c .before .before .before .before .before .before .before .before .before .args .at + 3))
+cast-row : tie.Need-cast-row
+cast-row c = omega (arith, c .shared-slice-known4 .given (c .before .before .before .before .before .before .before .before .before .args .at + 3))
 
-mul-result : tie.Need-mul-result
-mul-result c = omega (arith, c .shared-slice-known4 .given (c .before .before .before .before .before .before .before .before .before .args .at + 3))
+mul-row : tie.Need-mul-row
+mul-row c = omega (arith, c .shared-slice-known4 .given (c .before .before .before .before .before .before .before .before .before .args .at + 3))
 
-add-result-2 : tie.Need-add-result-2
-add-result-2 c = omega (arith, c .before .shared-slice-known4 .given (c .before .before .before .before .before .before .before .before .before .before .args .at + 3), c .u16-at .ensures .1)
-
-add-result-3 : tie.Need-add-result-3
-add-result-3 c = omega (arith, c .before .shared-slice-known4 .given (c .before .before .before .before .before .before .before .before .before .before .args .at + 3), c .u16-at .ensures .1)
+add-row-2 : tie.Need-add-row-2
+add-row-2 c = omega (arith, c .before .shared-slice-known4 .given (c .before .before .before .before .before .before .before .before .before .before .args .at + 3), c .u16-at .ensures .1)
 
 returns-2 : tie.Need-returns-2
 returns-2 c =
@@ -36,9 +33,9 @@ returns-2 c =
     recalled-is (s .pre) (c .before .before .before .before .before .before .if1 .left) key (ap (λ (x : ℕ). getD (a .past .now) (a .at + 3) 0 * 65536 + x) (c .u16-at .ensures .0)) (omega (arith, c .before .shared-slice-known4 .given (c .before .before .before .before .before .before .before .before .before .before .args .at + 3), c .u16-at .ensures .1))
 
 returns-3 : tie.Need-returns-3
-returns-3 c = record { said = λ slot c ei e. absurd (omega (arith, e)); small = omega arith }
+returns-3 c = tt
 
 pub recalled-spec : {M : Type 1} → statement M
 recalled-spec =
-    tie.close (tie.spec (λ c. search needs) cast-if1 returns (λ c. search needs) (λ c. search needs) (λ c. search needs) (λ c. search needs) (λ c. search needs) (λ c. search needs) (λ c. search needs) (λ c. search needs) (λ c. search needs) (λ c. search needs) (λ c. search needs) (λ c κs. search needs) (λ c. search needs) (λ c. search needs) cast-result mul-result
-    (λ c. search needs) (λ c κs. search needs) add-result-2 add-result-3 returns-2 returns-3)
+    tie.close (tie.spec (λ c. search needs) cast-if1 returns (λ c. search needs) (λ c. search needs) (λ c. search needs) (λ c. search needs) (λ c. search needs) (λ c. search needs) (λ c. search needs) (λ c. search needs) (λ c. search needs) (λ c. search needs) (λ c. search needs) (λ c κs. search needs) (λ c. search needs) (λ c. search needs) cast-row mul-row
+    (λ c. search needs) (λ c κs. search needs) add-row-2 returns-2 returns-3)
