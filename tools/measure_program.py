@@ -126,6 +126,13 @@ def unlike():
     return sheet(sorts, terms + [APP(0, 1 + i % 62, 1 + i // 62) for i in range(62 * 62)])
 
 
+def own():
+    """Such Apps whose first parameter is bound to its own variable, so that the checked row makes its answer too."""
+    sorts = chain(3, 2046)
+    terms = [TVAR(1, len(sorts) - 1), TVAR(9, 1)] + [BITS(1000 + i) for i in range(61)]
+    return sheet(sorts, terms + [APP(0, 1, 2 + i % 61, 2 + i // 61) for i in range(61 * 61)])
+
+
 def equal():
     """Apps as in `unlike`, of 63 heads and 63 arguments: each makes 1,600 Pars over Int of one hash, that of 60 which stand on the sheet."""
     found = equal_hashes(2047)[:1660]
@@ -250,7 +257,7 @@ def measure(program, data, runs):
 
 
 CASES = [(mixed, 256), (mixed, 4096), (deep, 256), (deep, 4096), (wide, 4096), (long, 256)]
-WORST = [turns_and_questions, turns, unlike, equal, too_large, binders, matches, variables, unassigned, misfit, names, again, read]
+WORST = [own, turns_and_questions, turns, unlike, equal, too_large, binders, matches, variables, unassigned, misfit, names, again, read]
 
 
 def write(folder):
