@@ -11,8 +11,8 @@ use Rattle.substitution.specs.Matching.{matches, matchesAll}
 use Rattle.substitution.specs.Compatible.{compatible, compatibleAll}
 use Rattle.matching.specs.Contract.{sortsAt, PairAsks, PairsAsk}
 use Rattle.matching.specs.Notes.{Pairs, MatchedAt}
-use Rattle.matching.specs.declared.compatible.Fit.{Fit}
-use Rattle.matching.specs.declared.compatible.Fit.the-variants.{Holds, Fails, On, Parts}
+use Rattle.matching.specs.declared.compatible.Compared.{Compared}
+use Rattle.matching.specs.declared.compatible.Compared.the-variants.{Holds, Fails, On, Parts}
 use Rattle.matching.specs.declared.plain.Step.{Step}
 use Rattle.matching.specs.declared.plain.Step.the-variants.{Holds as Stays, Fails as Stops, Meets, Parts as Parted}
 
@@ -31,7 +31,7 @@ pub record FitParts (b p : List ℕ) (n k j x y c : ℕ) : Type 0 where
   pub whole : compatibleAll (sortsAt b p n b x c) (sortsAt b p n b y c) ≡ compatible (sortAt b p n k) (sortAt b p n j)
 
 -- WHAT IS TO BE DONE GIVES THE WHOLE.
-abbrev pub CompatibleIs : List ℕ → List ℕ → ℕ → ℕ → ℕ → Fit → Type 0
+abbrev pub CompatibleIs : List ℕ → List ℕ → ℕ → ℕ → ℕ → Compared → Type 0
 CompatibleIs b p n k j Holds = true ≡ compatible (sortAt b p n k) (sortAt b p n j)
 CompatibleIs b p n k j Fails = false ≡ compatible (sortAt b p n k) (sortAt b p n j)
 CompatibleIs b p n k j (On i l) = FitOn b p n k j i l

@@ -27,7 +27,7 @@ use Rattle.matching.specs.Tables.{Blank}
 use Rattle.row_rules.specs.Outcome.{CodedStore}
 use Rattle.judge_rules.specs.Questions.{answerOf, AnswersSoFar, answerAdded, answersOf}
 use Rattle.questions.specs.declared.Word.{Word}
-use Rattle.questions.specs.declared.all.Counts.{Counts}
+use Rattle.store.specs.declared.Counts.{Counts}
 use Rattle.questions.specs.Contract.{questionOver, QuestionAsks, QuestionIs}
 
 pub record AtAsks (b p ix : List ℕ) (n u : ℕ) (prm imgs bnd s tbl : List ℕ) (m x : ℕ) : Type 0 where

@@ -3,13 +3,8 @@ use super::Word;
 use super::answer_question;
 use reader::Cursor;
 use reader::ReadQuestion;
+use store::Counts;
 ghost use Rattle.questions.specs.All.{AtAsks, AtIs, AllAsks, AllIs};
-
-// The store's count and bytes in use.
-pub struct Counts {
-    pub count: usize,
-    pub used: usize,
-}
 
 // The answer to the question whose record stands at `at`. Where none is read, which what is asked rules out, 0.
 pub fn answer_at(

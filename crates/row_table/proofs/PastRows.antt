@@ -11,7 +11,7 @@ use Rattle.check_rules.specs.Checked.{checked}
 use Rattle.row_answer.specs.declared.Answer.{Answer}
 use Rattle.row_parts.specs.Site.{TermIs}
 use Rattle.row_memo.specs.Past.{columnVerdict, PastOf, PastAsks, PastIs}
-use Rattle.questions.specs.declared.all.Counts.{Counts}
+use Rattle.store.specs.declared.Counts.{Counts}
 use Rattle.row_table.specs.Table.{BothAsk, BothAre}
 use Rattle.row_table.proofs.TableLaws.{first-asks, second-asks, both-are}
 

@@ -50,7 +50,7 @@ use Rattle.row_parts.specs.SiteLaws.{verdict-at}
 use Rattle.row_parts.specs.LentLaws.{row-lent}
 use Rattle.judge_rules.specs.Rows.{RowsSoFar, rowOf, rowsAdded, checkedAfter, bothRows, rowsOf}
 use Rattle.questions.specs.All.{trees-starts}
-use Rattle.questions.specs.declared.all.Counts.{Counts}
+use Rattle.store.specs.declared.Counts.{Counts}
 use Rattle.row_table.specs.Table.{tabled, RowsKnown, BothAsk, BothAre, TurnAsks, TermRowsAre, RowsAsk, RowsAre}
 
 ---------------------------------------------------------------- rows that are read

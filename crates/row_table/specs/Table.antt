@@ -16,7 +16,7 @@ use Rattle.check_rules.specs.Ranks.{smtLib}
 use Rattle.row_answer.specs.Lent.{Lent}
 use Rattle.row_parts.specs.Site.{Standing}
 use Rattle.judge_rules.specs.Rows.{RowsSoFar, bothRows, rowsOf}
-use Rattle.questions.specs.declared.all.Counts.{Counts}
+use Rattle.store.specs.declared.Counts.{Counts}
 
 -- A store and the coded rows so far.
 abbrev pub tabled : List Sort → List ℕ → RowsSoFar

@@ -1,5 +1,4 @@
 // The rows: each term in order gets its inferred row, then its checked row, both over one store.
-use questions::all::Counts;
 use reader::Cursor;
 use reader::ReadTerm;
 use reader::TermRecord;
@@ -11,11 +10,12 @@ use row_memo::checked_row;
 use row_memo::inferred_row;
 use row_memo::slots::TABLE;
 use sheet::SheetCounts;
+use store::Counts;
 ghost use Rattle.row_memo.specs.Past.{PastOf};
 ghost use Rattle.row_table.specs.Table.{BothAsk, BothAre, TurnAsks, TermRowsAre, RowsAsk, RowsAre};
 
 // A term by its number, and the store's count and bytes in use before its rows; these two apart, as in `Task`.
-pub struct Turn {
+pub struct TermTurn {
     pub count: usize,
     pub t: usize,
     pub used: usize,
@@ -27,7 +27,7 @@ pub fn rows_of(
     records: &mut [u8],
     places: &mut [u32],
     index: &mut [u16],
-    turn: Turn,
+    turn: TermTurn,
     params: &mut [u16],
     images: &mut [u16],
     bound: &mut [u16],
@@ -98,7 +98,7 @@ pub fn term_rows(
     records: &mut [u8],
     places: &mut [u32],
     index: &mut [u16],
-    turn: Turn,
+    turn: TermTurn,
     params: &mut [u16],
     images: &mut [u16],
     bound: &mut [u16],
@@ -164,7 +164,7 @@ pub fn rows_past(
     let mut u = counts.used;
     let mut t = 0;
     while t < terms {
-        let turn = Turn {
+        let turn = TermTurn {
             t,
             count: n,
             used: u,

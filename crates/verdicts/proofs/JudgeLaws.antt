@@ -27,7 +27,7 @@ use Rattle.judge_rules.specs.Questions.{AnswersSoFar, answersOf}
 use Rattle.judge_rules.specs.QuestionLaws.{answers-count}
 use Rattle.judge_rules.specs.Judged.{Judgement, sheetRefused, accepted, judgedSheet, judgedBy, judged, recordsAfter, placesAfter, rowsAfter, answersAfter}
 use Rattle.questions.specs.All.{AllAsks, AllIs, stands-asks, trees-starts, answering-start, answering-end}
-use Rattle.questions.specs.declared.all.Counts.{Counts}
+use Rattle.store.specs.declared.Counts.{Counts}
 use Rattle.verdicts.specs.declared.Outcome.{Outcome}
 use Rattle.verdicts.specs.declared.Outcome.the-variants.{Accepted, Refused}
 use Rattle.row_table.specs.Table.{RowsAsk, RowsAre}
