@@ -5,20 +5,20 @@ use mathlib.Core.List.{List}
 use native.Mathlib.Omega.{arith}
 use Rattle.store.specs.Index.{hashOf, secondHash, doubled, hashLast, keyOf, Refilled, bucketOf, restOf}
 
--- After d steps the walk has the bits x at hand, and z are all that are left of the key of r: 12 steps go by the hash, 64 by the second one,
+-- After d steps the walk has the bits x at hand, and z are all that are left of the key of r: 6 steps go by the hash, 64 by the second one,
 -- and the others by the rest of the first.
 pub data Bits (r : List ℕ) (d x z : ℕ) : Type 0 where
-  first : (m : ℕ) → d + suc m ≡ 12 → x < 2 ^ suc m → z ≡ x + doubled (suc m) (secondHash r + doubled 64 (hashLast (hashOf r))) → Bits r d x z
-  middle : (m : ℕ) → 12 ≤ d → d + suc m ≡ 76 → x < 2 ^ suc m → z ≡ x + doubled (suc m) (hashLast (hashOf r)) → Bits r d x z
-  behind : 76 ≤ d → z ≡ x → Bits r d x z
+  first : (m : ℕ) → d + suc m ≡ 6 → x < 2 ^ suc m → z ≡ x + doubled (suc m) (secondHash r + doubled 64 (hashLast (hashOf r))) → Bits r d x z
+  middle : (m : ℕ) → 6 ≤ d → d + suc m ≡ 70 → x < 2 ^ suc m → z ≡ x + doubled (suc m) (hashLast (hashOf r)) → Bits r d x z
+  behind : 70 ≤ d → z ≡ x → Bits r d x z
 
 pub key-bucket : (r : List ℕ) {h : ℕ} → h ≡ hashOf r → h % 1024 ≡ bucketOf (keyOf r)
 unfolding keyOf
 key-bucket r {h} e = omega (arith, e)
 
-pub key-start : (r : List ℕ) {h : ℕ} → h ≡ hashOf r → Bits r 0 (h / 1024 % 4096) (restOf (keyOf r))
+pub key-start : (r : List ℕ) {h : ℕ} → h ≡ hashOf r → Bits r 0 (h / 1024 % 64) (restOf (keyOf r))
 unfolding keyOf
-key-start r {h} e = first 11 refl (omega arith) (omega (arith, e))
+key-start r {h} e = first 5 refl (omega arith) (omega (arith, e))
 
 -- One step in a part of the key with v above it, and the last one.
 part-bit : (m x z v : ℕ) → z ≡ x + doubled (suc m) v → x % 2 ≡ z % 2
