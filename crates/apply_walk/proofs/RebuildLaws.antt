@@ -1,6 +1,6 @@
 -- Laws of a sort rebuilt from its parts, which the store has: a Par without names left is its body, any other is made.
 use Prim.Native.Nat.{ℕ, _<_}
-use mathlib.Core.Path.{_≡_, sym, ap, ap₂, subst, _∙_}
+use mathlib.Core.Path.{_≡_, refl, sym, ap, ap₂, subst, _∙_}
 use mathlib.Core.Bool.{Bool, true, false}
 use mathlib.Core.List.{List, [], _∷_}
 use native.Mathlib.Omega.{arith}
@@ -22,7 +22,7 @@ use Rattle.store.specs.Entry.{EntryIs}
 use Rattle.store.specs.declared.Interned.{Interned}
 use Rattle.substitution.specs.Substitution.{applyAll}
 use Rattle.substitution.specs.SubstitutionLaws.{count-applied}
-use Rattle.apply_walk.specs.Lists.{Numbers, numbersOf, unbound, Has, SameAsks}
+use Rattle.apply_walk.specs.Lists.{Numbers, numbersOf, held, unbound, Has, SameAsks}
 use Rattle.apply_walk.specs.Draft.{fieldsIn}
 use Rattle.apply_walk.specs.Images.{imagesOf, unbound-left}
 use Rattle.apply_walk.specs.Made.{Made, MadeIs, FieldsMakeAsks, kept-self, made-known-sort}
@@ -137,3 +137,28 @@ module _ {b p ix : List ℕ} {n u k : ℕ} {parts : Numbers} {l : List ℕ} (a :
         → MadeIs b p ix n u (sortOf (storeOf b p n) (fieldsIn (r .kind) (r .name) (r .number) parts o)) b′ p′ ix′ i
         → MadeIs b p ix n u (answerAt b p n l k) b′ p′ ix′ i
     rebuild-made b′ p′ ix′ i m = subst (λ (s : Sort). MadeIs b p ix n u s b′ p′ ix′ i) rebuild-is m
+
+-- A SORT WITHOUT NAMES has none left, whichever list they would stand in, and its wrapper stays.
+module _ {b p ix : List ℕ} {n u k : ℕ} {parts : Numbers} {l : List ℕ} (a : RebuildAsks b p ix n u k parts l) {r : SortRecord} (e : EntryIs b p n k r) (z : r .named ≡ 0) where
+  pub nameless-left : Has (held (parts .list) 0) (unbound l (numbersAt b (r .names) (r .named)))
+  unfolding numbersAt unbound
+  nameless-left =
+      record {
+        long = a .has .long;
+        few = omega arith;
+        is = sym (ap (λ (m : ℕ). unbound l (numbersAt b (r .names) m)) z);
+      }
+
+  pub nameless-stays : goes (r .kind) 0 ≡ false
+  nameless-stays = go (goes (r .kind) 0) refl
+    where
+      go : (t : Bool) → goes (r .kind) 0 ≡ t → goes (r .kind) 0 ≡ false
+      go true g =
+          absurd
+          (omega (
+            arith,
+            entry-shape (a .ready .good .stored) (a .ready .table) (a .known) e .some (goes-par (r .kind) 0 g .0),
+            length-numbersAt b (r .names) (r .named),
+            z,
+          ))
+      go false g = g

@@ -161,7 +161,7 @@ pub fn applied_sizes(
 
 // The sort `k` replaced, from the `many` numbers of its parts replaced: `k` itself where these and the names are its own; `NoRoom`,
 // with all as it was, where the store with it would be too long.
-pub fn rebuild(
+pub fn rebuild_named(
     records: &mut [u8],
     places: &mut [u32],
     index: &mut [u16],
@@ -203,8 +203,46 @@ pub fn rebuild(
     )
 }
 
+// The same; a sort without names stays without, so that none are written down.
+pub fn rebuild(
+    records: &mut [u8],
+    places: &mut [u32],
+    index: &mut [u16],
+    count: usize,
+    used: usize,
+    k: usize,
+    parts: &[u16],
+    many: usize,
+    images: &[u16],
+) -> Interned
+    requires { ⌜ RebuildAsks (now records) (now places) (now index) count used k (held (now parts) many) (now images) ⌝ }
+    ensures { λ r. ⌜ MadeIs (now (records .entry)) (now (places .entry)) (now (index .entry)) count used (answerAt (now (records .entry)) (now (places .entry)) count (now (images .entry)) k) (now (records .exit)) (now (places .exit)) (now (index .exit)) r ⌝ }
+{
+    let e = entry(records, places, k);
+    if e.named != 0 {
+        return rebuild_named(records, places, index, count, used, k, parts, many, images);
+    }
+    if same_numbers(records, e.list, parts, many) {
+        return Interned::Is(k, count, used);
+    }
+    make_fields(
+        records,
+        places,
+        index,
+        count,
+        used,
+        e.kind,
+        e.name,
+        e.number,
+        parts,
+        many,
+        parts,
+        0,
+    )
+}
+
 // The number of the sort `k` replaced, in the store with its sorts added, parts first from left to right; `Stuck` where
-// that store would be too long. From the table `known`, which keeps the numbers of answers for sorts with parts.
+// that store would be too long. From the table `known`, which keeps the number of the answer afterwards.
 pub fn apply_sort(
     records: &mut [u8],
     places: &mut [u32],
@@ -225,9 +263,11 @@ pub fn apply_sort(
     let e = entry(records, places, k);
     if e.kind == SORT_VAR {
         let i = image_of(images, e.name, k);
+        remember(known, k, i + 1);
         return Replaced::Is(i, count, used);
     }
     if e.count == 0 {
+        remember(known, k, k + 1);
         return Replaced::Is(k, count, used);
     }
     let mut parts = [0u16; LONGEST_LIST];
@@ -280,6 +320,12 @@ pub fn apply_parts(
     let mut j = 0;
     while j < many {
         let k = parts[j] as usize;
+        let seen = recall(known, k);
+        if seen != 0 {
+            parts[j] = (seen - 1) as u16;
+            j += 1;
+            continue;
+        }
         let made = apply_sort(records, places, index, known, n, u, k, images);
         match made {
             Replaced::Is(i, m, v) => {
