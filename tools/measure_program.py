@@ -127,7 +127,7 @@ def unlike():
 
 
 def own():
-    """Such Apps whose first parameter is bound to its own variable, so that the checked row makes its answer too."""
+    """Such Apps whose first parameter is bound to its own variable, which match_with leaves out: the checked row looks for a Par in what remains."""
     sorts = chain(3, 2046)
     terms = [TVAR(1, len(sorts) - 1), TVAR(9, 1)] + [BITS(1000 + i) for i in range(61)]
     return sheet(sorts, terms + [APP(0, 1, 2 + i % 61, 2 + i // 61) for i in range(61 * 61)])

@@ -39,7 +39,7 @@ settled-tests {st} {prm} {imgs} {f} {θ} t i =
     }
 
 ---------------------------------------------------------------- what remains of a list is settled as its sorts are
-and-last : (t : Bool) → t ≡ (t && true)
+pub and-last : (t : Bool) → t ≡ (t && true)
 and-last true = refl
 and-last false = refl
 

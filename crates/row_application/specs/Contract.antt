@@ -2,19 +2,19 @@
 -- array from byte 3 on, the head first, so that its arguments stand from byte 5 on.
 use Prim.Native.Nat.{ℕ, _+_, _*_, _-_, _≤_, _<_}
 use mathlib.Core.Path.{_≡_}
-use mathlib.Core.Bool.{Bool, true, false, cond, _||_}
+use mathlib.Core.Bool.{Bool, true, false, not, cond, _&&_, _||_}
 use mathlib.Core.List.{List}
 use mathlib.Core.Option.{Option, some}
 use lib.ListN.{length}
 use Rattle.record.specs.Number.{u16At}
-use Rattle.record.specs.Sort.{Sort, var, same, sizes}
+use Rattle.record.specs.Sort.{Sort, Sorts, var, same, sizes}
 use Rattle.record.specs.Decode.{storeOf, sortAt, Zeros}
 use Rattle.store.specs.Good.{Good, Sized}
 use Rattle.sheet.specs.Sheet.{Lengths}
 use Rattle.substitution.specs.Substitution.{Map, empty, bind, apply}
 use Rattle.substitution.specs.Matching.{keep, matchesAll, listedIn}
 use Rattle.substitution.specs.MatchWith.{matchAllWith}
-use Rattle.substitution.specs.Premises.{parless}
+use Rattle.substitution.specs.Premises.{parless, parlessAll}
 use Rattle.matching.specs.Tables.{Told, tableMap, Mapped, Cleared, Blank}
 use Rattle.matching.specs.Contract.{Usable, Refs, sortsAt, OneAsks, ListAsks, PairsAsk}
 use Rattle.matching.specs.Every.{every, passing}
@@ -229,8 +229,9 @@ pub record OwnAsks (b p : List ℕ) (n : ℕ) (l d : List ℕ) (m : ℕ) : Type 
   pub usable : Usable b p n
   pub mapped : Mapped b p n l d m
 
--- THE CALL WHERE THE INFERRED SORT HAS NO ROOM: one whose map binds no name to its own variable fails with Full.
-abbrev pub unmadeOf : Bool → List Sort → List ℕ → List ℕ → Call → Call
-unmadeOf false st l d c = c
-unmadeOf true st l d (Settled c) = cond (owned (tableMap st l d c)) (Settled c) (Fails Full c)
-unmadeOf true st l d (Fails o c) = Fails o c
+-- THE CALL WHERE THE INFERRED SORT HAS NO ROOM: one whose map binds no name to its own variable fails with Full, and so does any where no
+-- Par stands in the sorts ss that remain.
+abbrev pub unmadeOf : Bool → List Sort → List ℕ → List ℕ → Sorts → Call → Call
+unmadeOf false st l d ss c = c
+unmadeOf true st l d ss (Settled c) = cond (owned (tableMap st l d c) && not (parlessAll ss)) (Settled c) (Fails Full c)
+unmadeOf true st l d ss (Fails o c) = Fails o c

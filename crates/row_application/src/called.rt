@@ -141,7 +141,18 @@ pub fn called(
         args,
         n,
     );
-    let call = unmade(records, places, count, images, bound, crowded, found);
+    let at = list + 2 * n;
+    let call = unmade(
+        records,
+        places,
+        count,
+        images,
+        bound,
+        at,
+        m - n,
+        crowded,
+        found,
+    );
     deliver(
         records,
         places,

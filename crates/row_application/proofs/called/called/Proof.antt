@@ -5,7 +5,7 @@ use borrow.Author.Needs.{needs}
 use mathlib.Core.Path.{refl}
 use Rattle.record.specs.Cases.{not-true, not-false}
 use Rattle.row_application.proofs.CalledLaws.{values-ask, called-count, fitted-asks, deliver-asks, app-delivered, plain-asks, called-plain, called-misfit, called-values}
-use Rattle.row_application.proofs.UnmadeLaws.{own-asks, unmade-call, app-unmade}
+use Rattle.row_application.proofs.UnmadeLaws.{own-asks, rest-asks, unmade-call, app-unmade}
 use Rattle.row_application.proofs.called.called.Statement.{statement}
 use Rattle.row_application.proofs.called.called.Tie as tie
 
@@ -33,22 +33,30 @@ fit-arguments-requires c κs =
     let c₁ = c .before .before .before .before .before .before .before .before .before in let c₂ = c₁ .before .before in let c₃ = c₂ .before .before .before .before .before .before .before .before in
     fitted-asks (c₃ .pre .0) (omega (arith, c₂ .if1 .left)) (c₁ .if2 .left)
 
+mul-at : tie.Need-mul-at
+mul-at c =
+    let c₁ = c .before .before .before .before .before .before .before .before .before .before .before .before .before .before .before .before .before .before in let s = c₁ .before .before .before .before .before .before .before .before in omega (arith, s .pre .0 .list .within, c₁ .if1 .left, s .good)
+
+add-at : tie.Need-add-at
+add-at c =
+    let c₁ = c .before .before .before .before .before .before .before .before .before .before .before .before .before .before .before .before .before .before in let s = c₁ .before .before .before .before .before .before .before .before in omega (arith, s .pre .0 .list .within, c₁ .if1 .left, s .good)
+
+sub-unmade : tie.Need-sub-unmade
+sub-unmade c = omega (arith, c .before .before .before .before .before .before .before .before .before .before .before .before .before .before .before .before .before .before .before .before .before .before .if1 .left)
+
 unmade-requires : tie.Need-unmade-requires
 unmade-requires c κs =
-    let c₁ = c .before .before .before .before .before .before .before .before .before .before in let c₂ = c₁ .before .before .before .before .before .before .before .before .before .before .before .before .before .before .before .before .before .before .before .before in
-    own-asks (c₂ .pre .0 .good) (c₁ .fit-arguments .ensures)
+    let c₁ = c .before .before .before .before .before .before .before .before .before .before in let c₂ = c₁ .before .before .before .before .before .before .before .before .before .before .before .before in let s = c₂ .before .before .before .before .before .before .before .before in (own-asks (s .pre .0 .good) (c₁ .fit-arguments .ensures), rest-asks (s .pre .0) (omega (arith, c₂ .if1 .left)))
 
 deliver-requires : tie.Need-deliver-requires
 deliver-requires c κs =
     let c₁ = c .before .before .before .before .before in let c₂ = c₁ .before .before .before .before .before .before .before .before .before .before .before in let c₃ = c₂ .before .before .before .before .before .before .before .before .before .before in let c₄ = c₃ .before .before in
-    let c₅ = c₄ .before .before .before .before .before .before .before .before in
-    let s = c₅ in deliver-asks (s .pre .0) (omega (arith, c₄ .if1 .left)) (c₃ .if2 .left) (unmade-call (c₂ .fit-arguments .ensures) (s .args .crowded) (c₁ .unmade .ensures))
+    let s = c₄ .before .before .before .before .before .before .before .before in deliver-asks (s .pre .0) (omega (arith, c₄ .if1 .left)) (c₃ .if2 .left) (unmade-call (c₂ .fit-arguments .ensures) (s .args .crowded) (c₁ .unmade .ensures))
 
 returns-4 : tie.Need-returns-4
 returns-4 c =
     let c₁ = c .before .before .before .before .before .before .before .before .before .before in let c₂ = c₁ .before .before .before .before .before .before in let c₃ = c₂ .before .before .before .before .before .before .before .before .before .before .before in let c₄ = c₃ .before .before .before .before .before .before in
-    let c₅ = c₄ .before in let c₆ = c₅ .before .before .before in let c₇ = c₆ .before .before in let c₈ = c₇ .before .before .before .before .before .before .before .before in
-    let s = c₈ in
+    let c₅ = c₄ .before in let c₆ = c₅ .before .before .before in let c₇ = c₆ .before .before in let s = c₇ .before .before .before .before .before .before .before .before in
     let v = c₅ .all-values in
     let g = c₃ .fit-arguments .ensures in
     let t = s .args .crowded in
@@ -57,5 +65,5 @@ returns-4 c =
     (app-delivered (s .pre .0) (omega (arith, l)) (c₆ .if2 .left) (unmade-call g t (c₂ .unmade .ensures)) refl (c₁ .deliver .ensures))
 
 pub called-spec : {M : Type 1} → statement M
-called-spec = tie.close (tie.spec (λ c κs. search needs) returns checked-plain-requires (λ c. search needs) (λ c. search needs) (λ c. search needs) returns-2 all-values-requires (λ c κs. search needs) (λ c. search needs) (λ c. search needs) returns-3 fit-arguments-requires unmade-requires deliver-requires (λ c. search needs) (λ c. search needs) (λ c. search needs) (λ c. search needs)
-    (λ c. search needs) (λ c. search needs) returns-4)
+called-spec = tie.close (tie.spec (λ c κs. search needs) returns checked-plain-requires (λ c. search needs) (λ c. search needs) (λ c. search needs) returns-2 all-values-requires (λ c κs. search needs) (λ c. search needs) (λ c. search needs) returns-3 fit-arguments-requires mul-at add-at sub-unmade unmade-requires deliver-requires (λ c. search needs) (λ c. search needs)
+    (λ c. search needs) (λ c. search needs) (λ c. search needs) (λ c. search needs) returns-4)
