@@ -3,14 +3,20 @@
 //! - [`make`]: random sheets whose terms mostly fit and whose patterns mostly match, and damaged copies of sheets;
 //! - [`random`]: the numbers behind them;
 //! - [`record`]: random sheets written with what they must give;
-//! - [`guarded`]: small sheets with guards round the buffers.
+//! - [`guarded`]: small sheets with guards round the buffers;
+//! - [`explained`], [`mend`], [`case`]: explanations of refused rows, held to the rows and followed;
+//! - [`batched`]: a batch over small sheets beside one sheet that has all the terms.
 //!
 //! [`Trial::sheet`] compares on one sheet. With the program's buffers and with others, short ones among them, the library's number and its
 //! four buffers, which come dirty, must be the model's over their whole length. Of an accepted sheet the inferred rows and the answers must
 //! be carcara's. The library's text of every sheet must be the model's printout, whole and in pieces.
 
+pub mod batched;
+pub mod case;
+pub mod explained;
 pub mod guarded;
 pub mod make;
+pub mod mend;
 pub mod random;
 pub mod record;
 

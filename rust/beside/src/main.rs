@@ -4,7 +4,9 @@
 //!   so many other lent lengths (4, if not said);
 //! - `beside sweep` on the sheets of `compare sweep`;
 //! - `beside sheet HEX` on one sheet; prints what the library says to it;
-//! - `beside guarded SHEETS SEED` on so many small sheets, with guards round the buffers, with the model alone; for a memory checker.
+//! - `beside batch SHEETS SEED` on so many random sheets: a batch over small sheets beside the whole sheet;
+//! - `beside guarded SHEETS SEED` on so many small sheets, with guards round the buffers, with the model alone; for a memory checker;
+//! - `beside explain SHEETS SEED` holds the explanations of all refused rows of so many random sheets to the rows, and follows them.
 //!
 //! - `beside record SHEETS SEED FILE LENT LENT_FILE` compares nothing: it writes so many random sheets with their printouts to a file, and so
 //!   many with lent lengths and the buffers at exit to another, both by the model and, where carcara has a say, by carcara.
@@ -14,13 +16,16 @@
 //!
 //! The first difference ends a run, with the sheet in hexadecimal.
 
+use beside::batched::Batched;
+use beside::explained::Explained;
 use beside::random::Random;
 use beside::{Difference, Trial, make};
 use std::process::ExitCode;
 
 /// How the program is called.
 const USAGE: &str = "\
-beside random SHEETS SEED [OTHERS] | beside sweep | beside sheet HEX | beside guarded SHEETS SEED
+beside random SHEETS SEED [OTHERS] | beside sweep | beside sheet HEX | beside batch SHEETS SEED
+beside guarded SHEETS SEED | beside explain SHEETS SEED
 beside record SHEETS SEED FILE LENT LENT_FILE | beside repeats SHEETS SEED";
 
 fn main() -> ExitCode {
@@ -28,8 +33,10 @@ fn main() -> ExitCode {
     let number = |at: usize, other: u64| arguments.get(at).map_or(Some(other), |text| text.parse().ok());
     match arguments.first().map_or("", String::as_str) {
         "record" => return record(&arguments[1..]),
+        "batch" => return batched(&arguments[1..]),
         "guarded" => return guarded(&arguments[1..]),
         "repeats" => return repeats(&arguments[1..]),
+        "explain" => return explain(&arguments[1..]),
         _ => (),
     }
     let mut trial = Trial::default();
@@ -96,6 +103,34 @@ fn repeats(arguments: &[String]) -> ExitCode {
     }
 }
 
+/// Compares a batch over small sheets with the whole sheet, on random sheets of both makers.
+fn batched(arguments: &[String]) -> ExitCode {
+    let number = |at: usize, other: u64| arguments.get(at).and_then(|text| text.parse().ok()).unwrap_or(other);
+    let (sheets, seed) = (number(0, 1_000), number(1, 1));
+    let mut batched = Batched::default();
+    let done = oracle::on_stack(|| {
+        let (mut random, mut source) = (Random::new(seed), compare::random::Source::new(seed));
+        (0..sheets).try_for_each(|at| {
+            let sheet = match at % 2 {
+                0 => random_sheet(&mut random, at / 2),
+                _ => compare::random::sheet(&mut source),
+            };
+            batched.sheet(&sheet, &mut random)
+        })
+    });
+    print!("{}", batched.summary());
+    match done {
+        Ok(()) => {
+            println!("no difference");
+            ExitCode::SUCCESS
+        }
+        Err(difference) => {
+            println!("a difference:\n{difference}");
+            ExitCode::FAILURE
+        }
+    }
+}
+
 /// Compares on small sheets with guards round the buffers.
 fn guarded(arguments: &[String]) -> ExitCode {
     let number = |at: usize, other: u64| arguments.get(at).and_then(|text| text.parse().ok()).unwrap_or(other);
@@ -112,17 +147,42 @@ fn guarded(arguments: &[String]) -> ExitCode {
     }
 }
 
+/// Holds the explanations of random sheets to their rows.
+fn explain(arguments: &[String]) -> ExitCode {
+    let number = |at: usize, other: u64| arguments.get(at).and_then(|text| text.parse().ok()).unwrap_or(other);
+    let mut random = Random::new(number(1, 1));
+    let mut explained = Explained::new(1);
+    let done = oracle::on_stack(|| {
+        for at in 0..number(0, 1_000) {
+            explained.sheet(&random_sheet(&mut random, at))?;
+        }
+        Ok::<(), Difference>(())
+    });
+    print!("{}", explained.summary());
+    match done {
+        Ok(()) => ExitCode::SUCCESS,
+        Err(difference) => {
+            println!("a difference:\n{difference}");
+            ExitCode::FAILURE
+        }
+    }
+}
+
+/// A random sheet: one in 500 fills the store, one in 50 has great sorts, one in 20 applications that were there before.
+fn random_sheet(random: &mut Random, at: u64) -> Vec<u8> {
+    match at % 500 {
+        0 => make::crowded(random),
+        by if by % 50 == 1 => make::large(random),
+        by if by % 20 == 2 => make::repeated(random),
+        _ => make::sheet(random),
+    }
+}
+
 /// Compares on random sheets.
 fn on_random(trial: &mut Trial, sheets: u64, seed: u64, others: usize) -> Result<(), Difference> {
     let mut random = Random::new(seed);
     for at in 0..sheets {
-        // One in 500 sheets fills the store, one in 50 has great sorts, one in 20 applications that were there before.
-        let mut sheet = match at % 500 {
-            0 => make::crowded(&mut random),
-            by if by % 50 == 1 => make::large(&mut random),
-            by if by % 20 == 2 => make::repeated(&mut random),
-            _ => make::sheet(&mut random),
-        };
+        let mut sheet = random_sheet(&mut random, at);
         if at % 500 != 0 && random.percent(33) {
             sheet = make::damaged(&mut random, &sheet);
         }

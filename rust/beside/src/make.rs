@@ -6,7 +6,7 @@
 use crate::random::Random;
 use napsilo::{
     Binder, Name, Operator, ParamOperator, QualifiedOperator, QuestionRecord, SheetWriter, Sort, SortId, SortRecord,
-    TermId, TermRecord, judge,
+    TermId, TermRecord,
 };
 use std::collections::HashMap;
 use std::sync::Arc;
@@ -42,7 +42,7 @@ pub fn sheet(random: &mut Random) -> Vec<u8> {
     for _ in 0..maker.random.under(8) {
         maker.question();
     }
-    maker.sheet.finish()
+    maker.sheet.finish().into_bytes()
 }
 
 /// A sheet that fills the store: its sorts are deep, and its answers are made of many new ones.
@@ -80,7 +80,7 @@ pub fn crowded(random: &mut Random) -> Vec<u8> {
         };
         sheet.add_question(question).expect("under the limits");
     }
-    sheet.finish()
+    sheet.finish().into_bytes()
 }
 
 /// A sheet with sorts of great tree sizes, some of them or of what is made of them past the limit.
@@ -140,7 +140,7 @@ pub fn large(random: &mut Random) -> Vec<u8> {
         };
         sheet.add_question(question).expect("under the limits");
     }
-    sheet.finish()
+    sheet.finish().into_bytes()
 }
 
 /// A sheet of many applications of a few parametric heads to a few arguments, so that most were judged before on the same sheet: heads
@@ -189,7 +189,7 @@ pub fn repeated(random: &mut Random) -> Vec<u8> {
         let head = if random.percent(3) { *random.of(&others) } else { head };
         others.push(sheet.add_term(TermRecord::App(head, &arguments)).expect(FITS));
     }
-    sheet.finish()
+    sheet.finish().into_bytes()
 }
 
 /// A copy of a sheet with something changed.
@@ -217,7 +217,7 @@ pub fn damaged(random: &mut Random, sheet: &[u8]) -> Vec<u8> {
 }
 
 /// A sort with names replaced; a Par binds its own.
-fn replaced(sort: &Arc<Sort>, map: &HashMap<Name, Arc<Sort>>) -> Arc<Sort> {
+pub fn replaced(sort: &Arc<Sort>, map: &HashMap<Name, Arc<Sort>>) -> Arc<Sort> {
     let all = |list: &[Arc<Sort>]| -> Vec<Arc<Sort>> { list.iter().map(|part| replaced(part, map)).collect() };
     Arc::new(match sort.as_ref() {
         Sort::Var(name) => return map.get(name).unwrap_or(sort).clone(),
@@ -423,12 +423,13 @@ impl Maker<'_> {
 
     /// Asks the library for the sorts of the terms so far.
     fn learn(&mut self) {
-        let Ok(judged) = judge(&self.sheet.finish()) else {
+        let Ok(judged) = self.sheet.judge() else {
             return;
         };
         self.by_sort.clear();
         for (id, sort) in &mut self.terms {
-            *sort = judged.checked(*id).or(judged.inferred(*id)).ok();
+            let rows = [judged.checked(*id), judged.inferred(*id)].map(|row| row.expect("the sheet's own term"));
+            *sort = rows.into_iter().find_map(|row| row.as_ref().ok()).cloned();
             if let Some(sort) = sort {
                 self.by_sort.entry(sort.clone()).or_default().push(*id);
             }

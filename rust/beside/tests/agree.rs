@@ -1,5 +1,6 @@
 //! A small trial; the program `beside` makes larger ones. And the wrapper's operators are carcara's.
 
+use beside::batched::Batched;
 use beside::random::Random;
 use beside::{Trial, make};
 use oracle::ast::lists::{BINDERS, INDEXED, OPERATORS, QUALIFIED};
@@ -52,4 +53,22 @@ fn operators_are_carcaras() {
     assert_eq!(INDEXED.len(), 14);
     assert_eq!(shown(napsilo::QualifiedOperator::ALL), shown(&QUALIFIED));
     assert_eq!(named(napsilo::Binder::ALL), named(&BINDERS));
+}
+
+#[test]
+fn batches_agree() {
+    let mut batched = Batched::default();
+    let (mut random, mut source) = (Random::new(5), compare::random::Source::new(5));
+    let done = oracle::on_stack(|| {
+        (0..1_000).try_for_each(|_| {
+            batched.sheet(&make::sheet(&mut random), &mut random)?;
+            batched.sheet(&compare::random::sheet(&mut source), &mut random)
+        })
+    });
+    println!("{}", batched.summary());
+    assert_eq!(done, Ok::<(), String>(()));
+    // Several sheets to one, and each cause is met in both rows.
+    assert!(batched.taken > 5 * batched.sheets[0] as u64);
+    assert!([0, 20, 21, 22].iter().all(|number| batched.rows[0][*number] > 0));
+    assert!([0, 20, 22, 24, 25, 26, 27, 28].iter().all(|number| batched.rows[1][*number] > 0));
 }

@@ -110,7 +110,7 @@ fn doubled(period: &[Layer]) -> Result<Vec<u8>, WriteError> {
     sheet.add_term(TermRecord::App(result, &[number]))?;
     sheet.add_question(QuestionRecord::Compatible(half, half))?;
     sheet.add_question(QuestionRecord::Match { pattern: half, target: half, result: half, names: &[second] })?;
-    Ok(sheet.finish())
+    Ok(sheet.finish().into_bytes())
 }
 
 /// A sheet on which a chain of the sheet's own sorts is a declared pattern and is replaced in, in both rows.
@@ -137,7 +137,7 @@ fn declared(period: &[Layer]) -> Result<Vec<u8>, WriteError> {
     sheet.add_term(TermRecord::App(asked, &[replaced]))?;
     sheet.add_question(QuestionRecord::Compatible(deep, deep))?;
     sheet.add_question(QuestionRecord::Match { pattern: deep, target: deep, result: deep, names: &[base.second.0] })?;
-    Ok(sheet.finish())
+    Ok(sheet.finish().into_bytes())
 }
 
 /// Judges and prints the sheet on a thread of the named size: the number, the four buffers and the text.
@@ -151,8 +151,7 @@ fn on_named_stack(sheet: &[u8]) -> (model::Judged, String) {
             rows: vec![0; lent.rows],
             answers: vec![0; lent.answers],
         };
-        let said =
-            judge_into(sheet, &mut judged.records, &mut judged.places, &mut judged.rows, &mut judged.answers);
+        let said = judge_into(sheet, &mut judged.records, &mut judged.places, &mut judged.rows, &mut judged.answers);
         assert!(said.is_ok());
         let mut text = vec![0; 1 << 24];
         let end = print_into(sheet, 0, &mut text);

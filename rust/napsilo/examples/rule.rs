@@ -5,12 +5,12 @@
 //!
 //! Run it with `cargo run --example rule`.
 
-use napsilo::{Judged, Names, Operator, SheetWriter, Sort, SortRecord, TermId, TermRecord, judge, print};
+use napsilo::{ForeignId, Judged, Names, Operator, SheetWriter, Sort, SortRecord, TermId, TermRecord};
 use std::error::Error;
 
 /// May a rule go live? Only a formula that is checked may: its inferred sort alone says too little.
-fn goes_live(judged: &Judged, rule: TermId) -> bool {
-    judged.checked(rule).is_ok_and(|sort| *sort == Sort::Bool)
+fn goes_live(judged: &Judged, rule: TermId) -> Result<bool, ForeignId> {
+    Ok(judged.checked(rule)?.as_deref() == Ok(&Sort::Bool))
 }
 
 fn main() -> Result<(), Box<dyn Error>> {
@@ -28,37 +28,31 @@ fn main() -> Result<(), Box<dyn Error>> {
     // (declare-const current Session)
     // (declare-fun owner (Session) Account)
     // (declare-fun locked (Account) Bool)
-    let current = sheet.add_term(TermRecord::Var(names.name("current")?, session))?;
-    let owner = sheet.add_term(TermRecord::Var(names.name("owner")?, of_session))?;
-    let locked = sheet.add_term(TermRecord::Var(names.name("locked")?, of_account))?;
+    let current = sheet.term(TermRecord::Var(names.name("current")?, session))?;
+    let owner = sheet.term(TermRecord::Var(names.name("owner")?, of_session))?;
+    let locked = sheet.term(TermRecord::Var(names.name("locked")?, of_account))?;
 
     // (=> (locked (owner current)) (locked current))
-    let owned = sheet.add_term(TermRecord::App(owner, &[current]))?;
-    let premise = sheet.add_term(TermRecord::App(locked, &[owned]))?;
-    let mixed_up = sheet.add_term(TermRecord::App(locked, &[current]))?;
-    let wrong = sheet.add_term(TermRecord::Op(Operator::Implies, &[premise, mixed_up]))?;
+    let owned = sheet.term(TermRecord::App(owner, &[current]))?;
+    let premise = sheet.term(TermRecord::App(locked, &[owned]))?;
+    let mixed_up = sheet.term(TermRecord::App(locked, &[current]))?;
+    let wrong = sheet.term(TermRecord::Op(Operator::Implies, &[premise, mixed_up]))?;
 
     // (=> (locked (owner current)) (not (not (locked (owner current)))))
-    let not = sheet.add_term(TermRecord::Op(Operator::Not, &[premise]))?;
-    let not_not = sheet.add_term(TermRecord::Op(Operator::Not, &[not]))?;
-    let right = sheet.add_term(TermRecord::Op(Operator::Implies, &[premise, not_not]))?;
+    let not = sheet.term(TermRecord::Op(Operator::Not, &[premise]))?;
+    let not_not = sheet.term(TermRecord::Op(Operator::Not, &[not]))?;
+    let right = sheet.term(TermRecord::Op(Operator::Implies, &[premise, not_not]))?;
 
-    let sheet = sheet.finish();
-    let judged = judge(&sheet)?;
-    print!("{}", print(&sheet));
+    let judged = sheet.judge()?;
+    print!("{}", judged.with_names(&names));
 
     for (name, rule) in [("mixed up", wrong), ("as it should be", right)] {
-        let inferred = judged.inferred(rule)?;
-        println!("{name}: inferred {}", inferred.with_names(&names));
-        match judged.checked(rule) {
-            Ok(sort) => println!("{name}: checked {}", sort.with_names(&names)),
-            Err(cause) => println!("{name}: refused, {cause}"),
+        match judged.explain(rule)? {
+            Some(explanation) => println!("{name}: refused. {}", explanation.with_names(&names)),
+            None => println!("{name}: checked"),
         }
     }
-    if let Err(cause) = judged.checked(mixed_up) {
-        println!("(locked current): refused, {cause}");
-    }
-    assert!(!goes_live(&judged, wrong));
-    assert!(goes_live(&judged, right));
+    assert!(!goes_live(&judged, wrong)?);
+    assert!(goes_live(&judged, right)?);
     Ok(())
 }

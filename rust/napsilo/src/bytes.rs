@@ -2,20 +2,40 @@
 //!
 //! Nothing is judged here. What does not read is no accepted sheet and no store, and gives `None`.
 
-use crate::{Name, QuestionKind, Sort};
+use crate::{Name, Sort};
 use std::sync::Arc;
 
 /// The bytes that are not read yet.
 struct Bytes<'a>(&'a [u8]);
 
-/// The fields of a record. Those that its bit map does not have are 0 or empty.
-#[derive(Default)]
-struct Record {
-    kind: u8,
-    name: u16,
-    number: u32,
-    list: Vec<u16>,
-    second: Vec<u16>,
+/// The fields of a record of a sheet (docs/FORMAT.md). Those that its bit map does not have are 0 or empty.
+#[derive(Debug, Clone, Default, PartialEq, Eq)]
+pub struct Record {
+    /// The kind.
+    pub kind: u8,
+    /// The name.
+    pub name: u16,
+    /// The number.
+    pub number: u32,
+    /// The number of a sort.
+    pub sort: u16,
+    /// The list.
+    pub list: Vec<u16>,
+    /// The pairs of a name and a sort.
+    pub pairs: Vec<(u16, u16)>,
+    /// The second list.
+    pub second: Vec<u16>,
+}
+
+/// The records of a sheet, part by part.
+#[derive(Debug, Clone, Default, PartialEq, Eq)]
+pub struct Records {
+    /// Those of the sorts.
+    pub sorts: Vec<Record>,
+    /// Those of the terms.
+    pub terms: Vec<Record>,
+    /// Those of the questions.
+    pub questions: Vec<Record>,
 }
 
 impl Bytes<'_> {
@@ -54,16 +74,14 @@ impl Bytes<'_> {
             record.number = self.long()?;
         }
         if map & 8 != 0 {
-            self.short()?;
+            record.sort = self.short()?;
         }
         if map & 16 != 0 {
             record.list = self.list()?;
         }
         if map & 32 != 0 {
             let count = self.byte()?;
-            for _ in 0..count {
-                self.long()?;
-            }
+            record.pairs = (0..count).map(|_| Some((self.short()?, self.short()?))).collect::<Option<_>>()?;
         }
         if map & 64 != 0 {
             record.second = self.list()?;
@@ -72,23 +90,22 @@ impl Bytes<'_> {
     }
 }
 
-/// What is needed of an accepted sheet to read its rows and answers.
-pub struct Outline {
-    /// The count of the terms.
-    pub terms: usize,
-    /// The kind of each question.
-    pub questions: Vec<QuestionKind>,
+/// The records of a sheet, read by their bit maps; nothing if they are not all there. Nothing else is looked at, so a sheet that reads may be
+/// refused all the same.
+pub fn records(sheet: &[u8]) -> Option<Records> {
+    let mut bytes = Bytes(sheet);
+    let counts = [bytes.short()?, bytes.short()?, bytes.short()?];
+    let mut part = |count: u16| (0..count).map(|_| bytes.record()).collect::<Option<_>>();
+    Some(Records { sorts: part(counts[0])?, terms: part(counts[1])?, questions: part(counts[2])? })
 }
 
-/// The outline of an accepted sheet.
-pub fn outline(sheet: &[u8]) -> Option<Outline> {
-    let mut bytes = Bytes(sheet);
-    let [sorts, terms, questions] = [bytes.short()?, bytes.short()?, bytes.short()?];
-    for _ in 0..u32::from(sorts) + u32::from(terms) {
-        bytes.record()?;
+/// The sorts of sort records, as trees.
+pub fn trees(records: &[Record]) -> Option<Vec<Arc<Sort>>> {
+    let mut sorts = Vec::new();
+    for record in records {
+        sorts.push(Arc::new(sort(record, &sorts)?));
     }
-    let kinds = (0..questions).map(|_| QuestionKind::from_number(bytes.record()?.kind));
-    Some(Outline { terms: usize::from(terms), questions: kinds.collect::<Option<_>>()? })
+    Some(sorts)
 }
 
 /// The sorts of the store: records back to back, their offsets in the places, zeros behind in both.

@@ -1,7 +1,9 @@
 //! Judging a sheet, and what the library says to it.
 
-use crate::{Cause, QuestionId, Refusal, Sort, TermId, bytes, ffi};
-use std::sync::Arc;
+use crate::explain::{self, Term};
+use crate::id::Origin;
+use crate::{Cause, ForeignId, QuestionId, Refusal, SheetRef, Sort, TermId, bytes, ffi};
+use std::sync::{Arc, OnceLock};
 
 /// The lengths of the buffers that are lent to the library.
 #[derive(Debug, Clone, Copy, PartialEq, Eq)]
@@ -82,37 +84,83 @@ impl Answer {
 }
 
 /// What the library says to an accepted sheet: two rows for each term, and an answer to each question.
-#[derive(Debug, Clone, PartialEq, Eq)]
+///
+/// It takes the ids of the sheet that was judged. Two are equal if they say the same: rows, answers and store.
+#[derive(Debug, Clone)]
 pub struct Judged {
+    sheet: Vec<u8>,
+    /// The sheet's terms, once they were read back.
+    terms: OnceLock<Vec<Term>>,
+    origin: Origin,
     store: Vec<Arc<Sort>>,
     inferred: Vec<Row>,
     checked: Vec<Row>,
     answers: Vec<Answer>,
 }
 
+impl PartialEq for Judged {
+    fn eq(&self, other: &Self) -> bool {
+        let rows = self.inferred == other.inferred && self.checked == other.checked;
+        rows && self.answers == other.answers && self.store == other.store
+    }
+}
+
+impl Eq for Judged {}
+
 impl Judged {
-    /// The inferred sort of a term: what carcara's `Pool::compute_sort` gives.
-    ///
-    /// # Panics
-    /// If the sheet has no such term.
-    pub fn inferred(&self, term: TermId) -> Row {
-        self.inferred[term.index()].clone()
+    /// The inferred sort of a term: what carcara's `Pool::compute_sort` gives. An error if the term is not of this sheet.
+    pub fn inferred(&self, term: TermId) -> Result<&Row, ForeignId> {
+        Ok(&self.inferred[self.place(term)?])
     }
 
-    /// The checked sort of a term: what the ranks of SMT-LIB give.
-    ///
-    /// # Panics
-    /// If the sheet has no such term.
-    pub fn checked(&self, term: TermId) -> Row {
-        self.checked[term.index()].clone()
+    /// The checked sort of a term: what the ranks of SMT-LIB give. An error if the term is not of this sheet.
+    pub fn checked(&self, term: TermId) -> Result<&Row, ForeignId> {
+        Ok(&self.checked[self.place(term)?])
     }
 
-    /// The answer to a question.
-    ///
-    /// # Panics
-    /// If the sheet has no such question.
-    pub fn answer(&self, question: QuestionId) -> &Answer {
-        &self.answers[question.index()]
+    /// The answer to a question. An error if the question is not of this sheet.
+    pub fn answer(&self, question: QuestionId) -> Result<&Answer, ForeignId> {
+        let answer = self.answers.get(question.index()).filter(|_| question.is_of(&self.origin));
+        answer.ok_or(ForeignId)
+    }
+
+    /// The term with this number, counted from 0, if the sheet has one.
+    pub fn term(&self, number: usize) -> Option<TermId> {
+        self.checked.get(number)?;
+        Some(TermId::of(&self.origin, u16::try_from(number).ok()?))
+    }
+
+    /// The terms in order.
+    pub fn terms(&self) -> impl ExactSizeIterator<Item = TermId> {
+        let count = u16::try_from(self.checked.len()).expect("a sheet has at most 4,096 terms");
+        (0..count).map(|number| TermId::of(&self.origin, number))
+    }
+
+    /// The question with this number, counted from 0, if the sheet has one.
+    pub fn question(&self, number: usize) -> Option<QuestionId> {
+        self.answers.get(number)?;
+        Some(QuestionId::of(&self.origin, u16::try_from(number).ok()?))
+    }
+
+    /// The place of a term's rows; an error if it is not of this sheet.
+    pub(crate) fn place(&self, term: TermId) -> Result<usize, ForeignId> {
+        let own = term.index() < self.checked.len() && term.is_of(&self.origin);
+        own.then_some(term.index()).ok_or(ForeignId)
+    }
+
+    /// The sheet's terms.
+    pub(crate) fn term_records(&self) -> &[Term] {
+        self.terms.get_or_init(|| explain::terms(&self.sheet).expect("the library accepted the sheet"))
+    }
+
+    /// The inferred rows in order.
+    pub(crate) fn inferred_rows(&self) -> &[Row] {
+        &self.inferred
+    }
+
+    /// The checked rows in order.
+    pub(crate) fn checked_rows(&self) -> &[Row] {
+        &self.checked
     }
 
     /// The inferred and the checked row of each term, in order.
@@ -133,9 +181,12 @@ impl Judged {
 
 /// Judges a sheet with the buffers that the program lends.
 ///
+/// The sheet is a [`Sheet`](crate::Sheet) of a writer's, whose ids the judgement takes; or bytes, of which the judgement gives ids by their
+/// numbers ([`Judged::term`]). The library runs on the stack of the caller, of which [`STACK`] bytes must be left.
+///
 /// # Panics
-/// If no thread can be started (see [`judge_into`]), or if what the library wrote is no store or no row; it is proved to write none such.
-pub fn judge(sheet: &[u8]) -> Result<Judged, Refusal> {
+/// If what the library wrote is no store or no row; it is proved to write none such.
+pub fn judge<'a>(sheet: impl Into<SheetRef<'a>>) -> Result<Judged, Refusal> {
     judge_with(sheet, Lent::PROGRAM)
 }
 
@@ -143,12 +194,13 @@ pub fn judge(sheet: &[u8]) -> Result<Judged, Refusal> {
 ///
 /// # Panics
 /// As [`judge`].
-pub fn judge_with(sheet: &[u8], lent: Lent) -> Result<Judged, Refusal> {
+pub fn judge_with<'a>(sheet: impl Into<SheetRef<'a>>, lent: Lent) -> Result<Judged, Refusal> {
+    let sheet = sheet.into();
     let mut records = vec![0; lent.records];
     let mut places = vec![0; lent.places];
     let mut rows = vec![0; lent.rows];
     let mut answers = vec![0; lent.answers];
-    judge_into(sheet, &mut records, &mut places, &mut rows, &mut answers)?;
+    judge_into(sheet.bytes, &mut records, &mut places, &mut rows, &mut answers)?;
     Ok(decode(sheet, &records, &places, &rows, &answers).expect("the library writes a store, rows and answers"))
 }
 
@@ -184,8 +236,8 @@ pub fn judge_into(
 pub const STACK: usize = 1792 << 10;
 
 /// Reads what the library wrote for an accepted sheet; nothing if it is no store, no row or no answer.
-fn decode(sheet: &[u8], records: &[u8], places: &[u32], rows: &[u32], answers: &[u32]) -> Option<Judged> {
-    let outline = bytes::outline(sheet)?;
+fn decode(sheet: SheetRef<'_>, records: &[u8], places: &[u32], rows: &[u32], answers: &[u32]) -> Option<Judged> {
+    let own = bytes::records(sheet.bytes)?;
     let store = bytes::store(records, places)?;
     let sort = |word: u32| -> Option<Row> {
         match word >> 16 {
@@ -194,17 +246,20 @@ fn decode(sheet: &[u8], records: &[u8], places: &[u32], rows: &[u32], answers: &
             _ => None,
         }
     };
-    let rows = rows.get(..2 * outline.terms)?;
+    let rows = rows.get(..2 * own.terms.len())?;
     let column = |first: usize| -> Option<Vec<Row>> {
         let words = rows.iter().skip(first).step_by(2);
         words.map(|word| sort(*word)).collect()
     };
-    let answers = answers.get(..outline.questions.len())?;
-    let answers = answers.iter().zip(&outline.questions);
-    let answers = answers.map(|(word, kind)| match (kind, word) {
+    let answers = answers.get(..own.questions.len())?;
+    let answers = answers.iter().zip(&own.questions);
+    let answers = answers.map(|(word, question)| match (QuestionKind::from_number(question.kind)?, word) {
         (QuestionKind::Compatible, 0 | 1) => Some(Answer::Compatible(*word == 1)),
         (QuestionKind::Compatible, _) => None,
         (QuestionKind::Match | QuestionKind::Apply, _) => Some(Answer::Sort(sort(*word)?)),
     });
-    Some(Judged { inferred: column(0)?, checked: column(1)?, answers: answers.collect::<Option<_>>()?, store })
+    let answers = answers.collect::<Option<_>>()?;
+    let (inferred, checked) = (column(0)?, column(1)?);
+    let (sheet, origin) = (sheet.bytes.to_vec(), sheet.origin());
+    Some(Judged { sheet, terms: OnceLock::new(), origin, inferred, checked, answers, store })
 }

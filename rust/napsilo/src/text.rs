@@ -1,6 +1,7 @@
-//! The printout, by the library.
+//! The printout, by the library; and its lines with the user's names.
 
-use crate::ffi;
+use crate::{Answer, Judged, Names, Row, ffi};
+use std::fmt;
 
 /// The length of a buffer that holds every line of a printout: a piece for it has a line at least, if one is left.
 pub const LINE_BUFFER: usize = 1_937_856;
@@ -60,5 +61,49 @@ fn all_lines(sheet: &[u8], text: &[u8]) -> usize {
             terms + questions
         }
         _ => panic!("the library accepts a sheet without a header"),
+    }
+}
+
+impl Judged {
+    /// The lines of the printout with the strings of a table in place of the names that the table gave out: `Tk inferred checked` for each
+    /// term, `Qk answer` for each question. This text is made here, from the rows; [`print()`] gives the library's own.
+    pub fn with_names<'a>(&'a self, names: &'a Names) -> impl fmt::Display + 'a {
+        NamedLines { judged: self, names }
+    }
+}
+
+/// A judgement with a table for its names.
+struct NamedLines<'a> {
+    judged: &'a Judged,
+    names: &'a Names,
+}
+
+impl NamedLines<'_> {
+    /// Writes a row behind a blank.
+    fn row(&self, f: &mut fmt::Formatter<'_>, row: &Row) -> fmt::Result {
+        match row {
+            Ok(sort) => write!(f, " {}", sort.with_names(self.names)),
+            Err(cause) => write!(f, " !{}", cause.number()),
+        }
+    }
+}
+
+impl fmt::Display for NamedLines<'_> {
+    fn fmt(&self, f: &mut fmt::Formatter<'_>) -> fmt::Result {
+        for (number, (inferred, checked)) in self.judged.rows().enumerate() {
+            write!(f, "T{number}")?;
+            self.row(f, inferred)?;
+            self.row(f, checked)?;
+            f.write_str("\n")?;
+        }
+        for (number, answer) in self.judged.answers().iter().enumerate() {
+            write!(f, "Q{number}")?;
+            match answer {
+                Answer::Compatible(yes) => f.write_str(if *yes { " yes" } else { " no" })?,
+                Answer::Sort(row) => self.row(f, row)?,
+            }
+            f.write_str("\n")?;
+        }
+        Ok(())
     }
 }

@@ -3,34 +3,37 @@
 mod common;
 
 use common::{bytes, hex, n};
-use napsilo::{Cause, Operator, QuestionRecord, SheetWriter, SortId, SortRecord, TermId, TermRecord, judge, print};
+use napsilo::{
+    Cause, ForeignId, Operator, QuestionRecord, SheetWriter, SortId, SortRecord, TermId, TermRecord, judge, print,
+};
 
-/// A writer with Int, Real, Bool as its sorts 0 to 2, an integer and a real as its terms 0 and 1.
-fn start() -> SheetWriter {
-    let mut sheet = SheetWriter::new();
-    for sort in [SortRecord::Int, SortRecord::Real, SortRecord::Bool] {
-        sheet.add_sort(sort).unwrap();
-    }
-    for term in [TermRecord::Integer(7), TermRecord::Real] {
-        sheet.add_term(term).unwrap();
-    }
-    sheet
+/// What most examples start with: three sorts, an integer constant and a real one.
+struct Start {
+    sheet: SheetWriter,
+    int: SortId,
+    real: SortId,
+    bool: SortId,
+    seven: TermId,
+    half: TermId,
 }
 
-const INT: SortId = SortId::new(0);
-const REAL: SortId = SortId::new(1);
-const BOOL: SortId = SortId::new(2);
-const SEVEN: TermId = TermId::new(0);
-const HALF: TermId = TermId::new(1);
+/// A writer with Int, Real, Bool as its sorts 0 to 2, an integer and a real as its terms 0 and 1.
+fn start() -> Start {
+    let mut sheet = SheetWriter::new();
+    let [int, real, bool] =
+        [SortRecord::Int, SortRecord::Real, SortRecord::Bool].map(|sort| sheet.add_sort(sort).unwrap());
+    let [seven, half] = [TermRecord::Integer(7), TermRecord::Real].map(|term| sheet.add_term(term).unwrap());
+    Start { sheet, int, real, bool, seven, half }
+}
 
 /// The two columns of a term's line.
 fn rows(sheet: &SheetWriter, term: TermId) -> (String, String) {
-    let judged = judge(&sheet.finish()).unwrap();
-    let text = |row: napsilo::Row| match row {
+    let judged = sheet.judge().unwrap();
+    let text = |row: &napsilo::Row| match row {
         Ok(sort) => sort.to_string(),
         Err(cause) => format!("!{}", cause.number()),
     };
-    let rows = (text(judged.inferred(term)), text(judged.checked(term)));
+    let rows = (text(judged.inferred(term).unwrap()), text(judged.checked(term).unwrap()));
     let line = format!("T{} {} {}\n", term.number(), rows.0, rows.1);
     assert!(print(&sheet.finish()).contains(&line));
     rows
@@ -55,43 +58,47 @@ fn k1() {
     assert_eq!(hex(&sheet.finish()), hex(&expected));
     assert_eq!(print(&expected), "T0 Int Int\nT1 Int Int\nQ0 yes\n");
     let judged = judge(&expected).unwrap();
-    assert_eq!(judged.answer(question).yes_or_no(), Some(true));
+    // These bytes are no writer's sheet, so their judgement has ids of its own.
+    assert_eq!(judged.answer(question), Err(ForeignId));
+    let own = judged.question(0).unwrap();
+    assert_eq!(judged.answer(own).unwrap().yes_or_no(), Some(true));
+    assert_eq!(sheet.judge().unwrap().answer(question).unwrap().yes_or_no(), Some(true));
     assert_eq!(judged.store().len(), 1);
 }
 
 #[test]
 fn k2_k3_k5() {
     let op = |op| TermRecord::Op(op, &[]);
-    assert_rows(start(), op(Operator::BvAdd), "(_ BitVec ?)", "!25");
-    assert_rows(start(), op(Operator::BvConcat), "(_ BitVec 0)", "!25");
-    assert_rows(start(), op(Operator::RareList), "'?", "!24");
+    assert_rows(start().sheet, op(Operator::BvAdd), "(_ BitVec ?)", "!25");
+    assert_rows(start().sheet, op(Operator::BvConcat), "(_ BitVec 0)", "!25");
+    assert_rows(start().sheet, op(Operator::RareList), "'?", "!24");
 }
 
 #[test]
 fn k4() {
-    let mut sheet = start();
+    let Start { mut sheet, seven, .. } = start();
     let vector = sheet.add_term(TermRecord::BitVec(8)).unwrap();
-    let sum = TermRecord::Op(Operator::BvAdd, &[vector, SEVEN]);
+    let sum = TermRecord::Op(Operator::BvAdd, &[vector, seven]);
     assert_rows(sheet, sum, "(_ BitVec 8)", "!26");
 }
 
 #[test]
 fn k6_k7() {
-    let mut sheet = start();
-    let sort = SortRecord::Function(&[INT, REAL, BOOL]);
+    let Start { mut sheet, int, real, bool, seven, .. } = start();
+    let sort = SortRecord::Function(&[int, real, bool]);
     let sort = sheet.add_sort(sort).unwrap();
     let head = sheet.add_term(TermRecord::Var(n(1), sort)).unwrap();
-    let at = |args, inferred, checked| {
+    let at = |args: &[TermId], inferred, checked| {
         assert_rows(sheet.clone(), TermRecord::App(head, args), inferred, checked);
     };
-    at(&[SEVEN], "(-> Real Bool)", "(-> Real Bool)");
-    at(&[SEVEN; 3], "(->)", "!25");
-    at(&[SEVEN; 4], "!21", "!25");
+    at(&[seven], "(-> Real Bool)", "(-> Real Bool)");
+    at(&[seven; 3], "(->)", "!25");
+    at(&[seven; 4], "!21", "!25");
 }
 
 #[test]
 fn k8() {
-    let mut sheet = start();
+    let Start { mut sheet, seven, half, .. } = start();
     let var = sheet.add_sort(SortRecord::Var(n(1))).unwrap();
     let set = sheet.add_sort(SortRecord::Set(var)).unwrap();
     let sort = SortRecord::Function(&[var, var, set]);
@@ -100,34 +107,34 @@ fn k8() {
     let head = sheet.add_term(TermRecord::Var(n(1), sort)).unwrap();
     let text = "(par (n1) (-> 'n1 'n1 (Set 'n1)))".to_owned();
     assert_eq!(rows(&sheet, head), (text.clone(), text));
-    let app = TermRecord::App(head, &[SEVEN, HALF]);
+    let app = TermRecord::App(head, &[seven, half]);
     assert_rows(sheet, app, "!21", "!26");
 }
 
 #[test]
 fn k9_k11() {
-    let mut sheet = start();
+    let Start { mut sheet, int, seven, .. } = start();
     let one = sheet.add_sort(SortRecord::Var(n(1))).unwrap();
     let two = sheet.add_sort(SortRecord::Var(n(2))).unwrap();
     let sort = sheet.add_sort(SortRecord::Function(&[one, two])).unwrap();
     let sort = SortRecord::Par(&[n(1), n(2)], sort);
     let sort = sheet.add_sort(sort).unwrap();
     let head = sheet.add_term(TermRecord::Var(n(1), sort)).unwrap();
-    let question = QuestionRecord::Apply { sort, map: &[(n(1), INT)] };
+    let question = QuestionRecord::Apply { sort, map: &[(n(1), int)] };
     let question = sheet.add_question(question).unwrap();
-    let judged = judge(&sheet.finish()).unwrap();
-    let answer = judged.answer(question).sort().unwrap().as_ref().unwrap();
+    let judged = sheet.judge().unwrap();
+    let answer = judged.answer(question).unwrap().sort().unwrap().as_ref().unwrap();
     assert_eq!(answer.to_string(), "(par (n2) (-> Int 'n2))");
     assert!(print(&sheet.finish()).ends_with("\nQ0 (par (n2) (-> Int 'n2))\n"));
-    assert_rows(sheet, TermRecord::App(head, &[SEVEN]), "'n2", "!27");
+    assert_rows(sheet, TermRecord::App(head, &[seven]), "'n2", "!27");
 }
 
 #[test]
 fn k10() {
-    let mut sheet = start();
+    let Start { mut sheet, int, real, .. } = start();
     let unit = sheet.add_sort(SortRecord::Tuple(&[])).unwrap();
     let units = sheet.add_sort(SortRecord::Set(unit)).unwrap();
-    let pair = sheet.add_sort(SortRecord::Tuple(&[INT, REAL])).unwrap();
+    let pair = sheet.add_sort(SortRecord::Tuple(&[int, real])).unwrap();
     let pairs = sheet.add_sort(SortRecord::Set(pair)).unwrap();
     let left = sheet.add_term(TermRecord::Var(n(1), units)).unwrap();
     let right = sheet.add_term(TermRecord::Var(n(2), pairs)).unwrap();
@@ -137,24 +144,24 @@ fn k10() {
 
 #[test]
 fn k12() {
-    let mut sheet = start();
+    let Start { mut sheet, .. } = start();
     let wide = sheet.add_term(TermRecord::BitVec(65_535)).unwrap();
     let bit = sheet.add_term(TermRecord::BitVec(1)).unwrap();
     let joined = TermRecord::Op(Operator::BvConcat, &[wide, bit]);
     let joined = sheet.add_term(joined).unwrap();
-    let judged = judge(&sheet.finish()).unwrap();
-    assert_eq!(judged.inferred(joined), Err(Cause::Limit));
-    assert_eq!(judged.checked(joined), Err(Cause::Limit));
+    let judged = sheet.judge().unwrap();
+    assert_eq!(*judged.inferred(joined).unwrap(), Err(Cause::Limit));
+    assert_eq!(*judged.checked(joined).unwrap(), Err(Cause::Limit));
     assert_eq!(rows(&sheet, joined), ("!22".to_owned(), "!22".to_owned()));
 }
 
 #[test]
 fn questions() {
-    let mut sheet = start();
+    let Start { mut sheet, int, real, bool, .. } = start();
     let var = sheet.add_sort(SortRecord::Var(n(1))).unwrap();
     let set = sheet.add_sort(SortRecord::Set(var)).unwrap();
-    let ints = sheet.add_sort(SortRecord::Set(INT)).unwrap();
-    let array = sheet.add_sort(SortRecord::Array(var, BOOL)).unwrap();
+    let ints = sheet.add_sort(SortRecord::Set(int)).unwrap();
+    let array = sheet.add_sort(SortRecord::Array(var, bool)).unwrap();
     let names = &[n(1)];
     let mut ask = |pattern, target| {
         let question = QuestionRecord::Match { pattern, target, result: array, names };
@@ -162,14 +169,14 @@ fn questions() {
     };
     let fits = ask(set, ints);
     let none = ask(ints, set);
-    let unfit = ask(set, INT);
-    let no = sheet.add_question(QuestionRecord::Compatible(INT, REAL)).unwrap();
-    let judged = judge(&sheet.finish()).unwrap();
-    let answer = judged.answer(fits).sort().unwrap().as_ref().unwrap();
+    let unfit = ask(set, int);
+    let no = sheet.add_question(QuestionRecord::Compatible(int, real)).unwrap();
+    let judged = sheet.judge().unwrap();
+    let answer = judged.answer(fits).unwrap().sort().unwrap().as_ref().unwrap();
     assert_eq!(answer.to_string(), "(Array Int Bool)");
-    assert_eq!(judged.answer(none).sort(), Some(&Err(Cause::Barred)));
-    assert_eq!(judged.answer(unfit).sort(), Some(&Err(Cause::NoAssignment)));
-    assert_eq!(judged.answer(no).yes_or_no(), Some(false));
+    assert_eq!(judged.answer(none).unwrap().sort(), Some(&Err(Cause::Barred)));
+    assert_eq!(judged.answer(unfit).unwrap().sort(), Some(&Err(Cause::NoAssignment)));
+    assert_eq!(judged.answer(no).unwrap().yes_or_no(), Some(false));
     let lines = "Q0 (Array Int Bool)\nQ1 !28\nQ2 !29\nQ3 no\n";
     assert!(print(&sheet.finish()).ends_with(lines));
 }

@@ -45,6 +45,32 @@ fn list(numbers: &[u16]) -> Vec<u8> {
     bytes
 }
 
+/// The sort of a writer with this number; past its last one that of a copy that has more.
+fn sort_id(writer: &SheetWriter, number: u16) -> SortId {
+    let mut copy = writer.clone();
+    while copy.sorts() <= usize::from(number) {
+        copy.add_sort(SortRecord::Int).expect("few records");
+    }
+    copy.sort_at(usize::from(number)).expect("it was added")
+}
+
+/// The term of a writer with this number; past its last one that of a copy that has more.
+fn term_id(writer: &SheetWriter, number: u16) -> TermId {
+    let mut copy = writer.clone();
+    while copy.terms() <= usize::from(number) {
+        copy.add_term(TermRecord::Real).expect("few records");
+    }
+    copy.term_at(usize::from(number)).expect("it was added")
+}
+
+/// The refusal that a reader gives for what the writer refuses. A reference past the last record is to the writer one of another sheet.
+fn refusal_of(error: WriteError) -> Option<Refusal> {
+    match error {
+        WriteError::ForeignSort(_) | WriteError::ForeignTerm(_) => Some(Refusal::Reference),
+        _ => error.refusal(),
+    }
+}
+
 /// A part of a sheet with a record to add to it.
 struct Attempt {
     part: usize,
@@ -115,10 +141,12 @@ impl Source {
 
     /// Adds a random sort to a writer and says what record it is.
     fn add_sort(&mut self, writer: &mut SheetWriter) -> Attempt {
-        let ids = |list: &[u16]| -> Vec<SortId> { list.iter().map(|k| SortId::new(*k)).collect() };
+        let before = writer.clone();
+        let ids = |list: &[u16]| -> Vec<SortId> { list.iter().map(|k| sort_id(&before, *k)).collect() };
         let name = u16::try_from(self.random.under(65_536)).expect("a name");
         let several = self.sort_list();
         let (one, two) = (self.sort(), self.sort());
+        let [one_id, two_id] = [one, two].map(|number| sort_id(&before, number));
         let parts = |kind: u8, list_: &[u16]| [vec![17, kind], list(list_)].concat();
         let named = |kind: u8| [vec![19, kind], short(name), list(&several)].concat();
         let several_ids = ids(&several);
@@ -131,7 +159,7 @@ impl Source {
             5 => (vec![1, 5], writer.add_sort(SortRecord::Real)),
             6 => (vec![1, 6], writer.add_sort(SortRecord::String)),
             7 => (vec![1, 7], writer.add_sort(SortRecord::RegLan)),
-            8 => (parts(8, &[one, two]), writer.add_sort(SortRecord::Array(SortId::new(one), SortId::new(two)))),
+            8 => (parts(8, &[one, two]), writer.add_sort(SortRecord::Array(one_id, two_id))),
             9 => {
                 let width = self.width();
                 let record = [vec![5, 9], long(width)].concat();
@@ -144,11 +172,11 @@ impl Source {
                 let names = self.names(length);
                 let record = [vec![81, 12], list(&[one]), list(&names)].concat();
                 let names: Vec<Name> = names.into_iter().map(n).collect();
-                let par = SortRecord::Par(&names, SortId::new(one));
+                let par = SortRecord::Par(&names, one_id);
                 (record, writer.add_sort(par))
             }
             13 => (vec![1, 13], writer.add_sort(SortRecord::Type)),
-            14 => (parts(14, &[one]), writer.add_sort(SortRecord::Set(SortId::new(one)))),
+            14 => (parts(14, &[one]), writer.add_sort(SortRecord::Set(one_id))),
             _ => (parts(15, &several), writer.add_sort(SortRecord::Tuple(&several_ids))),
         };
         Attempt { part: 0, record, written: written.map(|_| ()) }
@@ -156,12 +184,13 @@ impl Source {
 
     /// Adds a random term to a writer and says what record it is.
     fn add_term(&mut self, writer: &mut SheetWriter) -> Attempt {
-        let ids = |list: &[u16]| -> Vec<TermId> { list.iter().map(|k| TermId::new(*k)).collect() };
+        let before = writer.clone();
+        let ids = |list: &[u16]| -> Vec<TermId> { list.iter().map(|k| term_id(&before, *k)).collect() };
         let name = u16::try_from(self.random.under(65_536)).expect("a name");
         let several = self.term_list();
         let several_ids = ids(&several);
         let (term, sort) = (self.term(), self.sort());
-        let (term_id, sort_id) = (TermId::new(term), SortId::new(sort));
+        let (own_term, own_sort) = (term_id(&before, term), sort_id(&before, sort));
         let behind = [&[term], several.as_slice()].concat();
         let (record, written) = match self.random.under(13) {
             0 => ([vec![5, 0], long(u32::MAX)].concat(), writer.add_term(TermRecord::Integer(u32::MAX))),
@@ -173,9 +202,11 @@ impl Source {
                 let record = [vec![5, 4], long(width)].concat();
                 (record, writer.add_term(TermRecord::BitVec(width)))
             }
-            5 => ([vec![11, 5], short(name), short(sort)].concat(), writer.add_term(TermRecord::Var(n(name), sort_id))),
+            5 => {
+                ([vec![11, 5], short(name), short(sort)].concat(), writer.add_term(TermRecord::Var(n(name), own_sort)))
+            }
             6 if behind.len() < 256 => {
-                ([vec![17, 6], list(&behind)].concat(), writer.add_term(TermRecord::App(term_id, &several_ids)))
+                ([vec![17, 6], list(&behind)].concat(), writer.add_term(TermRecord::App(own_term, &several_ids)))
             }
             8 => {
                 let op = self.random.of(Binder::ALL);
@@ -186,8 +217,8 @@ impl Source {
                 let count = u8::try_from(names.len()).expect("under 256");
                 let record = [vec![53, 8], long(u32::from(op.number())), list(&[term]), vec![count], pairs].concat();
                 let bindings = names.iter().zip(&sorts);
-                let bindings: Vec<_> = bindings.map(|(k, s)| (n(*k), SortId::new(*s))).collect();
-                let binder = TermRecord::Binder(op, &bindings, term_id);
+                let bindings: Vec<_> = bindings.map(|(k, s)| (n(*k), sort_id(&before, *s))).collect();
+                let binder = TermRecord::Binder(op, &bindings, own_term);
                 (record, writer.add_term(binder))
             }
             9 if behind.len() < 256 => {
@@ -196,10 +227,10 @@ impl Source {
                 let record = [vec![81, 9], list(&all), list(&names)].concat();
                 let values = names.iter().zip(&several_ids);
                 let values: Vec<_> = values.map(|(k, id)| (n(*k), *id)).collect();
-                (record, writer.add_term(TermRecord::Let(&values, term_id)))
+                (record, writer.add_term(TermRecord::Let(&values, own_term)))
             }
             10 if behind.len() < 256 => {
-                ([vec![17, 10], list(&behind)].concat(), writer.add_term(TermRecord::Match(term_id, &several_ids)))
+                ([vec![17, 10], list(&behind)].concat(), writer.add_term(TermRecord::Match(own_term, &several_ids)))
             }
             11 => {
                 let op = self.random.of(ParamOperator::ALL);
@@ -213,7 +244,7 @@ impl Source {
                 let op = self.random.of(QualifiedOperator::ALL);
                 let number = long(u32::from(op.number()));
                 let record = [vec![29, 12], number, short(sort), list(&several)].concat();
-                let as_op = TermRecord::AsOp(op, sort_id, &several_ids);
+                let as_op = TermRecord::AsOp(op, own_sort, &several_ids);
                 (record, writer.add_term(as_op))
             }
             _ => {
@@ -228,8 +259,9 @@ impl Source {
 
     /// Adds a random question to a writer and says what record it is.
     fn add_question(&mut self, writer: &mut SheetWriter) -> Attempt {
+        let before = writer.clone();
         let [one, two, three] = [self.sort(), self.sort(), self.sort()];
-        let [first, second, third] = [one, two, three].map(SortId::new);
+        let [first, second, third] = [one, two, three].map(|number| sort_id(&before, number));
         let length = self.length().min(254);
         let names = self.names(length);
         let (record, written) = match self.random.under(3) {
@@ -248,7 +280,7 @@ impl Source {
                 let all = [&[one], images.as_slice()].concat();
                 let record = [vec![81, 2], list(&all), list(&names)].concat();
                 let map = names.iter().zip(&images);
-                let map: Vec<_> = map.map(|(k, s)| (n(*k), SortId::new(*s))).collect();
+                let map: Vec<_> = map.map(|(k, s)| (n(*k), sort_id(&before, *s))).collect();
                 let question = QuestionRecord::Apply { sort: first, map: &map };
                 (record, writer.add_question(question))
             }
@@ -286,7 +318,7 @@ fn the_writer_refuses_what_the_reader_refuses() {
                 // Tree sizes are the library's business; such a sort is taken back here.
                 (Ok(()), Err(Refusal::TreeSize)) => writer = before,
                 (Err(error), Err(refusal)) => {
-                    assert_eq!(error.refusal(), Some(refusal), "{}", hex(&sheet));
+                    assert_eq!(refusal_of(error), Some(refusal), "{}", hex(&sheet));
                     assert_eq!(hex(&writer.finish()), hex(&before.finish()));
                 }
                 (written, read) => panic!("{written:?} but {read:?}: {}", hex(&sheet)),
@@ -325,10 +357,10 @@ fn bytes_of_a_sheet() {
         let mut other = writer.clone();
         assert_eq!(other.add_term(TermRecord::Real).map(|_| ()), fits);
         // One record too long and with a fault behind: the length comes first.
-        let far = TermRecord::App(TermId::new(9), &[]);
+        let far = TermRecord::App(term_id(&SheetWriter::new(), 9), &[]);
         assert_eq!(writer.add_term(far), Err(WriteError::TooLong));
     }
-    let mut long = filled(MOST_BYTES).finish();
+    let mut long = filled(MOST_BYTES).finish().into_bytes();
     long.push(1);
     assert_eq!(outcome(&long), Err(Refusal::Length));
     assert_eq!(WriteError::TooLong.refusal(), Some(Refusal::Length));
@@ -344,7 +376,7 @@ fn counts_of_records() {
     for _ in 0..MOST_TERMS {
         writer.add_term(TermRecord::Real).unwrap();
     }
-    let zero = SortId::new(0);
+    let zero = writer.sort_at(0).unwrap();
     for _ in 0..MOST_QUESTIONS {
         let question = QuestionRecord::Compatible(zero, zero);
         writer.add_question(question).unwrap();
@@ -356,13 +388,13 @@ fn counts_of_records() {
     assert_eq!(writer.add_sort(wide), Err(WriteError::TooManySorts));
     let wide = TermRecord::BitVec(u32::MAX);
     assert_eq!(writer.add_term(wide), Err(WriteError::TooManyTerms));
-    let far = QuestionRecord::Compatible(zero, SortId::new(u16::MAX));
+    let far = QuestionRecord::Compatible(zero, sort_id(&SheetWriter::new(), 7));
     assert_eq!(writer.add_question(far), Err(WriteError::TooManyQuestions));
     assert_eq!(writer.sort(&Sort::BitVec(3)), Err(WriteError::TooManySorts));
     assert_eq!(writer.sort(&Sort::Int), Ok(zero));
     assert_eq!(writer.finish(), sheet);
     for at in [0, 2, 4] {
-        let mut more = sheet.clone();
+        let mut more = sheet.to_vec();
         more[at] += 1;
         assert_eq!(outcome(&more), Err(Refusal::Header));
     }

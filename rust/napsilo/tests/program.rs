@@ -13,7 +13,7 @@ fn program() -> Option<PathBuf> {
     let built = || Path::new(env!("CARGO_MANIFEST_DIR")).join("../../target/bin/napsilo");
     let path = named.unwrap_or_else(built);
     if !path.exists() {
-        eprintln!("skipped: there is no program");
+        recorded::skipped("there is no program; `rt check napsilo` builds it");
     }
     path.exists().then_some(path)
 }
