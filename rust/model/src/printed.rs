@@ -32,7 +32,7 @@ pub fn printout(sheet: &[u8]) -> String {
 }
 
 /// The text of a coded row.
-fn row(judged: &Judged, word: u32) -> String {
+pub fn row(judged: &Judged, word: u32) -> String {
     match word >> 16 {
         0 => sort(judged, word),
         refusal => format!("!{refusal}"),
