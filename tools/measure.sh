@@ -19,6 +19,8 @@ printf '## Beside the pool\n\n'
 "$bench" all 16
 printf '\n## The worst sheets\n\n'
 "$bench" judge $("$top/tools/measure_program.py" write "$made/worst")
+printf '\n## A million terms\n\n'
+"$bench" batch 1000000 5
 printf '\n## The program\n\n'
 "$top/tools/measure_program.py" "$program" 5
 printf '\n## The stack\n\n'

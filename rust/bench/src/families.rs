@@ -101,7 +101,7 @@ impl Make {
             let rule = *self.random.of(rules);
             self.by(rule);
         }
-        self.sheet.finish()
+        self.sheet.finish().into_bytes()
     }
 }
 
@@ -178,7 +178,7 @@ fn arrays(most: usize, seed: u64) -> Vec<u8> {
             }
         }
     }
-    make.sheet.finish()
+    make.sheet.finish().into_bytes()
 }
 
 /// Vectors of up to 64 widths, a pool each, and Bool in the last pool.
@@ -223,7 +223,7 @@ fn vectors(most: usize, seed: u64) -> Vec<u8> {
             }
         }
     }
-    make.sheet.finish()
+    make.sheet.finish().into_bytes()
 }
 
 /// Vectors whose widths change from term to term, up to 2,000 bits.
@@ -255,7 +255,7 @@ fn slices(most: usize, seed: u64) -> Vec<u8> {
         };
         terms.push((make.term(term), grown));
     }
-    make.sheet.finish()
+    make.sheet.finish().into_bytes()
 }
 
 /// Strings (0), regular expressions (1), integers (2) and Bool (3).
@@ -341,7 +341,7 @@ fn binders(most: usize, seed: u64) -> Vec<u8> {
             _ => make.put(3, TermRecord::Binder(Binder::Lambda, &[(name, sorts[1])], body)),
         }
     }
-    make.sheet.finish()
+    make.sheet.finish().into_bytes()
 }
 
 /// Terms of three sorts, a pool each.
@@ -358,7 +358,7 @@ fn lets(most: usize, seed: u64) -> Vec<u8> {
         let count = 1 + make.random.under(2);
         make.put(pools[2], TermRecord::Let(&values[..count], inner));
     }
-    make.sheet.finish()
+    make.sheet.finish().into_bytes()
 }
 
 /// Functions of one to three arguments over declared sorts, a pool each.
@@ -379,7 +379,7 @@ fn applications(most: usize, seed: u64) -> Vec<u8> {
         let arguments: Vec<TermId> = arguments.iter().map(|pool| make.any(*pool)).collect();
         make.put(*result, TermRecord::App(head, &arguments));
     }
-    make.sheet.finish()
+    make.sheet.finish().into_bytes()
 }
 
 /// Parametric functions over elements (pools 0 to 7), sets of them (8 to 15) and arrays of them (16 to 23).
@@ -423,5 +423,5 @@ fn parametric(most: usize, seed: u64) -> Vec<u8> {
         let arguments = [make.any(first), make.any(second)];
         make.put(result, TermRecord::App(heads[which], &arguments));
     }
-    make.sheet.finish()
+    make.sheet.finish().into_bytes()
 }

@@ -5,6 +5,7 @@
 //! - `bench turns OBJECT [RUNS [TEXT]]`: this library in turn with another build of it, a shared object; both must fill the same buffers;
 //! - `bench judge SHEET..`: what the library takes for sheets in files, in ms, the median of three runs;
 //! - `bench stack SHEET..`: the least stack on which the library runs to its end;
+//! - `bench batch [TERMS [RUNS]]`: so many terms in a batch (a million, if not said), beside the pool;
 //! - `bench once CASE library|pool [TIMES]`: one case, one side, so many times, without a word; for a profiler;
 //! - `bench compare`: compares the library on the sheets of all cases, and ends at the first difference;
 //! - `bench list`: the cases;
@@ -24,6 +25,7 @@
 
 mod families;
 mod measure;
+mod million;
 mod pool;
 mod special;
 mod stack;
@@ -266,6 +268,8 @@ fn main() -> ExitCode {
             "turns" => return measure_turns(text(1), number(2, 16), text(3)),
             "judge" => return measure_sheets(&arguments[1..]),
             "stack" => return stack::measure(&arguments[1..]),
+            "batch" => return million::measure(number(1, 1_000_000), number(2, 3)),
+            "batch-run" => return million::run(text(1), text(2), number(3, 0)),
             "stack-run" => return stack::run(text(1), text(2), number(3, 0)),
             "compare" => {
                 let small = FAMILIES.iter().map(|(name, family)| Case::new(name, family(256, 1)));
@@ -284,7 +288,7 @@ fn main() -> ExitCode {
         None => {
             eprintln!(
                 "bench all|growth [RUNS] | bench cases [RUNS [TEXT]] | bench turns OBJECT [RUNS [TEXT]] | bench judge|stack SHEET.. | \
-                 bench compare | bench list | bench once CASE library|pool [TIMES] | bench sheets FOLDER"
+                 bench batch [TERMS [RUNS]] | bench compare | bench list | bench once CASE library|pool [TIMES] | bench sheets FOLDER"
             );
             ExitCode::FAILURE
         }

@@ -23,7 +23,7 @@ pub fn deep(levels: usize) -> Vec<u8> {
     for _ in 0..levels {
         last = make.term(TermRecord::Op(Operator::SetSingleton, &[last]));
     }
-    make.sheet.finish()
+    make.sheet.finish().into_bytes()
 }
 
 /// Applications with the longest lists: a head and 63 arguments.
@@ -37,7 +37,7 @@ pub fn wide() -> Vec<u8> {
         let arguments: Vec<TermId> = (0..63).map(|_| *make.random.of(&terms)).collect();
         terms.push(make.term(TermRecord::App(head, &arguments)));
     }
-    make.sheet.finish()
+    make.sheet.finish().into_bytes()
 }
 
 /// A tree of arrays of this height over a leaf.
@@ -91,7 +91,7 @@ pub fn questions(asked: Asked) -> Vec<u8> {
         };
         make.sheet.add_question(question).expect("a question within the limits");
     }
-    make.sheet.finish()
+    make.sheet.finish().into_bytes()
 }
 
 /// A tuple of some trees of 63 nodes over a leaf: 1 and 63 times so many nodes.
@@ -114,7 +114,7 @@ fn applied_to(count: usize, mut make: Make, parameter: SortId, result: SortId, a
         let argument = make.var(argument);
         make.term(TermRecord::App(head, &[argument]));
     }
-    make.sheet.finish()
+    make.sheet.finish().into_bytes()
 }
 
 /// A sheet without a record, its parameter and Int.
@@ -198,7 +198,7 @@ pub fn great_unlike() -> Vec<u8> {
             make.term(TermRecord::App(head, &[*argument]));
         }
     }
-    make.sheet.finish()
+    make.sheet.finish().into_bytes()
 }
 
 /// The bucket of the store's index in which a record stands: the low half of its hash decides.
@@ -224,7 +224,8 @@ fn crowd(make: &mut Make, wanted: u32, but: Option<(u16, u16)>, sorts: usize) {
         .filter(|found| bucket(&atom(found.0, found.1)) == wanted && Some(*found) != but);
     while make.sheet.sorts() < sorts {
         let (name, part) = meeting.next().expect("there are 4,096");
-        make.sort(SortRecord::Atom(Name::new(name), &[SortId::new(part)]));
+        let part = make.sheet.sort_at(usize::from(part)).expect("one of the first sorts");
+        make.sort(SortRecord::Atom(Name::new(name), &[part]));
     }
 }
 
@@ -239,7 +240,7 @@ pub fn collisions(sorts: usize, terms: usize) -> Vec<u8> {
         let operator = *make.random.of(&[Operator::And, Operator::Or, Operator::Xor, Operator::Implies]);
         said.push(make.term(TermRecord::Op(operator, &arguments)));
     }
-    make.sheet.finish()
+    make.sheet.finish().into_bytes()
 }
 
 /// So many parametric heads' applications whose result is a tree of 4,033 nodes, 1,984 of them a sort before which 2,000 others stand in its

@@ -53,8 +53,21 @@ pub fn name(number: u16) -> String {
     }
 }
 
-/// Asks for all rows and answers of a sheet; nothing if a sort of the sheet passes the greatest tree size.
-pub fn ask(sheet: &Sheet) -> Option<Said> {
+/// The sorts and terms of a sheet in a pool.
+pub struct Built {
+    /// The pool.
+    pub pool: Pool,
+    /// The sorts.
+    pub sorts: Vec<Rc<Sort>>,
+    /// The terms; nothing for one whose row is refused.
+    pub terms: Vec<Option<Rc<Term>>>,
+    /// The inferred row of each term.
+    pub rows: Vec<Row>,
+    sizes: Sizes,
+}
+
+/// Builds the sorts and terms of a sheet in a fresh pool; nothing if a sort of the sheet passes the greatest tree size.
+pub fn build(sheet: &Sheet) -> Option<Built> {
     let mut pool = Pool::new();
     let mut sizes = Sizes::new();
     let mut sorts: Vec<Rc<Sort>> = Vec::new();
@@ -79,6 +92,12 @@ pub fn ask(sheet: &Sheet) -> Option<Said> {
         terms.push(term);
         rows.push(row);
     }
+    Some(Built { pool, sorts, terms, rows, sizes })
+}
+
+/// Asks for all rows and answers of a sheet; nothing if a sort of the sheet passes the greatest tree size.
+pub fn ask(sheet: &Sheet) -> Option<Said> {
+    let Built { mut pool, sorts, rows, mut sizes, .. } = build(sheet)?;
     let answers = sheet.questions.iter().map(|record| answer(record, &sorts, &mut pool, &mut sizes)).collect();
     Some(Said { rows, answers })
 }

@@ -2,7 +2,7 @@
 //!
 //! The modules `rc`, `sort`, `term`, `substitution` and `pool` (with `storage`) are carcara's files, unchanged. Stand-ins are:
 //!
-//! - `custom_operator`: an operator of this kind cannot be made, and sheets have none;
+//! - `custom_operator`: there is one operator of this kind, of sort Bool; sheets have none;
 //! - `macros::impl_str_conversion_traits`: gives an operator its text; nothing reads it back;
 //! - `match_term` and `match_term_err`: the two patterns that `term.rs` uses, `(- x)` and `(not x)`;
 //! - a term's debug text: carcara's is its printer's, here it is one word.
@@ -24,13 +24,14 @@ pub mod lists {
     include!(concat!(env!("OUT_DIR"), "/lists.rs"));
 }
 
-/// Custom operators: none can be made.
+/// Custom operators: one, which stands for all that carcara's users declare.
 pub mod custom_operator {
     use super::Sort;
+    use std::sync::LazyLock;
 
-    /// A custom operator. It has no value.
+    /// A custom operator.
     #[derive(Debug, Clone, Copy, PartialEq, Eq, Hash)]
-    pub enum CustomOperator {}
+    pub struct CustomOperator;
 
     /// What defines a custom operator.
     pub struct Definition {
@@ -40,10 +41,14 @@ pub mod custom_operator {
         pub return_sort: Sort,
     }
 
+    /// The definition of the one.
+    static CUSTOM: LazyLock<Definition> =
+        LazyLock::new(|| Definition { name: "custom".to_owned(), return_sort: Sort::Bool });
+
     impl CustomOperator {
-        /// The definition of an operator that cannot be there.
+        /// Its definition.
         pub fn def(&self) -> &'static Definition {
-            match *self {}
+            &CUSTOM
         }
     }
 }
