@@ -192,14 +192,18 @@ impl<'a> Rows<'a> {
         let mut made: HashMap<BatchSort, Rc<Sort>> = HashMap::new();
         let mut left = vec![(sort, false)];
         while let Some((sort, parts_are_made)) = left.pop() {
+            // What stands at several places is made once.
+            if made.contains_key(&sort) {
+                continue;
+            }
             let node = batch.sort_node(sort);
-            if !parts_are_made {
-                left.push((sort, true));
-                left.extend(node_parts(&node).into_iter().map(|part| (part, false)));
-            } else if !made.contains_key(&sort) {
+            if parts_are_made {
                 let own = pool.add_sort(carcara_sort(batch, &node, &made));
                 made.insert(sort, own);
+                continue;
             }
+            left.push((sort, true));
+            left.extend(node_parts(&node).into_iter().map(|part| (part, false)));
         }
         made[&sort].clone()
     }

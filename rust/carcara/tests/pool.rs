@@ -190,6 +190,20 @@ fn every_kind_of_term() {
 }
 
 #[test]
+fn shared_sorts() {
+    // 61 sorts whose tree is far too large for any walk; it is taken and given back in as many steps.
+    let mut pool = Pool::new();
+    let mut sort = pool.add_sort(Sort::Int);
+    for _ in 0..60 {
+        sort = pool.add_sort(Sort::Array(sort.clone(), sort.clone()));
+    }
+    let mut proof = Proof::new();
+    let own = proof.take_sort(&sort);
+    let rows = proof.judge();
+    assert!(rows.sort_in(&mut pool, own) == sort);
+}
+
+#[test]
 fn deep_terms() {
     // Neither taking nor judging goes down by recursion; only the end of the terms does, and that is carcara's.
     let mut pool = Pool::new();
