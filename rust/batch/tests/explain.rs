@@ -4,10 +4,13 @@
 mod make;
 #[path = "common/random.rs"]
 mod random;
+#[path = "common/start.rs"]
+mod start;
 
 use napsilo::{Binder, Cause, Explanation, Judged, Names, Operator, ParamOperator, Refusal, Role, TermId, judge};
 use napsilo_batch::{Batch, BatchSort, BatchTerm, Explained, Judge, Library, Limits, Refused, Row, SortNode, TermNode};
 use random::Random;
+use start::{Start, start};
 use std::collections::BTreeMap;
 
 /// How often each cause was explained, how often a part was named, and how often the whole lines were the same.
@@ -118,22 +121,6 @@ fn recorded_sheets() {
     let numbers: Vec<u32> = causes.keys().copied().collect();
     assert_eq!(numbers, [21, 22, 24, 25, 26, 27, 28]);
     assert!(parts > 5_000 && same > 5_000);
-}
-
-/// A batch with Int, Bool and variables x of Int and p of Bool.
-struct Start {
-    batch: Batch,
-    int: BatchSort,
-    bool: BatchSort,
-    x: BatchTerm,
-    p: BatchTerm,
-}
-
-fn start() -> Start {
-    let mut batch = Batch::new();
-    let [int, bool] = [SortNode::Int, SortNode::Bool].map(|node| batch.sort(&node));
-    let [x, p] = [("x", int), ("p", bool)].map(|(name, sort)| var(&mut batch, name, sort));
-    Start { batch, int, bool, x, p }
 }
 
 /// A variable.

@@ -1,32 +1,17 @@
 //! What no sheet can hold is told of the one term concerned; and where one sheet has no room, several have.
 
+#[path = "common/start.rs"]
+mod start;
+
 use napsilo::{
     Binder, Cause, Operator, ParamOperator, QualifiedOperator, Refusal, SheetWriter, SortRecord, TermRecord, judge,
 };
 use napsilo_batch::{Batch, BatchSort, BatchTerm, Refused, Row, SortNode, TermNode, Verdict};
+use start::{Start, start};
 
 const BELOW: Verdict = Err(Refused::Row(Cause::Below));
 const VALUE: Verdict = Err(Refused::Sheet(Refusal::Value));
 const TREE: Verdict = Err(Refused::Sheet(Refusal::TreeSize));
-
-/// A batch with Int, Bool and a variable of each.
-struct Start {
-    batch: Batch,
-    int: BatchSort,
-    bool: BatchSort,
-    x: BatchTerm,
-    p: BatchTerm,
-}
-
-fn start() -> Start {
-    let mut batch = Batch::new();
-    let int = batch.sort(&SortNode::Int);
-    let bool = batch.sort(&SortNode::Bool);
-    let names = ["x", "p"].map(|string| batch.name(string));
-    let x = batch.term(TermNode::Var(names[0], int));
-    let p = batch.term(TermNode::Var(names[1], bool));
-    Start { batch, int, bool, x, p }
-}
 
 /// Asserts both rows of terms.
 fn assert_rows(batch: &mut Batch, expected: &[(BatchTerm, [Verdict; 2])]) {
