@@ -24,6 +24,15 @@ pub keep-rest : (b : Bool) (o : Option Map) (m : Map) → keep b o ≡ some m �
 keep-rest true o m e = e
 keep-rest false o m e = none-some e
 
+-- No map comes of none, nor where each map gives none.
+pub keep-none : (c : Bool) → keep c none ≡ none
+keep-none true = refl
+keep-none false = refl
+
+pub and-none : (o : Option Map) (f : Map → Option Map) → ((m : Map) → f m ≡ none) → andThen o f ≡ none
+and-none none f h = refl
+and-none (some m) f h = h m
+
 -- The middle map of a sequence.
 pub andThen-middle : (o : Option Map) (f : Map → Option Map) (m : Map) → andThen o f ≡ some m
     → (n : Map) × (o ≡ some n) × (f n ≡ some m)

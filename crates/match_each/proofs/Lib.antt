@@ -1,0 +1,3 @@
+mod UsualLaws
+mod PremiseLaws
+mod EachLaws

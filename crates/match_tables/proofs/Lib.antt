@@ -1,0 +1,3 @@
+mod NamesLaws
+mod ForgetLaws
+mod HeadLaws

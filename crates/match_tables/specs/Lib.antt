@@ -1,0 +1,10 @@
+pub mod Usable
+pub mod Tables
+pub mod Contract
+pub mod Notes
+pub mod NoteLaws
+pub mod TableLaws
+pub mod Entered
+pub mod WalkLaws
+pub mod LastLaws
+pub mod MapLaws

@@ -1,0 +1,7 @@
+mod ParamLaws
+mod CompatibleLaws
+mod WithLaws
+mod GeneralLaws
+mod WayLaws
+mod AlongLaws
+mod TurnLaws

@@ -1,0 +1,4 @@
+pub mod Contract
+pub mod Met
+pub mod Compared
+pub mod Way
