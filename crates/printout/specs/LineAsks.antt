@@ -1,14 +1,27 @@
 -- What writing rows, answers and lines asks and gives.
-use Prim.Native.Nat.{ℕ, _≤_, _<_}
+use Prim.Native.Nat.{ℕ, suc, _+_, _≤_, _<_}
 use mathlib.Core.Path.{_≡_}
 use mathlib.Core.List.{List, _∷_, _++_}
 use lib.ListN.{length}
 use Rattle.record.specs.Decode.{storeOf}
+use Rattle.printout_sort.specs.Text.{ascii, decimal}
+use Rattle.printout_sort.specs.Wrote.{Wrote}
+use Rattle.printout_sort.specs.Trees.{TextAsks}
 use Rattle.printout.specs.declared.Shown.{Shown}
-use Rattle.printout.specs.Text.{ascii, decimal}
-use Rattle.printout.specs.Lines.{termLine, questionLine}
-use Rattle.printout.specs.Wrote.{ShownIs}
-use Rattle.printout.specs.Trees.{TextAsks, rowTextAt, answerTextAt}
+use Rattle.printout.specs.declared.Shown.the-variants.{To, Full}
+use Rattle.printout.specs.Lines.{rowText, answerText, termLine, questionLine}
+
+-- WHAT SHOWING A TEXT GIVES: it was written; or it does not fit, and the buffer is as it was.
+abbrev pub ShownIs : List ℕ → ℕ → List ℕ → List ℕ → Shown → Type 0
+ShownIs o to t o′ (To e) = Wrote o to t o′ e
+ShownIs o to t o′ Full = (o′ ≡ o) × (length o < to + length t)
+
+-- A row and an answer, over as much of the store as they name.
+abbrev pub rowTextAt : List ℕ → List ℕ → ℕ → List ℕ
+rowTextAt b p code = rowText (storeOf b p (suc code)) code
+
+abbrev pub answerTextAt : List ℕ → List ℕ → ℕ → ℕ → List ℕ
+answerTextAt b p kind code = answerText (storeOf b p (suc code)) kind code
 
 -- A row that names a sort of the store, or none.
 abbrev pub RowAsks : List ℕ → List ℕ → ℕ → Type 0

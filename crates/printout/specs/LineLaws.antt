@@ -9,13 +9,13 @@ use lib.Dec.{eqb, ltb}
 use borrow.Author.Tests.{lt-ltb, le-ltb, eq-eqb, ne-eqb, ltb-true, ltb-false, eqb-true, eqb-false}
 use Rattle.record.specs.Sort.{Sort}
 use Rattle.record.specs.Decode.{storeOf, sortAt}
-use Rattle.printout.specs.Text.{ascii, decimal, text}
+use Rattle.printout_sort.specs.Text.{ascii, decimal, text}
+use Rattle.printout_sort.specs.Wrote.{Wrote, wrote-as, total, TextRoom}
+use Rattle.printout_sort.specs.Trees.{treeAt}
+use Rattle.printout_sort.specs.TreeLaws.{tree-at}
 use Rattle.printout.specs.Lines.{refusalText, refusalLine, rowText, answerText, termLine, questionLine}
-use Rattle.printout.specs.Trees.{treeAt, rowTextAt, answerTextAt}
-use Rattle.printout.specs.TreeLaws.{tree-at}
-use Rattle.printout.specs.Wrote.{Wrote, wrote-as, total, TextRoom}
+use Rattle.printout.specs.LineAsks.{rowTextAt, answerTextAt, RowKnown, TermLineAsks, TermHas, QuestionLineAsks, QuestionHas, labelText, termLineAt, questionLineAt}
 use Rattle.printout.specs.declared.Shown.the-variants.{To, Full}
-use Rattle.printout.specs.LineAsks.{RowKnown, TermLineAsks, TermHas, QuestionLineAsks, QuestionHas, labelText, termLineAt, questionLineAt}
 
 pub refusal-length : (n : ℕ) → length (refusalText n) ≡ 1 + length (decimal n)
 unfolding refusalText

@@ -1,12 +1,12 @@
 -- The lines of the printout (document 01, "The printout").
-use Prim.Native.Nat.{ℕ, suc, _+_, _*_, _/_}
+use Prim.Native.Nat.{ℕ, suc, _/_}
 use mathlib.Core.Bool.{cond}
 use mathlib.Core.List.{List, [], _∷_, _++_}
 use lib.ListN.{getD}
 use lib.Dec.{eqb, ltb}
 use Rattle.record.specs.Sort.{Sort}
 use Rattle.record.specs.Record.{leaf}
-use Rattle.printout.specs.Text.{ascii, decimal, text}
+use Rattle.printout_sort.specs.Text.{ascii, decimal, text}
 
 -- "!n": a refusal's number.
 unfoldable pub refusalText : ℕ → List ℕ
@@ -60,16 +60,7 @@ unfoldable pub linesOf : List Sort → List ℕ → List ℕ → List ℕ → Li
 unfolding termLines questionLines
 linesOf st rows kinds answers = termLines st 0 rows ++ questionLines st 0 kinds answers
 
--- HOW MUCH ROOM TEXTS NEED, in bytes, of sorts of at most 4,096 nodes. Any sort's text, and a blank before it: the worst node is a Par
--- of 64 names.
-abbrev pub sortRoom : ℕ
-sortRoom = 456 * 4096
-
--- The text of a sort that has at most one Par, as every checked sort, and a blank: the worst other node is `(_ BitVec 65535)`.
-abbrev pub checkedRoom : ℕ
-checkedRoom = 17 * 4096 + 439
-
--- ANY LINE of a judged sheet (`line-short` of crate printout_text): the longest is a term's, with its two sorts and 7 bytes more; rounded up to
--- a multiple of 64.
+-- HOW MUCH ROOM ANY LINE of a judged sheet needs, in bytes (`line-short` of crate printout_text): the longest is a term's, with its two
+-- sorts and 7 bytes more; rounded up to a multiple of 64.
 abbrev pub lineRoom : ℕ
 lineRoom = 1937856

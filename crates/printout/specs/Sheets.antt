@@ -2,7 +2,7 @@
 use mathlib.Core.Path.{_≡_, refl}
 use mathlib.Core.List.{[], _∷_}
 use Rattle.judge_rules.specs.Judged.{judged}
-use Rattle.printout.specs.Text.{ascii}
+use Rattle.printout_sort.specs.Text.{ascii}
 use Rattle.printout.specs.Printed.{printed, programLengths}
 
 -- K1: one sort, Int; the terms 7 and (+ 7 7); is Int compatible with Int?

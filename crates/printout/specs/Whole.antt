@@ -8,11 +8,11 @@ use lib.ListN.{length, getD}
 use lib.Dec.{ltb}
 use Rattle.record.specs.Sort.{Sort, size}
 use Rattle.record.specs.Decode.{storeOf, sortAt, Stored}
+use Rattle.printout_sort.specs.Wrote.{Wrote}
 use Rattle.printout.specs.declared.Shown.{Shown}
 use Rattle.printout.specs.declared.whole.Piece.{Piece}
 use Rattle.printout.specs.Lines.{termLine, questionLine}
-use Rattle.printout.specs.Wrote.{Wrote, ShownIs}
-use Rattle.printout.specs.LineAsks.{RowKnown}
+use Rattle.printout.specs.LineAsks.{ShownIs, RowKnown}
 
 -- The line with the number k of a sheet of t terms: its terms' lines, then its questions'.
 unfoldable pub lineAt : List Sort → List ℕ → List ℕ → List ℕ → ℕ → ℕ → List ℕ

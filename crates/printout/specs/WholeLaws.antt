@@ -7,12 +7,12 @@ use lib.ListN.{length, getD}
 use borrow.Author.Tests.{lt-ltb, le-ltb}
 use Rattle.record.specs.Decode.{storeOf}
 use Rattle.record.specs.Sort.{Sort}
+use Rattle.printout_sort.specs.Wrote.{Wrote, wrote-none, wrote-as, wrote-more, wrote-long}
+use Rattle.printout_sort.specs.TreeLaws.{text-asks}
 use Rattle.printout.specs.declared.Shown.{Shown}
 use Rattle.printout.specs.declared.Shown.the-variants.{To, Full}
 use Rattle.printout.specs.Lines.{termLine, questionLine, termLines, questionLines, linesOf}
-use Rattle.printout.specs.Wrote.{Wrote, ShownIs, wrote-none, wrote-as, wrote-more, wrote-long}
-use Rattle.printout.specs.TreeLaws.{text-asks}
-use Rattle.printout.specs.LineAsks.{RowAsks, RowKnown, TermLineAsks, QuestionLineAsks, TermHas, QuestionHas}
+use Rattle.printout.specs.LineAsks.{ShownIs, RowAsks, RowKnown, TermLineAsks, QuestionLineAsks, TermHas, QuestionHas}
 use Rattle.printout.specs.Whole.{lineAt, linesFrom, Judged, LineAsks, LineHas, PieceAsks, PieceHas}
 
 ---------------------------------------------------------------- one line

@@ -1,9 +1,7 @@
-// The printout: the text of a sort, of a row, of an answer, and the lines of a sheet, written into a lent buffer. The
-// definitions stand in specs/. What does not fit is refused, and the buffer is as it was.
+// The printout: the text of a row and of an answer, and the lines of a sheet, written into a lent buffer. The definitions
+// stand in specs/, those of the text of a sort in crate printout_sort. What does not fit is refused, and the buffer is as it was.
 pub mod kinds;
 pub mod lines;
-pub mod pieces;
-pub mod text;
 pub mod whole;
 
 // The place behind what was written; or it did not fit, and the buffer is as it was.

@@ -1,18 +1,18 @@
 // The rows and answers as text, and the lines `Tk inferred checked`, `Qk answer` and `!n`.
 use super::Shown;
-use super::pieces::digits;
-use super::pieces::put;
-use super::pieces::put_decimal;
-use super::text::put_sort;
-use super::text::text_size;
+use printout_sort::pieces::digits;
+use printout_sort::pieces::put;
+use printout_sort::pieces::put_decimal;
+use printout_sort::text::put_sort;
+use printout_sort::text::text_size;
 use record::kinds::QUESTION_COMPATIBLE;
 ghost use mathlib.Core.Path.{_≡_};
 ghost use Prim.Native.Nat.{_+_, _≤_, _<_};
 ghost use lib.ListN.{length};
-ghost use Rattle.printout.specs.Lines.{refusalText, refusalLine, sortRoom};
-ghost use Rattle.printout.specs.Wrote.{Wrote, ShownIs};
-ghost use Rattle.printout.specs.Trees.{rowTextAt, answerTextAt};
-ghost use Rattle.printout.specs.LineAsks.{RowAsks, AnswerAsks, TermHas, QuestionHas, TermLineAsks, QuestionLineAsks, labelText};
+ghost use Rattle.printout_sort.specs.Wrote.{Wrote};
+ghost use Rattle.printout_sort.specs.Trees.{sortRoom};
+ghost use Rattle.printout.specs.Lines.{refusalText, refusalLine};
+ghost use Rattle.printout.specs.LineAsks.{ShownIs, rowTextAt, answerTextAt, RowAsks, AnswerAsks, TermHas, QuestionHas, TermLineAsks, QuestionLineAsks, labelText};
 
 // Writes `!` and the number of a refusal at `to`.
 fn put_refusal(out: &mut [u8], to: usize, number: usize) -> usize

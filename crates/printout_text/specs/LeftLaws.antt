@@ -26,10 +26,12 @@ use Rattle.judge_rules.specs.KnownLaws.{judged-rows-known, judged-answers-known
 use Rattle.judge_rules.specs.CarriedLaws.{judged-carried}
 use Rattle.verdicts.specs.declared.Outcome.the-variants.{Accepted}
 use Rattle.verdicts.specs.Judge.{outcomeOf, Reads, ReadsBack, JudgeIs}
+use Rattle.printout_sort.specs.Trees.{sortRoom, checkedRoom}
+use Rattle.printout_sort.specs.TextLaws.{pars, parsAll}
 use Rattle.printout.specs.declared.kinds.Totals.{Totals}
 use Rattle.printout.specs.declared.whole.Piece.{Piece}
-use Rattle.printout.specs.Lines.{rowText, answerText, termLine, questionLine, sortRoom, checkedRoom, lineRoom}
-use Rattle.printout.specs.TextLaws.{pars, parsAll, row-fits, row-fits-one, term-fits, answer-fits, question-fits}
+use Rattle.printout.specs.Lines.{rowText, answerText, termLine, questionLine, lineRoom}
+use Rattle.printout.specs.RoomLaws.{row-fits, row-fits-one, term-fits, answer-fits, question-fits}
 use Rattle.printout.specs.Printed.{kindsOf, programLengths}
 use Rattle.printout.specs.Kinds.{KindsAre}
 use Rattle.printout.specs.Whole.{lineAt, linesFrom, Judged, PieceIs}

@@ -13,12 +13,12 @@ use Rattle.record.specs.Record.{leaf}
 use Rattle.record.specs.Decode.{written}
 use Rattle.reader.specs.Reader.{refusalNumber}
 use Rattle.judge_rules.specs.Judged.{Judgement, sheetRefused, accepted}
+use Rattle.printout_sort.specs.Text.{ascii, ahead, digits, decimal, nameText, moreNames, namesText, atomText, kindNames, nodeText, text, texts}
+use Rattle.printout_sort.specs.Wrote.{Wrote}
 use Rattle.printout.specs.declared.whole.Piece.{Piece}
-use Rattle.printout.specs.Text.{ascii, ahead, digits, decimal, nameText, moreNames, namesText, atomText, kindNames, nodeText, text, texts}
 use Rattle.printout.specs.Lines.{refusalText, refusalLine, rowText, answerText, termLine, questionLine}
 use Rattle.printout.specs.Printed.{kindsOf}
 use Rattle.printout.specs.Whole.{lineAt, linesFrom}
-use Rattle.printout.specs.Wrote.{Wrote}
 use Rattle.printout_text.specs.Text.{lineOf, LinesAre}
 use Rattle.printout_text.specs.Newlines.{newlines}
 

@@ -6,11 +6,11 @@ use Rattle.reader.specs.Reader.{refusalNumber}
 use Rattle.judge_rules.specs.Judged.{Judgement, sheetRefused, accepted, judged}
 use Rattle.verdicts.specs.declared.Outcome.{Outcome}
 use Rattle.verdicts.specs.Judge.{JudgeIs}
+use Rattle.printout_sort.specs.Wrote.{Wrote}
 use Rattle.printout.specs.declared.whole.Piece.{Piece}
 use Rattle.printout.specs.Lines.{refusalLine, lineRoom}
 use Rattle.printout.specs.Printed.{kindsOf, programLengths}
 use Rattle.printout.specs.Whole.{lineAt, linesFrom}
-use Rattle.printout.specs.Wrote.{Wrote}
 
 -- How many lines the printout of a judgement has: one for a refused sheet, else one a term and one a question.
 abbrev pub lineCount : Judgement → ℕ

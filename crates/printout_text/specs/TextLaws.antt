@@ -14,15 +14,15 @@ use Rattle.reader.specs.Reader.{refusalNumber}
 use Rattle.judge_rules.specs.Judged.{Judgement, sheetRefused, accepted, judged}
 use Rattle.verdicts.specs.declared.Outcome.the-variants.{Refused}
 use Rattle.verdicts.specs.Judge.{outcomeOf}
+use Rattle.printout_sort.specs.Wrote.{Wrote, wrote-none, wrote-as}
+use Rattle.printout_sort.specs.TextLaws.{decimal-short}
 use Rattle.printout.specs.declared.kinds.Totals.{Totals}
 use Rattle.printout.specs.declared.whole.Piece.{Piece}
-use Rattle.printout.specs.TextLaws.{decimal-short}
 use Rattle.printout.specs.LineLaws.{refusal-line-length}
 use Rattle.printout.specs.Lines.{refusalText, refusalLine, termLine, questionLine, lineRoom}
 use Rattle.printout.specs.Printed.{kindsOf, printed, programLengths}
 use Rattle.printout.specs.Whole.{lineAt, linesFrom, PieceIs}
 use Rattle.printout.specs.WholeLaws.{line-term, line-question, lines-same}
-use Rattle.printout.specs.Wrote.{Wrote, wrote-none, wrote-as}
 use Rattle.printout_text.specs.Text.{lineCount, lineOf, LinesAre, TextIs}
 use Rattle.printout_text.specs.PrintedLaws.{lines-printed, piece-then}
 use Rattle.printout_text.specs.LeftLaws.{JudgeLeft}

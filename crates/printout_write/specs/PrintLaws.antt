@@ -12,11 +12,11 @@ use Rattle.sheet.specs.Sheet.{Lengths}
 use Rattle.judge_rules.specs.Judged.{Judgement, sheetRefused, judged}
 use Rattle.verdicts.specs.declared.Outcome.the-variants.{Refused}
 use Rattle.verdicts.specs.Judge.{outcomeOf}
+use Rattle.printout_sort.specs.TextLaws.{decimal-short}
 use Rattle.printout.specs.declared.kinds.Totals.{Totals}
 use Rattle.printout.specs.declared.whole.Piece.{Piece}
 use Rattle.printout.specs.Lines.{refusalLine}
 use Rattle.printout.specs.LineLaws.{refusal-line-length}
-use Rattle.printout.specs.TextLaws.{decimal-short}
 use Rattle.printout.specs.Printed.{printed, programLengths}
 use Rattle.printout.specs.Whole.{lineAt, linesFrom, PieceIs}
 use Rattle.printout.specs.WholeLaws.{lines-same}

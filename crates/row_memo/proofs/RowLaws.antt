@@ -8,7 +8,7 @@ use mathlib.Core.Logic.{⊎-elim}
 use native.Mathlib.Omega.{arith}
 use native.Mathlib.Nat.{mul-div-cancel}
 use lib.ListN.{length, getD}
-use Rattle.record.specs.Number.{u16At, numbersAt}
+use Rattle.record.specs.Number.{numbersAt}
 use Rattle.record.specs.Codec.{length-numbersAt, number-at}
 use Rattle.record.specs.Sort.{Sort, Sorts}
 use Rattle.record.specs.Record.{sortsOf}
@@ -19,8 +19,6 @@ use Rattle.record.specs.SortLists.{starts-self, starts-count}
 use Rattle.record.specs.Entries.{store-ordered}
 use Rattle.reader.specs.declared.TermRecord.{TermRecord}
 use Rattle.sheet.specs.Sheet.{Lengths}
-use Rattle.store.specs.Entry.{EntryAsks}
-use Rattle.store.specs.Walk.{entry-asks}
 use Rattle.store.specs.Good.{Good}
 use Rattle.row_rules.specs.declared.Cause.{Cause}
 use Rattle.row_rules.specs.declared.Cause.the-variants.{Below}
@@ -34,14 +32,15 @@ use Rattle.infer_rules.specs.Inferred.{inferred, inferredApp}
 use Rattle.check_rules.specs.Ranks.{smtLib}
 use Rattle.check_rules.specs.Checked.{checked, checkedApp}
 use Rattle.row_answer.specs.declared.Answer.{Answer}
-use Rattle.row_answer.specs.Answer.{AnswerIs, AnswerLeft, refusing, accepting}
+use Rattle.row_answer.specs.Answer.{AnswerIs, AnswerLeft, refusing}
 use Rattle.row_answer.specs.AnswerLaws.{judged-as, answered-as, answer-number}
 use Rattle.row_application.specs.Contract.{AppAsks, AppIs, Crowded, AppCrowded}
 use Rattle.row_parts.specs.Site.{siteOver, termVerdict, TermIs, SiteAsks, SiteIs, PartsJudgedIs}
 use Rattle.row_parts.specs.SiteLaws.{parts-site, site-row, below-row, count-few}
-use Rattle.row_memo.specs.declared.slots.Look.{Look}
-use Rattle.row_memo.specs.declared.slots.Look.the-variants.{Apart, Noted, Open}
-use Rattle.row_memo.specs.Past.{codeEnd, noRoom, columnVerdict, judgingApp, PastSays, AppTold, PastOf, SeekAsks, Tells, LackAsks, Lacks, LackIs, LookFound, SeekIs, RowNoteAsks, RowNotedIs, Coded, AgainIs, LookAsks, Looked, LookedIs, PastAsks, PastIs}
+use Rattle.row_slots.specs.declared.Look.{Look}
+use Rattle.row_slots.specs.declared.Look.the-variants.{Apart, Noted, Open}
+use Rattle.row_slots.specs.Slots.{codeEnd, noRoom, PastSays, Tells, LackAsks, Lacks, LackIs, LookFound, RowNoteAsks, RowNotedIs, Coded, AgainIs, LookAsks, Looked, LookedIs}
+use Rattle.row_memo.specs.Past.{columnVerdict, judgingApp, AppTold, PastOf, PastAsks, PastIs}
 use Rattle.row_memo.specs.Again.{outcome-settled}
 use Rattle.row_memo.specs.PastLaws.{past-grown, sorts-grown}
 
@@ -119,27 +118,6 @@ unfolding outcome
 outcome-coded l st (sort s) = coded-by l st s (within s) (room (l .records) (l .places) (intern s st)) refl
 outcome-coded l st (refused c) = cause-coded c
 
--- The last cause is the one left.
-step : (k n : ℕ) → k ≤ n → (n ≡ k → ⊥) → suc k ≤ n
-step k n l d = omega (arith, l, d)
-
-pub last-cause : (n : ℕ) → 20 ≤ n → n ≤ 29 → (n ≡ 20 → ⊥) → (n ≡ 21 → ⊥) → (n ≡ 22 → ⊥) → (n ≡ 23 → ⊥) → (n ≡ 24 → ⊥) → (n ≡ 25 → ⊥) → (n ≡ 26 → ⊥) → (n ≡ 27 → ⊥)
-    → (n ≡ 28 → ⊥) → 29 ≡ n
-last-cause n l h d₀ d₁ d₂ d₃ d₄ d₅ d₆ d₇ d₈ =
-    let z : 29 ≤ n = step 28 n (step 27 n (step 26 n (step 25 n (step 24 n (step 23 n (step 22 n (step 21 n (step 20 n l d₀) d₁) d₂) d₃) d₄) d₅) d₆) d₇) d₈ in
-    omega (arith, z, h)
-
--- The row of a code.
-pub again-sort : (c n u : ℕ) {w : Answer} → c < 65536 → w ≡ accepting c n u → AgainIs c n u w
-again-sort c n u {w} l e =
-    subst (AgainIs c n u) (sym e)
-    (record { code = refl; small = λ k q. let z : c ≡ k = cc in omega (arith, l, z); count = refl; used = refl })
-
-pub again-refused : {c : ℕ} (n u : ℕ) (x : Cause) {w : Answer} → Coded c → 65536 ≤ c → numberOf x ≡ c / 65536 → w ≡ refusing x n u → AgainIs c n u w
-again-refused {c} n u x {w} h l ex e =
-    subst (AgainIs c n u) (sym e)
-    (record { code = ap (λ (i : ℕ). i * 65536) ex ∙ h .whole l; small = λ k q. let z : _≡_ {A = ℕ} 0 1 = cc in absurd (omega arith); count = refl; used = refl })
-
 ---------------------------------------------------------------- an answer that adds nothing
 -- Lengths of the two lent buffers that a store is in.
 abbrev lent : List ℕ → List ℕ → Lengths
@@ -173,28 +151,6 @@ module _ {b p ix : List ℕ} {n u : ℕ} (g : Good b p ix n u) (v : Verdict) whe
         starts = starts-self here;
         left = again-left (w .verdict) (i .small) (is (lent b p) refl refl);
       })
-
----------------------------------------------------------------- the look-up
-module _ {b p : List ℕ} {r : TermRecord} {a : List ℕ} {column : ℕ} (h : LookAsks b p r a column) (two : 2 ≤ r .«list_count») where
-  -- The head is a sort of the store.
-  pub head-asks : {k : ℕ} → k ≡ u16At a 3 → EntryAsks b p k
-  head-asks {k} e = let z : u16At a 3 < h .count = h .below 0 (omega arith) in entry-asks b p (h .count) k (h .stored) (omega (arith, e, z))
-
-  pub seek-asks : SeekAsks a (r .«list_count») column
-  seek-asks = record { key = record { some = two; few = h .few; within = h .within }; side = h .side }
-
--- Any other record says nothing.
-pub look-apart : {r : TermRecord} {a : List ℕ} {column : ℕ} {ws : List ℕ} → LookedIs r a column ws ws Apart
-look-apart = record { looked = tt; found = tt; less = λ slot key c x. x }
-
--- What was found of an App.
-looked-by : (r : TermRecord) (q : Look) → r .kind ≡ 6 → Looked r q
-looked-by r Apart e = tt
-looked-by r (Noted c) e = e
-looked-by r (Open at) e = e
-
-pub look-is : {r : TermRecord} {a : List ℕ} {column : ℕ} {ws ws′ : List ℕ} {q : Look} → r .kind ≡ 6 → SeekIs ws a (r .«list_count») column ws′ q → LookedIs r a column ws ws′ q
-look-is {r} {q = q} e i = record { looked = looked-by r q e; found = i .found; less = i .less }
 
 ---------------------------------------------------------------- the row
 module _ {column : ℕ} {b p ix : List ℕ} {n u : ℕ} {prm imgs bnd s tbl xs rows : List ℕ} {r : TermRecord} {a ws : List ℕ}

@@ -16,7 +16,8 @@ use Rattle.store.specs.Good.{Good, good-room}
 use Rattle.row_rules.specs.Verdict.{Verdict}
 use Rattle.row_rules.specs.Outcome.{outcome}
 use Rattle.row_answer.specs.AnswerLaws.{good-once}
-use Rattle.row_memo.specs.Past.{slotSize, columnOf, judgingApp, AppTold, PastOf}
+use Rattle.row_slots.specs.Slots.{slotSize, columnOf}
+use Rattle.row_memo.specs.Past.{judgingApp, AppTold, PastOf}
 use Rattle.row_memo.specs.Again.{outcome-stays}
 
 pub past-none : (b p : List ℕ) (n m : ℕ) → PastOf b p n (replicate m 0)

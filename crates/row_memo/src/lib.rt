@@ -1,37 +1,27 @@
 // Both rows of a term record. An App whose head is a Par is looked up first among those that were judged before: its verdict goes
 // by the sorts of its head and its arguments alone, and what then had no room in the store has none now, since the store only grows.
-// So its row, a sort or a refusal, is what an App of the same sorts was found to be.
+// So its row, a sort or a refusal, is what an App of the same sorts was found to be. The table of those Apps is that of crate row_slots.
 use check_row::check;
 use infer_row::infer;
 use reader::TermRecord;
-use record::kinds::SORT_PAR;
 use record::kinds::TERM_APP;
-use record::u16_at;
 use row_answer::Answer;
 use row_answer::arguments::CHECKED;
-use row_answer::arguments::FIRST_AT;
 use row_answer::arguments::INFERRED;
-use row_answer::arguments::REFUSED;
-use row_answer::found;
 use row_answer::refuse;
 use row_application::checked_app;
 use row_parts::parts_judged;
 use row_rules::Cause;
-use slots::Look;
-use slots::lacks_room;
-use slots::row_noted;
-use slots::seek;
-use store::entries::kind_at;
-ghost use mathlib.Core.Path.{_≡_};
-ghost use Prim.Native.Nat.{_≤_};
-ghost use Rattle.row_rules.specs.Verdict.{numberOf};
+use row_slots::Look;
+use row_slots::lacks_room;
+use row_slots::looked_up;
+use row_slots::row_again;
+use row_slots::row_noted;
 ghost use Rattle.check_rules.specs.Ranks.{smtLib};
 ghost use Rattle.check_rules.specs.Checked.{checked};
 ghost use Rattle.row_parts.specs.Site.{SiteAsks, SiteIs};
 ghost use Rattle.row_application.specs.Contract.{AppCrowded};
-ghost use Rattle.row_memo.specs.Past.{Coded, AgainIs, LookAsks, LookedIs, PastAsks, PastIs};
-
-pub mod slots;
+ghost use Rattle.row_memo.specs.Past.{PastAsks, PastIs};
 
 // A record whose row is asked, over the store of `count` sorts with `used` bytes. These two stand apart: side by side they are copied at
 // once, which waits for the stores of both.
@@ -39,65 +29,6 @@ pub struct Task {
     pub count: usize,
     pub term: TermRecord,
     pub used: usize,
-}
-
-// The cause with this number.
-pub fn cause_of(n: usize) -> Cause
-    requires { ⌜ (20 ≤ n) × (n ≤ 29) ⌝ }
-    ensures { λ r. ⌜ numberOf r ≡ n ⌝ }
-{
-    match n {
-        20 => Cause::Below,
-        21 => Cause::Panics,
-        22 => Cause::Limit,
-        23 => Cause::Full,
-        24 => Cause::NoRank,
-        25 => Cause::Count,
-        26 => Cause::Misfit,
-        27 => Cause::Unassigned,
-        28 => Cause::Barred,
-        _ => Cause::NoAssignment,
-    }
-}
-
-// The row with this code, a sort that the store has or a refusal, over a store that is as it was.
-pub fn row_again(row: usize, count: usize, used: usize) -> Answer
-    requires { ⌜ Coded row ⌝ }
-    ensures { λ r. ⌜ AgainIs row count used r ⌝ }
-{
-    if row < REFUSED {
-        return found(row, count, used);
-    }
-    let c = cause_of(row / REFUSED);
-    refuse(c, count, used)
-}
-
-// Looks up an App of two terms or more whose head is a Par, the numbers of its sorts in `args` from byte 3 on: the code of its row in
-// a column, or the slot where it is to be noted; Apart for any other record.
-pub fn looked_up(
-    records: &[u8],
-    places: &[u32],
-    term: TermRecord,
-    args: &[u8],
-    column: usize,
-    past: &mut [u8],
-) -> Look
-    requires { ⌜ LookAsks (now records) (now places) term (now args) column ⌝ }
-    ensures { λ r. ⌜ LookedIs term (now (args .entry)) column (now (past .entry)) (now (past .exit)) r ⌝ }
-{
-    let kind = term.kind;
-    let n = term.list_count;
-    if kind != TERM_APP {
-        return Look::Apart;
-    }
-    if n < 2 {
-        return Look::Apart;
-    }
-    let head = u16_at(args, FIRST_AT);
-    if kind_at(records, places, head) != SORT_PAR {
-        return Look::Apart;
-    }
-    seek(past, args, n, column)
 }
 
 // The inferred row of the task's record: Below where a term that it names has a refused one; what `past` has noted of it; or what `infer`

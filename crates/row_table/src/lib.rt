@@ -8,7 +8,7 @@ use row_answer::code;
 use row_memo::Task;
 use row_memo::checked_row;
 use row_memo::inferred_row;
-use row_memo::slots::TABLE;
+use row_slots::TABLE;
 use sheet::SheetCounts;
 use store::Counts;
 ghost use Rattle.row_memo.specs.Past.{PastOf};

@@ -5,8 +5,9 @@ use borrow.Author.Needs.{needs}
 use Prim.Native.Nat.{ℕ}
 use mathlib.Core.Path.{ap, subst}
 use lib.ListN.{length}
+use Rattle.printout_sort.specs.Wrote.{wrote-as}
 use Rattle.printout.specs.Lines.{refusalLine}
-use Rattle.printout.specs.Wrote.{ShownIs, wrote-as}
+use Rattle.printout.specs.LineAsks.{ShownIs}
 use Rattle.judge_rules.specs.Judged.{sheetRefused}
 use Rattle.printout_text.specs.TextLaws.{lines-none, refusal-small, refused-written, refused-full}
 use Rattle.printout_text.proofs.refused_line.Statement.{statement}

@@ -9,8 +9,8 @@ use lib.ListN.{length}
 use lib.Seq.{length-take-le}
 use Rattle.record.specs.Codec.{Bytes}
 use Rattle.judge_rules.specs.Judged.{judged}
+use Rattle.printout_sort.specs.Wrote.{wrote-long}
 use Rattle.printout.specs.Printed.{programLengths}
-use Rattle.printout.specs.Wrote.{wrote-long}
 use Rattle.printout_text.specs.LeftLaws.{piece-goes}
 use Rattle.printout_write.specs.declared.written.Written.{Written}
 use Rattle.printout_write.specs.PrintLaws.{piece-next, printed-whole, printed-part}

@@ -6,8 +6,9 @@ use Prim.Native.Nat.{ℕ}
 use mathlib.Core.Path.{sym, ap, subst, _∙_}
 use lib.ListN.{length, replicate}
 use lib.Seq.{length-take-le}
+use Rattle.printout_sort.specs.Wrote.{wrote-long}
 use Rattle.printout.specs.Lines.{refusalLine}
-use Rattle.printout.specs.Wrote.{ShownIs, wrote-long}
+use Rattle.printout.specs.LineAsks.{ShownIs}
 use Rattle.printout_text.specs.NewlineLaws.{wrote-first}
 use Rattle.printout_text.specs.TextLaws.{refusal-small}
 use Rattle.printout_write.specs.PrintLaws.{refusal-fits}

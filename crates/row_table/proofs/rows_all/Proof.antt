@@ -1,7 +1,7 @@
 -- A table without notes says the truth, whatever its length.
 -- What is said of the rows is `rows_past`'s promise.
 use borrow.Author.Needs.{needs}
-use Rattle.row_memo.specs.Past.{tableSize}
+use Rattle.row_slots.specs.Slots.{tableSize}
 use Rattle.row_memo.specs.PastLaws.{past-none}
 use Rattle.row_table.proofs.rows_all.Statement.{statement}
 use Rattle.row_table.proofs.rows_all.Tie as tie

@@ -4,7 +4,7 @@ use native.Mathlib.Omega.{arith}
 use borrow.Author.Needs.{needs}
 use Prim.Native.Nat.{ℕ, _+_, _-_, _≤_}
 use mathlib.Core.Path.{_≡_, refl, subst}
-use lib.ListN.{length, getD}
+use lib.ListN.{getD}
 use Rattle.printout.specs.Kinds.{KindsPut}
 use Rattle.printout.specs.KindLaws.{put-none, put-one, question-inside}
 use Rattle.printout.proofs.kinds.put_kinds.Statement.{statement}

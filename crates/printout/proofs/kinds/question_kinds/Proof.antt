@@ -2,8 +2,7 @@
 -- An accepted sheet is the definition's, so the kinds at its places are those of its questions.
 use native.Mathlib.Omega.{arith}
 use borrow.Author.Needs.{needs}
-use mathlib.Core.Path.{_≡_, refl, subst}
-use lib.ListN.{length, getD}
+use mathlib.Core.Path.{refl, subst}
 use Rattle.sheet.specs.Contract.{ReadSheetIs}
 use Rattle.sheet.specs.Stands.{zeros-all}
 use Rattle.printout.specs.Printed.{programLengths}

@@ -4,8 +4,8 @@ use native.Mathlib.Omega.{arith}
 use borrow.Author.Needs.{needs}
 use mathlib.Core.Path.{sym, ap}
 use lib.ListN.{length}
+use Rattle.printout_sort.specs.Wrote.{wrote-as}
 use Rattle.printout.specs.LineLaws.{answer-no, answer-yes, answer-row}
-use Rattle.printout.specs.Wrote.{wrote-as}
 use Rattle.printout.proofs.lines.put_answer.Statement.{statement}
 use Rattle.printout.proofs.lines.put_answer.Tie as tie
 

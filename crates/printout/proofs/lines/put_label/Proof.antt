@@ -4,9 +4,9 @@ use native.Mathlib.Omega.{arith}
 use borrow.Author.Needs.{needs}
 use mathlib.Core.Path.{_∙_}
 use lib.ListN.{length-set}
+use Rattle.printout_sort.specs.Wrote.{wrote-more, wrote-long, wrote-one}
 use Rattle.printout.specs.LineLaws.{label-length}
 use Rattle.printout.specs.LineAsks.{labelText}
-use Rattle.printout.specs.Wrote.{wrote-more, wrote-long, wrote-one}
 use Rattle.printout.proofs.lines.put_label.Statement.{statement}
 use Rattle.printout.proofs.lines.put_label.Tie as tie
 

@@ -2,9 +2,9 @@
 -- What was written first leaves room for the second.
 use native.Mathlib.Omega.{arith}
 use borrow.Author.Needs.{needs}
+use Rattle.printout_sort.specs.Wrote.{wrote-more, wrote-long}
 use Rattle.printout.specs.LineLaws.{refusal-length}
 use Rattle.printout.specs.Lines.{refusalText}
-use Rattle.printout.specs.Wrote.{wrote-more, wrote-long}
 use Rattle.printout.proofs.lines.put_refusal.Statement.{statement}
 use Rattle.printout.proofs.lines.put_refusal.Tie as tie
 

@@ -4,8 +4,8 @@ use native.Mathlib.Omega.{arith}
 use borrow.Author.Needs.{needs}
 use mathlib.Core.Path.{sym, ap}
 use lib.ListN.{length}
+use Rattle.printout_sort.specs.Wrote.{wrote-as}
 use Rattle.printout.specs.LineLaws.{row-sort, row-text-refused}
-use Rattle.printout.specs.Wrote.{wrote-as}
 use Rattle.printout.proofs.lines.put_row.Statement.{statement}
 use Rattle.printout.proofs.lines.put_row.Tie as tie
 

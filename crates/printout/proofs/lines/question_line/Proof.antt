@@ -1,8 +1,8 @@
 -- The line is measured first, and written only where it fits, piece by piece.
 -- What is written leaves room for the pieces behind it.
 use borrow.Author.Needs.{needs}
+use Rattle.printout_sort.specs.Wrote.{wrote-more, room-now, room-then}
 use Rattle.printout.specs.LineLaws.{question-full, question-room, question-wrote}
-use Rattle.printout.specs.Wrote.{wrote-more, room-now, room-then}
 use Rattle.printout.proofs.lines.question_line.Statement.{statement}
 use Rattle.printout.proofs.lines.question_line.Tie as tie
 

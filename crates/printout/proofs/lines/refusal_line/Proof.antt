@@ -3,8 +3,8 @@
 use native.Mathlib.Omega.{arith}
 use borrow.Author.Needs.{needs}
 use mathlib.Core.Path.{refl}
+use Rattle.printout_sort.specs.Wrote.{wrote-as, wrote-long, wrote-more}
 use Rattle.printout.specs.LineLaws.{refusal-length, refusal-line-length, refusal-line}
-use Rattle.printout.specs.Wrote.{wrote-as, wrote-long, wrote-more}
 use Rattle.printout.proofs.lines.refusal_line.Statement.{statement}
 use Rattle.printout.proofs.lines.refusal_line.Tie as tie
 

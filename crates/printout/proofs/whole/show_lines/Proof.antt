@@ -2,11 +2,9 @@
 -- One line more is the piece with that line behind it.
 use native.Mathlib.Omega.{arith}
 use borrow.Author.Needs.{needs}
-use Prim.Native.Nat.{_+_, _-_, _≤_}
-use mathlib.Core.Path.{_≡_, refl, subst, _∙_}
-use lib.ListN.{length, getD}
+use Prim.Native.Nat.{_+_, _-_}
+use mathlib.Core.Path.{_≡_, refl, subst}
 use Rattle.printout.specs.declared.Shown.{Shown}
-use Rattle.printout.specs.declared.Shown.the-variants.{To, Full}
 use Rattle.printout.specs.Whole.{LineHas}
 use Rattle.printout.specs.WholeLaws.{Showing, showing-start, showing-asks, showing-step, showing-end, showing-full}
 use Rattle.printout.proofs.whole.show_lines.Statement.{statement}

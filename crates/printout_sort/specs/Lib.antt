@@ -1,0 +1,10 @@
+pub mod Text
+pub mod DecimalLaws
+pub mod Pieces
+pub mod Wrote
+pub mod PieceLaws
+pub mod NameLaws
+pub mod Trees
+pub mod TreeLaws
+pub mod TextLaws
+pub mod Examples

@@ -1,0 +1,2 @@
+pub mod SlotLaws
+pub mod LookLaws
