@@ -1,6 +1,5 @@
 -- The checked verdict on a record whose arguments are gathered.
 -- Constants and Apps are their lines of the definition; what does not take the tables of names leaves them.
-use borrow.Author.Needs.{needs}
 use mathlib.Core.Path.{refl}
 use mathlib.Core.Bool.{false≢true}
 use Rattle.record.specs.Decode.{storeOf}
@@ -60,5 +59,5 @@ returns-3 c = record { answer = c .before .before .before .before .before .befor
 
 pub check-spec : {M : Type 1} → statement M
 check-spec =
-    tie.close (tie.spec checked-constant-requires (λ c. search needs) (λ c. search needs) (λ c. search needs) returns checked-app-requires (λ c. search needs) (λ c. search needs) (λ c. search needs) (λ c. search needs) (λ c. search needs) (λ c. search needs) (λ c. search needs) returns-2 composed-site-requires (λ c. search needs) (λ c. search needs) (λ c. search needs)
-    (λ c. search needs) returns-3)
+    tie.close (tie.spec checked-constant-requires (λ c. search) (λ c. search) (λ c. search) returns checked-app-requires (λ c. search) (λ c. search) (λ c. search) (λ c. search) (λ c. search) (λ c. search) (λ c. search) returns-2 composed-site-requires (λ c. search) (λ c. search) (λ c. search)
+    (λ c. search) returns-3)

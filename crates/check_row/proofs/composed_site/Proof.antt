@@ -1,6 +1,5 @@
 -- The answer to a record that is neither a constant nor an App.
 -- Each kind is its line of the definition.
-use borrow.Author.Needs.{needs}
 use Rattle.row_answer.specs.AnswerLaws.{judged-as}
 use Rattle.check_row.proofs.KindLaws.{op-asks, op-is, binder-asks, binder-kind, index-asks, index-kind, known-asks, known-is}
 use Rattle.check_row.proofs.composed_site.Statement.{statement}
@@ -65,5 +64,5 @@ returns-4 c =
 
 pub composed-site-spec : {M : Type 1} → statement M
 composed-site-spec =
-    tie.close (tie.spec checked-operator-requires (λ c. search needs) (λ c. search needs) (λ c. search needs) (λ c. search needs) returns checked-binder-requires (λ c. search needs) (λ c. search needs) (λ c. search needs) (λ c. search needs) returns-2 checked-indexed-requires (λ c. search needs) (λ c. search needs) (λ c. search needs) (λ c. search needs) returns-3 known-site-requires
-    (λ c. search needs) (λ c. search needs) (λ c. search needs) returns-4)
+    tie.close (tie.spec checked-operator-requires (λ c. search) (λ c. search) (λ c. search) (λ c. search) returns checked-binder-requires (λ c. search) (λ c. search) (λ c. search) (λ c. search) returns-2 checked-indexed-requires (λ c. search) (λ c. search) (λ c. search) (λ c. search) returns-3 known-site-requires
+    (λ c. search) (λ c. search) (λ c. search) returns-4)

@@ -1,7 +1,6 @@
 -- The answer of each kind over its arguments.
 -- What single numbers leave is a ParamOp.
 use native.Mathlib.Omega.{arith}
-use borrow.Author.Needs.{needs}
 use mathlib.Core.Path.{_∙_}
 use Rattle.record.specs.Decode.{storeOf}
 use Rattle.row_answer.specs.AnswerLaws.{judged-as}
@@ -117,5 +116,5 @@ returns-5 c =
 
 pub inferred-composed-spec : {M : Type 1} → statement M
 inferred-composed-spec =
-    tie.close (tie.spec inferred-operator-requires inferred-binder-requires last-of-requires last-of-requires-2 inferred-indexed-requires (λ c. search needs) (λ c. search needs) (λ c. search needs) (λ c. search needs) returns (λ c. search needs) (λ c. search needs) (λ c. search needs) (λ c. search needs) returns-2 (λ c. search needs) returns-3 (λ c. search needs) returns-4 (λ c. search needs)
-    (λ c. search needs) (λ c. search needs) (λ c. search needs) returns-5)
+    tie.close (tie.spec inferred-operator-requires inferred-binder-requires last-of-requires last-of-requires-2 inferred-indexed-requires (λ c. search) (λ c. search) (λ c. search) (λ c. search) returns (λ c. search) (λ c. search) (λ c. search) (λ c. search) returns-2 (λ c. search) returns-3 (λ c. search) returns-4 (λ c. search)
+    (λ c. search) (λ c. search) (λ c. search) returns-5)

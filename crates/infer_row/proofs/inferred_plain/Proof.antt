@@ -139,5 +139,5 @@ returns-6 c =
 
 pub inferred-plain-spec : {M : Type 1} → statement M
 inferred-plain-spec =
-    tie.close (tie.spec leaf-requires leaf-requires-2 leaf-requires-3 leaf-requires-4 bit-vector-requires mul-k shared-slice-read-k cast-k (λ c κs. search needs) (λ c. search needs) (λ c. search needs) (λ c. search needs) returns (λ c. search needs) (λ c. search needs) (λ c. search needs) returns-2 (λ c. search needs) (λ c. search needs) (λ c. search needs) returns-3
-    (λ c. search needs) (λ c. search needs) (λ c. search needs) returns-4 (λ c. search needs) (λ c. search needs) (λ c. search needs) returns-5 returns-6)
+    tie.close (tie.spec leaf-requires leaf-requires-2 leaf-requires-3 leaf-requires-4 bit-vector-requires mul-k shared-slice-read-k cast-k (λ c κs. search needs) (λ c. search) (λ c. search) (λ c. search) returns (λ c. search) (λ c. search) (λ c. search) returns-2 (λ c. search) (λ c. search) (λ c. search) returns-3
+    (λ c. search) (λ c. search) (λ c. search) returns-4 (λ c. search) (λ c. search) (λ c. search) returns-5 returns-6)

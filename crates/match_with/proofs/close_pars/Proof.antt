@@ -1,6 +1,5 @@
 -- Down the way from p: the names of the sorts behind are taken off, and those before are still listed.
 use native.Mathlib.Omega.{arith}
-use borrow.Author.Needs.{needs}
 use Prim.Native.Nat.{ℕ, _-_}
 use mathlib.Core.Path.{sym, subst}
 use native.Mathlib.Numerals.{add-one}

@@ -1,7 +1,6 @@
 -- Each kind is one case of the definition.
 -- The tables of names are those that were lent.
 use native.Mathlib.Omega.{arith}
-use borrow.Author.Needs.{needs}
 use Prim.Native.Nat.{_+_}
 use mathlib.Core.Path.{refl}
 use Rattle.row_answer.specs.AnswerLaws.{answer-code}
@@ -99,5 +98,5 @@ returns-3 c =
 
 pub answer-question-spec : {M : Type 1} → statement M
 answer-question-spec =
-    tie.close (tie.spec sort-at-requires add-sort-at sort-at-requires-2 answer-compatible-requires (λ c. search needs) (λ c. search needs) returns answer-match-requires word-of-requires (λ c. search needs) (λ c. search needs) (λ c. search needs) (λ c. search needs) (λ c. search needs) (λ c. search needs) returns-2 answer-apply-requires word-of-requires-2 (λ c. search needs)
-    (λ c. search needs) (λ c. search needs) (λ c. search needs) returns-3)
+    tie.close (tie.spec sort-at-requires add-sort-at sort-at-requires-2 answer-compatible-requires (λ c. search) (λ c. search) returns answer-match-requires word-of-requires (λ c. search) (λ c. search) (λ c. search) (λ c. search) (λ c. search) (λ c. search) returns-2 answer-apply-requires word-of-requires-2 (λ c. search)
+    (λ c. search) (λ c. search) (λ c. search) returns-3)

@@ -43,4 +43,4 @@ returns-2 c =
     judged-as (ap sort (sym (vector-sort (a .width) (c .before .before .before .before .before .before .before .before .before .before .before .if1 .left) (storeOf b p n)))) (c .before .before .before .before .before .before .make .ensures)
 
 pub bit-vector-spec : {M : Type 1} → statement M
-bit-vector-spec = tie.close (tie.spec (λ c κs. search needs) returns cast-t11 (λ c. search needs) (λ c. search needs) make-requires (λ c. search needs) (λ c. search needs) (λ c. search needs) returns-2)
+bit-vector-spec = tie.close (tie.spec (λ c κs. search needs) returns cast-t11 (λ c. search needs) (λ c. search needs) make-requires (λ c. search) (λ c. search) (λ c. search) returns-2)

@@ -26,4 +26,4 @@ returns c =
     judged-as (ap sort (sym (leaf-sort (a .kind) (s .pre .map) (storeOf b p n)))) (c .before .before .before .before .before .before .make .ensures)
 
 pub leaf-spec : {M : Type 1} → statement M
-leaf-spec = tie.close (tie.spec (λ c. search needs) make-requires (λ c. search needs) (λ c. search needs) (λ c. search needs) returns)
+leaf-spec = tie.close (tie.spec (λ c. search needs) make-requires (λ c. search) (λ c. search) (λ c. search) returns)

@@ -59,4 +59,4 @@ returns-3 c =
     (subst (InternedIs b p ix n u r (d .0) (d .1 .0) (d .1 .1 .0)) (c .before .enum-told .given .1) (c .before .before .before .before .before .before .before .before .before .intern .ensures)))
 
 pub make-spec : {M : Type 1} → statement M
-make-spec = tie.close (tie.spec tree-size-requires (λ c κs. search needs) (λ c. search needs) returns intern-requires (λ c. search needs) (λ c κs. search needs) (λ c. search needs) (λ c κs. search needs) (λ c. search needs) (λ c. search needs) (λ c. search needs) returns-2 (λ c. search needs) (λ c. search needs) (λ c. search needs) returns-3)
+make-spec = tie.close (tie.spec tree-size-requires (λ c κs. search needs) (λ c. search) returns intern-requires (λ c. search needs) (λ c κs. search needs) (λ c. search needs) (λ c κs. search needs) (λ c. search) (λ c. search) (λ c. search) returns-2 (λ c. search) (λ c. search) (λ c. search) returns-3)

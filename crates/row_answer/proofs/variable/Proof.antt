@@ -30,4 +30,4 @@ returns c =
     judged-as (ap sort (sym (var-sort (a .name) (s .pre .small) (storeOf b p n)))) (c .before .before .before .before .before .before .make .ensures)
 
 pub variable-spec : {M : Type 1} → statement M
-variable-spec = tie.close (tie.spec cast-t9 (λ c. search needs) (λ c. search needs) make-requires (λ c. search needs) (λ c. search needs) (λ c. search needs) returns)
+variable-spec = tie.close (tie.spec cast-t9 (λ c. search needs) (λ c. search needs) make-requires (λ c. search) (λ c. search) (λ c. search) returns)

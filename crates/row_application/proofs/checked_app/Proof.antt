@@ -39,4 +39,4 @@ returns-3 c =
     app-refused (c₅ .pre .0 .good) Misfit (app-other (c₅ .pre .0) (omega (arith, c₄ .if1 .left)) (c₃ .u16-at .ensures .0) (c₂ .head-of .result) (c₂ .head-of .ensures) (c₄ .if1 .left) (c₁ .enum-told .given .1)) (c .refuse2 .ensures)
 
 pub checked-app-spec : {M : Type 1} → statement M
-checked-app-spec = tie.close (tie.spec (λ c κs. search needs) returns u16-at-requires head-of-requires (λ c. search needs) sub-called called-requires (λ c. search needs) (λ c κs. search needs) (λ c. search needs) (λ c. search needs) (λ c. search needs) (λ c. search needs) (λ c. search needs) (λ c. search needs) returns-2 (λ c. search needs) (λ c. search needs) returns-3)
+checked-app-spec = tie.close (tie.spec (λ c κs. search needs) returns u16-at-requires head-of-requires (λ c. search needs) sub-called called-requires (λ c. search needs) (λ c κs. search needs) (λ c. search) (λ c. search) (λ c. search) (λ c. search) (λ c. search) (λ c. search) returns-2 (λ c. search) (λ c. search) returns-3)

@@ -68,5 +68,5 @@ returns-5 c =
     app-refused (c₅ .pre .good) Panics (applied-other (c₅ .pre) (positive (c₅ .args .total) (c₄ .if1 .left)) (c₃ .u16-at .ensures .0) (c₂ .head-of .result) (c₂ .head-of .ensures) (c₁ .enum-told .given .1)) (c .refuse3 .ensures)
 
 pub inferred-app-spec : {M : Type 1} → statement M
-inferred-app-spec = tie.close (tie.spec (λ c κs. search needs) returns sub-n u16-at-requires head-of-requires (λ c. search needs) (λ c κs. search needs) (λ c. search needs) (λ c. search needs) (λ c. search needs) returns-2 mul-at add-at remaining-requires (λ c. search needs) (λ c. search needs) (λ c. search needs) (λ c. search needs) returns-3 parametric-requires (λ c. search needs)
-    (λ c κs. search needs) (λ c. search needs) (λ c. search needs) (λ c. search needs) (λ c. search needs) (λ c. search needs) (λ c. search needs) (λ c. search needs) returns-4 (λ c. search needs) (λ c. search needs) (λ c. search needs) returns-5)
+inferred-app-spec = tie.close (tie.spec (λ c κs. search needs) returns sub-n u16-at-requires head-of-requires (λ c. search needs) (λ c κs. search needs) (λ c. search) (λ c. search) (λ c. search) returns-2 mul-at add-at remaining-requires (λ c. search) (λ c. search) (λ c. search) (λ c. search) returns-3 parametric-requires (λ c. search needs)
+    (λ c κs. search needs) (λ c. search) (λ c. search) (λ c. search) (λ c. search) (λ c. search) (λ c. search) (λ c. search) returns-4 (λ c. search) (λ c. search) (λ c. search) returns-5)

@@ -1,6 +1,5 @@
--- An App goes to `application`, whose answer is the row of its record.
+-- An App goes to `checked_app`, whose answer is the row of its record.
 -- Any other record goes to `check`.
-use mathlib.Core.Path.{refl}
 use Rattle.row_memo.proofs.RowLaws.{app-asks, app-row}
 use Rattle.row_memo.proofs.checked_anew.Statement.{statement}
 use Rattle.row_memo.proofs.checked_anew.Tie as tie
@@ -19,22 +18,7 @@ check-requires c κs = c .before .before .before .before .before .before .before
 returns-2 : tie.Need-returns-2
 returns-2 c = c .before .before .before .before .before .before .before .before .before .before .before .before .before .before .check .ensures
 
--- That a buffer keeps its length is read off the call that had it: a search for that takes longer than the rest.
+-- That a buffer keeps its length stands among what the calls gave: a search of that alone is quick.
 pub checked-anew-spec : {M : Type 1} → statement M
 checked-anew-spec =
-    tie.close (tie.spec checked-app-requires
-    (λ c. c .before .before .before .before .before .before .before .before .before .before .before .before .checked-app .kept .0)
-    (λ c. c .before .before .before .before .before .before .before .before .before .before .before .before .checked-app .kept .1 .0)
-    (λ c. c .before .before .before .before .before .before .before .before .before .before .before .before .checked-app .kept .1 .1 .0)
-    (λ c. c .before .before .before .before .before .before .before .before .before .before .before .before .checked-app .kept .1 .1 .1 .1 .1 .0)
-    (λ c. c .before .before .before .before .before .before .before .before .before .before .before .before .checked-app .kept .1 .1 .1 .1 .1 .1 .0)
-    (λ c. c .before .before .before .before .before .before .before .before .before .before .before .before .checked-app .kept .1 .1 .1 .1 .1 .1 .1 .0)
-    (λ c. refl) returns check-requires
-    (λ c. c .before .before .before .before .before .before .before .before .before .before .before .before .before .before .check .kept .0)
-    (λ c. c .before .before .before .before .before .before .before .before .before .before .before .before .before .before .check .kept .1 .0)
-    (λ c. c .before .before .before .before .before .before .before .before .before .before .before .before .before .before .check .kept .1 .1 .0)
-    (λ c. c .before .before .before .before .before .before .before .before .before .before .before .before .before .before .check .kept .1 .1 .1 .1 .1 .0)
-    (λ c. c .before .before .before .before .before .before .before .before .before .before .before .before .before .before .check .kept .1 .1 .1 .1 .1 .1 .0)
-    (λ c. c .before .before .before .before .before .before .before .before .before .before .before .before .before .before .check .kept .1 .1 .1 .1 .1 .1 .1 .0)
-    (λ c. c .before .before .before .before .before .before .before .before .before .before .before .before .before .before .check .kept .1 .1 .1 .1 .1 .1 .1 .1 .1 .1 .1 .1 .0)
-    returns-2)
+    tie.close (tie.spec checked-app-requires (λ c. search) (λ c. search) (λ c. search) (λ c. search) (λ c. search) (λ c. search) (λ c. search) returns check-requires (λ c. search) (λ c. search) (λ c. search) (λ c. search) (λ c. search) (λ c. search) (λ c. search) returns-2)

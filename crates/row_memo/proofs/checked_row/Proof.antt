@@ -2,7 +2,7 @@
 -- That is noted then.
 use native.Mathlib.Omega.{arith}
 use borrow.Author.Needs.{needs}
-use mathlib.Core.Path.{refl, _∙_}
+use mathlib.Core.Path.{_∙_}
 use Rattle.record.specs.Cases.{not-true, not-false}
 use Rattle.row_parts.specs.SiteLaws.{parts-ask}
 use Rattle.row_memo.proofs.RowLaws.{by-checked, row-below, look-asks, row-coded, row-recalled, site-asks, lack-asks, row-crowded, note-asks, row-made}
@@ -66,18 +66,8 @@ returns-3 c =
     let c₄ = c₃ .before .before .before .before .before in let c₅ = c₄ .before .before .before in let c₆ = c₅ .before .before .before .before .before .before .before .before .before .before .before .before .before .before .before in
     row-made (c₆ .pre) (c₅ .parts-judged .kept .1 .1 .1 .1 .0) (not-false (c₅ .parts-judged .result) (c₄ .if1 .left)) (c₅ .parts-judged .ensures) (c₃ .looked-up .ensures) (by-checked (c₂ .checked-anew .ensures)) (c₁ .row-noted .ensures)
 
--- That a buffer keeps its length is read off the call that had it: a search for that takes longer than the rest.
+-- That a buffer keeps its length stands among what the calls gave: a search of that alone is quick.
 pub checked-row-spec : {M : Type 1} → statement M
 checked-row-spec =
-    tie.close (tie.spec parts-judged-requires (λ c κs. search needs) (λ c. c .before .before .before .before .parts-judged .kept .1 .1 .1 .1 .0) returns looked-up-requires (λ c. search needs) row-again-requires
-    (λ c. refl) (λ c. refl)
-    (λ c. c .before .before .before .before .before .before .before .before .before .before .before .before .before .before .parts-judged .kept .1 .1 .1 .1 .0)
-    (λ c. c .before .before .before .before .before .before .looked-up .kept .1 .1 .1 .1 .1 .0)
-    returns-2 lacks-room-requires checked-anew-requires row-noted-requires
-    (λ c. c .before .before .before .before .before .before .before .before .before .before .before .before .before .before .before .before .before .before .checked-anew .kept .0)
-    (λ c. c .before .before .before .before .before .before .before .before .before .before .before .before .before .before .before .before .before .before .checked-anew .kept .1 .0)
-    (λ c. c .before .before .before .before .before .before .before .before .before .before .before .before .before .before .before .before .before .before .checked-anew .kept .1 .1 .0)
-    (λ c. c .before .before .before .before .before .before .before .before .before .before .before .before .before .before .before .before .before .before .checked-anew .kept .1 .1 .1 .1 .0)
-    (λ c. c .before .before .before .before .before .before .before .before .before .before .before .before .before .before .before .before .before .before .checked-anew .kept .1 .1 .1 .1 .1 .0)
-    (λ c. c .before .before .before .before .before .before .before .before .before .before .before .before .before .before .before .before .before .before .checked-anew .kept .1 .1 .1 .1 .1 .1 .0)
-    same-length-12 same-length-13 returns-3)
+    tie.close (tie.spec parts-judged-requires (λ c κs. search needs) (λ c. search) returns looked-up-requires (λ c. search needs) row-again-requires (λ c. search) (λ c. search) (λ c. search) (λ c. search) returns-2 lacks-room-requires checked-anew-requires row-noted-requires (λ c. search)
+    (λ c. search) (λ c. search) (λ c. search) (λ c. search) (λ c. search) same-length-12 same-length-13 returns-3)

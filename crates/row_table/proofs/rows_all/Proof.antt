@@ -26,5 +26,5 @@ returns-2 c = c .before .before .before .before .before .before .before .before 
 
 pub rows-all-spec : {M : Type 1} → statement M
 rows-all-spec =
-    tie.close (tie.spec (λ c. search needs) rows-past-requires (λ c. search needs) (λ c. search needs) (λ c. search needs) (λ c. search needs) (λ c. search needs) (λ c. search needs) (λ c. search needs) returns (λ c. search needs) rows-past-requires-2 (λ c. search needs) (λ c. search needs) (λ c. search needs) (λ c. search needs) (λ c. search needs) (λ c. search needs)
-    (λ c. search needs) returns-2)
+    tie.close (tie.spec (λ c. search needs) rows-past-requires (λ c. search) (λ c. search) (λ c. search) (λ c. search) (λ c. search) (λ c. search) (λ c. search) returns (λ c. search needs) rows-past-requires-2 (λ c. search) (λ c. search) (λ c. search) (λ c. search) (λ c. search) (λ c. search)
+    (λ c. search) returns-2)

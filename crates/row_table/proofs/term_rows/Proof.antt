@@ -40,4 +40,4 @@ returns-2 c =
 
 pub term-rows-spec : {M : Type 1} → statement M
 term-rows-spec =
-    tie.close (tie.spec mul-at shared-slice-read-at cast-at (λ c κs. search needs) (λ c. search needs) rows-of-requires (λ c. search needs) (λ c. search needs) (λ c. search needs) (λ c. search needs) (λ c. search needs) (λ c. search needs) (λ c. search needs) (λ c. search needs) (λ c. search needs) returns returns-2)
+    tie.close (tie.spec mul-at shared-slice-read-at cast-at (λ c κs. search needs) (λ c. search needs) rows-of-requires (λ c. search needs) (λ c. search) (λ c. search) (λ c. search) (λ c. search) (λ c. search) (λ c. search) (λ c. search) (λ c. search) returns returns-2)

@@ -36,4 +36,4 @@ returns-2 c =
     judge-unasked (w .pre) (c₁ .rows-all .ensures) (none-asked b p (k .count) (k .questions) (c₃ .uses-names .ensures) (c₂ .if1 .left))
 
 pub judge-accepted-spec : {M : Type 1} → statement M
-judge-accepted-spec = tie.close (tie.spec uses-names-requires judge-named-requires (λ c. search needs) (λ c. search needs) (λ c. search needs) (λ c. search needs) (λ c. search needs) returns (λ c. search needs) (λ c. search needs) (λ c. search needs) rows-all-requires (λ c. search needs) (λ c. search needs) (λ c. search needs) (λ c. search needs) returns-2)
+judge-accepted-spec = tie.close (tie.spec uses-names-requires judge-named-requires (λ c. search) (λ c. search) (λ c. search) (λ c. search) (λ c. search) returns (λ c. search needs) (λ c. search needs) (λ c. search needs) rows-all-requires (λ c. search) (λ c. search) (λ c. search) (λ c. search) returns-2)

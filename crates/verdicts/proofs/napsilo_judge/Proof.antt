@@ -16,4 +16,4 @@ returns-2 c =
     number-is (c .before .before .before .before .before .before .before .before .before .before .before .before .judge .ensures) (c .refusal-number .ensures ∙ sym (ap numberOfOutcome (c .before .before .outcome .given .1)))
 
 pub napsilo-judge-spec : {M : Type 1} → statement M
-napsilo-judge-spec = tie.close (tie.spec (λ c κs. search needs) (λ c. search needs) (λ c. search needs) (λ c κs. search needs) (λ c. search needs) (λ c. search needs) (λ c. search needs) (λ c. search needs) returns (λ c. search needs) (λ c. search needs) (λ c. search needs) (λ c. search needs) returns-2)
+napsilo-judge-spec = tie.close (tie.spec (λ c κs. search needs) (λ c. search needs) (λ c. search needs) (λ c κs. search needs) (λ c. search) (λ c. search) (λ c. search) (λ c. search) returns (λ c. search) (λ c. search) (λ c. search) (λ c. search) returns-2)

@@ -96,5 +96,5 @@ returns-3 c =
 
 pub apply-deep-spec : {M : Type 1} → statement M
 apply-deep-spec =
-    tie.close (tie.spec size-at-requires apply-sort-requires (λ c. search needs) (λ c. search needs) (λ c. search needs) (λ c. search needs) returns (λ c. search needs) (λ c. search needs) order-of-requires slice-aggregate-apply-order apply-order-requires (λ c. search needs) apply-sort-requires-2 (λ c. search needs) same-length-5 same-length-6 same-length-7 same-length-8
-    returns-2 (λ c. search needs) (λ c. search needs) (λ c. search needs) (λ c. search needs) returns-3)
+    tie.close (tie.spec size-at-requires apply-sort-requires (λ c. search) (λ c. search) (λ c. search) (λ c. search) returns (λ c. search needs) (λ c. search needs) order-of-requires slice-aggregate-apply-order apply-order-requires (λ c. search needs) apply-sort-requires-2 (λ c. search needs) same-length-5 same-length-6 same-length-7 same-length-8
+    returns-2 (λ c. search) (λ c. search) (λ c. search) (λ c. search) returns-3)

@@ -37,4 +37,4 @@ returns-2 c =
     known-replaced (a .records .now) (a .places .now) (a .count) (a .used) (a .k) (a .images .now) (d .0) (d .1 .0) (d .1 .1 .0) (d .1 .1 .1 .0) (c .before .before .before .before .before .before .before .apply-deep .result) (c .before .before .before .before .before .before .before .apply-deep .ensures)
 
 pub make-answer-spec : {M : Type 1} → statement M
-make-answer-spec = tie.close (tie.spec size-at-requires (λ c. search needs) apply-sort-requires (λ c. search needs) (λ c. search needs) (λ c. search needs) returns (λ c. search needs) apply-deep-requires (λ c. search needs) (λ c. search needs) (λ c. search needs) returns-2)
+make-answer-spec = tie.close (tie.spec size-at-requires (λ c. search needs) apply-sort-requires (λ c. search) (λ c. search) (λ c. search) returns (λ c. search needs) apply-deep-requires (λ c. search) (λ c. search) (λ c. search) returns-2)

@@ -19,4 +19,4 @@ returns c =
     known-parts (a .records .now) (a .places .now) (a .count) (a .used) (held (a .parts .now) (a .many)) (a .images .now) (d .0) (d .1 .0) (d .1 .1 .0) (d .1 .1 .1 .0) (held (d .1 .1 .1 .1 .0) (a .many)) (c .before .before .before .before .before .before .before .before .before .apply-list .result) (c .before .before .before .before .before .before .before .before .before .apply-list .ensures)
 
 pub make-answers-spec : {M : Type 1} → statement M
-make-answers-spec = tie.close (tie.spec (λ c. search needs) apply-list-requires (λ c. search needs) (λ c. search needs) (λ c. search needs) (λ c. search needs) returns)
+make-answers-spec = tie.close (tie.spec (λ c. search needs) apply-list-requires (λ c. search) (λ c. search) (λ c. search) (λ c. search) returns)

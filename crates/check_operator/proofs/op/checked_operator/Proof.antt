@@ -71,4 +71,4 @@ returns-4 c =
     (c₁ .delivered-fit .ensures)
 
 pub checked-operator-spec : {M : Type 1} → statement M
-checked-operator-spec = tie.close (tie.spec rule-of-requires (λ c κs. search needs) (λ c κs. search needs) returns (λ c κs. search needs) (λ c κs. search needs) returns-2 all-values-requires (λ c κs. search needs) (λ c. search needs) (λ c. search needs) returns-3 fit-rule-requires delivered-fit-requires (λ c. search needs) (λ c. search needs) (λ c. search needs) returns-4)
+checked-operator-spec = tie.close (tie.spec rule-of-requires (λ c κs. search needs) (λ c κs. search needs) returns (λ c κs. search needs) (λ c κs. search needs) returns-2 all-values-requires (λ c κs. search needs) (λ c. search) (λ c. search) returns-3 fit-rule-requires delivered-fit-requires (λ c. search) (λ c. search) (λ c. search) returns-4)

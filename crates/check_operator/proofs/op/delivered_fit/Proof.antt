@@ -70,4 +70,4 @@ returns-4 c =
     judged-as (ap (fitVerdict (storeOf b p n)) (c .before .enum-told .given .1)) (answered-as (c .refuse .ensures) (made-refused b p ix n u (s .pre .good) Misfit))
 
 pub delivered-fit-spec : {M : Type 1} → statement M
-delivered-fit-spec = tie.close (tie.spec (λ c. search needs) (λ c κs. search needs) (λ c. search needs) cast-leaf leaf-requires (λ c. search needs) bit-vector-requires (λ c. search needs) (λ c κs. search needs) returns (λ c. search needs) (λ c. search needs) (λ c. search needs) returns-2 (λ c. search needs) (λ c. search needs) (λ c. search needs) returns-3 returns-4)
+delivered-fit-spec = tie.close (tie.spec (λ c. search needs) (λ c κs. search needs) (λ c. search needs) cast-leaf leaf-requires (λ c. search needs) bit-vector-requires (λ c. search needs) (λ c κs. search needs) returns (λ c. search) (λ c. search) (λ c. search) returns-2 (λ c. search) (λ c. search) (λ c. search) returns-3 returns-4)

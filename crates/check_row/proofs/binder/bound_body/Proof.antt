@@ -62,4 +62,4 @@ returns-4 c =
     judged-as {b = b} {p = p} {n = n} (lambda-yes (s .pre .bound) (q .body) (s .pre .known) (q .number) (c₄ .if2 .left) (c₃ .kind-at .result) (c₃ .kind-at .ensures) (c₅ .if1 .left) (c₂ .if3 .left)) (c₁ .lambda .ensures)
 
 pub bound-body-spec : {M : Type 1} → statement M
-bound-body-spec = tie.close (tie.spec quantified-requires (λ c. search needs) (λ c. search needs) returns (λ c κs. search needs) returns-2 kind-at-requires (λ c κs. search needs) (λ c. search needs) (λ c. search needs) returns-3 lambda-requires (λ c. search needs) (λ c. search needs) (λ c. search needs) (λ c. search needs) returns-4)
+bound-body-spec = tie.close (tie.spec quantified-requires (λ c. search) (λ c. search) returns (λ c κs. search needs) returns-2 kind-at-requires (λ c κs. search needs) (λ c. search) (λ c. search) returns-3 lambda-requires (λ c. search) (λ c. search) (λ c. search) (λ c. search) returns-4)

@@ -45,4 +45,4 @@ returns-2 c =
     judged-as (binder-barred (s .pre) (q .number) (c .before .before .all-proper .ensures) (c .before .if1 .left)) (answered-as (c .refuse .ensures) (made-refused b p ix n u (s .pre .good) Barred))
 
 pub checked-binder-spec : {M : Type 1} → statement M
-checked-binder-spec = tie.close (tie.spec all-proper-requires u16-at-requires bound-body-requires (λ c. search needs) (λ c. search needs) (λ c. search needs) (λ c. search needs) returns (λ c κs. search needs) (λ c. search needs) (λ c. search needs) returns-2)
+checked-binder-spec = tie.close (tie.spec all-proper-requires u16-at-requires bound-body-requires (λ c. search) (λ c. search) (λ c. search) (λ c. search) returns (λ c κs. search needs) (λ c. search) (λ c. search) returns-2)

@@ -63,4 +63,4 @@ returns-4 c =
     judged-as (extract-fits (s .pre) (q .i) (q .j) (c₄ .if1 .left) (c₅ .entry .result) (c₅ .entry .ensures) (c₃ .if2 .left) (c₂ .if3 .left)) (c₁ .bit-vector .ensures)
 
 pub checked-extract-spec : {M : Type 1} → statement M
-checked-extract-spec = tie.close (tie.spec entry-requires (λ c κs. search needs) (λ c. search needs) (λ c. search needs) returns (λ c κs. search needs) (λ c. search needs) (λ c. search needs) returns-2 (λ c κs. search needs) (λ c. search needs) (λ c. search needs) returns-3 add-bit-vector bit-vector-requires (λ c. search needs) (λ c. search needs) (λ c. search needs) returns-4)
+checked-extract-spec = tie.close (tie.spec entry-requires (λ c κs. search needs) (λ c. search) (λ c. search) returns (λ c κs. search needs) (λ c. search) (λ c. search) returns-2 (λ c κs. search needs) (λ c. search) (λ c. search) returns-3 add-bit-vector bit-vector-requires (λ c. search) (λ c. search) (λ c. search) returns-4)

@@ -84,4 +84,4 @@ returns-5 c =
     judged-as (indexing-is (s .pre) (c₇ .if1 .left) (c₆ .if2 .left) (c₅ .if3 .left) (c₄ .if4 .left) (c₃ .indices-of .ensures) (c₂ .u16-at .ensures .0)) (c₁ .indexed-by .ensures)
 
 pub checked-indexed-spec : {M : Type 1} → statement M
-checked-indexed-spec = tie.close (tie.spec (λ c κs. search needs) returns (λ c κs. search needs) returns-2 (λ c κs. search needs) returns-3 (λ c κs. search needs) returns-4 indices-of-requires u16-at-requires indexed-by-requires (λ c. search needs) (λ c. search needs) (λ c. search needs) returns-5)
+checked-indexed-spec = tie.close (tie.spec (λ c κs. search needs) returns (λ c κs. search needs) returns-2 (λ c κs. search needs) returns-3 (λ c κs. search needs) returns-4 indices-of-requires u16-at-requires indexed-by-requires (λ c. search) (λ c. search) (λ c. search) returns-5)

@@ -50,4 +50,4 @@ returns-3 c =
     judged-as (ap (λ (x : Indices). indexedWith (q .op) x (sortAt b p n (q .a))) (c .before .enum-told .given .1)) (answered-as (c .refuse .ensures) (made-refused b p ix n u (s .pre .good) Count))
 
 pub indexed-by-spec : {M : Type 1} → statement M
-indexed-by-spec = tie.close (tie.spec (λ c. search needs) with-one-requires (λ c. search needs) with-two-requires (λ c. search needs) (λ c κs. search needs) (λ c. search needs) (λ c. search needs) (λ c. search needs) returns (λ c. search needs) (λ c. search needs) (λ c. search needs) returns-2 returns-3)
+indexed-by-spec = tie.close (tie.spec (λ c. search needs) with-one-requires (λ c. search needs) with-two-requires (λ c. search needs) (λ c κs. search needs) (λ c. search) (λ c. search) (λ c. search) returns (λ c. search) (λ c. search) (λ c. search) returns-2 returns-3)

@@ -34,4 +34,4 @@ returns-2 c =
     judged-as (ap (λ (t : Bool). need t Misfit (sort (bitvec (q .width)))) (ne-eqb (q .kind) (q .wanted) (c .before .if1 .left))) (answered-as (c .refuse .ensures) (made-refused b p ix n u (s .pre) Misfit))
 
 pub widened-spec : {M : Type 1} → statement M
-widened-spec = tie.close (tie.spec bit-vector-requires (λ c. search needs) (λ c. search needs) (λ c. search needs) returns (λ c κs. search needs) returns-2)
+widened-spec = tie.close (tie.spec bit-vector-requires (λ c. search) (λ c. search) (λ c. search) returns (λ c κs. search needs) returns-2)

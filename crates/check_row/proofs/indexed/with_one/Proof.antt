@@ -111,5 +111,5 @@ returns-8 c =
 
 pub with-one-spec : {M : Type 1} → statement M
 with-one-spec =
-    tie.close (tie.spec entry-requires (λ c κs. search needs) (λ c. search needs) (λ c. search needs) returns mul-widened widened-requires (λ c κs. search needs) (λ c. search needs) (λ c. search needs) returns-2 widened-requires-2 (λ c κs. search needs) add-widened widened-requires-3 (λ c κs. search needs) (λ c κs. search needs) (λ c. search needs) (λ c. search needs)
-    (λ c. search needs) returns-3 (λ c. search needs) (λ c. search needs) (λ c. search needs) returns-4 (λ c. search needs) (λ c. search needs) returns-5 (λ c. search needs) (λ c. search needs) (λ c. search needs) returns-6 (λ c. search needs) (λ c. search needs) returns-7 (λ c. search needs) (λ c. search needs) returns-8)
+    tie.close (tie.spec entry-requires (λ c κs. search needs) (λ c. search) (λ c. search) returns mul-widened widened-requires (λ c κs. search needs) (λ c. search) (λ c. search) returns-2 widened-requires-2 (λ c κs. search needs) add-widened widened-requires-3 (λ c κs. search needs) (λ c κs. search needs) (λ c. search) (λ c. search)
+    (λ c. search) returns-3 (λ c. search) (λ c. search) (λ c. search) returns-4 (λ c. search) (λ c. search) returns-5 (λ c. search) (λ c. search) (λ c. search) returns-6 (λ c. search) (λ c. search) returns-7 (λ c. search) (λ c. search) returns-8)

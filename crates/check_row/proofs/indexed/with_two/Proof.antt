@@ -48,4 +48,4 @@ returns-3 c =
     judged-as (two-other (q .op) (q .i) (q .j) (sortAt b p n (q .a)) (c .before .before .if1 .left) (c .before .if2 .left)) (answered-as (c .refuse .ensures) (made-refused b p ix n u (s .pre .good) Count))
 
 pub with-two-spec : {M : Type 1} → statement M
-with-two-spec = tie.close (tie.spec checked-extract-requires (λ c. search needs) (λ c. search needs) (λ c. search needs) returns entry-requires (λ c κs. search needs) (λ c. search needs) (λ c. search needs) returns-2 (λ c κs. search needs) returns-3)
+with-two-spec = tie.close (tie.spec checked-extract-requires (λ c. search) (λ c. search) (λ c. search) returns entry-requires (λ c κs. search needs) (λ c. search) (λ c. search) returns-2 (λ c κs. search needs) returns-3)

@@ -47,4 +47,4 @@ returns-3 c =
     judged-as (constant-vector (q .kind) (q .number) (c .before .before .before .before .before .before .before .before .before .before .before .if1 .left) (c .before .before .before .before .before .before .before .before .before .before .if2 .left)) (c .before .before .before .before .before .before .bit-vector .ensures)
 
 pub checked-constant-spec : {M : Type 1} → statement M
-checked-constant-spec = tie.close (tie.spec add-leaf cast-leaf leaf-requires (λ c. search needs) (λ c. search needs) (λ c. search needs) returns (λ c κs. search needs) returns-2 bit-vector-requires (λ c. search needs) (λ c. search needs) (λ c. search needs) returns-3)
+checked-constant-spec = tie.close (tie.spec add-leaf cast-leaf leaf-requires (λ c. search) (λ c. search) (λ c. search) returns (λ c κs. search needs) returns-2 bit-vector-requires (λ c. search) (λ c. search) (λ c. search) returns-3)

@@ -1,7 +1,6 @@
 -- The family that the arm gives is the one of the operator's number.
 -- An arm of single numbers is tested by its keys, one of a range by the numbers between them.
 use native.Mathlib.Omega.{arith}
-use borrow.Author.Needs.{needs}
 use Prim.Native.Nat.{ℕ, _≤_, _<_}
 use mathlib.Core.Path.{refl}
 use mathlib.Core.List.{List, [], _∷_}

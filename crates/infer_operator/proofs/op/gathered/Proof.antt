@@ -121,5 +121,5 @@ returns-6 c =
 
 pub gathered-spec : {M : Type 1} → statement M
 gathered-spec =
-    tie.close (tie.spec (λ c. search needs) singleton-requires (λ c. search needs) listed-requires (λ c. search needs) listed-requires-2 (λ c. search needs) transpose-requires (λ c. search needs) join-requires product-requires (λ c. search needs) (λ c. search needs) (λ c. search needs) (λ c. search needs) returns (λ c. search needs) (λ c. search needs) (λ c. search needs)
-    (λ c. search needs) returns-2 (λ c. search needs) (λ c. search needs) (λ c. search needs) (λ c. search needs) returns-3 (λ c. search needs) (λ c. search needs) (λ c. search needs) (λ c. search needs) returns-4 (λ c. search needs) (λ c. search needs) (λ c. search needs) (λ c. search needs) returns-5 (λ c. search needs) (λ c. search needs) (λ c. search needs) (λ c. search needs) returns-6)
+    tie.close (tie.spec (λ c. search needs) singleton-requires (λ c. search needs) listed-requires (λ c. search needs) listed-requires-2 (λ c. search needs) transpose-requires (λ c. search needs) join-requires product-requires (λ c. search) (λ c. search) (λ c. search) (λ c. search) returns (λ c. search) (λ c. search) (λ c. search)
+    (λ c. search) returns-2 (λ c. search) (λ c. search) (λ c. search) (λ c. search) returns-3 (λ c. search) (λ c. search) (λ c. search) (λ c. search) returns-4 (λ c. search) (λ c. search) (λ c. search) (λ c. search) returns-5 (λ c. search) (λ c. search) (λ c. search) (λ c. search) returns-6)

@@ -95,5 +95,5 @@ returns-4 c =
 
 pub inferred-operator-spec : {M : Type 1} → statement M
 inferred-operator-spec =
-    tie.close (tie.spec (λ c κs. search needs) (λ c κs. search needs) (λ c. search needs) leaf-requires (λ c. search needs) bit-vector-requires (λ c. search needs) constant-width-requires (λ c. search needs) looked-requires (λ c. search needs) (λ c. search needs) (λ c. search needs) returns (λ c. search needs) (λ c. search needs) (λ c. search needs) returns-2 (λ c. search needs)
-    (λ c. search needs) (λ c. search needs) returns-3 (λ c. search needs) (λ c. search needs) (λ c. search needs) (λ c. search needs) returns-4)
+    tie.close (tie.spec (λ c κs. search needs) (λ c κs. search needs) (λ c. search needs) leaf-requires (λ c. search needs) bit-vector-requires (λ c. search needs) constant-width-requires (λ c. search needs) looked-requires (λ c. search) (λ c. search) (λ c. search) returns (λ c. search) (λ c. search) (λ c. search) returns-2 (λ c. search)
+    (λ c. search) (λ c. search) returns-3 (λ c. search) (λ c. search) (λ c. search) (λ c. search) returns-4)

@@ -172,6 +172,6 @@ returns-9 c = c .before .before .before .before .before .before .before .before 
 
 pub looked-spec : {M : Type 1} → statement M
 looked-spec =
-    tie.close (tie.spec (λ c. search needs) first-vector-requires (λ c. search needs) concat-requires (λ c. search needs) argument-requires (λ c. search needs) argument-requires-2 (λ c. search needs) last-of-requires (λ c. search needs) sum-requires (λ c. search needs) element-requires (λ c. search needs) rare-list-requires gathered-requires (λ c. search needs) (λ c. search needs)
-    (λ c. search needs) (λ c. search needs) returns (λ c. search needs) (λ c. search needs) (λ c. search needs) (λ c. search needs) returns-2 (λ c. search needs) returns-3 (λ c. search needs) returns-4 (λ c. search needs) returns-5 (λ c. search needs) (λ c. search needs) (λ c. search needs) (λ c. search needs) returns-6 (λ c. search needs) (λ c. search needs) (λ c. search needs)
-    returns-7 (λ c. search needs) (λ c. search needs) (λ c. search needs) (λ c. search needs) returns-8 (λ c. search needs) (λ c. search needs) (λ c. search needs) (λ c. search needs) returns-9)
+    tie.close (tie.spec (λ c. search needs) first-vector-requires (λ c. search needs) concat-requires (λ c. search needs) argument-requires (λ c. search needs) argument-requires-2 (λ c. search needs) last-of-requires (λ c. search needs) sum-requires (λ c. search needs) element-requires (λ c. search needs) rare-list-requires gathered-requires (λ c. search) (λ c. search)
+    (λ c. search) (λ c. search) returns (λ c. search) (λ c. search) (λ c. search) (λ c. search) returns-2 (λ c. search) returns-3 (λ c. search) returns-4 (λ c. search) returns-5 (λ c. search) (λ c. search) (λ c. search) (λ c. search) returns-6 (λ c. search) (λ c. search) (λ c. search)
+    returns-7 (λ c. search) (λ c. search) (λ c. search) (λ c. search) returns-8 (λ c. search) (λ c. search) (λ c. search) (λ c. search) returns-9)

@@ -65,4 +65,4 @@ returns-2 c =
     judged-as ((subst (BothIs b p n (sortsIn b p n x 3 m)) (c .before .enum-told .given .1) (c .before .before .before .both-columns .ensures n (args-refer b p ix n u x m (s .pre)))) joinOf) (answered-as (c .refuse .ensures) (made-refused b p ix n u (s .pre .good) Panics))
 
 pub join-spec : {M : Type 1} → statement M
-join-spec = tie.close (tie.spec both-columns-requires (λ c. search needs) join-columns-requires (λ c. search needs) (λ c κs. search needs) (λ c. search needs) (λ c. search needs) (λ c. search needs) (λ c. search needs) returns (λ c. search needs) (λ c. search needs) (λ c. search needs) returns-2)
+join-spec = tie.close (tie.spec both-columns-requires (λ c. search needs) join-columns-requires (λ c. search needs) (λ c κs. search needs) (λ c. search) (λ c. search) (λ c. search) (λ c. search) returns (λ c. search) (λ c. search) (λ c. search) returns-2)

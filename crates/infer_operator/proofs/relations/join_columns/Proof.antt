@@ -77,4 +77,4 @@ returns-3 c =
     judged-as {b = b} {p = p} (join-less (s .pre) (positive (a .q) (c₃ .if1 .left)) (positive (a .m) (c₂ .if2 .left))) (c₁ .side-by-side2 .ensures)
 
 pub join-columns-spec : {M : Type 1} → statement M
-join-columns-spec = tie.close (tie.spec (λ c κs. search needs) returns add-side-by-side sub-side-by-side side-by-side-requires (λ c. search needs) (λ c. search needs) (λ c. search needs) (λ c. search needs) returns-2 sub-side-by-side-2 add-side-by-side-2 sub-side-by-side-3 side-by-side-requires-2 (λ c. search needs) (λ c. search needs) (λ c. search needs) (λ c. search needs) returns-3)
+join-columns-spec = tie.close (tie.spec (λ c κs. search needs) returns add-side-by-side sub-side-by-side side-by-side-requires (λ c. search) (λ c. search) (λ c. search) (λ c. search) returns-2 sub-side-by-side-2 add-side-by-side-2 sub-side-by-side-3 side-by-side-requires-2 (λ c. search) (λ c. search) (λ c. search) (λ c. search) returns-3)

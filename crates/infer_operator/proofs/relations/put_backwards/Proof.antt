@@ -1,7 +1,6 @@
 -- The array filled by the numbers that stand in the store, the last first.
 -- The loop keeps this of the numbers so far.
 use native.Mathlib.Omega.{arith}
-use borrow.Author.Needs.{needs}
 use Prim.Native.Nat.{ℕ, _+_, _*_, _-_, _≤_}
 use mathlib.Core.Path.{_≡_, refl, sym, subst, _∙_}
 use mathlib.Core.List.{List}
@@ -91,4 +90,4 @@ returns c =
     subst (λ (j : ℕ). Filled (l .args) (backAt b (a .at) m) j) e (w .1)
 
 pub put-backwards-spec : {M : Type 1} → statement M
-put-backwards-spec = tie.close (tie.spec Inv-loop μ-loop loop-holds sub-u16-at sub-u16-at-2 mul-u16-at add-u16-at u16-at-requires mul-put-u16 add-put-u16 put-u16-requires add-i loop-less loop-again (λ c. search needs) returns)
+put-backwards-spec = tie.close (tie.spec Inv-loop μ-loop loop-holds sub-u16-at sub-u16-at-2 mul-u16-at add-u16-at u16-at-requires mul-put-u16 add-put-u16 put-u16-requires add-i loop-less loop-again (λ c. search) returns)

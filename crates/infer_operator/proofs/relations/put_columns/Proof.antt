@@ -1,7 +1,6 @@
 -- The array filled on by the numbers that stand in the store.
 -- The loop keeps this of the numbers so far.
 use native.Mathlib.Omega.{arith}
-use borrow.Author.Needs.{needs}
 use Prim.Native.Nat.{ℕ, _+_, _*_, _-_, _≤_}
 use mathlib.Core.Path.{_≡_, refl, sym, subst, _∙_}
 use lib.ListN.{length}
@@ -94,4 +93,4 @@ returns c =
     subst (λ (j : ℕ). PutHas b (a .at) j x (a .from) (l .args)) e (w .1)
 
 pub put-columns-spec : {M : Type 1} → statement M
-put-columns-spec = tie.close (tie.spec Inv-loop μ-loop loop-holds mul-u16-at add-u16-at u16-at-requires add-put-u16 mul-put-u16 add-put-u16-2 put-u16-requires add-i loop-less loop-again (λ c. search needs) returns)
+put-columns-spec = tie.close (tie.spec Inv-loop μ-loop loop-holds mul-u16-at add-u16-at u16-at-requires add-put-u16 mul-put-u16 add-put-u16-2 put-u16-requires add-i loop-less loop-again (λ c. search) returns)

@@ -71,4 +71,4 @@ returns-3 c =
     judged-as (written-is (s .pre .terms) (c₅ .if1 .left) (c₄ .u16-at .ensures .0) (c₃ .constant-at .result) (c₃ .constant-at .ensures) ∙ ap (λ (o : Constant). widthIn (integerOf o)) (c₂ .enum-told .given .1)) (c₁ .leaf .ensures)
 
 pub constant-width-spec : {M : Type 1} → statement M
-constant-width-spec = tie.close (tie.spec (λ c κs. search needs) returns add-u16-at u16-at-requires mul-at shared-slice-read-at cast-at constant-at-requires (λ c. search needs) bit-vector-requires (λ c. search needs) leaf-requires (λ c. search needs) (λ c. search needs) (λ c. search needs) returns-2 (λ c. search needs) (λ c. search needs) (λ c. search needs) returns-3)
+constant-width-spec = tie.close (tie.spec (λ c κs. search needs) returns add-u16-at u16-at-requires mul-at shared-slice-read-at cast-at constant-at-requires (λ c. search needs) bit-vector-requires (λ c. search needs) leaf-requires (λ c. search) (λ c. search) (λ c. search) returns-2 (λ c. search) (λ c. search) (λ c. search) returns-3)

@@ -46,4 +46,4 @@ returns-2 c =
     judged-as (ap rareOf (first-then (args-refer b p ix n u x m (s .pre)) (positive m (c .before .before .if1 .left)) (c .before .u16-at .ensures .0))) (answered-as (c .found .ensures) (answer-known b p ix n u (s .pre .good) (c .before .u16-at .result) (first-known (args-refer b p ix n u x m (s .pre)) (positive m (c .before .before .if1 .left)) (c .before .u16-at .ensures .0))))
 
 pub rare-list-spec : {M : Type 1} → statement M
-rare-list-spec = tie.close (tie.spec variable-requires (λ c. search needs) (λ c. search needs) (λ c. search needs) returns u16-at-requires (λ c κs. search needs) returns-2)
+rare-list-spec = tie.close (tie.spec variable-requires (λ c. search) (λ c. search) (λ c. search) returns u16-at-requires (λ c κs. search needs) returns-2)

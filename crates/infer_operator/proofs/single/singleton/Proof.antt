@@ -57,4 +57,4 @@ returns-2 c =
     judged-as (ap singletonOf (first-then (args-refer b p ix n u x m (s .pre)) (positive m (c .before .before .before .before .before .before .before .before .before .before .before .if1 .left)) (c .before .before .before .before .before .before .before .before .before .before .u16-at .ensures .0))) (c .before .before .before .before .before .before .set-of .ensures)
 
 pub singleton-spec : {M : Type 1} → statement M
-singleton-spec = tie.close (tie.spec (λ c κs. search needs) returns u16-at-requires set-of-requires (λ c. search needs) (λ c. search needs) (λ c. search needs) returns-2)
+singleton-spec = tie.close (tie.spec (λ c κs. search needs) returns u16-at-requires set-of-requires (λ c. search) (λ c. search) (λ c. search) returns-2)

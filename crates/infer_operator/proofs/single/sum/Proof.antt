@@ -1,6 +1,5 @@
 -- The answer Real or Int.
 -- Which one, the look through the arguments says.
-use borrow.Author.Needs.{needs}
 use mathlib.Core.Path.{refl, ap, _∙_}
 use Rattle.record.specs.Record.{mapOf, maps}
 use Rattle.infer_rules.specs.Inferred.{sumOf}
@@ -61,4 +60,4 @@ returns-2 c =
     judged-as (ap sumOf (c .before .before .before .before .before .before .before .before .before .before .before .some-real .ensures n (args-refer b p ix n u x m (s .pre)) ∙ c .before .before .before .before .before .before .before .before .before .before .if1 .left)) (c .before .before .before .before .before .before .leaf2 .ensures)
 
 pub sum-spec : {M : Type 1} → statement M
-sum-spec = tie.close (tie.spec some-real-requires leaf-requires (λ c. search needs) (λ c. search needs) (λ c. search needs) returns leaf-requires-2 (λ c. search needs) (λ c. search needs) (λ c. search needs) returns-2)
+sum-spec = tie.close (tie.spec some-real-requires leaf-requires (λ c. search) (λ c. search) (λ c. search) returns leaf-requires-2 (λ c. search) (λ c. search) (λ c. search) returns-2)

@@ -74,4 +74,4 @@ returns-3 c =
     judged-as (c .before .before .before .add-widths .ensures n (args-refer b p ix n u x m (s .pre)) ∙ ap widthsOf (c .before .enum-told2 .given .1)) (answered-as (c .refuse .ensures) (made-refused b p ix n u (s .pre .good) Panics))
 
 pub concat-spec : {M : Type 1} → statement M
-concat-spec = tie.close (tie.spec add-widths-requires (λ c. search needs) bit-vector-requires (λ c. search needs) leaf-requires (λ c. search needs) (λ c κs. search needs) (λ c. search needs) (λ c. search needs) (λ c. search needs) returns (λ c. search needs) (λ c. search needs) (λ c. search needs) returns-2 (λ c. search needs) (λ c. search needs) returns-3)
+concat-spec = tie.close (tie.spec add-widths-requires (λ c. search needs) bit-vector-requires (λ c. search needs) leaf-requires (λ c. search needs) (λ c κs. search needs) (λ c. search) (λ c. search) (λ c. search) returns (λ c. search) (λ c. search) (λ c. search) returns-2 (λ c. search) (λ c. search) returns-3)

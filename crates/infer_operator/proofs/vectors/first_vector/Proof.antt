@@ -70,4 +70,4 @@ returns-3 c =
     judged-as (subst (ScanIs b p n (sortsIn b p n x 3 m)) (c .before .enum-told2 .given .1) (c .before .before .before .scan-vectors .ensures n (args-refer b p ix n u x m (s .pre)))) (answered-as (c .refuse .ensures) (made-refused b p ix n u (s .pre .good) Panics))
 
 pub first-vector-spec : {M : Type 1} → statement M
-first-vector-spec = tie.close (tie.spec scan-vectors-requires (λ c. search needs) (λ c κs. search needs) (λ c. search needs) leaf-requires (λ c. search needs) (λ c κs. search needs) (λ c. search needs) (λ c. search needs) returns (λ c. search needs) (λ c. search needs) (λ c. search needs) returns-2 (λ c. search needs) (λ c. search needs) returns-3)
+first-vector-spec = tie.close (tie.spec scan-vectors-requires (λ c. search needs) (λ c κs. search needs) (λ c. search needs) leaf-requires (λ c. search needs) (λ c κs. search needs) (λ c. search) (λ c. search) returns (λ c. search) (λ c. search) (λ c. search) returns-2 (λ c. search) (λ c. search) returns-3)

@@ -144,4 +144,4 @@ returns-4 c =
     (answered-as (c .found .ensures) (answer-known b p ix n u (s .pre .args .good) (getD t (c .before .before .u16-at2 .result) 0) (choice-known b p n z t r x (s .pre .pairs) (positive (r .«pairs_count») (c .before .before .before .if3 .left)) (c .before .before .u16-at2 .ensures .0))))
 
 pub inferred-binder-spec : {M : Type 1} → statement M
-inferred-binder-spec = tie.close (tie.spec u16-at-requires lambda-requires (λ c. search needs) (λ c. search needs) (λ c. search needs) (λ c. search needs) returns leaf-requires (λ c. search needs) (λ c. search needs) (λ c. search needs) returns-2 (λ c κs. search needs) returns-3 add-u16-at u16-at-requires-2 mul-k shared-slice-read-k cast-k (λ c κs. search needs) returns-4)
+inferred-binder-spec = tie.close (tie.spec u16-at-requires lambda-requires (λ c. search) (λ c. search) (λ c. search) (λ c. search) returns leaf-requires (λ c. search) (λ c. search) (λ c. search) returns-2 (λ c κs. search needs) returns-3 add-u16-at u16-at-requires-2 mul-k shared-slice-read-k cast-k (λ c κs. search needs) returns-4)

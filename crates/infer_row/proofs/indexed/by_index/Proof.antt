@@ -1,6 +1,5 @@
 -- The answer of each operator that looks at its first index.
 -- The last arm is left to IntToBv.
-use borrow.Author.Needs.{needs}
 use Prim.Native.Nat.{_+_, _-_}
 use mathlib.Core.Path.{_≡_}
 use mathlib.Core.Logic.{⊎-elim}
@@ -86,4 +85,4 @@ returns-4 c =
 
 pub by-index-spec : {M : Type 1} → statement M
 by-index-spec =
-    tie.close (tie.spec inferred-extract-requires resized-requires resized-requires-2 bit-vector-requires (λ c. search needs) (λ c. search needs) (λ c. search needs) returns (λ c. search needs) (λ c. search needs) (λ c. search needs) returns-2 (λ c. search needs) (λ c. search needs) (λ c. search needs) returns-3 (λ c. search needs) (λ c. search needs) (λ c. search needs) returns-4)
+    tie.close (tie.spec inferred-extract-requires resized-requires resized-requires-2 bit-vector-requires (λ c. search) (λ c. search) (λ c. search) returns (λ c. search) (λ c. search) (λ c. search) returns-2 (λ c. search) (λ c. search) (λ c. search) returns-3 (λ c. search) (λ c. search) (λ c. search) returns-4)

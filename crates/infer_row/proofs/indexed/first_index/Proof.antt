@@ -80,4 +80,4 @@ returns-3 c =
     (s .pre .looks)) (c₁ .leaf .ensures)
 
 pub first-index-spec : {M : Type 1} → statement M
-first-index-spec = tie.close (tie.spec (λ c κs. search needs) returns index-at-requires (λ c. search needs) by-index-requires (λ c. search needs) leaf-requires (λ c. search needs) (λ c. search needs) (λ c. search needs) returns-2 (λ c. search needs) (λ c. search needs) (λ c. search needs) returns-3)
+first-index-spec = tie.close (tie.spec (λ c κs. search needs) returns index-at-requires (λ c. search needs) by-index-requires (λ c. search needs) leaf-requires (λ c. search) (λ c. search) (λ c. search) returns-2 (λ c. search) (λ c. search) (λ c. search) returns-3)

@@ -84,4 +84,4 @@ returns-4 c =
     judged-as (extract-second z t (a .second) (a .seconds) (a .i) (c₄ .if1 .left) (c₃ .index-at .ensures) ∙ ap (λ (o : Constant). extractBy (a .i) (integerOf o)) (c₂ .enum-told .given .1)) (c₁ .leaf .ensures)
 
 pub inferred-extract-spec : {M : Type 1} → statement M
-inferred-extract-spec = tie.close (tie.spec (λ c κs. search needs) returns add-index-at index-at-requires (λ c. search needs) (λ c κs. search needs) returns-2 add-bit-vector bit-vector-requires (λ c. search needs) leaf-requires (λ c. search needs) (λ c. search needs) (λ c. search needs) returns-3 (λ c. search needs) (λ c. search needs) (λ c. search needs) returns-4)
+inferred-extract-spec = tie.close (tie.spec (λ c κs. search needs) returns add-index-at index-at-requires (λ c. search needs) (λ c κs. search needs) returns-2 add-bit-vector bit-vector-requires (λ c. search needs) leaf-requires (λ c. search) (λ c. search) (λ c. search) returns-3 (λ c. search) (λ c. search) (λ c. search) returns-4)

@@ -120,5 +120,5 @@ returns-6 c = c .before .before .before .before .before .before .first-index .en
 
 pub inferred-indexed-spec : {M : Type 1} → statement M
 inferred-indexed-spec =
-    tie.close (tie.spec leaf-requires leaf-requires-2 argument-requires leaf-requires-3 (λ c κs. search needs) first-index-requires (λ c. search needs) (λ c. search needs) (λ c. search needs) returns (λ c. search needs) (λ c. search needs) (λ c. search needs) returns-2 returns-3 (λ c. search needs) (λ c. search needs) (λ c. search needs) returns-4 returns-5
-    (λ c. search needs) (λ c. search needs) (λ c. search needs) returns-6)
+    tie.close (tie.spec leaf-requires leaf-requires-2 argument-requires leaf-requires-3 (λ c κs. search needs) first-index-requires (λ c. search) (λ c. search) (λ c. search) returns (λ c. search) (λ c. search) (λ c. search) returns-2 returns-3 (λ c. search) (λ c. search) (λ c. search) returns-4 returns-5
+    (λ c. search) (λ c. search) (λ c. search) returns-6)

@@ -145,5 +145,5 @@ returns-5 c =
 
 pub resized-spec : {M : Type 1} → statement M
 resized-spec =
-    tie.close (tie.spec (λ c κs. search needs) returns u16-at-requires entry-requires leaf-requires (λ c. search needs) (λ c. search needs) (λ c. search needs) returns-2 (λ c κs. search needs) (λ c. search needs) (λ c. search needs) returns-3 add-bit-vector bit-vector-requires (λ c. search needs) (λ c. search needs) (λ c. search needs) returns-4 mul-bit-vector
-    bit-vector-requires-2 (λ c. search needs) (λ c. search needs) (λ c. search needs) returns-5)
+    tie.close (tie.spec (λ c κs. search needs) returns u16-at-requires entry-requires leaf-requires (λ c. search) (λ c. search) (λ c. search) returns-2 (λ c κs. search needs) (λ c. search) (λ c. search) returns-3 add-bit-vector bit-vector-requires (λ c. search) (λ c. search) (λ c. search) returns-4 mul-bit-vector
+    bit-vector-requires-2 (λ c. search) (λ c. search) (λ c. search) returns-5)

@@ -55,4 +55,4 @@ returns-2 c =
     absurd (question-never d k x (s .pre .stands) (sym (c .before .before .question .ensures) ∙ c .enum-told .given .1))
 
 pub answer-at-spec : {M : Type 1} → statement M
-answer-at-spec = tie.close (tie.spec (λ c κs. search needs) (λ c. search needs) answer-question-requires (λ c. search needs) (λ c. search needs) (λ c. search needs) (λ c. search needs) (λ c. search needs) (λ c. search needs) (λ c. search needs) returns returns-2)
+answer-at-spec = tie.close (tie.spec (λ c κs. search needs) (λ c. search needs) answer-question-requires (λ c. search needs) (λ c. search) (λ c. search) (λ c. search) (λ c. search) (λ c. search) (λ c. search) returns returns-2)

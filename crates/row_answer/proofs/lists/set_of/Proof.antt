@@ -31,4 +31,4 @@ returns c =
     judged-as (ap sort (sym (set-sort (a .k) (storeOf b p n)))) (c .before .before .before .before .before .before .make .ensures)
 
 pub set-of-spec : {M : Type 1} → statement M
-set-of-spec = tie.close (tie.spec cast-t9 (λ c. search needs) (λ c. search needs) make-requires (λ c. search needs) (λ c. search needs) (λ c. search needs) returns)
+set-of-spec = tie.close (tie.spec cast-t9 (λ c. search needs) (λ c. search needs) make-requires (λ c. search) (λ c. search) (λ c. search) returns)

@@ -1,6 +1,5 @@
 -- The head's names are listed in a table of zeros, and taken off again.
 -- The test of the table is then that of the names.
-use borrow.Author.Needs.{needs}
 use Rattle.row_application.proofs.CalledLaws.{fitted-add, fit-asks, fitted-take, fitted-is}
 use Rattle.row_application.proofs.called.fit_arguments.Statement.{statement}
 use Rattle.row_application.proofs.called.fit_arguments.Tie as tie
@@ -20,4 +19,4 @@ returns c =
     fitted-is (c₄ .pre) (c₃ .list-names .ensures) (c₂ .fit-listed .ensures) (c₁ .unlist-names .ensures)
 
 pub fit-arguments-spec : {M : Type 1} → statement M
-fit-arguments-spec = tie.close (tie.spec list-names-requires fit-listed-requires unlist-names-requires (λ c. search needs) (λ c. search needs) (λ c. search needs) returns)
+fit-arguments-spec = tie.close (tie.spec list-names-requires fit-listed-requires unlist-names-requires (λ c. search) (λ c. search) (λ c. search) returns)

@@ -54,4 +54,4 @@ returns-3 c =
     fit-fails (s .pre) (c₁ .matches-all .last .1 .1 .1 .1 .0) (c₁ .matches-all .last .1 .1 .1 .1 .1 .0) (c₁ .matches-all .result) (c₁ .matches-all .ensures) (c .before .found2 .given .0 .0) (c .before .found2 .given .1)
 
 pub fit-listed-spec : {M : Type 1} → statement M
-fit-listed-spec = tie.close (tie.spec matches-all-requires (λ c. search needs) mul-at add-at (λ c. search needs) sub-all-settled all-settled-requires (λ c. search needs) (λ c. search needs) returns (λ c. search needs) (λ c. search needs) (λ c. search needs) returns-2 (λ c. search needs) (λ c. search needs) returns-3)
+fit-listed-spec = tie.close (tie.spec matches-all-requires (λ c. search needs) mul-at add-at (λ c. search needs) sub-all-settled all-settled-requires (λ c. search) (λ c. search) returns (λ c. search needs) (λ c. search) (λ c. search) returns-2 (λ c. search) (λ c. search) returns-3)

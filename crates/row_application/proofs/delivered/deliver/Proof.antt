@@ -42,4 +42,4 @@ returns-2 c =
     deliver-fails (c₃ .pre) (c₁ .clear2 .ensures) (c₂ .call2 .given .0 .0) (c₂ .call2 .given .0 .1 .0) (c₂ .call2 .given .1) (c .refuse .ensures)
 
 pub deliver-spec : {M : Type 1} → statement M
-deliver-spec = tie.close (tie.spec (λ c. search needs) mul-at add-at sub-left rest-requires clear-requires (λ c. search needs) clear-requires-2 (λ c κs. search needs) (λ c. search needs) (λ c. search needs) (λ c. search needs) (λ c. search needs) (λ c. search needs) returns (λ c. search needs) (λ c. search needs) returns-2)
+deliver-spec = tie.close (tie.spec (λ c. search needs) mul-at add-at sub-left rest-requires clear-requires (λ c. search needs) clear-requires-2 (λ c κs. search needs) (λ c. search) (λ c. search) (λ c. search) (λ c. search) (λ c. search) returns (λ c. search) (λ c. search) returns-2)

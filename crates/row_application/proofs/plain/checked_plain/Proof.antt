@@ -38,4 +38,4 @@ returns-2 c =
     plain-refused (s .pre) (c .before .before .all-exact .result) (c .before .before .all-exact .ensures) (c .before .if1 .left) (c .refuse .ensures)
 
 pub checked-plain-spec : {M : Type 1} → statement M
-checked-plain-spec = tie.close (tie.spec all-exact-requires mul-at add-at (λ c. search needs) sub-remaining remaining-requires (λ c. search needs) (λ c. search needs) (λ c. search needs) returns (λ c κs. search needs) (λ c. search needs) (λ c. search needs) (λ c. search needs) returns-2)
+checked-plain-spec = tie.close (tie.spec all-exact-requires mul-at add-at (λ c. search needs) sub-remaining remaining-requires (λ c. search) (λ c. search) (λ c. search) returns (λ c κs. search needs) (λ c. search) (λ c. search) (λ c. search) returns-2)

@@ -25,4 +25,4 @@ returns-2 : tie.Need-returns-2
 returns-2 c = found-by parless-tests (c .before .before .each .ensures)
 
 pub is-parless-spec : {M : Type 1} → statement M
-is-parless-spec = tie.close (tie.spec size-at-requires returns (λ c. search needs) (λ c. search needs) each-requires (λ c. search needs) returns-2)
+is-parless-spec = tie.close (tie.spec size-at-requires returns (λ c. search needs) (λ c. search needs) each-requires (λ c. search) returns-2)

@@ -1,6 +1,5 @@
 -- The walk, by the law of its test, for every test of names and every map that the tables stand for.
 use mathlib.Core.Path.{_∙_}
-use borrow.Author.Needs.{needs}
 use Rattle.match_tables.specs.Usable.{sortsAt}
 use Rattle.match_each.specs.EveryLaws.{everyAll-is}
 use Rattle.row_application.proofs.SettledLaws.{settled-tests}
@@ -19,4 +18,4 @@ returns c =
     (λ f t θ i. e .answer ∙ everyAll-is (settled-tests t i) (sortsAt (a .records .now) (a .places .now) (a .count) (a .records .now) (a .at) (a .left)), e .noted)
 
 pub all-settled-spec : {M : Type 1} → statement M
-all-settled-spec = tie.close (tie.spec all-each-requires (λ c. search needs) returns)
+all-settled-spec = tie.close (tie.spec all-each-requires (λ c. search) returns)
