@@ -4,7 +4,6 @@ use Prim.Native.Nat.{ℕ, suc, _<_}
 use mathlib.Core.Path.{_≡_}
 use mathlib.Core.List.{List}
 use lib.ListN.{getD}
-use Rattle.record.specs.Sort.{size}
 use Rattle.record.specs.Decode.{sortAt}
 use Rattle.apply_walk.specs.declared.Parts.{Parts}
 use Rattle.apply_walk.specs.declared.Parts.the-variants.{Are, Stuck as Short}
@@ -12,7 +11,7 @@ use Rattle.apply_walk.specs.declared.Replaced.{Replaced}
 use Rattle.apply_walk.specs.declared.Replaced.the-variants.{Is as Found, Stuck}
 use Rattle.apply_walk.specs.Lists.{Numbers, numbersOf}
 use Rattle.apply_walk.specs.Made.{Made}
-use Rattle.apply_walk.specs.Contract.{capped, answerAt, answersAt, SizeAsks, SizesAsk, SizeIs, SizesAre, SortAsks, ReplacedIs, PartsAsk, PartsMade, PartsAre}
+use Rattle.apply_walk.specs.Contract.{answerAt, answersAt, SizeAsks, SizesAsk, SizeIs, SizesAre, SortAsks, ReplacedIs, PartsAsk, PartsMade, PartsAre}
 
 -- What an entry x for the sort k says of the answers made: x is 0, or one more than the number of the answer.
 abbrev pub EntrySays : List ℕ → List ℕ → ℕ → List ℕ → ℕ → ℕ → Type 0

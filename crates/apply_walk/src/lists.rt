@@ -4,8 +4,8 @@ use record::u16_at;
 ghost use mathlib.Core.Path.{_≡_};
 ghost use mathlib.Core.Bool.{true};
 ghost use mathlib.Core.List.{[], _∷_, _++_};
-ghost use Prim.Native.Nat.{_+_, _*_, _≤_};
-ghost use lib.ListN.{length, getD, take};
+ghost use Prim.Native.Nat.{_+_};
+ghost use lib.ListN.{length, take};
 ghost use Rattle.record.specs.Number.{numbersAt};
 ghost use Rattle.apply_walk.specs.Lists.{numbersOf, held, unbound, Has, KeepAsks, ReadAsks, NamesKeptAsk, SameAsks};
 

@@ -1,19 +1,15 @@
 -- The rule of an arm of `rule_of`: one of single numbers is tested by its keys, one of a range by the numbers between them.
-use Prim.Native.Nat.{ℕ, zero, suc, _+_, _≤_, _<_}
-use mathlib.Core.Path.{_≡_, refl, sym, ap, subst, _∙_}
-use mathlib.Core.Bool.{Bool, true, cond, _&&_, _||_}
+use Prim.Native.Nat.{ℕ, _+_, _≤_, _<_}
+use mathlib.Core.Path.{_≡_, refl, sym, ap, _∙_}
+use mathlib.Core.Bool.{Bool, true, cond}
 use mathlib.Core.List.{List, [], _∷_}
-use mathlib.Core.Logic.{⊎-elim}
-use native.Mathlib.Omega.{arith}
-use native.Mathlib.Nat.{eq-or-lt-of-le}
 use lib.ListN.{getD}
 use lib.Dec.{eqb, leb}
 use borrow.Author.Tests.{eq-eqb, ne-eqb}
 use types.Run.{OneOf}
 use Rattle.record.specs.Sort.{sameNames}
 use Rattle.record.specs.SortLaws.{sameNames-sound}
-use Rattle.record.specs.Cases.{and-left, and-right, or-other}
-use Rattle.row_answer.specs.Arms.{Missed, among, missed}
+use Rattle.record.specs.Arms.{Missed, among, keysPass, othersPass, keys-hold, others-hold}
 use Rattle.check_operator.specs.declared.rule.Rule.{Rule}
 use Rattle.check_operator.specs.declared.rule.Rule.the-variants.{Unranked, All, Fixed, Numbers, Equal, Choose, Select, Store, Vectors, Concat}
 use Rattle.check_operator.specs.Rule.{ruleOf, countsFor}
@@ -59,40 +55,23 @@ rule-is : (f : Rule) (o : ℕ) → ofRule f o ≡ true → f ≡ ruleOf o
 unfolding ofRule
 rule-is f o e = sym (from-tag f) ∙ ap fromTag (sameNames-sound (tagOf f) (tagOf (ruleOf o)) e) ∙ from-tag (ruleOf o)
 
----------------------------------------------------------------- the single numbers of an arm
+---------------------------------------------------------------- the numbers of an arm
+-- Whether the single numbers have the rule f; and the n operators from o on, but for the single numbers.
 unfoldable pub allKeys : Rule → List ℕ → Bool
-unfolding ofRule
-allKeys f [] = true
-allKeys f (k ∷ ks) = ofRule f k && allKeys f ks
+unfolding ofRule keysPass
+allKeys f ks = keysPass (ofRule f) ks
+
+unfoldable pub allOf : Rule → List (List ℕ) → ℕ → ℕ → Bool
+unfolding ofRule among othersPass
+allOf f kss o n = othersPass (ofRule f) kss o n
 
 pub keys-are : (f : Rule) (ks : List ℕ) → allKeys f ks ≡ true → (o : ℕ) → OneOf ks o → f ≡ ruleOf o
 unfolding allKeys
-keys-are f [] e o h = absurd h
-keys-are f (k ∷ []) e o h = subst (λ (x : ℕ). f ≡ ruleOf x) (sym h) (rule-is f k (and-left (ofRule f k) true e))
-keys-are f (k ∷ (l ∷ ks)) e o h =
-    ⊎-elim
-    (λ (q : o ≡ k). subst (λ (x : ℕ). f ≡ ruleOf x) (sym q) (rule-is f k (and-left (ofRule f k) (allKeys f (l ∷ ks)) e)))
-    (λ (q : OneOf (l ∷ ks) o). keys-are f (l ∷ ks) (and-right (ofRule f k) (allKeys f (l ∷ ks)) e) o q)
-    h
-
----------------------------------------------------------------- the numbers between
--- Whether the n operators from o on have the rule f or among the single numbers.
-unfoldable pub allOf : Rule → List (List ℕ) → ℕ → ℕ → Bool
-unfolding ofRule among
-allOf f kss o zero = true
-allOf f kss o (suc n) = (among kss o || ofRule f o) && allOf f kss (suc o) n
+keys-are f ks e o h = keys-hold (λ i. f ≡ ruleOf i) (ofRule f) (rule-is f) ks e o h
 
 pub range-is : (f : Rule) (kss : List (List ℕ)) (lo n : ℕ) → allOf f kss lo n ≡ true → (o : ℕ) → Missed kss o → lo ≤ o → o < lo + n → f ≡ ruleOf o
 unfolding allOf
-range-is f kss lo zero e o m h k = absurd (omega arith)
-range-is f kss lo (suc n) e o m h k =
-    ⊎-elim
-    (λ (q : lo ≡ o).
-    rule-is f o
-    (or-other (among kss o) (ofRule f o) (missed kss o m)
-    (subst (λ (x : ℕ). among kss x || ofRule f x ≡ true) q (and-left (among kss lo || ofRule f lo) (allOf f kss (suc lo) n) e))))
-    (λ (q : lo < o). range-is f kss (suc lo) n (and-right (among kss lo || ofRule f lo) (allOf f kss (suc lo) n) e) o m q (omega arith))
-    (eq-or-lt-of-le h)
+range-is f kss lo n e o m h k = others-hold (λ i. f ≡ ruleOf i) (ofRule f) (rule-is f) kss lo n e o m h k
 
 ---------------------------------------------------------------- counts of vectors
 pub vectors-more : {r : Rule} (n m : ℕ) {o : ℕ} (q : ℕ) → r ≡ Vectors m o q → o ≡ 1 → leb m n ≡ countsFor r n

@@ -11,7 +11,7 @@ use Rattle.record.specs.Sort.{Sort, Sorts, bitvec, same}
 use Rattle.record.specs.Record.{mapOf, leaf, sortsOf}
 use Rattle.record.specs.Decode.{storeOf, sortAt, Stored, Distinct}
 use Rattle.store.specs.Good.{Good}
-use Rattle.match_tables.specs.Usable.{Refs}
+use Rattle.matching_tables.specs.Usable.{Refs}
 use Rattle.row_rules.specs.declared.Cause.the-variants.{Misfit}
 use Rattle.row_rules.specs.Verdict.{Verdict, sort, refused}
 use Rattle.check_rules.specs.Checked.{onlyOf}

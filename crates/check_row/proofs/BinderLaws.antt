@@ -20,7 +20,7 @@ use Rattle.reader.specs.Reader.{pairSortsAt}
 use Rattle.store.specs.Entry.{EntryAsks, KindHas}
 use Rattle.store.specs.Walk.{entry-asks}
 use Rattle.substitution.specs.Premises.{proper, properAll}
-use Rattle.match_tables.specs.Usable.{OneAsks}
+use Rattle.matching_tables.specs.Usable.{OneAsks}
 use Rattle.row_rules.specs.declared.Cause.the-variants.{Count, Misfit, Barred}
 use Rattle.row_rules.specs.Verdict.{sort, refused, need}
 use Rattle.row_rules.specs.Lists.{joined}

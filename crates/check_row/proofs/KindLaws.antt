@@ -11,8 +11,8 @@ use Rattle.record.specs.Sort.{Sort, Sorts, int, real, string, reglan, bitvec}
 use Rattle.record.specs.Record.{sortsOf}
 use Rattle.record.specs.Decode.{storeOf, sortAt}
 use Rattle.reader.specs.declared.TermRecord.{TermRecord}
-use Rattle.match_tables.specs.Usable.{OneAsks}
-use Rattle.match_tables.specs.Entered.{good-usable}
+use Rattle.matching_tables.specs.Usable.{OneAsks}
+use Rattle.matching_tables.specs.Entered.{good-usable}
 use Rattle.row_rules.specs.declared.Cause.the-variants.{NoRank, Barred}
 use Rattle.row_rules.specs.Verdict.{Verdict, sort, refused, need}
 use Rattle.row_rules.specs.Lists.{bindingSorts}

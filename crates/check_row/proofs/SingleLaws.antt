@@ -18,7 +18,7 @@ use Rattle.record.specs.declared.SortRecord.{SortRecord}
 use Rattle.substitution.specs.Premises.{proper}
 use Rattle.store.specs.Entry.{EntryAsks, EntryIs, EntryHas, KindHas}
 use Rattle.store.specs.Walk.{entry-asks, walk-par, walk-one}
-use Rattle.match_tables.specs.Usable.{OneAsks}
+use Rattle.matching_tables.specs.Usable.{OneAsks}
 use Rattle.row_rules.specs.declared.Cause.the-variants.{NoRank, Count, Misfit, Barred}
 use Rattle.row_rules.specs.Verdict.{Verdict, sort, refused, need}
 use Rattle.row_rules.specs.Lists.{lastOf}

@@ -6,7 +6,7 @@ use mathlib.Core.List.{List}
 use lib.ListN.{length}
 use Rattle.record.specs.Number.{u16At}
 use Rattle.store.specs.Good.{Good}
-use Rattle.match_tables.specs.Usable.{Usable}
+use Rattle.matching_tables.specs.Usable.{Usable}
 use Rattle.row_answer.specs.Arguments.{bindingAt}
 
 -- m pairs, whose sorts are all of the store.

@@ -10,7 +10,7 @@ use Rattle.record.specs.Number.{u16At}
 use Rattle.record.specs.Sort.{Sort, Sorts}
 use Rattle.reader.specs.declared.TermRecord.{TermRecord}
 use Rattle.store.specs.Good.{Good}
-use Rattle.match_tables.specs.Usable.{Usable}
+use Rattle.matching_tables.specs.Usable.{Usable}
 use Rattle.row_rules.specs.declared.Cause.the-variants.{NoRank}
 use Rattle.row_rules.specs.Verdict.{Verdict, refused}
 use Rattle.check_rules.specs.Checked.{letting, qualified}

@@ -6,7 +6,7 @@ use lib.ListN.{length}
 use lib.Dec.{eqb}
 use Rattle.record.specs.Sort.{Sort, int, real, string, reglan, bitvec}
 use Rattle.store.specs.Good.{Good}
-use Rattle.match_tables.specs.Usable.{OneAsks}
+use Rattle.matching_tables.specs.Usable.{OneAsks}
 use Rattle.row_rules.specs.declared.Cause.the-variants.{Barred}
 use Rattle.row_rules.specs.Verdict.{Verdict, sort, need}
 use Rattle.check_rules.specs.Checked.{carried}

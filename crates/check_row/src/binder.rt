@@ -1,6 +1,6 @@
 // The checked sort of a Binder: n pairs of the sheet from `pairs` on bind names to sorts, by way of the table of sheet numbers,
 // over one body.
-use match_each::premises::is_proper;
+use matching_each::premises::is_proper;
 use record::kinds::BINDER_CHOICE;
 use record::kinds::BINDER_LAMBDA;
 use record::kinds::SORT_BOOL;

@@ -1,5 +1,5 @@
 // The checked sort of a constant, a Var, a Let and an (as const).
-use match_each::premises::is_proper;
+use matching_each::premises::is_proper;
 use record::kinds::AS_CONST;
 use record::kinds::SORT_ARRAY;
 use record::kinds::SORT_FUNCTION;
@@ -19,7 +19,7 @@ use store::entries::entry;
 use store::entries::kind_at;
 ghost use mathlib.Core.Path.{_≡_};
 ghost use Rattle.record.specs.Decode.{sortAt};
-ghost use Rattle.match_tables.specs.Usable.{OneAsks};
+ghost use Rattle.matching_tables.specs.Usable.{OneAsks};
 ghost use Rattle.check_rules.specs.Checked.{carried, letting, qualified};
 ghost use Rattle.row_answer.specs.Answer.{AnswerIs};
 ghost use Rattle.check_operator.specs.Contract.{argsOf};

@@ -21,7 +21,7 @@ use Rattle.row_rules.specs.ParlessLaws.{ParlessVerdict, ParlessSite, parless-co
 use Rattle.check_rules.specs.Rank.{Rank, rank, vector, vectorsIn, patterns, everyName, rankAnswer, fit, firstFit, someCounts}
 use Rattle.check_rules.specs.RankLaws.{wellRank}
 use Rattle.check_rules.specs.RankSound.{Sound}
-use Rattle.check_rules.specs.Checked.{carried, value, values, settled, delivered, called, checkedApp, concatenation, nonempty, ranked, operated, onlyOf, boundBody, binder, innerOf, letting, newWidth, indexed₁, indexed₂, indexedBy, indexedOn, indexing, constantArray, qualified, checked}
+use Rattle.check_rules.specs.Checked.{carried, value, values, settled, called, checkedApp, concatenation, nonempty, ranked, operated, onlyOf, boundBody, binder, innerOf, letting, newWidth, indexed₁, indexed₂, indexedBy, indexedOn, indexing, constantArray, qualified, checked}
 
 ---------------------------------------------------------------- maps
 -- No image of a map has a Par.

@@ -1,21 +1,19 @@
 -- Operator numbers by their families: one computed test for the keys of an arm, and one for each range between them.
-use Prim.Native.Nat.{ℕ, zero, suc, _+_, _≤_, _<_}
-use mathlib.Core.Path.{_≡_, refl, sym, ap, subst, _∙_}
-use mathlib.Core.Bool.{Bool, true, _&&_, _||_}
+use Prim.Native.Nat.{ℕ, _+_, _≤_, _<_}
+use mathlib.Core.Path.{_≡_, refl, sym, ap, _∙_}
+use mathlib.Core.Bool.{Bool, true, _&&_}
 use mathlib.Core.List.{List, [], _∷_}
-use mathlib.Core.Logic.{_⊎_, ⊎-elim}
 use native.Mathlib.Omega.{arith}
-use native.Mathlib.Nat.{eq-or-lt-of-le}
 use native.Mathlib.Decide.{decLt}
 use lib.ListN.{getD}
 use lib.Dec.{eqb, leb}
 use borrow.Author.Tests.{eqb-true, leb-true, lt-leb}
 use types.Run.{OneOf}
-use Rattle.record.specs.Cases.{and-left, and-right, false-second, or-other}
+use Rattle.record.specs.Cases.{and-left, and-right, false-second}
 use Rattle.infer_rules.specs.declared.Family.{Family}
 use Rattle.infer_rules.specs.declared.Family.the-variants.{Truth, Integer, Decimal, Text, Regular, Vector, OneBit, Bits, Constant, Concat, First, Second, Last, Sum, Element, RareList, Singleton, Tuple, UnitTuple, Transpose, Join, Product}
 use Rattle.infer_rules.specs.Family.{Families, done, range, familyIn, families, familyOf}
-use Rattle.row_answer.specs.Arms.{Missed, among, missed}
+use Rattle.record.specs.Arms.{Missed, among, keysPass, othersPass, keys-hold, others-hold}
 
 -- A family as a number, and back.
 tagOf : Family → ℕ
@@ -82,40 +80,23 @@ family-is : (f : Family) (o : ℕ) → ofFamily f o ≡ true → f ≡ familyOf 
 unfolding ofFamily
 family-is f o e = sym (of-tag f) ∙ sym (ap ofTag (eqb-true (tagOf (familyOf o)) (tagOf f) e)) ∙ of-tag (familyOf o)
 
----------------------------------------------------------------- the single numbers of an arm
+---------------------------------------------------------------- the numbers of an arm
+-- Whether the single numbers are of the family f; and the n operators from o on, but for the single numbers.
 unfoldable pub allKeys : Family → List ℕ → Bool
-unfolding ofFamily
-allKeys f [] = true
-allKeys f (k ∷ ks) = ofFamily f k && allKeys f ks
+unfolding ofFamily keysPass
+allKeys f ks = keysPass (ofFamily f) ks
+
+unfoldable pub allOf : Family → List (List ℕ) → ℕ → ℕ → Bool
+unfolding ofFamily among othersPass
+allOf f kss o n = othersPass (ofFamily f) kss o n
 
 pub keys-are : (f : Family) (ks : List ℕ) → allKeys f ks ≡ true → (o : ℕ) → OneOf ks o → f ≡ familyOf o
 unfolding allKeys
-keys-are f [] e o h = absurd h
-keys-are f (k ∷ []) e o h = subst (λ (x : ℕ). f ≡ familyOf x) (sym h) (family-is f k (and-left (ofFamily f k) true e))
-keys-are f (k ∷ (l ∷ ks)) e o h =
-    ⊎-elim
-    (λ (q : o ≡ k). subst (λ (x : ℕ). f ≡ familyOf x) (sym q) (family-is f k (and-left (ofFamily f k) (allKeys f (l ∷ ks)) e)))
-    (λ (q : OneOf (l ∷ ks) o). keys-are f (l ∷ ks) (and-right (ofFamily f k) (allKeys f (l ∷ ks)) e) o q)
-    h
-
----------------------------------------------------------------- the numbers between
--- Whether the n operators from o on are of the family f or among the single numbers.
-unfoldable pub allOf : Family → List (List ℕ) → ℕ → ℕ → Bool
-unfolding ofFamily among
-allOf f kss o zero = true
-allOf f kss o (suc n) = (among kss o || ofFamily f o) && allOf f kss (suc o) n
+keys-are f ks e o h = keys-hold (λ i. f ≡ familyOf i) (ofFamily f) (family-is f) ks e o h
 
 pub range-is : (f : Family) (kss : List (List ℕ)) (lo n : ℕ) → allOf f kss lo n ≡ true → (o : ℕ) → Missed kss o → lo ≤ o → o < lo + n → f ≡ familyOf o
 unfolding allOf
-range-is f kss lo zero e o m h k = absurd (omega arith)
-range-is f kss lo (suc n) e o m h k =
-    ⊎-elim
-    (λ (q : lo ≡ o).
-    family-is f o
-    (or-other (among kss o) (ofFamily f o) (missed kss o m)
-    (subst (λ (x : ℕ). among kss x || ofFamily f x ≡ true) q (and-left (among kss lo || ofFamily f lo) (allOf f kss (suc lo) n) e))))
-    (λ (q : lo < o). range-is f kss (suc lo) n (and-right (among kss lo || ofFamily f lo) (allOf f kss (suc lo) n) e) o m q (omega arith))
-    (eq-or-lt-of-le h)
+range-is f kss lo n e o m h k = others-hold (λ i. f ≡ familyOf i) (ofFamily f) (family-is f) kss lo n e o m h k
 
 ---------------------------------------------------------------- the numbers past the last operator
 unfoldable upTo : Families → ℕ → Bool

@@ -9,7 +9,7 @@ use Rattle.record.specs.Sort.{Sorts}
 use Rattle.infer_rules.specs.Inferred.{operatedBy}
 use Rattle.infer_rules.specs.declared.Family.{Family}
 use Rattle.infer_rules.specs.declared.Family.the-variants.{Truth, Integer, Decimal, Text, Regular, Vector, OneBit, Bits, Constant, Concat, First, Second, Last, Sum, Element, RareList, Singleton, Tuple, UnitTuple, Transpose, Join, Product}
-use Rattle.row_answer.specs.Arms.{keyed, one-keyed}
+use Rattle.record.specs.Arms.{keyed, one-keyed}
 use Rattle.infer_operator.specs.Operators.{noConstants, makes, looks}
 use denote.Enum.Declared.{tagOf}
 use Rattle.infer_rules.proofs.Family.{the-type}

@@ -11,7 +11,6 @@ use row_answer::lists::relation;
 use row_answer::refuse;
 use row_rules::Cause;
 use store::entries::entry;
-ghost use mathlib.Core.Path.{_≡_};
 ghost use Rattle.infer_rules.specs.Inferred.{transposeOf, overBoth, joinOf, productOf};
 ghost use Rattle.row_answer.specs.Answer.{AnswerIs};
 ghost use Rattle.row_answer.specs.Heads.{HeadAsks};

@@ -18,10 +18,9 @@ use row_answer::variable;
 use row_rules::Cause;
 use store::entries::entry;
 use store::entries::kind_at;
-ghost use mathlib.Core.Path.{_≡_};
 ghost use Rattle.infer_rules.specs.Inferred.{constantWidth, someReal, sumOf, rareOf, singletonOf};
 ghost use Rattle.row_answer.specs.Answer.{AnswerIs};
-ghost use Rattle.row_answer.specs.Arguments.{ConstantsAsk, constantsIn};
+ghost use Rattle.row_answer.specs.Arguments.{constantsIn};
 ghost use Rattle.infer_operator.specs.Asks.{ReadArgumentsAsk, ArgsAsks, sortsIn};
 ghost use Rattle.infer_operator.specs.Single.{FewAsks, ArgumentHas, LastHas, RealHas, ElementAsks, ElementHas, WrittenAsks};
 

@@ -12,7 +12,6 @@ use row_answer::refuse;
 use row_rules::Cause;
 use store::entries::entry;
 use store::entries::kind_at;
-ghost use mathlib.Core.Path.{_≡_};
 ghost use Rattle.infer_rules.specs.Inferred.{firstVector, concatFrom};
 ghost use Rattle.row_answer.specs.Answer.{AnswerIs};
 ghost use Rattle.infer_operator.specs.Asks.{ReadArgumentsAsk, ArgsAsks, sortsIn};

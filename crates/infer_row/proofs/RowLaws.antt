@@ -6,7 +6,7 @@ use mathlib.Core.Logic.{⊎-elim}
 use native.Mathlib.Omega.{arith}
 use native.Mathlib.Nat.{eq-or-lt-of-le}
 use Rattle.record.specs.Decode.{storeOf}
-use Rattle.match_tables.specs.Usable.{sortsAt}
+use Rattle.matching_tables.specs.Usable.{sortsAt}
 use Rattle.reader.specs.declared.TermRecord.{TermRecord}
 use Rattle.infer_rules.specs.Inferred.{inferredApp, inferred}
 use Rattle.row_answer.specs.declared.Answer.{Answer}

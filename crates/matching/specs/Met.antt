@@ -7,10 +7,10 @@ use mathlib.Core.Option.{some}
 use Rattle.record.specs.Decode.{storeOf, sortAt}
 use Rattle.substitution.specs.Substitution.{Map}
 use Rattle.substitution.specs.Matching.{matches}
-use Rattle.match_tables.specs.Tables.{Told, tableMap}
-use Rattle.match_tables.specs.declared.Matched.{Matched}
-use Rattle.match_tables.specs.declared.Matched.the-variants.{Fits, Misfits}
-use Rattle.match_tables.specs.Notes.{Pairs}
+use Rattle.matching_tables.specs.Tables.{Told, tableMap}
+use Rattle.matching_tables.specs.declared.Matched.{Matched}
+use Rattle.matching_tables.specs.declared.Matched.the-variants.{Fits, Misfits}
+use Rattle.matching_tables.specs.Notes.{Pairs}
 
 -- The pattern k matches the target j from the map θ and gives θ, for every test of names that the table prm stands for.
 abbrev pub MatchedAt : List ℕ → List ℕ → ℕ → List ℕ → Map → ℕ → ℕ → Type 0

@@ -8,8 +8,8 @@ use Rattle.record.specs.Sort.{var, size, sizes}
 use Rattle.record.specs.Decode.{sortAt}
 use Rattle.substitution.specs.Substitution.{Map}
 use Rattle.substitution.specs.Matching.{matches, matchesAll}
-use Rattle.match_tables.specs.Usable.{sortsAt, PairsAsk}
-use Rattle.match_tables.specs.Notes.{Pairs}
+use Rattle.matching_tables.specs.Usable.{sortsAt, PairsAsk}
+use Rattle.matching_tables.specs.Notes.{Pairs}
 use Rattle.matching.specs.Met.{MatchedAt}
 use Rattle.matching.specs.declared.Step.{Step}
 use Rattle.matching.specs.declared.Step.the-variants.{Holds as Stays, Fails as Stops, Meets, Parts as Parted}

@@ -15,15 +15,15 @@ use Rattle.record.specs.Cases.{not-true, not-false}
 use Rattle.reader.specs.declared.QuestionRecord.{QuestionRecord}
 use Rattle.substitution.specs.Substitution.{Map, empty}
 use Rattle.substitution.specs.Matching.{matches, listedIn, premise}
-use Rattle.match_tables.specs.declared.Matched.{Matched}
-use Rattle.match_tables.specs.declared.Matched.the-variants.{Fits, Misfits}
-use Rattle.match_tables.specs.Tables.{Lists, Told, listed, Added, tableMap, Tabled, Mapped, Cleared}
-use Rattle.match_tables.specs.TableLaws.{times-few, listed-is, lists-none, lists-added, added-back, cleared-mapped, cleared-map, cleared-images, cleared-bound}
-use Rattle.match_tables.specs.Usable.{PairAsks}
-use Rattle.match_tables.specs.Contract.{TestAsks, AddAsks, TakeAsks, Answered}
-use Rattle.match_each.specs.Premises.{PremiseIs}
+use Rattle.matching_tables.specs.declared.Matched.{Matched}
+use Rattle.matching_tables.specs.declared.Matched.the-variants.{Fits, Misfits}
+use Rattle.matching_tables.specs.Tables.{Lists, Told, listed, Added, tableMap, Tabled, Mapped, Cleared}
+use Rattle.matching_tables.specs.TableLaws.{times-few, listed-is, lists-none, lists-added, added-back, cleared-mapped, cleared-map, cleared-images, cleared-bound}
+use Rattle.matching_tables.specs.Usable.{PairAsks}
+use Rattle.matching_tables.specs.Contract.{TestAsks, AddAsks, TakeAsks, Answered}
+use Rattle.matching_each.specs.Premises.{PremiseIs}
 use Rattle.matching.specs.Contract.{MatchAsks as PlainAsks, MatchIs as PlainIs}
-use Rattle.match_tables.specs.Entered.{good-usable}
+use Rattle.matching_tables.specs.Entered.{good-usable}
 use Rattle.apply.specs.Contract.{ApplyAsks as ReplaceAsks}
 use Rattle.row_rules.specs.declared.Cause.the-variants.{Barred, NoAssignment}
 use Rattle.row_rules.specs.Verdict.{refused, need}

@@ -16,8 +16,8 @@ use Rattle.reader.specs.declared.QuestionRecord.{QuestionRecord}
 use Rattle.sheet.specs.Sheet.{Lengths}
 use Rattle.store.specs.Good.{Good}
 use Rattle.substitution.specs.Compatible.{compatible}
-use Rattle.match_tables.specs.Usable.{PairAsks}
-use Rattle.match_tables.specs.Entered.{good-usable}
+use Rattle.matching_tables.specs.Usable.{PairAsks}
+use Rattle.matching_tables.specs.Entered.{good-usable}
 use Rattle.row_rules.specs.Outcome.{CodedStore, outcome}
 use Rattle.row_answer.specs.declared.Answer.{Answer}
 use Rattle.judge_rules.specs.Questions.{firstSort, restSorts, yesNo, matchAnswer, applyAnswer, answerOf}

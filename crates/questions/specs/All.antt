@@ -23,7 +23,7 @@ use Rattle.sheet.specs.Trees.{treesOf, trees-length, trees-same, mapped-sorts}
 use Rattle.sheet.specs.Contract.{eachAt, questionReadAt, questionsAt, QuestionStands, SheetStands}
 use Rattle.sheet.specs.Stands.{Numbered, question-again, question-is}
 use Rattle.store.specs.Good.{Good}
-use Rattle.match_tables.specs.Tables.{Blank}
+use Rattle.matching_tables.specs.Tables.{Blank}
 use Rattle.row_rules.specs.Outcome.{CodedStore}
 use Rattle.judge_rules.specs.Questions.{answerOf, AnswersSoFar, answerAdded, answersOf}
 use Rattle.questions.specs.declared.Word.{Word}

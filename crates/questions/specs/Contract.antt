@@ -13,7 +13,7 @@ use Rattle.reader.specs.declared.QuestionRecord.{QuestionRecord}
 use Rattle.sheet.specs.Sheet.{Lengths, QuestionFields}
 use Rattle.sheet.specs.Trees.{mapped}
 use Rattle.store.specs.Good.{Good}
-use Rattle.match_tables.specs.Tables.{Lists, Cleared}
+use Rattle.matching_tables.specs.Tables.{Lists, Cleared}
 use Rattle.row_rules.specs.Verdict.{codeOf}
 use Rattle.row_answer.specs.declared.Answer.{Answer}
 use Rattle.row_answer.specs.Answer.{AnswerIs}

@@ -19,7 +19,7 @@ use Rattle.record.specs.Decode.{Zeros}
 use Rattle.record.specs.Codec.{numbers-more}
 use Rattle.sheet.specs.Trees.{mapped}
 use Rattle.substitution.specs.Substitution.{find}
-use Rattle.match_tables.specs.TableLaws.{numbers-none}
+use Rattle.matching_tables.specs.TableLaws.{numbers-none}
 use Rattle.apply_walk.specs.Images.{imageAt, Images}
 use Rattle.judge_rules.specs.Questions.{imagesGiven}
 

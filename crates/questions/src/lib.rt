@@ -5,8 +5,8 @@ pub mod matched;
 
 use images::answer_apply;
 use images::sort_at;
-use match_with::compatible::is_compatible;
 use matched::answer_match;
+use matching_with::compatible::is_compatible;
 use reader::QuestionRecord;
 use record::kinds::QUESTION_COMPATIBLE;
 use record::kinds::QUESTION_MATCH;
@@ -15,7 +15,7 @@ use row_answer::code;
 ghost use mathlib.Core.Path.{_≡_};
 ghost use Rattle.record.specs.Decode.{sortAt};
 ghost use Rattle.substitution.specs.Compatible.{compatible};
-ghost use Rattle.match_tables.specs.Usable.{PairAsks};
+ghost use Rattle.matching_tables.specs.Usable.{PairAsks};
 ghost use Rattle.judge_rules.specs.Questions.{yesNo};
 ghost use Rattle.questions.specs.Contract.{CodeAsks, WordIs, QuestionAsks, QuestionIs};
 

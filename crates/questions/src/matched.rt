@@ -1,11 +1,11 @@
 // Question 1: the result after Substitution by the assignment that turns the pattern into the target.
 use super::images::sort_at;
-use match_each::premises::in_premise;
-use match_tables::Matched;
-use match_tables::tables::clear;
-use match_tables::tables::list_names;
-use match_tables::tables::unlist_names;
 use matching::matches;
+use matching_each::premises::in_premise;
+use matching_tables::Matched;
+use matching_tables::tables::clear;
+use matching_tables::tables::list_names;
+use matching_tables::tables::unlist_names;
 use reader::QuestionRecord;
 use row_answer::Answer;
 use row_answer::refuse;

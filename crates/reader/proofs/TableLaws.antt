@@ -1,44 +1,27 @@
 -- A table looked up by a match: what no arm names is 0.
-use Prim.Native.Nat.{ℕ, zero, suc, _+_}
-use mathlib.Core.Path.{_≡_, refl, sym, ap, _∙_}
-use mathlib.Core.Bool.{Bool, true, false, _&&_, _||_, false≢true}
-use mathlib.Core.List.{List, [], _∷_}
+use Prim.Native.Nat.{ℕ, _<_}
+use mathlib.Core.Path.{_≡_, sym}
+use mathlib.Core.Bool.{Bool, true}
+use mathlib.Core.List.{List}
 use native.Mathlib.Omega.{arith}
-use lib.ListN.{getD}
+use native.Mathlib.Decide.{decLt}
+use lib.ListN.{length, getD, List·getD-eq-default}
 use lib.Dec.{eqb}
-use borrow.Author.Tests.{eqb-true, ne-eqb}
-use Rattle.record.specs.Cases.{and-left, and-right}
-use Rattle.record.specs.Names.{member}
+use borrow.Author.Tests.{eqb-true}
+use Rattle.record.specs.Arms.{Missed, othersPass, others-hold}
 
--- k is none of the arms' numbers, the last arm first.
-abbrev pub Unnamed : ℕ → List ℕ → Type 0
-Unnamed k [] = Unit {0}
-Unnamed k (n ∷ ns) = Unnamed k ns × (k ≡ n → ⊥)
+-- Whether the table has 0 at the place o.
+unfoldable pub zeroAt : List ℕ → ℕ → Bool
+zeroAt l o = eqb (getD l o 0) 0
 
--- Each entry of the table, of which the first stands at i, is 0 or named by an arm.
-unfoldable pub restZero : List ℕ → List ℕ → ℕ → Bool
-restZero ns [] i = true
-restZero ns (x ∷ l) i = (member i ns || eqb x 0) && restZero ns l (suc i)
+zero-is : (l : List ℕ) (o : ℕ) → zeroAt l o ≡ true → 0 ≡ getD l o 0
+unfolding zeroAt
+zero-is l o e = sym (eqb-true (getD l o 0) 0 e)
 
-no-member : (k : ℕ) (ns : List ℕ) → Unnamed k ns → member k ns ≡ false
-unfolding member
-no-member k [] u = refl
-no-member k (n ∷ ns) u = rw (ne-eqb n k (λ e. u .1 (sym e)), no-member k ns (u .0)) refl
-
-second : (a b : Bool) → a ≡ false → (a || b) ≡ true → b ≡ true
-second true b f e = absurd (false≢true (sym f))
-second false b f e = e
-
-rest-from : (ns l : List ℕ) (i k : ℕ) → restZero ns l i ≡ true → member (i + k) ns ≡ false → 0 ≡ getD l k 0
-unfolding restZero
-rest-from ns [] i k t m = refl
-rest-from ns (x ∷ l) i zero t m =
-    let e : i + 0 ≡ i = omega arith in
-    sym (eqb-true x 0 (second (member i ns) (eqb x 0) (sym (ap (λ (j : ℕ). member j ns) e) ∙ m) (and-left (member i ns || eqb x 0) (restZero ns l (suc i)) t)))
-rest-from ns (x ∷ l) i (suc k) t m =
-    let e : suc i + k ≡ i + suc k = omega arith in
-    rest-from ns l (suc i) k (and-right (member i ns || eqb x 0) (restZero ns l (suc i)) t) (ap (λ (j : ℕ). member j ns) e ∙ m)
-
--- THE LAST ARM gives 0, where a computed test finds each other entry to be named.
-pub rest-zero : (ns l : List ℕ) (k : ℕ) → restZero ns l 0 ≡ true → Unnamed k ns → 0 ≡ getD l k 0
-rest-zero ns l k t u = let e : 0 + k ≡ k = omega arith in rest-from ns l 0 k t (ap (λ (j : ℕ). member j ns) e ∙ no-member k ns u)
+-- THE LAST ARM gives 0: a computed test finds 0 at each place that no other arm names, and there is nothing past the end.
+pub rest-zero : (kss : List (List ℕ)) (l : List ℕ) (o : ℕ) → othersPass (zeroAt l) kss 0 (length l) ≡ true → Missed kss o → 0 ≡ getD l o 0
+rest-zero kss l o e m = go (decLt o (length l))
+  where
+    go : Dec (o < length l) → 0 ≡ getD l o 0
+    go (yes h) = others-hold (λ i. 0 ≡ getD l i 0) (zeroAt l) (zero-is l) kss 0 (length l) e o m (omega arith) (omega arith)
+    go (no h) = sym (List·getD-eq-default l 0 (omega arith))

@@ -2,6 +2,7 @@ pub mod Number
 pub mod Names
 pub mod Sort
 pub mod Cases
+pub mod Arms
 pub mod SortLaws
 pub mod Record
 pub mod Store

@@ -9,8 +9,8 @@ use Rattle.record.specs.Sort.{kindOf}
 use Rattle.record.specs.Decode.{sortAt, Stored}
 use Rattle.store.specs.Entry.{EntryAsks, KindHas}
 use Rattle.store.specs.Walk.{entry-asks}
-use Rattle.match_tables.specs.Usable.{Refs, sortsAt}
-use Rattle.match_tables.specs.Entered.{refs-first, refs-rest, sorts-end, sorts-more}
+use Rattle.matching_tables.specs.Usable.{Refs, sortsAt}
+use Rattle.matching_tables.specs.Entered.{refs-first, refs-rest, sorts-end, sorts-more}
 use Rattle.check_rules.specs.Checked.{values}
 use Rattle.row_answer.specs.Values.{ValuesAsk, ValuesHave, value-kind, stored-value}
 

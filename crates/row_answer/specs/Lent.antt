@@ -9,7 +9,7 @@ use Rattle.record.specs.Sort.{Sort, Sorts, var, par, node}
 use Rattle.record.specs.Decode.{storeOf, sortAt}
 use Rattle.sheet.specs.Sheet.{Lengths}
 use Rattle.substitution.specs.Premises.{parless}
-use Rattle.match_tables.specs.Tables.{Blank}
+use Rattle.matching_tables.specs.Tables.{Blank}
 use Rattle.row_rules.specs.Verdict.{Verdict}
 use Rattle.row_rules.specs.Outcome.{CodedStore}
 use Rattle.row_rules.specs.ParlessLaws.{ParlessVerdict, parlessEach, parless-at, parless-outcome}

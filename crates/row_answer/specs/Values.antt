@@ -10,7 +10,7 @@ use Rattle.record.specs.Sort.{Sort, var, par, node, kindOf}
 use Rattle.record.specs.Record.{Fields, sortOf}
 use Rattle.record.specs.Forms.{Which, isVar, isPar, isNode, which, sort-var, sort-par, sort-other}
 use Rattle.record.specs.StoreLaws.{sort-node}
-use Rattle.match_tables.specs.Usable.{Refs, sortsAt}
+use Rattle.matching_tables.specs.Usable.{Refs, sortsAt}
 use Rattle.check_rules.specs.Checked.{values, value}
 
 -- m numbers of sorts of some store in these buffers.

@@ -13,14 +13,14 @@ use Rattle.record.specs.Sort.{Sorts}
 use Rattle.record.specs.Decode.{storeOf}
 use Rattle.substitution.specs.Substitution.{Map, empty, apply}
 use Rattle.substitution.specs.Matching.{matchesAll, listedIn}
-use Rattle.match_tables.specs.declared.Matched.{Matched}
-use Rattle.match_tables.specs.declared.Matched.the-variants.{Fits, Misfits}
-use Rattle.match_tables.specs.Tables.{Told, listed, Lists, Added, tableMap}
-use Rattle.match_tables.specs.TableLaws.{listed-is, added-back, cleared-mapped, cleared-map, cleared-images, cleared-bound}
-use Rattle.match_tables.specs.Usable.{sortsAt}
-use Rattle.match_tables.specs.Contract.{AddAsks, TakeAsks, Answered}
+use Rattle.matching_tables.specs.declared.Matched.{Matched}
+use Rattle.matching_tables.specs.declared.Matched.the-variants.{Fits, Misfits}
+use Rattle.matching_tables.specs.Tables.{Told, listed, Lists, Added, tableMap}
+use Rattle.matching_tables.specs.TableLaws.{listed-is, added-back, cleared-mapped, cleared-map, cleared-images, cleared-bound}
+use Rattle.matching_tables.specs.Usable.{sortsAt}
+use Rattle.matching_tables.specs.Contract.{AddAsks, TakeAsks, Answered}
 use Rattle.matching.specs.Contract.{MatchAllAsks, MatchAllIs}
-use Rattle.match_tables.specs.Entered.{good-usable}
+use Rattle.matching_tables.specs.Entered.{good-usable}
 use Rattle.row_rules.specs.declared.Cause.the-variants.{Count, Misfit, Unassigned}
 use Rattle.row_rules.specs.Verdict.{Verdict, sort, refused, need}
 use Rattle.row_rules.specs.Lists.{firsts, others, remaining}

@@ -4,7 +4,7 @@ use mathlib.Core.Path.{_≡_, ap, subst}
 use mathlib.Core.List.{List}
 use native.Mathlib.Omega.{arith}
 use Rattle.record.specs.Decode.{storeOf}
-use Rattle.match_tables.specs.Tables.{tableMap, Mapped, Cleared}
+use Rattle.matching_tables.specs.Tables.{tableMap, Mapped, Cleared}
 use Rattle.row_rules.specs.declared.Cause.{Cause}
 use Rattle.row_answer.specs.declared.Answer.{Answer}
 use Rattle.row_answer.specs.declared.heads.Callee.{Callee}

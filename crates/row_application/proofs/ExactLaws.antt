@@ -21,8 +21,8 @@ use Rattle.substitution.specs.Substitution.{Map, empty}
 use Rattle.substitution.specs.SubstitutionLaws.{apply-empty}
 use Rattle.substitution.specs.Premises.{parless, anyName, named, namedAll}
 use Rattle.substitution.specs.Matching.{andThen, matches, matchesAll}
-use Rattle.match_tables.specs.Usable.{sortsAt, PairsAsk}
-use Rattle.match_tables.specs.Entered.{good-usable, refs-first, refs-rest, sorts-end, sorts-more}
+use Rattle.matching_tables.specs.Usable.{sortsAt, PairsAsk}
+use Rattle.matching_tables.specs.Entered.{good-usable, refs-first, refs-rest, sorts-end, sorts-more}
 use Rattle.row_rules.specs.declared.Cause.the-variants.{Misfit, Unassigned}
 use Rattle.row_rules.specs.Verdict.{Verdict, sort, refused, need}
 use Rattle.row_rules.specs.Lists.{remaining}

@@ -14,9 +14,9 @@ use Rattle.record.specs.Decode.{storeOf, sortAt}
 use Rattle.substitution.specs.Substitution.{empty}
 use Rattle.substitution.specs.Matching.{listedIn}
 use Rattle.substitution.specs.MatchWith.{matchAllWith}
-use Rattle.match_tables.specs.Tables.{Blank}
-use Rattle.match_tables.specs.Usable.{Refs, sortsAt}
-use Rattle.match_tables.specs.Entered.{sorts-end, sorts-more}
+use Rattle.matching_tables.specs.Tables.{Blank}
+use Rattle.matching_tables.specs.Usable.{Refs, sortsAt}
+use Rattle.matching_tables.specs.Entered.{sorts-end, sorts-more}
 use Rattle.row_rules.specs.declared.Cause.the-variants.{Panics, Count, Misfit}
 use Rattle.row_rules.specs.Verdict.{Verdict, sort, refused, need}
 use Rattle.row_rules.specs.Lists.{firsts, others, remaining}

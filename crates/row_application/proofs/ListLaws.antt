@@ -10,7 +10,7 @@ use Rattle.record.specs.Codec.{length-numbersAt}
 use Rattle.record.specs.Sort.{Sort, _then_, count, size, sizes}
 use Rattle.record.specs.Record.{leaf, sortsOf}
 use Rattle.record.specs.Sizes.{count-sorts}
-use Rattle.match_tables.specs.Usable.{Refs}
+use Rattle.matching_tables.specs.Usable.{Refs}
 use Rattle.row_rules.specs.Lists.{firsts, others}
 
 pub count-at : (st : List Sort) (b : List ℕ) (x m : ℕ) → count (sortsOf st (numbersAt b x m)) ≡ m

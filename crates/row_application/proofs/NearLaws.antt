@@ -10,7 +10,7 @@ use borrow.Author.Tests.{eqb-true}
 use Rattle.record.specs.Names.{member}
 use Rattle.record.specs.Sort.{Sort, Sorts, var, par, node, end, _then_, same}
 use Rattle.record.specs.SortLaws.{same-sound, same-complete}
-use Rattle.record.specs.Cases.{three, eqb-self, byTest, byOption, none-some, some-inj, clash}
+use Rattle.record.specs.Cases.{three, byTest, byOption, none-some, some-inj, clash}
 use Rattle.substitution.specs.Substitution.{Map, empty, bind, find, apply}
 use Rattle.substitution.specs.SubstitutionLaws.{apply-var, apply-var-free}
 use Rattle.substitution.specs.Premises.{parless}

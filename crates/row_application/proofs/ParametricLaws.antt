@@ -9,14 +9,14 @@ use Rattle.record.specs.Sort.{sizes}
 use Rattle.record.specs.Decode.{storeOf}
 use Rattle.substitution.specs.Substitution.{Map}
 use Rattle.substitution.specs.MatchWith.{matchAllWith}
-use Rattle.match_tables.specs.declared.Matched.{Matched}
-use Rattle.match_tables.specs.declared.Matched.the-variants.{Fits, Misfits}
-use Rattle.match_tables.specs.Tables.{Lists, Added, Mapped}
-use Rattle.match_tables.specs.TableLaws.{lists-roomy, added-back, cleared-mapped, cleared-map}
-use Rattle.match_tables.specs.Usable.{sortsAt}
-use Rattle.match_tables.specs.Contract.{TakeAsks, countOf}
-use Rattle.match_with.specs.Contract.{WithAllAsks, WithIs, PairsWith}
-use Rattle.match_tables.specs.Contract.{matchedMap as foundBy}
+use Rattle.matching_tables.specs.declared.Matched.{Matched}
+use Rattle.matching_tables.specs.declared.Matched.the-variants.{Fits, Misfits}
+use Rattle.matching_tables.specs.Tables.{Lists, Added, Mapped}
+use Rattle.matching_tables.specs.TableLaws.{lists-roomy, added-back, cleared-mapped, cleared-map}
+use Rattle.matching_tables.specs.Usable.{sortsAt}
+use Rattle.matching_tables.specs.Contract.{TakeAsks, countOf}
+use Rattle.matching_with.specs.Contract.{WithAllAsks, WithIs, PairsWith}
+use Rattle.matching_tables.specs.Contract.{matchedMap as foundBy}
 use Rattle.row_rules.specs.declared.Cause.the-variants.{Panics}
 use Rattle.row_rules.specs.Verdict.{Verdict}
 use Rattle.infer_rules.specs.Inferred.{substituted}

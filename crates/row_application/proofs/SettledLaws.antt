@@ -9,10 +9,10 @@ use lib.Dec.{eqb}
 use borrow.Author.Tests.{ne-eqb}
 use Rattle.record.specs.Sort.{Sort, Sorts, end, _then_}
 use Rattle.substitution.specs.Substitution.{Map, isSome, bound}
-use Rattle.match_tables.specs.Tables.{Told}
-use Rattle.match_each.specs.Every.{passing}
-use Rattle.match_each.specs.EveryLaws.{Tests}
-use Rattle.match_each.specs.declared.each.Test.the-variants.{Settled}
+use Rattle.matching_tables.specs.Tables.{Told}
+use Rattle.matching_each.specs.Every.{passing}
+use Rattle.matching_each.specs.EveryLaws.{Tests}
+use Rattle.matching_each.specs.declared.each.Test.the-variants.{Settled}
 use Rattle.apply_walk.specs.Images.{imageAt, Images}
 use Rattle.row_rules.specs.Lists.{remaining}
 use Rattle.check_rules.specs.Checked.{settled, settledAll}

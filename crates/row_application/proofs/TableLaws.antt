@@ -7,9 +7,9 @@ use lib.ListN.{length}
 use Rattle.record.specs.Number.{numbersAt}
 use Rattle.record.specs.Codec.{length-numbersAt}
 use Rattle.record.specs.Decode.{Zeros}
-use Rattle.match_tables.specs.Tables.{Lists, Added}
-use Rattle.match_tables.specs.TableLaws.{times-few, lists-none, lists-added}
-use Rattle.match_tables.specs.Contract.{AddAsks, TakeAsks}
+use Rattle.matching_tables.specs.Tables.{Lists, Added}
+use Rattle.matching_tables.specs.TableLaws.{times-few, lists-none, lists-added}
+use Rattle.matching_tables.specs.Contract.{AddAsks, TakeAsks}
 
 -- At most 64 names in a table of zeros.
 module _ (prm : List ℕ) (table : length prm ≡ 65536) (zeros : Zeros prm 0) (b : List ℕ) (y q : ℕ) (names : y + 2 * q ≤ length b) (named : q ≤ 64) where

@@ -20,12 +20,12 @@ use Rattle.store.specs.Entry.{EntryHas}
 use Rattle.substitution.specs.Substitution.{Map, empty, apply}
 use Rattle.substitution.specs.Matching.{listedIn}
 use Rattle.substitution.specs.Premises.{parless, parlessAll}
-use Rattle.match_tables.specs.Tables.{tableMap, Mapped}
-use Rattle.match_tables.specs.Usable.{OneAsks, ListAsks, sortsAt}
-use Rattle.match_each.specs.Every.{AllEachIs}
-use Rattle.match_each.specs.EveryLaws.{everyAll-is, parless-tests}
-use Rattle.match_each.specs.declared.each.Test.the-variants.{Parless}
-use Rattle.match_tables.specs.Entered.{good-usable, entry-var}
+use Rattle.matching_tables.specs.Tables.{tableMap, Mapped}
+use Rattle.matching_tables.specs.Usable.{OneAsks, ListAsks, sortsAt}
+use Rattle.matching_each.specs.Every.{AllEachIs}
+use Rattle.matching_each.specs.EveryLaws.{everyAll-is, parless-tests}
+use Rattle.matching_each.specs.declared.each.Test.the-variants.{Parless}
+use Rattle.matching_tables.specs.Entered.{good-usable, entry-var}
 use Rattle.row_rules.specs.declared.Cause.{Cause}
 use Rattle.row_rules.specs.declared.Cause.the-variants.{Full}
 use Rattle.row_rules.specs.Verdict.{Verdict, sort}

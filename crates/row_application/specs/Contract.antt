@@ -15,10 +15,10 @@ use Rattle.substitution.specs.Substitution.{Map, empty, bind, apply}
 use Rattle.substitution.specs.Matching.{keep, matchesAll, listedIn}
 use Rattle.substitution.specs.MatchWith.{matchAllWith}
 use Rattle.substitution.specs.Premises.{parless, parlessAll}
-use Rattle.match_tables.specs.Tables.{Told, tableMap, Mapped, Cleared, Blank}
-use Rattle.match_tables.specs.Usable.{Usable, Refs, sortsAt, OneAsks, ListAsks, PairsAsk}
-use Rattle.match_each.specs.Every.{every, passing}
-use Rattle.match_each.specs.declared.each.Test.the-variants.{Settled as Settles}
+use Rattle.matching_tables.specs.Tables.{Told, tableMap, Mapped, Cleared, Blank}
+use Rattle.matching_tables.specs.Usable.{Usable, Refs, sortsAt, OneAsks, ListAsks, PairsAsk}
+use Rattle.matching_each.specs.Every.{every, passing}
+use Rattle.matching_each.specs.declared.each.Test.the-variants.{Settled as Settles}
 use Rattle.apply_walk.specs.Images.{Images}
 use Rattle.row_rules.specs.declared.Cause.the-variants.{Full}
 use Rattle.row_rules.specs.Verdict.{Verdict, sort, refused}

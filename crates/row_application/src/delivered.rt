@@ -1,5 +1,5 @@
 // What remains of a head's Function at arguments that were matched with its list: the end of an App, checked or inferred.
-use match_tables::tables::clear;
+use matching_tables::tables::clear;
 use row_answer::Answer;
 use row_answer::heads::Callee;
 use row_answer::refuse;

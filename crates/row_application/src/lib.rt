@@ -10,7 +10,7 @@ use row_answer::heads::head_of;
 use row_answer::lists::remaining;
 use row_answer::refuse;
 use row_rules::Cause;
-ghost use Rattle.match_tables.specs.Usable.{sortsAt};
+ghost use Rattle.matching_tables.specs.Usable.{sortsAt};
 ghost use Rattle.infer_rules.specs.Inferred.{inferredApp};
 ghost use Rattle.check_rules.specs.Checked.{checkedApp};
 ghost use Rattle.row_application.specs.Contract.{AppAsks, AppCrowded, AppIs};

@@ -1,10 +1,10 @@
 // The inferred sort of an App whose head is a Par of a Function.
 use super::delivered::Call;
 use super::delivered::deliver;
-use match_tables::Matched;
-use match_tables::tables::list_names;
-use match_tables::tables::unlist_names;
-use match_with::match_all_with;
+use matching_tables::Matched;
+use matching_tables::tables::list_names;
+use matching_tables::tables::unlist_names;
+use matching_with::match_all_with;
 use row_answer::Answer;
 use row_answer::arguments::SECOND_AT;
 use row_answer::heads::Callee;

@@ -1,9 +1,9 @@
 // The checked sort of an App whose head is a Function without parameters: an argument fits a sort of the head's list exactly
 // if it is that sort and no Par stands in it. The test for a Par notes in `seen` the sorts that it found free of one, and goes
 // down no sort that is noted there.
-use match_each::each::Test;
-use match_each::each::each;
-use match_tables::notes::NOTES;
+use matching_each::each::Test;
+use matching_each::each::each;
+use matching_tables::notes::NOTES;
 use record::limits::LONGEST_LISTED;
 use record::u16_at;
 use row_answer::Answer;
@@ -15,7 +15,7 @@ use store::entries::size_at;
 ghost use mathlib.Core.Path.{_≡_};
 ghost use Rattle.record.specs.Decode.{sortAt};
 ghost use Rattle.substitution.specs.Premises.{parless};
-ghost use Rattle.match_tables.specs.Notes.{NoteTable};
+ghost use Rattle.matching_tables.specs.Notes.{NoteTable};
 ghost use Rattle.row_application.specs.Contract.{ParlessAt, ParlessAsks, ExactAsks, ExactIs, PlainAppAsks, PlainAppIs};
 
 // Whether no Par stands in the sort `k`. One of tree size 1 has no parts and is no Par, and needs no walk.

@@ -1,8 +1,8 @@
 // Whether every listed name left in sorts is bound. The walk notes in `seen` the sorts of which it found so, and goes down
 // no sort that is noted there.
-use match_each::each::Test;
-use match_each::each::all_each;
-ghost use Rattle.match_tables.specs.Notes.{NoteTable};
+use matching_each::each::Test;
+use matching_each::each::all_each;
+ghost use Rattle.matching_tables.specs.Notes.{NoteTable};
 ghost use Rattle.row_application.specs.Contract.{SettledAllAsks, SettledAllIs, SettledAt};
 
 // Whether every variable of the `left` sorts that the store names from `at` on is bound, where its name is listed; the names

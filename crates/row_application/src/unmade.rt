@@ -2,9 +2,9 @@
 // names bound to the variable of that name, which it leaves out. These count only where a Par stands in what remains. So but for that both
 // have the same sort, and it is not made in vain.
 use super::delivered::Call;
-use match_each::each::Test;
-use match_each::each::all_each;
-use match_tables::notes::NOTES;
+use matching_each::each::Test;
+use matching_each::each::all_each;
+use matching_tables::notes::NOTES;
 use record::kinds::SORT_VAR;
 use row_rules::Cause;
 use store::entries::entry;
@@ -13,8 +13,8 @@ ghost use mathlib.Core.Bool.{not, _&&_};
 ghost use Rattle.record.specs.Sort.{var, same};
 ghost use Rattle.record.specs.Decode.{storeOf, sortAt};
 ghost use Rattle.substitution.specs.Premises.{parlessAll};
-ghost use Rattle.match_tables.specs.Tables.{tableMap};
-ghost use Rattle.match_tables.specs.Usable.{OneAsks, ListAsks, sortsAt};
+ghost use Rattle.matching_tables.specs.Tables.{tableMap};
+ghost use Rattle.matching_tables.specs.Usable.{OneAsks, ListAsks, sortsAt};
 ghost use Rattle.row_application.specs.Contract.{OwnAsks, boundIn, owned, unmadeOf};
 
 // Whether the sort `k` is the variable of this name.

@@ -7,8 +7,8 @@ use lib.ListN.{getD}
 use Rattle.record.specs.Sort.{Sort}
 use Rattle.record.specs.Decode.{storeOf}
 use Rattle.record.specs.StoreLaws.{storeOf-length}
-use Rattle.match_tables.specs.Tables.{imageOf, tableMap, Mapped}
-use Rattle.match_tables.specs.TableLaws.{find-is}
+use Rattle.matching_tables.specs.Tables.{imageOf, tableMap, Mapped}
+use Rattle.matching_tables.specs.TableLaws.{find-is}
 use Rattle.apply_walk.specs.Images.{imageAt, Images}
 
 image-same : (st : List Sort) (e : ℕ) → imageOf st e ≡ imageAt st e

@@ -18,7 +18,7 @@ use Rattle.sheet.specs.Contract.{termReadAt, termsAt, questionReadAt, questions
 use Rattle.sheet.specs.Stands.{each-length, zeros-all}
 use Rattle.sheet.specs.declared.SheetCounts.{SheetCounts}
 use Rattle.store.specs.Good.{Good, good-bytes, good-places}
-use Rattle.match_tables.specs.Tables.{Blank}
+use Rattle.matching_tables.specs.Tables.{Blank}
 use Rattle.check_rules.specs.Ranks.{smtLib}
 use Rattle.row_answer.specs.Lent.{Lent}
 use Rattle.judge_rules.specs.Rows.{RowsSoFar, rowsOf}

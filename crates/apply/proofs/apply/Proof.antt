@@ -1,8 +1,6 @@
 -- 22 by the capped size, with nothing touched; where there was no room, undoing gives back the store that it was grown from.
 use borrow.Author.Needs.{needs}
 use mathlib.Core.Path.{refl, subst}
-use Rattle.record.specs.Store.{intern}
-use Rattle.record.specs.Decode.{storeOf}
 use Rattle.apply_walk.specs.Contract.{answerAt, ReplacedIs}
 use Rattle.apply.proofs.ApplyLaws.{apply-size, apply-over, apply-small, apply-asks}
 use Rattle.apply.proofs.UndoLaws.{undo-asks, undo-back}

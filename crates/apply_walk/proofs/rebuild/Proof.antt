@@ -1,7 +1,7 @@
 -- A sort without names stays as it is where its parts do; any other is made over the parts, with none left.
 use native.Mathlib.Omega.{arith}
 use borrow.Author.Needs.{needs}
-use mathlib.Core.Path.{sym, _∙_}
+use mathlib.Core.Path.{sym}
 use Rattle.apply_walk.proofs.RebuildLaws.{rebuild-same-asks, rebuild-same, rebuild-asks, rebuild-made, nameless-left, nameless-stays}
 use Rattle.apply_walk.proofs.rebuild.Statement.{statement}
 use Rattle.apply_walk.proofs.rebuild.Tie as tie

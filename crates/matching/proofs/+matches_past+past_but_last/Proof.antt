@@ -7,7 +7,7 @@ use borrow.Author.Needs.{needs}
 use Prim.Native.Nat.{ℕ, _+_, _*_, _<_}
 use Rattle.record.specs.Sort.{size, sizes}
 use Rattle.record.specs.Decode.{sortAt}
-use Rattle.match_tables.specs.Usable.{sortsAt}
+use Rattle.matching_tables.specs.Usable.{sortsAt}
 use Rattle.matching.specs.Steps.{StepIs}
 use Rattle.matching.proofs.MetLaws.{after-same}
 use Rattle.matching.proofs.PlainLaws.{PastInv, past-start, past-first, past-fall, past-more, past-misfit, past-end, StepInv, step-start, step-ends, step-holds, step-fails, var-asks, others-ask, step-fall, step-misfit, step-less, step-last}
@@ -21,7 +21,7 @@ use Rattle.matching.proofs.past_but_last.Kinds as past-but-last-kinds
 use Rattle.matching.proofs.+matches_past+past_but_last.Lts-past_but_last as past-but-last-lts
 use Rattle.matching.proofs.next_step.Reads as next-step-reads
 use Rattle.matching.proofs.matches_var.Reads as matches-var-reads
-use Rattle.match_tables.proofs.notes.note_pair.Reads as note-pair-reads
+use Rattle.matching_tables.proofs.notes.note_pair.Reads as note-pair-reads
 use Rattle.record.proofs.u16_at.Reads as u16-at-reads
 use Rattle.matching.proofs.+matches_past+past_but_last.{statement}
 use Rattle.matching.proofs.+matches_past+past_but_last.Tie.{close}

@@ -1,9 +1,9 @@
 -- The walk from an empty table.
 use borrow.Author.Needs.{needs}
 use Rattle.record.specs.Decode.{storeOf}
-use Rattle.match_tables.specs.Tables.{tableMap}
+use Rattle.matching_tables.specs.Tables.{tableMap}
 use Rattle.matching.specs.Met.{MatchedAt}
-use Rattle.match_tables.specs.NoteLaws.{pairs-none}
+use Rattle.matching_tables.specs.NoteLaws.{pairs-none}
 use Rattle.matching.proofs.matches.Statement.{statement}
 use Rattle.matching.proofs.matches.Tie as tie
 

@@ -4,9 +4,9 @@ use mathlib.Core.Path.{sym, _∙_}
 use native.Mathlib.Omega.{arith}
 use borrow.Author.Needs.{needs}
 use Rattle.record.specs.Decode.{storeOf}
-use Rattle.match_tables.specs.Tables.{tableMap}
+use Rattle.matching_tables.specs.Tables.{tableMap}
 use Rattle.matching.specs.Met.{MatchedAt}
-use Rattle.match_tables.specs.NoteLaws.{pairs-none}
+use Rattle.matching_tables.specs.NoteLaws.{pairs-none}
 use Rattle.matching.proofs.PlainLaws.{PastInv, past-start, past-first, past-more, past-misfit, past-end}
 use Rattle.matching.proofs.matches_all.Statement.{statement}
 use Rattle.matching.proofs.matches_all.Tie as tie

@@ -1,6 +1,5 @@
 -- The buffers have the program's lengths, so what `judge` leaves is of the judgement over these.
 -- An accepted sheet's lines and a refused one's line are those of that judgement.
-use native.Mathlib.Omega.{arith}
 use borrow.Author.Needs.{needs}
 use mathlib.Core.Path.{sym, subst, _∙_}
 use Rattle.judge_rules.specs.Judged.{Judgement, judged}

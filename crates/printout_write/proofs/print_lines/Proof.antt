@@ -3,7 +3,7 @@
 use native.Mathlib.Omega.{arith}
 use borrow.Author.Needs.{needs}
 use Prim.Native.Nat.{_+_, _-_, _≤_}
-use mathlib.Core.Path.{_≡_, refl, sym, ap, _∙_}
+use mathlib.Core.Path.{_≡_, sym, _∙_}
 use mathlib.Core.Bool.{false}
 use lib.ListN.{length}
 use lib.Seq.{length-take-le}
@@ -12,7 +12,6 @@ use Rattle.judge_rules.specs.Judged.{judged}
 use Rattle.printout_sort.specs.Wrote.{wrote-long}
 use Rattle.printout.specs.Printed.{programLengths}
 use Rattle.printout_text.specs.LeftLaws.{piece-goes}
-use Rattle.printout_write.specs.declared.written.Written.{Written}
 use Rattle.printout_write.specs.PrintLaws.{piece-next, printed-whole, printed-part}
 use Rattle.printout_write.proofs.print_lines.Statement.{statement}
 use Rattle.printout_write.proofs.print_lines.Tie as tie

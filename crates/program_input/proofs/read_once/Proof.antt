@@ -1,6 +1,5 @@
 -- The rest of the buffer from a place in it on is lent to the read, and what that tells is told of this rest.
 -- So bytes that were read lie in the buffer.
-use native.Mathlib.Omega.{arith}
 use borrow.Author.Needs.{needs}
 use Prim.Native.Nat.{_-_}
 use lib.ListN.{length}

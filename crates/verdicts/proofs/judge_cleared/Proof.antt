@@ -4,7 +4,6 @@ use borrow.Author.Needs.{needs}
 use mathlib.Core.Path.{refl, subst, _∙_}
 use lib.ListN.{length}
 use Rattle.sheet.specs.Contract.{lent, ReadSheetIs}
-use Rattle.verdicts.specs.declared.Outcome.the-variants.{Accepted}
 use Rattle.verdicts.proofs.JudgeLaws.{own-tables, accepted-ask, judge-over, refused-is}
 use Rattle.verdicts.proofs.judge_cleared.Statement.{statement}
 use Rattle.verdicts.proofs.judge_cleared.Tie as tie

@@ -2,7 +2,7 @@
 -- The buffers are those that `judge` leaves.
 use borrow.Author.Needs.{needs}
 use mathlib.Core.Path.{sym, ap, _∙_}
-use Rattle.verdicts.specs.Judge.{lengthsOf, numberOfOutcome}
+use Rattle.verdicts.specs.Judge.{numberOfOutcome}
 use Rattle.verdicts.proofs.JudgeLaws.{number-is}
 use Rattle.verdicts.proofs.napsilo_judge.Statement.{statement}
 use Rattle.verdicts.proofs.napsilo_judge.Tie as tie

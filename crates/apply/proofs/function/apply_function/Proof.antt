@@ -2,8 +2,6 @@
 -- Where there was no room, undoing gives back the store that it was grown from.
 use borrow.Author.Needs.{needs}
 use mathlib.Core.Path.{refl, subst}
-use Rattle.record.specs.Store.{intern}
-use Rattle.record.specs.Decode.{storeOf}
 use Rattle.apply_walk.specs.Contract.{ReplacedIs}
 use Rattle.apply.specs.Contract.{functionAt}
 use Rattle.apply.proofs.UndoLaws.{undo-asks, undo-back}

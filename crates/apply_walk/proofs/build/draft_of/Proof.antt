@@ -3,7 +3,6 @@ use native.Mathlib.Omega.{arith}
 use borrow.Author.Needs.{needs}
 use Prim.Native.Nat.{ℕ, _<_}
 use mathlib.Core.Path.{refl, sym, subst}
-use Rattle.apply_walk.specs.Draft.{draft}
 use Rattle.apply_walk.specs.Lists.{held}
 use Rattle.apply_walk.proofs.DraftLaws.{map-small, whole}
 use Rattle.apply_walk.proofs.build.draft_of.Statement.{statement}

@@ -5,8 +5,6 @@ use Prim.Native.Nat.{ℕ}
 use lib.ListN.{length-replicate}
 use mathlib.Core.Path.{sym}
 use lib.Seq.{length-take-le}
-use Rattle.apply_walk.specs.Lists.{held}
-use Rattle.apply_walk.specs.Draft.{fieldsIn}
 use Rattle.apply_walk.proofs.MakeLaws.{make-tree, make-intern, make-made}
 use Rattle.apply_walk.proofs.build.make_fields.Statement.{statement}
 use Rattle.apply_walk.proofs.build.make_fields.Tie as tie

@@ -1,7 +1,6 @@
 -- The byte is written behind those that are there.
 use native.Mathlib.Omega.{arith}
 use borrow.Author.Needs.{needs}
-use Rattle.apply_walk.specs.Draft.{draft}
 use Rattle.apply_walk.proofs.DraftLaws.{byte-put}
 use Rattle.apply_walk.proofs.build.put_byte.Statement.{statement}
 use Rattle.apply_walk.proofs.build.put_byte.Tie as tie

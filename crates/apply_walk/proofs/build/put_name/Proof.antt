@@ -1,6 +1,5 @@
 -- The bit decides.
 use borrow.Author.Needs.{needs}
-use Rattle.apply_walk.specs.Draft.{draft}
 use Rattle.apply_walk.proofs.DraftLaws.{put-name-on, put-name-off}
 use Rattle.apply_walk.proofs.build.put_name.Statement.{statement}
 use Rattle.apply_walk.proofs.build.put_name.Tie as tie

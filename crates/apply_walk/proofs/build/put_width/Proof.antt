@@ -1,7 +1,6 @@
 -- A number below 65,536: its two bytes, then two zeros.
 use native.Mathlib.Omega.{arith}
 use borrow.Author.Needs.{needs}
-use Rattle.apply_walk.specs.Draft.{draft}
 use Rattle.apply_walk.proofs.DraftLaws.{put-room, put-width-on, put-width-off}
 use Rattle.apply_walk.proofs.build.put_width.Statement.{statement}
 use Rattle.apply_walk.proofs.build.put_width.Tie as tie

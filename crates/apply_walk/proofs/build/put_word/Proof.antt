@@ -1,7 +1,6 @@
 -- Low byte, then high byte.
 use native.Mathlib.Omega.{arith}
 use borrow.Author.Needs.{needs}
-use Rattle.apply_walk.specs.Draft.{draft}
 use Rattle.apply_walk.proofs.DraftLaws.{put-room, put-trans}
 use Rattle.apply_walk.proofs.build.put_word.Statement.{statement}
 use Rattle.apply_walk.proofs.build.put_word.Tie as tie

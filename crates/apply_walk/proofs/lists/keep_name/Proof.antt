@@ -1,9 +1,7 @@
 -- A name with an image adds nothing.
 use native.Mathlib.Omega.{arith}
 use borrow.Author.Needs.{needs}
-use lib.ListN.{set}
 use Rattle.apply_walk.specs.Lists.{held}
-use Prim.Native.Nat.{_+_}
 use Rattle.apply_walk.proofs.ListLaws.{add-has, keep-free, keep-bound}
 use Rattle.apply_walk.proofs.lists.keep_name.Statement.{statement}
 use Rattle.apply_walk.proofs.lists.keep_name.Tie as tie

@@ -1,9 +1,7 @@
 -- The loop keeps: the numbers so far and those left make the whole.
 use native.Mathlib.Omega.{arith}
 use mathlib.Core.Path.{sym, _∙_}
-use lib.ListN.{set}
 use Rattle.apply_walk.specs.Lists.{held}
-use Prim.Native.Nat.{_+_}
 use Rattle.apply_walk.proofs.ListLaws.{ReadInv, add-has, read-start, read-asks, read-more, read-end}
 use Rattle.apply_walk.proofs.lists.read_numbers.Statement.{statement}
 use Rattle.apply_walk.proofs.lists.read_numbers.Tie as tie

@@ -3,15 +3,15 @@
 use mathlib.Core.Path.{refl}
 use mathlib.Core.List.{[], _∷_}
 use borrow.Author.Needs.{needs}
-use Rattle.record.specs.Names.{member}
+use Rattle.record.specs.Arms.{keyed, among, othersPass}
 use Rattle.reader.specs.Tables.{termLeasts, termLeastOf}
-use Rattle.reader.proofs.TableLaws.{restZero, rest-zero}
+use Rattle.reader.proofs.TableLaws.{zeroAt, rest-zero}
 use Rattle.reader.proofs.tables.term_least_of.Statement.{statement}
 use Rattle.reader.proofs.tables.term_least_of.Tie as tie
 
 returns-5 : tie.Need-returns-5
-unfolding termLeastOf restZero member
-returns-5 c = rest-zero (10 ∷ 9 ∷ 8 ∷ 6 ∷ []) termLeasts (c .before .args .kind) refl (c .match .rest)
+unfolding termLeastOf zeroAt othersPass among keyed
+returns-5 c = rest-zero ((10 ∷ []) ∷ (9 ∷ []) ∷ (8 ∷ []) ∷ (6 ∷ []) ∷ []) termLeasts (c .before .args .kind) refl (c .match .rest)
 
 pub term-least-of-spec : {M : Type 1} → statement M
 unfolding termLeastOf

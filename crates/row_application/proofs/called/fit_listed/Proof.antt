@@ -2,7 +2,7 @@
 -- Each way out is a case of the definition, for every test that the table stands for.
 use native.Mathlib.Omega.{arith}
 use borrow.Author.Needs.{needs}
-use Rattle.match_tables.specs.NoteLaws.{table-none}
+use Rattle.matching_tables.specs.NoteLaws.{table-none}
 use Rattle.row_application.specs.Contract.{SettledAt}
 use Rattle.row_application.proofs.CalledLaws.{matches-ask, settled-asks, fit-settled, fit-unsettled, fit-fails}
 use Rattle.row_application.proofs.called.fit_listed.Statement.{statement}

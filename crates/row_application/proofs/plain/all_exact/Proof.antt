@@ -2,9 +2,9 @@
 -- The loop keeps: what is left decides the whole, and each sort noted is free of Par.
 use native.Mathlib.Omega.{arith}
 use borrow.Author.Needs.{needs}
-use Rattle.match_tables.specs.Notes.{NoteTable}
+use Rattle.matching_tables.specs.Notes.{NoteTable}
 use Rattle.row_application.specs.Contract.{ParlessAt}
-use Rattle.match_tables.specs.NoteLaws.{table-none}
+use Rattle.matching_tables.specs.NoteLaws.{table-none}
 use Rattle.record.specs.Cases.{not-true, not-false}
 use Rattle.row_application.proofs.ExactLaws.{ExactScan, exact-start, exact-end, known-first, exact-differ, exact-par, exact-step}
 use Rattle.row_application.proofs.plain.all_exact.Statement.{statement}

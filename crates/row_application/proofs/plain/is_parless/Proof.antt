@@ -1,7 +1,7 @@
 -- A sort of tree size 1 by its size, any other by the walk and the law of its test.
 use native.Mathlib.Omega.{arith}
 use borrow.Author.Needs.{needs}
-use Rattle.match_each.specs.EveryLaws.{parless-tests, each-by, found-by}
+use Rattle.matching_each.specs.EveryLaws.{parless-tests, each-by, found-by}
 use Rattle.row_application.proofs.ExactLaws.{leaf-parless}
 use Rattle.row_application.proofs.plain.is_parless.Statement.{statement}
 use Rattle.row_application.proofs.plain.is_parless.Tie as tie

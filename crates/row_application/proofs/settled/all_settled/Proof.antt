@@ -1,7 +1,7 @@
 -- The walk, by the law of its test, for every test of names and every map that the tables stand for.
 use mathlib.Core.Path.{_∙_}
-use Rattle.match_tables.specs.Usable.{sortsAt}
-use Rattle.match_each.specs.EveryLaws.{everyAll-is}
+use Rattle.matching_tables.specs.Usable.{sortsAt}
+use Rattle.matching_each.specs.EveryLaws.{everyAll-is}
 use Rattle.row_application.proofs.SettledLaws.{settled-tests}
 use Rattle.row_application.proofs.settled.all_settled.Statement.{statement}
 use Rattle.row_application.proofs.settled.all_settled.Tie as tie

@@ -5,7 +5,7 @@ use Prim.Native.Nat.{_-_, _≤_}
 use mathlib.Core.Path.{_≡_, refl, sym, _∙_}
 use lib.ListN.{getD}
 use Rattle.record.specs.Decode.{storeOf}
-use Rattle.match_tables.specs.Tables.{tableMap}
+use Rattle.matching_tables.specs.Tables.{tableMap}
 use Rattle.row_application.specs.Contract.{owned}
 use Rattle.row_application.proofs.UnmadeLaws.{own-image, own-one, own-found, own-next, owned-none}
 use Rattle.row_application.proofs.unmade.any_own.Statement.{statement}

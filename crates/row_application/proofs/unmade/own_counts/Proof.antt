@@ -3,9 +3,9 @@ use Rattle.record.specs.Cases.{not-true, not-false}
 use Rattle.record.specs.Decode.{sortAt}
 use mathlib.Core.Path.{_≡_}
 use mathlib.Core.Bool.{true}
-use Rattle.match_each.specs.Every.{every, passing}
-use Rattle.match_tables.specs.NoteLaws.{table-none}
-use Rattle.match_each.specs.declared.each.Test.the-variants.{Parless}
+use Rattle.matching_each.specs.Every.{every, passing}
+use Rattle.matching_tables.specs.NoteLaws.{table-none}
+use Rattle.matching_each.specs.declared.each.Test.the-variants.{Parless}
 use borrow.Author.Needs.{needs}
 use Rattle.row_application.proofs.UnmadeLaws.{counts-none, counts-some}
 use Rattle.row_application.proofs.unmade.own_counts.Statement.{statement}

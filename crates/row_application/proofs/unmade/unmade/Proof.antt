@@ -3,7 +3,7 @@
 use borrow.Author.Needs.{needs}
 use Rattle.record.specs.Cases.{not-true, not-false}
 use Rattle.record.specs.Decode.{storeOf}
-use Rattle.match_tables.specs.Usable.{sortsAt}
+use Rattle.matching_tables.specs.Usable.{sortsAt}
 use Rattle.row_application.proofs.UnmadeLaws.{own-bound, unmade-no, unmade-own, unmade-full, unmade-fails}
 use Rattle.row_application.proofs.unmade.unmade.Statement.{statement}
 use Rattle.row_application.proofs.unmade.unmade.Tie as tie
