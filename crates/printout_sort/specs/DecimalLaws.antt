@@ -1,15 +1,10 @@
 -- What `decimal` is without its fuel, for every number: the last digit, behind the decimal of what stands before it; and how
--- many digits a number has, by a table.
+-- many digits a number has: one more than are left of it after a division by ten.
 use Prim.Native.Nat.{ℕ, zero, suc, _+_, _*_, _-_, _/_, _%_, _≤_, _<_}
 use native.Mathlib.Omega.{arith}
-use native.Mathlib.Decide.{decLt}
-use native.Mathlib.Numerals.{add-one}
-use mathlib.Core.Path.{_≡_, refl, sym, ap, _∙_}
-use mathlib.Core.Bool.{Bool}
+use mathlib.Core.Path.{_≡_, refl, ap, _∙_}
 use mathlib.Core.List.{List, [], _∷_, _++_}
-use lib.ListN.{length, getD, length-append}
-use lib.Dec.{eqb, eqb→eq}
-use Rattle.record.specs.Table.{at}
+use lib.ListN.{length, length-append}
 use Rattle.printout_sort.specs.Text.{ahead, digits, decimal}
 
 ahead-same : (F G : ℕ → List ℕ) (q : ℕ) → (0 < q → F q ≡ G q) → ahead q F ≡ ahead q G
@@ -59,16 +54,6 @@ pub decimal-value : (n : ℕ) → valueFrom 0 (decimal n) ≡ n
 unfolding decimal
 decimal-value n = value-digits (suc n) n (omega arith)
 
--- HOW MANY DIGITS a number has: suc i, from the first number of so many digits up to the first of more.
-unfoldable pub ten : ℕ → ℕ
-ten zero = 1
-ten (suc i) = 10 * ten i
-
-ten-pos : (i : ℕ) → 1 ≤ ten i
-unfolding ten
-ten-pos zero = omega arith
-ten-pos (suc i) = omega (arith, ten-pos i)
-
 ahead-none : (F : ℕ → List ℕ) (q : ℕ) → q ≡ 0 → ahead q F ≡ []
 ahead-none F zero e = refl
 ahead-none F (suc q) e = absurd (omega arith)
@@ -84,54 +69,45 @@ decimal-one n h = decimal-is n ∙ ap (λ (l : List ℕ). l ++ ((48 + n % 10) �
 pub decimal-more : (n : ℕ) → 10 ≤ n → decimal n ≡ decimal (n / 10) ++ ((48 + n % 10) ∷ [])
 decimal-more n h = decimal-is n ∙ ap (λ (l : List ℕ). l ++ ((48 + n % 10) ∷ [])) (ahead-some decimal (n / 10) (omega arith))
 
+-- DIVIDING BY TEN TAKES ONE DIGIT OFF, for every number; none is left of a number under ten.
+pub decimal-divided : (n : ℕ) → length (decimal n) ≡ suc (length (ahead (n / 10) decimal))
+decimal-divided n =
+    omega (arith, ap length (decimal-is n), length-append (ahead (n / 10) decimal) ((48 + n % 10) ∷ []))
+
+-- The same by cases, as a loop of divisions meets them.
+pub digits-one : (n : ℕ) → n < 10 → length (decimal n) ≡ 1
+digits-one n h = omega (arith, decimal-divided n, ap length (ahead-none decimal (n / 10) (omega arith)))
+
+pub digits-more : (n : ℕ) → 10 ≤ n → length (decimal n) ≡ suc (length (decimal (n / 10)))
+digits-more n h = omega (arith, decimal-divided n, ap length (ahead-some decimal (n / 10) (omega arith)))
+
+-- HOW MANY DIGITS a number has: suc i, from the first number of so many digits up to the first of more.
+unfoldable pub ten : ℕ → ℕ
+ten zero = 1
+ten (suc i) = 10 * ten i
+
+ten-pos : (i : ℕ) → 1 ≤ ten i
+unfolding ten
+ten-pos zero = omega arith
+ten-pos (suc i) = omega (arith, ten-pos i)
+
 pub decimal-length : (i n : ℕ) → (0 < i → ten i ≤ n) → n < ten (suc i) → length (decimal n) ≡ suc i
 unfolding ten
-decimal-length zero n low high = ap length (decimal-one n (omega arith))
+decimal-length zero n low high = digits-one n (omega arith)
 decimal-length (suc i) n low high =
     omega (
       arith,
-      ap length (decimal-more n (omega (arith, low (omega arith), ten-pos i))),
-      length-append (decimal (n / 10)) ((48 + n % 10) ∷ []),
+      digits-more n (omega (arith, low (omega arith), ten-pos i)),
       decimal-length i (n / 10) (λ h. omega (arith, low (omega arith))) (omega arith),
     )
 
--- The first numbers of two to six digits.
-unfoldable pub tens : List ℕ
-tens = 10 ∷ 100 ∷ 1000 ∷ 10000 ∷ 100000 ∷ []
+-- At most so many, below the first number of more.
+ahead-short : (q : ℕ) → length (ahead q decimal) ≤ length (decimal q)
+ahead-short zero = omega arith
+ahead-short (suc q) = omega arith
 
-abbrev first-is : ℕ → ℕ → Bool
-first-is i v = eqb v (ten (suc i))
-
--- THE TABLE'S RULE.
-pub tens-are : (i : ℕ) → i < 5 → getD tens i 0 ≡ ten (suc i)
-unfolding tens ten
-tens-are i l = eqb→eq (getD tens i 0) (ten (suc i)) (at first-is tens tt i l)
-
-not-last : (i n : ℕ) → i < 5 → ten (suc i) ≤ n → n < 100000 → i + 1 < 5
+pub decimal-most : (i n : ℕ) → n < ten (suc i) → length (decimal n) ≤ suc i
 unfolding ten
-not-last i n l low high = go (decLt i 4)
-  where
-    go : Dec (i < 4) → i + 1 < 5
-    go (yes t) = omega arith
-    go (no t) =
-        let e : i ≡ 4 = omega arith in
-        let q : ten (suc i) ≡ 100000 = ap (λ (j : ℕ). ten (suc j)) e in
-        absurd (omega arith)
-
--- Counting: the number has more than i digits.
-pub record Digits (n i : ℕ) : Type 0 where
-  pub more : 0 < i → ten i ≤ n
-  pub few : i < 5
-
-pub digits-start : (n : ℕ) → Digits n 0
-digits-start n = record { more = λ h. absurd (omega arith); few = omega arith }
-
-pub digits-step : (n i : ℕ) → n < 100000 → getD tens i 0 ≤ n → Digits n i → Digits n (i + 1)
-digits-step n i high h d =
-    let e = tens-are i (d .few) in
-    let q : ten (suc i) ≡ ten (i + 1) = ap ten (sym (add-one i)) in
-    record { more = λ k. omega (arith, e, q); few = not-last i n (d .few) (omega (arith, e)) high }
-
-pub digits-end : (n i : ℕ) → n < getD tens i 0 → Digits n i → i + 1 ≡ length (decimal n)
-digits-end n i h d =
-    omega (arith, decimal-length i n (d .more) (omega (arith, tens-are i (d .few))))
+decimal-most zero n h = omega (arith, digits-one n (omega arith))
+decimal-most (suc i) n h =
+    omega (arith, decimal-divided n, ahead-short (n / 10), decimal-most i (n / 10) (omega arith))

@@ -1,11 +1,10 @@
 -- HOW LONG TEXTS ARE AT MOST, of every sort of a well-formed store: 17 bytes for each node of the tree, a blank before it counted,
 -- and 439 more for each Par of 64 names. So `sortRoom` bytes hold any sort, and `checkedRoom` one that has one Par.
-use Prim.Native.Nat.{ℕ, zero, suc, _+_, _*_, _/_, _%_, _≤_, _<_}
+use Prim.Native.Nat.{ℕ, zero, suc, _+_, _*_, _≤_, _<_}
 use mathlib.Core.Path.{_≡_, refl, sym, ap, subst, _∙_}
 use mathlib.Core.Bool.{Bool, true, false}
 use mathlib.Core.List.{List, [], _∷_, _++_}
 use native.Mathlib.Omega.{arith}
-use native.Mathlib.Decide.{decLt}
 use lib.ListN.{length, getD, length-append}
 use Rattle.record.specs.Number.{u16At, numbersAt}
 use Rattle.record.specs.Sort.{Sort, Sorts, var, par, node, end, _then_, count, size, sizes}
@@ -17,24 +16,10 @@ use Rattle.record.specs.Forms.{Which, isVar, isPar, isNode, which, sort-var, so
 use Rattle.record.specs.Sizes.{Formed, sort-formed}
 use Rattle.record.specs.StoreLaws.{sort-node}
 use Rattle.printout_sort.specs.Text.{ascii, decimal, nameText, moreNames, namesText, text, texts}
-use Rattle.printout_sort.specs.DecimalLaws.{ten, decimal-one, decimal-more}
+use Rattle.printout_sort.specs.DecimalLaws.{ten, decimal-most}
 use Rattle.printout_sort.specs.Pieces.{formOf, inners, innerBy, innerText}
 use Rattle.printout_sort.specs.Trees.{sortRoom, checkedRoom}
 use Rattle.printout_sort.specs.PieceLaws.{pieces-text, pieces-length, innerMosts, frame-most, form-below, form-par, names-form}
-
-decimal-most : (i n : ℕ) → n < ten (suc i) → length (decimal n) ≤ suc i
-unfolding ten
-decimal-most zero n h = omega (arith, ap length (decimal-one n (omega arith)))
-decimal-most (suc i) n h = go (decLt n 10) (decimal-most i (n / 10) (omega arith))
-  where
-    go : Dec (n < 10) → length (decimal (n / 10)) ≤ suc i → length (decimal n) ≤ suc (suc i)
-    go (yes t) q = omega (arith, ap length (decimal-one n t))
-    go (no t) q =
-        omega (
-          arith,
-          ap length (decimal-more n (omega arith)),
-          length-append (decimal (n / 10)) ((48 + n % 10) ∷ []),
-        )
 
 pub decimal-short : (n : ℕ) → n < 65536 → length (decimal n) ≤ 5
 unfolding ten

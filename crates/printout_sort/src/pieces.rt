@@ -9,22 +9,21 @@ ghost use Rattle.record.specs.Number.{numbersAt};
 ghost use Rattle.printout_sort.specs.Text.{decimal, nameText, moreNames};
 ghost use Rattle.printout_sort.specs.Wrote.{Wrote};
 
-// The first numbers of two to six digits.
-const TENS: [usize; 5] = [10, 100, 1000, 10000, 100000];
-
 // The byte of the digit 0.
 const ZERO: usize = 48;
 
-// How many digits a number under 100,000 has.
+// How many digits a number under 100,000 has: one, and one more for each division by ten until one is left.
 pub fn digits(v: usize) -> usize
     requires { ⌜ v < 100000 ⌝ }
     ensures { λ r. ⌜ (r ≡ length (decimal v)) × (r ≤ 5) ⌝ }
 {
-    let mut i = 0;
-    while TENS[i] <= v {
-        i += 1;
+    let mut rest = v;
+    let mut count = 1;
+    while 10 <= rest {
+        rest = rest / 10;
+        count += 1;
     }
-    i + 1
+    count
 }
 
 // Writes `src` at `to`.

@@ -1,44 +1,38 @@
--- The digits of a number by the table.
--- The loop keeps: the number has more than i digits, and i is within the table.
+-- The digits of a number by division, each of which takes one digit off.
+-- The loop keeps: the digits counted, the last one left among them, and those left are one more than the number has.
+use Prim.Native.Nat.{suc, _+_}
+use mathlib.Core.Path.{_≡_}
 use native.Mathlib.Omega.{arith}
-use Rattle.printout_sort.specs.DecimalLaws.{tens, Digits, digits-start, digits-step, digits-end}
-use Prim.Native.Nat.{_-_}
+use lib.ListN.{length}
+use Rattle.printout_sort.specs.Text.{decimal}
+use Rattle.printout_sort.specs.DecimalLaws.{ten, digits-one, digits-more, decimal-most}
 use Rattle.printout_sort.proofs.pieces.digits.Statement.{statement}
 use Rattle.printout_sort.proofs.pieces.digits.Tie as tie
 
 abbrev Inv-loop : tie.InvT-loop
-Inv-loop v i₀ i = Digits v i
+Inv-loop v rest₀ count₀ rest count = count + length (decimal rest) ≡ suc (length (decimal v))
 
 abbrev μ-loop : tie.MeasureT-loop
-μ-loop v i₀ i = 5 - i
+μ-loop v rest₀ count₀ rest count = rest
 
 loop-holds : tie.Need-loop-holds Inv-loop μ-loop
-loop-holds c = digits-start (c .args .v)
+loop-holds c = omega arith
 
-mul-loop : tie.Need-mul-loop Inv-loop μ-loop
-mul-loop c = omega (arith, c .loop .inv .few)
-
-array-read-loop : tie.Need-array-read-loop Inv-loop μ-loop
-array-read-loop c = c .loop .inv .few
-
-add-i : tie.Need-add-i Inv-loop μ-loop
-add-i c = omega (arith, c .before .loop .inv .few)
+add-count : tie.Need-add-count Inv-loop μ-loop
+unfolding ten
+add-count c = omega (arith, digits-more _ (c .loop-test .taken), decimal-most 4 _ (c .before .before .pre))
 
 loop-less : tie.Need-loop-less Inv-loop μ-loop
-loop-less c = omega (arith, c .before .loop .inv .few)
+loop-less c = omega arith
 
 loop-again : tie.Need-loop-again Inv-loop μ-loop
-unfolding tens
-loop-again c =
-    let s = c .before .before in
-    digits-step _ (c .before .loop .i) (s .pre) (omega (arith, c .loop-test .taken)) (c .before .loop .inv)
-
-add-result : tie.Need-add-result Inv-loop μ-loop
-add-result c = omega (arith, c .before .loop .inv .few)
+loop-again c = omega (arith, digits-more _ (c .loop-test .taken))
 
 returns : tie.Need-returns Inv-loop μ-loop
-unfolding tens
-returns c = (digits-end _ (c .before .loop .i) (c .loop-test .left) (c .before .loop .inv), omega (arith, c .before .loop .inv .few))
+unfolding ten
+returns c =
+    let one = digits-one _ (c .loop-test .left) in
+    (omega arith, omega (arith, decimal-most 4 _ (c .before .before .pre)))
 
 pub digits-spec : {M : Type 1} → statement M
-digits-spec = tie.close (tie.spec Inv-loop μ-loop loop-holds mul-loop array-read-loop add-i loop-less loop-again add-result returns)
+digits-spec = tie.close (tie.spec Inv-loop μ-loop loop-holds add-count loop-less loop-again returns)
