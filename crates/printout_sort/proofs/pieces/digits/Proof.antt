@@ -1,5 +1,5 @@
--- The digits of a number by division, each of which takes one digit off.
--- The loop keeps: the digits counted, the last one left among them, and those left are one more than the number has.
+-- The digits of a number by divisions, each of which takes one digit off; the first digit, which stays, is counted at the start.
+-- So the loop keeps: the count and the digits that are left are one more than the number has.
 use Prim.Native.Nat.{suc, _+_}
 use mathlib.Core.Path.{_≡_}
 use native.Mathlib.Omega.{arith}
@@ -20,18 +20,18 @@ loop-holds c = omega arith
 
 add-count : tie.Need-add-count Inv-loop μ-loop
 unfolding ten
-add-count c = omega (arith, digits-more _ (c .loop-test .taken), decimal-most 4 _ (c .before .before .pre))
+add-count c = omega (arith, digits-more (c .before .loop .rest) (omega arith), decimal-most 4 _ (c .before .before .pre))
 
 loop-less : tie.Need-loop-less Inv-loop μ-loop
 loop-less c = omega arith
 
 loop-again : tie.Need-loop-again Inv-loop μ-loop
-loop-again c = omega (arith, digits-more _ (c .loop-test .taken))
+loop-again c = omega (arith, digits-more (c .before .loop .rest) (omega arith))
 
 returns : tie.Need-returns Inv-loop μ-loop
 unfolding ten
 returns c =
-    let one = digits-one _ (c .loop-test .left) in
+    let one = digits-one (c .before .loop .rest) (omega arith) in
     (omega arith, omega (arith, decimal-most 4 _ (c .before .before .pre)))
 
 pub digits-spec : {M : Type 1} → statement M
