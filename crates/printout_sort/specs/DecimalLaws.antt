@@ -101,11 +101,11 @@ decimal-length (suc i) n low high =
       decimal-length i (n / 10) (λ h. omega (arith, low (omega arith))) (omega arith),
     )
 
--- At most so many, below the first number of more.
 ahead-short : (q : ℕ) → length (ahead q decimal) ≤ length (decimal q)
 ahead-short zero = omega arith
 ahead-short (suc q) = omega arith
 
+-- At most so many, below the first number of more.
 pub decimal-most : (i n : ℕ) → n < ten (suc i) → length (decimal n) ≤ suc i
 unfolding ten
 decimal-most zero n h = omega (arith, digits-one n (omega arith))

@@ -20,7 +20,7 @@ pub fn digits(v: usize) -> usize
     let mut rest = v;
     let mut count = 1;
     while 10 <= rest {
-        rest = rest / 10;
+        rest /= 10;
         count += 1;
     }
     count
