@@ -1,11 +1,13 @@
 #!/usr/bin/env python3
 """Measures the program on sheets that are made here: processor time, the start of the process included, and memory.
 
-usage: measure_program.py PROGRAM [RUNS]     the table "The program" of docs/PERFORMANCE.md
-       measure_program.py write FOLDER       writes the sheets that take longest into a folder and prints their paths, for `bench judge`
+usage: measure_program.py PROGRAM [RUNS]                the table "The program" of docs/PERFORMANCE.md
+       measure_program.py turns PROGRAM OTHER [RUNS]    the program in turns with another build of it, on the same sheets
+       measure_program.py write FOLDER                  writes the sheets that take longest into a folder and prints their paths, for `bench judge`
 
-What is printed is thrown away after its length is counted once.
+What is printed is thrown away after its length is counted once, by `turns` after it is compared.
 """
+import hashlib
 import os
 import statistics
 import subprocess
@@ -256,6 +258,29 @@ def measure(program, data, runs):
         return printed(program, f.name), statistics.median(times), peak(program, f.name, sink)
 
 
+def digest(program, path):
+    """A digest of what the program prints."""
+    made = hashlib.sha256()
+    with open(path, "rb") as stdin, subprocess.Popen([program], stdin=stdin, stdout=subprocess.PIPE) as child:
+        for piece in iter(lambda: child.stdout.read(1 << 20), b""):
+            made.update(piece)
+    return made.digest()
+
+
+def in_turns(programs, data, runs):
+    """The times in ms that two programs take for a sheet, run in turns: so many runs of each, or more, until each took two seconds."""
+    with tempfile.NamedTemporaryFile() as f, open(os.devnull, "wb") as sink:
+        f.write(data)
+        f.flush()
+        assert digest(programs[0], f.name) == digest(programs[1], f.name), "they print different bytes"
+        times = [], []
+        while len(times[0]) < runs or min(map(sum, times)) < 2000:
+            first = len(times[0]) % 2
+            for at in (first, 1 - first):
+                times[at].append(run(programs[at], f.name, sink))
+        return times
+
+
 CASES = [(mixed, 256), (mixed, 4096), (deep, 256), (deep, 4096), (wide, 4096), (long, 256)]
 WORST = [own, turns_and_questions, turns, unlike, equal, too_large, binders, matches, variables, unassigned, misfit, names, again, read]
 
@@ -268,10 +293,25 @@ def write(folder):
         print(f.name)
 
 
+def turns_with(programs, runs):
+    """Prints for each sheet the medians of both programs and their ratio, and that of the least times."""
+    print("| sheet | terms | runs | ms | other, ms | ratio | of the least |")
+    print("|---|---|---|---|---|---|---|")
+    for make, n in CASES:
+        data = make(n)
+        times = in_turns(programs, data, runs)
+        one, two = map(statistics.median, times)
+        terms = int.from_bytes(data[2:4], "little")
+        least = min(times[0]) / min(times[1])
+        print(f"| {make.__name__} | {terms:,} | {len(times[0])} | {one:,.1f} | {two:,.1f} | {one / two:.2f} | {least:.2f} |", flush=True)
+
+
 def main():
     program, *rest = sys.argv[1:]
     if program == "write":
         return write(rest[0])
+    if program == "turns":
+        return turns_with(rest[:2], int(rest[2]) if rest[2:] else 5)
     runs = int(rest[0]) if rest else 5
     print("| sheet | terms | bytes | printed bytes | ms | peak KiB |")
     print("|---|---|---|---|---|---|")
