@@ -10,12 +10,12 @@ use Rattle.printout.specs.Lines.{lineRoom}
 use Rattle.printout.specs.Printed.{printed, programLengths}
 use Rattle.printout_text.specs.Text.{lineCount, TextIs}
 use Rattle.printout_text.specs.TextLaws.{text-done, text-whole}
-use Rattle.printout_text.specs.NewlineLaws.{wrote-first, lines-counted}
+use Rattle.printout_text.specs.NewlineLaws.{wrote-first, line-newline, lines-counted}
 use Rattle.exports.specs.Exports.{EndIs}
 
 -- The end of what `text` wrote tells the next line.
 pub end-is : (s : List ℕ) (from : ℕ) (o o′ : List ℕ) (r : Piece) → TextIs s from o o′ r → EndIs s from o o′ (r .end)
-end-is s from o o′ r a = record { line = r .next; is = a; counted = lines-counted (judged s programLengths) from o o′ r a }
+end-is s from o o′ r a = record { line = r .next; is = a; counted = lines-counted a (line-newline (judged s programLengths)) }
 
 -- WITH A BUFFER OF `lineRoom` BYTES 0 is returned exactly where no line is left.
 pub end-done : (s : List ℕ) (from : ℕ) (o o′ : List ℕ) (r : ℕ) → EndIs s from o o′ r → lineRoom ≤ length o

@@ -1,15 +1,15 @@
 // The program: a sheet from standard input, judged, and its printout on standard output. No logic of its own.
 use libc::STDIN_FILENO;
-use printout_write::Written;
 use printout_write::print_judged;
-use printout_write::print_refusal;
 use program_input::Input;
 use program_input::read_input;
 use reader::Refusal;
 use verdicts::judge;
+use written::Written;
+use written::print_refusal;
 ghost use Rattle.judge_rules.specs.Judged.{judged};
 ghost use Rattle.printout.specs.Printed.{programLengths};
-ghost use Rattle.printout_write.specs.Print.{PrintedIs};
+ghost use Rattle.written.specs.Written.{PrintedIs};
 
 // Judges a sheet over the program's buffers and prints what it gives. All lines of its printout are written; or a write failed,
 // nothing was handed over after it, and the lines before it are written.

@@ -19,7 +19,7 @@ use Rattle.printout.specs.declared.whole.Piece.{Piece}
 use Rattle.printout.specs.Lines.{refusalText, refusalLine, rowText, answerText, termLine, questionLine}
 use Rattle.printout.specs.Printed.{kindsOf}
 use Rattle.printout.specs.Whole.{lineAt, linesFrom}
-use Rattle.printout_text.specs.Text.{lineOf, LinesAre}
+use Rattle.printout_text.specs.Text.{lineOf, LinesBy}
 use Rattle.printout_text.specs.Newlines.{newlines}
 
 count-by : (t : Bool) (n : ℕ) → cond t (suc n) n ≡ cond t 1 0 + n
@@ -185,13 +185,14 @@ pub wrote-first : (o t o′ : List ℕ) (e : ℕ) → Wrote o 0 t o′ e → tak
 unfolding written
 wrote-first o t o′ e w = ap (take e) (w .is) ∙ take-at t (drop (0 + length t) o) e (omega (arith, w .next))
 
--- THE NEWLINES OF A PIECE COUNT ITS LINES.
-pub lines-counted : (j : Judgement) (from : ℕ) (o o′ : List ℕ) (r : Piece) → LinesAre j from o o′ r → r .next ≡ from + newlines (take (r .end) o′)
-lines-counted j from o o′ r a =
-    let t = linesFrom (lineOf j) from (r .next - from) in
+-- THE NEWLINES OF A PIECE COUNT ITS LINES, of any printout whose lines have one newline each.
+pub lines-counted : {count : ℕ} {line : ℕ → List ℕ} {room from : ℕ} {o o′ : List ℕ} {r : Piece} → LinesBy count line room from o o′ r
+    → ((k : ℕ) → newlines (line k) ≡ 1) → r .next ≡ from + newlines (take (r .end) o′)
+lines-counted {line = line} {from = from} {o} {o′} {r} a one =
+    let t = linesFrom line from (r .next - from) in
     omega (
       arith,
       a .lines,
       ap newlines (wrote-first o t o′ (r .end) (a .text)),
-      lines-newlines (lineOf j) (line-newline j) from (r .next - from),
+      lines-newlines line one from (r .next - from),
     )

@@ -2,6 +2,7 @@
 use Prim.Native.Nat.{ℕ, _+_, _-_, _≤_, _<_}
 use mathlib.Core.List.{List}
 use lib.ListN.{length}
+use Rattle.reader.specs.declared.Refusal.{Refusal}
 use Rattle.reader.specs.Reader.{refusalNumber}
 use Rattle.judge_rules.specs.Judged.{Judgement, sheetRefused, accepted, judged}
 use Rattle.verdicts.specs.declared.Outcome.{Outcome}
@@ -23,15 +24,23 @@ abbrev pub lineOf : Judgement → ℕ → List ℕ
 lineOf (sheetRefused e) k = refusalLine (refusalNumber e)
 lineOf (accepted h st rows answers) k = lineAt st rows (kindsOf (h .questions)) answers (length (h .terms)) k
 
--- THE LINES OF A JUDGEMENT from the number `from` on, in a buffer that was o: up to the line r .next they are written from its start
--- on, up to the place r .end, and what lies behind is as it was (Wrote). Only lines of the printout are written, and as many as fit;
--- in a buffer of `lineRoom` bytes that is one at least, where one is left.
-pub record LinesAre (j : Judgement) (from : ℕ) (o o′ : List ℕ) (r : Piece) : Type 0 where
+-- LINES FROM THE NUMBER `from` ON, of a printout of `count` lines, in a buffer that was o: up to the line r .next they are written from
+-- its start on, up to the place r .end, and what lies behind is as it was (Wrote). Only lines of the printout are written, and as many
+-- as fit; in a buffer of `room` bytes that is one at least, where one is left.
+pub record LinesBy (count : ℕ) (line : ℕ → List ℕ) (room from : ℕ) (o o′ : List ℕ) (r : Piece) : Type 0 where
   pub lines : from ≤ r .next
-  pub last : from < r .next → r .next ≤ lineCount j
-  pub text : Wrote o 0 (linesFrom (lineOf j) from (r .next - from)) o′ (r .end)
-  pub full : r .next < lineCount j → length o < r .end + length (lineOf j (r .next))
-  pub goes : lineRoom ≤ length o → from < lineCount j → from < r .next
+  pub last : from < r .next → r .next ≤ count
+  pub text : Wrote o 0 (linesFrom line from (r .next - from)) o′ (r .end)
+  pub full : r .next < count → length o < r .end + length (line (r .next))
+  pub goes : room ≤ length o → from < count → from < r .next
+
+-- THE LINES OF A JUDGEMENT, none of them longer than `lineRoom`.
+abbrev pub LinesAre : Judgement → ℕ → List ℕ → List ℕ → Piece → Type 0
+LinesAre j from o o′ r = LinesBy (lineCount j) (lineOf j) lineRoom from o o′ r
+
+-- The one line of a sheet that is refused for the reason e, which is no longer than 7 bytes.
+abbrev pub RefusedLines : Refusal → ℕ → List ℕ → List ℕ → Piece → Type 0
+RefusedLines e from o o′ r = (room : ℕ) → 7 ≤ room → LinesBy 1 (λ k. refusalLine (refusalNumber e)) room from o o′ r
 
 -- THE PROMISE OF `text`: the lines are those of the judgement of the bytes s over the program's lengths.
 abbrev pub TextIs : List ℕ → ℕ → List ℕ → List ℕ → Piece → Type 0

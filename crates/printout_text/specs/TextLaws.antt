@@ -23,20 +23,20 @@ use Rattle.printout.specs.Lines.{refusalText, refusalLine, termLine, questionLi
 use Rattle.printout.specs.Printed.{kindsOf, printed, programLengths}
 use Rattle.printout.specs.Whole.{lineAt, linesFrom, PieceIs}
 use Rattle.printout.specs.WholeLaws.{line-term, line-question, lines-same}
-use Rattle.printout_text.specs.Text.{lineCount, lineOf, LinesAre, TextIs}
+use Rattle.printout_text.specs.Text.{lineCount, lineOf, LinesBy, RefusedLines, TextIs}
 use Rattle.printout_text.specs.PrintedLaws.{lines-printed, piece-then}
 use Rattle.printout_text.specs.LeftLaws.{JudgeLeft}
 
 ---------------------------------------------------------------- the cases
 -- No line is asked for.
-pub lines-none : (j : Judgement) (from : ℕ) (o : List ℕ) → lineCount j ≤ from → LinesAre j from o o (record { next = from; end = 0 })
+pub lines-none : {count : ℕ} {line : ℕ → List ℕ} {room : ℕ} (from : ℕ) (o : List ℕ) → count ≤ from → LinesBy count line room from o o (record { next = from; end = 0 })
 unfolding linesFrom
-lines-none j from o h =
+lines-none {count} {line} from o h =
     let e : 0 ≡ from - from = omega arith in
     record {
       lines = omega arith;
       last = λ u. absurd (omega arith);
-      text = subst (λ (m : ℕ). Wrote o 0 (linesFrom (lineOf j) from m) o 0) e (wrote-none o 0 (omega arith));
+      text = subst (λ (m : ℕ). Wrote o 0 (linesFrom line from m) o 0) e (wrote-none o 0 (omega arith));
       full = λ u. absurd (omega arith);
       goes = λ r u. absurd (omega arith);
     }
@@ -60,10 +60,10 @@ refusal-short e = let h = refusal-small e in omega (arith, decimal-short (refusa
 
 -- The line of a refused sheet is written, where the first line is asked for,
 pub refused-written : (e : Refusal) (from : ℕ) (o o′ : List ℕ) (end : ℕ) → from ≤ 0 → Wrote o 0 (refusalLine (refusalNumber e)) o′ end
-    → LinesAre (sheetRefused e) from o o′ (record { next = 1; end = end })
+    → RefusedLines e from o o′ (record { next = 1; end = end })
 unfolding linesFrom
-refused-written e from o o′ end h w =
-    let f = lineOf (sheetRefused e) in
+refused-written e from o o′ end h w room _ =
+    let f : ℕ → List ℕ = λ k. refusalLine (refusalNumber e) in
     let z : 0 ≡ from = omega arith in
     record {
       lines = omega arith;
@@ -75,16 +75,17 @@ refused-written e from o o′ end h w =
 
 -- or it does not fit.
 pub refused-full : (e : Refusal) (from : ℕ) (o o′ : List ℕ) → from ≤ 0 → o′ ≡ o → length o < 0 + length (refusalLine (refusalNumber e))
-    → LinesAre (sheetRefused e) from o o′ (record { next = 0; end = 0 })
+    → RefusedLines e from o o′ (record { next = 0; end = 0 })
 unfolding linesFrom
-refused-full e from o o′ h s long =
+refused-full e from o o′ h s long room small =
+    let f : ℕ → List ℕ = λ k. refusalLine (refusalNumber e) in
     let z : 0 ≡ from = omega arith in
     record {
       lines = omega arith;
       last = λ u. absurd (omega arith);
       text =
-          subst (λ (x : List ℕ). Wrote o 0 (linesFrom (lineOf (sheetRefused e)) from (0 - from)) x 0) (sym s)
-          (subst (λ (k : ℕ). Wrote o 0 (linesFrom (lineOf (sheetRefused e)) k (0 - k)) o 0) z (wrote-none o 0 (omega arith)));
+          subst (λ (x : List ℕ). Wrote o 0 (linesFrom f from (0 - from)) x 0) (sym s)
+          (subst (λ (k : ℕ). Wrote o 0 (linesFrom f k (0 - k)) o 0) z (wrote-none o 0 (omega arith)));
       full = λ u. omega arith;
       goes = λ r u. absurd (omega (arith, refusal-short e));
     }
@@ -123,27 +124,29 @@ line-some (accepted h st rows answers) k =
     (λ e. omega (arith, ap length (line-term st rows d answers t k (ltb-true k t e))))
     (λ e. omega (arith, ap length (line-question st rows d answers t k (ltb-false k t e))))
 
-module _ (j : Judgement) (from : ℕ) (o o′ : List ℕ) (r : Piece) (a : LinesAre j from o o′ r) where
+-- What lines written from `from` on say, of any printout without an empty line.
+module _ {count : ℕ} {line : ℕ → List ℕ} {room from : ℕ} {o o′ : List ℕ} {r : Piece} (a : LinesBy count line room from o o′ r)
+    (some : (k : ℕ) → 0 < length (line k)) where
   -- A piece with no byte has no line, and in a buffer that holds the longest line there is then none.
-  done-none : lineRoom ≤ length o → r .end ≡ 0 → lineCount j ≤ from
+  pub done-none : room ≤ length o → r .end ≡ 0 → count ≤ from
   unfolding linesFrom
   done-none long e =
-      byTest (ltb from (lineCount j))
+      byTest (ltb from count)
       (λ x.
-      let u = ltb-true from (lineCount j) x in
+      let u = ltb-true from count x in
       let m : r .next - from ≡ suc (r .next - from - 1) = omega (arith, a .goes long u) in
       absurd
       (omega (
         arith,
         a .text .next,
-        ap (λ (n : ℕ). length (linesFrom (lineOf j) from n)) m,
-        length-append (lineOf j from) (linesFrom (lineOf j) (suc from) (r .next - from - 1)),
-        line-some j from,
+        ap (λ (n : ℕ). length (linesFrom line from n)) m,
+        length-append (line from) (linesFrom line (suc from) (r .next - from - 1)),
+        some from,
       )))
-      (λ x. ltb-false from (lineCount j) x)
+      (λ x. ltb-false from count x)
 
   -- Behind the last line nothing is written.
-  done-end : lineCount j ≤ from → r .end ≡ 0
+  pub done-end : count ≤ from → r .end ≡ 0
   unfolding linesFrom
   done-end h =
       byTest (ltb from (r .next))
@@ -151,48 +154,50 @@ module _ (j : Judgement) (from : ℕ) (o o′ : List ℕ) (r : Piece) (a : Lines
       (λ x.
       let u = ltb-false from (r .next) x in
       let m : r .next - from ≡ 0 = omega arith in
-      omega (arith, a .text .next, ap (λ (n : ℕ). length (linesFrom (lineOf j) from n)) m))
+      omega (arith, a .text .next, ap (λ (n : ℕ). length (linesFrom line from n)) m))
 
   -- Where a line is left, all lines together are longer than the buffer.
-  left-long : r .next < lineCount j → length o < length (linesFrom (lineOf j) from (lineCount j - from))
+  left-long : r .next < count → length o < length (linesFrom line from (count - from))
   unfolding linesFrom
   left-long u =
-      let m : lineCount j - r .next ≡ suc (lineCount j - r .next - 1) = omega arith in
+      let m : count - r .next ≡ suc (count - r .next - 1) = omega arith in
       omega (
         arith,
         a .full u,
         a .text .next,
-        ap length (piece-then (lineOf j) from (r .next) (lineCount j) (a .lines) (omega arith)),
-        length-append (linesFrom (lineOf j) from (r .next - from)) (linesFrom (lineOf j) (r .next) (lineCount j - r .next)),
-        ap (λ (n : ℕ). length (linesFrom (lineOf j) (r .next) n)) m,
-        length-append (lineOf j (r .next)) (linesFrom (lineOf j) (suc (r .next)) (lineCount j - r .next - 1)),
+        ap length (piece-then line from (r .next) count (a .lines) (omega arith)),
+        length-append (linesFrom line from (r .next - from)) (linesFrom line (r .next) (count - r .next)),
+        ap (λ (n : ℕ). length (linesFrom line (r .next) n)) m,
+        length-append (line (r .next)) (linesFrom line (suc (r .next)) (count - r .next - 1)),
       )
 
   -- Else they are all written.
-  all-written : from ≤ lineCount j → lineCount j ≤ r .next → r .next ≡ lineCount j
+  all-written : from ≤ count → count ≤ r .next → r .next ≡ count
   all-written h u =
       byTest (ltb from (r .next))
       (λ x. let v = ltb-true from (r .next) x in omega (arith, a .last v))
       (λ x. let v = ltb-false from (r .next) x in omega arith)
 
+  -- So a buffer that holds all lines from `from` on gets them.
+  pub whole-written : from ≤ count → length (linesFrom line from (count - from)) ≤ length o → Wrote o 0 (linesFrom line from (count - from)) o′ (r .end)
+  whole-written h long =
+      byTest (ltb (r .next) count)
+      (λ x. absurd (omega (arith, left-long (ltb-true (r .next) count x))))
+      (λ x.
+      let e = all-written h (ltb-false (r .next) count x) in
+      wrote-as (ap (λ (n : ℕ). linesFrom line from (n - from)) e) (a .text))
+
 -- IN A BUFFER OF `lineRoom` BYTES nothing is written exactly where no line is left.
 pub text-done : (s : List ℕ) (from : ℕ) (o o′ : List ℕ) (r : Piece) → TextIs s from o o′ r → lineRoom ≤ length o
     → (r .end ≡ 0 → lineCount (judged s programLengths) ≤ from) × (lineCount (judged s programLengths) ≤ from → r .end ≡ 0)
 text-done s from o o′ r a long =
-    let j = judged s programLengths in (λ e. done-none j from o o′ r a long e, λ h. done-end j from o o′ r a h)
+    let j = judged s programLengths in (λ e. done-none a (line-some j) long e, λ h. done-end a (line-some j) h)
 
 -- A BUFFER THAT HOLDS THE WHOLE PRINTOUT gets all of it, from its start on, when the first line is asked for.
 pub text-whole : (s o o′ : List ℕ) (r : Piece) → TextIs s 0 o o′ r → length (printed (judged s programLengths)) ≤ length o
     → Wrote o 0 (printed (judged s programLengths)) o′ (r .end)
 text-whole s o o′ r a long =
     let j = judged s programLengths in
-    byTest (ltb (r .next) (lineCount j))
-    (λ x.
-    let u = ltb-true (r .next) (lineCount j) x in
-    let e : lineCount j - 0 ≡ lineCount j = omega arith in
-    absurd
-    (omega (arith, left-long j 0 o o′ r a u, ap length (lines-printed s programLengths), ap (λ (n : ℕ). length (linesFrom (lineOf j) 0 n)) e)))
-    (λ x.
-    let u = ltb-false (r .next) (lineCount j) x in
-    let e : r .next - 0 ≡ lineCount j = omega (arith, all-written j 0 o o′ r a (omega arith) u) in
-    wrote-as (ap (linesFrom (lineOf j) 0) e ∙ sym (lines-printed s programLengths)) (a .text))
+    let z : lineCount j - 0 ≡ lineCount j = omega arith in
+    let e = ap (linesFrom (lineOf j) 0) z ∙ sym (lines-printed s programLengths) in
+    wrote-as e (whole-written a (line-some j) (omega arith) (omega (arith, ap length e)))

@@ -9,14 +9,13 @@ use reader::Refusal;
 use verdicts::Outcome;
 use verdicts::judge;
 use verdicts::refusal_number;
-ghost use Rattle.judge_rules.specs.Judged.{sheetRefused};
 ghost use Rattle.verdicts.specs.declared.Outcome.the-variants.{Accepted};
-ghost use Rattle.printout_text.specs.Text.{LinesAre, TextIs, PrintAsks};
+ghost use Rattle.printout_text.specs.Text.{RefusedLines, TextIs, PrintAsks};
 
 // Writes the line of a sheet that is refused for this reason, where it is asked for, from the number 0 on, and fits. The next line
 // is then 1; else it is `from`, nothing is written, and the buffer is as it was.
-fn refused_line(e: Refusal, from: usize, out: &mut [u8]) -> Piece
-    ensures { λ r. ⌜ LinesAre (sheetRefused e) from (now (out .entry)) (now (out .exit)) r ⌝ }
+pub fn refused_line(e: Refusal, from: usize, out: &mut [u8]) -> Piece
+    ensures { λ r. ⌜ RefusedLines e from (now (out .entry)) (now (out .exit)) r ⌝ }
 {
     if 0 < from {
         return Piece { next: from, end: 0 };

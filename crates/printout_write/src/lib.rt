@@ -1,25 +1,20 @@
 // A judged sheet printed to standard output: whole lines are gathered in a buffer that holds the longest one, and written
 // piece by piece.
-mod written;
-
-use printout::Shown;
 use printout::kinds::Totals;
 use printout::kinds::question_kinds;
-use printout::lines::refusal_line;
 use printout::whole::show_lines;
-use reader::Refusal;
 use verdicts::Outcome;
-use verdicts::refusal_number;
-pub use written::Written;
+use written::Written;
 use written::nothing_written;
+use written::print_refusal;
 use written::write_lines;
-use written::write_refusal;
-ghost use Rattle.judge_rules.specs.Judged.{sheetRefused, judged};
+ghost use Rattle.judge_rules.specs.Judged.{judged};
 ghost use Rattle.verdicts.specs.declared.Outcome.the-variants.{Accepted};
 ghost use Rattle.printout.specs.Printed.{programLengths};
 ghost use Rattle.printout_text.specs.Text.{PrintAsks};
 ghost use Rattle.printout_text.specs.LeftLaws.{JudgeLeft};
-ghost use Rattle.printout_write.specs.Print.{LinesAsk, PrintedIs};
+ghost use Rattle.written.specs.Written.{PrintedIs};
+ghost use Rattle.printout_write.specs.Print.{LinesAsk};
 
 // The bytes that any line of a printout fits (`lineRoom`).
 const LINE_ROOM: usize = 1937856;
@@ -123,20 +118,6 @@ fn print_accepted(
     }
     let totals = question_kinds(sheet, kinds);
     print_all(sheet, records, places, rows, kinds, answers, totals)
-}
-
-// Writes the line of a sheet that is refused for this reason. That line is written; or the write failed, and none is.
-pub fn print_refusal(e: Refusal) -> Written
-    ensures { λ r. ⌜ PrintedIs (sheetRefused e) r ⌝ }
-{
-    let mut line = [0u8; 16];
-    let number = refusal_number(e) as usize;
-    let shown = refusal_line(number, &mut line, 0);
-    match shown {
-        Shown::To(end) => write_refusal(e, &line[..end]),
-        // The line fits: this is never come to.
-        Shown::Full => nothing_written(),
-    }
 }
 
 // Writes the printout of a sheet that was judged with this outcome into these buffers. All its lines are written, the

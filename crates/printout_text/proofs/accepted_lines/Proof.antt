@@ -4,8 +4,6 @@ use native.Mathlib.Omega.{arith}
 use borrow.Author.Needs.{needs}
 use lib.ListN.{replicate}
 use Rattle.record.specs.Codec.{Bytes}
-use Rattle.judge_rules.specs.Judged.{judged}
-use Rattle.printout.specs.Printed.{programLengths}
 use Rattle.printout_text.specs.LeftLaws.{judge-left, piece-goes}
 use Rattle.printout_text.specs.TextLaws.{lines-none, lines-left}
 use Rattle.printout_text.proofs.accepted_lines.Statement.{statement}
@@ -37,7 +35,7 @@ returns c =
     let k = c .before .before .question-kinds .last .1 .0 in
     let t = c .before .before .question-kinds .result in
     let l = judge-left x b p w g (s .pre) (replicate 1024 0) k t (omega arith) (c .before .before .question-kinds .ensures) in
-    lines-none (judged x programLengths) _ _ (omega (arith, l .count, c .if1 .taken))
+    lines-none _ _ (omega (arith, l .count, c .if1 .taken))
 
 show-lines-requires : tie.Need-show-lines-requires
 show-lines-requires c κs =

@@ -1,10 +1,12 @@
 -- The buffers have the program's lengths, so what `judge` leaves is of the judgement over these.
 -- An accepted sheet's lines and a refused one's line are those of that judgement.
+use native.Mathlib.Omega.{arith}
 use borrow.Author.Needs.{needs}
 use mathlib.Core.Path.{sym, subst, _∙_}
 use Rattle.judge_rules.specs.Judged.{Judgement, judged}
 use Rattle.verdicts.specs.declared.Outcome.{Outcome}
 use Rattle.verdicts.specs.Judge.{JudgeIs}
+use Rattle.printout.specs.Lines.{lineRoom}
 use Rattle.printout.specs.Printed.{programLengths}
 use Rattle.printout_text.specs.Text.{LinesAre}
 use Rattle.printout_text.specs.TextLaws.{refused-as}
@@ -23,7 +25,7 @@ returns-2 c =
     let e = c .before .before .before .before .before .outcome .given .0 .0 in
     subst (λ (j : Judgement). LinesAre j (a .from) (a .out .now) (c .before .before .refused-line .last .1 .1 .0) (c .before .before .refused-line .result))
     (refused-as e (judged (a .sheet .now) programLengths) (sym (c .before .before .before .before .before .outcome .given .1) ∙ c .before .before .before .before .before .before .before .before .before .before .before .judge .ensures .outcome))
-    (c .before .before .refused-line .ensures)
+    (c .before .before .refused-line .ensures lineRoom (omega arith))
 
 pub text-spec : {M : Type 1} → statement M
 text-spec = tie.close (tie.spec (λ c. search needs) (λ c. search needs) (λ c. search needs) (λ c. search needs) (λ c κs. search needs) (λ c. search needs) (λ c. search needs) (λ c. search needs) (λ c. search needs) (λ c. search needs) accepted-lines-requires (λ c. search needs) (λ c κs. search needs) (λ c. search needs) (λ c. search needs) (λ c. search needs) returns-2)

@@ -12,7 +12,8 @@ use Rattle.judge_rules.specs.Judged.{judged}
 use Rattle.printout_sort.specs.Wrote.{wrote-long}
 use Rattle.printout.specs.Printed.{programLengths}
 use Rattle.printout_text.specs.LeftLaws.{piece-goes}
-use Rattle.printout_write.specs.PrintLaws.{piece-next, printed-whole, printed-part}
+use Rattle.written.specs.WrittenLaws.{written-whole, written-part}
+use Rattle.printout_write.specs.PrintLaws.{piece-next}
 use Rattle.printout_write.proofs.print_lines.Statement.{statement}
 use Rattle.printout_write.proofs.print_lines.Tie as tie
 
@@ -62,7 +63,7 @@ returns c =
     let x = a .sheet .now in
     let f = s .pre .left in
     let l = c .before .before .before .before .before .before .before .before .before .loop in
-    printed-part (judged x programLengths) _ (c .before .before .before .before .before .before .show-lines .result .next) _ (c .before .before .write-lines .ensures) (sym (c .before .has-failed .ensures) ∙ c .if1 .taken) (omega (arith, c .before .before .before .before .before .before .before .before .loop-test .taken, l .inv .0, f .count))
+    written-part _ (c .before .before .before .before .before .before .show-lines .result .next) _ (c .before .before .write-lines .ensures) (sym (c .before .has-failed .ensures) ∙ c .if1 .taken) (omega (arith, c .before .before .before .before .before .before .before .before .loop-test .taken, l .inv .0, f .count))
 
 loop-less : tie.Need-loop-less Inv-loop μ-loop
 loop-less c =
@@ -96,7 +97,7 @@ returns-2 c =
     let x = a .sheet .now in
     let f = s .pre .left in
     let l = c .before .loop in
-    printed-whole (judged x programLengths) _ (l .inv .2) (omega (arith, c .loop-test .left, l .inv .0, l .inv .1, l .inv .3, f .count))
+    written-whole _ (l .inv .2) (omega (arith, c .loop-test .left, l .inv .0, l .inv .1, l .inv .3, f .count))
 
 pub print-lines-spec : {M : Type 1} → statement M
 print-lines-spec = tie.close (tie.spec Inv-loop μ-loop (λ c. search needs) (λ c κs. search needs) (λ c. search needs) (λ c κs. search needs) slice-reshare-prefix-write-lines slice-aggregate-write-lines write-lines-requires (λ c κs. search needs) same-length returns loop-less loop-again (λ c. search needs) returns-2)

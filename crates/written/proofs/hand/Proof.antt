@@ -1,9 +1,9 @@
 -- A write that took all goes on to the line `next`; one that failed leaves the lines as they were.
 -- The text is that of the next lines: the caller shows it.
 use borrow.Author.Needs.{needs}
-use Rattle.printout_write.specs.PrintLaws.{took-all, took-less}
-use Rattle.printout_write.proofs.written.hand.Statement.{statement}
-use Rattle.printout_write.proofs.written.hand.Tie as tie
+use Rattle.written.specs.WrittenLaws.{took-all, took-less}
+use Rattle.written.proofs.hand.Statement.{statement}
+use Rattle.written.proofs.hand.Tie as tie
 
 returns : tie.Need-returns
 returns c = let a = c .before .before .before .args in took-all _ _

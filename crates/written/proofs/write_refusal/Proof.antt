@@ -2,11 +2,11 @@
 -- So with its write all is printed, or that write failed.
 use borrow.Author.Needs.{needs}
 use mathlib.Core.Path.{sym, subst}
-use Rattle.printout_write.specs.declared.written.Written.{Written}
-use Rattle.printout_write.specs.Print.{HandAsks, WentOn}
-use Rattle.printout_write.specs.PrintLaws.{refusal-asks, refusal-printed}
-use Rattle.printout_write.proofs.written.write_refusal.Statement.{statement}
-use Rattle.printout_write.proofs.written.write_refusal.Tie as tie
+use Rattle.written.specs.declared.Written.{Written}
+use Rattle.written.specs.Written.{HandAsks, WentOn}
+use Rattle.written.specs.WrittenLaws.{refusal-asks, one-written}
+use Rattle.written.proofs.write_refusal.Statement.{statement}
+use Rattle.written.proofs.write_refusal.Tie as tie
 
 hand-requires : tie.Need-hand-requires
 hand-requires c κs =
@@ -18,7 +18,7 @@ hand-requires c κs =
 returns : tie.Need-returns
 returns c =
     let r = c .hand .result in
-    refusal-printed _ _ (subst (λ (w : Written). WentOn w 1 r) (c .before .nothing-written .ensures) (c .hand .ensures))
+    one-written _ (subst (λ (w : Written). WentOn w 1 r) (c .before .nothing-written .ensures) (c .hand .ensures))
 
 pub write-refusal-spec : {M : Type 1} → statement M
 write-refusal-spec = tie.close (tie.spec (λ c κs. search needs) hand-requires returns)

@@ -11,9 +11,9 @@ use Rattle.printout.specs.Lines.{refusalLine}
 use Rattle.printout.specs.LineAsks.{ShownIs}
 use Rattle.printout_text.specs.NewlineLaws.{wrote-first}
 use Rattle.printout_text.specs.TextLaws.{refusal-small}
-use Rattle.printout_write.specs.PrintLaws.{refusal-fits}
-use Rattle.printout_write.proofs.print_refusal.Statement.{statement}
-use Rattle.printout_write.proofs.print_refusal.Tie as tie
+use Rattle.written.specs.WrittenLaws.{refusal-fits}
+use Rattle.written.proofs.print_refusal.Statement.{statement}
+use Rattle.written.proofs.print_refusal.Tie as tie
 
 refusal-line-requires : tie.Need-refusal-line-requires
 refusal-line-requires c κs =
