@@ -4,6 +4,8 @@ pub mod LineLaws
 pub mod RoomLaws
 pub mod Whole
 pub mod WholeLaws
+pub mod Newlines
+pub mod PlainLaws
 pub mod Printed
 pub mod Kinds
 pub mod KindLaws

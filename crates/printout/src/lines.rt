@@ -15,7 +15,7 @@ ghost use Rattle.printout.specs.Lines.{refusalText, refusalLine};
 ghost use Rattle.printout.specs.LineAsks.{ShownIs, rowTextAt, answerTextAt, RowAsks, AnswerAsks, TermHas, QuestionHas, TermLineAsks, QuestionLineAsks, labelText};
 
 // Writes `!` and the number of a refusal at `to`.
-fn put_refusal(out: &mut [u8], to: usize, number: usize) -> usize
+pub fn put_refusal(out: &mut [u8], to: usize, number: usize) -> usize
     requires { ⌜ to + length (refusalText number) ≤ length (now out) ⌝ }
     ensures { λ r. ⌜ Wrote (now (out .entry)) to (refusalText number) (now (out .exit)) r ⌝ }
 {

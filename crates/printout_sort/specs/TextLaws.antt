@@ -31,7 +31,7 @@ name-short zero h = omega arith
 name-short (suc a) h = omega (arith, decimal-short (suc a) h)
 
 -- Each number of the list is under 65,536; what lies past its end counts as 0.
-abbrev Small : List ℕ → Type 0
+abbrev pub Small : List ℕ → Type 0
 Small ns = (j : ℕ) → getD ns j 0 < 65536
 
 names-short : (ns : List ℕ) → Small ns → length (moreNames ns) ≤ 7 * length ns
@@ -40,7 +40,7 @@ names-short [] h = omega arith
 names-short (n ∷ ns) h =
     omega (arith, name-short n (h 0), length-append (nameText n) (moreNames ns), names-short ns (λ j. h (suc j)))
 
-own-names : (ns : List ℕ) → Small ns → 1 ≤ length ns → length (namesText ns) + 1 ≤ 7 * length ns
+pub own-names : (ns : List ℕ) → Small ns → 1 ≤ length ns → length (namesText ns) + 1 ≤ 7 * length ns
 unfolding namesText
 own-names [] h s = absurd (omega arith)
 own-names (n ∷ ns) h s =
@@ -90,7 +90,7 @@ par-short ns s h some few t =
       length-append (text s) (ascii ")"),
     )
 
-inner-by : (i a w : ℕ) (ns : List ℕ) → a < 65536 → w < 65536 → (i ≡ 3 → ⊥) → length (innerBy i a w ns) ≤ getD innerMosts i 0
+pub inner-by : (i a w : ℕ) (ns : List ℕ) → a < 65536 → w < 65536 → (i ≡ 3 → ⊥) → length (innerBy i a w ns) ≤ getD innerMosts i 0
 unfolding innerBy innerMosts
 inner-by zero a w ns ha hw h = omega arith
 inner-by (suc zero) a w ns ha hw h = name-short a ha
@@ -113,7 +113,7 @@ node-short k a w ss f t =
       i,
     )
 
-numbers-small : (b : List ℕ) → Bytes b → (x m : ℕ) → Small (numbersAt b x m)
+pub numbers-small : (b : List ℕ) → Bytes b → (x m : ℕ) → Small (numbersAt b x m)
 unfolding numbersAt u16At
 numbers-small b h x zero j = omega arith
 numbers-small b h x (suc m) zero = omega (arith, h x, h (x + 1))

@@ -94,7 +94,7 @@ const INNERS: [u8; 17] = [
 ];
 
 // The form of a sort's text: its kind, or `BARE_ATOM` for an Atom without parts, which has no brackets.
-fn form_of(kind: usize, parts: usize) -> usize
+pub fn form_of(kind: usize, parts: usize) -> usize
     ensures { λ r. ⌜ r ≡ formOf kind parts ⌝ }
 {
     if kind == SORT_ATOM {
@@ -106,7 +106,7 @@ fn form_of(kind: usize, parts: usize) -> usize
 }
 
 // The length of the word and the bracket of a form.
-fn frame_size(form: usize) -> usize
+pub fn frame_size(form: usize) -> usize
     requires { ⌜ form < 17 ⌝ }
     ensures { λ r. ⌜ r ≡ getD frames form 0 ⌝ }
 {
@@ -114,7 +114,7 @@ fn frame_size(form: usize) -> usize
 }
 
 // The length of what stands between the word and the parts.
-fn inner_size(records: &[u8], form: usize, a: SortRecord) -> usize
+pub fn inner_size(records: &[u8], form: usize, a: SortRecord) -> usize
     requires { ⌜ InnerAsks (now records) form a ⌝ }
     ensures { λ r. ⌜ InnerIs (now (records .entry)) form a r ⌝ }
 {
@@ -155,7 +155,7 @@ fn texts_size(records: &[u8], places: &[u32], at: usize, left: usize) -> usize
 }
 
 // Writes the word of a form at `to`.
-fn put_word(form: usize, out: &mut [u8], to: usize) -> usize
+pub fn put_word(form: usize, out: &mut [u8], to: usize) -> usize
     requires { ⌜ (form < 17) × (to + length (wordText form) ≤ length (now out)) ⌝ }
     ensures { λ r. ⌜ Wrote (now (out .entry)) to (wordText form) (now (out .exit)) r ⌝ }
 {
@@ -192,7 +192,7 @@ fn put_par_names(records: &[u8], names: usize, named: usize, out: &mut [u8], to:
 }
 
 // Writes what stands between the word and the parts at `to`.
-fn put_inner(records: &[u8], form: usize, a: SortRecord, out: &mut [u8], to: usize) -> usize
+pub fn put_inner(records: &[u8], form: usize, a: SortRecord, out: &mut [u8], to: usize) -> usize
     requires { ⌜ InnerAsks (now records) form a × (to + length (innerTextOf (now records) form a) ≤ length (now out)) ⌝ }
     ensures { λ r. ⌜ Wrote (now (out .entry)) to (innerTextOf (now (records .entry)) form a) (now (out .exit)) r ⌝ }
 {
@@ -206,7 +206,7 @@ fn put_inner(records: &[u8], form: usize, a: SortRecord, out: &mut [u8], to: usi
 }
 
 // Writes the bracket of a form at `to`.
-fn put_close(form: usize, out: &mut [u8], to: usize) -> usize
+pub fn put_close(form: usize, out: &mut [u8], to: usize) -> usize
     requires { ⌜ (form < 17) × (to + length (closeText form) ≤ length (now out)) ⌝ }
     ensures { λ r. ⌜ Wrote (now (out .entry)) to (closeText form) (now (out .exit)) r ⌝ }
 {

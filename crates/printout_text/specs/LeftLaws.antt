@@ -4,8 +4,8 @@ use mathlib.Core.Path.{_≡_, refl, sym, ap, ap₂, subst, _∙_}
 use mathlib.Core.Bool.{true, false≢true}
 use mathlib.Core.List.{List, [], _∷_, _++_}
 use native.Mathlib.Omega.{arith}
-use lib.ListN.{length, getD, replicate, length-append, length-replicate, List·getD-append}
-use lib.Seq.{getD-take, getD-at}
+use lib.ListN.{length, getD, take, replicate, length-append, length-replicate, List·getD-append}
+use lib.Seq.{take-at, getD-take, getD-at}
 use lib.Dec.{eqb, ltb}
 use borrow.Author.Tests.{ne-eqb, ltb-true, ltb-false, eqb-true, eqb-false}
 use Rattle.record.specs.Sort.{Sort, Sorts, var, par, node, end, _then_}
@@ -144,12 +144,12 @@ kind-at (q ∷ qs) k h =
     rw e (List·getD-append (kindsOf qs) (q .kind ∷ []) 0 k (omega (arith, kinds-count qs)) ∙ kind-at qs k o))
 
 -- An accepted sheet has a judgement that accepts it.
-record Taken (s : List ℕ) (l : Lengths) : Type 0 where
-  sheet : Sheet
-  store : List Sort
-  rows : List ℕ
-  answers : List ℕ
-  is : judged s l ≡ accepted sheet store rows answers
+pub record Taken (s : List ℕ) (l : Lengths) : Type 0 where
+  pub sheet : Sheet
+  pub store : List Sort
+  pub rows : List ℕ
+  pub answers : List ℕ
+  pub is : judged s l ≡ accepted sheet store rows answers
 
 taken : (s : List ℕ) (l : Lengths) → Accepted ≡ outcomeOf (judged s l) → Taken s l
 taken s l e = go (judged s l) refl e
@@ -159,23 +159,24 @@ taken s l e = go (judged s l) refl e
     go (accepted h st rows answers) q o = record { sheet = h; store = st; rows = rows; answers = answers; is = q }
 
 -- What an accepted sheet left, with the kinds of its questions: its judgement, whose rows, kinds and answers stand first in the buffers.
-record Found (s b p w k g : List ℕ) (r : Totals) : Type 0 where
-  taken : Taken s programLengths
-  reads : Reads b p (taken .store)
-  terms : r .terms ≡ length (taken .sheet .terms)
-  questions : r .questions ≡ length (taken .sheet .questions)
-  rows : length (taken .rows) ≡ 2 * r .terms
-  answers : length (taken .answers) ≡ r .questions
-  lent : 2 * r .terms ≤ 8192
-  asked : r .questions ≤ 1024
-  lentRows : length w ≡ 8192
-  lentAnswers : length g ≡ 1024
-  row : (i : ℕ) → i < 2 * r .terms → getD (taken .rows) i 0 ≡ getD w i 0
-  answer : (i : ℕ) → i < r .questions → getD (taken .answers) i 0 ≡ getD g i 0
-  kind : (i : ℕ) → i < r .questions → getD (kindsOf (taken .sheet .questions)) i 0 ≡ getD k i 0
+pub record Found (s b p w k g : List ℕ) (r : Totals) : Type 0 where
+  pub taken : Taken s programLengths
+  pub reads : Reads b p (taken .store)
+  pub terms : r .terms ≡ length (taken .sheet .terms)
+  pub questions : r .questions ≡ length (taken .sheet .questions)
+  pub rows : length (taken .rows) ≡ 2 * r .terms
+  pub answers : length (taken .answers) ≡ r .questions
+  pub lent : 2 * r .terms ≤ 8192
+  pub asked : r .questions ≤ 1024
+  pub lentRows : length w ≡ 8192
+  pub lentAnswers : length g ≡ 1024
+  pub whole : take (2 * r .terms) w ≡ taken .rows
+  pub row : (i : ℕ) → i < 2 * r .terms → getD (taken .rows) i 0 ≡ getD w i 0
+  pub answer : (i : ℕ) → i < r .questions → getD (taken .answers) i 0 ≡ getD g i 0
+  pub kind : (i : ℕ) → i < r .questions → getD (kindsOf (taken .sheet .questions)) i 0 ≡ getD k i 0
 
-found : (s b p w g : List ℕ) → JudgeIs s programLengths b p w g Accepted → (k k′ : List ℕ) (r : Totals) → KindsAre s k k′ r → Found s b p w k′ g r
-unfolding judged rowsAfter answersAfter
+pub found : (s b p w g : List ℕ) → JudgeIs s programLengths b p w g Accepted → (k k′ : List ℕ) (r : Totals) → KindsAre s k k′ r → Found s b p w k′ g r
+unfolding judged rowsAfter answersAfter padded
 found s b p w g a k k′ r kinds =
     let l = programLengths in
     let j = taken s l (a .outcome) in
@@ -198,6 +199,8 @@ found s b p w g a k k′ r kinds =
       asked = omega (arith, counts .1, fits .1, listed .questions);
       lentRows = ap length ew ∙ padded-long 8192 (j .rows) (fits .0);
       lentAnswers = ap length eg ∙ padded-long 1024 (j .answers) (fits .1);
+      whole =
+          ap (take (2 * r .terms)) ew ∙ take-at (j .rows) (replicate (8192 - length (j .rows)) 0) (2 * r .terms) (omega (arith, counts .0, listed .terms));
       row = λ i o. sym (ap (λ (x : List ℕ). getD x i 0) ew ∙ padded-first 8192 (j .rows) i (omega (arith, listed .terms, counts .0)));
       answer = λ i o. sym (ap (λ (x : List ℕ). getD x i 0) eg ∙ padded-first 1024 (j .answers) i (omega (arith, listed .questions, counts .1)));
       kind = λ i o. sym (sym (getD-take (r .questions) k′ i 0 o) ∙ ap (λ (x : List ℕ). getD x i 0) (listed .kinds));

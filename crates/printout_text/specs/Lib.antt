@@ -1,5 +1,4 @@
 pub mod Text
-pub mod Newlines
 pub mod PrintedLaws
 pub mod LeftLaws
 pub mod TextLaws
