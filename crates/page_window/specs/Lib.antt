@@ -1,0 +1,9 @@
+pub mod Window
+pub mod WindowLaws
+pub mod Sizes
+pub mod SizeLaws
+pub mod Frames
+pub mod FrameLaws
+pub mod Walk
+pub mod StepLaws
+pub mod WalkLaws
