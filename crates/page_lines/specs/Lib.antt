@@ -1,0 +1,10 @@
+pub mod Line
+pub mod LineRoomLaws
+pub mod LinesLaws
+pub mod Heights
+pub mod HeightLaws
+pub mod Rows
+pub mod RowLaws
+pub mod GoingLaws
+pub mod Pages
+pub mod PageLaws
