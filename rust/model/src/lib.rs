@@ -2,7 +2,8 @@
 //!
 //! It is a second reading of the specification (the sheet, the store, the two rows, the questions, the causes and their order), written to
 //! be compared with the program and with the Rust, and shares no code with either: sorts are trees, maps are ordered maps, and nothing
-//! is done in place. [`judge`] gives the buffers at exit over their whole lent length, [`printout`] the program's text.
+//! is done in place. [`judge`] gives the buffers at exit over their whole lent length, [`printout`] the program's text, [`page()`] the rows
+//! on pages. The command `model` prints both.
 //!
 //! - [`sort`]: sorts as trees, with tree sizes and limits;
 //! - [`reader`]: sheets, and why one is refused;
@@ -10,11 +11,13 @@
 //! - [`substitution`]: substitution, matching by the definition, and the Rust's matching and compatibility;
 //! - [`operator`]: the operators by number;
 //! - [`inferred`], [`checked`], [`question`]: the two rows and the answers;
-//! - [`printed`]: the text, read from the buffers.
+//! - [`printed`]: the text, read from the buffers;
+//! - [`mod@page`]: the rows on pages.
 
 pub mod checked;
 pub mod inferred;
 pub mod operator;
+pub mod page;
 pub mod printed;
 pub mod question;
 pub mod reader;
@@ -26,6 +29,7 @@ use reader::{Lent, Sheet, Term};
 use sort::Tree;
 use store::Store;
 
+pub use page::{page, write_page};
 pub use printed::printout;
 
 /// Why a row or an answer is refused. The number of a cause is its value.

@@ -1,6 +1,6 @@
 //! The printout, read from the buffers at exit.
 
-use crate::reader::{self, Lent};
+use crate::reader::{self, Lent, Sheet};
 use crate::sort::{KINDS, Kind};
 use crate::{Judged, judge};
 use std::fmt::Write;
@@ -8,12 +8,21 @@ use std::fmt::Write;
 /// The program's buffers.
 const PROGRAM: Lent = Lent { records: 65_536, places: 4_096, rows: 8_192, answers: 1_024 };
 
+/// A sheet as it is read and as it is judged with the program's buffers, or the number of its refusal.
+pub(crate) fn program(sheet: &[u8]) -> Result<(Sheet, Judged), u8> {
+    let judged = judge(sheet, PROGRAM.records, PROGRAM.places, PROGRAM.rows, PROGRAM.answers);
+    match reader::read(sheet, &PROGRAM) {
+        Ok((read, _)) => Ok((read, judged)),
+        Err(_) => Err(judged.number),
+    }
+}
+
 /// What the program prints for a sheet.
 pub fn printout(sheet: &[u8]) -> String {
-    let judged = judge(sheet, PROGRAM.records, PROGRAM.places, PROGRAM.rows, PROGRAM.answers);
     let mut text = String::new();
-    let Ok((read, _)) = reader::read(sheet, &PROGRAM) else {
-        return format!("!{}\n", judged.number);
+    let (read, judged) = match program(sheet) {
+        Ok(both) => both,
+        Err(number) => return format!("!{number}\n"),
     };
     for number in 0..read.terms.len() {
         let [inferred, checked] = [0, 1].map(|column| row(&judged, judged.rows[2 * number + column]));
