@@ -189,21 +189,43 @@ fn taken_apart(page: &str) -> String {
     firsts.iter().zip(ends).map(row).collect()
 }
 
+/// Holds a page to the printout of its sheet: the line of a refused one, and rows that joined pieces give again.
+fn holds(sheet: &[u8], page: &str, printout: &str) {
+    if printout.starts_with('!') {
+        assert_eq!(page, printout, "{}", hex(sheet));
+    } else {
+        let rows: String = printout.split_inclusive('\n').filter(|line| line.starts_with('T')).collect();
+        assert_eq!(taken_apart(page), rows, "{}", hex(sheet));
+    }
+}
+
 #[test]
 fn recorded_sheets_taken_apart_again() {
     on_stack(|| {
-        let mut pages = 0;
+        let mut lines = 0;
         for vector in recorded::printed().iter().filter(|vector| vector.text.len() < LONGEST) {
             let page = page(&vector.sheet);
-            if vector.text.starts_with('!') {
-                assert_eq!(page, vector.text, "{}", hex(&vector.sheet));
-                continue;
-            }
-            let rows: String = vector.text.split_inclusive('\n').filter(|line| line.starts_with('T')).collect();
-            assert_eq!(taken_apart(&page), rows, "{}", hex(&vector.sheet));
-            pages += page.lines().count() / 60;
+            holds(&vector.sheet, &page, &vector.text);
+            lines += page.lines().count();
         }
-        println!("{pages} pages");
-        assert!(pages > 900);
+        println!("{lines} lines");
+        assert!(lines > 60_000);
     });
+}
+
+#[test]
+fn recorded_pages() {
+    on_stack(|| {
+        for vector in recorded::paged() {
+            assert_eq!(page(&vector.sheet), vector.text, "{}", hex(&vector.sheet));
+            holds(&vector.sheet, &vector.text, &printout(&vector.sheet));
+        }
+    });
+}
+
+#[test]
+fn the_example_is_what_the_gate_runs() {
+    let sheet = recorded::read("crates/napsilo_page/stdin");
+    assert_eq!(sheet, recorded::read("examples/session.sheet"));
+    assert_eq!(page(&sheet), recorded::text("crates/napsilo_page/stdout"));
 }

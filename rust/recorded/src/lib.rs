@@ -4,10 +4,11 @@
 //! |---|---|
 //! | with printouts | `crates/replay`: `data/sheets.bin` has the sheets, `stdout` the printouts |
 //! | with lent lengths and whole buffers | `crates/replay_lent`, likewise |
+//! | with pages | `crates/replay_page`, likewise |
 //! | both | `docs/FORMAT.md`, in its examples ([`format`]) |
 //! | both | `program.txt` and `library.txt` of the folder that `NAPSILO_VECTORS` names, if it names one |
 //!
-//! docs/VECTORS.md says where the expected results of the first two come from.
+//! docs/VECTORS.md says where the expected results of the first three come from.
 
 pub mod format;
 mod parse;
@@ -21,7 +22,7 @@ use std::fs;
 use std::io::{self, Write};
 use std::path::{Path, PathBuf};
 
-/// A sheet and what the program prints for it.
+/// A sheet and what a program prints for it.
 #[derive(Debug, Clone, PartialEq, Eq)]
 pub struct Printed {
     /// The sheet.
@@ -79,14 +80,11 @@ fn named(file: &str) -> String {
     fs::read_to_string(&path).unwrap_or_else(|error| panic!("{}: {error}", path.display()))
 }
 
-/// All sheets with a recorded printout.
-///
-/// # Panics
-/// If a recorded file cannot be read or is not of its form.
-pub fn printed() -> Vec<Printed> {
-    let (data, expected) = (read("crates/replay/data/sheets.bin"), text("crates/replay/stdout"));
+/// The recorded sheets of a crate and what it prints for each: in the file a sheet stands behind its length in four bytes.
+fn of_crate(name: &str) -> Vec<Printed> {
+    let (data, expected) = (read(&format!("crates/{name}/data/sheets.bin")), text(&format!("crates/{name}/stdout")));
     let mut rest = data.as_slice();
-    let mut all: Vec<Printed> = Vec::new();
+    let mut all = Vec::new();
     for lines in numbered(&expected) {
         let (length, behind) = rest.split_at(4);
         let length = u32::from_le_bytes(length.try_into().expect("four bytes"));
@@ -94,7 +92,24 @@ pub fn printed() -> Vec<Printed> {
         all.push(Printed { sheet: sheet.to_vec(), text: lines.concat() });
         rest = behind;
     }
-    assert!(rest.is_empty(), "as many sheets as printouts");
+    assert!(rest.is_empty(), "{name}: as many sheets as printouts");
+    all
+}
+
+/// All sheets with recorded pages.
+///
+/// # Panics
+/// As [`printed`].
+pub fn paged() -> Vec<Printed> {
+    of_crate("replay_page")
+}
+
+/// All sheets with a recorded printout.
+///
+/// # Panics
+/// If a recorded file cannot be read or is not of its form.
+pub fn printed() -> Vec<Printed> {
+    let mut all = of_crate("replay");
     for block in blocks(&named("program.txt")) {
         let sheet = bytes(block[0].strip_prefix("sheet").expect("a sheet comes first"));
         let line = |line: &&str| format!("{}\n", line.strip_prefix("  ").expect("two blanks"));

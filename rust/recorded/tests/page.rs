@@ -31,4 +31,5 @@ fn every_number_has_an_example_that_shows_it() {
 fn the_recorded_files_are_whole() {
     assert!(recorded::printed().len() > 1_160);
     assert!(recorded::buffers().len() > 221);
+    assert_eq!(recorded::paged().len(), 100);
 }
