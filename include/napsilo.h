@@ -1,10 +1,10 @@
 /*
- * Napsilo from C: a sheet judged into four lent buffers, and its printout as text.
+ * Napsilo from C: a sheet judged into four lent buffers, its printout as text, and its rows on pages.
  *
  * The functions stand in libexports.a, which `rt staticlib exports` writes to target/staticlib. docs/FORMAT.md has the sheet, the
- * rows and all numbers; examples/c/judge.c is a program over this header.
+ * rows and all numbers; examples/c/judge.c and examples/c/page.c are programs over this header.
  *
- * Both functions take any bytes, any lengths, and buffers that hold whatever they hold. They read the sheet, read and write the
+ * The functions take any bytes, any lengths, and buffers that hold whatever they hold. They read the sheet, read and write the
  * buffers, touch nothing else and keep no pointer, so that several threads may call them at once over buffers of their own. What a
  * caller owes:
  *
@@ -36,6 +36,10 @@ extern "C" {
 
 /* The length of a buffer for napsilo_text that holds every line of a printout. */
 #define NAPSILO_LINE 1937856
+
+/* The length of a line of a page with its newline, and the lines of a page. */
+#define NAPSILO_PAGE_LINE 81
+#define NAPSILO_PAGE_LINES 60
 
 /* The bytes of stack on which every sheet can be judged and printed. Measured, not proved. */
 #define NAPSILO_STACK 1835008
@@ -89,6 +93,23 @@ uint32_t napsilo_judge(const uint8_t *sheet, size_t sheet_length,
 size_t napsilo_text(const uint8_t *sheet, size_t sheet_length,
                     size_t from,
                     uint8_t *out, size_t out_length);
+
+/*
+ * Writes whole lines of a sheet's pages, from the line with the number `from` on, as many as fit, into `out`, from its start on.
+ * On a page are the rows of an accepted sheet, on lines of 80 columns: the term number right-justified in 6, a blank, the text of the
+ * inferred row in 36, a blank, that of the checked row in 36, filled with blanks. A longer text goes on below in its column, broken at
+ * every 36 bytes, beside a blank number. NAPSILO_PAGE_LINES lines make a page, the last one filled up with lines of 80 blanks. Questions
+ * are not printed, and a sheet without terms has no line. A refused sheet has the one line `!n`, which is shorter. The lines are ASCII,
+ * each ends in one newline, which is no column, and no zero byte is put behind them. The sheet is judged anew at every call, as by
+ * napsilo_text.
+ *
+ * Returns the place behind the last line written; what lies there in `out` is as it was. The number of the next line is `from` and as
+ * many more as newlines were written. 0 says that the pages have no line `from`, or that the line does not fit; in a buffer of
+ * NAPSILO_PAGE_LINE bytes every line fits, so there 0 says that no line is left.
+ */
+size_t napsilo_page_text(const uint8_t *sheet, size_t sheet_length,
+                         size_t from,
+                         uint8_t *out, size_t out_length);
 
 #ifdef __cplusplus
 }

@@ -2,12 +2,12 @@
 //!
 //! A checker sees what is read or written outside of an allocation; the guards show what is written between two buffers of one allocation.
 //! So each sheet is judged twice: with the sheet and each buffer in an allocation of just its length, and with guards. And a piece of its
-//! text is asked for twice in the same way.
+//! text and one of its pages are asked for twice in the same way.
 
 use crate::random::Random;
-use crate::{Difference, differ, lengths};
+use crate::{Difference, Writer, differ, lengths};
 use compare::random::{Source, lent, sheet};
-use napsilo::{Lent, Refusal, judge_into, print_into};
+use napsilo::{Lent, PAGE_LINE, Refusal, judge_into, page_into, print_into};
 
 /// The entries of a guard.
 const GUARD: usize = 16;
@@ -76,14 +76,32 @@ pub fn piece(lines: &[&str], from: usize, length: usize) -> (String, usize) {
     (text, count)
 }
 
-/// Whether a piece of a sheet's text, into a buffer with a guard, is this, and the rest of the buffer and the guard are as they were.
-fn text_holds(sheet: &[u8], from: usize, length: usize, guard: usize, expected: &str) -> bool {
-    let mut out = vec![Buffers::BYTE; length + 2 * guard].into_boxed_slice();
-    let end = print_into(sheet, from, &mut out[guard..guard + length]);
-    let (before, rest) = out.split_at(guard);
-    end == expected.len()
-        && rest.starts_with(expected.as_bytes())
-        && before.iter().chain(&rest[end..]).all(|byte| *byte == Buffers::BYTE)
+/// A piece of a sheet's text that is asked for: from which line on, and into a buffer of which length.
+struct Piece {
+    writer: Writer,
+    from: usize,
+    length: usize,
+    expected: String,
+}
+
+impl Piece {
+    /// Any piece of a text, into a buffer of up to so many bytes.
+    fn any(random: &mut Random, writer: Writer, text: &str, most: usize) -> Self {
+        let lines: Vec<&str> = text.split_inclusive('\n').collect();
+        let (from, length) = (random.under(lines.len() + 1), random.under(most));
+        let (expected, _) = piece(&lines, from, length);
+        Piece { writer, from, length, expected }
+    }
+
+    /// Whether the piece, into a buffer with a guard, is the expected one, and the rest of the buffer and the guard are as they were.
+    fn holds(&self, sheet: &[u8], guard: usize) -> bool {
+        let mut out = vec![Buffers::BYTE; self.length + 2 * guard].into_boxed_slice();
+        let end = (self.writer)(sheet, self.from, &mut out[guard..guard + self.length]);
+        let (before, rest) = out.split_at(guard);
+        end == self.expected.len()
+            && rest.starts_with(self.expected.as_bytes())
+            && before.iter().chain(&rest[end..]).all(|byte| *byte == Buffers::BYTE)
+    }
 }
 
 /// Judges so many small random sheets, each with lent lengths round what it needs; how many of them have each number.
@@ -110,17 +128,18 @@ pub fn on_small(sheets: usize, seed: u64) -> Result<[usize; 11], Difference> {
         };
         let modelled = model(lent);
         let text = model::printout(&sheet);
-        let lines: Vec<&str> = text.split_inclusive('\n').collect();
-        let (from, length) = (of_text.under(lines.len() + 1), of_text.under(text.len() + 8));
-        let (expected, _) = piece(&lines, from, length);
+        let pieces = [
+            Piece::any(&mut of_text, print_into, &text, text.len() + 8),
+            Piece::any(&mut of_text, page_into, &model::page(&sheet), 6 * PAGE_LINE),
+        ];
         for guard in [0, GUARD] {
             let mut buffers = Buffers::new(lent, guard);
             let number = buffers.judge(&sheet);
             if number != u32::from(modelled.number) || !buffers.hold(&modelled) {
                 return Err(differ(&sheet, &format!("{lent:?}, guards of {guard}: not what the model says")));
             }
-            if !text_holds(&sheet, from, length, guard, &expected) {
-                let how = format!("line {from} on, {length} bytes, guards of {guard}: not the model's text");
+            if let Some(Piece { from, length, .. }) = pieces.iter().find(|piece| !piece.holds(&sheet, guard)) {
+                let how = format!("line {from} on, {length} bytes, guards of {guard}: not the model's text or page");
                 return Err(differ(&sheet, &how));
             }
         }

@@ -9,7 +9,7 @@
 //!
 //! [`Trial::sheet`] compares on one sheet. With the program's buffers and with others, short ones among them, the library's number and its
 //! four buffers, which come dirty, must be the model's over their whole length. Of an accepted sheet the inferred rows and the answers must
-//! be carcara's. The library's text of every sheet must be the model's printout, whole and in pieces.
+//! be carcara's. The library's text of every sheet must be the model's printout, and its pages the model's, whole and in pieces.
 
 pub mod batched;
 pub mod case;
@@ -20,7 +20,10 @@ pub mod mend;
 pub mod random;
 pub mod record;
 
-use napsilo::{Answer, Judged, Lent, Refusal, Row, judge_into, judge_with, print, print_into};
+use napsilo::{
+    Answer, Judged, Lent, PAGE_LINE, PAGE_LINES, Refusal, Row, judge_into, judge_with, page, page_into, print,
+    print_into,
+};
 use random::Random;
 use std::fmt::Write;
 
@@ -45,10 +48,29 @@ pub struct Trial {
     pub texts: usize,
     /// Pieces of printouts that were compared; those with no line count first.
     pub pieces: [usize; 2],
+    /// Pages of sheets that were compared whole.
+    pub pages: usize,
+    /// Pieces of pages that were compared; those with no line count first.
+    pub page_pieces: [usize; 2],
 }
 
 /// The most lines of a text that is compared in pieces to its end too: each piece judges the sheet once more.
 const FEW_LINES: usize = 40;
+
+/// Lengths of buffers for pages: none, a line and a byte less or more, two lines and a byte less, a page and a byte less.
+const PAGE_LENGTHS: [usize; 8] = [
+    0,
+    PAGE_LINE - 1,
+    PAGE_LINE,
+    PAGE_LINE + 1,
+    2 * PAGE_LINE - 1,
+    2 * PAGE_LINE,
+    PAGE_LINES * PAGE_LINE - 1,
+    PAGE_LINES * PAGE_LINE,
+];
+
+/// Writes the whole lines of a sheet's text from a number on that fit: the place behind them.
+type Writer = fn(&[u8], usize, &mut [u8]) -> usize;
 
 /// What differs, with the sheet in hexadecimal.
 pub type Difference = String;
@@ -77,6 +99,7 @@ impl Trial {
         let modelled = self.buffers(sheet, Lent::PROGRAM)?;
         self.sheets[usize::from(modelled.number)] += 1;
         self.text(sheet, others)?;
+        self.page(sheet, others)?;
         if modelled.number == 0 {
             let judged = judge_with(sheet, Lent::PROGRAM).map_err(|e| differ(sheet, &e.to_string()))?;
             self.beside(sheet, &judged)?;
@@ -140,28 +163,61 @@ impl Trial {
             let some = random.under(4);
             let length: usize = lines.iter().skip(from).take(some).map(|line| line.len()).sum();
             let length = (length + random.under(4)).saturating_sub(random.under(4));
-            self.piece(sheet, &lines, from, length)?;
+            self.text_piece(sheet, &lines, from, length)?;
         }
         if lines.len() <= FEW_LINES {
             let longest = lines.iter().map(|line| line.len()).max().unwrap_or(0);
             let mut from = 0;
             while from < lines.len() {
-                from += self.piece(sheet, &lines, from, longest)?;
+                from += self.text_piece(sheet, &lines, from, longest)?;
             }
         }
         Ok(())
     }
 
-    /// A piece of the text must be the lines from a number on that fit, and leave the rest of the buffer as it was; their count.
-    fn piece(&mut self, sheet: &[u8], lines: &[&str], from: usize, length: usize) -> Result<usize, Difference> {
-        let mut out = vec![0xa7; length];
-        let end = print_into(sheet, from, &mut out);
-        let (expected, count) = guarded::piece(lines, from, length);
+    /// A piece of the text must be as [`piece`] says; the count of its lines.
+    fn text_piece(&mut self, sheet: &[u8], lines: &[&str], from: usize, length: usize) -> Result<usize, Difference> {
+        let count = piece(print_into, sheet, lines, from, length)?;
         self.pieces[usize::from(count != 0)] += 1;
-        if end != expected.len() || out[..end] != *expected.as_bytes() || out[end..].iter().any(|byte| *byte != 0xa7) {
-            return Err(differ(sheet, &format!("the text from line {from} on in a buffer of {length} bytes differs")));
-        }
         Ok(count)
+    }
+
+    /// The library's pages must be the model's: whole; in so many pieces from any line on, half of them from below a row's first line, if
+    /// one is so high; and, if they have few lines, line by line.
+    fn page(&mut self, sheet: &[u8], others: usize) -> Result<(), Difference> {
+        let text = model::page(sheet);
+        self.pages += 1;
+        // Numbers of its own, as for the text.
+        let mut random = Random::new(u64::try_from(self.pages).expect("64 bits"));
+        if page(sheet) != text {
+            return Err(differ(sheet, "the pages differ"));
+        }
+        let lines: Vec<&str> = text.split_inclusive('\n').collect();
+        let below: Vec<usize> = (0..lines.len()).filter(|at| is_below(lines[*at])).collect();
+        for _ in 0..others {
+            let from = match random.percent(50) && !below.is_empty() {
+                true => below[random.under(below.len())],
+                false => random.under(lines.len() + 2),
+            };
+            let length = match random.percent(80) {
+                true => PAGE_LENGTHS[random.under(PAGE_LENGTHS.len())],
+                false => random.under(text.len() + 2 * PAGE_LINE),
+            };
+            self.page_piece(sheet, &lines, from, length)?;
+        }
+        let used = lines.iter().filter(|line| line.trim() != "").count();
+        let step = if used <= FEW_LINES { 1 } else { PAGE_LINES };
+        for from in (0..=lines.len()).step_by(step).take(FEW_LINES) {
+            self.page_piece(sheet, &lines, from, step * PAGE_LINE)?;
+        }
+        Ok(())
+    }
+
+    /// A piece of the pages must be as [`piece`] says.
+    fn page_piece(&mut self, sheet: &[u8], lines: &[&str], from: usize, length: usize) -> Result<(), Difference> {
+        let count = piece(page_into, sheet, lines, from, length)?;
+        self.page_pieces[usize::from(count != 0)] += 1;
+        Ok(())
     }
 
     /// Inferred rows and answers must be carcara's.
@@ -231,8 +287,27 @@ impl Trial {
         let [none, some] = self.pieces;
         writeln!(summary, "texts: {} whole, {} pieces of them, {none} without a line", self.texts, none + some)
             .expect("as above");
+        let [none, some] = self.page_pieces;
+        writeln!(summary, "pages: {} whole, {} pieces of them, {none} without a line", self.pages, none + some)
+            .expect("as above");
         summary
     }
+}
+
+/// Whether a line of a page stands below the first of its row.
+fn is_below(line: &str) -> bool {
+    line.starts_with("      ") && line.trim() != ""
+}
+
+/// A piece of a text must be the lines from a number on that fit, and leave the rest of the buffer as it was; their count.
+fn piece(writer: Writer, sheet: &[u8], lines: &[&str], from: usize, length: usize) -> Result<usize, Difference> {
+    let mut out = vec![0xa7; length];
+    let end = writer(sheet, from, &mut out);
+    let (expected, count) = guarded::piece(lines, from, length);
+    if end != expected.len() || out[..end] != *expected.as_bytes() || out[end..].iter().any(|byte| *byte != 0xa7) {
+        return Err(differ(sheet, &format!("line {from} on in a buffer of {length} bytes differs")));
+    }
+    Ok(count)
 }
 
 /// A difference on a sheet.

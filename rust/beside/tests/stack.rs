@@ -5,7 +5,7 @@
 
 use napsilo::{
     Lent, Name, Names, QuestionRecord, STACK, SheetWriter, SortId, SortRecord, TermRecord, WriteError, judge_into,
-    print_into,
+    page_into, print_into,
 };
 use std::thread;
 
@@ -140,8 +140,8 @@ fn declared(period: &[Layer]) -> Result<Vec<u8>, WriteError> {
     Ok(sheet.finish().into_bytes())
 }
 
-/// Judges and prints the sheet on a thread of the named size: the number, the four buffers and the text.
-fn on_named_stack(sheet: &[u8]) -> (model::Judged, String) {
+/// Judges and prints the sheet on a thread of the named size: the number, the four buffers, the text and the pages.
+fn on_named_stack(sheet: &[u8]) -> (model::Judged, [String; 2]) {
     let lent = Lent::PROGRAM;
     let judging = || {
         let mut judged = model::Judged {
@@ -153,10 +153,13 @@ fn on_named_stack(sheet: &[u8]) -> (model::Judged, String) {
         };
         let said = judge_into(sheet, &mut judged.records, &mut judged.places, &mut judged.rows, &mut judged.answers);
         assert!(said.is_ok());
-        let mut text = vec![0; 1 << 24];
-        let end = print_into(sheet, 0, &mut text);
-        text.truncate(end);
-        (judged, String::from_utf8(text).expect("the library writes ASCII"))
+        let texts = [print_into, page_into].map(|into| {
+            let mut text = vec![0; 1 << 24];
+            let end = into(sheet, 0, &mut text);
+            text.truncate(end);
+            String::from_utf8(text).expect("the library writes ASCII")
+        });
+        (judged, texts)
     };
     thread::scope(|scope| {
         let thread = thread::Builder::new().stack_size(STACK).spawn_scoped(scope, judging);
@@ -173,13 +176,14 @@ fn the_deepest_sheets() {
     for period in periods {
         for sheet in [doubled(&period), declared(&period)] {
             let sheet = sheet.expect("the sheet is one");
-            let (judged, text) = on_named_stack(&sheet);
+            let (judged, texts) = on_named_stack(&sheet);
             let lent = Lent::PROGRAM;
             let expected = oracle::on_stack(|| {
-                (model::judge(&sheet, lent.records, lent.places, lent.rows, lent.answers), model::printout(&sheet))
+                let judged = model::judge(&sheet, lent.records, lent.places, lent.rows, lent.answers);
+                (judged, [model::printout(&sheet), model::page(&sheet)])
             });
             assert!(judged == expected.0, "buffers, {period:?}");
-            assert!(text == expected.1, "text, {period:?}");
+            assert!(texts == expected.1, "text or pages, {period:?}");
         }
     }
 }

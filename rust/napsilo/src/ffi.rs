@@ -32,6 +32,15 @@ mod library {
             out: *mut u8,
             out_length: usize,
         ) -> usize;
+
+        /// Writes whole lines of a sheet's pages, as `napsilo_text` those of its printout, with the same preconditions.
+        pub fn napsilo_page_text(
+            sheet: *const u8,
+            sheet_length: usize,
+            from: usize,
+            out: *mut u8,
+            out_length: usize,
+        ) -> usize;
     }
 }
 
@@ -62,4 +71,10 @@ pub fn text(sheet: &[u8], from: usize, out: &mut [u8]) -> usize {
     // read and write for the buffer. The buffer is borrowed exclusively, so it does not overlap the sheet, and both borrows last until
     // the call returns. The function has no other precondition.
     unsafe { library::napsilo_text(sheet.as_ptr(), sheet.len(), from, out.as_mut_ptr(), out.len()) }
+}
+
+/// Writes whole lines of a sheet's pages, from the number `from` on and as many as fit, into the lent buffer: the place behind them.
+pub fn page_text(sheet: &[u8], from: usize, out: &mut [u8]) -> usize {
+    // SAFETY: as for `text`.
+    unsafe { library::napsilo_page_text(sheet.as_ptr(), sheet.len(), from, out.as_mut_ptr(), out.len()) }
 }

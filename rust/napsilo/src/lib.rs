@@ -69,6 +69,7 @@
 //!   for its own sake, the argument, its sort and the sort that was asked for ([`Explanation`]).
 //! - [`print()`] gives the text that the program prints for a sheet, and [`print_into`] a piece of it; both by the library.
 //!   [`Sort`] has the same text for one sort.
+//! - [`page()`] gives the rows on pages of 80 columns and 60 lines, for a meeting, and [`page_into`] a piece of them; both by the library.
 //! - [`Names`] gives strings their numbers. [`Sort`], [`Judged`], [`Explanation`] and [`Expected`] have a text with the user's names
 //!   (`with_names`), a term has one by [`Judged::term_text`].
 //!
@@ -78,8 +79,8 @@
 //! `NAPSILO_LIB_DIR` names, else from `target/staticlib` of the repository. Without it `cargo check` and `cargo doc` work, and what links
 //! this crate is not built. Nothing checks the declarations in `ffi.rs` against the library's source, so the tests compare results.
 //!
-//! What is proved is the library: the rows, the answers, the store and the printout that it writes, for every sheet and all lengths of
-//! buffers. This crate is not: it writes sheets, reads the store back into trees, puts pieces of the printout together, makes text of
+//! What is proved is the library: the rows, the answers, the store, the printout and the pages that it writes, for every sheet and all
+//! lengths of buffers. This crate is not: it writes sheets, reads the store back into trees, puts pieces of text together, makes text of
 //! a single sort, and looks for what a refusal is about. The cause of a refusal is always the library's.
 
 #![deny(unsafe_code)]
@@ -93,6 +94,7 @@ mod id;
 mod judged;
 mod name;
 mod operators;
+mod page;
 mod refusal;
 mod sort;
 mod text;
@@ -104,6 +106,7 @@ pub use id::{ForeignId, QuestionId, Sheet, SheetRef, SortId, TermId};
 pub use judged::{Answer, Judged, Lent, QuestionKind, Row, STACK, judge, judge_into, judge_with};
 pub use name::{Name, Names};
 pub use operators::{Binder, Operator, ParamOperator, QualifiedOperator};
+pub use page::{PAGE_LINE, PAGE_LINES, page, page_into};
 pub use refusal::{Cause, Refusal};
 pub use sort::Sort;
 pub use text::{LINE_BUFFER, print, print_into};

@@ -3,7 +3,9 @@
 mod common;
 
 use common::{bytes, hex};
-use napsilo::{Judged, Lent, Refusal, judge, judge_into, judge_with, print, print_into};
+use napsilo::{
+    Judged, Lent, PAGE_LINE, PAGE_LINES, Refusal, judge, judge_into, judge_with, page, page_into, print, print_into,
+};
 use std::fmt::Debug;
 
 /// A lent buffer between guards.
@@ -151,31 +153,56 @@ fn every_small_length() {
     assert!(accepted > 100 && refused > 100);
 }
 
-/// The printout into a guarded buffer of every small length, from every line on: the whole lines that fit, and what lies behind is as
-/// it was.
+/// The sheets, and two that are refused: a header that counts too many terms, and no header.
+fn accepted_and_refused() -> Vec<Vec<u8>> {
+    let mut all = sheets();
+    all.extend(["00000110 0000", "0000"].map(bytes));
+    all
+}
+
+/// A piece of a sheet's text into a guarded buffer of this length, from a line on: the whole lines that fit, and what lies behind is as it was.
+fn holds(lines: &[&str], from: usize, length: usize, piece: impl Fn(&mut [u8]) -> usize) {
+    let mut out = Guarded::new(length, 0xd7, 0x5a);
+    let end = piece(out.lend());
+    let mut expected = String::new();
+    for line in lines.iter().skip(from) {
+        if expected.len() + line.len() > length {
+            break;
+        }
+        expected.push_str(line);
+    }
+    assert_eq!(end, expected.len(), "line {from} on, {length} bytes");
+    let (written, behind) = out.look().split_at(end);
+    assert_eq!(written, expected.as_bytes());
+    assert!(behind.iter().all(|byte| *byte == 0x5a));
+}
+
+/// The printout into a guarded buffer of every small length, from every line on.
 #[test]
 fn every_small_piece() {
-    let mut refused = sheets();
-    // A header that counts too many terms, and no header.
-    refused.extend(["00000110 0000", "0000"].map(bytes));
-    for sheet in refused {
+    for sheet in accepted_and_refused() {
         let text = print(&sheet);
         let lines: Vec<&str> = text.split_inclusive('\n').collect();
         for from in (0..lines.len() + 3).chain([usize::MAX]) {
             for length in 0..text.len() + 2 {
-                let mut out = Guarded::new(length, 0xd7, 0x5a);
-                let end = print_into(&sheet, from, out.lend());
-                let mut expected = String::new();
-                for line in lines.iter().skip(from) {
-                    if expected.len() + line.len() > length {
-                        break;
-                    }
-                    expected.push_str(line);
-                }
-                assert_eq!(end, expected.len(), "{}", hex(&sheet));
-                let (written, behind) = out.look().split_at(end);
-                assert_eq!(written, expected.as_bytes());
-                assert!(behind.iter().all(|byte| *byte == 0x5a));
+                holds(&lines, from, length, |out| print_into(&sheet, from, out));
+            }
+        }
+    }
+}
+
+/// The page into a guarded buffer: every length up to two lines and some bytes, and those round each number of lines.
+#[test]
+fn every_small_piece_of_a_page() {
+    let around =
+        (3..PAGE_LINES + 2).flat_map(|lines| [lines * PAGE_LINE - 1, lines * PAGE_LINE, lines * PAGE_LINE + 1]);
+    let lengths: Vec<usize> = (0..2 * PAGE_LINE + 3).chain(around).collect();
+    for sheet in accepted_and_refused() {
+        let text = page(&sheet);
+        let lines: Vec<&str> = text.split_inclusive('\n').collect();
+        for from in (0..5).chain(PAGE_LINES - 2..PAGE_LINES + 2).chain([usize::MAX]) {
+            for length in &lengths {
+                holds(&lines, from, *length, |out| page_into(&sheet, from, out));
             }
         }
     }

@@ -1,6 +1,6 @@
-//! `include/napsilo.h` from C: `examples/c/judge.c` is compiled with `cc` and run. Skipped where there is no `cc`.
+//! `include/napsilo.h` from C: the programs of `examples/c` are compiled with `cc` and run. Skipped where there is no `cc`.
 
-use napsilo::{LINE_BUFFER, Lent, MOST_BYTES, STACK, judge_into};
+use napsilo::{LINE_BUFFER, Lent, MOST_BYTES, PAGE_LINE, PAGE_LINES, STACK, judge_into};
 use std::fs;
 use std::path::{Path, PathBuf};
 use std::process::{Command, Output};
@@ -13,12 +13,12 @@ fn library() -> PathBuf {
     }
 }
 
-/// The program in C, compiled under this name; nothing where there is no `cc`.
-fn compiled(name: &str) -> Option<PathBuf> {
+/// A program in C, compiled under this name; nothing where there is no `cc`.
+fn compiled(source: &str, name: &str) -> Option<PathBuf> {
     let program = Path::new(env!("CARGO_TARGET_TMPDIR")).join(name);
     let mut cc = Command::new("cc");
     cc.args(["-std=c99", "-O1", "-Wall", "-Wextra", "-Werror", "-pedantic", "-I"]).arg(recorded::path("include"));
-    cc.arg(recorded::path("examples/c/judge.c")).arg("-L").arg(library()).args(["-lexports", "-o"]).arg(&program);
+    cc.arg(recorded::path("examples/c").join(source)).arg("-L").arg(library()).args(["-lexports", "-o"]).arg(&program);
     let Ok(done) = cc.output() else {
         recorded::skipped("there is no cc");
         return None;
@@ -54,7 +54,7 @@ fn numbers(sheet: &[u8]) -> String {
 
 #[test]
 fn the_examples() {
-    let Some(program) = compiled("judge_examples") else { return };
+    let Some(program) = compiled("judge.c", "judge_examples") else { return };
     let recorded = recorded::printed();
     let mut files = 0;
     for entry in fs::read_dir(recorded::path("examples")).expect("the examples are there") {
@@ -75,7 +75,7 @@ fn the_examples() {
 
 #[test]
 fn every_recorded_refusal_of_a_sheet() {
-    let Some(program) = compiled("judge_refusals") else { return };
+    let Some(program) = compiled("judge.c", "judge_refusals") else { return };
     let file = Path::new(env!("CARGO_TARGET_TMPDIR")).join("refused.sheet");
     let mut seen = Vec::new();
     for vector in recorded::printed().iter().filter(|vector| vector.text.starts_with('!')) {
@@ -93,10 +93,25 @@ fn every_recorded_refusal_of_a_sheet() {
 }
 
 #[test]
+fn every_recorded_page() {
+    let Some(program) = compiled("page.c", "page_recorded") else { return };
+    let file = Path::new(env!("CARGO_TARGET_TMPDIR")).join("page.sheet");
+    for vector in recorded::paged() {
+        fs::write(&file, &vector.sheet).expect("the sheet can be written");
+        let done = run(&program, &file);
+        assert_eq!(String::from_utf8_lossy(&done.stdout), vector.text);
+        assert_eq!(done.status.code(), Some(0));
+    }
+}
+
+#[test]
 fn a_file_that_cannot_be_read() {
-    let Some(program) = compiled("judge_unread") else { return };
+    let Some(program) = compiled("judge.c", "judge_unread") else { return };
     let done = run(&program, &recorded::path("examples/none.sheet"));
     assert_eq!((done.stdout.len(), done.status.code()), (0, Some(3)));
+    let Some(program) = compiled("page.c", "page_unread") else { return };
+    let done = run(&program, &recorded::path("examples/none.sheet"));
+    assert_eq!((done.stdout.len(), done.status.code()), (0, Some(1)));
 }
 
 #[test]
@@ -110,6 +125,8 @@ fn the_constants_of_the_header() {
         ("ROWS", lent.rows),
         ("ANSWERS", lent.answers),
         ("LINE", LINE_BUFFER),
+        ("PAGE_LINE", PAGE_LINE),
+        ("PAGE_LINES", PAGE_LINES),
         ("STACK", STACK),
     ] {
         let line = format!("#define NAPSILO_{name} {value}");
