@@ -3,6 +3,7 @@
 
 usage: measure_program.py PROGRAM [RUNS]                the table "The program" of docs/PERFORMANCE.md
        measure_program.py turns PROGRAM OTHER [RUNS]    the program in turns with another build of it, on the same sheets
+       measure_program.py page PROGRAM PAGES [RUNS]     the program in turns with the one that prints pages, on the sheets with the longest texts
        measure_program.py write FOLDER                  writes the sheets that take longest into a folder and prints their paths, for `bench judge`
 
 What is printed is thrown away after its length is counted once, by `turns` after it is compared.
@@ -73,13 +74,26 @@ def deep(n):
 
 
 def long(n):
-    """Every row a text near the longest: a Function of 64 chains of 62 Pars of 64 names of five digits."""
+    """Every row a text near the longest: a Function of 64 chains of 62 Pars of 64 names of five digits. The checked row is refused (28)."""
     sorts = [LEAF(4)]
     for i in range(62):
         sorts.append(PAR([65535 - 64 * (i % 4) - j for j in range(64)], len(sorts) - 1))
     sorts.append(FUN(*([len(sorts) - 1] * 64)))
     top = len(sorts) - 1
     return sheet(sorts, [TVAR(1, top) for _ in range(n)])
+
+
+def both(n):
+    """Every row a text near the longest that a checked row can have too: 63 tuples of 64 bit-vectors of five digits."""
+    sorts = [BV(65535), TUPLE(*[0] * 64), TUPLE(*[1] * 63)]
+    return sheet(sorts, [TVAR(1, 2)] * n)
+
+
+def sets(n):
+    """Every row but two a chain of 4,076 sets, 2,038 of the sheet's in which an App replaces."""
+    sorts = [VAR(1)] + [SET(i) for i in range(2038)]
+    sorts += [FUN(0, 2038), PAR([1], 2039)]
+    return sheet(sorts, [TVAR(1, 2038), TVAR(2, 2040)] + [APP(1, 0)] * (n - 2))
 
 
 def wide(n):
@@ -267,21 +281,29 @@ def digest(program, path):
     return made.digest()
 
 
-def in_turns(programs, data, runs):
+def in_turns(programs, path, runs):
     """The times in ms that two programs take for a sheet, run in turns: so many runs of each, or more, until each took two seconds."""
-    with tempfile.NamedTemporaryFile() as f, open(os.devnull, "wb") as sink:
-        f.write(data)
-        f.flush()
-        assert digest(programs[0], f.name) == digest(programs[1], f.name), "they print different bytes"
-        times = [], []
+    times = [], []
+    with open(os.devnull, "wb") as sink:
         while len(times[0]) < runs or min(map(sum, times)) < 2000:
             first = len(times[0]) % 2
             for at in (first, 1 - first):
-                times[at].append(run(programs[at], f.name, sink))
-        return times
+                times[at].append(run(programs[at], path, sink))
+    return times
+
+
+def alike_in_turns(programs, data, runs):
+    """The same of two programs that must print the same bytes for this sheet."""
+    with tempfile.NamedTemporaryFile() as f:
+        f.write(data)
+        f.flush()
+        assert digest(programs[0], f.name) == digest(programs[1], f.name), "they print different bytes"
+        return in_turns(programs, f.name, runs)
 
 
 CASES = [(mixed, 256), (mixed, 4096), (deep, 256), (deep, 4096), (wide, 4096), (long, 256)]
+LONGEST = [(mixed, 4096), (deep, 4096), (sets, 4096), (wide, 4096), (both, 4096), (long, 256), (long, 4096)]
+PAGE = 60 * 81
 WORST = [own, turns_and_questions, turns, unlike, equal, too_large, binders, matches, variables, unassigned, misfit, names, again, read]
 
 
@@ -299,11 +321,31 @@ def turns_with(programs, runs):
     print("|---|---|---|---|---|---|---|")
     for make, n in CASES:
         data = make(n)
-        times = in_turns(programs, data, runs)
+        times = alike_in_turns(programs, data, runs)
         one, two = map(statistics.median, times)
         terms = int.from_bytes(data[2:4], "little")
         least = min(times[0]) / min(times[1])
         print(f"| {make.__name__} | {terms:,} | {len(times[0])} | {one:,.1f} | {two:,.1f} | {one / two:.2f} | {least:.2f} |", flush=True)
+
+
+def pages_beside(programs, runs):
+    """Prints for each of the sheets with the longest texts the bytes a second of the program and of the one that prints pages, and the ratio."""
+    print("| sheet | rows | runs of each | printed MB | MB of pages | ms | ms of pages | MB/s | MB/s of pages | ratio |")
+    print("|---|---|---|---|---|---|---|---|---|---|")
+    for make, n in LONGEST:
+        data = make(n)
+        with tempfile.NamedTemporaryFile() as f:
+            f.write(data)
+            f.flush()
+            sizes = [printed(program, f.name) for program in programs]
+            assert sizes[1] > 0 and sizes[1] % PAGE == 0, "whole pages"
+            times = in_turns(programs, f.name, runs)
+        one, two = map(statistics.median, times)
+        rows = int.from_bytes(data[2:4], "little")
+        millions = " | ".join(f"{size / 1e6:,.1f}" for size in sizes)
+        speeds = sizes[0] / one / 1e3, sizes[1] / two / 1e3
+        print(f"| {make.__name__} | {rows:,} | {len(times[0])} | {millions} | {one:,.1f} | {two:,.1f} "
+              f"| {speeds[0]:,.0f} | {speeds[1]:,.0f} | {speeds[1] / speeds[0]:.2f} |", flush=True)
 
 
 def main():
@@ -312,6 +354,8 @@ def main():
         return write(rest[0])
     if program == "turns":
         return turns_with(rest[:2], int(rest[2]) if rest[2:] else 5)
+    if program == "page":
+        return pages_beside(rest[:2], int(rest[2]) if rest[2:] else 3)
     runs = int(rest[0]) if rest else 5
     print("| sheet | terms | bytes | printed bytes | ms | peak KiB |")
     print("|---|---|---|---|---|---|")

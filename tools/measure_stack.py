@@ -2,6 +2,7 @@
 """Measures the stack that the program needs on the deepest sheets that are known: the least limit (`ulimit -s`) under which it runs to its end.
 
 usage: measure_stack.py PROGRAM [SHEET..]
+       measure_stack.py beside PROGRAM OTHER [SHEET..]     two programs, a column for each
        measure_stack.py write FOLDER        writes the sheets into a folder and prints their paths, for `bench stack`
 
 Without sheets they are the four deep ones that crates/replay_lent has recorded, and those that are made here, as rust/beside/tests/stack.rs makes
@@ -131,10 +132,15 @@ def main():
     program, *paths = sys.argv[1:]
     if program == "write":
         return print(*write(paths[0]), sep="\n")
+    programs, titles = [program], ["program"]
+    if program == "beside":
+        programs, paths = paths[:2], paths[2:]
+        titles = [os.path.basename(program) for program in programs]
     with tempfile.TemporaryDirectory() as folder:
-        print("| sheet | program |\n|---|---|")
+        print(f"| sheet | {' | '.join(titles)} |\n|---{'|---' * len(titles)}|")
         for path in paths or write(folder):
-            print(f"| {os.path.basename(path)} | {least(program, path):,} |", flush=True)
+            needs = " | ".join(f"{least(program, path):,}" for program in programs)
+            print(f"| {os.path.basename(path)} | {needs} |", flush=True)
 
 
 main()

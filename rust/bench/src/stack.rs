@@ -1,7 +1,7 @@
 //! The least stack on which the library runs to its end: a thread of each size that is tried, in a process of its own.
 
 use crate::commas;
-use napsilo::{LINE_BUFFER, Lent, judge_into, print_into};
+use napsilo::{LINE_BUFFER, Lent, judge_into, page_into, print_into};
 use std::env;
 use std::fs;
 use std::process::{Command, Stdio};
@@ -13,14 +13,18 @@ pub fn run(function: &str, path: &str, kib: usize) -> Option<()> {
     let Lent { records, places, rows, answers } = Lent::PROGRAM;
     let (mut bytes, mut from) = (vec![0; LINE_BUFFER.max(records)], 0);
     let [mut places, mut rows, mut answers] = [places, rows, answers].map(|length| vec![0; length]);
-    let text = function == "text";
+    let writer: Option<fn(&[u8], usize, &mut [u8]) -> usize> = match function {
+        "text" => Some(print_into),
+        "page" => Some(page_into),
+        _ => None,
+    };
     let work = move || {
-        if text {
-            while let end @ 1.. = print_into(&sheet, from, &mut bytes) {
-                from += bytes[..end].iter().filter(|byte| **byte == b'\n').count();
-            }
-        } else {
+        let Some(writer) = writer else {
             let _ = judge_into(&sheet, &mut bytes[..records], &mut places, &mut rows, &mut answers);
+            return;
+        };
+        while let end @ 1.. = writer(&sheet, from, &mut bytes) {
+            from += bytes[..end].iter().filter(|byte| **byte == b'\n').count();
         }
     };
     thread::Builder::new().stack_size(kib * 1024).spawn(work).ok()?.join().ok()
@@ -45,13 +49,14 @@ fn least(function: &str, path: &str) -> Option<usize> {
     Some(high)
 }
 
-/// Measures both functions on sheets, `napsilo_text` by all pieces of the printout.
+/// Measures the functions on sheets, `napsilo_text` and `napsilo_page_text` by all pieces of the printout and of the pages.
 pub fn measure(paths: &[String]) -> Option<()> {
-    println!("| sheet | `napsilo_judge` | `napsilo_text` |");
-    println!("|---|---|---|");
+    println!("| sheet | `napsilo_judge` | `napsilo_text` | `napsilo_page_text` |");
+    println!("|---|---|---|---|");
     for path in paths {
         let name = path.rsplit('/').next().unwrap_or(path);
-        println!("| {name} | {} | {} |", commas(least("judge", path)?), commas(least("text", path)?));
+        let [judge, text, page] = ["judge", "text", "page"].map(|function| least(function, path).map(commas));
+        println!("| {name} | {} | {} | {} |", judge?, text?, page?);
     }
     Some(())
 }
