@@ -7,13 +7,16 @@ use std::fs;
 use std::process::{Command, Stdio};
 use std::thread;
 
+/// Writes whole lines of a sheet's text.
+type Writer = fn(&[u8], usize, &mut [u8]) -> usize;
+
 /// Runs a function of the library on a sheet, on a thread of so many KiB; the process ends by a signal where they are too few.
 pub fn run(function: &str, path: &str, kib: usize) -> Option<()> {
     let sheet = fs::read(path).ok()?;
     let Lent { records, places, rows, answers } = Lent::PROGRAM;
     let (mut bytes, mut from) = (vec![0; LINE_BUFFER.max(records)], 0);
     let [mut places, mut rows, mut answers] = [places, rows, answers].map(|length| vec![0; length]);
-    let writer: Option<fn(&[u8], usize, &mut [u8]) -> usize> = match function {
+    let writer: Option<Writer> = match function {
         "text" => Some(print_into),
         "page" => Some(page_into),
         _ => None,

@@ -63,10 +63,12 @@ fn recorded_pages() {
 fn from_lines_anywhere() {
     for vector in recorded::paged() {
         let lines = vector.text.lines().count();
-        // The first and the last ones, those round the end of a page, and some between.
+        // The first and the last ones, those round the end of a page, some that stand below the first of a row, and some others.
         let near = [0, 1, 2, PAGE_LINES - 1, PAGE_LINES, PAGE_LINES + 1, lines.saturating_sub(1), lines, lines + 1];
-        for from in near.into_iter().chain((0..lines).step_by(37)) {
-            for length in [0, 3, PAGE_LINE - 1, PAGE_LINE, PAGE_LINE + 80, 5 * PAGE_LINE] {
+        let below = |(_, line): &(usize, &str)| line.starts_with("      ") && line.trim() != "";
+        let below = vector.text.lines().enumerate().filter(below).map(|(at, _)| at).take(40);
+        for from in near.into_iter().chain(below).chain((0..lines).step_by(37)) {
+            for length in [0, 3, PAGE_LINE - 1, PAGE_LINE, PAGE_LINE + 80, 5 * PAGE_LINE, PAGE_LINES * PAGE_LINE] {
                 let expected = fitting(&vector.text, from, length);
                 assert_eq!(piece(&vector.sheet, from, length), expected, "{from}, {length}, {}", hex(&vector.sheet));
             }
