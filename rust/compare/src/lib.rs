@@ -6,7 +6,7 @@
 //! - [`vectors`]: writes sheets with what they must give.
 //!
 //! The oracle and the model are compared in the inferred column and in the answers, and in whether a sheet is refused; the model and the
-//! program in the whole printout.
+//! program in the whole printout, and the model and the program of pages in all pages.
 
 pub mod random;
 pub mod sweep;
@@ -145,6 +145,17 @@ impl Counts {
             self.differences.len()
         )
     }
+}
+
+/// What differs between the model's pages and those that a program prints for a sheet, if something does.
+///
+/// # Errors
+/// If the program cannot be run.
+pub fn compare_pages(sheet: &[u8], program: &Path) -> io::Result<Option<String>> {
+    let modelled = model::page(sheet);
+    let printed = run(program, sheet)?;
+    let differs = || format!("sheet {}\nmodel\n{modelled}program\n{}", hex(sheet), String::from_utf8_lossy(&printed));
+    Ok((printed != modelled.as_bytes()).then(differs))
 }
 
 /// What a program prints for a sheet on its standard input.
