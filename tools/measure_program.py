@@ -83,6 +83,17 @@ def long(n):
     return sheet(sorts, [TVAR(1, top) for _ in range(n)])
 
 
+def sunk(n):
+    """Every row a long text below 1,900 sets: each piece of it is come to through all of them. The checked row is refused (28)."""
+    sorts = [LEAF(4)]
+    for i in range(33):
+        sorts.append(PAR([65535 - 64 * (i % 4) - j for j in range(64)], len(sorts) - 1))
+    sorts.append(FUN(*([len(sorts) - 1] * 64)))
+    for _ in range(1900):
+        sorts.append(SET(len(sorts) - 1))
+    return sheet(sorts, [TVAR(1, len(sorts) - 1)] * n)
+
+
 def both(n):
     """Every row a text near the longest that a checked row can have too: 63 tuples of 64 bit-vectors of five digits."""
     sorts = [BV(65535), TUPLE(*[0] * 64), TUPLE(*[1] * 63)]
@@ -302,7 +313,7 @@ def alike_in_turns(programs, data, runs):
 
 
 CASES = [(mixed, 256), (mixed, 4096), (deep, 256), (deep, 4096), (wide, 4096), (long, 256)]
-LONGEST = [(mixed, 4096), (deep, 4096), (sets, 4096), (wide, 4096), (both, 4096), (long, 256), (long, 4096)]
+LONGEST = [(mixed, 4096), (deep, 4096), (sets, 4096), (wide, 4096), (both, 4096), (sunk, 256), (long, 256), (long, 4096)]
 PAGE = 60 * 81
 WORST = [own, turns_and_questions, turns, unlike, equal, too_large, binders, matches, variables, unassigned, misfit, names, again, read]
 

@@ -1,13 +1,11 @@
 // How high the rows are, by the sizes of their texts, and in which row a line of the pages stands.
+use super::line::COLUMN;
 use printout_sort::pieces::digits;
 ghost use mathlib.Core.Path.{_≡_};
 ghost use Prim.Native.Nat.{_-_, _/_};
 ghost use lib.ListN.{length};
 ghost use Rattle.printout.specs.LineAsks.{RowKnown};
 ghost use Rattle.page_lines.specs.Heights.{lengthBy, heightBy, HeightAsks, HeightsAsk, SpotIs};
-
-// How wide a column of text is.
-const COLUMN: usize = 36;
 
 // A line of a row: the row's number, and the line's number in the row. Behind the last row: how many rows there are, and how many
 // lines behind the last one's end.

@@ -20,10 +20,13 @@ const BLANK: u8 = b' ';
 const NUMBER: usize = 6;
 
 // How wide a column of text is.
-const COLUMN: usize = 36;
+pub const COLUMN: usize = 36;
 
 // How wide a line is, without its newline.
 const WIDTH: usize = 80;
+
+// How long a line is, with its newline.
+pub const LINE: usize = 81;
 
 // Writes `n` blanks at `to`.
 pub fn put_blanks(out: &mut [u8], to: usize, n: usize) -> usize

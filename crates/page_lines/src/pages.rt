@@ -1,5 +1,6 @@
 // The pages of a judged sheet: the lines of its rows, then the lines of blanks that fill the last page, as many as fit a lent buffer.
 use super::heights::find_row;
+use super::line::LINE;
 use super::line::put_blank_lines;
 use super::rows::least;
 use super::rows::put_rows;
@@ -7,9 +8,6 @@ use printout::whole::Piece;
 ghost use mathlib.Core.Path.{_≡_};
 ghost use Rattle.page_lines.specs.Rows.{PageAsks};
 ghost use Rattle.page_lines.specs.Pages.{paddingOf, BlanksIs, PageHas};
-
-// How long a line is, with its newline.
-const LINE: usize = 81;
 
 // How many lines a page has.
 const PAGE: usize = 60;

@@ -1,6 +1,8 @@
 // The lines of rows: each row's two texts stand in windows while some of its lines are written, so that no buffer holds a whole text.
 use super::heights::Spot;
 use super::heights::row_height;
+use super::line::COLUMN;
+use super::line::LINE;
 use super::line::put_line;
 use page_window::Window;
 use page_window::sort_window;
@@ -13,14 +15,11 @@ ghost use Rattle.page.specs.Numbered.{rowLine};
 ghost use Rattle.page_window.specs.Window.{WindowIs};
 ghost use Rattle.page_lines.specs.Rows.{RowWindowAsks, NextPiece, WindowLinesAsk, windowLine, seen, RowLinesAsk, inferredIn, checkedIn, LeastIs, StretchIs, GoneOn, RowsAsk, ReachedIs};
 
-// How wide a column of text is.
-const COLUMN: usize = 36;
-
-// How long a line is, with its newline.
-const LINE: usize = 81;
-
 // How many lines of a row are written from one pair of windows at most.
 const STRETCH: usize = 1024;
+
+// How many bytes the buffer of a window has (`windowRoom`): the pieces of those lines, and what a window needs besides.
+pub const WINDOW_ROOM: usize = 37776;
 
 // How far the lines of the rows have come: the next line's row and its number in the row, and the place behind what was written.
 pub struct Reached {

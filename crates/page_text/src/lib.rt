@@ -1,6 +1,7 @@
 // The pages of a sheet as text in a lent buffer: the sheet is judged over buffers of the program's lengths, and whole lines are written
 // from a line's number on, as many as fit.
 use page_lines::pages::show_pages;
+use page_lines::rows::WINDOW_ROOM;
 use page_window::sort_sizes;
 use printout::kinds::question_kinds;
 use printout::whole::Piece;
@@ -10,9 +11,6 @@ use verdicts::judge;
 ghost use Prim.Native.Nat.{_*_};
 ghost use Rattle.verdicts.specs.declared.Outcome.the-variants.{Accepted};
 ghost use Rattle.page_text.specs.PageText.{PageTextIs, PagesAsk, KnownAsk, KnownIs, RaisedIs, PageSizesAsk, PageSizesAre};
-
-// The bytes of a window's buffer (`windowRoom`).
-const WINDOW_ROOM: usize = 37776;
 
 // One more than the greatest number of a sort, of those below `most` and of a row that is no refusal.
 fn raised(most: usize, code: u32) -> usize
