@@ -42,7 +42,8 @@ returns c =
     let p = a .places .now in
     let w = a .rows .now in
     let g = a .answers .now in
-    let st = page-store x b p w g (s .pre .buffers .left) (replicate 1024 0) (c .before .before .before .before .before .before .question-kinds .last .1 .0) (c .before .before .before .before .before .before .question-kinds .result) (c .before .before .before .before .before .before .question-kinds .ensures) in
+    let st = page-store x b p w g (s .pre .buffers .left) (replicate 1024 0) (c .before .before .before .before .before .before .question-kinds .last .1 .0)
+    (c .before .before .before .before .before .before .question-kinds .result) (c .before .before .before .before .before .before .question-kinds .ensures) in
     let k = c .before .before .before .before .known-sorts .ensures in
     record { known = c .before .before .before .before .known-sorts .result; judged = fewer-judged (st .good) k; table = c .before .before .sort-sizes .ensures; short = s .pre .buffers .short; store = st }
 

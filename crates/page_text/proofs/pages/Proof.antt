@@ -17,7 +17,14 @@ accepted-pages-requires : tie.Need-accepted-pages-requires
 accepted-pages-requires c κs =
     let a = c .before .before .before .before .before .before .before .before .before .before .before .before .before .before .before .before .before .before .args in
     let d = c .before .before .before .before .before .before .before .before .before .before .before .judge .last in
-    record { left = subst (λ (o : Outcome). JudgeIs (a .sheet .now) programLengths (d .1 .0) (d .1 .1 .0) (d .1 .1 .1 .0) (d .1 .1 .1 .1 .0) o) (c .before .before .before .before .before .enum-told .given .1) (c .before .before .before .before .before .before .before .before .before .before .before .judge .ensures); short = omega (arith, c .before .before .before .before .before .before .before .before .before .before .before .judge .kept .1 .0) }
+    record {
+      left = subst (λ (o : Outcome). JudgeIs (a .sheet .now) programLengths (d .1 .0) (d .1 .1 .0) (d .1 .1 .1 .0) (d .1 .1 .1 .1 .0) o)
+          (c .before .before .before .before .before .enum-told .given .1) (c .before .before .before .before .before .before .before .before .before .before .before .judge .ensures);
+      short = omega (
+        arith,
+        c .before .before .before .before .before .before .before .before .before .before .before .judge .kept .1 .0,
+      );
+    }
 
 returns-2 : tie.Need-returns-2
 returns-2 c =
@@ -29,4 +36,6 @@ returns-2 c =
     (r .ensures 81 (omega arith))
 
 pub pages-spec : {M : Type 1} → statement M
-pages-spec = tie.close (tie.spec (λ c. search needs) (λ c. search needs) (λ c. search needs) (λ c. search needs) (λ c κs. search needs) (λ c. search needs) (λ c. search needs) (λ c. search needs) (λ c. search needs) (λ c. search needs) accepted-pages-requires (λ c. search needs) (λ c κs. search needs) (λ c. search needs) (λ c. search needs) (λ c. search needs) returns-2)
+pages-spec =
+    tie.close (tie.spec (λ c. search needs) (λ c. search needs) (λ c. search needs) (λ c. search needs) (λ c κs. search needs) (λ c. search needs) (λ c. search needs) (λ c. search needs)
+    (λ c. search needs) (λ c. search needs) accepted-pages-requires (λ c. search needs) (λ c κs. search needs) (λ c. search needs) (λ c. search needs) (λ c. search needs) returns-2)

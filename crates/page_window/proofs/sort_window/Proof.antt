@@ -44,8 +44,12 @@ loop-less c =
 loop-again : tie.Need-loop-again Inv-loop μ-loop
 loop-again c =
     let s = c .before .before .before .before .before .before .before .before .before .before .before .before .before .before .before .before .before .before .before .before in
-    let l = c .before .before .before .before .before .before .before .before .before .loop in
-    (c .before .before .before .before .step .kept .1 .1 .1 .1 .0 ∙ l .inv .0, c .before .before .before .before .step .kept .1 .1 .1 .1 .1 .0 ∙ l .inv .1, step-again (l .inv .2) (c .before .before .before .before .step .ensures) (c .before .before .before .before .step .kept .1 .1 .1 .1 .0) (c .before .before .before .before .step .kept .1 .1 .1 .1 .1 .0))
+    let l = c .before .before .before .before .before .before .before .before .before .loop in (
+      c .before .before .before .before .step .kept .1 .1 .1 .1 .0 ∙ l .inv .0,
+      c .before .before .before .before .step .kept .1 .1 .1 .1 .1 .0 ∙ l .inv .1,
+      step-again (l .inv .2)
+          (c .before .before .before .before .step .ensures) (c .before .before .before .before .step .kept .1 .1 .1 .1 .0) (c .before .before .before .before .step .kept .1 .1 .1 .1 .1 .0),
+    )
 
 same-length : tie.Need-same-length Inv-loop μ-loop
 same-length c = c .before .before .loop .inv .0 ∙ simp length-set

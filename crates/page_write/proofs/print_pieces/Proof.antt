@@ -97,8 +97,19 @@ loop-again c =
     let long : 81 ≤ length (l .out) = omega (arith, s .pre .room, l .inv .6) in
     let some : c .before .before .before .before .before .before .before .before .before .before .before .before .before .show-pages .result .end ≡ 0 → ⊥ = c .before .before .before .before .if1 .left in
     let g = piece-goes (a .sheet .now) t long some in
-    let good = sym (c .before .has-failed .ensures) ∙ c .if2 .left in
-    (good, c .before .before .write-page-lines .ensures .took good, g .1, c .before .before .before .before .before .before .before .before .before .before .before .before .before .show-pages .kept .1 .1 .1 .1 .1 .1 .0 ∙ l .inv .3, c .before .before .before .before .before .before .before .before .before .before .before .before .before .show-pages .kept .1 .1 .1 .1 .1 .1 .1 .0 ∙ l .inv .4, c .before .before .before .before .before .before .before .before .before .before .before .before .before .show-pages .kept .1 .1 .1 .1 .1 .1 .1 .1 .0 ∙ l .inv .5, wrote-long (t .text) ∙ l .inv .6)
+    let good = sym (c .before .has-failed .ensures) ∙ c .if2 .left in (
+      good,
+      c .before .before .write-page-lines .ensures .took good,
+      g .1,
+      c .before .before .before .before .before .before .before .before .before .before .before .before .before .show-pages .kept .1 .1 .1 .1 .1 .1 .0 ∙ l .inv .3,
+      c .before .before .before .before .before .before .before .before .before .before .before .before .before .show-pages .kept .1 .1 .1 .1 .1 .1 .1 .0 ∙ l .inv .4,
+      c .before .before .before .before .before .before .before .before .before .before .before .before .before .show-pages .kept .1 .1 .1 .1 .1 .1 .1 .1 .0 ∙ l .inv .5,
+      wrote-long
+          (t .text) ∙ l .inv .6,
+    )
 
 pub print-pieces-spec : {M : Type 1} → statement M
-print-pieces-spec = tie.close (tie.spec Inv-loop μ-loop (λ c κs. search needs) loop-holds show-pages-requires (λ c. search needs) (λ c. search needs) (λ c. search needs) (λ c. search needs) returns slice-reshare-prefix-write-page-lines slice-aggregate-write-page-lines write-page-lines-requires (λ c κs. search needs) (λ c. search needs) (λ c. search needs) (λ c. search needs) (λ c. search needs) returns-2 loop-less loop-again)
+print-pieces-spec =
+    tie.close (tie.spec Inv-loop μ-loop (λ c κs. search needs) loop-holds show-pages-requires (λ c. search needs) (λ c. search needs) (λ c. search needs)
+    (λ c. search needs) returns slice-reshare-prefix-write-page-lines slice-aggregate-write-page-lines write-page-lines-requires (λ c κs. search needs) (λ c. search needs) (λ c. search needs)
+    (λ c. search needs) (λ c. search needs) returns-2 loop-less loop-again)

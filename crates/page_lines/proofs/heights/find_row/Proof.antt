@@ -68,8 +68,11 @@ loop-less c =
 loop-again : tie.Need-loop-again Inv-loop μ-loop
 unfolding heightIn
 loop-again c =
-    let a = c .before .before .before .before .before .before .before .before .args in
-    (omega (arith, c .before .before .before .before .loop-test .taken), above-more (a .sizes .now) (a .rows .now) (a .from) (c .before .before .before .before .before .loop .row) (c .before .before .before .before .before .loop .line) (c .before .row-height .result) (c .before .before .before .before .before .loop .inv .1) (c .before .row-height .ensures) (c .if1 .left))
+    let a = c .before .before .before .before .before .before .before .before .args in (
+      omega (arith, c .before .before .before .before .loop-test .taken),
+      above-more (a .sizes .now) (a .rows .now) (a .from) (c .before .before .before .before .before .loop .row)
+          (c .before .before .before .before .before .loop .line) (c .before .row-height .result) (c .before .before .before .before .before .loop .inv .1) (c .before .row-height .ensures) (c .if1 .left),
+    )
 
 returns-2 : tie.Need-returns-2 Inv-loop μ-loop
 returns-2 c =

@@ -67,7 +67,13 @@ add-t27 c =
     let p = s .pre in
     let f = c .before .before .before .before .before .before .before .before .before .before .before .before .before .before .before .before .before .before .before .find-row .ensures in
     let g = c .before .before .before .before .before .before .before .before .before .before .before .before .before .before .put-rows .ensures in
-    omega (arith, last-fits p f g (c .before .before .before .before .before .if1 .left) (c .before .before .before .before .blanks-next .ensures) (λ i. omega (arith, c .before .before .before .before .before .before .before .before .before .before .before .before .before .before .before .before .before .before .before .before .before .before .before .before .before .shared-slice-known3 .given i)) (λ i. omega (arith, c .before .before .before .before .before .before .before .before .before .before .before .before .before .before .before .before .before .before .before .before .before .before .before .before .shared-slice-known4 .given i)) (omega arith))
+    omega (
+      arith,
+      last-fits p f g (c .before .before .before .before .before .if1 .left) (c .before .before .before .before .blanks-next .ensures) (λ i. omega (
+        arith,
+        c .before .before .before .before .before .before .before .before .before .before .before .before .before .before .before .before .before .before .before .before .before .before .before .before .before .shared-slice-known3 .given i,
+      )) (λ i. omega (arith, c .before .before .before .before .before .before .before .before .before .before .before .before .before .before .before .before .before .before .before .before .before .before .before .before .shared-slice-known4 .given i)) (omega arith),
+    )
 
 returns-2 : tie.Need-returns-2
 returns-2 c =
@@ -79,4 +85,6 @@ returns-2 c =
     rows-done p f g (c .before .before .before .before .before .if1 .left) (c .before .before .before .before .blanks-next .ensures) (c .before .before .put-blank-lines .ensures)
 
 pub show-pages-spec : {M : Type 1} → statement M
-show-pages-spec = tie.close (tie.spec find-row-requires put-rows-requires add-next (λ c. search needs) (λ c. search needs) (λ c. search needs) (λ c. search needs) returns sub-blanks-next sub-blanks-next-2 (λ c κs. search needs) put-blank-lines-requires add-t27 (λ c. search needs) (λ c. search needs) (λ c. search needs) (λ c. search needs) returns-2)
+show-pages-spec =
+    tie.close (tie.spec find-row-requires put-rows-requires add-next (λ c. search needs) (λ c. search needs) (λ c. search needs) (λ c. search needs) returns sub-blanks-next sub-blanks-next-2
+    (λ c κs. search needs) put-blank-lines-requires add-t27 (λ c. search needs) (λ c. search needs) (λ c. search needs) (λ c. search needs) returns-2)

@@ -114,8 +114,29 @@ row-lines-requires c κs =
     let l = c .before .before .before .before .before .before .before .before .before .before .loop in
     let g = l .inv .0 in
     let f = c .before .before .before .before .before .stretch .ensures in
-    let high = height-most (a .sizes .now) (a .rows .now) (l .row) (λ i. omega (arith, c .before .before .before .before .before .before .before .before .before .before .before .before .before .before .before .before .shared-slice-known3 .given i)) (λ i. omega (arith, c .before .before .before .before .before .before .before .before .before .before .before .before .before .before .before .shared-slice-known4 .given i)) in
-    record { count = a .terms; page = page-asks _ _ _ (s .pre .page) (l .inv .1) (l .inv .2) (l .inv .3); row = c .before .before .before .before .before .before .before .before .before .loop-test .taken; low = omega (arith, f .most, high, c .before .before .before .before .before .before .row-height .ensures, g .spot .inside (c .before .before .before .before .before .before .before .before .before .loop-test .taken)); few = f .few; fits = omega (arith, f .fits, g .long, g .within) }
+    let high = height-most (a .sizes .now) (a .rows .now) (l .row) (λ i. omega (
+      arith,
+      c .before .before .before .before .before .before .before .before .before .before .before .before .before .before .before .before .shared-slice-known3 .given i,
+    )) (λ i. omega (
+      arith,
+      c .before .before .before .before .before .before .before .before .before .before .before .before .before .before .before .shared-slice-known4 .given i,
+    )) in
+    record {
+      count = a .terms;
+      page = page-asks _ _ _ (s .pre .page) (l .inv .1) (l .inv .2)
+          (l .inv .3);
+      row = c .before .before .before .before .before .before .before .before .before .loop-test .taken;
+      low = omega (
+        arith,
+        f .most,
+        high,
+        c .before .before .before .before .before .before .row-height .ensures,
+        g .spot .inside
+            (c .before .before .before .before .before .before .before .before .before .loop-test .taken),
+      );
+      few = f .few;
+      fits = omega (arith, f .fits, g .long, g .within);
+    }
 
 add-gone-on : tie.Need-add-gone-on Inv-loop μ-loop
 add-gone-on c =
@@ -136,7 +157,8 @@ loop-less c =
     let l = c .before .before .before .before .before .before .before .before .before .before .before .before .before .before .before .before .before .before .before .before .loop in
     let g = l .inv .0 in
     let h = c .before .before .before .before .before .before .before .before .before .before .before .before .before .before .before .before .before .before .before .loop-test .taken in
-    let m = going-number g h (s .pre .page) (c .before .before .before .before .before .before .before .before .before .before .before .before .before .before .before .before .row-height .ensures) (c .before .before .before .before .before .before .before .before .before .before .before .before .before .before .before .stretch .ensures .most) (c .gone-on .ensures) in
+    let m = going-number g h (s .pre .page) (c .before .before .before .before .before .before .before .before .before .before .before .before .before .before .before .before .row-height .ensures)
+    (c .before .before .before .before .before .before .before .before .before .before .before .before .before .before .before .stretch .ensures .most) (c .gone-on .ensures) in
     omega (arith, m, going-below (a .sizes .now) (a .rows .now) (a .terms) (l .row) (l .line) (g .spot) h, c .before .before .before .before .before .before .before .before .before .before .before .before .before .before .if1 .left)
 
 loop-again : tie.Need-loop-again Inv-loop μ-loop
@@ -169,4 +191,5 @@ returns-2 c =
     record { going = g; full = λ h. absurd (omega (arith, c .loop-test .left)) }
 
 pub put-rows-spec : {M : Type 1} → statement M
-put-rows-spec = tie.close (tie.spec Inv-loop μ-loop loop-holds mul-inferred mul-inferred-2 shared-slice-read-inferred mul-checked add-checked mul-checked-2 shared-slice-read-checked row-height-requires sub-stretch sub-stretch-2 (λ c κs. search needs) same-length same-length-2 same-length-3 same-length-4 returns row-lines-requires add-gone-on gone-on-requires loop-less loop-again same-length-5 same-length-6 same-length-7 same-length-8 returns-2)
+put-rows-spec =
+    tie.close (tie.spec Inv-loop μ-loop loop-holds mul-inferred mul-inferred-2 shared-slice-read-inferred mul-checked add-checked mul-checked-2 shared-slice-read-checked row-height-requires sub-stretch sub-stretch-2 (λ c κs. search needs) same-length same-length-2 same-length-3 same-length-4 returns row-lines-requires add-gone-on gone-on-requires loop-less loop-again same-length-5 same-length-6 same-length-7 same-length-8 returns-2)

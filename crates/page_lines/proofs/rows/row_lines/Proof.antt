@@ -65,7 +65,8 @@ row-window-requires-2 : tie.Need-row-window-requires-2
 row-window-requires-2 c κs =
     let s = c .before .before .before .before .before .before .before .before .before .before .before .before .before .before .before .before .before .before .before in
     let a = s .args in
-    window-asks (2 * a .t + 1) (a .n) (c .before .before .before .before .before .before .row-window .last .1 .1 .1 .1 .1 .1 .0) (a .two .now) (s .pre .page) (omega (arith, s .pre .row)) (s .pre .few) (c .before .before .before .before .before .before .row-window .kept .1 .1 .1 .1 .1 .1 .0) (s .pre .page .second)
+    window-asks (2 * a .t + 1) (a .n) (c .before .before .before .before .before .before .row-window .last .1 .1 .1 .1 .1 .1 .0) (a .two .now) (s .pre .page) (omega (arith, s .pre .row)) (s .pre .few)
+    (c .before .before .before .before .before .before .row-window .kept .1 .1 .1 .1 .1 .1 .0) (s .pre .page .second)
 
 window-lines-requires : tie.Need-window-lines-requires
 window-lines-requires c κs =
@@ -78,4 +79,5 @@ returns c =
     wrote-as (window-rows (a .t) (a .i) (a .n) (c .before .before .before .before .before .before .before .before .before .before .before .before .before .before .before .before .before .row-window .ensures) (c .before .before .before .before .before .before .before .before .before .before .row-window2 .ensures)) (c .before .before .window-lines .ensures)
 
 pub row-lines-spec : {M : Type 1} → statement M
-row-lines-spec = tie.close (tie.spec mul-inferred mul-inferred-2 shared-slice-read-inferred mul-checked add-checked mul-checked-2 shared-slice-read-checked mul-skip mul-want row-window-requires row-window-requires-2 window-lines-requires (λ c. search needs) (λ c. search needs) (λ c. search needs) (λ c. search needs) returns)
+row-lines-spec =
+    tie.close (tie.spec mul-inferred mul-inferred-2 shared-slice-read-inferred mul-checked add-checked mul-checked-2 shared-slice-read-checked mul-skip mul-want row-window-requires row-window-requires-2 window-lines-requires (λ c. search needs) (λ c. search needs) (λ c. search needs) (λ c. search needs) returns)

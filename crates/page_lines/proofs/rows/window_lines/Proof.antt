@@ -33,7 +33,20 @@ put-line-requires c κs =
     let a = s .args in
     let l = c .before .before .loop in
     let w = l .inv .1 in
-    record { few = s .pre .few; first = s .pre .first; second = s .pre .second; fits = omega (arith, w .next, wrote-long w, s .pre .fits, c .before .loop-test .taken, window-lines-long (a .t) (a .i) (drop (a .first .lead) (take (a .first .end) (a .one .now))) (drop (a .second .lead) (take (a .second .end) (a .two .now))) (l .done) (s .pre .few)) }
+    record {
+      few = s .pre .few;
+      first = s .pre .first;
+      second = s .pre .second;
+      fits = omega (
+        arith,
+        w .next,
+        wrote-long w,
+        s .pre .fits,
+        c .before .loop-test .taken,
+        window-lines-long (a .t) (a .i)
+            (drop (a .first .lead) (take (a .first .end) (a .one .now))) (drop (a .second .lead) (take (a .second .end) (a .two .now))) (l .done) (s .pre .few),
+      );
+    }
 
 add-done : tie.Need-add-done Inv-loop μ-loop
 add-done c =
@@ -50,8 +63,14 @@ loop-again c =
     let one = a .one .now in
     let two = a .two .now in
     let p = drop (a .first .lead) (take (a .first .end) one) in
-    let q = drop (a .second .lead) (take (a .second .end) two) in
-    (omega (arith, c .before .before .before .before .before .before .loop-test .taken), window-lines-more (a .t) (a .i) one (l .x) (a .first .end) two (l .y) (a .second .end) p q (l .done) (l .inv .2) (l .inv .3) (l .inv .1) (c .before .before .before .before .put-line .ensures), pieces-on (l .x) (a .first .end) (c .before .next-piece .result) one (l .done) p (c .before .next-piece .ensures) (l .inv .2), pieces-on (l .y) (a .second .end) (c .next-piece2 .result) two (l .done) q (c .next-piece2 .ensures) (l .inv .3))
+    let q = drop (a .second .lead) (take (a .second .end) two) in (
+      omega (arith, c .before .before .before .before .before .before .loop-test .taken),
+      window-lines-more (a .t) (a .i) one (l .x) (a .first .end) two (l .y) (a .second .end) p q (l .done)
+          (l .inv .2) (l .inv .3) (l .inv .1) (c .before .before .before .before .put-line .ensures),
+      pieces-on (l .x) (a .first .end) (c .before .next-piece .result) one (l .done) p
+          (c .before .next-piece .ensures) (l .inv .2),
+      pieces-on (l .y) (a .second .end) (c .next-piece2 .result) two (l .done) q (c .next-piece2 .ensures) (l .inv .3),
+    )
 
 same-length : tie.Need-same-length Inv-loop μ-loop
 same-length c =

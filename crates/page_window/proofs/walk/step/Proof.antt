@@ -40,7 +40,8 @@ returns c =
     let s = c .before .before .before .before .before .before .before .before .before .before .before .before .before .before .before in
     let top = s .args .walk .depth - 1 in
     let is : s .args .walk .depth ≡ suc top = omega (arith, s .pre .some) in
-    close-is (s .pre) top is (sym (c .before .before .before .before .before .before .before .left-of .ensures) ∙ c .before .before .before .before .before .before .if1 .taken) (wrote-as (ap closeText (c .before .before .before .before .before .form-in .ensures)) (c .before .before .before .put-close .ensures)) (c .settle .ensures)
+    close-is (s .pre) top is (sym (c .before .before .before .before .before .before .before .left-of .ensures) ∙ c .before .before .before .before .before .before .if1 .taken) (wrote-as (ap closeText
+    (c .before .before .before .before .before .form-in .ensures)) (c .before .before .before .put-close .ensures)) (c .settle .ensures)
 
 u16-at-requires : tie.Need-u16-at-requires
 u16-at-requires c κs =
@@ -112,10 +113,13 @@ returns-3 c =
     let s = c .before .before .before .before .before .before .before .before .before .before .before .before .before .before .before .before .before .before .before .before .before in
     let top = s .args .walk .depth - 1 in
     let is : s .args .walk .depth ≡ suc top = omega (arith, s .pre .some) in
-    let some : leftOf (getD (s .args .stack .now) top 0) ≡ 0 → ⊥ = λ e. c .before .before .before .before .before .before .before .before .before .before .before .before .if1 .left (c .before .before .before .before .before .before .before .before .before .before .before .before .before .left-of .ensures ∙ e) in
+    let some : leftOf (getD (s .args .stack .now) top 0) ≡ 0 → ⊥ = λ e. c .before .before .before .before .before .before .before .before .before .before .before .before .if1 .left
+    (c .before .before .before .before .before .before .before .before .before .before .before .before .before .left-of .ensures ∙ e) in
     let part = c .before .before .before .before .before .before .before .before .before .before .u16-at .ensures .0 ∙ ap (u16At (s .args .records .now)) (c .before .before .before .before .before .before .before .before .before .before .before .place-of .ensures) in
     part-is (s .pre) top is some part (c .before .before .before .before .enter .ensures)
 
 pub step-spec : {M : Type 1} → statement M
 step-spec =
-    tie.close (tie.spec (λ c. search needs) mul-frame slice-read-frame (λ c κs. search needs) (λ c κs. search needs) put-close-requires (λ c κs. search needs) (λ c. search needs) returns (λ c κs. search needs) u16-at-requires add-stack mul-stack slice-write-stack (λ c. search needs) shared-slice-read-size cast-size (λ c. search needs) (λ c. search needs) (λ c. search needs) returns-2 enter-requires same-length-3 (λ c. search needs) returns-3)
+    tie.close (tie.spec (λ c. search needs) mul-frame slice-read-frame (λ c κs. search needs) (λ c κs. search needs) put-close-requires (λ c κs. search needs) (λ c. search needs) returns
+    (λ c κs. search needs) u16-at-requires add-stack mul-stack slice-write-stack (λ c. search needs) shared-slice-read-size cast-size (λ c. search needs) (λ c. search needs)
+    (λ c. search needs) returns-2 enter-requires same-length-3 (λ c. search needs) returns-3)
