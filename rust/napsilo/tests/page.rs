@@ -148,3 +148,33 @@ fn no_rows_and_refused_sheets() {
     assert_eq!([2, 3, 4].map(|length| piece(&[0; 7], 0, length)), ["", "!7\n", "!7\n"]);
     assert_eq!(piece(&[0; 7], 1, 1_000), "");
 }
+
+/// The rows of a page of one sheet must be the indented lines that come next in a document, with blanks filled up; lines of blanks follow.
+fn shown(sheet: &[u8], document: &str) {
+    let mut lines: Vec<&str> = document
+        .lines()
+        .skip_while(|line| !line.starts_with("    "))
+        .take_while(|line| line.starts_with("    "))
+        .collect();
+    assert!(!lines.is_empty());
+    let pages = page(sheet);
+    assert_eq!(pages.lines().count(), PAGE_LINES);
+    lines.resize(PAGE_LINES, "    ");
+    for (line, shown) in pages.lines().zip(lines) {
+        assert_eq!(line, format!("{:<80}", &shown[4..]));
+    }
+}
+
+#[test]
+fn pages_in_the_documents() {
+    let format = recorded::text("docs/FORMAT.md");
+    let (_, pages) = format.split_once("\n## The pages\n").expect("the section on pages");
+    let (_, example) = pages.split_once("The sheet `").expect("an example");
+    let (bytes, behind) = example.split_once('`').expect("its bytes");
+    let sheet: Vec<u8> = bytes.split(' ').map(|byte| u8::from_str_radix(byte, 16).expect("a byte")).collect();
+    shown(&sheet, behind);
+
+    let readme = recorded::text("README.md");
+    let (_, behind) = readme.split_once("target/bin/napsilo_page < examples/session.sheet\n").expect("the command");
+    shown(&recorded::read("examples/session.sheet"), behind);
+}
