@@ -38,6 +38,6 @@ pub extern "C" fn napsilo_text(sheet: &[u8], from: usize, out: &mut [u8]) -> usi
 pub extern "C" fn napsilo_page_text(sheet: &[u8], from: usize, out: &mut [u8]) -> usize
     ensures { λ r. ⌜ PageEndIs (now (sheet .entry)) from (now (out .entry)) (now (out .exit)) r ⌝ }
 {
-    let piece = pages(sheet, from, out);
-    piece.end
+    let shown = pages(sheet, from, out);
+    shown.end
 }
