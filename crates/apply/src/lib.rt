@@ -1,4 +1,6 @@
 // Substitution in the store that it reads from: the sort of an entry with its names replaced by a table of images, whole or not at all.
+#![tactic(auto)]
+
 pub mod deep;
 pub mod function;
 pub mod whole;

@@ -1,5 +1,7 @@
 // The walks of a substitution over store numbers: how large a sort is with its names replaced by a table of images, and that sort
 // made in the store that it is read from. Both go by a table of what they know already.
+#![tactic(auto)]
+
 pub mod build;
 pub mod lists;
 pub mod tables;

@@ -1,4 +1,6 @@
 // The checked sort of one record of any kind, with its causes in the order 24, 28, 25, 26, 27, 22, 23.
+#![tactic(auto)]
+
 pub mod binder;
 pub mod indexed;
 pub mod single;

@@ -1,1 +1,2 @@
 // The checked sort of a term.
+#![tactic(auto)]

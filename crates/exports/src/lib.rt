@@ -1,5 +1,7 @@
 // What programs in C and Rust call, in one static library: a sheet judged into lent buffers, and its printout and its pages as text in
 // a lent buffer. Each slice is a pointer and a length. No logic of its own.
+#![tactic(auto)]
+
 ghost use Rattle.verdicts.specs.Judge.{lengths_of, NumberIs};
 ghost use Rattle.exports.specs.Exports.{EndIs, PageEndIs};
 

@@ -1,5 +1,7 @@
 // The inferred sort of one record of any kind, over the sorts of its arguments. Each function returns the answer with the store's
 // count and bytes in use after it.
+#![tactic(auto)]
+
 pub mod binders;
 pub mod indexed;
 

@@ -1,6 +1,8 @@
 // The inferred sort of a term.
 
 // Operators whose inferred sort is found in the same way (the arms of Pool::compute_sort).
+#![tactic(auto)]
+
 #[derive(Drop)]
 pub enum Family {
     // Bool, Int, Real, String and RegLan, whatever the arguments.

@@ -1,3 +1,5 @@
 // Tests of every node of a sort of a store: one walk over the test, and what is asked of sorts before matching.
+#![tactic(auto)]
+
 pub mod each;
 pub mod premises;

@@ -1,5 +1,7 @@
 // Sort::match_with of src/ast/sort.rs, on all sorts. A walk notes in `met` which pairs fit. It goes down Pars and last parts
 // in a loop, so that only a part that is not the last of its list takes stack.
+#![tactic(auto)]
+
 ghost use Rattle.matching_tables.specs.Contract.{TestAsks};
 ghost use Rattle.matching_with.specs.Contract.{MeetWithAsks, MeetWithIs, NodeAsks, TurnIs, WithAsks, WithAllAsks, WithIs, PairWith, PairsWith};
 ghost use Rattle.matching_with.specs.Met.{WithBefore, WithAfter};

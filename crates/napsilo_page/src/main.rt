@@ -1,4 +1,6 @@
 // The program: a sheet from standard input, judged, and its rows on pages on standard output. No logic of its own.
+#![tactic(auto)]
+
 ghost use Rattle.judge_rules.specs.Judged.{judged};
 ghost use Rattle.printout.specs.Printed.{program_lengths};
 ghost use Rattle.written.specs.Written.{PagedIs};

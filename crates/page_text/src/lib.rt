@@ -1,5 +1,7 @@
 // The pages of a sheet as text in a lent buffer: the sheet is judged over buffers of the program's lengths, and whole lines are written
 // from a line's number on, as many as fit.
+#![tactic(auto)]
+
 ghost use Rattle.std.specs.Prelude.{◌*◌};
 ghost use Rattle.verdicts.specs.declared.Outcome.TheVariants.{Accepted};
 ghost use Rattle.page_text.specs.PageText.{PageTextIs, PagesAsk, KnownAsk, KnownIs, RaisedIs, PageSizesAsk, PageSizesAre};

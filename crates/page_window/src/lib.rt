@@ -1,5 +1,7 @@
 // A window of a sort's text: some of its bytes from a given one on, in a lent buffer, found without writing what stands before them. The
 // definitions stand in specs/.
+#![tactic(auto)]
+
 pub mod frames;
 pub mod sizes;
 pub mod walk;

@@ -1,4 +1,6 @@
 // The pages of a judged sheet printed to standard output: their lines are gathered in a buffer of its own, and written piece by piece.
+#![tactic(auto)]
+
 ghost use Rattle.judge_rules.specs.Judged.{judged};
 ghost use Rattle.verdicts.specs.declared.Outcome.TheVariants.{Accepted};
 ghost use Rattle.printout.specs.Printed.{program_lengths};

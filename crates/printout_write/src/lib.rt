@@ -1,5 +1,7 @@
 // A judged sheet printed to standard output: whole lines are gathered in a buffer that holds the longest one, and written
 // piece by piece.
+#![tactic(auto)]
+
 ghost use Rattle.judge_rules.specs.Judged.{judged};
 ghost use Rattle.verdicts.specs.declared.Outcome.TheVariants.{Accepted};
 ghost use Rattle.printout.specs.Printed.{program_lengths};

@@ -1,4 +1,6 @@
 // The input of a program, read whole into a lent buffer. A read that fails is told from the end of the input.
+#![tactic(auto)]
+
 ghost use Rattle.std.specs.Prelude.{◌≡◌, ◌<◌, length};
 ghost use Rattle.program_input.specs.Input.{got_of, GotWithin, InputWithin};
 

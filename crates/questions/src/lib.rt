@@ -1,4 +1,6 @@
 // The questions of a sheet: 0 compatible, 1 match, 2 apply, with the causes in the order 28, 29, 22, 23.
+#![tactic(auto)]
+
 pub mod all;
 pub mod images;
 pub mod matched;

@@ -1,6 +1,8 @@
 // The records of a sheet, read field by field: each method of a cursor reads one field and returns the next cursor with
 // what it read, or the refusal. Here stand the types; fields.rt has the methods for single fields, records.rt those for
 // whole records, tables.rt the limits of each kind and scans.rt the tests of the numbers of a list.
+#![tactic(auto)]
+
 mod fields;
 mod records;
 pub mod scans;

@@ -1,5 +1,7 @@
 // Numbers in bytes, and the fields of a sort record. kinds.rt has the names of the kinds, operators.rt those of the operators,
 // limits.rt the limits, tables.rt the bit map of each kind of sort.
+#![tactic(auto)]
+
 pub mod kinds;
 pub mod limits;
 pub mod operators;

@@ -1,5 +1,7 @@
 // A test program: judges the recorded sheets of data/sheets.bin one after the other over the program's buffers and prints each
 // behind its number. In the file each sheet stands behind its length in four bytes.
+#![tactic(auto)]
+
 use libc::STDOUT_FILENO;
 use printout_write::print_judged;
 use record::u16_at;

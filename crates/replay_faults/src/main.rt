@@ -1,5 +1,7 @@
 // A test program: reads a file to its end, a directory, which no read takes, and a descriptor that is not open, into a buffer of eight
 // bytes, and prints what each gave.
+#![tactic(auto)]
+
 use libc::STDOUT_FILENO;
 use program_input::{Input, read_input};
 

@@ -1,6 +1,8 @@
 // A test program: judges the recorded sheets of data/sheets.bin over lent buffers of the recorded lengths, dirty before, and prints
 // the outcome's number and the four buffers at exit over their whole length. In the file each sheet stands behind five numbers of
 // two bytes: the four lengths and its own.
+#![tactic(auto)]
+
 use libc::STDOUT_FILENO;
 use record::u16_at;
 use verdicts::napsilo_judge;

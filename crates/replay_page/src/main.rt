@@ -1,5 +1,7 @@
 // A test program: judges the recorded sheets of data/sheets.bin one after the other over the program's buffers and prints the
 // pages of each behind its number. In the file each sheet stands behind its length in four bytes.
+#![tactic(auto)]
+
 use libc::STDOUT_FILENO;
 use page_write::print_pages;
 use record::u16_at;

@@ -1,4 +1,6 @@
 // A row or an answer made in the store: coded, refused, found there, or made of a record.
+#![tactic(auto)]
+
 pub mod arguments;
 pub mod heads;
 pub mod lists;

@@ -1,5 +1,7 @@
 // The sort of an App, inferred and checked, over the store numbers of its head and its arguments: they stand in `args` from
 // byte 3 on, the head first.
+#![tactic(auto)]
+
 ghost use Rattle.matching_tables.specs.Usable.{sorts_at};
 ghost use Rattle.infer_rules.specs.Inferred.{inferred_app};
 ghost use Rattle.check_rules.specs.Checked.{checked_app};

@@ -1,4 +1,6 @@
 // A sort of the store, or what remains of the list of a Function, with its names replaced, as a row or an answer.
+#![tactic(auto)]
+
 ghost use Rattle.std.specs.Prelude.{◌≡◌};
 ghost use Rattle.apply.specs.Contract.{ApplyAsks};
 ghost use Rattle.row_instance.specs.Instance.{instance_answer, InstanceIs};

@@ -1,6 +1,8 @@
 // Both rows of a term record. An App whose head is a Par is looked up first among those that were judged before: its verdict goes
 // by the sorts of its head and its arguments alone, and what then had no room in the store has none now, since the store only grows.
 // So its row, a sort or a refusal, is what an App of the same sorts was found to be. The table of those Apps is that of crate row_slots.
+#![tactic(auto)]
+
 ghost use Rattle.check_rules.specs.Ranks.{smt_lib};
 ghost use Rattle.check_rules.specs.Checked.{checked};
 ghost use Rattle.row_parts.specs.Site.{SiteAsks, SiteIs};

@@ -1,4 +1,6 @@
 // The parts of a term record, as both rows take them.
+#![tactic(auto)]
+
 ghost use Rattle.row_parts.specs.Site.{PartsJudgedAsk, PartsJudgedIs};
 
 use reader::TermRecord;

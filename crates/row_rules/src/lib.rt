@@ -1,6 +1,8 @@
 // What a row says: a sort of the store, or why there is none.
 
 // Why a row or an answer is refused; `number_of` of specs/Verdict.antt gives document 01's number of each.
+#![tactic(auto)]
+
 #[derive(Drop)]
 pub enum Cause {
     // A referenced term's same row is refused.

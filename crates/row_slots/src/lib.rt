@@ -2,6 +2,8 @@
 // bytes for each column of the rows, or fewer where it is shorter: how many terms (0 in an empty slot), the row's code in three bytes,
 // a number of the store and a cause, and from byte 4 on the numbers of the terms' sorts, two bytes each. A slot keeps the last App that
 // was looked up there. Behind that: the row of a code, and the look-up of a term record.
+#![tactic(auto)]
+
 ghost use Rattle.std.specs.Prelude.{◌≡◌, ◌≤◌, ◌<◌, true};
 ghost use Rattle.record.specs.Number.{numbers_at};
 ghost use Rattle.row_rules.specs.Verdict.{number_of};

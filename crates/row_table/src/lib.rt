@@ -1,4 +1,6 @@
 // The rows: each term in order gets its inferred row, then its checked row, both over one store.
+#![tactic(auto)]
+
 ghost use Rattle.row_memo.specs.Past.{PastOf};
 ghost use Rattle.row_table.specs.Table.{BothAsk, BothAre, TurnAsks, TermRowsAre, RowsAsk, RowsAre};
 

@@ -1,6 +1,8 @@
 // THE ENTRY POINT: a sheet judged into four lent buffers, by the definition `judged`. Here stand the outcome, the judgement of a
 // sheet over buffers that the caller lends, and the same for callers in other languages; named.rt has the judgement over tables
 // of all names.
+#![tactic(auto)]
+
 pub mod named;
 
 ghost use Rattle.std.specs.Prelude.{◌≡◌};

@@ -1,5 +1,7 @@
 // How much of a printout or of the pages was written to standard output. The one call of `write_all` stands here, in `hand`, and so does
 // all that makes a `Written`: its fields are private, so that elsewhere a line counts as written only where its bytes were handed over.
+#![tactic(auto)]
+
 ghost use Rattle.std.specs.Prelude.{◌≡◌};
 ghost use Rattle.reader.specs.Reader.{refusal_number};
 ghost use Rattle.judge_rules.specs.Judged.{judged};
