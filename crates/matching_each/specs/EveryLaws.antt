@@ -54,17 +54,17 @@ mutual
   every_all-is c (s then ss) = ap₂ ◌&&◌ (every-is c s) (every_all-is c ss) ∙ c.more s ss
 
 ---------------------------------------------------------------- the tests
-pub known-tests : {l d : List ℕ} → Tests (passing Known l d) known known_all
+pub known-tests : (l d : List ℕ) → Tests (passing Known l d) known known_all
 unfolding known
-known-tests = record { vars = λ v. refl; pars = λ us b. refl; nodes = λ k a w ss. refl; none = refl; more = λ s ss. refl }
+known-tests l d = record { vars = λ v. refl; pars = λ us b. refl; nodes = λ k a w ss. refl; none = refl; more = λ s ss. refl }
 
-pub proper-tests : {l d : List ℕ} → Tests (passing Proper l d) proper proper_all
+pub proper-tests : (l d : List ℕ) → Tests (passing Proper l d) proper proper_all
 unfolding proper
-proper-tests = record { vars = λ v. refl; pars = λ us b. refl; nodes = λ k a w ss. refl; none = refl; more = λ s ss. refl }
+proper-tests l d = record { vars = λ v. refl; pars = λ us b. refl; nodes = λ k a w ss. refl; none = refl; more = λ s ss. refl }
 
-pub parless-tests : {l d : List ℕ} → Tests (passing Parless l d) parless parless_all
+pub parless-tests : (l d : List ℕ) → Tests (passing Parless l d) parless parless_all
 unfolding parless
-parless-tests = record { vars = λ v. refl; pars = λ us b. refl; nodes = λ k a w ss. refl; none = refl; more = λ s ss. refl }
+parless-tests l d = record { vars = λ v. refl; pars = λ us b. refl; nodes = λ k a w ss. refl; none = refl; more = λ s ss. refl }
 
 -- For every list of names that the table lists.
 module _ {l ns : List ℕ} (h : Lists l ns) where
@@ -76,9 +76,9 @@ module _ {l ns : List ℕ} (h : Lists l ns) where
   apart_none [] = refl
   apart_none (u ∷ us) = ap₂ ◌&&◌ (unlisted-name u) (apart_none us)
 
-  pub unlisted-tests : {d : List ℕ} → Tests (passing Unlisted l d) (unlisted ns) (unlisted_all ns)
+  pub unlisted-tests : (d : List ℕ) → Tests (passing Unlisted l d) (unlisted ns) (unlisted_all ns)
   unfolding unlisted
-  unlisted-tests =
+  unlisted-tests d =
       record {
         vars = unlisted-name;
         pars = λ us b. ap (λ (t : Bool). t && unlisted ns b) (apart_none us);

@@ -16,7 +16,7 @@ use Rattle.reader.specs.declared.Cursor.{Cursor}
 use Rattle.record.specs.declared.SortRecord.{SortRecord}
 use Rattle.reader.specs.declared.ReadSort.TheVariants.{Sort, NoSort}
 use Rattle.reader.specs.Reader.{all_below, read_head, read_name, read_number, read_references, read_names, read_sort_fields, read_sort}
-use Rattle.reader.specs.Was.{by-need, by_number, by-list, by-head, false-true, NumberWas, HeadWas, head-was, name-was, number-was, ListWas, references-were, names-were, all-below-each, u16-small, given-small, low_by, high-by, or-last}
+use Rattle.reader.specs.Was.{by-need, by-number, by-list, by-head, false-true, NumberWas, HeadWas, head-was, name-was, number-was, ListWas, references-were, names-were, all-below-each, u16-small, given-small, low_by, high-by, or-last}
 
 -- THE RECORD THAT WAS READ with the number i at x: it lies whole there, its fields are those read, and the next record
 -- starts behind it
@@ -138,9 +138,9 @@ module _ (s : List ℕ) (bytes : Bytes s) (i x : ℕ) (r : SortRecord) (c : Curs
   fields-gave : (m k : ℕ) (c2 : Cursor) → HeadWas s x m k c2 → m ≡ map_of k → read_sort_fields s m k i c2.at ≡ Sort r c → SortWas s i x r c
   unfolding read_sort_fields
   fields-gave m k c2 head mk h =
-      by_number _ (read_name s m c2.at) h (λ e. no-sort)
+      by-number _ (read_name s m c2.at) h (λ e. no-sort)
       (λ a c3 p3 h3.
-      by_number _ (read_number s m 65535 c3.at) h3 (λ e. no-sort)
+      by-number _ (read_number s m 65535 c3.at) h3 (λ e. no-sort)
       (λ w c4 p4 h4.
       by-list _ (read_references s m (least_of k) (most_of k) i c4.at) h4 (λ e. no-sort)
       (λ l n c5 p5 h5.
