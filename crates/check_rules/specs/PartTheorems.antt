@@ -146,7 +146,7 @@ carried-exactly s = (only s, when s)
         ((proper-exactly o).1 (λ r p b. not-inside (n ∷ ns) o r p (allowed (h r (in_body p) b)).0))
     when (node k a w ss) h =
         (proper-exactly (node k a w ss)).1
-        (λ r p b. elim (h r p b) [ ])
+        (λ r p b. let (m, ms, c, e, g) = (allowed (h r p b)).1 in cc)
 
 -- It fails exactly where that is not so.
 pub uncarried-exactly : (s : Sort) → carried s ≡ false ↔ (Carried s → ⊥)

@@ -6,7 +6,8 @@ use Rattle.std.specs.Prelude.{◌≡◌, refl, Bool, true, false, List, [], ◌�
 use Rattle.std.proofs.Common.{sym, ap, ◌∙◌, arith, eqb-true, ltb-true, ltb-false}
 use Rattle.std.proofs.lemmas.Bool.{false≢true}
 use Rattle.std.proofs.Math.Option.{Option, none, some}
-use Rattle.std.proofs.Math.Logic.{Iff·trans, inl, inr, ⊎_elim}
+use Rattle.std.proofs.Math.Logic.{inl, inr, ⊎_elim}
+use Rattle.std.proofs.Math.Logic.Iff.{trans as iff-trans}
 use Rattle.record.specs.Names.{member}
 use Rattle.record.specs.Sort.{Sort, Sorts, ◌then◌}
 use Rattle.record.specs.Record.{leaf}
@@ -78,7 +79,7 @@ pub row-cause : (J : Site → Verdict) (column : ℕ) (l : Lengths) (rs : List T
 unfolding row_of verdict_at
 row-cause J column l rs r rows now c p d =
     let row : ℕ → Option Sort = λ i. row_sort now rows column i in
-    Iff·trans (code-cause l now (verdict_at J row rs r) c p)
+    iff-trans (code-cause l now (verdict_at J row rs r) c p)
     (parts-cause J r.kind r.number r.own r.bindings (constants_at rs r.list) (constants_at rs r.second) (sorts_given row r.list) (sorts_given row r.second) c d)
 
 ---------------------------------------------------------------- 20
@@ -109,7 +110,7 @@ module _ (J : Site → Verdict) (never : (z : Site) → J z ≡ refused Below �
   unfolding row_of verdict_at no_limit
   row_below =
       let row : ℕ → Option Sort = λ i. row_sort now rows column i in
-      Iff·trans (code-cause l now (verdict_at J row rs r) Below refl) (
+      iff-trans (code-cause l now (verdict_at J row rs r) Below refl) (
         λ h. by_option (sorts_given row r.list)
             (λ p. inl (none-missing row r.list p))
             (λ ts p. by_option (sorts_given row r.second)

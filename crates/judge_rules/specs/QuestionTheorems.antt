@@ -4,7 +4,7 @@ use Rattle.std.specs.Prelude.{ℕ, ◌*◌, ◌≡◌, refl, true, false, not, �
 use Rattle.std.proofs.Common.{sym, ap, ◌∙◌, true≢false, arith, eqb-true}
 use Rattle.std.proofs.lemmas.Bool.{false≢true}
 use Rattle.std.proofs.Math.Option.{none, some}
-use Rattle.std.proofs.Math.Logic.{Iff·trans}
+use Rattle.std.proofs.Math.Logic.Iff.{trans as iff-trans}
 use Rattle.record.specs.Names.{member}
 use Rattle.record.specs.Sort.{Sort, Sorts, var, par, node, end, ◌then◌, kind_of}
 use Rattle.record.specs.Cases.{and_left, and_right, and-true, three, or-first, or-second, eqb-self, by_test, by_option, clash, not-true-false}
@@ -183,7 +183,7 @@ pub answer-barred : (l : Lengths) (q : QuestionFields) (st : List Sort) → q.ki
 unfolding answer_verdict no_limit
 answer-barred l q st k =
     rw (answer-is l q st (rw k refl))
-    (Iff·trans (code-cause l st (answer_verdict q) Barred refl) (rw k (match-barred q.names (first_sort q.sorts) (first_sort (rest_sorts q.sorts)) (first_sort (rest_sorts (rest_sorts q.sorts))))))
+    (iff-trans (code-cause l st (answer_verdict q) Barred refl) (rw k (match-barred q.names (first_sort q.sorts) (first_sort (rest_sorts q.sorts)) (first_sort (rest_sorts (rest_sorts q.sorts))))))
 
 pub answer-unassigned : (l : Lengths) (q : QuestionFields) (st : List Sort) → q.kind ≡ 1
     → (answer_of l q st).code ≡ number_of NoAssignment * 65536
@@ -191,4 +191,4 @@ pub answer-unassigned : (l : Lengths) (q : QuestionFields) (st : List Sort) → 
 unfolding answer_verdict no_limit
 answer-unassigned l q st k =
     rw (answer-is l q st (rw k refl))
-    (Iff·trans (code-cause l st (answer_verdict q) NoAssignment refl) (rw k (match-unassigned q.names (first_sort q.sorts) (first_sort (rest_sorts q.sorts)) (first_sort (rest_sorts (rest_sorts q.sorts))))))
+    (iff-trans (code-cause l st (answer_verdict q) NoAssignment refl) (rw k (match-unassigned q.names (first_sort q.sorts) (first_sort (rest_sorts q.sorts)) (first_sort (rest_sorts (rest_sorts q.sorts))))))

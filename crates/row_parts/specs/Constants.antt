@@ -13,7 +13,7 @@ use Rattle.reader.specs.declared.Cursor.{Cursor}
 use Rattle.reader.specs.declared.TermRecord.{TermRecord}
 use Rattle.reader.specs.declared.ReadTerm.TheVariants.{Term}
 use Rattle.reader.specs.Reader.{read_head, read_name, read_number, read_own, read_references, read_pairs, read_second, read_term_fields, read_term}
-use Rattle.reader.specs.Was.{by-need, by_number, by-list, by-head, NumberWas, HeadWas, head-was, name-was, number-was}
+use Rattle.reader.specs.Was.{by-need, by-number, by-list, by-head, NumberWas, HeadWas, head-was, name-was, number-was}
 use Rattle.reader.specs.TermWas.{no-term, term_of}
 use Rattle.sheet.specs.Sheet.{TermFields, term_fields}
 use Rattle.sheet.specs.Contract.{each_at, term_read_at, terms_at, TermStands}
@@ -47,11 +47,11 @@ module _ (s : List ℕ) (sorts t x : ℕ) (r : TermRecord) (c : Cursor) (integer
   fields-gave : (m k : ℕ) (c2 : Cursor) → HeadWas s x m k c2 → m ≡ term_map_of k → read_term_fields s m k sorts t c2.at ≡ Term r c → IntegerWas s x r
   unfolding read_term_fields
   fields-gave m k c2 head mk h =
-      by_number _ (read_name s m c2.at) h (λ e. no-term)
+      by-number _ (read_name s m c2.at) h (λ e. no-term)
       (λ a c3 p3 h3.
-      by_number _ (read_number s m (term_number_of k) c3.at) h3 (λ e. no-term)
+      by-number _ (read_number s m (term_number_of k) c3.at) h3 (λ e. no-term)
       (λ w c4 p4 h4.
-      by_number _ (read_own s m sorts c4.at) h4 (λ e. no-term)
+      by-number _ (read_own s m sorts c4.at) h4 (λ e. no-term)
       (λ o c5 p5 h5.
       by-list _ (read_references s m (term_least_of k) (term_most_of k) t c5.at) h5 (λ e. no-term)
       (λ l n c6 p6 h6.
