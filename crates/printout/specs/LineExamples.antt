@@ -5,13 +5,13 @@ use Rattle.printout_sort.specs.Text.{ascii}
 use Rattle.printout.specs.Lines.{lines_of, refusal_line}
 
 -- K1's store, rows and answer.
-k1 : lines_of (int ∷ []) (0 ∷ 0 ∷ 0 ∷ 0 ∷ []) (0 ∷ []) (1 ∷ []) ≡ ascii "T0 Int Int\n_t1 Int Int\n_q0 yes\n"
+k1 : lines_of (int ∷ []) (0 ∷ 0 ∷ 0 ∷ 0 ∷ []) (0 ∷ []) (1 ∷ []) ≡ ascii "T0 Int Int\nT1 Int Int\nQ0 yes\n"
 unfolding lines_of
 k1 = refl
 
 -- Refused rows and answers beside others; a question of kind 0 is answered no, one of another kind by a sort.
 answered : lines_of (int ∷ set int ∷ []) (1 ∷ 24 * 65536 ∷ 21 * 65536 ∷ 20 * 65536 ∷ []) (0 ∷ 1 ∷ 2 ∷ []) (0 ∷ 29 * 65536 ∷ 1 ∷ [])
-    ≡ ascii "T0 (Set Int) !24\n_t1 !21 !20\n_q0 no\n_q1 !29\n_q2 (Set Int)\n"
+    ≡ ascii "T0 (Set Int) !24\nT1 !21 !20\nQ0 no\nQ1 !29\nQ2 (Set Int)\n"
 unfolding lines_of
 answered = refl
 
