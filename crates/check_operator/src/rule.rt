@@ -25,7 +25,7 @@ const NONE: usize = SORT_BOOL;
 pub const THEIRS: usize = 0;
 
 // What arguments an operator takes and what sort it then has.
-#[derive(Drop)]
+#[derive(Clone, Copy)]
 pub enum Rule {
     // No rank.
     Unranked,

@@ -13,7 +13,7 @@ use record::{SortRecord, u16_at};
 use store::entries::entry;
 
 // What is asked of a node. The tables of names are looked at by Unlisted and Settled alone.
-#[derive(Drop)]
+#[derive(Clone, Copy)]
 pub enum Test {
     // It is neither a Par nor a ParamBitVec.
     Known,

@@ -11,7 +11,7 @@ const NEXT: u32 = 8160;
 
 // Where a walk stands: how many frames are on the stack, how many bytes at the start of what is written and of what is still to print are
 // not wanted, and where what is written ends.
-#[derive(Drop)]
+#[derive(Clone, Copy)]
 pub struct Walk {
     pub depth: usize,
     pub lead: usize,

@@ -79,7 +79,7 @@ pub enum ReadSort {
 }
 
 // The fields of a term record: of each of its three lists the place where it starts, then how many entries it has.
-#[derive(Drop)]
+#[derive(Clone, Copy)]
 pub struct TermRecord {
     pub kind: usize,
     pub name: usize,

@@ -11,7 +11,7 @@ ghost use Rattle.std.specs.Prelude.{◌≡◌, ◌+◌, ◌≤◌, ◌<◌, leng
 ghost use Rattle.record.specs.Number.{u16_at};
 
 // The fields of a sort record; of its two lists where they start and how long they are.
-#[derive(Drop)]
+#[derive(Clone, Copy)]
 pub struct SortRecord {
     pub kind: usize,
     pub name: usize,

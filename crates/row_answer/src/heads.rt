@@ -7,7 +7,7 @@ use store::entries::entry;
 
 // A Function at the head of an App: where the list of its sorts starts and how many they are, and where the names of the Par over
 // it stand and how many these are, 0 without a Par.
-#[derive(Drop)]
+#[derive(Clone, Copy)]
 pub struct Callee {
     pub list: usize,
     pub count: usize,

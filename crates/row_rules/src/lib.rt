@@ -3,7 +3,7 @@
 // Why a row or an answer is refused; `number_of` of specs/Verdict.antt gives document 01's number of each.
 #![tactic(auto)]
 
-#[derive(Drop)]
+#[derive(Clone, Copy)]
 pub enum Cause {
     // A referenced term's same row is refused.
     Below,
@@ -28,7 +28,7 @@ pub enum Cause {
 }
 
 // A row before it is coded: a number of the store, or a refusal.
-#[derive(Drop)]
+#[derive(Clone, Copy)]
 pub enum RowVerdict {
     Sort(usize),
     Refused(Cause),

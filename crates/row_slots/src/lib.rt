@@ -27,7 +27,7 @@ pub const SLOT: usize = 132;
 pub const TABLE: usize = 2 * SLOTS * SLOT;
 
 // What a look-up gave.
-#[derive(Drop)]
+#[derive(Clone, Copy)]
 pub enum Look {
     // Nothing: the record is none that is noted, or the table has no slot for it.
     Apart,
