@@ -10,7 +10,7 @@ use lib.Seq.{get_or-take}
 use lib.Dec.{leb}
 use borrow.Author.Tests.{leb-true, leb-false}
 use Rattle.record.specs.Number.{numbers_at}
-use Rattle.record.specs.Sort.{Sort, Sorts, function, count, size, sizes}
+use Rattle.record.specs.Sort.{Sort, Sorts, function, size, sizes}
 use Rattle.record.specs.Record.{sorts_of, sort_of, bit, maps, map_of, leasts, least_of, mosts, most_of}
 use Rattle.record.specs.Store.{intern, intern_all, indices_of, room}
 use Rattle.record.specs.Decode.{fields, Shape, store_of}

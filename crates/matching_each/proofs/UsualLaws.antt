@@ -1,5 +1,5 @@
 -- The kinds that a proper sort may have.
-use Prim.Native.Nat.{ℕ, ◌-◌}
+use Prim.Native.Nat.{ℕ}
 use mathlib.Core.Path.{◌≡◌, refl}
 use mathlib.Core.Bool.{true, false, not}
 use lib.Dec.{eqb}

@@ -1,5 +1,4 @@
 -- Heads of two records: the first field that differs decides, else the lengths of their lists.
-use Prim.Native.Nat.{◌-◌}
 use mathlib.Core.Path.{◌≡◌, refl}
 use mathlib.Core.Bool.{false}
 use lib.Dec.{eqb}

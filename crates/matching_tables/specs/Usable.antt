@@ -1,7 +1,6 @@
 -- Sorts of a store by their numbers: what a walk over one sort, a list of sorts, or two of them asks. Definitions only.
 use Rattle.std.specs.Prelude.{ℕ, ◌+◌, ◌*◌, ◌≤◌, ◌<◌, Bool, ◌&&◌, List, length, eqb}
 use Rattle.record.specs.Number.{u16_at, numbers_at}
-use Rattle.record.specs.Names.{distinct}
 use Rattle.record.specs.Sort.{Sorts}
 use Rattle.record.specs.Record.{sorts_of}
 use Rattle.record.specs.Decode.{store_of, Stored, Distinct}

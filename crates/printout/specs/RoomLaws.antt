@@ -1,5 +1,5 @@
 -- How long rows, answers and lines are at most: a row fits `sort_room` bytes, a checked one `checked_room`, a line `line_room`.
-use Rattle.std.specs.Prelude.{ℕ, ◌+◌, ◌/◌, ◌≤◌, ◌<◌, ◌≡◌, refl, Bool, true, false, cond, List, ◌++◌, length, eqb, ltb}
+use Rattle.std.specs.Prelude.{ℕ, ◌/◌, ◌≤◌, ◌<◌, ◌≡◌, refl, Bool, true, false, cond, List, ◌++◌, length, eqb, ltb}
 use Rattle.std.proofs.Common.{ap, ltb-true, ltb-false}
 use native.Mathlib.Omega.{arith}
 use Rattle.std.proofs.Math.ListN.{length-append}

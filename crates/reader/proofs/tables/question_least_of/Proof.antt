@@ -1,9 +1,0 @@
--- The constant array is the list of the definition.
-use borrow.Author.Rules.{rules}
-use Rattle.reader.specs.Tables.{question_least_of}
-use Rattle.reader.proofs.tables.question_least_of.Statement.{statement}
-use Rattle.reader.proofs.tables.question_least_of.Tie as tie
-
-pub question-least-of-spec : {M : Type 1} → statement M
-unfolding question_least_of
-question-least-of-spec = tie.close (tie.spec (λ c. search rules) (λ c κs. search rules) (λ c. search rules))
