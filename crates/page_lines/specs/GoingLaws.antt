@@ -1,6 +1,6 @@
 -- The lines of the rows, some more at each step: what a step asks of a judged sheet's rows, and how far it comes.
-use Rattle.std.specs.Prelude.{ℕ, suc, ◌+◌, ◌*◌, ◌-◌, ◌≤◌, ◌<◌, ◌≡◌, refl, List, ◌++◌, length, get_or, take, ltb}
-use Rattle.std.proofs.Common.{sym, ap, subst, ◌∙◌, arith, add-one, ltb-true, ltb-false}
+use Rattle.std.specs.Prelude.{ℕ, ◌+◌, ◌*◌, ◌-◌, ◌≤◌, ◌<◌, ◌≡◌, refl, List, ◌++◌, length, get_or, take, ltb}
+use Rattle.std.proofs.Common.{sym, ap, ◌∙◌, arith, add-one, ltb-true, ltb-false}
 use Rattle.record.specs.Cases.{by_test}
 use Rattle.record.specs.Decode.{store_of}
 use Rattle.printout_sort.specs.Wrote.{Wrote, wrote_as, wrote-more, wrote_none, wrote-long}
@@ -12,7 +12,7 @@ use Rattle.page.specs.NumberedLaws.{above_low}
 use Rattle.page_lines.specs.declared.heights.Spot.{Spot}
 use Rattle.page_lines.specs.Heights.{height_in, HeightsAsk}
 use Rattle.page_lines.specs.LinesLaws.{lines-shift}
-use Rattle.page_lines.specs.Rows.{RowsJudged, inferred_in, checked_in, window_room, PageAsks, RowWindowAsks, GoneOn, number_of, Within, Going}
+use Rattle.page_lines.specs.Rows.{inferred_in, checked_in, window_room, PageAsks, RowWindowAsks, GoneOn, number_of, Within, Going}
 use Rattle.page_lines.specs.RowLaws.{row-line-is}
 
 ---------------------------------------------------------------- what is asked

@@ -1,12 +1,10 @@
 -- The laws of heights: a row by its code, the longer text, the rows above a line.
-use Rattle.std.specs.Prelude.{ℕ, zero, suc, ◌+◌, ◌*◌, ◌-◌, ◌/◌, ◌≤◌, ◌<◌, ◌≡◌, refl, List, length, get_or, leb, ltb}
-use Rattle.std.proofs.Common.{sym, ap, ap₂, ◌∙◌, arith, add-one, lt-ltb, le-ltb, le-leb}
+use Rattle.std.specs.Prelude.{ℕ, ◌+◌, ◌*◌, ◌-◌, ◌/◌, ◌≤◌, ◌<◌, ◌≡◌, refl, List, length, get_or}
+use Rattle.std.proofs.Common.{arith, add-one, lt-ltb, le-ltb, le-leb}
 use Rattle.std.proofs.lemmas.Bool.{lt-leb}
 use Rattle.printout_sort.specs.Text.{decimal}
-use Rattle.page.specs.Page.{larger}
 use Rattle.page.specs.Numbered.{above}
-use Rattle.page_lines.specs.declared.heights.Spot.{Spot}
-use Rattle.page_lines.specs.Heights.{length_by, height_by, height_in, HeightAsks, HeightsAsk, SpotIs}
+use Rattle.page_lines.specs.Heights.{length_by, height_by, height_in, HeightAsks, HeightsAsk}
 
 -- The length of a row with a sort, and of a refused one.
 pub length-sort : (z : List ℕ) (code : ℕ) → code < 65536 → get_or z code 0 ≡ length_by z code

@@ -10,20 +10,19 @@ use borrow.Author.Tests.{ltb-true, ltb-false}
 use Rattle.record.specs.Sort.{Sort}
 use Rattle.record.specs.Cases.{by_test}
 use Rattle.record.specs.Decode.{store_of}
-use Rattle.printout_sort.specs.Wrote.{Wrote, wrote_as, wrote-more, wrote-long}
-use Rattle.printout.specs.declared.whole.Piece.{Piece}
+use Rattle.printout_sort.specs.Wrote.{Wrote, wrote_as, wrote-more}
 use Rattle.printout.specs.Whole.{lines_from}
 use Rattle.printout.specs.WholeLaws.{lines_split}
 use Rattle.printout_text.specs.Text.{LinesBy}
 use Rattle.page.specs.Page.{padding, pages, table_lines}
 use Rattle.page.specs.Numbered.{blank_line, height_at, above, page_line}
-use Rattle.page.specs.NumberedLaws.{page-count, page-blank, page-line-length, above_low}
+use Rattle.page.specs.NumberedLaws.{page-count, page-blank, page-line-length}
 use Rattle.page_lines.specs.declared.heights.Spot.{Spot}
 use Rattle.page_lines.specs.declared.rows.Reached.{Reached}
 use Rattle.page_lines.specs.Heights.{height_in, SpotIs}
 use Rattle.page_lines.specs.LineRoomLaws.{blank-lines-long}
 use Rattle.page_lines.specs.LinesLaws.{lines-shift}
-use Rattle.page_lines.specs.Rows.{RowsJudged, PageAsks, number_of, Within, RowsAsk, ReachedIs, LeastIs}
+use Rattle.page_lines.specs.Rows.{RowsJudged, PageAsks, number_of, Within, ReachedIs, LeastIs}
 use Rattle.page_lines.specs.RowLaws.{Words, above-is, above_most}
 use Rattle.page_lines.specs.GoingLaws.{going-below}
 use Rattle.page_lines.specs.Pages.{padding_of, BlanksIs, PageHas}

@@ -1,37 +1,33 @@
 -- Laws of the rows: sizes and heights by the table are those of the texts; windows and their pieces; lines of a row in the pages.
 use Prim.Native.Nat.{ℕ, zero, suc, ◌+◌, ◌*◌, ◌-◌, ◌/◌, ◌≤◌, ◌<◌}
-use Rattle.std.specs.Prelude.{◌≡◌, true, false, length, get_or, take, drop, leb, ltb}
+use Rattle.std.specs.Prelude.{◌≡◌, length, get_or, take, drop, leb, ltb}
 use Rattle.std.proofs.Math.Path.{refl, ap₂}
-use Rattle.std.proofs.Common.{sym, ap, subst, ◌∙◌, arith, add-one, length-append, length-drop, drop_of_length-le, get_or-take, drop-drop, length-take-le, ltb-true, ltb-false, leb-true, leb-false}
-use mathlib.Core.List.{List, [], ◌∷◌, ◌++◌, append-nil}
+use Rattle.std.proofs.Common.{sym, ap, subst, ◌∙◌, arith, add-one, length-append, drop_of_length-le, get_or-take, drop-drop, length-take-le, ltb-true, ltb-false}
+use mathlib.Core.List.{List, [], ◌++◌, append-nil}
 use Rattle.record.specs.Sort.{Sort}
 use Rattle.record.specs.Cases.{by_test}
 use Rattle.record.specs.Decode.{store_of}
-use Rattle.printout_sort.specs.Text.{ascii, decimal, text}
+use Rattle.printout_sort.specs.Text.{ascii}
 use Rattle.printout_sort.specs.Wrote.{Wrote, wrote_as, wrote-more, wrote_none, wrote-long}
-use Rattle.printout_sort.specs.Trees.{tree_at}
-use Rattle.printout_sort.specs.TreeLaws.{tree-at, text-asks}
 use Rattle.printout.specs.Lines.{row_text, refusal_text}
 use Rattle.printout.specs.LineAsks.{row_text_at, RowKnown}
 use Rattle.printout.specs.LineLaws.{row-sort, row-text-refused, row_at, refusal-length}
 use Rattle.printout.specs.Whole.{lines_from}
-use Rattle.printout.specs.WholeLaws.{lines_more, lines_split, lines_same}
+use Rattle.printout.specs.WholeLaws.{lines_more}
 use Rattle.printout_text.specs.NewlineLaws.{wrote-first}
-use Rattle.page.specs.Page.{line_of, larger}
+use Rattle.page.specs.Page.{line_of}
 use Rattle.page.specs.Numbered.{number_on, piece_on, row_line, inferred_of, checked_of, height_at, above, page_line}
 use Rattle.page.specs.LineLaws.{take_short, line-length, number-length}
-use Rattle.page.specs.NumberedLaws.{page-row, row-line-length, above_low}
-use Rattle.page_lines.specs.declared.heights.Spot.{Spot}
-use Rattle.page_lines.specs.declared.rows.Reached.{Reached}
+use Rattle.page.specs.NumberedLaws.{page-row}
 use Rattle.page_window.specs.declared.Window.{Window}
-use Rattle.page_lines.specs.Heights.{length_by, height_by, height_in, HeightAsks, HeightsAsk}
+use Rattle.page_lines.specs.Heights.{length_by, height_by, height_in}
 use Rattle.page_lines.specs.HeightLaws.{length-sort, length-refused}
 use Rattle.page_lines.specs.Line.{piece}
 use Rattle.page_lines.specs.LineRoomLaws.{decimal-few}
 use Rattle.page_lines.specs.LinesLaws.{lines-shift, lines_long}
-use Rattle.page_window.specs.Window.{SizesAre, WindowAsks, WindowIs}
+use Rattle.page_window.specs.Window.{SizesAre, WindowIs}
 use Rattle.page_window.specs.WindowLaws.{window-piece}
-use Rattle.page_lines.specs.Rows.{RowsJudged, inferred_in, checked_in, PageAsks, RowWindowAsks, seen, NextPiece, window_line, LeastIs, StretchIs, number_of}
+use Rattle.page_lines.specs.Rows.{RowsJudged, inferred_in, checked_in, seen, NextPiece, window_line, LeastIs, StretchIs, number_of}
 
 ---------------------------------------------------------------- how large heights are
 -- Entries of a table of u32s.

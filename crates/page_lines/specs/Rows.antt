@@ -1,5 +1,5 @@
 -- What writing the lines of rows asks and gives: windows of a row's two texts, some lines of a row, and the lines of all rows.
-use Rattle.std.specs.Prelude.{ℕ, suc, ◌+◌, ◌*◌, ◌-◌, ◌≤◌, ◌<◌, ◌≡◌, List, ◌++◌, length, get_or, take, drop}
+use Rattle.std.specs.Prelude.{ℕ, ◌+◌, ◌*◌, ◌-◌, ◌≤◌, ◌<◌, ◌≡◌, List, ◌++◌, length, get_or, take, drop}
 use Rattle.record.specs.Sort.{size}
 use Rattle.record.specs.Decode.{store_of, sort_at, Stored}
 use Rattle.printout_sort.specs.Text.{ascii, decimal}

@@ -1,12 +1,11 @@
 -- What `judge` leaves of an accepted sheet has pages, whose lines are those of the judgement; and what follows for a caller of `pages`.
-use Rattle.std.specs.Prelude.{ℕ, suc, ◌+◌, ◌*◌, ◌-◌, ◌≤◌, ◌<◌, ◌≡◌, refl, List, [], ◌++◌, length, get_or, take, ltb}
-use Rattle.std.proofs.Common.{sym, ap, ap₂, subst, ◌∙◌, arith, length-append, ltb-true, ltb-false}
+use Rattle.std.specs.Prelude.{ℕ, ◌+◌, ◌*◌, ◌-◌, ◌≤◌, ◌<◌, ◌≡◌, List, [], length, get_or, take, ltb}
+use Rattle.std.proofs.Common.{sym, ap, ap₂, ◌∙◌, arith, length-append, ltb-true, ltb-false}
 use Rattle.record.specs.Sort.{Sort, size}
-use Rattle.record.specs.Store.{padded}
 use Rattle.record.specs.Cases.{by_test}
-use Rattle.record.specs.Decode.{store_of, sort_at, Stored}
+use Rattle.record.specs.Decode.{store_of}
 use Rattle.record.specs.Entries.{stored-first}
-use Rattle.judge_rules.specs.Judged.{Judgement, sheet_refused, accepted, judged, records_after}
+use Rattle.judge_rules.specs.Judged.{Judgement, sheet_refused, accepted, judged}
 use Rattle.row_rules.specs.OutcomeLaws.{room-few}
 use Rattle.judge_rules.specs.JudgedLaws.{judged-store}
 use Rattle.judge_rules.specs.KnownLaws.{judged-rows-known}
@@ -14,13 +13,11 @@ use Rattle.check_rules.specs.Ranks.{smt_lib}
 use Rattle.verdicts.specs.declared.Outcome.TheVariants.{Accepted}
 use Rattle.verdicts.specs.Judge.{JudgeIs}
 use Rattle.printout_sort.specs.Text.{ascii}
-use Rattle.printout_sort.specs.Trees.{tree_at}
 use Rattle.printout_sort.specs.TreeLaws.{tree-at}
 use Rattle.printout_sort.specs.Wrote.{Wrote, wrote_as}
 use Rattle.printout.specs.declared.kinds.Totals.{Totals}
 use Rattle.printout.specs.declared.whole.Piece.{Piece}
 use Rattle.printout.specs.Lines.{refusal_line, refusal_text}
-use Rattle.printout.specs.LineAsks.{RowKnown}
 use Rattle.printout.specs.Printed.{program_lengths}
 use Rattle.printout.specs.Kinds.{KindsAre}
 use Rattle.printout.specs.Whole.{lines_from}
@@ -31,9 +28,9 @@ use Rattle.printout_text.specs.TextLaws.{done_none, done_end, whole-written}
 use Rattle.page.specs.Page.{pages, table_lines, paged}
 use Rattle.page.specs.Numbered.{page_line, page_count, page_line_of}
 use Rattle.page.specs.NumberedLaws.{lines-paged}
-use Rattle.page_window.specs.Window.{SizesAre, SizesAsk}
+use Rattle.page_window.specs.Window.{SizesAsk}
 use Rattle.page_lines.specs.Rows.{RowsJudged, window_room, PageAsks}
-use Rattle.page_text.specs.PageText.{PageTextIs, KnownAsk, KnownIs, RaisedIs, PageStore, PageSizesAre}
+use Rattle.page_text.specs.PageText.{PageTextIs, KnownIs, RaisedIs, PageStore, PageSizesAre}
 
 ---------------------------------------------------------------- what judging leaves
 pub page-store : (s b p w g : List ℕ) → JudgeIs s program_lengths b p w g Accepted → (k k' : List ℕ) (r : Totals) → KindsAre s k k' r → PageStore s b p w r.terms

@@ -26,10 +26,10 @@ pub bound-look : {st : List Sort} {l : List ℕ} {θ : Map} → Images st l θ �
 bound-look {st} {l} {θ} i v = ap is_some (i.look v) ∙ some-image st (get_or l v 0)
 
 -- For every test of names and every map that the tables stand for.
-pub settled-tests : {st : List Sort} {prm imgs : List ℕ} {f : ℕ → Bool} {θ : Map} → Told prm f → Images st imgs θ
+pub settled-tests : {st : List Sort} (prm : List ℕ) {imgs : List ℕ} {f : ℕ → Bool} {θ : Map} → Told prm f → Images st imgs θ
     → Tests (passing Settled prm imgs) (settled f θ) (settled_all f θ)
 unfolding settled
-settled-tests {st} {prm} {imgs} {f} {θ} t i =
+settled-tests {st} prm {imgs} {f} {θ} t i =
     record {
       vars = λ v. rw (t v, bound-look i v) refl;
       pars = λ us b. refl;

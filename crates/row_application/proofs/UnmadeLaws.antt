@@ -104,8 +104,8 @@ module _ (b p : List ℕ) (n : ℕ) (l d : List ℕ) (m x y : ℕ) {t : Bool} (g
   pub counts-none : t ≡ false → false ≡ (owned (table_map (store_of b p n) l d m) && not (parless_all sorts))
   counts-none e = rw (sym g ∙ e) refl
 
-  pub counts_some : t ≡ true → {l' d' o' : List ℕ} {r : Bool} → AllEachIs b p n Parless l' d' x y o' r → not r ≡ (owned (table_map (store_of b p n) l d m) && not (parless_all sorts))
-  counts_some e {l'} {d'} w = rw (sym g ∙ e) (ap not (w.answer ∙ every_all-is (parless-tests {l = l'} {d = d'}) sorts))
+  pub counts_some : t ≡ true → (l' d' : List ℕ) {o' : List ℕ} {r : Bool} → AllEachIs b p n Parless l' d' x y o' r → not r ≡ (owned (table_map (store_of b p n) l d m) && not (parless_all sorts))
+  counts_some e l' d' w = rw (sym g ∙ e) (ap not (w.answer ∙ every_all-is (parless-tests l' d') sorts))
 
 ---------------------------------------------------------------- the call
 -- As many names are bound.
