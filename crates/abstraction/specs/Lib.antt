@@ -1,17 +1,4 @@
 pub mod Abstraction
-pub mod AbstractionTheorems
 pub mod AbstractionTest
-pub mod TestTheorems
-pub mod SheetTheorems
-pub mod LimitLaws
 pub mod Names
-pub mod NameLaws
-pub mod RankNames
-pub mod CheckedNames
-pub mod InferredNames
-pub mod NameTheorems
 pub mod SheetTest
-pub mod FullLaws
-pub mod BatchTheorems
-pub mod Examples
-pub mod BatchExample

@@ -22,7 +22,7 @@ use Rattle.record.specs.SortLists.{memb_all, memb-intern-all, Starts, starts-int
 use Rattle.record.specs.StoreLaws.{store_of-length}
 use Rattle.record.specs.Entries.{store-ordered}
 use Rattle.store.specs.Contract.{Untouched}
-use Rattle.substitution.specs.SubstitutionLaws.{count-applied}
+use Rattle.substitution.proofs.SubstitutionLaws.{count-applied}
 use Rattle.apply_walk.specs.Lists.{Numbers, numbers_of, Has, ReadAsks}
 use Rattle.apply_walk.specs.Draft.{fields_in}
 use Rattle.apply_walk.specs.Images.{images_of}

@@ -22,7 +22,7 @@ use Rattle.record.specs.SortLists.{below_suc, Ordered, Starts, memb-at, memb-sta
 use Rattle.record.specs.declared.SortRecord.{SortRecord}
 use Rattle.store.specs.Entry.{EntryIs}
 use Rattle.substitution.specs.Substitution.{Map, left, under, apply, apply_all}
-use Rattle.substitution.specs.SubstitutionLaws.{apply-var, apply-var-free}
+use Rattle.substitution.proofs.SubstitutionLaws.{apply-var, apply-var-free}
 use Rattle.apply_walk.specs.declared.Replaced.{Replaced}
 use Rattle.apply_walk.specs.declared.Replaced.TheVariants.{Is as Found, Stuck}
 use Rattle.apply_walk.specs.Lists.{Numbers, numbers_of, held}

@@ -21,7 +21,7 @@ use Rattle.record.specs.declared.SortRecord.{SortRecord}
 use Rattle.store.specs.Entry.{EntryIs}
 use Rattle.store.specs.declared.Interned.{Interned}
 use Rattle.substitution.specs.Substitution.{apply_all}
-use Rattle.substitution.specs.SubstitutionLaws.{count-applied}
+use Rattle.substitution.proofs.SubstitutionLaws.{count-applied}
 use Rattle.apply_walk.specs.Lists.{Numbers, numbers_of, held, unbound, Has, SameAsks}
 use Rattle.apply_walk.specs.Draft.{fields_in}
 use Rattle.apply_walk.specs.Images.{images_of, unbound-left}

@@ -23,7 +23,7 @@ use Rattle.record.specs.Sizes.{count-sorts}
 use Rattle.record.specs.declared.SortRecord.{SortRecord}
 use Rattle.store.specs.Entry.{EntryIs}
 use Rattle.substitution.specs.Substitution.{Map, find, bound, left, under, apply, apply_all}
-use Rattle.substitution.specs.SubstitutionLaws.{apply-var, apply-var-free, left-member, count-applied, left-few}
+use Rattle.substitution.proofs.SubstitutionLaws.{apply-var, apply-var-free, left-member, count-applied, left-few}
 use Rattle.apply_walk.specs.Lists.{unbound}
 use Rattle.apply_walk.specs.Images.{image_at, image_number, images_of, ImageTable, find-images, unbound-left}
 use Rattle.apply_walk.specs.Made.{intern-first}

@@ -7,7 +7,7 @@ use Rattle.record.specs.Sort.{Sort, Sorts}
 use Rattle.record.specs.Record.{leaf}
 use Rattle.record.specs.SortLists.{Starts, starts-at}
 use Rattle.substitution.specs.Substitution.{Map, empty, bind, find, bound, left, apply, apply_all}
-use Rattle.substitution.specs.SubstitutionLaws.{apply-agree, apply_all-agree}
+use Rattle.substitution.proofs.SubstitutionLaws.{apply-agree, apply_all-agree}
 use Rattle.apply_walk.specs.Lists.{unbound}
 
 -- The image that an entry of the table stands for, over the sorts st.

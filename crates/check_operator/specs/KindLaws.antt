@@ -11,7 +11,7 @@ use Rattle.record.specs.Cases.{both_ways}
 use Rattle.record.specs.declared.SortRecord.{SortRecord}
 use Rattle.store.specs.Entry.{EntryIs}
 use Rattle.check_rules.specs.Rank.{vector}
-use Rattle.check_rules.specs.FitLaws.{vector-when}
+use Rattle.check_rules.proofs.FitLaws.{vector-when}
 use Rattle.check_operator.specs.Rule.{plain_sort}
 
 -- A record whose map is 1 is a sort without parts.

@@ -8,7 +8,7 @@ use lib.ListN.{length, get_or}
 use lib.Dec.{eqb, ltb}
 use borrow.Author.Tests.{eq-eqb, ne_eqb, lt-ltb, le-ltb}
 use Rattle.record.specs.Number.{u16_at, numbers_at}
-use Rattle.record.specs.Sort.{Sort, var, par, node, end, ◌then◌, array, bitvec, kind_of, count, same}
+use Rattle.record.specs.Sort.{Sort, var, par, node, end, ◌then◌, array, bitvec, kind_of, same}
 use Rattle.record.specs.SortLaws.{same_refl}
 use Rattle.record.specs.Record.{Fields, maps, map_of, leaf, sorts_of}
 use Rattle.record.specs.Decode.{store_of, sort_at, Stored}

@@ -9,10 +9,10 @@ use Rattle.record.specs.Sort.{Sort, Sorts, var, par, node, end, ◌then◌, bitv
 use Rattle.record.specs.SortLaws.{same-sound}
 use Rattle.record.specs.Cases.{and_left, conj, and-true, by_test, by_option, none-some, some_inj}
 use Rattle.substitution.specs.Substitution.{Map, empty, bind, find, bound, apply, apply_all, through, occurs, occurs_any}
-use Rattle.substitution.specs.SubstitutionLaws.{apply-proper, find-through}
+use Rattle.substitution.proofs.SubstitutionLaws.{apply-proper, find-through}
 use Rattle.substitution.specs.Premises.{proper, proper_all, proper_map, parless, parless_all}
 use Rattle.substitution.specs.Matching.{matches_all}
-use Rattle.substitution.specs.MatchingLaws.{match_all-binds, match_all-proper, match_all-target-moved}
+use Rattle.substitution.proofs.MatchingLaws.{match_all-binds, match_all-proper, match_all-target-moved}
 use Rattle.check_rules.specs.Rank.{Rank, rank, repeated, stretched, patterns, same_count, counts, vector, vectors_in, every_name, rank_answer, fit, some_counts}
 
 ---------------------------------------------------------------- only the count of the arguments chooses the patterns

@@ -13,7 +13,7 @@ use Rattle.printout_text.specs.TextLaws.{text-done, text-whole}
 use Rattle.printout_text.specs.NewlineLaws.{wrote-first, line-newline, lines-counted}
 use Rattle.page.specs.Page.{paged}
 use Rattle.page.specs.Numbered.{page_count}
-use Rattle.page.specs.NumberedLaws.{page-newline}
+use Rattle.page.proofs.NumberedLaws.{page-newline}
 use Rattle.page_text.specs.PageText.{PageTextIs}
 use Rattle.page_text.specs.PageLeftLaws.{pages-done, pages-whole}
 use Rattle.exports.specs.Exports.{EndBy, EndIs, PageEndIs}

@@ -16,7 +16,7 @@ use Rattle.record.specs.Decode.{sort_at}
 use Rattle.record.specs.declared.SortRecord.{SortRecord}
 use Rattle.store.specs.Entry.{EntryAsks, EntryIs, EntryHas, KindHas}
 use Rattle.store.specs.Walk.{entry-asks}
-use Rattle.substitution.specs.MatchWithLaws.{param-kind, vector-kind}
+use Rattle.substitution.proofs.MatchWithLaws.{param-kind, vector-kind}
 use Rattle.row_rules.specs.declared.Cause.TheVariants.{Panics}
 use Rattle.row_rules.specs.Verdict.{Verdict, sort, refused}
 use Rattle.infer_rules.specs.Inferred.{first_vector, concat_unknown, concat_from}

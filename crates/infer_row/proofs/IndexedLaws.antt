@@ -16,7 +16,7 @@ use Rattle.record.specs.Record.{Fields}
 use Rattle.record.specs.Decode.{sort_at}
 use Rattle.record.specs.declared.SortRecord.{SortRecord}
 use Rattle.store.specs.Entry.{EntryIs, EntryHas}
-use Rattle.substitution.specs.MatchWithLaws.{param-kind}
+use Rattle.substitution.proofs.MatchWithLaws.{param-kind}
 use Rattle.row_rules.specs.declared.Cause.TheVariants.{Panics}
 use Rattle.row_rules.specs.Verdict.{Verdict, sort, refused, need}
 use Rattle.infer_rules.specs.Inferred.{extracted, resized_of, first_of, indexed}

@@ -1,16 +1,4 @@
 pub mod Rows
-pub mod RowLaws
-pub mod GivenLaws
-pub mod PlainLaws
 pub mod Questions
 pub mod QuestionLaws
-pub mod CauseTheorems
-pub mod QuestionTheorems
 pub mod Judged
-pub mod JudgedLaws
-pub mod KnownLaws
-pub mod CarriedLaws
-pub mod TwoRoutes
-pub mod RowExactly
-pub mod RoutesExample
-pub mod Examples

@@ -15,7 +15,7 @@ use Rattle.record.specs.declared.SortRecord.{SortRecord}
 use Rattle.store.specs.Entry.{EntryHas}
 use Rattle.substitution.specs.MatchWith.{param_eq}
 use Rattle.substitution.specs.Compatible.{compatible, compatible_all}
-use Rattle.substitution.specs.CompatibleLaws.{compatible-var, compatible-to-var, compatible-par, compatible-to-par}
+use Rattle.substitution.proofs.CompatibleLaws.{compatible-var, compatible-to-var, compatible-par, compatible-to-par}
 use Rattle.matching_tables.specs.Usable.{sorts_at, same_head, PairAsks, PairsAsk}
 use Rattle.matching_tables.specs.Notes.{PairIs, Pairs}
 use Rattle.matching_with.specs.Met.{CompatibleAt}

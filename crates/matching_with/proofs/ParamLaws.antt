@@ -11,7 +11,7 @@ use Rattle.record.specs.Cases.{by_test}
 use Rattle.record.specs.Sort.{Sort, kind_of, same}
 use Rattle.record.specs.Decode.{store_of, sort_at}
 use Rattle.substitution.specs.MatchWith.{param_eq}
-use Rattle.substitution.specs.MatchWithLaws.{param-kind, vector-kind}
+use Rattle.substitution.proofs.MatchWithLaws.{param-kind, vector-kind}
 use Rattle.matching_tables.specs.declared.Matched.TheVariants.{Fits, Misfits}
 use Rattle.matching_tables.specs.Usable.{PairAsks}
 use Rattle.matching_tables.specs.Contract.{BindIs}

@@ -18,7 +18,7 @@ use Rattle.store.specs.Entry.{EntryHas}
 use Rattle.substitution.specs.Substitution.{Map}
 use Rattle.substitution.specs.Matching.{keep}
 use Rattle.substitution.specs.MatchWith.{param_eq, match_with, match_all_with}
-use Rattle.substitution.specs.MatchWithLaws.{match_arms, match_with-is, match_with-equal}
+use Rattle.substitution.proofs.MatchWithLaws.{match_arms, match_with-is, match_with-equal}
 use Rattle.matching_with.specs.declared.Turn.TheVariants.{Holds, Fails}
 use Rattle.matching_tables.specs.Tables.{Lists}
 use Rattle.matching_tables.specs.TableLaws.{listed-is, listed-some, listed-none}
@@ -27,7 +27,7 @@ use Rattle.matching_tables.specs.Contract.{AllListed}
 use Rattle.matching_with.specs.Contract.{TurnIs, Meeting, Opened, Passed, Parted}
 use Rattle.matching_tables.specs.Entered.{other-number, entry-var, entry-par, entry-node, entry-name, entry-names, entry-once, entry-own, entry-size, entry-body, head-same}
 use Rattle.matching_tables.specs.WalkLaws.{both-parts, both-fall, head-differs}
-use Rattle.substitution.specs.MatchingLaws.{keep-none, and_none}
+use Rattle.substitution.proofs.MatchingLaws.{keep-none, and_none}
 
 -- Lists of different lengths never match.
 uneven : (ns : List ℕ) (ps ts : Sorts) (m : Map) → (count ps ≡ count ts → ⊥) → match_all_with ns ps ts m ≡ none

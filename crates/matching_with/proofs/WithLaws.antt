@@ -15,7 +15,7 @@ use Rattle.record.specs.SortLaws.{same_refl}
 use Rattle.record.specs.Decode.{store_of, sort_at}
 use Rattle.substitution.specs.Substitution.{Map, bind, find}
 use Rattle.substitution.specs.Matching.{keep}
-use Rattle.substitution.specs.MatchingLaws.{keep-test, keep-rest, and_then-middle}
+use Rattle.substitution.proofs.MatchingLaws.{keep-test, keep-rest, and_then-middle}
 use Rattle.substitution.specs.MatchWith.{param_eq, meet_with, all_members, towards, match_with, match_all_with}
 use Rattle.matching_tables.specs.declared.Matched.{Matched}
 use Rattle.matching_tables.specs.declared.Matched.TheVariants.{Fits, Misfits}

@@ -1,12 +1,3 @@
 pub mod Page
 pub mod Numbered
 pub mod Back
-pub mod LineLaws
-pub mod EndLaws
-pub mod RowTheorems
-pub mod EachLine
-pub mod NumberedLaws
-pub mod ReadLaws
-pub mod PageTheorems
-pub mod SheetTheorems
-pub mod Examples

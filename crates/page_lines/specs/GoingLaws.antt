@@ -8,7 +8,7 @@ use Rattle.printout_sort.specs.TreeLaws.{text-asks}
 use Rattle.printout.specs.Whole.{lines_from}
 use Rattle.printout.specs.WholeLaws.{lines_split}
 use Rattle.page.specs.Numbered.{row_line, above, page_line}
-use Rattle.page.specs.NumberedLaws.{above_low}
+use Rattle.page.proofs.NumberedLaws.{above_low}
 use Rattle.page_lines.specs.declared.heights.Spot.{Spot}
 use Rattle.page_lines.specs.Heights.{height_in, HeightsAsk}
 use Rattle.page_lines.specs.LinesLaws.{lines-shift}

@@ -16,7 +16,7 @@ use Rattle.printout.specs.WholeLaws.{lines_split}
 use Rattle.printout_text.specs.Text.{LinesBy}
 use Rattle.page.specs.Page.{padding, pages, table_lines}
 use Rattle.page.specs.Numbered.{blank_line, height_at, above, page_line}
-use Rattle.page.specs.NumberedLaws.{page-count, page-blank, page-line-length}
+use Rattle.page.proofs.NumberedLaws.{page-count, page-blank, page-line-length}
 use Rattle.page_lines.specs.declared.heights.Spot.{Spot}
 use Rattle.page_lines.specs.declared.rows.Reached.{Reached}
 use Rattle.page_lines.specs.Heights.{height_in, SpotIs}

@@ -17,8 +17,8 @@ use Rattle.printout.specs.WholeLaws.{lines_more}
 use Rattle.printout_text.specs.NewlineLaws.{wrote-first}
 use Rattle.page.specs.Page.{line_of}
 use Rattle.page.specs.Numbered.{number_on, piece_on, row_line, inferred_of, checked_of, height_at, above, page_line}
-use Rattle.page.specs.LineLaws.{take_short, line-length, number-length}
-use Rattle.page.specs.NumberedLaws.{page-row}
+use Rattle.page.proofs.LineLaws.{take_short, line-length, number-length}
+use Rattle.page.proofs.NumberedLaws.{page-row}
 use Rattle.page_window.specs.declared.Window.{Window}
 use Rattle.page_lines.specs.Heights.{length_by, height_by, height_in}
 use Rattle.page_lines.specs.HeightLaws.{length-sort, length-refused}

@@ -6,9 +6,9 @@ use Rattle.record.specs.Cases.{by_test}
 use Rattle.record.specs.Decode.{store_of}
 use Rattle.record.specs.Entries.{stored-first}
 use Rattle.judge_rules.specs.Judged.{Judgement, sheet_refused, accepted, judged}
-use Rattle.row_rules.specs.OutcomeLaws.{room-few}
-use Rattle.judge_rules.specs.JudgedLaws.{judged-store}
-use Rattle.judge_rules.specs.KnownLaws.{judged-rows-known}
+use Rattle.row_rules.proofs.OutcomeLaws.{room-few}
+use Rattle.judge_rules.proofs.JudgedLaws.{judged-store}
+use Rattle.judge_rules.proofs.KnownLaws.{judged-rows-known}
 use Rattle.check_rules.specs.Ranks.{smt_lib}
 use Rattle.verdicts.specs.declared.Outcome.TheVariants.{Accepted}
 use Rattle.verdicts.specs.Judge.{JudgeIs}
@@ -27,7 +27,7 @@ use Rattle.printout_text.specs.LeftLaws.{found}
 use Rattle.printout_text.specs.TextLaws.{done_none, done_end, whole-written}
 use Rattle.page.specs.Page.{pages, table_lines, paged}
 use Rattle.page.specs.Numbered.{page_line, page_count, page_line_of}
-use Rattle.page.specs.NumberedLaws.{lines-paged}
+use Rattle.page.proofs.NumberedLaws.{lines-paged}
 use Rattle.page_window.specs.Window.{SizesAsk}
 use Rattle.page_lines.specs.Rows.{RowsJudged, window_room, PageAsks}
 use Rattle.page_text.specs.PageText.{PageTextIs, KnownIs, RaisedIs, PageStore, PageSizesAre}

@@ -16,13 +16,13 @@ use Rattle.record.specs.Cases.{and_left, and_right, by_test, below_other}
 use Rattle.sheet.specs.Sheet.{Sheet, Lengths, QuestionFields}
 use Rattle.substitution.specs.Premises.{usual, proper, proper_all}
 use Rattle.check_rules.specs.Ranks.{smt_lib}
-use Rattle.check_rules.specs.RankSound.{smt_lib-sound}
+use Rattle.check_rules.proofs.RankSound.{smt_lib-sound}
 use Rattle.check_rules.specs.Checked.{carried}
 use Rattle.judge_rules.specs.Judged.{Judgement, sheet_refused, accepted, judged, rows_after, answers_after}
 use Rattle.judge_rules.specs.QuestionLaws.{question_at}
-use Rattle.judge_rules.specs.JudgedLaws.{judged-read, judged-counts, judged-fits}
-use Rattle.judge_rules.specs.KnownLaws.{judged-rows-known, judged-answers-known}
-use Rattle.judge_rules.specs.CarriedLaws.{judged-carried}
+use Rattle.judge_rules.proofs.JudgedLaws.{judged-read, judged-counts, judged-fits}
+use Rattle.judge_rules.proofs.KnownLaws.{judged-rows-known, judged-answers-known}
+use Rattle.judge_rules.proofs.CarriedLaws.{judged-carried}
 use Rattle.verdicts.specs.declared.Outcome.TheVariants.{Accepted}
 use Rattle.verdicts.specs.Judge.{outcome_of, Reads, ReadsBack, JudgeIs}
 use Rattle.printout_sort.specs.Trees.{sort_room, checked_room}

@@ -5,7 +5,7 @@ use Rattle.reader.specs.Reader.{refusal_number}
 use Rattle.sheet.specs.Sheet.{Lengths, QuestionFields}
 use Rattle.check_rules.specs.Ranks.{smt_lib}
 use Rattle.judge_rules.specs.Judged.{Judgement, sheet_refused, accepted, judged}
-use Rattle.judge_rules.specs.JudgedLaws.{judged-counts}
+use Rattle.judge_rules.proofs.JudgedLaws.{judged-counts}
 use Rattle.printout.specs.Lines.{refusal_line}
 use Rattle.printout.specs.Printed.{kinds_of, printed}
 use Rattle.printout.specs.Whole.{lines_from}

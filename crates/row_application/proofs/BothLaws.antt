@@ -13,7 +13,7 @@ use Rattle.record.specs.SortLaws.{same-sound, same-complete}
 use Rattle.record.specs.Cases.{or_left, or_right, three, eqb-self, by_test, none-some, some_inj, clash}
 use Rattle.substitution.specs.Substitution.{Map, empty, bind, find}
 use Rattle.substitution.specs.Matching.{keep, meet, matches, matches_all, listed_in}
-use Rattle.substitution.specs.MatchingLaws.{keep-test, keep-rest, and_then-middle, match_all-extends}
+use Rattle.substitution.proofs.MatchingLaws.{keep-test, keep-rest, and_then-middle, match_all-extends}
 use Rattle.substitution.specs.MatchWith.{param_eq, meet_with, match_with, match_all_with}
 use Rattle.row_application.specs.Contract.{owned}
 

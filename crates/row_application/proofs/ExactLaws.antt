@@ -18,7 +18,7 @@ use Rattle.record.specs.StoreLaws.{sort-node, sorts-one}
 use Rattle.store.specs.Entry.{SizeHas}
 use Rattle.store.specs.Walk.{size-pos}
 use Rattle.substitution.specs.Substitution.{Map, empty}
-use Rattle.substitution.specs.SubstitutionLaws.{apply-empty}
+use Rattle.substitution.proofs.SubstitutionLaws.{apply-empty}
 use Rattle.substitution.specs.Premises.{parless, any_name, named, named_all}
 use Rattle.substitution.specs.Matching.{and_then, matches, matches_all}
 use Rattle.matching_tables.specs.Usable.{sorts_at, PairsAsk}

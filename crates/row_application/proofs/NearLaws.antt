@@ -12,12 +12,12 @@ use Rattle.record.specs.Sort.{Sort, Sorts, var, par, node, end, ◌then◌, same
 use Rattle.record.specs.SortLaws.{same-sound, same-complete}
 use Rattle.record.specs.Cases.{three, by_test, by_option, none-some, some_inj, clash}
 use Rattle.substitution.specs.Substitution.{Map, empty, bind, find, apply}
-use Rattle.substitution.specs.SubstitutionLaws.{apply-var, apply-var-free}
+use Rattle.substitution.proofs.SubstitutionLaws.{apply-var, apply-var-free}
 use Rattle.substitution.specs.Premises.{parless}
 use Rattle.substitution.specs.Matching.{keep, meet, matches, matches_all, listed_in}
-use Rattle.substitution.specs.MatchingLaws.{keep-test, keep-rest, and_then-middle}
+use Rattle.substitution.proofs.MatchingLaws.{keep-test, keep-rest, and_then-middle}
 use Rattle.substitution.specs.MatchWith.{param_eq, meet_with, match_with, match_all_with}
-use Rattle.check_rules.specs.FitLaws.{apply-like}
+use Rattle.check_rules.proofs.FitLaws.{apply-like}
 
 -- What a map gives the name v, but for its own variable.
 unfoldable unowned : ℕ → Option Sort → Option Sort

@@ -8,10 +8,10 @@ use lib.Dec.{eqb}
 use Rattle.record.specs.Cases.{and-true, by_option, none-some, clash}
 use Rattle.record.specs.Sort.{Sort, Sorts, var, par, node, end, ◌then◌}
 use Rattle.substitution.specs.Substitution.{Map, empty, find}
-use Rattle.substitution.specs.SubstitutionLaws.{parless-named, apply-empty}
+use Rattle.substitution.proofs.SubstitutionLaws.{parless-named, apply-empty}
 use Rattle.substitution.specs.Premises.{parless, parless_all}
 use Rattle.substitution.specs.Matching.{matches, matches_all, Within}
-use Rattle.substitution.specs.MatchingLaws.{keep-rest, and_then-middle, match-sound, match-within, match-self}
+use Rattle.substitution.proofs.MatchingLaws.{keep-rest, and_then-middle, match-sound, match-within, match-self}
 use Rattle.check_rules.specs.Checked.{value, values, settled, settled_all}
 use Rattle.row_application.specs.Contract.{NoNames}
 

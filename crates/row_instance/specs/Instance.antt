@@ -14,7 +14,7 @@ use Rattle.record.specs.Cases.{and_left, and_right}
 use Rattle.record.specs.StoreLaws.{store_of-length}
 use Rattle.store.specs.Good.{Good}
 use Rattle.substitution.specs.Substitution.{Map, find, or_else, left, under, apply, apply_all}
-use Rattle.substitution.specs.SubstitutionLaws.{count-applied, left-few}
+use Rattle.substitution.proofs.SubstitutionLaws.{count-applied, left-few}
 use Rattle.apply_walk.specs.Images.{image_at, Images, images-apply}
 use Rattle.apply_walk.specs.Contract.{answer_at}
 use Rattle.apply.specs.declared.Applied.{Applied}

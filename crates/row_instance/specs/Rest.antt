@@ -14,7 +14,7 @@ use Rattle.record.specs.Codec.{length-numbers_at}
 use Rattle.record.specs.Sizes.{count-sorts}
 use Rattle.store.specs.Good.{Good}
 use Rattle.substitution.specs.Substitution.{Map, apply, apply_all}
-use Rattle.substitution.specs.SubstitutionLaws.{count-applied}
+use Rattle.substitution.proofs.SubstitutionLaws.{count-applied}
 use Rattle.apply_walk.specs.Images.{Images, images-apply_all}
 use Rattle.apply.specs.declared.Applied.{Applied}
 use Rattle.apply.specs.Contract.{function_at, ApplyAsks, FunctionAsks, AppliedIs}

@@ -4,6 +4,3 @@ pub mod Term
 pub mod Outcome
 pub mod Meaning
 pub mod FreeLaws
-pub mod OutcomeLaws
-pub mod TermLaws
-pub mod ParlessLaws

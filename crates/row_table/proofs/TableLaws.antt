@@ -33,13 +33,13 @@ use Rattle.row_rules.specs.declared.RowVerdict.TheVariants.{Sort as Number, Refu
 use Rattle.row_rules.specs.Verdict.{Verdict, code_of}
 use Rattle.row_rules.specs.Term.{Site, over_parts, consed, sorts_given}
 use Rattle.row_rules.specs.Outcome.{CodedStore, outcome, row_sort}
-use Rattle.row_rules.specs.OutcomeLaws.{refusal-large}
+use Rattle.row_rules.proofs.OutcomeLaws.{refusal-large}
 use Rattle.infer_rules.specs.Inferred.{inferred}
-use Rattle.infer_rules.specs.ParlessTheorems.{inferred-parless}
+use Rattle.infer_rules.proofs.ParlessTheorems.{inferred-parless}
 use Rattle.check_rules.specs.Checked.{checked}
 use Rattle.check_rules.specs.Ranks.{smt_lib}
-use Rattle.check_rules.specs.RankSound.{smt_lib-sound}
-use Rattle.check_rules.specs.ParlessTheorems.{checked-parless}
+use Rattle.check_rules.proofs.RankSound.{smt_lib-sound}
+use Rattle.check_rules.proofs.ParlessTheorems.{checked-parless}
 use Rattle.row_answer.specs.declared.Answer.{Answer}
 use Rattle.row_answer.specs.Answer.{AnswerIs}
 use Rattle.row_answer.specs.AnswerLaws.{answer-more, answer-number}

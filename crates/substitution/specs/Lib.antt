@@ -3,8 +3,3 @@ pub mod Premises
 pub mod Matching
 pub mod MatchWith
 pub mod Compatible
-pub mod Examples
-pub mod SubstitutionLaws
-pub mod MatchingLaws
-pub mod MatchWithLaws
-pub mod CompatibleLaws

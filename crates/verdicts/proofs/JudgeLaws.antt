@@ -22,7 +22,7 @@ use Rattle.matching_tables.specs.Tables.{Blank}
 use Rattle.check_rules.specs.Ranks.{smt_lib}
 use Rattle.row_answer.specs.Lent.{Lent}
 use Rattle.judge_rules.specs.Rows.{RowsSoFar, rows_of}
-use Rattle.judge_rules.specs.RowLaws.{rows-count}
+use Rattle.judge_rules.proofs.RowLaws.{rows-count}
 use Rattle.judge_rules.specs.Questions.{AnswersSoFar, answers_of}
 use Rattle.judge_rules.specs.QuestionLaws.{answers-count}
 use Rattle.judge_rules.specs.Judged.{Judgement, sheet_refused, accepted, judged_sheet, judged_by, judged, records_after, places_after, rows_after, answers_after}

@@ -1,0 +1,13 @@
+pub mod AbstractionTheorems
+pub mod BatchExample
+pub mod BatchTheorems
+pub mod CheckedNames
+pub mod Examples
+pub mod FullLaws
+pub mod InferredNames
+pub mod LimitLaws
+pub mod NameLaws
+pub mod NameTheorems
+pub mod RankNames
+pub mod SheetTheorems
+pub mod TestTheorems

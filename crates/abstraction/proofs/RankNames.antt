@@ -1,0 +1,223 @@
+-- Ranks under new names: they have no names but their own parameters, so what fits still fits, and the result is renamed.
+use Rattle.std.specs.Prelude.{ℕ, ◌-◌, ◌≡◌, Bool, ◌&&◌, eqb, leb}
+use Rattle.std.proofs.Math.Path.{refl, ap}
+use Rattle.std.proofs.Common.{sym, ap₂, ◌∙◌, eqb-true}
+use Rattle.std.proofs.Math.Bool.{true, false}
+use Rattle.std.proofs.lemmas.Bool.{false≢true}
+use mathlib.Core.List.{List, [], ◌∷◌}
+use Rattle.std.proofs.Math.Option.{Option, none, some}
+use Rattle.record.specs.Sort.{Sort, Sorts, var, par, node, end, ◌then◌, bitvec, number_in, same}
+use Rattle.record.specs.Cases.{and_left, and_right, and-true, three, by_test, by_option}
+use Rattle.substitution.specs.Substitution.{Map, empty, bind, find, bound, apply, apply_all, occurs_any}
+use Rattle.substitution.specs.Matching.{keep, and_then, meet, matches, matches_all}
+use Rattle.substitution.proofs.MatchingLaws.{match_all-binds}
+use Rattle.substitution.specs.Premises.{proper, parless_all}
+use Rattle.check_rules.specs.Rank.{Rank, rank, repeated, stretched, patterns, same_count, counts, vector, vectors_in, every_name, rank_answer, fit, or_next, first_fit, some_counts}
+use Rattle.check_rules.specs.RankLaws.{closed, closed_all, patterns-occurs, well_rank}
+use Rattle.check_rules.proofs.RankSound.{Sound}
+use Rattle.check_rules.specs.Ranks.{RankTable, done, row, ranks_in, standard, smt_lib}
+use Rattle.abstraction.specs.Names.{Renames, renamed, renamed_all, renamed_sort}
+use Rattle.abstraction.proofs.NameLaws.{eqb-names, leaf-renamed, same-renamed, same-stays, number-renamed}
+
+---------------------------------------------------------------- ranks without names
+-- No node of a sort has a name.
+unfoldable mutual
+  pub unnamed : Sort → Bool
+  unnamed (var v) = true
+  unnamed (par ns b) = unnamed b
+  unnamed (node k a w ss) = eqb a 0 && unnamed_all ss
+
+  pub unnamed_all : Sorts → Bool
+  unnamed_all end = true
+  unnamed_all (s then ss) = unnamed s && unnamed_all ss
+
+unfoldable pub unnamed_ranks : List Rank → Bool
+unfolding unnamed
+unnamed_ranks [] = true
+unnamed_ranks (rank rep vs ps r ∷ rs) = (unnamed_all ps && unnamed r) && unnamed_ranks rs
+
+-- What the law asks of ranks: they are sound, and no name stands in them.
+pub record PlainRanks (R : ℕ → List Rank) : Type 0 where
+  pub sounds : (n : ℕ) → Sound (R n)
+  pub nameless : (n : ℕ) → unnamed_ranks (R n) ≡ true
+
+unfoldable unnamed_table : RankTable → Bool
+unfolding unnamed_ranks
+unnamed_table done = true
+unnamed_table (row a b rs t) = unnamed_ranks rs && unnamed_table t
+
+table-nameless : (t : RankTable) (n : ℕ) → unnamed_table t ≡ true → unnamed_ranks (ranks_in t n) ≡ true
+unfolding unnamed_table unnamed_ranks ranks_in
+table-nameless done n e = refl
+table-nameless (row a b rs t) n e =
+    by_test (leb a n && leb n b)
+    (λ q. rw q (and_left (unnamed_ranks rs) (unnamed_table t) e))
+    (λ q. rw q (table-nameless t n (and_right (unnamed_ranks rs) (unnamed_table t) e)))
+
+pub smt_lib-nameless : (n : ℕ) → unnamed_ranks (smt_lib n) ≡ true
+unfolding smt_lib standard unnamed_table
+smt_lib-nameless n = table-nameless standard n refl
+
+-- A repeated pattern has no name either.
+repeated-unnamed : (p : Sort) (ts : Sorts) → unnamed p ≡ true → unnamed_all (repeated p ts) ≡ true
+unfolding unnamed repeated
+repeated-unnamed p end e = refl
+repeated-unnamed p (t then ts) e = and-true (unnamed p) (unnamed_all (repeated p ts)) e (repeated-unnamed p ts e)
+
+stretched-unnamed : (ps ts : Sorts) → unnamed_all ps ≡ true → unnamed_all (stretched ps ts) ≡ true
+unfolding unnamed stretched
+stretched-unnamed end ts e = refl
+stretched-unnamed (p then end) end e = e
+stretched-unnamed (p then end) (t then ts) e = and-true (unnamed p) (unnamed_all (repeated p ts)) (and_left (unnamed p) true e) (repeated-unnamed p ts (and_left (unnamed p) true e))
+stretched-unnamed (p then (q then ps)) end e = e
+stretched-unnamed (p then (q then ps)) (t then ts) e =
+    and-true (unnamed p) (unnamed_all (stretched (q then ps) ts)) (and_left (unnamed p) (unnamed_all (q then ps)) e)
+    (stretched-unnamed (q then ps) ts (and_right (unnamed p) (unnamed_all (q then ps)) e))
+
+patterns-unnamed : (rep : Bool) (ps ts : Sorts) → unnamed_all ps ≡ true → unnamed_all (patterns rep ps ts) ≡ true
+patterns-unnamed true ps ts e = stretched-unnamed ps ts e
+patterns-unnamed false ps ts e = e
+
+-- A map with its images renamed; the parameters of a rank stay.
+unfoldable images : (ℕ → ℕ) → Map → Map
+unfolding renamed
+images ρ empty = empty
+images ρ (bind v s m) = bind v (renamed ρ s) (images ρ m)
+
+abbrev images_found : (ℕ → ℕ) → Option Map → Option Map
+images_found ρ none = none
+images_found ρ (some m) = some (images ρ m)
+
+module _ (ρ : ℕ → ℕ) (N : Renames ρ) where
+  pub vector-renamed : (s : Sort) → vector (renamed ρ s) ≡ vector s
+  vector-renamed s = rw (number-renamed ρ N s) (same-stays ρ N s (bitvec (number_in s)) (leaf-renamed ρ N 9 (number_in s)))
+
+  find-images : (m : Map) (v : ℕ) → find (images ρ m) v ≡ renamed_sort ρ (find m v)
+  unfolding find images
+  find-images empty v = refl
+  find-images (bind u s m) v = by_test (eqb u v) (λ q. rw q refl) (λ q. rw q (find-images m v))
+
+  zero-name : (a c : ℕ) → eqb a 0 ≡ true → eqb a (ρ c) ≡ eqb a c
+  zero-name a c e = rw (eqb-true a 0 e) (ap (λ (z : ℕ). eqb z (ρ c)) (sym N.zero-stays) ∙ eqb-names ρ N 0 c)
+
+  keep-images : (b : Bool) (o : Option Map) → keep b (images_found ρ o) ≡ images_found ρ (keep b o)
+  keep-images true o = refl
+  keep-images false o = refl
+
+  meet-images : (o : Option Sort) (v : ℕ) (t : Sort) (m : Map) → meet (renamed_sort ρ o) v (renamed ρ t) (images ρ m) ≡ images_found ρ (meet o v t m)
+  unfolding images
+  meet-images none v t m = refl
+  meet-images (some s) v t m = rw (same-renamed ρ N s t) (keep-images (same s t) (some m))
+
+  then-images : (o : Option Map) (f : Map → Option Map) (g : Map → Option Map) → ((m : Map) → g (images ρ m) ≡ images_found ρ (f m)) → and_then (images_found ρ o) g ≡ images_found ρ (and_then o f)
+  then-images none f g h = refl
+  then-images (some m) f g h = h m
+
+  mutual
+    unfolding matches renamed unnamed
+
+    rank-matches : (p t : Sort) (m : Map) → unnamed p ≡ true → matches every_name p (renamed ρ t) (images ρ m) ≡ images_found ρ (matches every_name p t m)
+    rank-matches (var v) t m e = rw (find-images m v) (meet-images (find m v) v t m)
+    rank-matches (par us b) t m e = refl
+    rank-matches (node i a w ps) (var v) m e = refl
+    rank-matches (node i a w ps) (par us b) m e = refl
+    rank-matches (node i a w ps) (node j c x ts) m e =
+        rw (zero-name a c (and_left (eqb a 0) (unnamed_all ps) e), rank-matches_all ps ts m (and_right (eqb a 0) (unnamed_all ps) e))
+        (keep-images (eqb i j && eqb a c && eqb w x) (matches_all every_name ps ts m))
+
+    rank-matches_all : (ps ts : Sorts) (m : Map) → unnamed_all ps ≡ true → matches_all every_name ps (renamed_all ρ ts) (images ρ m) ≡ images_found ρ (matches_all every_name ps ts m)
+    rank-matches_all end end m e = refl
+    rank-matches_all end (t then ts) m e = refl
+    rank-matches_all (p then ps) end m e = refl
+    rank-matches_all (p then ps) (t then ts) m e =
+        rw (rank-matches p t m (and_left (unnamed p) (unnamed_all ps) e))
+        (then-images (matches every_name p t m) (λ n. matches_all every_name ps ts n) (λ n. matches_all every_name ps (renamed_all ρ ts) n)
+        (λ n. rank-matches_all ps ts n (and_right (unnamed p) (unnamed_all ps) e)))
+
+  -- The result of a rank, all of whose variables are bound.
+  mutual
+    unfolding closed apply renamed unnamed
+
+    closed-images : (m : Map) (ps : Sorts) (r : Sort) → ((v : ℕ) → occurs_any v ps ≡ true → bound m v ≡ true) → closed ps r ≡ true → unnamed r ≡ true
+        → apply (images ρ m) r ≡ renamed ρ (apply m r)
+    closed-images m ps (var v) b c u =
+        by_option (find m v)
+        (λ f. let z : false ≡ true = rw f at (b v c) in absurd (false≢true z))
+        (λ s f. rw (find-images m v, f) refl)
+    closed-images m ps (par ns r) b c u = absurd (false≢true c)
+    closed-images m ps (node k a w ss) b c u =
+        let z = eqb-true a 0 (and_left (eqb a 0) (unnamed_all ss) u) in
+        let y : a ≡ ρ a = z ∙ sym N.zero-stays ∙ ap ρ (sym z) in
+        ap₂ (λ (i : ℕ) (rs : Sorts). node k i w rs) y (closed_all-images m ps ss b c (and_right (eqb a 0) (unnamed_all ss) u))
+
+    closed_all-images : (m : Map) (ps rs : Sorts) → ((v : ℕ) → occurs_any v ps ≡ true → bound m v ≡ true) → closed_all ps rs ≡ true → unnamed_all rs ≡ true
+        → apply_all (images ρ m) rs ≡ renamed_all ρ (apply_all m rs)
+    closed_all-images m ps end b c u = refl
+    closed_all-images m ps (r then rs) b c u =
+        ap₂ (λ (x : Sort) (xs : Sorts). x then xs)
+        (closed-images m ps r b (and_left (closed ps r) (closed_all ps rs) c) (and_left (unnamed r) (unnamed_all rs) u))
+        (closed_all-images m ps rs b (and_right (closed ps r) (closed_all ps rs) c) (and_right (unnamed r) (unnamed_all rs) u))
+
+  vectors_in-images : (m : Map) → vectors_in (images ρ m) ≡ vectors_in m
+  unfolding vectors_in images
+  vectors_in-images empty = refl
+  vectors_in-images (bind v s m) = rw (vector-renamed s, vectors_in-images m) refl
+
+  -- Only the count of the arguments chooses the patterns.
+  repeated-count : (p : Sort) (ts : Sorts) → repeated p (renamed_all ρ ts) ≡ repeated p ts
+  unfolding repeated renamed
+  repeated-count p end = refl
+  repeated-count p (t then ts) = ap (p then◌) (repeated-count p ts)
+
+  stretched-count : (ps ts : Sorts) → stretched ps (renamed_all ρ ts) ≡ stretched ps ts
+  unfolding stretched renamed
+  stretched-count end ts = refl
+  stretched-count (p then end) end = refl
+  stretched-count (p then end) (t then ts) = ap (p then◌) (repeated-count p ts)
+  stretched-count (p then (q then ps)) end = refl
+  stretched-count (p then (q then ps)) (t then ts) = ap (p then◌) (stretched-count (q then ps) ts)
+
+  patterns-count : (rep : Bool) (ps ts : Sorts) → patterns rep ps (renamed_all ρ ts) ≡ patterns rep ps ts
+  patterns-count true ps ts = stretched-count ps ts
+  patterns-count false ps ts = refl
+
+  same-count : (ps ts : Sorts) → same_count ps (renamed_all ρ ts) ≡ same_count ps ts
+  unfolding same_count renamed
+  same-count end end = refl
+  same-count end (t then ts) = refl
+  same-count (p then ps) end = refl
+  same-count (p then ps) (t then ts) = same-count ps ts
+
+  pub counts-renamed : (rs : List Rank) (ts : Sorts) → some_counts rs (renamed_all ρ ts) ≡ some_counts rs ts
+  unfolding some_counts counts
+  counts-renamed [] ts = refl
+  counts-renamed (rank rep vs ps r ∷ rs) ts = rw (patterns-count rep ps ts, same-count (patterns rep ps ts) ts, counts-renamed rs ts) refl
+
+  -- A rank that fits still fits, one that does not still does not.
+  fit-renamed : (rep vs : Bool) (ps : Sorts) (r : Sort) (ts : Sorts) → closed ps r ≡ true → unnamed_all ps ≡ true → unnamed r ≡ true
+      → fit (rank rep vs ps r) (renamed_all ρ ts) ≡ renamed_sort ρ (fit (rank rep vs ps r) ts)
+  unfolding fit images
+  fit-renamed rep vs ps r ts c u w =
+      rw (patterns-count rep ps ts, rank-matches_all (patterns rep ps ts) ts empty (patterns-unnamed rep ps ts u))
+      (by_option (matches_all every_name (patterns rep ps ts) ts empty)
+      (λ q. rw q refl)
+      (λ m q. rw q (go vs m (closed-images m ps r (λ v o. match_all-binds every_name (patterns rep ps ts) ts empty m v q refl (patterns-occurs rep v ps ts o)) c w))))
+    where
+      go : (b : Bool) (m : Map) → apply (images ρ m) r ≡ renamed ρ (apply m r) → rank_answer b r (some (images ρ m)) ≡ renamed_sort ρ (rank_answer b r (some m))
+      go true m e = rw (vectors_in-images m, e) (by_test (vectors_in m) (λ q. rw q refl) (λ q. rw q refl))
+      go false m e = rw e refl
+
+  or-renamed : (o p : Option Sort) → or_next (renamed_sort ρ o) (renamed_sort ρ p) ≡ renamed_sort ρ (or_next o p)
+  or-renamed none p = refl
+  or-renamed (some s) p = refl
+
+  pub first_fit-renamed : (rs : List Rank) (ts : Sorts) → Sound rs → unnamed_ranks rs ≡ true → first_fit rs (renamed_all ρ ts) ≡ renamed_sort ρ (first_fit rs ts)
+  unfolding first_fit unnamed_ranks well_rank
+  first_fit-renamed [] ts S u = refl
+  first_fit-renamed (rank rep vs ps r ∷ rs) ts S u =
+      let w = and_left (unnamed_all ps && unnamed r) (unnamed_ranks rs) u in
+      rw (
+        fit-renamed rep vs ps r ts (three (closed ps r) (proper r) (parless_all ps) S.0).0 (and_left (unnamed_all ps) (unnamed r) w) (and_right (unnamed_all ps) (unnamed r) w),
+        first_fit-renamed rs ts S.2 (and_right (unnamed_all ps && unnamed r) (unnamed_ranks rs) u),
+      )
+      (or-renamed (fit (rank rep vs ps r) ts) (first_fit rs ts))

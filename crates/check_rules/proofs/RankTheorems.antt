@@ -1,0 +1,201 @@
+-- WHAT A LABORATORY MAY RELY ON OF OPERATORS: an operator term is accepted exactly when some rank of the operator fits the sorts
+-- of its arguments, that rank is the only one, and each cause of refusal stands exactly where document 01 puts it. Stated for
+-- all sound ranks, and then for document 01's.
+use Rattle.std.specs.Prelude.{ℕ, zero, suc, ◌+◌, ◌≤◌, ◌≡◌, refl, ◌↔◌, ◌⊎◌, Bool, true, false, ◌&&◌, List, [], ◌∷◌}
+use Rattle.std.proofs.Common.{sym, ap, ◌∙◌, inl, inr, ⊎_elim, true≢false, arith}
+use Rattle.std.proofs.lemmas.Bool.{false≢true}
+use Rattle.std.proofs.Math.Option.{some}
+use Rattle.record.specs.Sort.{Sort, Sorts, end, ◌then◌, bitvec, number_in, count, same}
+use Rattle.record.specs.Cases.{and_left, and_right, eqb-self, by_test, by_option, none-some, some_inj, clash}
+use Rattle.row_rules.specs.declared.Cause.TheVariants.{NoRank, Count, Misfit}
+use Rattle.row_rules.specs.Verdict.{sort, refused}
+use Rattle.row_rules.proofs.OutcomeLaws.{refused-sort, sort-inj}
+use Rattle.check_rules.specs.Rank.{Rank, rank, repeated, stretched, same_count, counts, vector, first_fit, some_counts}
+use Rattle.check_rules.specs.Ranks.{smt_lib}
+use Rattle.check_rules.specs.RankLaws.{vector-is}
+use Rattle.check_rules.proofs.RankSound.{Sound, smt_lib-sound}
+use Rattle.check_rules.specs.Fits.{Fits, rank_at, SomeFits}
+use Rattle.check_rules.proofs.FitLaws.{sound-well, fits-fit, fit-counts, first_fit-when, some_counts-when, first_fit-some, some_fit, some-first_fit, sort-refused, other-cause, ranked-unranked, ranked-miscounted, ranked-par, ranked-values, by_ranked, operated-ranked}
+use Rattle.check_rules.specs.Checked.{values, concatenation, nonempty, operated}
+
+---------------------------------------------------------------- accepted exactly when some rank fits
+-- AN OPERATOR TERM IS ACCEPTED with the sort s exactly when no argument is a Par and some rank of the operator fits the
+-- arguments' sorts with the result s. 90 BvConcat is below.
+pub rank-accepted : (R : ℕ → List Rank) (n : ℕ) → Sound (R n) → (n ≡ 90 → ⊥) → (ts : Sorts) (s : Sort)
+    → operated R n ts ≡ sort s ↔ (values ts ≡ true) × SomeFits (R n) ts s
+rank-accepted R n S d ts s = (
+  λ h. by_ranked (R n) ts
+      (λ a e. refused-sort (sym e ∙ sym (operated-ranked R n ts d) ∙ h))
+      (λ a b e. refused-sort (sym e ∙ sym (operated-ranked R n ts d) ∙ h))
+      (λ a b e. refused-sort (sym e ∙ sym (operated-ranked R n ts d) ∙ h))
+      (λ a b c e. refused-sort (sym e ∙ sym (operated-ranked R n ts d) ∙ h))
+      (λ u c f e. let z : sort u ≡ sort s = sym e ∙ sym (operated-ranked R n ts d) ∙ h in
+      (c, first_fit-some (R n) ts s S (f ∙ ap some (sort-inj z)))),
+  λ g. let F = g.1 in
+      let b = some_counts-when (R n) F.place F.chosen ts F.listed (fit-counts F.chosen ts s (some_fit (R n) ts s S F)) in
+      operated-ranked R n ts d ∙ ranked-values (R n) ts b g.0 ∙ rw (some-first_fit (R n) ts s S F) refl,
+)
+
+pub accepted-smt_lib : (n : ℕ) → (n ≡ 90 → ⊥) → (ts : Sorts) (s : Sort)
+    → operated smt_lib n ts ≡ sort s ↔ (values ts ≡ true) × SomeFits (smt_lib n) ts s
+accepted-smt_lib n d ts s = rank-accepted smt_lib n (smt_lib-sound n) d ts s
+
+---------------------------------------------------------------- at most one rank fits
+-- Two ranks of an operator that fit the same sorts are one entry of its list: by induction over the list; a fit of the first
+-- entry and one of a later entry are ruled out by `Sound`.
+pub one-fits : (rs : List Rank) → Sound rs → (i j : ℕ) (q r : Rank) (ts : Sorts) (s u : Sort)
+    → rank_at rs i ≡ some q → rank_at rs j ≡ some r → Fits q ts s → Fits r ts u → i ≡ j
+unfolding rank_at
+one-fits [] S i j q r ts s u a b f g = none-some a
+one-fits (p ∷ ps) S zero zero q r ts s u a b f g = refl
+one-fits (p ∷ ps) S zero (suc j) q r ts s u a b f g =
+    let x = fits-fit q ts s (sound-well (p ∷ ps) zero q S a) f in
+    let y = first_fit-when ps j r ts u S.2 b (fits-fit r ts u (sound-well ps j r S.2 b) g) in
+    absurd (S.1 ts s u (rw (some_inj a) x) y)
+one-fits (p ∷ ps) S (suc i) zero q r ts s u a b f g =
+    let x = fits-fit r ts u (sound-well (p ∷ ps) zero r S b) g in
+    let y = first_fit-when ps i q ts s S.2 a (fits-fit q ts s (sound-well ps i q S.2 a) f) in
+    absurd (S.1 ts u s (rw (some_inj b) x) y)
+one-fits (p ∷ ps) S (suc i) (suc j) q r ts s u a b f g = ap suc (one-fits ps S.2 i j q r ts s u a b f g)
+
+-- So they give one result.
+pub one-result : (rs : List Rank) → Sound rs → (ts : Sorts) (s u : Sort) → SomeFits rs ts s → SomeFits rs ts u → s ≡ u
+one-result rs S ts s u f g = some_inj (sym (some-first_fit rs ts s S f) ∙ some-first_fit rs ts u S g)
+
+pub one-fits-smt_lib : (n i j : ℕ) (q r : Rank) (ts : Sorts) (s u : Sort)
+    → rank_at (smt_lib n) i ≡ some q → rank_at (smt_lib n) j ≡ some r → Fits q ts s → Fits r ts u → i ≡ j
+one-fits-smt_lib n = one-fits (smt_lib n) (smt_lib-sound n)
+
+---------------------------------------------------------------- the causes
+-- 24 exactly where the operator has no rank.
+pub unranked : (R : ℕ → List Rank) (n : ℕ) → (n ≡ 90 → ⊥) → (ts : Sorts) → operated R n ts ≡ refused NoRank ↔ R n ≡ []
+unranked R n d ts = (
+  λ h. by_ranked (R n) ts
+      (λ a e. empty-list (R n) a)
+      (λ a b e. other-cause refl (sym e ∙ sym (operated-ranked R n ts d) ∙ h))
+      (λ a b e. other-cause refl (sym e ∙ sym (operated-ranked R n ts d) ∙ h))
+      (λ a b c e. other-cause refl (sym e ∙ sym (operated-ranked R n ts d) ∙ h))
+      (λ u c f e. sort-refused (sym e ∙ sym (operated-ranked R n ts d) ∙ h)),
+  λ h. operated-ranked R n ts d ∙ ranked-unranked (R n) ts (ap nonempty h),
+)
+  where
+    empty-list : (rs : List Rank) → nonempty rs ≡ false → rs ≡ []
+    empty-list [] e = refl
+    empty-list (r ∷ rs) e = absurd (true≢false e)
+
+-- 25 exactly where it has ranks and none of them has this count of arguments.
+pub miscounted : (R : ℕ → List Rank) (n : ℕ) → (n ≡ 90 → ⊥) → (ts : Sorts)
+    → operated R n ts ≡ refused Count ↔ (nonempty (R n) ≡ true) × (some_counts (R n) ts ≡ false)
+miscounted R n d ts = (
+  λ h. by_ranked (R n) ts
+      (λ a e. other-cause refl (sym e ∙ sym (operated-ranked R n ts d) ∙ h))
+      (λ a b e. (a, b))
+      (λ a b e. other-cause refl (sym e ∙ sym (operated-ranked R n ts d) ∙ h))
+      (λ a b c e. other-cause refl (sym e ∙ sym (operated-ranked R n ts d) ∙ h))
+      (λ u c f e. sort-refused (sym e ∙ sym (operated-ranked R n ts d) ∙ h)),
+  λ h. operated-ranked R n ts d ∙ ranked-miscounted (R n) ts h.0 h.1,
+)
+
+-- 26 exactly where some rank has this count, and an argument is a Par or no rank fits.
+pub misfit : (R : ℕ → List Rank) (n : ℕ) → Sound (R n) → (n ≡ 90 → ⊥) → (ts : Sorts)
+    → operated R n ts ≡ refused Misfit ↔ (some_counts (R n) ts ≡ true) × ((values ts ≡ false) ⊎ ((s : Sort) → SomeFits (R n) ts s → ⊥))
+misfit R n S d ts = (
+  λ h. by_ranked (R n) ts
+      (λ a e. other-cause refl (sym e ∙ sym (operated-ranked R n ts d) ∙ h))
+      (λ a b e. other-cause refl (sym e ∙ sym (operated-ranked R n ts d) ∙ h))
+      (λ a b e. (a, inl b))
+      (λ a b c e. (a, inr (λ s F. none-some (sym c ∙ some-first_fit (R n) ts s S F))))
+      (λ u c f e. sort-refused (sym e ∙ sym (operated-ranked R n ts d) ∙ h)),
+  λ h. operated-ranked R n ts d ∙
+      by_test (values ts)
+      (λ v. ranked-values (R n) ts h.0 v ∙
+      by_option (first_fit (R n) ts)
+      (λ f. rw f refl)
+      (λ s f. ⊎_elim (λ w. clash v w) (λ g. absurd (g s (first_fit-some (R n) ts s S f))) h.1))
+      (λ v. ranked-par (R n) ts h.0 v),
+)
+
+-- What "a rank has this count" says, in numbers: exactly as many arguments as the rank prints, or as many or more where its last
+-- one repeats.
+pub same_count-number : (ps ts : Sorts) → same_count ps ts ≡ true ↔ count ps ≡ count ts
+unfolding same_count count
+same_count-number end end = (λ e. refl, λ e. refl)
+same_count-number end (t then ts) = (λ e. absurd (false≢true e), λ e. absurd (omega arith))
+same_count-number (p then ps) end = (λ e. absurd (false≢true e), λ e. absurd (omega arith))
+same_count-number (p then ps) (t then ts) = let (f, g) = same_count-number ps ts in (λ e. ap suc (f e), λ e. g (omega arith))
+
+pub repeated-count : (p : Sort) (ts : Sorts) → same_count (repeated p ts) ts ≡ true
+unfolding repeated same_count
+repeated-count p end = refl
+repeated-count p (t then ts) = repeated-count p ts
+
+pub counts-more : (vs : Bool) (p : Sort) (ps : Sorts) (r : Sort) (ts : Sorts) → counts (rank true vs (p then ps) r) ts ≡ true ↔ count (p then ps) ≤ count ts
+unfolding counts same_count stretched count
+counts-more vs p end r end = (λ e. absurd (false≢true e), λ e. absurd (omega arith))
+counts-more vs p end r (t then ts) = (λ e. omega arith, λ e. repeated-count p ts)
+counts-more vs p (q then ps) r end = (λ e. absurd (false≢true e), λ e. absurd (omega arith))
+counts-more vs p (q then ps) r (t then ts) = let (f, g) = counts-more vs q ps r ts in (λ e. let z = f e in omega arith, λ e. g (omega arith))
+
+---------------------------------------------------------------- 90 BvConcat
+-- Accepted exactly when there are two arguments, both vectors; the width is the sum of theirs.
+pub concat-accepted : (R : ℕ → List Rank) (ts : Sorts) (s : Sort)
+    → operated R 90 ts ≡ sort s ↔ ((i : ℕ) × (j : ℕ) × (ts ≡ bitvec i then bitvec j then end) × (s ≡ bitvec (i + j)))
+unfolding operated concatenation same
+concat-accepted R ts s = (λ h. only ts h, λ g. let (i, j, e, f) = g in rw (e, f) (both i j))
+  where
+    only : (ts : Sorts) → concatenation ts ≡ sort s → (i : ℕ) × (j : ℕ) × (ts ≡ bitvec i then bitvec j then end) × (s ≡ bitvec (i + j))
+    only end h = refused-sort h
+    only (a then end) h = refused-sort h
+    only (a then (b then end)) h =
+        by_test (vector a && vector b)
+        (λ q. let z : sort (bitvec (number_in a + number_in b)) ≡ sort s = rw q at h in
+        let ea = vector-is a (and_left (vector a) (vector b) q) in
+        let eb = vector-is b (and_right (vector a) (vector b) q) in
+        let e : a then b then end ≡ bitvec (number_in a) then bitvec (number_in b) then end = cc in
+        (number_in a, number_in b, e, sym (sort-inj z)))
+        (λ q. refused-sort (rw q at h))
+    only (a then (b then (c then ss))) h = refused-sort h
+
+    both : (i j : ℕ) → concatenation (bitvec i then bitvec j then end) ≡ sort (bitvec (i + j))
+    both i j = rw (eqb-self i, eqb-self j) refl
+
+-- 25 exactly where there are not two.
+pub concat-miscounted : (R : ℕ → List Rank) (ts : Sorts) → operated R 90 ts ≡ refused Count ↔ (count ts ≡ 2 → ⊥)
+unfolding operated concatenation count
+concat-miscounted R ts = (λ h c. only ts h c, λ g. when ts g)
+  where
+    only : (ts : Sorts) → concatenation ts ≡ refused Count → count ts ≡ 2 → ⊥
+    only end h c = omega arith
+    only (a then end) h c = omega arith
+    only (a then (b then end)) h c =
+        by_test (vector a && vector b) (λ q. sort-refused (rw q at h)) (λ q. let z : refused Misfit ≡ refused Count = rw q at h in other-cause refl z)
+    only (a then (b then (d then ss))) h c = omega arith
+
+    when : (ts : Sorts) → (count ts ≡ 2 → ⊥) → concatenation ts ≡ refused Count
+    when end g = refl
+    when (a then end) g = refl
+    when (a then (b then end)) g = absurd (g refl)
+    when (a then (b then (d then ss))) g = refl
+
+-- 26 exactly where there are two and not both are vectors.
+pub concat-misfit : (R : ℕ → List Rank) (ts : Sorts)
+    → operated R 90 ts ≡ refused Misfit ↔ (count ts ≡ 2) × ((i j : ℕ) → ts ≡ bitvec i then bitvec j then end → ⊥)
+unfolding operated concatenation count
+concat-misfit R ts = (λ h. (only ts h, λ i j e. sort-refused (sym ((concat-accepted R ts (bitvec (i + j))).1 (i, j, e, refl)) ∙ h)), λ g. when ts g.0 g.1)
+  where
+    only : (ts : Sorts) → concatenation ts ≡ refused Misfit → count ts ≡ 2
+    only end h = other-cause refl h
+    only (a then end) h = other-cause refl h
+    only (a then (b then end)) h = refl
+    only (a then (b then (d then ss))) h = other-cause refl h
+
+    when : (ts : Sorts) → count ts ≡ 2 → ((i j : ℕ) → ts ≡ bitvec i then bitvec j then end → ⊥) → concatenation ts ≡ refused Misfit
+    when end c g = absurd (omega arith)
+    when (a then end) c g = absurd (omega arith)
+    when (a then (b then end)) c g =
+        by_test (vector a && vector b)
+        (λ q. let ea = vector-is a (and_left (vector a) (vector b) q) in
+        let eb = vector-is b (and_right (vector a) (vector b) q) in
+        let e : a then b then end ≡ bitvec (number_in a) then bitvec (number_in b) then end = cc in absurd (g (number_in a) (number_in b) e))
+        (λ q. rw q refl)
+    when (a then (b then (d then ss))) c g = absurd (omega arith)

@@ -1,0 +1,5 @@
+pub mod Facts
+pub mod PanicLaws
+pub mod PanicTheorems
+pub mod ParlessTheorems
+pub mod WidthTheorems

@@ -1,0 +1,12 @@
+pub mod CarriedLaws
+pub mod CauseTheorems
+pub mod Examples
+pub mod GivenLaws
+pub mod JudgedLaws
+pub mod KnownLaws
+pub mod PlainLaws
+pub mod QuestionTheorems
+pub mod RoutesExample
+pub mod RowExactly
+pub mod RowLaws
+pub mod TwoRoutes

@@ -1,0 +1,9 @@
+pub mod EachLine
+pub mod EndLaws
+pub mod Examples
+pub mod LineLaws
+pub mod NumberedLaws
+pub mod PageTheorems
+pub mod ReadLaws
+pub mod RowTheorems
+pub mod SheetTheorems

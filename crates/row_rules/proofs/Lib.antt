@@ -1,0 +1,3 @@
+pub mod OutcomeLaws
+pub mod ParlessLaws
+pub mod TermLaws

@@ -1,0 +1,5 @@
+pub mod CompatibleLaws
+pub mod Examples
+pub mod MatchWithLaws
+pub mod MatchingLaws
+pub mod SubstitutionLaws
