@@ -1,5 +1,5 @@
 //! Says where the static library of the proved code stands: `libexports.a` in the folder that `NAPSILO_LIB_DIR` names, else in
-//! `target/staticlib` of the repository, where `rt staticlib exports` writes it.
+//! `crates/exports/out` of the repository, where `rt lib` in crates/exports writes it.
 //!
 //! Without the library this crate can be checked and documented. What links it cannot be built, and a warning says why.
 
@@ -13,7 +13,7 @@ fn main() {
         Some(folder) => PathBuf::from(folder),
         None => {
             let own = env::var_os("CARGO_MANIFEST_DIR").expect("cargo names the folder");
-            PathBuf::from(own).join("../../target/staticlib")
+            PathBuf::from(own).join("../../crates/exports/out")
         }
     };
     let file = folder.join("libexports.a");
@@ -21,7 +21,7 @@ fn main() {
     if !file.is_file() {
         println!(
             "cargo::warning=no libexports.a in {}: `cargo check` and `cargo doc` work, but nothing can be linked. Write it with \
-             `rt staticlib exports`, or name its folder in NAPSILO_LIB_DIR",
+             `rt lib` in crates/exports, or name its folder in NAPSILO_LIB_DIR",
             folder.display()
         );
     }

@@ -75,8 +75,8 @@
 //!
 //! # The library
 //!
-//! `libexports.a` is written by `rt staticlib exports`. The build takes it from the folder that the environment variable
-//! `NAPSILO_LIB_DIR` names, else from `target/staticlib` of the repository. Without it `cargo check` and `cargo doc` work, and what links
+//! `libexports.a` is written by `rt lib` in crates/exports. The build takes it from the folder that the environment variable
+//! `NAPSILO_LIB_DIR` names, else from `crates/exports/out` of the repository. Without it `cargo check` and `cargo doc` work, and what links
 //! this crate is not built. Nothing checks the declarations in `ffi.rs` against the library's source, so the tests compare results.
 //!
 //! What is proved is the library: the rows, the answers, the store, the printout and the pages that it writes, for every sheet and all

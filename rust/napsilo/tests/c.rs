@@ -9,7 +9,7 @@ use std::process::{Command, Output};
 fn library() -> PathBuf {
     match option_env!("NAPSILO_LIB_DIR") {
         Some(folder) => PathBuf::from(folder),
-        None => recorded::path("target/staticlib"),
+        None => recorded::path("crates/exports/out"),
     }
 }
 

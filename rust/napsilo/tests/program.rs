@@ -2,7 +2,7 @@
 //! pages of recorded sheets by the second one.
 //!
 //! `napsilo` is taken from the file that the environment variable `NAPSILO_PROGRAM` names, `napsilo_page` from that of
-//! `NAPSILO_PAGE_PROGRAM`, else from `target/bin` of the repository. Without one its tests are skipped.
+//! `NAPSILO_PAGE_PROGRAM`, else from `out` of its crate. Without one its tests are skipped.
 
 use std::fs::{File, OpenOptions};
 use std::io::Write;
@@ -17,10 +17,10 @@ struct Program {
 
 /// A program, if it has been built.
 fn program(name: &'static str, variable: &str) -> Option<Program> {
-    let built = || recorded::path("target/bin").join(name);
+    let built = || recorded::path("crates").join(name).join("out").join(name);
     let path = std::env::var_os(variable).map_or_else(built, PathBuf::from);
     if !path.exists() {
-        recorded::skipped(&format!("there is no program {name}; `rt check {name}` builds it"));
+        recorded::skipped(&format!("there is no program {name}; `rt run` in crates/{name} builds it"));
     }
     path.exists().then_some(Program { name, path })
 }
