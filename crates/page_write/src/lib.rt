@@ -1,4 +1,4 @@
-// The pages of a judged sheet printed to standard output: their lines are gathered in a buffer of its own, and written piece by piece.
+// The pages of a judged sheet printed to an output: their lines are gathered in a buffer of its own, and written piece by piece.
 #![tactic(auto)]
 
 ghost use Rattle.judge_rules.specs.Judged.{judged};
@@ -11,6 +11,7 @@ ghost use Rattle.page_write.specs.Paging.{PiecesAsk};
 use page_lines::pages::show_pages;
 use page_lines::rows::WINDOW_ROOM;
 use page_text::page_sizes;
+use std::io::Write;
 use verdicts::Outcome;
 use written::{Written, nothing_written, print_refusal, write_page_lines};
 
@@ -23,7 +24,8 @@ const OUT_ROOM: usize = 165888;
 // Writes the pages of an accepted sheet that has so many terms, judged into these buffers, with the table of the sizes of its sorts'
 // texts, by way of a buffer that holds a line at least. All lines are written; or a write failed, nothing was handed over after it,
 // and the lines before it are written.
-fn print_pieces(
+fn print_pieces<W: Write>(
+    output: &mut W,
     sheet: &[u8],
     records: &[u8],
     places: &[u32],
@@ -47,7 +49,7 @@ fn print_pieces(
         if end == 0 {
             return done;
         }
-        done = write_page_lines(done, sheet, next, &out[..end]);
+        done = write_page_lines(output, done, sheet, next, &out[..end]);
         if done.has_failed() {
             return done;
         }
@@ -57,7 +59,8 @@ fn print_pieces(
 
 // Writes the pages of an accepted sheet, judged into these buffers, by way of buffers of its own. All lines are written; or a write
 // failed, nothing was handed over after it, and the lines before it are written.
-fn print_accepted(
+fn print_accepted<W: Write>(
+    output: &mut W,
     sheet: &[u8],
     records: &[u8],
     places: &[u32],
@@ -74,13 +77,15 @@ fn print_accepted(
     let mut out = [0u8; OUT_ROOM];
     let terms = page_sizes(sheet, records, places, rows, answers, &mut sizes);
     print_pieces(
-        sheet, records, places, &sizes, rows, terms, &mut stack, &mut one, &mut two, &mut out,
+        output, sheet, records, places, &sizes, rows, terms, &mut stack, &mut one, &mut two,
+        &mut out,
     )
 }
 
 // Writes the pages of a sheet that was judged with this outcome into these buffers. All their lines are written, the one of a refused
 // sheet too; or a write failed, nothing was handed over after it, and the lines before it are written.
-pub fn print_pages(
+pub fn print_pages<W: Write>(
+    output: &mut W,
     sheet: &[u8],
     records: &[u8],
     places: &[u32],
@@ -92,7 +97,7 @@ pub fn print_pages(
     ensures { PagedIs (judged sheet.now program_lengths) result }
 {
     match outcome {
-        Outcome::Accepted => print_accepted(sheet, records, places, rows, answers),
-        Outcome::Refused(e) => print_refusal(e),
+        Outcome::Accepted => print_accepted(output, sheet, records, places, rows, answers),
+        Outcome::Refused(e) => print_refusal(output, e),
     }
 }

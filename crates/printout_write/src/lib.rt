@@ -1,4 +1,4 @@
-// A judged sheet printed to standard output: whole lines are gathered in a buffer that holds the longest one, and written
+// A judged sheet printed to an output: whole lines are gathered in a buffer that holds the longest one, and written
 // piece by piece.
 #![tactic(auto)]
 
@@ -12,6 +12,7 @@ ghost use Rattle.printout_write.specs.Print.{LinesAsk};
 
 use printout::kinds::{Totals, question_kinds};
 use printout::whole::show_lines;
+use std::io::Write;
 use verdicts::Outcome;
 use written::{Written, nothing_written, print_refusal, write_lines};
 
@@ -28,7 +29,8 @@ fn line_buffer() -> [u8; LINE_ROOM] {
 
 // Writes the lines of an accepted sheet, judged into these buffers, by way of a buffer that holds the longest line. All lines are
 // written; or a write failed, nothing was handed over after it, and the lines before it are written.
-fn print_lines(
+fn print_lines<W: Write>(
+    output: &mut W,
     sheet: &[u8],
     records: &[u8],
     places: &[u32],
@@ -51,7 +53,7 @@ fn print_lines(
         );
         let end = piece.end;
         let next = piece.next;
-        done = write_lines(done, sheet, next, &out[..end]);
+        done = write_lines(output, done, sheet, next, &out[..end]);
         if done.has_failed() {
             return done;
         }
@@ -62,7 +64,8 @@ fn print_lines(
 
 // Writes the lines of an accepted sheet, judged into these buffers, by way of a buffer of its own. All lines are written; or a write
 // failed, nothing was handed over after it, and the lines before it are written.
-fn print_all(
+fn print_all<W: Write>(
+    output: &mut W,
     sheet: &[u8],
     records: &[u8],
     places: &[u32],
@@ -76,6 +79,7 @@ fn print_all(
 {
     let mut out = line_buffer();
     print_lines(
+        output,
         sheet,
         records,
         places,
@@ -92,7 +96,8 @@ fn print_all(
 // is too short for 1,024, what this function writes with a table of its own. All lines are written; or a write failed, nothing
 // was handed over after it, and the lines before it are written. It calls itself so that the large buffer of `print_all` is on the
 // stack only while lines are printed: the compiler puts no large frame into a function that calls itself, nor that into another.
-fn print_accepted(
+fn print_accepted<W: Write>(
+    output: &mut W,
     sheet: &[u8],
     records: &[u8],
     places: &[u32],
@@ -105,15 +110,16 @@ fn print_accepted(
 {
     if kinds.len() < QUESTIONS {
         let mut own = [0u8; QUESTIONS];
-        return print_accepted(sheet, records, places, rows, answers, &mut own);
+        return print_accepted(output, sheet, records, places, rows, answers, &mut own);
     }
     let totals = question_kinds(sheet, kinds);
-    print_all(sheet, records, places, rows, kinds, answers, totals)
+    print_all(output, sheet, records, places, rows, kinds, answers, totals)
 }
 
 // Writes the printout of a sheet that was judged with this outcome into these buffers. All its lines are written, the
 // one of a refused sheet too; or a write failed, nothing was handed over after it, and the lines before it are written.
-pub fn print_judged(
+pub fn print_judged<W: Write>(
+    output: &mut W,
     sheet: &[u8],
     records: &[u8],
     places: &[u32],
@@ -127,8 +133,8 @@ pub fn print_judged(
     match outcome {
         Outcome::Accepted => {
             let mut kinds = [0u8; 1];
-            print_accepted(sheet, records, places, rows, answers, &mut kinds)
+            print_accepted(output, sheet, records, places, rows, answers, &mut kinds)
         }
-        Outcome::Refused(e) => print_refusal(e),
+        Outcome::Refused(e) => print_refusal(output, e),
     }
 }

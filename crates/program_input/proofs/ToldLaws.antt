@@ -1,14 +1,9 @@
 -- What the answer of a read says, case by case, and how far the bytes go that it counts.
-use Prim.Native.Nat.{ℕ, zero, suc, ◌+◌, ◌-◌, ◌≤◌, ◌<◌, min}
-use mathlib.Core.Path.{◌≡◌, refl, sym, ap, subst, ◌∙◌}
-use mathlib.Core.Bool.{true, false}
-use native.Mathlib.Omega.{arith}
-use mathlib.Core.List.{List}
-use lib.ListN.{length, take, drop, length-take}
-use lib.Dec.{T, ltb, ltb→lt}
-use lib.IntN.{ℤ, pos, negsuc}
+use Rattle.std.proofs.Common.{ℕ, zero, suc, ◌+◌, ◌-◌, ◌≤◌, ◌<◌, min, ◌≡◌, refl, sym, ap, subst, ◌∙◌, true, false, arith, List, length, take, drop, length-take, ℤ, pos, negsuc, T}
+use lib.Dec.{ltb→lt}
+use lib.Dec.{ltb}
+use lib.IntN.{nat_abs}
 use lib.Signed.{lt_z}
-use Rattle.io.specs.Counts.{clamp_len}
 use Rattle.program_input.specs.declared.Got.{Got}
 use Rattle.program_input.specs.declared.Got.TheVariants.{Bytes as Some, End, Failed as NoRead}
 use Rattle.program_input.specs.Input.{got_of, counted, GotWithin}
@@ -21,12 +16,12 @@ unfolding got_of
 told-failed (pos k) room e = absurd (none k (subst T (sym e) tt))
 told-failed (negsuc k) room e = refl
 
-told-counted : (z : ℤ) (room : ℕ) → lt_z z (pos 0) ≡ false → counted (clamp_len z room) ≡ got_of z room
+told-counted : (z : ℤ) (room : ℕ) → lt_z z (pos 0) ≡ false → counted (min (nat_abs z) room) ≡ got_of z room
 unfolding got_of
 told-counted (pos k) room e = refl
 told-counted (negsuc k) room e = cc
 
-pub told-end : (z : ℤ) (room n : ℕ) → lt_z z (pos 0) ≡ false → n ≡ clamp_len z room → n ≡ 0 → End ≡ got_of z room
+pub told-end : (z : ℤ) (room n : ℕ) → lt_z z (pos 0) ≡ false → n ≡ min (nat_abs z) room → n ≡ 0 → End ≡ got_of z room
 unfolding counted
 told-end z room n e c h = ap counted (sym h ∙ c) ∙ told-counted z room e
 
@@ -35,7 +30,7 @@ unfolding counted
 some zero d = absurd (d refl)
 some (suc m) d = refl
 
-pub told-bytes : (z : ℤ) (room n : ℕ) → lt_z z (pos 0) ≡ false → n ≡ clamp_len z room → (n ≡ 0 → ⊥) → Some n ≡ got_of z room
+pub told-bytes : (z : ℤ) (room n : ℕ) → lt_z z (pos 0) ≡ false → n ≡ min (nat_abs z) room → (n ≡ 0 → ⊥) → Some n ≡ got_of z room
 told-bytes z room n e c d = some n d ∙ ap counted c ∙ told-counted z room e
 
 counted-within : (from all n : ℕ) → from + n ≤ all → GotWithin from all (counted n)

@@ -2,31 +2,53 @@
 // bytes, and prints what each gave.
 #![tactic(auto)]
 
-use libc::STDOUT_FILENO;
 use program_input::{Input, read_input};
+use std::io::{Read, Write};
+use std::rt::Files;
+use std::{fs, io};
+
+// A descriptor that is not open. std hands out none, so this reader stands for one: each of its reads fails as the system's does there,
+// with its error number 9 for a bad descriptor.
+#[derive(Drop)]
+struct NoDescriptor {}
+
+impl Read for NoDescriptor {
+    fn read(&mut self, _buf: &mut [u8]) -> io::Result<usize> {
+        Err(io::Error::from_raw_os_error(9))
+    }
+}
 
 // Writes a line: the name of what was read, and how many bytes that gave, or that a read failed.
-fn show(name: &[u8], fd: i32) {
+fn show<R: Read, W: Write>(output: &mut W, name: &str, reader: &mut R) {
     let mut bytes = [0u8; 8];
-    let input = read_input(fd, &mut bytes);
-    io::write_all(STDOUT_FILENO, name);
+    let input = read_input(reader, &mut bytes);
     match input {
         Input::Bytes(n) => {
-            io::write_all(STDOUT_FILENO, b": ");
-            io::print_decimal(STDOUT_FILENO, n as u64);
-            io::write_all(STDOUT_FILENO, b" bytes\n");
+            let _ = writeln!(output, "{name}: {n} bytes");
         }
         Input::Failed => {
-            io::write_all(STDOUT_FILENO, b": failed\n");
+            let _ = writeln!(output, "{name}: failed");
         }
     }
 }
 
+// The same of the file with this path. One that cannot be opened has no descriptor, and its read fails too.
+fn show_file<R: Files, W: Write>(rt: &R, output: &mut W, name: &str, path: &str) {
+    match fs::open(rt, path) {
+        Ok(file) => {
+            let mut file = file;
+            show(output, name, &mut file);
+        }
+        Err(_) => show(output, name, &mut NoDescriptor {}),
+    }
+}
+
 // Reads the files beside the program: of three bytes, of none and of twelve; then what cannot be read.
-fn main() {
-    show(b"three bytes", os::open_read(b"three"));
-    show(b"no bytes", os::open_read(b"none"));
-    show(b"twelve bytes", os::open_read(b"twelve"));
-    show(b"a directory", os::open_read(b"."));
-    show(b"no descriptor", -1);
+fn main(rt: HostRuntime) {
+    let mut output = rt.stdout();
+    show_file(&rt, &mut output, "three bytes", "three");
+    show_file(&rt, &mut output, "no bytes", "none");
+    show_file(&rt, &mut output, "twelve bytes", "twelve");
+    show_file(&rt, &mut output, "a directory", ".");
+    show(&mut output, "no descriptor", &mut NoDescriptor {});
 }

@@ -3,53 +3,55 @@
 // two bytes: the four lengths and its own.
 #![tactic(auto)]
 
-use libc::STDOUT_FILENO;
 use record::u16_at;
+use std::fs;
+use std::io::{Read, Write};
 use verdicts::napsilo_judge;
 
 // Writes each byte in hexadecimal.
-fn print_hexes(buf: &[u8]) {
+fn print_hexes<W: Write>(output: &mut W, buf: &[u8]) {
     let mut i = 0;
     while i < buf.len() {
-        io::print_hex(STDOUT_FILENO, buf[i] as u64, 2);
+        let b = buf[i];
+        let _ = write!(output, "{b:02x}");
         i += 1;
     }
 }
 
 // Writes a line: the name of the buffer of records, and its bytes behind a blank, where there are any.
-fn print_bytes(buf: &[u8]) {
-    io::write_all(STDOUT_FILENO, b"records");
+fn print_bytes<W: Write>(output: &mut W, buf: &[u8]) {
+    let _ = output.write_all(b"records");
     if buf.len() != 0 {
-        io::write_all(STDOUT_FILENO, b" ");
+        let _ = output.write_all(b" ");
     }
-    print_hexes(buf);
-    io::write_all(STDOUT_FILENO, b"\n");
+    print_hexes(output, buf);
+    let _ = output.write_all(b"\n");
 }
 
 // Writes a number behind a blank.
-fn print_number(v: u32) {
-    io::write_all(STDOUT_FILENO, b" ");
-    io::print_decimal(STDOUT_FILENO, v as u64);
+fn print_number<W: Write>(output: &mut W, v: u32) {
+    let _ = write!(output, " {v}");
 }
 
 // Writes each number behind a blank.
-fn print_numbers(buf: &[u32]) {
+fn print_numbers<W: Write>(output: &mut W, buf: &[u32]) {
     let mut i = 0;
     while i < buf.len() {
-        print_number(buf[i]);
+        print_number(output, buf[i]);
         i += 1;
     }
 }
 
 // Writes a line: the name of a buffer of numbers, and its numbers.
-fn print_words(name: &[u8], buf: &[u32]) {
-    io::write_all(STDOUT_FILENO, name);
-    print_numbers(buf);
-    io::write_all(STDOUT_FILENO, b"\n");
+fn print_words<W: Write>(output: &mut W, name: &[u8], buf: &[u32]) {
+    let _ = output.write_all(name);
+    print_numbers(output, buf);
+    let _ = output.write_all(b"\n");
 }
 
 // Judges a sheet over these buffers and prints what it gives.
-fn judge_over(
+fn judge_over<W: Write>(
+    output: &mut W,
     sheet: &[u8],
     records: &mut [u8],
     places: &mut [u32],
@@ -57,17 +59,15 @@ fn judge_over(
     answers: &mut [u32],
 ) {
     let number = napsilo_judge(sheet, records, places, rows, answers);
-    io::write_all(STDOUT_FILENO, b"outcome ");
-    io::print_decimal(STDOUT_FILENO, number as u64);
-    io::write_all(STDOUT_FILENO, b"\n");
-    print_bytes(records);
-    print_words(b"places", places);
-    print_words(b"rows", rows);
-    print_words(b"answers", answers);
+    let _ = writeln!(output, "outcome {number}");
+    print_bytes(output, records);
+    print_words(output, b"places", places);
+    print_words(output, b"rows", rows);
+    print_words(output, b"answers", answers);
 }
 
 // Judges a sheet over buffers of these lengths, at most 65,536 bytes, 4,096 places, 8,192 rows and 1,024 answers.
-fn run(sheet: &[u8], r: usize, p: usize, w: usize, a: usize) {
+fn run<W: Write>(output: &mut W, sheet: &[u8], r: usize, p: usize, w: usize, a: usize) {
     let mut records = [170u8; 65536];
     let mut places = [2863311530u32; 4096];
     let mut rows = [2863311530u32; 8192];
@@ -85,6 +85,7 @@ fn run(sheet: &[u8], r: usize, p: usize, w: usize, a: usize) {
         return;
     }
     judge_over(
+        output,
         sheet,
         &mut records[..r],
         &mut places[..p],
@@ -95,23 +96,28 @@ fn run(sheet: &[u8], r: usize, p: usize, w: usize, a: usize) {
 
 // Reads a sheet that fills the slice and judges it, the one with the number k, over buffers of these lengths; false where the file
 // ends before it.
-fn show(fd: i32, k: usize, sheet: &mut [u8], r: usize, p: usize, w: usize, a: usize) -> bool {
-    let read = io::read_full(fd, sheet);
-    if read != sheet.len() {
+fn show<F: Read, W: Write>(
+    file: &mut F,
+    output: &mut W,
+    k: usize,
+    sheet: &mut [u8],
+    r: usize,
+    p: usize,
+    w: usize,
+    a: usize,
+) -> bool {
+    if file.read_exact(sheet).is_err() {
         return false;
     }
-    io::write_all(STDOUT_FILENO, b"# ");
-    io::print_decimal(STDOUT_FILENO, k as u64);
-    io::write_all(STDOUT_FILENO, b"\n");
-    run(sheet, r, p, w, a);
+    let _ = writeln!(output, "# {k}");
+    run(output, sheet, r, p, w, a);
     true
 }
 
 // Judges the next sheet of the file, the one with the number k; false where there is none.
-fn next(fd: i32, k: usize) -> bool {
+fn next<F: Read, W: Write>(file: &mut F, output: &mut W, k: usize) -> bool {
     let mut head = [0u8; 10];
-    let got = io::read_full(fd, &mut head);
-    if got != 10 {
+    if file.read_exact(&mut head).is_err() {
         return false;
     }
     let r = u16_at(&head, 0);
@@ -123,21 +129,27 @@ fn next(fd: i32, k: usize) -> bool {
         return false;
     }
     let mut sheet = [0u8; 65536];
-    show(fd, k, &mut sheet[..length], r, p, w, a)
+    show(file, output, k, &mut sheet[..length], r, p, w, a)
 }
 
-// Judges at most 100,000 sheets.
-fn main() {
-    let fd = os::open_read(b"sheets.bin");
-    if fd < 0 {
-        os::fail(b"sheets.bin");
-        return;
-    }
+// Judges at most 100,000 sheets of the file.
+fn judge_all<F: Read, W: Write>(file: &mut F, output: &mut W) {
     let mut k = 0;
     while k < 100000 {
-        if !next(fd, k) {
+        if !next(file, output, k) {
             return;
         }
         k += 1;
+    }
+}
+
+// Judges the sheets of the file beside the program; a file that cannot be opened is told on standard error.
+fn main(rt: HostRuntime) {
+    match fs::open(&rt, "sheets.bin") {
+        Ok(file) => {
+            let mut file = file;
+            judge_all(&mut file, &mut rt.stdout());
+        }
+        Err(e) => failure::tell(&rt, "sheets.bin", Some(e)),
     }
 }

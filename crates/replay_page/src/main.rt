@@ -2,39 +2,36 @@
 // pages of each behind its number. In the file each sheet stands behind its length in four bytes.
 #![tactic(auto)]
 
-use libc::STDOUT_FILENO;
 use page_write::print_pages;
 use record::u16_at;
+use std::fs;
+use std::io::{Read, Write};
 use verdicts::judge;
 
 // Judges a sheet and prints what it gives.
-fn run(sheet: &[u8]) {
+fn run<W: Write>(output: &mut W, sheet: &[u8]) {
     let mut records = [170u8; 65536];
     let mut places = [2863311530u32; 4096];
     let mut rows = [2863311530u32; 8192];
     let mut answers = [2863311530u32; 1024];
     let outcome = judge(sheet, &mut records, &mut places, &mut rows, &mut answers);
-    print_pages(sheet, &records, &places, &rows, &answers, outcome);
+    print_pages(output, sheet, &records, &places, &rows, &answers, outcome);
 }
 
 // Reads a sheet that fills the slice and judges it, the one with the number k; false where the file ends before it.
-fn show(fd: i32, k: usize, sheet: &mut [u8]) -> bool {
-    let read = io::read_full(fd, sheet);
-    if read != sheet.len() {
+fn show<F: Read, W: Write>(file: &mut F, output: &mut W, k: usize, sheet: &mut [u8]) -> bool {
+    if file.read_exact(sheet).is_err() {
         return false;
     }
-    io::write_all(STDOUT_FILENO, b"# ");
-    io::print_decimal(STDOUT_FILENO, k as u64);
-    io::write_all(STDOUT_FILENO, b"\n");
-    run(sheet);
+    let _ = writeln!(output, "# {k}");
+    run(output, sheet);
     true
 }
 
 // Judges the next sheet of the file, the one with the number k; false where there is none, or one over 65,540 bytes.
-fn next(fd: i32, k: usize) -> bool {
+fn next<F: Read, W: Write>(file: &mut F, output: &mut W, k: usize) -> bool {
     let mut head = [0u8; 4];
-    let got = io::read_full(fd, &mut head);
-    if got != 4 {
+    if file.read_exact(&mut head).is_err() {
         return false;
     }
     let low = u16_at(&head, 0);
@@ -44,21 +41,27 @@ fn next(fd: i32, k: usize) -> bool {
         return false;
     }
     let mut sheet = [0u8; 65540];
-    show(fd, k, &mut sheet[..length])
+    show(file, output, k, &mut sheet[..length])
 }
 
-// Judges at most 100,000 sheets.
-fn main() {
-    let fd = os::open_read(b"sheets.bin");
-    if fd < 0 {
-        os::fail(b"sheets.bin");
-        return;
-    }
+// Judges at most 100,000 sheets of the file.
+fn judge_all<F: Read, W: Write>(file: &mut F, output: &mut W) {
     let mut k = 0;
     while k < 100000 {
-        if !next(fd, k) {
+        if !next(file, output, k) {
             return;
         }
         k += 1;
+    }
+}
+
+// Judges the sheets of the file beside the program; a file that cannot be opened is told on standard error.
+fn main(rt: HostRuntime) {
+    match fs::open(&rt, "sheets.bin") {
+        Ok(file) => {
+            let mut file = file;
+            judge_all(&mut file, &mut rt.stdout());
+        }
+        Err(e) => failure::tell(&rt, "sheets.bin", Some(e)),
     }
 }

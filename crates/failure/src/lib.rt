@@ -1,0 +1,122 @@
+// What went wrong with a read or a write, for the line on standard error that tells of it: a stream that keeps its last failure, and the
+// line itself, in the system's words.
+#![tactic(auto)]
+
+ghost use Rattle.std.specs.Prelude.{◌≡◌, Some, None, IfErr};
+ghost use Rattle.std.specs.Io.{ReadsAtMost, WritesAtMost};
+
+use std::io;
+use std::io::{Cursor, Read, Write};
+
+// A stream, and the failure of the last of its reads and writes that failed; none where none did. Nothing is said of its bytes.
+#[derive(Drop)]
+pub struct Watched<S> {
+    stream: S,
+    failure: Option<io::Error>,
+}
+
+impl<S> Watched<S> {
+    // A stream none of whose reads and writes has failed.
+    pub fn new(stream: S) -> Watched<S>
+        ensures { result.failure ≡ None }
+    {
+        Watched {
+            stream,
+            failure: None,
+        }
+    }
+
+    // The failure of the last of its reads and writes that failed.
+    pub fn failure(&self) -> Option<io::Error>
+        ensures { result ≡ self.now.failure }
+    {
+        self.failure
+    }
+}
+
+impl<S: Read> Read for Watched<S> {
+    fn read(&mut self, buf: &mut [u8]) -> io::Result<usize>
+        ensures bound { ReadsAtMost result buf.new }
+        ensures kept { IfErr result (λ e. self.new.failure ≡ Some e) }
+    {
+        match self.stream.read(buf) {
+            Ok(n) => Ok(n),
+            Err(e) => {
+                self.failure = Some(e);
+                Err(e)
+            }
+        }
+    }
+}
+
+impl<S: Write> Write for Watched<S> {
+    fn write(&mut self, buf: &[u8]) -> io::Result<usize>
+        ensures bound { WritesAtMost result buf.now }
+        ensures kept { IfErr result (λ e. self.new.failure ≡ Some e) }
+    {
+        match self.stream.write(buf) {
+            Ok(n) => Ok(n),
+            Err(e) => {
+                self.failure = Some(e);
+                Err(e)
+            }
+        }
+    }
+
+    fn flush(&mut self) -> io::Result<()>
+        ensures kept { IfErr result (λ e. self.new.failure ≡ Some e) }
+    {
+        match self.stream.flush() {
+            Ok(()) => Ok(()),
+            Err(e) => {
+                self.failure = Some(e);
+                Err(e)
+            }
+        }
+    }
+
+    fn write_all(&mut self, buf: &[u8]) -> io::Result<()>
+        ensures kept { IfErr result (λ e. self.new.failure ≡ Some e) }
+    {
+        match self.stream.write_all(buf) {
+            Ok(()) => Ok(()),
+            Err(e) => {
+                self.failure = Some(e);
+                Err(e)
+            }
+        }
+    }
+}
+
+// The bytes that any words of the system fit.
+const ROOM: usize = 512;
+
+// Writes a line to standard error: what failed, a colon and the system's words for it, without the number that std puts behind them. A
+// line that cannot be written is let go.
+fn tell_words(rt: &impl Eprint, what: &str, words: &str) {
+    let system = match words.split_once(" (os error ") {
+        Some((front, _)) => front,
+        None => words,
+    };
+    let _ = eprintln!(rt; "{what}: {system}");
+}
+
+// Writes a line to standard error: what failed, and the system's words for its failure, where there is one.
+pub fn tell(rt: &impl Eprint, what: &str, failure: Option<io::Error>) {
+    match failure {
+        Some(e) => {
+            let mut words = Cursor::new([0u8; ROOM]);
+            let _ = write!(words, "{e}");
+            let n = words.position() as usize;
+            let room = words.into_inner();
+            let text = room
+                .get(..n)
+                .and_then(|s| str::from_utf8(s).ok())
+                .unwrap_or("");
+            tell_words(rt, what, text);
+        }
+        None => {
+            let _ = eprintln!(rt; "{what}");
+        }
+    }
+}
