@@ -24,7 +24,8 @@ use Rattle.row_rules.specs.Term.{Site, over_parts, Term, Terms, term, stop, ◌a
 use Rattle.row_rules.proofs.TermLaws.{verdict-is}
 use Rattle.row_rules.specs.Outcome.{within, in_limits, CodedStore, outcome, row_sort}
 use Rattle.row_rules.specs.Meaning.{Means, all_of, without}
-use Rattle.row_rules.proofs.OutcomeLaws.{Grown, grown-trans, no_limit, interned-at, means-stays, room-few, refused-sort, sort-inj}
+use Rattle.row_rules.specs.Outcomes.{Grown, no_limit}
+use Rattle.row_rules.proofs.OutcomeLaws.{grown-trans, interned-at, means-stays, room-few, refused-sort, sort-inj}
 use Rattle.infer_rules.specs.Inferred.{inferred}
 use Rattle.check_rules.specs.Rank.{Rank}
 use Rattle.check_rules.specs.Checked.{checked}

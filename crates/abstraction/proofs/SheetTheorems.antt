@@ -9,7 +9,7 @@ use Rattle.row_rules.specs.declared.Cause.TheVariants.{Below}
 use Rattle.row_rules.specs.Verdict.{Verdict, sort, refused, number_of}
 use Rattle.row_rules.specs.Term.{Term, term_at, verdict_of}
 use Rattle.row_rules.specs.Meaning.{Means, free}
-use Rattle.row_rules.proofs.OutcomeLaws.{no_limit}
+use Rattle.row_rules.specs.Outcomes.{no_limit}
 use Rattle.infer_rules.specs.Inferred.{inferred, infer}
 use Rattle.check_rules.specs.Rank.{Rank}
 use Rattle.check_rules.specs.Ranks.{smt_lib}
@@ -18,7 +18,8 @@ use Rattle.check_rules.specs.Checked.{checked, check}
 use Rattle.judge_rules.specs.Judged.{accepted, judged_by, judged}
 use Rattle.judge_rules.proofs.RowLaws.{judging}
 use Rattle.judge_rules.proofs.JudgedLaws.{judged-row}
-use Rattle.judge_rules.proofs.RowExactly.{checked_row, Gives, given-over, over-given, refused_over, refused-over-free}
+use Rattle.judge_rules.specs.Given.{checked_row, Gives}
+use Rattle.judge_rules.proofs.RowExactly.{given-over, over-given, refused_over, refused-over-free}
 use Rattle.abstraction.specs.Abstraction.{Abstracts}
 use Rattle.abstraction.proofs.AbstractionTheorems.{Abstractable, inferred-able, checked-able, abstraction}
 

@@ -15,7 +15,8 @@ use Rattle.row_rules.specs.declared.Cause.TheVariants.{NoRank, Count, Misfit, Un
 use Rattle.row_rules.specs.Verdict.{sort, or_cause}
 use Rattle.row_rules.specs.Lists.{firsts, others, remaining, binding_sorts}
 use Rattle.row_rules.specs.Term.{Site}
-use Rattle.row_rules.proofs.ParlessLaws.{ParlessVerdict, ParlessSite, parless-cond, parless-need, parless-others, parless-remaining, parless-last, parless-joined}
+use Rattle.row_rules.specs.Parless.{ParlessVerdict, ParlessSite}
+use Rattle.row_rules.proofs.ParlessLaws.{parless-cond, parless-need, parless-others, parless-remaining, parless-last, parless-joined}
 use Rattle.check_rules.specs.Rank.{Rank, rank, vector, vectors_in, patterns, every_name, rank_answer, fit, first_fit, some_counts}
 use Rattle.check_rules.specs.RankLaws.{well_rank}
 use Rattle.check_rules.proofs.RankSound.{Sound}

@@ -12,7 +12,8 @@ use Rattle.row_rules.specs.declared.Cause.TheVariants.{Panics}
 use Rattle.row_rules.specs.Verdict.{Verdict, sort}
 use Rattle.row_rules.specs.Lists.{others, remaining, appended, binding_sorts}
 use Rattle.row_rules.specs.Term.{Site}
-use Rattle.row_rules.proofs.ParlessLaws.{ParlessVerdict, ParlessSite, parless-cond, parless-need, parless-others, parless-remaining, parless-last, parless-joined, parless-appended}
+use Rattle.row_rules.specs.Parless.{ParlessVerdict, ParlessSite}
+use Rattle.row_rules.proofs.ParlessLaws.{parless-cond, parless-need, parless-others, parless-remaining, parless-last, parless-joined, parless-appended}
 use Rattle.infer_rules.specs.declared.Family.{Family}
 use Rattle.infer_rules.specs.declared.Family.TheVariants.{Truth, Integer, Decimal, Text, Regular, Vector, OneBit, Bits, Constant, Concat, First, Second, Last, Sum, Element, RareList, Singleton, Tuple, UnitTuple, Transpose, Join, Product}
 use Rattle.infer_rules.specs.Family.{family_of}

@@ -19,7 +19,8 @@ use Rattle.row_rules.specs.declared.Cause.TheVariants.{Below, Panics, Limit, Ful
 use Rattle.row_rules.specs.Verdict.{Verdict, sort, refused, number_of}
 use Rattle.row_rules.specs.Term.{Site, constants_at, sorts_given, verdict_at}
 use Rattle.row_rules.specs.Outcome.{within, CodedStore, outcome, row_sort}
-use Rattle.row_rules.proofs.OutcomeLaws.{no_limit, answered, outcome-is, interned-at, room-few, refusal-large}
+use Rattle.row_rules.specs.Outcomes.{no_limit, answered}
+use Rattle.row_rules.proofs.OutcomeLaws.{outcome-is, interned-at, room-few, refusal-large}
 use Rattle.infer_rules.specs.Inferred.{inferred}
 use Rattle.infer_rules.proofs.PanicTheorems.{inferred-causes}
 use Rattle.check_rules.specs.Rank.{Rank}

@@ -12,7 +12,8 @@ use Rattle.row_rules.specs.Verdict.{Verdict}
 use Rattle.row_rules.specs.Term.{term_at, verdict_of}
 use Rattle.row_rules.specs.Meaning.{Means, limited, free}
 use Rattle.row_rules.specs.FreeLaws.{AtOrBelow, free-exactly}
-use Rattle.row_rules.proofs.OutcomeLaws.{Grown, means-stays, grown-trans}
+use Rattle.row_rules.specs.Outcomes.{Grown}
+use Rattle.row_rules.proofs.OutcomeLaws.{means-stays, grown-trans}
 use Rattle.infer_rules.specs.Inferred.{infer}
 use Rattle.check_rules.specs.Rank.{Rank}
 use Rattle.check_rules.specs.Checked.{check}

@@ -10,7 +10,8 @@ use Rattle.row_rules.specs.declared.Cause.TheVariants.{Limit, Full}
 use Rattle.row_rules.specs.Verdict.{Verdict, sort, refused, number_of}
 use Rattle.row_rules.specs.Term.{Site, over_parts, constants_at, sorts_given, verdict_at}
 use Rattle.row_rules.specs.Outcome.{row_sort}
-use Rattle.row_rules.proofs.OutcomeLaws.{no_limit, Passes, Overflows, plain-limit, plain-full}
+use Rattle.row_rules.specs.Outcomes.{no_limit, Passes, Overflows}
+use Rattle.row_rules.proofs.OutcomeLaws.{plain-limit, plain-full}
 use Rattle.infer_rules.specs.Inferred.{inferred}
 use Rattle.infer_rules.proofs.PanicTheorems.{inferred-causes}
 use Rattle.check_rules.specs.Rank.{Rank}

@@ -16,7 +16,8 @@ use Rattle.substitution.specs.Matching.{matches, Within, listed_in, known, known
 use Rattle.substitution.proofs.MatchingLaws.{known-parless, unlisted-free, free-unlisted, matching-premise, match-exact}
 use Rattle.row_rules.specs.declared.Cause.TheVariants.{Barred, NoAssignment}
 use Rattle.row_rules.specs.Verdict.{sort, refused, number_of}
-use Rattle.row_rules.proofs.OutcomeLaws.{no_limit, refused-sort, sort-inj}
+use Rattle.row_rules.specs.Outcomes.{no_limit}
+use Rattle.row_rules.proofs.OutcomeLaws.{refused-sort, sort-inj}
 use Rattle.check_rules.specs.Parts.{In, first, later, PartOf, whole, in_body, in_list, Value}
 use Rattle.check_rules.proofs.FitLaws.{sort-refused, other-cause}
 use Rattle.judge_rules.proofs.CauseTheorems.{code-cause}

@@ -9,7 +9,7 @@ use Rattle.row_rules.specs.Term.{term_at}
 use Rattle.row_rules.specs.Meaning.{without}
 use Rattle.check_rules.specs.Routes.{replace, clear_term}
 use Rattle.judge_rules.specs.Judged.{accepted, judged}
-use Rattle.judge_rules.proofs.RowExactly.{Gives}
+use Rattle.judge_rules.specs.Given.{Gives}
 use Rattle.judge_rules.proofs.TwoRoutes.{two-routes}
 
 abbrev pub lent : Lengths

@@ -14,7 +14,8 @@ use Rattle.row_rules.specs.declared.Cause.TheVariants.{Below, Panics}
 use Rattle.row_rules.specs.Verdict.{Verdict, sort, refused, number_of}
 use Rattle.row_rules.specs.Term.{term_at, verdict_of}
 use Rattle.row_rules.specs.Meaning.{Means, limited, free}
-use Rattle.row_rules.proofs.OutcomeLaws.{no_limit, refusal-large, means-sort, room-few}
+use Rattle.row_rules.specs.Outcomes.{no_limit}
+use Rattle.row_rules.proofs.OutcomeLaws.{refusal-large, means-sort, room-few}
 use Rattle.infer_rules.specs.Inferred.{infer}
 use Rattle.check_rules.specs.Rank.{Rank}
 use Rattle.check_rules.specs.Ranks.{smt_lib}
@@ -22,19 +23,12 @@ use Rattle.check_rules.specs.Checked.{check}
 use Rattle.check_rules.specs.Rules.{HasSort}
 use Rattle.check_rules.proofs.RankSound.{Sound, smt_lib-sound}
 use Rattle.check_rules.proofs.RuleTheorems.{checked-exactly}
+use Rattle.judge_rules.specs.Given.{checked_row, Gives}
 use Rattle.judge_rules.specs.Judged.{accepted, judged_by, judged}
 use Rattle.judge_rules.proofs.RowLaws.{judging}
 use Rattle.judge_rules.proofs.JudgedLaws.{judged-row, judged-store}
 use Rattle.judge_rules.proofs.GivenLaws.{judged-own, judged-given}
 use Rattle.judge_rules.proofs.CauseTheorems.{one-cause}
-
--- The checked row of a term, and the sort that it gives: "A route gives a sort when the term's checked row is no refusal"; its code is
--- then the number of s.
-abbrev pub checked_row : List ℕ → ℕ → ℕ
-checked_row rows t = get_or rows (2 * t + 1) 0
-
-abbrev pub Gives : List Sort → List ℕ → ℕ → Sort → Type 0
-Gives st rows t s = (checked_row rows t < 65536) × (get_or st (checked_row rows t) leaf ≡ s)
 
 -- In either column (0 inferred, 1 checked), over any ranks.
 module _ (R : ℕ → List Rank) (s : List ℕ) (l : Lengths) (h : Sheet) (st : List Sort) (rows answers : List ℕ)

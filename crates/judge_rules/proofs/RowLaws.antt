@@ -18,7 +18,8 @@ use Rattle.row_rules.specs.Verdict.{Verdict, sort}
 use Rattle.row_rules.specs.Term.{Site, Term, tree_of, term_at, verdict_of, verdict_at}
 use Rattle.row_rules.specs.Outcome.{CodedStore, outcome, row_sort}
 use Rattle.row_rules.specs.Meaning.{Means, limited, all_of, without, free}
-use Rattle.row_rules.proofs.OutcomeLaws.{Accepted, any-accepted, Grown, grown-self, grown-trans, outcome-grown, outcome-means, outcome-refused, means-stays, room-few}
+use Rattle.row_rules.specs.Outcomes.{Accepted, Grown}
+use Rattle.row_rules.proofs.OutcomeLaws.{any-accepted, grown-self, grown-trans, outcome-grown, outcome-means, outcome-refused, means-stays, room-few}
 use Rattle.row_rules.proofs.TermLaws.{verdict-is}
 use Rattle.infer_rules.specs.Inferred.{inferred, infer}
 use Rattle.check_rules.specs.Rank.{Rank}

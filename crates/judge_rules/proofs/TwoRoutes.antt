@@ -17,7 +17,8 @@ use Rattle.check_rules.proofs.RankSound.{Sound, smt_lib-sound}
 use Rattle.check_rules.proofs.RouteLaws.{routes}
 use Rattle.check_rules.proofs.RouteTheorems.{Allowed, routes-allowed}
 use Rattle.judge_rules.specs.Judged.{accepted, judged_by, judged}
-use Rattle.judge_rules.proofs.RowExactly.{checked_row, Gives, given-checked, checked-given}
+use Rattle.judge_rules.specs.Given.{checked_row, Gives}
+use Rattle.judge_rules.proofs.RowExactly.{given-checked, checked-given}
 
 -- What holds of the trees of two terms holds of their checked rows: if the tree of t' has the sort b wherever the tree of t has a,
 -- then so have their rows.

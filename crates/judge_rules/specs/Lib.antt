@@ -2,3 +2,4 @@ pub mod Rows
 pub mod Questions
 pub mod QuestionLaws
 pub mod Judged
+pub mod Given

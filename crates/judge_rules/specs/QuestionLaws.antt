@@ -16,7 +16,8 @@ use Rattle.row_rules.specs.declared.Cause.TheVariants.{Limit, Full, Barred}
 use Rattle.row_rules.specs.Verdict.{Verdict, sort, need, number_of}
 use Rattle.row_rules.specs.Outcome.{CodedStore, outcome}
 use Rattle.row_rules.specs.Meaning.{Means, limited}
-use Rattle.row_rules.proofs.OutcomeLaws.{no_limit, Accepted, Passes, Overflows, any-accepted, outcome-refused, plain-limit, plain-full, Grown, grown-self, grown-trans, outcome-grown, outcome-means, means-stays}
+use Rattle.row_rules.specs.Outcomes.{no_limit, Accepted, Passes, Overflows, Grown}
+use Rattle.row_rules.proofs.OutcomeLaws.{any-accepted, outcome-refused, plain-limit, plain-full, grown-self, grown-trans, outcome-grown, outcome-means, means-stays}
 use Rattle.judge_rules.specs.Questions.{first_sort, rest_sorts, yes_no, assigned, match_answer, apply_answer, answer_of, answers_of}
 
 -- The verdict of a question 1 or 2.

@@ -14,7 +14,7 @@ use Rattle.printout_text.specs.NewlineLaws.{wrote-first}
 use Rattle.printout_text.specs.TextLaws.{refused_as, done_none, done_end}
 use Rattle.page.specs.Page.{paged}
 use Rattle.page.specs.Numbered.{page_count, page_line_of}
-use Rattle.page.specs.NumberedLaws.{lines-paged}
+use Rattle.page.proofs.NumberedLaws.{lines-paged}
 use Rattle.page_lines.specs.Pages.{PageHas}
 use Rattle.page_text.specs.PageText.{PageTextIs, PageStore}
 use Rattle.page_text.specs.PageLeftLaws.{page-piece, page-some}

@@ -24,7 +24,8 @@ use Rattle.row_rules.specs.declared.RowVerdict.{RowVerdict}
 use Rattle.row_rules.specs.declared.RowVerdict.TheVariants.{Sort as Number, Refused}
 use Rattle.row_rules.specs.Verdict.{Verdict, sort, refused, number_of, code_of}
 use Rattle.row_rules.specs.Outcome.{CodedStore, refusal, within, outcome}
-use Rattle.row_rules.proofs.OutcomeLaws.{refusal-large, answered}
+use Rattle.row_rules.specs.Outcomes.{answered}
+use Rattle.row_rules.proofs.OutcomeLaws.{refusal-large}
 use Rattle.row_answer.specs.declared.Answer.{Answer}
 use Rattle.row_answer.specs.Answer.{AnswerLeft, AnswerIs, accepting, refusing}
 use Rattle.row_answer.specs.Within.{within-at}

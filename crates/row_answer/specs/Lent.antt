@@ -9,7 +9,8 @@ use Rattle.substitution.specs.Premises.{parless}
 use Rattle.matching_tables.specs.Tables.{Blank}
 use Rattle.row_rules.specs.Verdict.{Verdict}
 use Rattle.row_rules.specs.Outcome.{CodedStore}
-use Rattle.row_rules.proofs.ParlessLaws.{ParlessVerdict, parless_each, parless-at, parless-outcome}
+use Rattle.row_rules.specs.Parless.{ParlessVerdict, parless_each}
+use Rattle.row_rules.proofs.ParlessLaws.{parless-at, parless-outcome}
 use Rattle.row_answer.specs.declared.Answer.{Answer}
 use Rattle.row_answer.specs.Answer.{AnswerIs}
 use Rattle.row_answer.specs.Heads.{plain_head, par_head, other, head_in}

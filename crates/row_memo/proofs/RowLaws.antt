@@ -27,7 +27,8 @@ use Rattle.row_rules.specs.declared.RowVerdict.TheVariants.{Sort as Number, Refu
 use Rattle.row_rules.specs.Verdict.{Verdict, sort, refused, number_of, code_of}
 use Rattle.row_rules.specs.Term.{Site}
 use Rattle.row_rules.specs.Outcome.{within, CodedStore, outcome}
-use Rattle.row_rules.proofs.OutcomeLaws.{answered, any-accepted, interned-at, room-few}
+use Rattle.row_rules.specs.Outcomes.{answered}
+use Rattle.row_rules.proofs.OutcomeLaws.{any-accepted, interned-at, room-few}
 use Rattle.infer_rules.specs.Inferred.{inferred, inferred_app}
 use Rattle.check_rules.specs.Ranks.{smt_lib}
 use Rattle.check_rules.specs.Checked.{checked, checked_app}

@@ -15,7 +15,7 @@ use Rattle.record.specs.StoreTheorems.{inside, intern-holds}
 use Rattle.sheet.specs.Sheet.{Lengths}
 use Rattle.row_rules.specs.Verdict.{Verdict, sort, refused}
 use Rattle.row_rules.specs.Outcome.{within, CodedStore, outcome}
-use Rattle.row_rules.proofs.OutcomeLaws.{answered}
+use Rattle.row_rules.specs.Outcomes.{answered}
 
 ---------------------------------------------------------------- distinct sorts among others
 -- The others without the first that is equal.

@@ -9,7 +9,8 @@ use Rattle.reader.specs.declared.TermRecord.{TermRecord}
 use Rattle.substitution.specs.Premises.{parless}
 use Rattle.row_rules.specs.Verdict.{Verdict}
 use Rattle.row_rules.specs.Term.{Site}
-use Rattle.row_rules.proofs.ParlessLaws.{ParlessVerdict, ParlessSite, parless_each, parless-at, parless-bindings, parless-rows, parless-over}
+use Rattle.row_rules.specs.Parless.{ParlessVerdict, ParlessSite, parless_each}
+use Rattle.row_rules.proofs.ParlessLaws.{parless-at, parless-bindings, parless-rows, parless-over}
 use Rattle.row_answer.specs.declared.Answer.{Answer}
 use Rattle.row_answer.specs.Arguments.{arguments_of, bound_numbers}
 use Rattle.row_answer.specs.Lent.{Lent, lent-after}

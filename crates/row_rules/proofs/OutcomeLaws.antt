@@ -14,6 +14,7 @@ use Rattle.row_rules.specs.declared.Cause.{Cause}
 use Rattle.row_rules.specs.declared.Cause.TheVariants.{Below, Panics, Limit, Full, NoRank, Count, Misfit, Unassigned, Barred, NoAssignment}
 use Rattle.row_rules.specs.Verdict.{Verdict, sort, refused, need, number_of}
 use Rattle.row_rules.specs.Outcome.{within, CodedStore, numbered, outcome}
+use Rattle.row_rules.specs.Outcomes.{answered, Accepted, no_limit, Passes, Overflows, Grown}
 use Rattle.row_rules.specs.Meaning.{Means, limited}
 
 -- Every refusal is coded by 65,536 or more, every number of a store with room by less than 4,096.
@@ -53,25 +54,10 @@ outcome-refused l st (sort s) h =
     (λ w. rw w refl)
 
 ---------------------------------------------------------------- the three ways
--- The outcome of an answer, by the two tests: within its limits, and room for the store after interning it.
-abbrev pub answered : Lengths → List Sort → Sort → Bool → Bool → CodedStore
-answered l st s w r = numbered st (need w Limit (need r Full (sort s)))
 
 pub outcome-is : (l : Lengths) (st : List Sort) (s : Sort) → outcome l st (sort s) ≡ answered l st s (within s) (room l.records l.places (intern s st))
 unfolding outcome
 outcome-is l st s = refl
-
--- AN ACCEPTED OUTCOME: the store after interning the answer, which has room, and the answer's number in it.
-pub record Accepted (l : Lengths) (st : List Sort) (s : Sort) (o : CodedStore) : Type 0 where
-  pub limits : within s ≡ true
-  pub roomy : room l.records l.places o.store ≡ true
-  pub grown : o.store ≡ intern s st
-  pub number : o.code ≡ index_of s o.store
-  pub below : o.code < length o.store
-  pub small : o.code < 4096
-  pub there : get_or o.store o.code leaf ≡ s
-  -- It adds only the sorts inside the answer.
-  pub only : (t : Sort) → memb t o.store ≡ memb t st || inside t s
 
 accepted-by : (l : Lengths) (st : List Sort) (s : Sort) (w r : Bool) → within s ≡ w → room l.records l.places (intern s st) ≡ r
     → (answered l st s w r).code < 65536 → Accepted l st s (answered l st s w r)
@@ -136,18 +122,6 @@ pub outcome-full : (l : Lengths) (st : List Sort) (s : Sort)
 unfolding outcome
 outcome-full l st s = full_by l st s (within s) (room l.records l.places (intern s st)) refl
 
--- The same of any verdict that is no 22 or 23 by itself; those of both columns and of the questions are none.
-unfoldable pub no_limit : Verdict → Bool
-no_limit (sort s) = true
-no_limit (refused c) = not (limited (number_of c * 65536))
-
--- The verdict is a sort that passes a limit; and one within the limits whose sorts the store cannot hold.
-abbrev pub Passes : Verdict → Type 0
-Passes v = (s : Sort) × (v ≡ sort s) × (within s ≡ false)
-
-abbrev pub Overflows : Lengths → List Sort → Verdict → Type 0
-Overflows l st v = (s : Sort) × (v ≡ sort s) × (within s ≡ true) × (room l.records l.places (intern s st) ≡ false)
-
 -- A refusal is no sort, and two sorts of one verdict are one.
 pub refused-sort : {C : Type 0} {c : Cause} {s : Sort} → refused c ≡ sort s → C
 refused-sort {C} {c} {s} e = let z : true ≡ false = cc in absurd (true≢false z)
@@ -181,12 +155,6 @@ plain-full l st (refused c) p = (
 )
 
 ---------------------------------------------------------------- growth
--- WHAT MAY BECOME OF A STORE: it only grows, and distinct sorts, parts before wholes and room stay.
-pub record Grown (l : Lengths) (st st' : List Sort) : Type 0 where
-  pub starts : Starts st st'
-  pub once : Once st → Once st'
-  pub ordered : Ordered st → Ordered st'
-  pub roomy : room l.records l.places st ≡ true → room l.records l.places st' ≡ true
 
 pub grown-self : (l : Lengths) (st : List Sort) → Grown l st st
 grown-self l st = record { starts = starts-self st; once = λ o. o; ordered = λ o. o; roomy = λ o. o }

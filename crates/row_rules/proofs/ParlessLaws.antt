@@ -11,28 +11,11 @@ use Rattle.sheet.specs.Sheet.{Lengths, Binding, bindings_of}
 use Rattle.substitution.specs.Premises.{parless, parless_all}
 use Rattle.row_rules.specs.declared.Cause.{Cause}
 use Rattle.row_rules.specs.declared.Cause.TheVariants.{Limit, Full}
+use Rattle.row_rules.specs.Parless.{ParlessVerdict, ParlessSite, parless_each}
 use Rattle.row_rules.specs.Verdict.{Verdict, sort, refused, need}
 use Rattle.row_rules.specs.Lists.{others, remaining, last_of, joined, appended, binding_sorts}
 use Rattle.row_rules.specs.Term.{Site, over_parts, sorts_given}
 use Rattle.row_rules.specs.Outcome.{outcome, numbered, in_limits, has_room, row_sort}
-
----------------------------------------------------------------- definitions
--- A verdict's sort has no Par in it; a refusal has no sort.
-abbrev pub ParlessVerdict : Verdict → Type 0
-ParlessVerdict (sort s) = parless s ≡ true
-ParlessVerdict (refused c) = Unit {0}
-
--- No sort that a record names has one.
-pub record ParlessSite (z : Site) : Type 0 where
-  pub own : parless z.own ≡ true
-  pub args : parless_all z.args ≡ true
-  pub bindings : parless_all (binding_sorts z.bindings) ≡ true
-
--- No sort of a store has one.
-unfoldable pub parless_each : List Sort → Bool
-unfolding parless
-parless_each [] = true
-parless_each (s ∷ st) = parless s && parless_each st
 
 ---------------------------------------------------------------- verdicts
 pub parless-cond : (t : Bool) (v w : Verdict) → ParlessVerdict v → ParlessVerdict w → ParlessVerdict (cond t v w)

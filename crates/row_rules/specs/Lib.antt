@@ -4,3 +4,5 @@ pub mod Term
 pub mod Outcome
 pub mod Meaning
 pub mod FreeLaws
+pub mod Parless
+pub mod Outcomes

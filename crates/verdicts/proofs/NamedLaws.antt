@@ -13,7 +13,8 @@ use Rattle.record.specs.Decode.{fields_at, store_of, sort_at, Stored}
 use Rattle.record.specs.StoreLaws.{sort-made}
 use Rattle.store.specs.Entry.{KindHas}
 use Rattle.substitution.specs.Premises.{parless}
-use Rattle.row_rules.proofs.ParlessLaws.{parless_each, parless-sorts, parless-append}
+use Rattle.row_rules.specs.Parless.{parless_each}
+use Rattle.row_rules.proofs.ParlessLaws.{parless-sorts, parless-append}
 use Rattle.verdicts.specs.Named.{ParIn, UsesNames}
 
 -- None of the first k sorts is a Par.

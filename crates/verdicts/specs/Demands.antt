@@ -20,7 +20,7 @@ use Rattle.row_rules.specs.Verdict.{sort, refused, number_of}
 use Rattle.row_rules.specs.Term.{term_at}
 use Rattle.row_rules.specs.Meaning.{free}
 use Rattle.row_rules.specs.FreeLaws.{free-same}
-use Rattle.row_rules.proofs.OutcomeLaws.{no_limit}
+use Rattle.row_rules.specs.Outcomes.{no_limit}
 use Rattle.infer_rules.specs.Inferred.{infer}
 use Rattle.check_rules.specs.Ranks.{smt_lib}
 use Rattle.check_rules.specs.Checked.{check}
@@ -32,7 +32,8 @@ use Rattle.judge_rules.specs.Judged.{Judgement, accepted, judged_sheet, judged_b
 use Rattle.judge_rules.specs.QuestionLaws.{Answers, question_at}
 use Rattle.judge_rules.proofs.JudgedLaws.{told, judged-counts, judged-answer}
 use Rattle.judge_rules.proofs.KnownLaws.{judged-rows-known}
-use Rattle.judge_rules.proofs.RowExactly.{checked_row, row_has, row-exactly, row-infers, row-infers-exactly, row-refused-for, row-refused-exactly, row-panics-for, row-panics-exactly}
+use Rattle.judge_rules.specs.Given.{checked_row}
+use Rattle.judge_rules.proofs.RowExactly.{row_has, row-exactly, row-infers, row-infers-exactly, row-refused-for, row-refused-exactly, row-panics-for, row-panics-exactly}
 use Rattle.judge_rules.proofs.TwoRoutes.{two-routes}
 use Rattle.verdicts.specs.declared.Outcome.{Outcome}
 use Rattle.verdicts.specs.Judge.{ReadsBack, JudgeIs}
