@@ -5,7 +5,7 @@ use lib.Dec.{ltb}
 use lib.IntN.{nat_abs}
 use lib.Signed.{lt_z}
 use Rattle.program_input.specs.declared.Got.{Got}
-use Rattle.program_input.specs.declared.Got.TheVariants.{Bytes as Some, End, Failed as NoRead}
+use Rattle.program_input.specs.declared.Got.TheVariants.{Bytes as Given, End, Failed as NoRead}
 use Rattle.program_input.specs.Input.{got_of, counted, GotWithin}
 
 none : (k : ℕ) → T (ltb k 0) → ⊥
@@ -25,12 +25,12 @@ pub told-end : (z : ℤ) (room n : ℕ) → lt_z z (pos 0) ≡ false → n ≡ m
 unfolding counted
 told-end z room n e c h = ap counted (sym h ∙ c) ∙ told-counted z room e
 
-some : (m : ℕ) → (m ≡ 0 → ⊥) → Some m ≡ counted m
+some : (m : ℕ) → (m ≡ 0 → ⊥) → Given m ≡ counted m
 unfolding counted
 some zero d = absurd (d refl)
 some (suc m) d = refl
 
-pub told-bytes : (z : ℤ) (room n : ℕ) → lt_z z (pos 0) ≡ false → n ≡ min (nat_abs z) room → (n ≡ 0 → ⊥) → Some n ≡ got_of z room
+pub told-bytes : (z : ℤ) (room n : ℕ) → lt_z z (pos 0) ≡ false → n ≡ min (nat_abs z) room → (n ≡ 0 → ⊥) → Given n ≡ got_of z room
 told-bytes z room n e c d = some n d ∙ ap counted c ∙ told-counted z room e
 
 counted-within : (from all n : ℕ) → from + n ≤ all → GotWithin from all (counted n)

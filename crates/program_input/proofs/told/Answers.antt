@@ -2,7 +2,7 @@
 -- The three ways are those of the definition.
 use Rattle.std.proofs.Common.{◌≡◌, subst, length, ℤ, to_z, of_z, w64}
 use mir.Facts.{to_z-of_z}
-use Rattle.program_input.specs.declared.Got.TheVariants.{Bytes as Some, End, Failed as NoRead}
+use Rattle.program_input.specs.declared.Got.TheVariants.{Bytes as Given, End, Failed as NoRead}
 use Rattle.program_input.specs.Input.{got_of}
 use Rattle.program_input.proofs.ToldLaws.{told-failed, told-end, told-bytes}
 use Rattle.program_input.proofs.told.Goals as goal
@@ -23,4 +23,4 @@ pub returns : goal.returns
 returns c =
     let z = to_z w64 (of_z w64 c.args.answer) in
     let room = length c.args.buffer.now in
-    subst (λ (y : ℤ). Some c.min-n.result ≡ got_of y room) (to_z-of_z {w = w64} c.ranges.answer) (told-bytes z room c.min-n.result c.if-answer-lt0.false c.min-n.ensures c.if-n-eq0.false)
+    subst (λ (y : ℤ). Given c.min-n.result ≡ got_of y room) (to_z-of_z {w = w64} c.ranges.answer) (told-bytes z room c.min-n.result c.if-answer-lt0.false c.min-n.ensures c.if-n-eq0.false)
