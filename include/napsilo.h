@@ -1,7 +1,7 @@
 /*
  * Napsilo from C: a sheet judged into four lent buffers, its printout as text, and its rows on pages.
  *
- * The functions stand in libexports.a, which `rt staticlib exports` writes to target/staticlib. docs/FORMAT.md has the sheet, the
+ * The functions stand in libexports.a, which `rt lib` in crates/exports writes to crates/exports/out. docs/FORMAT.md has the sheet, the
  * rows and all numbers; examples/c/judge.c and examples/c/page.c are programs over this header.
  *
  * The functions take any bytes, any lengths, and buffers that hold whatever they hold. They read the sheet, read and write the
