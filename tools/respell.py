@@ -1,7 +1,7 @@
 #!/usr/bin/env python3
 """Spells this repository's own definitions and lemmas as today's Rattle does: words in snake case, types in camel case.
 
-usage: python3 tools/respell.py [FOLDER]     once, at the top, after /opt/rattle/port/port.py
+usage: python3 tools/respell.py [FOLDER]     once, at the top, after the kit's port.py
 
     sortOf -> sort_of, applyAll-empty -> apply_all-empty, noNames -> no_names
 

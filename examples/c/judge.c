@@ -1,7 +1,7 @@
 /*
  * Judges the sheet in a file and prints its rows and answers as numbers, then the library's text.
  *
- *   cc -I include examples/c/judge.c -L crates/exports/out -lexports -o target/judge
+ *   mkdir -p target && cc -I include examples/c/judge.c -L crates/exports/out -lexports -o target/judge
  *   target/judge examples/session.sheet
  *
  * The exit status is 0 if every checked row is a sort, 1 if one is refused, 2 if the sheet is, 3 if it cannot be read or its text not

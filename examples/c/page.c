@@ -1,7 +1,7 @@
 /*
  * Prints the rows of the sheet in a file on pages of 80 columns and 60 lines, eight pages at a time.
  *
- *   cc -I include examples/c/page.c -L crates/exports/out -lexports -o target/page
+ *   mkdir -p target && cc -I include examples/c/page.c -L crates/exports/out -lexports -o target/page
  *   target/page examples/session.sheet
  *
  * The exit status is 0, or 1 if the sheet cannot be read or its pages not be written.

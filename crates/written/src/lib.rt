@@ -1,4 +1,4 @@
-// How much of a printout or of the pages was written to an output. The one call of `write_all` stands here, in `hand`, and so does
+// How much of a printout or of the pages was written to an output. The one call of `write_all` of it stands here, in `hand`, and so does
 // all that makes a `Written`: its fields are private, so that elsewhere a line counts as written only where its bytes were handed over.
 #![tactic(auto)]
 

@@ -82,6 +82,17 @@ fn a_failed_write_is_told() {
 }
 
 #[test]
+fn a_pipe_that_nobody_reads_is_a_failed_write() {
+    for program in programs() {
+        let (reader, writer) = std::io::pipe().expect("a pipe");
+        drop(reader);
+        let done = run(&program, sheet(), writer.into());
+        told(&program, &done, "standard output: Broken pipe");
+        assert!(done.status.success());
+    }
+}
+
+#[test]
 fn a_whole_run_tells_nothing_and_prints_every_line() {
     for program in programs() {
         let done = run(&program, sheet(), Stdio::piped());
