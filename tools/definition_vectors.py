@@ -3,15 +3,15 @@
 
   definition_vectors.py gen  MODE [--from A] [--to B] [--per N] [--only I,J,..]   write the crates v0, v1, .. into vectors-check
   definition_vectors.py ask  MODE --only I,J,..                                     write crate vask, whose refused examples show what the definitions give
-  definition_vectors.py read MODE LOG..                                             list the examples that failed in the logs of `rt dev vK`
+  definition_vectors.py read MODE LOG..                                             list the examples that failed in the logs of `rt check` in vK
   definition_vectors.py told MODE LOG                                               show what they say, beside the expected
-  definition_vectors.py strip                                                       take functions and proofs out of the copied crates (definitions stay)
+  definition_vectors.py strip MODE                                                take out of the copied crates all but the definitions under test
 
 MODE: program (printed lines), library (outcome and four buffers), reader (program sheets: refusal number or 0; needs crate sheet only),
       readlib (the same for the library's sheets and lent lengths).
 Vectors are numbered from 0 in the order of the file.
 """
-import argparse, os, re, sys, json
+import argparse, os, re, shutil, sys
 
 SHARED = os.environ.get('VECTORS_IN', 'vectors')
 OUT = os.environ.get('VECTORS_OUT', 'vectors-check')
@@ -78,31 +78,22 @@ def lines_text(v):
     return ''.join(l + '\n' for l in v.lines)
 
 
-def lent_name():
-    s = open(OUT + '/crates/sheet/specs/Sheet.antt').read()
-    return re.search(r'pub record (Lent|Lengths)\b', s).group(1)
-
-
 HEAD = '''-- Made by tools/definition_vectors.py: vectors as examples.
-use Prim.Native.Nat.{ℕ, zero, suc, _+_, _*_, _-_}
+use Rattle.std.specs.Prelude.{ℕ, zero, suc, ◌+◌, ◌*◌, ◌-◌, ◌≡◌, refl, Bool, true, false, cond, ◌&&◌, List, [], ◌∷◌, eqb, ltb}
 use Prim.Native.Char.{code}
-use Prim.Native.String.{String, [] as empty, _∷_ as _before_}
-use mathlib.Core.Path.{_≡_, refl}
-use mathlib.Core.Bool.{Bool, true, false, cond, _&&_}
-use mathlib.Core.List.{List, [], _∷_}
-use lib.Dec.{eqb, ltb}
-use Rattle·sheet.specs.Sheet.{%(lent)s}
+use Prim.Native.String.{String, [] as empty, ◌∷◌ as ◌before◌}
+use Rattle.sheet.specs.Sheet.{%(uses_sheet)s}
 %(uses)s
 
-abbrev eqList : List ℕ → List ℕ → Bool
-eqList [] [] = true
-eqList [] (b ∷ bs) = false
-eqList (a ∷ as′) [] = false
-eqList (a ∷ as′) (b ∷ bs) = eqb a b && eqList as′ bs
+abbrev eq_list : List ℕ → List ℕ → Bool
+eq_list [] [] = true
+eq_list [] (b ∷ bs) = false
+eq_list (a ∷ as') [] = false
+eq_list (a ∷ as') (b ∷ bs) = eqb a b && eq_list as' bs
 
-abbrev bytesOfText : String → List ℕ
-bytesOfText empty = []
-bytesOfText (c before s) = code c ∷ bytesOfText s
+abbrev bytes_of_text : String → List ℕ
+bytes_of_text empty = []
+bytes_of_text (c before s) = code c ∷ bytes_of_text s
 
 -- numbers as one number, in a base and behind a leading 1: a refused `refl` then shows them
 abbrev packed : ℕ → List ℕ → ℕ → ℕ
@@ -110,15 +101,15 @@ packed base [] n = n
 packed base (b ∷ bs) n = packed base bs (n * base + b)
 
 -- (a λ, since antt computes every argument of a function, also those of `cond`)
-abbrev byBool : Bool → (ℕ → List ℕ) → (ℕ → List ℕ) → List ℕ
-byBool true f g = f 0
-byBool false f g = g 0
+abbrev by_bool : Bool → (ℕ → List ℕ) → (ℕ → List ℕ) → List ℕ
+by_bool true f g = f 0
+by_bool false f g = g 0
 
 -- the line k of a text
-abbrev lineAt : List ℕ → ℕ → List ℕ
-lineAt [] k = []
-lineAt (b ∷ bs) zero = byBool (eqb b 10) (λ u. []) (λ u. b ∷ lineAt bs zero)
-lineAt (b ∷ bs) (suc k) = byBool (eqb b 10) (λ u. lineAt bs k) (λ u. lineAt bs (suc k))
+abbrev line_of : List ℕ → ℕ → List ℕ
+line_of [] k = []
+line_of (b ∷ bs) zero = by_bool (eqb b 10) (λ u. []) (λ u. b ∷ line_of bs zero)
+line_of (b ∷ bs) (suc k) = by_bool (eqb b 10) (λ u. line_of bs k) (λ u. line_of bs (suc k))
 
 abbrev nibble : ℕ → ℕ
 nibble c = cond (ltb c 58) (c - 48) (c - 87)
@@ -128,38 +119,38 @@ hex empty = []
 hex (a before empty) = []
 hex (a before (b before s)) = (nibble (code a) * 16 + nibble (code b)) ∷ hex s
 
-abbrev lent : ℕ → ℕ → ℕ → ℕ → %(lent)s
+abbrev lent : ℕ → ℕ → ℕ → ℕ → Lengths
 lent a b c d = record { records = a; places = b; rows = c; answers = d }
 %(more)s
 '''
 
-READER_USES = '''use Rattle·sheet.specs.Sheet.{Sheet, Reading, readRefused, got, readSheet}
-use Rattle·reader.specs.Reader.{refusalNumber}'''
+READER_USES = '''use Rattle.sheet.specs.Sheet.Reading.{read_refused, got}
+use Rattle.reader.specs.Reader.{refusal_number}'''
 READER_MORE = '''
-abbrev outcomeOf : Reading Sheet → ℕ
-outcomeOf (readRefused e) = refusalNumber e
-outcomeOf (got a x) = 0
+abbrev outcome_of : Reading Sheet → ℕ
+outcome_of (read_refused e) = refusal_number e
+outcome_of (got a x) = 0
 '''
-PROGRAM_USES = '''use Rattle·judge_rules.specs.Judged.{judged}
-use Rattle·printout.specs.Printed.{printed}'''
-LIBRARY_USES = '''use Rattle·judge_rules.specs.Judged.{Judgement, outcomeNumber, judged, recordsAfter, placesAfter, rowsAfter, answersAfter}'''
+PROGRAM_USES = '''use Rattle.judge_rules.specs.Judged.{judged}
+use Rattle.printout.specs.Printed.{printed}'''
+LIBRARY_USES = '''use Rattle.judge_rules.specs.Judged.{Judgement, outcome_number, judged, records_after, places_after, rows_after, answers_after}'''
 LIBRARY_MORE = '''
 -- the outcome and the four buffers at exit, one after the other; the lengths are those lent
-abbrev exits : %(lent)s → Judgement → List ℕ → List ℕ → List ℕ → List ℕ → ℕ → Bool
+abbrev exits : Lengths → Judgement → List ℕ → List ℕ → List ℕ → List ℕ → ℕ → Bool
+unfolding records_after places_after rows_after answers_after
 exits l j a b c d n =
-    eqb (outcomeNumber j) n && (eqList (recordsAfter l j) a && (eqList (placesAfter l j) b && (eqList (rowsAfter l j) c && eqList (answersAfter l j) d)))
+    eqb (outcome_number j) n && (eq_list (records_after l j) a && (eq_list (places_after l j) b && (eq_list (rows_after l j) c && eq_list (answers_after l j) d)))
 '''
 
 
 def head(mode):
-    lent = lent_name()
     if mode in ('reader', 'readlib'):
-        d = dict(uses=READER_USES, more=READER_MORE)
+        d = dict(uses=READER_USES, more=READER_MORE, uses_sheet='Lengths, Sheet, Reading, read_sheet')
     elif mode == 'program':
-        d = dict(uses=PROGRAM_USES, more='')
+        d = dict(uses=PROGRAM_USES, more='', uses_sheet='Lengths')
     else:
-        d = dict(uses=LIBRARY_USES, more=LIBRARY_MORE % dict(lent=lent))
-    return HEAD % dict(lent=lent, **d)
+        d = dict(uses=LIBRARY_USES, more=LIBRARY_MORE, uses_sheet='Lengths')
+    return HEAD % d
 
 
 def sheet_term(v):
@@ -170,17 +161,17 @@ def lent_term(v):
     return '(lent %d %d %d %d)' % v.lent
 
 
-UNFOLD = {'reader': 'readSheet', 'readlib': 'readSheet', 'program': 'printed judged',
-          'library': 'judged recordsAfter placesAfter rowsAfter answersAfter'}
+UNFOLD = {'reader': 'read_sheet', 'readlib': 'read_sheet', 'program': 'printed judged',
+          'library': 'judged records_after places_after rows_after answers_after'}
 
 
 def example(mode, v):
     n = f'e{v.number}'
     s, l = f'({sheet_term(v)})', lent_term(v)
     if mode in ('reader', 'readlib'):
-        t = f'outcomeOf (readSheet {s} {l}) ≡ {refusal_of(v)}'
+        t = f'outcome_of (read_sheet {s} {l}) ≡ {refusal_of(v)}'
     elif mode == 'program':
-        t = f'eqList (printed (judged {s} {l})) (bytesOfText {quoted(lines_text(v))}) ≡ true'
+        t = f'eq_list (printed (judged {s} {l})) (bytes_of_text {quoted(lines_text(v))}) ≡ true'
     else:
         b = ' '.join(numbers(v.buffers[k]) for k in ('records', 'places', 'rows', 'answers'))
         t = f'exits {l} (judged {s} {l}) {b} {v.outcome} ≡ true'
@@ -195,23 +186,23 @@ def question(mode, v):
     n = f'e{v.number}'
     s, l = f'({sheet_term(v)})', lent_term(v)
     if mode in ('reader', 'readlib'):
-        asks = [('outcome', f'outcomeOf (readSheet {s} {l}) ∷ []')]
+        asks = [('outcome', f'outcome_of (read_sheet {s} {l}) ∷ []')]
     elif mode == 'program':
         asks = [('lines', f'printed (judged {s} {l})')]
     else:
-        asks = [('outcome', f'outcomeNumber (judged {s} {l}) ∷ []')] + [(k, f'{k}After {l} (judged {s} {l})') for k in ('records', 'places', 'rows', 'answers')]
+        asks = [('outcome', f'outcome_number (judged {s} {l}) ∷ []')] + [(k, f'{k}_after {l} (judged {s} {l})') for k in ('records', 'places', 'rows', 'answers')]
     out = ''.join(f'\n{n}-{k} : packed {base(k)} ({t}) 1 ≡ 0\nunfolding {UNFOLD[mode]}\n{n}-{k} = refl\n' for k, t in asks)
     if mode == 'program':
         for j, line in enumerate(v.lines[:60]):
-            t = f'lineAt (printed (judged {s} {l})) {j}'
+            t = f'line_of (printed (judged {s} {l})) {j}'
             m = f'{n}-text-{j}'
             out += f'\n{m} : packed 256 ({t}) 1 ≡ 0\nunfolding {UNFOLD[mode]}\n{m} = refl\n'
             m = f'{n}-line-{j}'
-            out += f'\n{m} : eqList ({t}) (bytesOfText {quoted(line)}) ≡ true\nunfolding {UNFOLD[mode]}\n{m} = refl\n'
+            out += f'\n{m} : eq_list ({t}) (bytes_of_text {quoted(line)}) ≡ true\nunfolding {UNFOLD[mode]}\n{m} = refl\n'
     elif mode == 'library':
         for k in ('records', 'places', 'rows', 'answers'):
             m = f'{n}-same-{k}'
-            out += f'\n{m} : eqList ({k}After {l} (judged {s} {l})) {numbers(v.buffers[k])} ≡ true\nunfolding {UNFOLD[mode]}\n{m} = refl\n'
+            out += f'\n{m} : eq_list ({k}_after {l} (judged {s} {l})) {numbers(v.buffers[k])} ≡ true\nunfolding {UNFOLD[mode]}\n{m} = refl\n'
     return out
 
 
@@ -231,7 +222,7 @@ def write_crate(name, body):
     d = f'{OUT}/crates/{name}'
     os.makedirs(d + '/src', exist_ok=True)
     os.makedirs(d + '/specs', exist_ok=True)
-    open(d + '/src/lib.rt', 'w').write('// Vectors as examples.\n')
+    open(d + '/src/lib.rt', 'w').write('// Vectors as examples.\n#![tactic(auto)]\n')
     open(d + '/specs/Lib.antt', 'w').write('pub mod Examples\n')
     open(d + '/specs/Examples.antt', 'w').write(body)
 
@@ -243,7 +234,6 @@ def list_crates(names):
 
 
 def clear():
-    import shutil
     for n in os.listdir(OUT + '/crates'):
         if re.fullmatch(r'v(\d+|ask)', n):
             shutil.rmtree(f'{OUT}/crates/{n}')
@@ -293,13 +283,16 @@ def read(a):
         tested |= mine
         text = open(log, errors='replace').read()
         bad = set()
-        for m in re.finditer(r'error: `e(\d+)`: (.*)', text):
-            # a comparison that ended with false is a disagreement; anything else (stack, scope) is no verdict on the definitions
-            tail = text[m.end():m.end() + 3000].split('error: `e')[0]
+        for m in re.finditer(r'error: `e(\d+)`: ', text):
+            # a comparison that ended with other numbers, or with false, is a disagreement; anything else (stack, scope) is no verdict on the definitions
+            said = ' '.join(re.split(r'\n\S*: error|\nlogic ', text[m.end():])[0].split())
             bad.add(int(m[1]))
-            if 'the two types' not in m[2] or 'deep recursion' in m[2] or 'Path Bool false false' not in tail and a.mode in ('program', 'library'):
-                if 'computing it took more than' not in tail:
-                    unclear[int(m[1])] = (m[2] + tail)[:600]
+            computed = re.search(r'computed as far as they go, the two types (?:are `Path (?:ℕ|Bool) (\w+) (\w+)` \(expected\) and `Path (?:ℕ|Bool) \1 \1` \(found\)|'
+                                 r'differ only where one has `(\w+)` \(expected\) and the other has `(\w+)` \(found\))', said)
+            sides = computed and {computed[1] or computed[3], computed[2] or computed[4]}
+            differs = sides and len(sides) == 2 and (sides == {'true', 'false'} or all(x.isdigit() for x in sides))
+            if not differs or 'deep recursion' in said:
+                unclear[int(m[1])] = said[:600]
         bad &= mine
         failed |= bad
         own = text.split(f'\ncrate {name}: ')
@@ -325,6 +318,8 @@ def read(a):
     if failed:
         print('disagreed: ' + ','.join(map(str, sorted(failed))))
     open(f'{OUT}/failed-{a.mode}.txt', 'w').write(','.join(map(str, sorted(failed))))
+    if failed or odd or not tested:
+        sys.exit(1)
 
 
 def unpacked(n, b):
@@ -338,14 +333,18 @@ def unpacked(n, b):
 def told(a):
     vs = {v.number: v for v in vectors(a.mode)}
     text = open(a.logs[0], errors='replace').read()
+    if '\ncrate vask: ' not in text:
+        print(f'what the definitions give is not known (a larger LIMIT, or fewer by MOST or --only): {text[-300:]}')
+        return
     got, differs, texts = {}, {}, {}
     for part in re.split(r'(?=error: `e\d+-)', text)[1:]:
         m = re.match(r'error: `e(\d+)-([\w-]+)`', part)
         i, k = int(m[1]), m[2]
+        part = ' '.join(part.split())
         if k.startswith(('line-', 'same-')):
             differs.setdefault(i, []).append(k)
             continue
-        c = re.search(r'computed as far as they go, the two types (?:differ only where one has `0`[^`]*`(\d+)`|are `Path ℕ (\d+) 0`)', part, re.S)
+        c = re.search(r'computed as far as they go, the two types (?:differ only where one has `0`[^`]*`(\d+)`|are `Path ℕ (\d+) 0`)', part)
         ns = unpacked(int(c[1] or c[2]), 256 if k.startswith('text-') else base(k)) if c else None
         (texts if k.startswith('text-') else got).setdefault(i, {})[k] = ns
     for i in sorted(set(got) | set(differs)):
@@ -381,67 +380,86 @@ def told(a):
 
 
 # ---------------------------------------------------------------- definitions only
-def strip_source(s):
-    """A source file without its functions and impl blocks; what is declared stays."""
-    out, i = [], 0
-    item = re.compile(r'(?:^|(?<=\n))[ \t]*(?:#\[[^\]]*\]\s*)*(?:pub(?:\([^)]*\))?\s+)?(?:extern\s+"C"\s+)?(?:fn\b|impl\b)')
-    while True:
-        m = item.search(s, i)
-        if not m:
-            out.append(s[i:])
-            break
-        out.append(s[i:m.start()])
-        # the body's brace: behind the contract clauses, each of which stands in braces of its own
-        j = m.end()
-        is_fn = s[m.start():m.end()].rstrip().endswith('fn')
-        while True:
-            j = s.index('{', j)
-            word = re.search(r'(\w+)\s*$', s[max(0, j - 60):j])
-            k, depth = j, 0
-            while True:
-                c = s[k]
-                if s.startswith('//', k):
-                    k = s.index('\n', k)
-                elif c == '{':
-                    depth += 1
-                elif c == '}':
-                    depth -= 1
-                    if depth == 0:
-                        break
-                elif s.startswith("b'", k):
-                    k += 3 if s[k + 2] != '\\' else 4
-                k += 1
-            if is_fn and word and word[1] in ('requires', 'ensures', 'decreases', 'invariant'):
-                j = k + 1
-                continue
-            i = k + 1
-            break
-    return ''.join(out)
+def types_of(s):
+    """Of a source file, laid out by rt fmt, its structs and enums and the imports that these name."""
+    head = re.search(r'^#!\[.*\]\n', s, re.M)
+    items = re.findall(r'^(?:#\[[^\]\n]*\]\n)*(?:pub(?:\([^)\n]*\))? )?(?:struct|enum) [^\n{;]*(?:\([^\n]*\);|;|\{[^\n]*\}|\{\n(?:.*\n)*?\})\n', s, re.M)
+    words = set(re.findall(r'\w+', re.sub(r'//.*', '', ''.join(items))))
+    uses = []
+    for path, names in re.findall(r'^use ([\w:]+?)(?:::(\w+|\{[^}]*\}));\n', s, re.M):
+        uses += [f'use {path}::{n};\n' for n in re.findall(r'\w+', names) if n in words]
+    return (head[0] if head else '') + '\n' + ''.join(uses) + '\n' + '\n'.join(items)
 
 
-def strip_uses(s):
-    """Imports without the functions (names in lower case), which are no longer there."""
-    def one(m):
-        path, names = m[2], m[3]
-        if names is None:
-            return m[0] if path.split('::')[-1][:1].isupper() else ''
-        keep = [n.strip() for n in names.split(',') if n.strip()[:1].isupper()]
-        return f'{m[1]}use {path}{{{", ".join(keep)}}};\n' if keep else ''
-    return re.sub(r'^((?:pub )?)use ([\w:]+)(?:\{([^}]*)\})?;\n', one, s, flags=re.M)
+# where the definitions under test stand
+ROOTS = {'reader': ['sheet.Sheet', 'reader.Reader'], 'library': ['judge_rules.Judged'], 'program': ['judge_rules.Judged', 'printout.Printed']}
+ROOTS['readlib'] = ROOTS['reader']
+
+
+def reached(mode):
+    """The files of specs/ and proofs/ that the definitions under test import, and the types of the sources, by crate."""
+    files, types = {}, {}
+    todo = [(c, 'specs', m) for c, m in (r.split('.') for r in ROOTS[mode])]
+    for c, _, _ in todo:
+        types.setdefault(c, set())
+    while todo:
+        c, part, module = todo.pop()
+        if not os.path.isdir(f'{OUT}/crates/{c}'):
+            continue    # a library of the kit
+        types.setdefault(c, set())
+        path = module.split('.')
+        if path[0] == 'declared':
+            types[c].add('.'.join(path[1:]))
+            continue
+        # the path may go on into a type of the file
+        while path and not os.path.exists(f'{OUT}/crates/{c}/{part}/{"/".join(path)}.antt'):
+            path.pop()
+        if not path:
+            raise SystemExit(f'Rattle.{c}.{part}.{module}: no such file')
+        file = f'{part}/{"/".join(path)}.antt'
+        if file in files.setdefault(c, set()):
+            continue
+        files[c].add(file)
+        todo += re.findall(r"^use Rattle\.(\w+)\.(specs|proofs)\.([\w.+'-]+?)\.\{", open(f'{OUT}/crates/{c}/{file}').read(), re.M)
+    return files, types
 
 
 def strip(a):
-    import shutil
-    for n in libraries():
+    files, types = reached(a.mode)
+    lines = []
+    for line in open(OUT + '/crates.txt'):
+        n, _, deps = line.partition(':')
+        if n.split()[:1] and n.split()[0] in types:
+            lines.append(f'{n}:' + ''.join(f' {d}' for d in deps.split() if d in types) + '\n')
+    open(OUT + '/crates.txt', 'w').writelines(lines)
+    for n in os.listdir(OUT + '/crates'):
         d = f'{OUT}/crates/{n}'
-        for sub in ('proofs', 'must-fail'):
-            shutil.rmtree(f'{d}/{sub}', ignore_errors=True)
-        for r, _, fs in os.walk(d + '/src'):
-            for f in fs:
-                if f.endswith('.rt'):
-                    p = os.path.join(r, f)
-                    t = open(p).read()
-                    open(p, 'w').write(strip_uses(strip_source(t)))
+        if n not in types:
+            shutil.rmtree(d)
+            continue
+        for sub in os.listdir(d):
+            if sub not in ('src', 'specs', 'proofs'):
+                shutil.rmtree(f'{d}/{sub}') if os.path.isdir(f'{d}/{sub}') else os.remove(f'{d}/{sub}')
+        for part in ('specs', 'proofs'):
+            own = sorted(f for f in files.get(n, ()) if f.startswith(part + '/'))
+            texts = {f: open(f'{d}/{f}').read() for f in own}
+            shutil.rmtree(f'{d}/{part}', ignore_errors=True)
+            for f, t in texts.items():
+                os.makedirs(os.path.dirname(f'{d}/{f}'), exist_ok=True)
+                open(f'{d}/{f}', 'w').write(t)
+            if own:
+                open(f'{d}/{part}/Lib.antt', 'w').write(''.join('pub mod ' + f[len(part) + 1:-5].replace('/', '.') + '\n' for f in own))
+        # of the sources the types that the definitions speak of, in the files where they stand
+        wanted = {t.split('.')[0] for t in types[n] if t[:1].islower()}
+        for f in os.listdir(d + '/src'):
+            p = f'{d}/src/{f}'
+            if f != 'lib.rt' and f[:-3] not in wanted:
+                shutil.rmtree(p) if os.path.isdir(p) else os.remove(p)
+        for f in os.listdir(d + '/src'):
+            p = f'{d}/src/{f}'
+            t = open(p).read()
+            mods = [m for m in re.findall(r'^(?:pub )?mod (\w+);\n', t, re.M) if m in wanted]
+            open(p, 'w').write(types_of(t) + ''.join(f'\npub mod {m};\n' for m in mods))
 
 
 p = argparse.ArgumentParser(description=__doc__, formatter_class=argparse.RawDescriptionHelpFormatter)

@@ -1,14 +1,16 @@
 #!/bin/sh
 # Runs recorded vectors (the folder VECTORS_IN) against the definitions of this repository (or of MAIN), as antt examples.
 #   definition_vectors.sh MODE [--from A] [--to B] [--per N] [--only I,J,..] [--bytes hex|list]
-# MODE: program, library, reader, readlib (see definition_vectors.py). REV=main: a commit, not the working tree. KEEP=1: do not copy the crates anew. ASK=0: do not ask what a failed one gives.
+# MODE: program, library, reader, readlib (see definition_vectors.py). VECTORS_OUT: the folder that the crates are written to, outside the repository. REV=main: a commit, not the working tree.
+# KEEP=1: do not copy the crates anew (for the same MODE). ASK=0: do not ask what a failed one gives. JOBS=2, LIMIT=900 (seconds a check).
 set -u
 mode=${1:?mode}; shift
 main=${MAIN:-$(dirname "$0")/..}
 out=${VECTORS_OUT:-vectors-check}
-export VECTORS_OUT="$out"
 tool=$(dirname "$0")/definition_vectors.py
-mkdir -p "$out"
+mkdir -p "$out/logs"
+out=$(cd "$out" && pwd)
+export VECTORS_OUT="$out"
 if [ "${KEEP:-0}" != 1 ]; then
     # what is tested: the working tree of $main, or with REV=.. that commit of it
     if [ -n "${REV:-}" ]; then
@@ -36,24 +38,25 @@ if [ "${KEEP:-0}" != 1 ]; then
         todo=$(echo $next)
     done
     rm -rf "$out/rev"
-    python3 "$tool" strip
+    python3 "$tool" strip "$mode" || exit 2
 fi
 names=$(python3 "$tool" gen "$mode" "$@") || exit 2
-mkdir -p "$out/logs"
 logs=
 start=$(date +%s)
 for n in $names; do
     t=$(date +%s)
-    (cd "$out" && timeout "${LIMIT:-900}" rt dev "$n" 2>&1 | cut -c1-1200 > "logs/$n.log")
+    (cd "$out/crates/$n" && timeout "${LIMIT:-900}" rt check --jobs "${JOBS:-2}" 2>&1 | cut -c1-1200 > "$out/logs/$n.log")
     echo "$n: $(($(date +%s) - t)) s"
     logs="$logs $out/logs/$n.log"
 done
-python3 "$tool" read "$mode" $logs
+status=0
+python3 "$tool" read "$mode" $logs || status=1
 echo "$(($(date +%s) - start)) s in all"
 failed=$(cat "$out/failed-$mode.txt")
 if [ -n "$failed" ] && [ "${ASK:-1}" = 1 ]; then
     some=$(echo "$failed" | tr ',' '\n' | head -"${MOST:-40}" | paste -sd,)
     python3 "$tool" ask "$mode" --only "$some" > /dev/null
-    (cd "$out" && RT_CUT=0 timeout "${LIMIT:-900}" rt dev vask 2>&1 | cut -c1-400000 > logs/vask.log)
+    (cd "$out/crates/vask" && RT_CUT=0 timeout "${LIMIT:-900}" rt check --jobs "${JOBS:-2}" 2>&1 | cut -c1-400000 > "$out/logs/vask.log")
     python3 "$tool" told "$mode" "$out/logs/vask.log"
 fi
+exit $status
