@@ -2,13 +2,15 @@
 // line itself, in the system's words.
 #![tactic(auto)]
 
-ghost use Rattle.std.specs.Prelude.{◌≡◌, Some, None, IfErr};
+ghost use Rattle.std.specs.Prelude.{◌≡◌, Some, None, IfErr, OnOk};
 ghost use Rattle.std.specs.Io.{ReadsAtMost, WritesAtMost};
+ghost use Rattle.std.specs.Io.KnownBytes.{Keeps, Appends, WriteAppends, ReadConsumes};
 
 use std::io;
 use std::io::{Cursor, Read, Write};
 
-// A stream, and the failure of the last of its reads and writes that failed; none where none did. Nothing is said of its bytes.
+// A stream, and the failure of the last of its reads and writes that failed; none where none did. Its bytes are those of the stream: what
+// is read from it was read from the stream, and what is written to it is written to the stream.
 #[derive(Drop)]
 pub struct Watched<S> {
     stream: S,
@@ -18,7 +20,8 @@ pub struct Watched<S> {
 impl<S> Watched<S> {
     // A stream none of whose reads and writes has failed.
     pub fn new(stream: S) -> Watched<S>
-        ensures { result.failure ≡ None }
+        ensures none_yet { result.failure ≡ None }
+        ensures same { result.stream ≡ stream }
     {
         Watched {
             stream,
@@ -35,9 +38,13 @@ impl<S> Watched<S> {
 }
 
 impl<S: Read> Read for Watched<S> {
+    ghost remaining = { λ w. S.remaining w.stream };
+
     fn read(&mut self, buf: &mut [u8]) -> io::Result<usize>
         ensures bound { ReadsAtMost result buf.new }
+        ensures bytes { ReadConsumes (S.remaining self.old.stream) (S.remaining self.new.stream) result buf.new }
         ensures kept { IfErr result (λ e. self.new.failure ≡ Some e) }
+        ensures calm { OnOk result (self.new.failure ≡ self.old.failure) }
     {
         match self.stream.read(buf) {
             Ok(n) => Ok(n),
@@ -50,9 +57,13 @@ impl<S: Read> Read for Watched<S> {
 }
 
 impl<S: Write> Write for Watched<S> {
+    ghost contents = { λ w. S.contents w.stream };
+
     fn write(&mut self, buf: &[u8]) -> io::Result<usize>
         ensures bound { WritesAtMost result buf.now }
+        ensures bytes { WriteAppends (S.contents self.old.stream) (S.contents self.new.stream) result buf.now }
         ensures kept { IfErr result (λ e. self.new.failure ≡ Some e) }
+        ensures calm { OnOk result (self.new.failure ≡ self.old.failure) }
     {
         match self.stream.write(buf) {
             Ok(n) => Ok(n),
@@ -64,7 +75,9 @@ impl<S: Write> Write for Watched<S> {
     }
 
     fn flush(&mut self) -> io::Result<()>
+        ensures bytes { Keeps (S.contents self.old.stream) (S.contents self.new.stream) }
         ensures kept { IfErr result (λ e. self.new.failure ≡ Some e) }
+        ensures calm { OnOk result (self.new.failure ≡ self.old.failure) }
     {
         match self.stream.flush() {
             Ok(()) => Ok(()),
@@ -76,7 +89,9 @@ impl<S: Write> Write for Watched<S> {
     }
 
     fn write_all(&mut self, buf: &[u8]) -> io::Result<()>
+        ensures bytes { OnOk result (Appends (S.contents self.old.stream) (S.contents self.new.stream) buf.now) }
         ensures kept { IfErr result (λ e. self.new.failure ≡ Some e) }
+        ensures calm { OnOk result (self.new.failure ≡ self.old.failure) }
     {
         match self.stream.write_all(buf) {
             Ok(()) => Ok(()),
