@@ -2,18 +2,11 @@
 use Prim.Native.Nat.{ℕ, ◌≤◌, ◌<◌}
 use mathlib.Core.List.{List}
 use Rattle.record.specs.Sort.{size}
-use Rattle.apply_walk.specs.Contract.{answer_at, SizeAsks, SizeIs, SortAsks}
+use Rattle.apply_walk.specs.Contract.{answer_at, SizeIs, SortAsks}
 use Rattle.apply_walk.specs.CapLaws.{capped-over, capped_small}
 use Rattle.apply.specs.Contract.{ApplyAsks}
 
 module _ {b p ix : List ℕ} {n u k : ℕ} {l : List ℕ} (a : ApplyAsks b p ix n u k l) where
-  pub apply-size : SizeAsks b p ix n k l
-  apply-size =
-      record {
-        reading = record { stored = a.ready.good.stored; sized = a.ready.good.sized; index = a.ready.good.indexed.table; count = a.ready.good.indexed.count; table = a.ready.table };
-        known = a.known;
-      }
-
   pub apply-over : (v : ℕ) → SizeIs b p n k l v → 4096 < v → 4096 < size (answer_at b p n l k)
   apply-over v e h = capped-over (size (answer_at b p n l k)) v e h
 

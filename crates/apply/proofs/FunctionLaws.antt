@@ -6,9 +6,9 @@ use mathlib.Core.Bool.{Bool, true, false, true≢false}
 use mathlib.Core.List.{List, []}
 use native.Mathlib.Omega.{arith}
 use lib.ListN.{length, get_or}
-use lib.Seq.{get_or-take}
 use lib.Dec.{leb}
 use borrow.Author.Tests.{leb-true, leb-false}
+use Rattle.std.proofs.Common.{Result, Ok, Err, IsErr}
 use Rattle.record.specs.Number.{numbers_at}
 use Rattle.record.specs.Sort.{Sort, Sorts, function, size, sizes}
 use Rattle.record.specs.Record.{sorts_of, sort_of, bit, maps, map_of, leasts, least_of, mosts, most_of}
@@ -22,14 +22,12 @@ use Rattle.record.specs.SortLists.{memb_all, memb-intern-all, Starts, starts-int
 use Rattle.record.specs.StoreLaws.{store_of-length}
 use Rattle.record.specs.Entries.{store-ordered}
 use Rattle.store.specs.Contract.{Untouched}
+use Rattle.store.specs.declared.Full.{Full}
 use Rattle.substitution.proofs.SubstitutionLaws.{count-applied}
-use Rattle.apply_walk.specs.Lists.{Numbers, numbers_of, Has, ReadAsks}
-use Rattle.apply_walk.specs.Draft.{fields_in}
 use Rattle.apply_walk.specs.Images.{images_of}
-use Rattle.apply_walk.specs.Made.{Made, FieldsMakeAsks, intern-first}
+use Rattle.apply_walk.specs.Made.{Made, MadeIs, FieldsMakeAsks, intern-first}
 use Rattle.apply_walk.specs.Halted.{Halted, made-over, halted-over}
-use Rattle.apply_walk.specs.Contract.{answers_at, SizesAsk, SizesAre, PartsAsk, PartsMade}
-use Rattle.apply_walk.specs.HeldLaws.{has-length, has-own}
+use Rattle.apply_walk.specs.Contract.{answers_at, SizesAre, ReplacedIs, PartsAsk, PartsMade}
 use Rattle.apply_walk.specs.CapLaws.{capped_small, cap-within}
 use Rattle.apply_walk.specs.InternLaws.{sorts-back, indices-below}
 use Rattle.apply.specs.Contract.{function_at, FunctionAsks, FunctionFits}
@@ -56,14 +54,6 @@ shape-function vs h =
     }
 
 module _ {b p ix : List ℕ} {n u : ℕ} {l : List ℕ} {x m : ℕ} (a : FunctionAsks b p ix n u l x m) where
-  pub function-sizes : SizesAsk b p ix n x m l
-  function-sizes =
-      record {
-        reading = record { stored = a.ready.good.stored; sized = a.ready.good.sized; index = a.ready.good.indexed.table; count = a.ready.good.indexed.count; table = a.ready.table };
-        within = a.within;
-        below = a.below;
-      }
-
   abbrev answers : Sorts
   answers = answers_at b p n l (numbers_at b x m)
 
@@ -79,28 +69,24 @@ module _ {b p ix : List ℕ} {n u : ℕ} {l : List ℕ} {x m : ℕ} (a : Functio
       let s = capped_small (sizes answers) v e (omega arith) in
       record { asks = a; small = omega (arith, e, cap-within (sizes answers) s, size-function answers) }
 
-  pub function-read : ReadAsks b x m
-  function-read = record { within = a.within; few = a.few }
-
 -- THE FUNCTION AFTER ITS LIST.
-module _ {b p ix : List ℕ} {n u : ℕ} {l : List ℕ} {x m : ℕ} (f : FunctionFits b p ix n u l x m) {o : Numbers} (ho : Has o (numbers_at b x m)) where
+module _ {b p ix : List ℕ} {n u : ℕ} {l : List ℕ} {x m : ℕ} (f : FunctionFits b p ix n u l x m) {o : List ℕ} (ho : o ≡ numbers_at b x m) where
   abbrev a : FunctionAsks b p ix n u l x m
   a = f.asks
 
   abbrev ps : Sorts
   ps = answers_at b p n l (numbers_at b x m)
 
-  answers-are : answers_at b p n l (numbers_of o) ≡ ps
-  answers-are = ap (answers_at b p n l) ho.is
+  answers-are : answers_at b p n l o ≡ ps
+  answers-are = ap (answers_at b p n l) ho
 
   pub function-parts : PartsAsk b p ix n u o l
   function-parts =
       record {
         ready = a.ready;
-        has = has-own o (numbers_at b x m) ho;
         below = λ j h.
-            let i : j < m = omega (arith, has-length o (numbers_at b x m) ho, length-numbers_at b x m) in
-            omega (arith, get_or-take o.count o.list j 0 h, ap (λ (vs : List ℕ). get_or vs j 0) ho.is, number_at b x m j i, a.below j i);
+            let i : j < m = omega (arith, h, ap length ho, length-numbers_at b x m) in
+            omega (arith, ap (λ (vs : List ℕ). get_or vs j 0) ho, number_at b x m j i, a.below j i);
         small = omega (arith, ap sizes answers-are, f.small, size-function ps);
       }
 
@@ -110,7 +96,7 @@ module _ {b p ix : List ℕ} {n u : ℕ} {l : List ℕ} {x m : ℕ} (f : Functio
       subst (Starts (intern_all ps (store_of b p n))) (intern-first (function ps) (store_of b p n) (store-ordered b p n a.ready.good.stored))
       (starts-intern (function ps) (intern_all ps (store_of b p n)))
 
-  pub function-stuck : {c q kx : List ℕ} {m' v : ℕ} → Halted b p n u (intern_all (answers_at b p n l (numbers_of o)) (store_of b p n)) c q kx m' v
+  pub function-stuck : {c q kx : List ℕ} {m' v : ℕ} → Halted b p n u (intern_all (answers_at b p n l o) (store_of b p n)) c q kx m' v
       → Halted b p n u (intern (function_at b p n l x m) (store_of b p n)) c q kx m' v
   function-stuck {c} {q} {kx} {m'} {v} w =
       record {
@@ -122,7 +108,7 @@ module _ {b p ix : List ℕ} {n u : ℕ} {l : List ℕ} {x m : ℕ} (f : Functio
         kept = w.kept;
       }
 
-  module _ {c q kx : List ℕ} {r : Numbers} {m' v : ℕ} (w : PartsMade b p n u (answers_at b p n l (numbers_of o)) c q kx r m' v) {none : Numbers} (hn : Has none []) where
+  module _ {c q kx r : List ℕ} {m' v : ℕ} (w : PartsMade b p n u (answers_at b p n l o) c q kx r m' v) where
     abbrev st : List Sort
     st = store_of c q m'
 
@@ -135,30 +121,26 @@ module _ {b p ix : List ℕ} {n u : ℕ} {l : List ℕ} {x m : ℕ} (f : Functio
     there : memb_all ps st ≡ true
     there = ap (memb_all ps) added ∙ memb-intern-all ps (store_of b p n)
 
-    has : Has r (indices_of ps st)
-    has = subst (λ (ss : Sorts). Has r (indices_of ss st)) answers-are w.has
+    has : r ≡ indices_of ps st
+    has = subst (λ (ss : Sorts). r ≡ indices_of ss st) answers-are w.has
 
-    function-is : sort_of st (fields_in 0 0 0 r none) ≡ function_at b p n l x m
+    function-is : sort_of st (fields 0 0 0 r []) ≡ function_at b p n l x m
     function-is =
-        sort-other st (fields_in 0 0 0 r none) (λ e. absurd (omega arith)) (λ e. absurd (omega arith))
-        ∙ ap function (ap (sorts_of st) has.is ∙ sorts-back ps st there)
+        sort-other st (fields 0 0 0 r []) (λ e. absurd (omega arith)) (λ e. absurd (omega arith))
+        ∙ ap function (ap (sorts_of st) has ∙ sorts-back ps st there)
 
-    as_many : length (numbers_of r) ≡ m
+    as_many : length r ≡ m
     as_many =
-        ap length has.is ∙ length-indices ps st ∙ count-applied (images_of (store_of b p n) l) (sorts_of (store_of b p n) (numbers_at b x m))
+        ap length has ∙ length-indices ps st ∙ count-applied (images_of (store_of b p n) l) (sorts_of (store_of b p n) (numbers_at b x m))
         ∙ count-sorts (store_of b p n) (numbers_at b x m) ∙ length-numbers_at b x m
 
-    pub function-make : FieldsMakeAsks c q kx m' v (fields_in 0 0 0 r none) r none
+    pub function-make : FieldsMakeAsks c q kx m' v (fields 0 0 0 r [])
     function-make =
         record {
           good = w.good;
-          parts = has-own r (indices_of ps st) has;
-          names = has-own none [] hn;
-          shape =
-              subst (λ (vs : List ℕ). Shape (fields 0 0 0 (numbers_of r) vs)) (sym hn.is)
-              (shape-function (numbers_of r) (omega (arith, as_many, a.few)));
+          shape = shape-function r (omega (arith, as_many, a.few));
           below =
-              subst (λ (vs : List ℕ). (j : ℕ) → j < length vs → get_or vs j 0 < m') (sym has.is)
+              subst (λ (vs : List ℕ). (j : ℕ) → j < length vs → get_or vs j 0 < m') (sym has)
               (λ j h. omega (arith, indices-below ps st there j h, store_of-length c q m'));
           small = omega (arith, ap size function-is, f.small);
         }
@@ -168,15 +150,29 @@ module _ {b p ix : List ℕ} {n u : ℕ} {l : List ℕ} {x m : ℕ} (f : Functio
         ap (intern (function ps)) added ∙ intern-first (function ps) (store_of b p n) (store-ordered b p n a.ready.good.stored)
 
     pub function-made : {d t jx : List ℕ} {i k v' : ℕ}
-        → Made c q m' v (sort_of st (fields_in 0 0 0 r none)) d t jx i k v'
+        → Made c q m' v (sort_of st (fields 0 0 0 r [])) d t jx i k v'
         → Made b p n u (function_at b p n l x m) d t jx i k v'
     function-made {d} {t} {jx} {i} {k} {v'} y =
         made-over b p ix n u a.ready.good c q kx m' v w.good starts w.kept (function_at b p n l x m) interned
         d t jx i k v' (subst (λ (s : Sort). Made c q m' v s d t jx i k v') function-is y)
 
-    pub function-full : (d t jx : List ℕ)
-        → (room (length c) (length q) (intern (sort_of st (fields_in 0 0 0 r none)) st) ≡ false) × Untouched c q kx d t jx
-        → Halted b p n u (intern (function_at b p n l x m) (store_of b p n)) d t jx m' v
-    function-full d t jx y =
-        halted-over b p ix n u a.ready.good c q kx m' v w.good starts w.kept (function_at b p n l x m) interned
-        d t jx (sym (ap (λ (s : Sort). room (length c) (length q) (intern s st)) function-is) ∙ y.0, y.1)
+    pub function-full : (d t jx : List ℕ) (i j : ℕ)
+        → (room (length c) (length q) (intern (sort_of st (fields 0 0 0 r [])) st) ≡ false) × Untouched c q kx d t jx × (i ≡ m') × (j ≡ v)
+        → Halted b p n u (intern (function_at b p n l x m) (store_of b p n)) d t jx i j
+    function-full d t jx i j y =
+        subst (λ (z : ℕ). Halted b p n u (intern (function_at b p n l x m) (store_of b p n)) d t jx z j) (sym y.2)
+        (subst (Halted b p n u (intern (function_at b p n l x m) (store_of b p n)) d t jx m') (sym y.3)
+        (halted-over b p ix n u a.ready.good c q kx m' v w.good starts w.kept (function_at b p n l x m) interned
+        d t jx (sym (ap (λ (s : Sort). room (length c) (length q) (intern s st)) function-is) ∙ y.0, y.1)))
+
+    -- What making it gives.
+    pub function-is-made : (d t jx : List ℕ) (i j : ℕ) (k : Result ℕ Full) → MadeIs c q kx m' v (sort_of st (fields 0 0 0 r [])) d t jx i j k
+        → ReplacedIs b p n u (function_at b p n l x m) d t jx i j k
+    function-is-made d t jx i j (Ok k) y = function-made y
+    function-is-made d t jx i j (Err e) y = function-full d t jx i j y
+
+-- Where there was no room.
+pub function-stopped : {b p : List ℕ} {n u : ℕ} (s : Sort) (c q jx : List ℕ) (m v : ℕ) (r : Result ℕ Full) → IsErr r
+    → Halted b p n u (intern s (store_of b p n)) c q jx m v → ReplacedIs b p n u s c q jx m v r
+function-stopped {b} {p} {n} {u} s c q jx m v (Ok i) e h = cc
+function-stopped {b} {p} {n} {u} s c q jx m v (Err f) e h = h

@@ -1,6 +1,6 @@
 -- What substitution over a store asks and promises: the answer made in the store, or the cause why it is not; then every buffer
 -- is as it was.
-use Rattle.std.specs.Prelude.{ℕ, ◌+◌, ◌*◌, ◌≤◌, ◌<◌, ◌≡◌, false, List, length}
+use Rattle.std.specs.Prelude.{ℕ, ◌+◌, ◌*◌, ◌≤◌, ◌<◌, ◌≡◌, false, List, length, Result, Ok, Err}
 use Rattle.record.specs.Number.{u16_at, numbers_at}
 use Rattle.record.specs.Sort.{Sort, function, size}
 use Rattle.record.specs.Store.{intern, room}
@@ -8,8 +8,8 @@ use Rattle.record.specs.Decode.{store_of}
 use Rattle.store.specs.Contract.{Untouched}
 use Rattle.apply_walk.specs.Made.{Made}
 use Rattle.apply_walk.specs.Contract.{answers_at, Ready}
-use Rattle.apply.specs.declared.Applied.{Applied}
-use Rattle.apply.specs.declared.Applied.TheVariants.{Is, TooLarge, NoRoom}
+use Rattle.apply.specs.declared.ApplyError.{ApplyError}
+use Rattle.apply.specs.declared.ApplyError.TheVariants.{TooLarge, NoRoom}
 
 pub record ApplyAsks (b p ix : List ℕ) (n u k : ℕ) (l : List ℕ) : Type 0 where
   pub ready : Ready b p ix n u l
@@ -36,9 +36,9 @@ pub record AnswerMade (b p : List ℕ) (n u : ℕ) (s : Sort) (b' p' ix' : List 
   pub made : Made b p n u s b' p' ix' i n' u'
 
 -- THE OUTCOME OF AN ANSWER s over a store: 22 exactly if its tree is larger than 4,096; 23 exactly if it is not and the
--- store after interning it has no room; both leave all five buffers as they were.
-abbrev pub AppliedIs : List ℕ → List ℕ → List ℕ → ℕ → ℕ → Sort → List ℕ → List ℕ → List ℕ → Applied → Type 0
-AppliedIs b p ix n u s b' p' ix' (Is i n' u') = AnswerMade b p n u s b' p' ix' i n' u'
-AppliedIs b p ix n u s b' p' ix' TooLarge = (4096 < size s) × Untouched b p ix b' p' ix'
-AppliedIs b p ix n u s b' p' ix' NoRoom =
-    (size s ≤ 4096) × (room (length b) (length p) (intern s (store_of b p n)) ≡ false) × Untouched b p ix b' p' ix'
+-- store after interning it has no room; both leave the whole store as it was.
+abbrev pub AppliedIs : List ℕ → List ℕ → List ℕ → ℕ → ℕ → Sort → List ℕ → List ℕ → List ℕ → ℕ → ℕ → Result ℕ ApplyError → Type 0
+AppliedIs b p ix n u s b' p' ix' n' u' (Ok i) = AnswerMade b p n u s b' p' ix' i n' u'
+AppliedIs b p ix n u s b' p' ix' n' u' (Err TooLarge) = (4096 < size s) × Untouched b p ix b' p' ix' × (n' ≡ n) × (u' ≡ u)
+AppliedIs b p ix n u s b' p' ix' n' u' (Err NoRoom) =
+    (size s ≤ 4096) × (room (length b) (length p) (intern s (store_of b p n)) ≡ false) × Untouched b p ix b' p' ix' × (n' ≡ n) × (u' ≡ u)

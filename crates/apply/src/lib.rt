@@ -5,48 +5,50 @@ pub mod deep;
 pub mod function;
 pub mod whole;
 
-ghost use Rattle.apply_walk.specs.Contract.{answer_at};
-ghost use Rattle.apply.specs.Contract.{ApplyAsks, AppliedIs};
+ghost use Rattle.std.specs.Prelude.{◌≡◌};
+ghost use Rattle.store.specs.Changes.{Same};
+ghost use Rattle.apply_walk.specs.Stores.{answer_in};
+ghost use Rattle.apply.specs.declared.ApplyError.TheVariants.{NoRoom as WithoutRoom};
+ghost use Rattle.apply.specs.Stores.{ApplyAsksOf, AppliedIn};
 
-use apply_walk::Replaced;
 use record::limits::LARGEST_TREE;
-use store::undo;
+use store::{Full, Store};
 use whole::{answer_size, make_answer};
 
-#[derive(Drop)]
-pub enum Applied {
-    // The number of the answer, and the store's count and bytes in use.
-    Is(usize, usize, usize),
+// Why there is no answer.
+#[derive(Clone, Copy, Debug, PartialEq, Eq)]
+pub enum ApplyError {
     // The answer's tree is larger than 4,096.
     TooLarge,
     // The store cannot hold the answer's sorts.
     NoRoom,
 }
 
+// A store that is full has no room for the answer's sorts.
+impl From<Full> for ApplyError {
+    ghost from_gives = { λ _ e. e ≡ WithoutRoom };
+
+    fn from(_full: Full) -> ApplyError {
+        ApplyError::NoRoom
+    }
+}
+
 // The number of the sort `k` replaced, in the store with its sorts added; `TooLarge` if its tree is larger than 4,096,
 // judged before anything is added, and `NoRoom` where the store would be too long. Then all is as it was.
-pub fn apply(
-    records: &mut [u8],
-    places: &mut [u32],
-    index: &mut [u16],
-    count: usize,
-    used: usize,
-    k: usize,
-    images: &[u16],
-) -> Applied
-    requires { ApplyAsks records.old places.old index.old count used k images.now }
-    ensures { AppliedIs records.old places.old index.old count used (answer_at records.old places.old count images.now k) records.new places.new index.new result }
+pub fn apply(store: &mut Store<'_>, images: &[u16], k: usize) -> Result<usize, ApplyError>
+    requires { ApplyAsksOf store.old k images.now }
+    ensures same { Same store.old store.new }
+    ensures applied { AppliedIn store.old (answer_in store.old images.now k) store.new result }
 {
-    let size = answer_size(records, places, index, count, k, images);
-    if LARGEST_TREE < size {
-        return Applied::TooLarge;
+    if LARGEST_TREE < answer_size(store, k, images) {
+        return Err(ApplyError::TooLarge);
     }
-    let made = make_answer(records, places, index, count, used, k, images);
-    match made {
-        Replaced::Is(i, n, u) => Applied::Is(i, n, u),
-        Replaced::Stuck(n, u) => {
-            undo(records, places, index, n, u, count);
-            Applied::NoRoom
+    let from = store.count;
+    match make_answer(store, k, images) {
+        Ok(i) => Ok(i),
+        Err(full) => {
+            store.undo(from);
+            Err(full.into())
         }
     }
 }

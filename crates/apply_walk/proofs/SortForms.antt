@@ -1,6 +1,6 @@
 -- A sort of the store replaced, by the three forms of its record: a variable is its image; a Par and every other kind
 -- are rebuilt from their parts replaced, where a Par without names left is its body.
-use Prim.Native.Nat.{ℕ, zero, suc, ◌+◌, ◌-◌, ◌≤◌, ◌<◌}
+use Prim.Native.Nat.{ℕ, zero, suc, ◌+◌, ◌≤◌, ◌<◌}
 use mathlib.Core.Path.{◌≡◌, refl, sym, ap, ap₂, subst, ◌∙◌}
 use mathlib.Core.Bool.{Bool, true, false, cond, not, ◌&&◌}
 use mathlib.Core.List.{List, [], ◌∷◌}
@@ -20,6 +20,7 @@ use Rattle.record.specs.Forms.{Which, is_var, is_par, is_node, which, sort-var, 
 use Rattle.record.specs.SortLists.{Ordered, Starts, starts-intern}
 use Rattle.record.specs.StoreLaws.{sort-node}
 use Rattle.record.specs.Sizes.{count-sorts}
+use Rattle.record.specs.Kinds.{sort_number}
 use Rattle.record.specs.declared.SortRecord.{SortRecord}
 use Rattle.store.specs.Entry.{EntryIs}
 use Rattle.substitution.specs.Substitution.{Map, find, bound, left, under, apply, apply_all}
@@ -189,33 +190,30 @@ head-one x = refl
 -- A SORT OF THE STORE by its record.
 module _ {b p : List ℕ} {n : ℕ} {l : List ℕ} (stored : Stored b p n) (t : ImageTable l n) {k : ℕ} (known : k < n) {r : SortRecord} (e : EntryIs b p n k r) where
   abbrev refs_in : List ℕ
-  refs_in = numbers_at b r.list r.count
+  refs_in = numbers_at b r.parts.at r.parts.count
 
   abbrev names_in : List ℕ
-  names_in = numbers_at b r.names r.named
+  names_in = numbers_at b r.names.at r.names.count
 
-  pub entry-shape : Shape (fields r.kind r.name r.number refs_in names_in)
+  pub entry-shape : Shape (fields (sort_number r.kind) r.name r.number refs_in names_in)
   entry-shape = subst Shape e.place.same (stored.each k known).shape
 
-  pub entry-sort : sort_at b p n k ≡ sort_of (store_of b p n) (fields r.kind r.name r.number refs_in names_in)
+  pub entry-sort : sort_at b p n k ≡ sort_of (store_of b p n) (fields (sort_number r.kind) r.name r.number refs_in names_in)
   entry-sort = sort-node b p n k stored known ∙ ap (sort_of (store_of b p n)) e.place.same
 
-  pub name-small : r.name < 65536
-  name-small = entry-shape.name
-
-  image-by : (v : ℕ) → get_or l r.name 0 ≡ v → r.kind ≡ 2 → sort_at b p n (image_number v k) ≡ answer_at b p n l k
+  image-by : (v : ℕ) → get_or l r.name 0 ≡ v → sort_number r.kind ≡ 2 → sort_at b p n (image_number v k) ≡ answer_at b p n l k
   unfolding sort_at
   image-by zero q h =
-      let s : sort_at b p n k ≡ var r.name = entry-sort ∙ sort-var (store_of b p n) (fields r.kind r.name r.number refs_in names_in) h in
+      let s : sort_at b p n k ≡ var r.name = entry-sort ∙ sort-var (store_of b p n) (fields (sort_number r.kind) r.name r.number refs_in names_in) h in
       let f : find (images_of (store_of b p n) l) r.name ≡ none = find-images (store_of b p n) l r.name ∙ ap (image_at (store_of b p n)) q in
       s ∙ sym (ap (apply (images_of (store_of b p n) l)) s ∙ apply-var-free (images_of (store_of b p n) l) r.name f)
   image-by (suc j) q h =
-      let s : sort_at b p n k ≡ var r.name = entry-sort ∙ sort-var (store_of b p n) (fields r.kind r.name r.number refs_in names_in) h in
+      let s : sort_at b p n k ≡ var r.name = entry-sort ∙ sort-var (store_of b p n) (fields (sort_number r.kind) r.name r.number refs_in names_in) h in
       let f : find (images_of (store_of b p n) l) r.name ≡ some (get_or (store_of b p n) j leaf) = find-images (store_of b p n) l r.name ∙ ap (image_at (store_of b p n)) q in
       sym (ap (apply (images_of (store_of b p n) l)) s ∙ apply-var (images_of (store_of b p n) l) r.name (get_or (store_of b p n) j leaf) f)
 
   -- A VARIABLE is the sort of its image's number, or of its own.
-  pub image-is : r.kind ≡ 2 → sort_at b p n (image_number (get_or l r.name 0) k) ≡ answer_at b p n l k
+  pub image-is : sort_number r.kind ≡ 2 → sort_at b p n (image_number (get_or l r.name 0) k) ≡ answer_at b p n l k
   image-is h = image-by (get_or l r.name 0) refl h
 
   number-below : (v : ℕ) → v ≤ n → image_number v k < n
@@ -225,20 +223,20 @@ module _ {b p : List ℕ} {n : ℕ} {l : List ℕ} (stored : Stored b p n) (t : 
   pub image-known : image_number (get_or l r.name 0) k < n
   image-known = number-below (get_or l r.name 0) (t.below r.name)
 
-  pub refs-one : r.kind ≡ 12 → length refs_in ≡ 1
-  refs-one h = par-one (fields r.kind r.name r.number refs_in names_in) entry-shape h
+  pub refs-one : sort_number r.kind ≡ 12 → length refs_in ≡ 1
+  refs-one h = par-one (fields (sort_number r.kind) r.name r.number refs_in names_in) entry-shape h
 
   -- ANY OTHER SORT is rebuilt from its parts replaced.
-  pub answer-rebuilt : (r.kind ≡ 2 → ⊥)
-      → answer_at b p n l k ≡ rebuilt r.kind r.name r.number (unbound l names_in) (apply_all (images_of (store_of b p n) l) (parts_of (sort_at b p n k)))
+  pub answer-rebuilt : (sort_number r.kind ≡ 2 → ⊥)
+      → answer_at b p n l k ≡ rebuilt (sort_number r.kind) r.name r.number (unbound l names_in) (apply_all (images_of (store_of b p n) l) (parts_of (sort_at b p n k)))
   unfolding apply
-  answer-rebuilt d = go (which r.kind)
+  answer-rebuilt d = go (which (sort_number r.kind))
     where
-      go : Which r.kind → answer_at b p n l k ≡ rebuilt r.kind r.name r.number (unbound l names_in) (apply_all (images_of (store_of b p n) l) (parts_of (sort_at b p n k)))
+      go : Which (sort_number r.kind) → answer_at b p n l k ≡ rebuilt (sort_number r.kind) r.name r.number (unbound l names_in) (apply_all (images_of (store_of b p n) l) (parts_of (sort_at b p n k)))
       go (is_var h) = absurd (d h)
       go (is_par h) =
           let body = get_or (store_of b p n) (get_or refs_in 0 0) leaf in
-          let s : sort_at b p n k ≡ par names_in body = entry-sort ∙ sort-par (store_of b p n) (fields r.kind r.name r.number refs_in names_in) h in
+          let s : sort_at b p n k ≡ par names_in body = entry-sort ∙ sort-par (store_of b p n) (fields (sort_number r.kind) r.name r.number refs_in names_in) h in
           let θ = images_of (store_of b p n) l in
           ap (apply θ) s
           ∙ ap (λ (ns : List ℕ). under ns (apply θ body)) (sym (unbound-left (store_of b p n) l names_in))
@@ -246,30 +244,30 @@ module _ {b p : List ℕ} {n : ℕ} {l : List ℕ} (stored : Stored b p n) (t : 
           ∙ ap (λ (x : Sort). under (unbound l names_in) (head_of (apply_all θ (parts_of x)))) s
           ∙ ap (under (unbound l names_in)) (head-one (apply θ body)))
       go (is_node q o) =
-          let s : sort_at b p n k ≡ node r.kind r.name r.number (sorts_of (store_of b p n) refs_in) =
-          entry-sort ∙ sort-other (store_of b p n) (fields r.kind r.name r.number refs_in names_in) q o in
+          let s : sort_at b p n k ≡ node (sort_number r.kind) r.name r.number (sorts_of (store_of b p n) refs_in) =
+          entry-sort ∙ sort-other (store_of b p n) (fields (sort_number r.kind) r.name r.number refs_in names_in) q o in
           let θ = images_of (store_of b p n) l in
           ap (apply θ) s
-          ∙ sym (rebuilt-node r.kind r.name r.number (unbound l names_in) (apply_all θ (parts_of (sort_at b p n k))) o
-          ∙ ap (λ (x : Sort). node r.kind r.name r.number (apply_all θ (parts_of x))) s)
+          ∙ sym (rebuilt-node (sort_number r.kind) r.name r.number (unbound l names_in) (apply_all θ (parts_of (sort_at b p n k))) o
+          ∙ ap (λ (x : Sort). node (sort_number r.kind) r.name r.number (apply_all θ (parts_of x))) s)
 
-  pub parts-one : r.kind ≡ 12 → count (apply_all (images_of (store_of b p n) l) (parts_of (sort_at b p n k))) ≡ 1
+  pub parts-one : sort_number r.kind ≡ 12 → count (apply_all (images_of (store_of b p n) l) (parts_of (sort_at b p n k))) ≡ 1
   parts-one h =
       count-applied (images_of (store_of b p n) l) (parts_of (sort_at b p n k))
       ∙ ap count (sym e.parts) ∙ count-sorts (store_of b p n) refs_in ∙ refs-one h
 
   -- A SORT WITHOUT PARTS that is no variable stays as it is.
-  pub answer-leaf : (r.kind ≡ 2 → ⊥) → r.count ≡ 0 → sort_at b p n k ≡ answer_at b p n l k
+  pub answer-leaf : (sort_number r.kind ≡ 2 → ⊥) → r.parts.count ≡ 0 → sort_at b p n k ≡ answer_at b p n l k
   unfolding numbers_at sorts_of apply_all
   answer-leaf d z =
       let θ = images_of (store_of b p n) l in
-      let none : refs_in ≡ [] = ap (numbers_at b r.list) z in
+      let none : refs_in ≡ [] = ap (numbers_at b r.parts.at) z in
       let parts : parts_of (sort_at b p n k) ≡ end = sym e.parts ∙ ap (sorts_of (store_of b p n)) none in
-      let o : r.kind ≡ 12 → ⊥ = λ h. absurd (omega (arith, refs-one h, ap length none)) in
-      entry-sort ∙ sort-other (store_of b p n) (fields r.kind r.name r.number refs_in names_in) d o
-      ∙ ap (λ (vs : List ℕ). node r.kind r.name r.number (sorts_of (store_of b p n) vs)) none
-      ∙ sym (answer-rebuilt d ∙ rebuilt-node r.kind r.name r.number (unbound l names_in) (apply_all θ (parts_of (sort_at b p n k))) o
-      ∙ ap (λ (ss : Sorts). node r.kind r.name r.number (apply_all θ ss)) parts)
+      let o : sort_number r.kind ≡ 12 → ⊥ = λ h. absurd (omega (arith, refs-one h, ap length none)) in
+      entry-sort ∙ sort-other (store_of b p n) (fields (sort_number r.kind) r.name r.number refs_in names_in) d o
+      ∙ ap (λ (vs : List ℕ). node (sort_number r.kind) r.name r.number (sorts_of (store_of b p n) vs)) none
+      ∙ sym (answer-rebuilt d ∙ rebuilt-node (sort_number r.kind) r.name r.number (unbound l names_in) (apply_all θ (parts_of (sort_at b p n k))) o
+      ∙ ap (λ (ss : Sorts). node (sort_number r.kind) r.name r.number (apply_all θ ss)) parts)
 
 size-parts : (s : Sort) → size s ≡ 1 + sizes (parts_of s)
 unfolding size
@@ -279,22 +277,5 @@ size-parts (node k a w ss) = refl
 
 -- The size of a sort of the store by its references.
 pub size-refs : {b p : List ℕ} {n k : ℕ} {r : SortRecord} → EntryIs b p n k r
-    → size (sort_at b p n k) ≡ 1 + sizes (sorts_of (store_of b p n) (numbers_at b r.list r.count))
+    → size (sort_at b p n k) ≡ 1 + sizes (sorts_of (store_of b p n) (numbers_at b r.parts.at r.parts.count))
 size-refs {b} {p} {n} {k} {r} e = size-parts (sort_at b p n k) ∙ ap (λ (ss : Sorts). 1 + sizes ss) (sym e.parts)
-
--- The tests of the code.
-pub goes-is : {k : ℕ} (m : ℕ) → k ≡ 12 → eqb m 0 ≡ goes k m
-unfolding goes
-goes-is {k} m e = rw (eq-eqb k 12 e)
-
-pub goes-not : (k m : ℕ) → (k ≡ 12 → ⊥) → false ≡ goes k m
-unfolding goes
-goes-not k m e = rw (ne_eqb k 12 e)
-
-pub number-none : (v k : ℕ) → v ≡ 0 → k ≡ image_number v k
-number-none zero k e = refl
-number-none (suc j) k e = absurd (omega arith)
-
-pub number-some : (v k : ℕ) → (v ≡ 0 → ⊥) → v - 1 ≡ image_number v k
-number-some zero k d = absurd (d refl)
-number-some (suc j) k d = omega arith

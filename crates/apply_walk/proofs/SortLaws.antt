@@ -5,7 +5,6 @@ use mathlib.Core.Bool.{true, false}
 use mathlib.Core.List.{List}
 use native.Mathlib.Omega.{arith}
 use lib.ListN.{length, get_or, set}
-use lib.Seq.{get_or-take}
 use Rattle.record.specs.Number.{numbers_at}
 use Rattle.record.specs.Sort.{Sort, Sorts, count, size, sizes, kind_of, parts_of}
 use Rattle.record.specs.Record.{Fields, sorts_of}
@@ -13,82 +12,75 @@ use Rattle.record.specs.Store.{intern, intern_all, indices_of, room}
 use Rattle.record.specs.Decode.{Below, store_of, sort_at}
 use Rattle.record.specs.SortLists.{memb_all, memb-intern-all, Starts, starts-intern-all, room-starts}
 use Rattle.record.specs.Entries.{store-ordered}
+use Rattle.record.specs.Kinds.{sort_number}
 use Rattle.record.specs.declared.SortRecord.{SortRecord}
 use Rattle.store.specs.Contract.{Untouched}
 use Rattle.store.specs.Entry.{EntryIs}
 use Rattle.substitution.specs.Substitution.{Map, apply_all}
-use Rattle.apply_walk.specs.Lists.{Numbers, numbers_of, unbound, Has, ReadAsks}
+use Rattle.apply_walk.specs.Lists.{unbound, ReadAsks}
 use Rattle.apply_walk.specs.Images.{image_number, images_of}
 use Rattle.apply_walk.specs.Made.{Made, made-known-sort, grown-count}
 use Rattle.apply_walk.specs.Halted.{Halted, made-over, halted-over}
 use Rattle.apply_walk.specs.Contract.{answer_at, answers_at, SortAsks, PartsAsk, PartsMade, RebuildAsks}
 use Rattle.apply_walk.specs.Known.{Known}
-use Rattle.apply_walk.specs.HeldLaws.{has-length, has-own}
 use Rattle.apply_walk.specs.KnownLaws.{image-map-same, sort-same, answer-same, table_same, known-added}
 use Rattle.apply_walk.proofs.SortForms.{rebuilt, image-is, image-known, answer-rebuilt, answer-leaf, parts-one, intern-rebuilt, starts-rebuilt, sizes-within, size-refs}
 
 -- A WHOLE SORT.
 module _ {b p ix : List ℕ} {n u k : ℕ} {l : List ℕ} (a : SortAsks b p ix n u k l) {e : SortRecord} (is : EntryIs b p n k e) where
-  pub sort-image : e.kind ≡ 2 → {i : ℕ} → i ≡ image_number (get_or l e.name 0) k → Made b p n u (answer_at b p n l k) b p ix i n u
+  pub sort-image : sort_number e.kind ≡ 2 → {i : ℕ} → i ≡ image_number (get_or l e.name 0) k → Made b p n u (answer_at b p n l k) b p ix i n u
   sort-image h {i} q =
       subst (λ (s : Sort). Made b p n u s b p ix i n u)
       (ap (sort_at b p n) q ∙ image-is a.ready.good.stored a.ready.table a.known is h)
       (made-known-sort b p ix n u a.ready.good i
       (omega (arith, q, image-known a.ready.good.stored a.ready.table a.known is)))
 
-  pub sort-leaf : (e.kind ≡ 2 → ⊥) → e.count ≡ 0 → Made b p n u (answer_at b p n l k) b p ix k n u
+  pub sort-leaf : (sort_number e.kind ≡ 2 → ⊥) → e.parts.count ≡ 0 → Made b p n u (answer_at b p n l k) b p ix k n u
   sort-leaf d z =
       subst (λ (s : Sort). Made b p n u s b p ix k n u)
       (answer-leaf a.ready.good.stored a.ready.table a.known is d z)
       (made-known-sort b p ix n u a.ready.good k a.known)
 
-  pub sort-read : ReadAsks b e.list e.count
+  pub sort-read : ReadAsks b e.parts.at e.parts.count
   sort-read = record { within = is.place.list; few = is.few }
 
-  module _ (other : e.kind ≡ 2 → ⊥) {o : Numbers} (ho : Has o (numbers_at b e.list e.count)) where
+  module _ (other : sort_number e.kind ≡ 2 → ⊥) {o : List ℕ} (ho : o ≡ numbers_at b e.parts.at e.parts.count) where
     abbrev ps : Sorts
     ps = apply_all (images_of (store_of b p n) l) (parts_of (sort_at b p n k))
 
     abbrev names : List ℕ
-    names = unbound l (numbers_at b e.names e.named)
+    names = unbound l (numbers_at b e.names.at e.names.count)
 
-    answer-is : answer_at b p n l k ≡ rebuilt e.kind e.name e.number names ps
+    answer-is : answer_at b p n l k ≡ rebuilt (sort_number e.kind) e.name e.number names ps
     answer-is = answer-rebuilt a.ready.good.stored a.ready.table a.known is other
 
-    one : e.kind ≡ 12 → count ps ≡ 1
+    one : sort_number e.kind ≡ 12 → count ps ≡ 1
     one = parts-one a.ready.good.stored a.ready.table a.known is
 
-    refs-are : sorts_of (store_of b p n) (numbers_of o) ≡ parts_of (sort_at b p n k)
-    refs-are = ap (sorts_of (store_of b p n)) ho.is ∙ is.parts
+    refs-are : sorts_of (store_of b p n) o ≡ parts_of (sort_at b p n k)
+    refs-are = ap (sorts_of (store_of b p n)) ho ∙ is.parts
 
-    answers-are : answers_at b p n l (numbers_of o) ≡ ps
+    answers-are : answers_at b p n l o ≡ ps
     answers-are = ap (apply_all (images_of (store_of b p n) l)) refs-are
 
-    refs-below : (j : ℕ) → j < length (numbers_at b e.list e.count) → get_or (numbers_at b e.list e.count) j 0 < k
+    refs-below : (j : ℕ) → j < length (numbers_at b e.parts.at e.parts.count) → get_or (numbers_at b e.parts.at e.parts.count) j 0 < k
     refs-below = subst (λ (f : Fields). Below f k) is.place.same (a.ready.good.stored.each k a.known).below
 
-    pub sort-falls : 2 * sizes (sorts_of (store_of b p n) (numbers_of o)) + 1 < 2 * size (sort_at b p n k)
+    pub sort-falls : 2 * sizes (sorts_of (store_of b p n) o) + 1 < 2 * size (sort_at b p n k)
     sort-falls =
-        omega (arith, size-refs is, ap (λ (vs : List ℕ). sizes (sorts_of (store_of b p n) vs)) ho.is)
+        omega (arith, size-refs is, ap (λ (vs : List ℕ). sizes (sorts_of (store_of b p n) vs)) ho)
 
     pub sort-parts-ask : PartsAsk b p ix n u o l
     sort-parts-ask =
         record {
           ready = a.ready;
-          has = has-own o (numbers_at b e.list e.count) ho;
           below = λ j h.
-              omega (
-                arith,
-                get_or-take o.count o.list j 0 h,
-                ap (λ (vs : List ℕ). get_or vs j 0) ho.is,
-                refs-below j (omega (arith, has-length o (numbers_at b e.list e.count) ho)),
-                a.known,
-              );
+              omega (arith, ap (λ (vs : List ℕ). get_or vs j 0) ho, refs-below j (omega (arith, h, ap length ho)), a.known);
           small =
-              omega (arith, ap sizes answers-are, ap size answer-is, a.small, sizes-within e.kind e.name e.number names ps other one);
+              omega (arith, ap sizes answers-are, ap size answer-is, a.small, sizes-within (sort_number e.kind) e.name e.number names ps other one);
         }
 
-    pub sort-stuck : {c q kx : List ℕ} {m v : ℕ} → Halted b p n u (intern_all (answers_at b p n l (numbers_of o)) (store_of b p n)) c q kx m v
+    pub sort-stuck : {c q kx : List ℕ} {m v : ℕ} → Halted b p n u (intern_all (answers_at b p n l o) (store_of b p n)) c q kx m v
         → Halted b p n u (intern (answer_at b p n l k) (store_of b p n)) c q kx m v
     sort-stuck {c} {q} {kx} {m} {v} w =
         record {
@@ -97,12 +89,12 @@ module _ {b p ix : List ℕ} {n u k : ℕ} {l : List ℕ} (a : SortAsks b p ix n
           full =
               room-starts (length b) (length p) (intern_all ps (store_of b p n)) (intern (answer_at b p n l k) (store_of b p n))
               (subst (λ (s : Sort). Starts (intern_all ps (store_of b p n)) (intern s (store_of b p n))) (sym answer-is)
-              (starts-rebuilt e.kind e.name e.number names ps (store_of b p n) (store-ordered b p n a.ready.good.stored) other one))
+              (starts-rebuilt (sort_number e.kind) e.name e.number names ps (store_of b p n) (store-ordered b p n a.ready.good.stored) other one))
               (subst (λ (ss : Sorts). room (length b) (length p) (intern_all ss (store_of b p n)) ≡ false) answers-are w.full);
           kept = w.kept;
         }
 
-    module _ {c q kx : List ℕ} {r : Numbers} {m v : ℕ} (w : PartsMade b p n u (answers_at b p n l (numbers_of o)) c q kx r m v) where
+    module _ {c q kx r : List ℕ} {m v : ℕ} (w : PartsMade b p n u (answers_at b p n l o) c q kx r m v) where
       added : store_of c q m ≡ intern_all ps (store_of b p n)
       added = w.added ∙ ap (λ (ss : Sorts). intern_all ss (store_of b p n)) answers-are
 
@@ -128,14 +120,14 @@ module _ {b p ix : List ℕ} {n u k : ℕ} {l : List ℕ} (a : SortAsks b p ix n
                 subst (λ (ss : Sorts). memb_all ss (store_of c q m) ≡ true) (sym ps-same)
                 (subst (λ (st : List Sort). memb_all ps st ≡ true) (sym added) (memb-intern-all ps (store_of b p n)));
             has =
-                subst (λ (ss : Sorts). Has r (indices_of ss (store_of c q m))) (answers-are ∙ sym ps-same) w.has;
+                subst (λ (ss : Sorts). r ≡ indices_of ss (store_of c q m)) (answers-are ∙ sym ps-same) w.has;
             small = omega (arith, ap size ans-same, a.small);
           }
 
       interned : intern (answer_at b p n l k) (store_of c q m) ≡ intern (answer_at b p n l k) (store_of b p n)
       interned =
           ap₂ intern answer-is added
-          ∙ intern-rebuilt e.kind e.name e.number names ps (store_of b p n) (store-ordered b p n a.ready.good.stored) other one
+          ∙ intern-rebuilt (sort_number e.kind) e.name e.number names ps (store_of b p n) (store-ordered b p n a.ready.good.stored) other one
           ∙ sym (ap (λ (s : Sort). intern s (store_of b p n)) answer-is)
 
       pub sort-made : {d t jx' : List ℕ} {i m' v' : ℕ} → Made c q m v (answer_at c q m l k) d t jx' i m' v'
@@ -150,10 +142,12 @@ module _ {b p ix : List ℕ} {n u k : ℕ} {l : List ℕ} (a : SortAsks b p ix n
       sort-known {d} {t} {jx'} {i} {m'} {v'} y ws h =
           known-added c q m v k l d t jx' i m' v' y sort-rebuild.ready.table sort-rebuild.known ws h
 
-      pub sort-full : (d t jx' : List ℕ)
-          → (room (length c) (length q) (intern (answer_at c q m l k) (store_of c q m)) ≡ false) × Untouched c q kx d t jx'
-          → Halted b p n u (intern (answer_at b p n l k) (store_of b p n)) d t jx' m v
-      sort-full d t jx' y =
-          halted-over b p ix n u a.ready.good c q kx m v w.good starts w.kept (answer_at b p n l k) interned
+      pub sort-full : (d t jx' : List ℕ) (m' v' : ℕ)
+          → (room (length c) (length q) (intern (answer_at c q m l k) (store_of c q m)) ≡ false) × Untouched c q kx d t jx' × (m' ≡ m) × (v' ≡ v)
+          → Halted b p n u (intern (answer_at b p n l k) (store_of b p n)) d t jx' m' v'
+      sort-full d t jx' m' v' y =
+          subst (λ (i : ℕ). Halted b p n u (intern (answer_at b p n l k) (store_of b p n)) d t jx' i v') (sym y.2)
+          (subst (Halted b p n u (intern (answer_at b p n l k) (store_of b p n)) d t jx' m) (sym y.3)
+          (halted-over b p ix n u a.ready.good c q kx m v w.good starts w.kept (answer_at b p n l k) interned
           d t jx'
-          (sym (ap (λ (s : Sort). room (length c) (length q) (intern s (store_of c q m))) ans-same) ∙ y.0, y.1)
+          (sym (ap (λ (s : Sort). room (length c) (length q) (intern s (store_of c q m))) ans-same) ∙ y.0, y.1)))

@@ -1,6 +1,6 @@
 -- What the walks of a substitution over a store ask and promise: the size of an answer, capped; and the answer made in the store,
 -- or the store where there was no room.
-use Rattle.std.specs.Prelude.{ℕ, ◌+◌, ◌*◌, ◌≤◌, ◌<◌, ◌≡◌, Bool, true, cond, ◌&&◌, List, length, get_or, eqb, leb}
+use Rattle.std.specs.Prelude.{ℕ, ◌+◌, ◌*◌, ◌≤◌, ◌<◌, ◌≡◌, Bool, true, cond, ◌&&◌, List, length, get_or, eqb, leb, Result, Ok, Err}
 use Rattle.record.specs.Number.{u16_at, numbers_at}
 use Rattle.record.specs.Sort.{Sort, Sorts, size, sizes, kind_of, parts_of}
 use Rattle.record.specs.Record.{sorts_of}
@@ -8,12 +8,8 @@ use Rattle.record.specs.Store.{intern, intern_all, indices_of}
 use Rattle.record.specs.Decode.{store_of, sort_at, Stored}
 use Rattle.record.specs.SortLists.{memb_all}
 use Rattle.store.specs.Good.{Good, Sized, Kept}
+use Rattle.store.specs.declared.Full.{Full}
 use Rattle.substitution.specs.Substitution.{apply, apply_all}
-use Rattle.apply_walk.specs.declared.Parts.{Parts}
-use Rattle.apply_walk.specs.declared.Parts.TheVariants.{Are, Stuck as Short}
-use Rattle.apply_walk.specs.declared.Replaced.{Replaced}
-use Rattle.apply_walk.specs.declared.Replaced.TheVariants.{Is as Found, Stuck}
-use Rattle.apply_walk.specs.Lists.{Numbers, numbers_of, Has}
 use Rattle.apply_walk.specs.Images.{images_of, ImageTable}
 use Rattle.apply_walk.specs.Made.{Made}
 use Rattle.apply_walk.specs.Halted.{Halted}
@@ -62,12 +58,12 @@ pub record Ready (b p ix : List ℕ) (n u : ℕ) (l : List ℕ) : Type 0 where
   pub table : ImageTable l n
 
 -- The sort k is no variable, and parts has the numbers of its parts replaced, which the store has.
-pub record RebuildAsks (b p ix : List ℕ) (n u k : ℕ) (parts : Numbers) (l : List ℕ) : Type 0 where
+pub record RebuildAsks (b p ix : List ℕ) (n u k : ℕ) (parts l : List ℕ) : Type 0 where
   pub ready : Ready b p ix n u l
   pub known : k < n
   pub other : kind_of (sort_at b p n k) ≡ 2 → ⊥
   pub there : memb_all (apply_all (images_of (store_of b p n) l) (parts_of (sort_at b p n k))) (store_of b p n) ≡ true
-  pub has : Has parts (indices_of (apply_all (images_of (store_of b p n) l) (parts_of (sort_at b p n k))) (store_of b p n))
+  pub has : parts ≡ indices_of (apply_all (images_of (store_of b p n) l) (parts_of (sort_at b p n k))) (store_of b p n)
   pub small : size (answer_at b p n l k) ≤ 4096
 
 pub record SortAsks (b p ix : List ℕ) (n u k : ℕ) (l : List ℕ) : Type 0 where
@@ -75,24 +71,24 @@ pub record SortAsks (b p ix : List ℕ) (n u k : ℕ) (l : List ℕ) : Type 0 wh
   pub known : k < n
   pub small : size (answer_at b p n l k) ≤ 4096
 
-abbrev pub ReplacedIs : List ℕ → List ℕ → ℕ → ℕ → Sort → List ℕ → List ℕ → List ℕ → Replaced → Type 0
-ReplacedIs b p n u s c q ix' (Found i m v) = Made b p n u s c q ix' i m v
-ReplacedIs b p n u s c q ix' (Stuck m v) = Halted b p n u (intern s (store_of b p n)) c q ix' m v
+-- The number of the sort s, which is made; or there is no room, and the store is what was made so far.
+abbrev pub ReplacedIs : List ℕ → List ℕ → ℕ → ℕ → Sort → List ℕ → List ℕ → List ℕ → ℕ → ℕ → Result ℕ Full → Type 0
+ReplacedIs b p n u s c q ix' m v (Ok i) = Made b p n u s c q ix' i m v
+ReplacedIs b p n u s c q ix' m v (Err e) = Halted b p n u (intern s (store_of b p n)) c q ix' m v
 
-pub record PartsAsk (b p ix : List ℕ) (n u : ℕ) (parts : Numbers) (l : List ℕ) : Type 0 where
+pub record PartsAsk (b p ix : List ℕ) (n u : ℕ) (parts l : List ℕ) : Type 0 where
   pub ready : Ready b p ix n u l
-  pub has : Has parts (numbers_of parts)
-  pub below : (j : ℕ) → j < parts.count → get_or parts.list j 0 < n
-  pub small : sizes (answers_at b p n l (numbers_of parts)) ≤ 4096
+  pub below : (j : ℕ) → j < length parts → get_or parts j 0 < n
+  pub small : sizes (answers_at b p n l parts) ≤ 4096
 
 -- The store after making the sorts ss, and their numbers in it.
-pub record PartsMade (b p : List ℕ) (n u : ℕ) (ss : Sorts) (c q ix' : List ℕ) (o : Numbers) (m v : ℕ) : Type 0 where
+pub record PartsMade (b p : List ℕ) (n u : ℕ) (ss : Sorts) (c q ix' o : List ℕ) (m v : ℕ) : Type 0 where
   pub good : Good c q ix' m v
   pub added : store_of c q m ≡ intern_all ss (store_of b p n)
-  pub has : Has o (indices_of ss (store_of c q m))
+  pub has : o ≡ indices_of ss (store_of c q m)
   pub kept : Kept b p n u c q
 
-abbrev pub PartsAre : List ℕ → List ℕ → ℕ → ℕ → Numbers → List ℕ → List ℕ → List ℕ → List ℕ → Numbers → Parts → Type 0
-PartsAre b p n u parts l c q ix' o (Are m v) = PartsMade b p n u (answers_at b p n l (numbers_of parts)) c q ix' o m v
-PartsAre b p n u parts l c q ix' o (Short m v) =
-    Halted b p n u (intern_all (answers_at b p n l (numbers_of parts)) (store_of b p n)) c q ix' m v
+-- All are made, and their numbers stand in o; or there is no room, and the store is what was made so far.
+abbrev pub PartsAre : List ℕ → List ℕ → ℕ → ℕ → List ℕ → List ℕ → List ℕ → List ℕ → List ℕ → List ℕ → ℕ → ℕ → Result (Unit {0}) Full → Type 0
+PartsAre b p n u parts l c q ix' o m v (Ok w) = PartsMade b p n u (answers_at b p n l parts) c q ix' o m v
+PartsAre b p n u parts l c q ix' o m v (Err e) = Halted b p n u (intern_all (answers_at b p n l parts) (store_of b p n)) c q ix' m v

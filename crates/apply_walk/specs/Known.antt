@@ -1,12 +1,8 @@
 -- What one substitution knows already, in tables by store number: the answers that it has made, and their sizes. A table has
 -- any length; an entry of 0, and one past the end, says nothing.
-use Rattle.std.specs.Prelude.{ℕ, suc, ◌<◌, ◌≡◌, List, get_or}
+use Rattle.std.specs.Prelude.{ℕ, suc, ◌<◌, ◌≡◌, List, get_or, Result, Ok, Err}
 use Rattle.record.specs.Decode.{sort_at}
-use Rattle.apply_walk.specs.declared.Parts.{Parts}
-use Rattle.apply_walk.specs.declared.Parts.TheVariants.{Are, Stuck as Short}
-use Rattle.apply_walk.specs.declared.Replaced.{Replaced}
-use Rattle.apply_walk.specs.declared.Replaced.TheVariants.{Is as Found, Stuck}
-use Rattle.apply_walk.specs.Lists.{Numbers, numbers_of}
+use Rattle.store.specs.declared.Full.{Full}
 use Rattle.apply_walk.specs.Made.{Made}
 use Rattle.apply_walk.specs.Contract.{answer_at, answers_at, SizeAsks, SizesAsk, SizeIs, SizesAre, SortAsks, ReplacedIs, PartsAsk, PartsMade, PartsAre}
 
@@ -53,18 +49,18 @@ pub record KnownMade (b p : List ℕ) (n u k : ℕ) (l c q ix' ws' : List ℕ) (
   pub made : Made b p n u (answer_at b p n l k) c q ix' i m v
   pub known : Known c q m l ws'
 
-abbrev pub KnownIs : List ℕ → List ℕ → ℕ → ℕ → ℕ → List ℕ → List ℕ → List ℕ → List ℕ → List ℕ → Replaced → Type 0
-KnownIs b p n u k l c q ix' ws' (Found i m v) = KnownMade b p n u k l c q ix' ws' i m v
-KnownIs b p n u k l c q ix' ws' (Stuck m v) = ReplacedIs b p n u (answer_at b p n l k) c q ix' (Stuck m v)
+abbrev pub KnownIs : List ℕ → List ℕ → ℕ → ℕ → ℕ → List ℕ → List ℕ → List ℕ → List ℕ → List ℕ → ℕ → ℕ → Result ℕ Full → Type 0
+KnownIs b p n u k l c q ix' ws' m v (Ok i) = KnownMade b p n u k l c q ix' ws' i m v
+KnownIs b p n u k l c q ix' ws' m v (Err e) = ReplacedIs b p n u (answer_at b p n l k) c q ix' m v (Err e)
 
-pub record KnownAllAsk (b p ix ws : List ℕ) (n u : ℕ) (parts : Numbers) (l : List ℕ) : Type 0 where
+pub record KnownAllAsk (b p ix ws : List ℕ) (n u : ℕ) (parts l : List ℕ) : Type 0 where
   pub asks : PartsAsk b p ix n u parts l
   pub known : Known b p n l ws
 
-pub record KnownAllMade (b p : List ℕ) (n u : ℕ) (parts : Numbers) (l c q ix' ws' : List ℕ) (o : Numbers) (m v : ℕ) : Type 0 where
-  pub made : PartsMade b p n u (answers_at b p n l (numbers_of parts)) c q ix' o m v
+pub record KnownAllMade (b p : List ℕ) (n u : ℕ) (parts l c q ix' ws' o : List ℕ) (m v : ℕ) : Type 0 where
+  pub made : PartsMade b p n u (answers_at b p n l parts) c q ix' o m v
   pub known : Known c q m l ws'
 
-abbrev pub KnownAllAre : List ℕ → List ℕ → ℕ → ℕ → Numbers → List ℕ → List ℕ → List ℕ → List ℕ → List ℕ → Numbers → Parts → Type 0
-KnownAllAre b p n u parts l c q ix' ws' o (Are m v) = KnownAllMade b p n u parts l c q ix' ws' o m v
-KnownAllAre b p n u parts l c q ix' ws' o (Short m v) = PartsAre b p n u parts l c q ix' o (Short m v)
+abbrev pub KnownAllAre : List ℕ → List ℕ → ℕ → ℕ → List ℕ → List ℕ → List ℕ → List ℕ → List ℕ → List ℕ → List ℕ → ℕ → ℕ → Result (Unit {0}) Full → Type 0
+KnownAllAre b p n u parts l c q ix' ws' o m v (Ok w) = KnownAllMade b p n u parts l c q ix' ws' o m v
+KnownAllAre b p n u parts l c q ix' ws' o m v (Err e) = PartsAre b p n u parts l c q ix' o m v (Err e)

@@ -1,21 +1,19 @@
 -- Laws of what one substitution knows already: a table of zeros says nothing, an entry that is read or written says the
 -- truth, and stays true while the store grows.
-use Rattle.std.specs.Prelude.{ℕ, zero, suc, ◌+◌, ◌-◌, ◌≤◌, ◌<◌, ◌≡◌, refl, List, [], ◌∷◌, get_or, set, replicate}
+use Rattle.std.specs.Prelude.{ℕ, zero, suc, ◌+◌, ◌-◌, ◌≤◌, ◌<◌, ◌≡◌, refl, List, [], ◌∷◌, get_or, set, replicate, Result, Ok, Err, IsErr}
 use Rattle.std.proofs.Common.{sym, ap, ap₂, subst, ◌∙◌, arith}
 use Rattle.record.specs.Sort.{Sort}
 use Rattle.record.specs.Decode.{store_of, sort_at}
 use Rattle.record.specs.SortLists.{Starts, starts-at, starts-count}
 use Rattle.record.specs.StoreLaws.{store_of-length}
+use Rattle.record.specs.Store.{intern, intern_all}
 use Rattle.store.specs.Good.{Good}
 use Rattle.substitution.specs.Substitution.{apply}
 use Rattle.apply_walk.specs.Images.{images_of, ImageTable, table-starts, images-same}
 use Rattle.apply_walk.specs.Made.{Made, made-starts, made_more, made-known, made-here, made-known-sort}
-use Rattle.apply_walk.specs.declared.Replaced.{Replaced}
-use Rattle.apply_walk.specs.declared.Replaced.TheVariants.{Is as Found, Stuck}
-use Rattle.apply_walk.specs.declared.Parts.{Parts}
-use Rattle.apply_walk.specs.declared.Parts.TheVariants.{Are, Stuck as Short}
-use Rattle.apply_walk.specs.Lists.{Numbers}
-use Rattle.apply_walk.specs.Contract.{answer_at, SizeIs, ReplacedIs, PartsAre}
+use Rattle.store.specs.declared.Full.{Full}
+use Rattle.apply_walk.specs.Halted.{Halted}
+use Rattle.apply_walk.specs.Contract.{answer_at, answers_at, SizeIs, ReplacedIs, PartsAre}
 use Rattle.apply_walk.specs.Known.{EntrySays, Known, Weighs, Weighed, KnownIs, KnownAllAre}
 use Rattle.apply_walk.specs.HeldLaws.{zeros-held}
 
@@ -87,15 +85,26 @@ known-made b p ix n u g k l ws h (suc i) e d =
     (subst (λ (s : Sort). Made b p n u s b p ix i n u) w.2 (made-known-sort b p ix n u g i w.1))
 
 -- Without the table it is the promise of a sort made.
-pub known-replaced : (b p : List ℕ) (n u k : ℕ) (l c q ix' ws' : List ℕ) (r : Replaced) → KnownIs b p n u k l c q ix' ws' r
-    → ReplacedIs b p n u (answer_at b p n l k) c q ix' r
-known-replaced b p n u k l c q ix' ws' (Found i m v) w = w.made
-known-replaced b p n u k l c q ix' ws' (Stuck m v) w = w
+pub known-replaced : (b p : List ℕ) (n u k : ℕ) (l c q ix' ws' : List ℕ) (m v : ℕ) (r : Result ℕ Full) → KnownIs b p n u k l c q ix' ws' m v r
+    → ReplacedIs b p n u (answer_at b p n l k) c q ix' m v r
+known-replaced b p n u k l c q ix' ws' m v (Ok i) w = w.made
+known-replaced b p n u k l c q ix' ws' m v (Err e) w = w
 
-pub known-parts : (b p : List ℕ) (n u : ℕ) (parts : Numbers) (l c q ix' ws' : List ℕ) (o : Numbers) (r : Parts)
-    → KnownAllAre b p n u parts l c q ix' ws' o r → PartsAre b p n u parts l c q ix' o r
-known-parts b p n u parts l c q ix' ws' o (Are m v) w = w.made
-known-parts b p n u parts l c q ix' ws' o (Short m v) w = w
+pub known-parts : (b p : List ℕ) (n u : ℕ) (parts l c q ix' ws' o : List ℕ) (m v : ℕ) (r : Result (Unit {0}) Full)
+    → KnownAllAre b p n u parts l c q ix' ws' o m v r → PartsAre b p n u parts l c q ix' o m v r
+known-parts b p n u parts l c q ix' ws' o m v (Ok w) h = h.made
+known-parts b p n u parts l c q ix' ws' o m v (Err e) h = h
+
+-- Where there was no room.
+pub known-halted : (b p : List ℕ) (n u k : ℕ) (l c q ix' ws' : List ℕ) (m v : ℕ) (r : Result ℕ Full) → IsErr r
+    → Halted b p n u (intern (answer_at b p n l k) (store_of b p n)) c q ix' m v → KnownIs b p n u k l c q ix' ws' m v r
+known-halted b p n u k l c q ix' ws' m v (Ok i) e h = cc
+known-halted b p n u k l c q ix' ws' m v (Err f) e h = h
+
+pub known-parts-halted : (b p : List ℕ) (n u : ℕ) (parts l c q ix' ws' o : List ℕ) (m v : ℕ) (r : Result (Unit {0}) Full) → IsErr r
+    → Halted b p n u (intern_all (answers_at b p n l parts) (store_of b p n)) c q ix' m v → KnownAllAre b p n u parts l c q ix' ws' o m v r
+known-parts-halted b p n u parts l c q ix' ws' o m v (Ok w) e h = cc
+known-parts-halted b p n u parts l c q ix' ws' o m v (Err f) e h = h
 
 -- THE SIZES.
 pub weighed-none : (b p : List ℕ) (n : ℕ) (l : List ℕ) (m : ℕ) → Weighed b p n l (replicate m 0)

@@ -11,3 +11,4 @@ pub mod Known
 pub mod KnownLaws
 pub mod AlongLaws
 pub mod PartLaws
+pub mod Stores

@@ -1,6 +1,6 @@
 -- A sort made in the store: the store after it, or that there is no room for it. What every answer that adds sorts
 -- promises, and how answers of several new sorts are put together.
-use Rattle.std.specs.Prelude.{ℕ, ◌≤◌, ◌<◌, ◌≡◌, refl, true, false, List, length, take}
+use Rattle.std.specs.Prelude.{ℕ, ◌≤◌, ◌<◌, ◌≡◌, refl, true, false, List, length, take, Result, Ok, Err}
 use Rattle.std.proofs.Common.{sym, subst, ◌∙◌, arith, take_at}
 use Rattle.std.proofs.Math.Path.{ap}
 use Rattle.std.proofs.Math.ListN.{get_or}
@@ -14,9 +14,7 @@ use Rattle.record.specs.Entries.{store-ordered}
 use Rattle.record.specs.Whole.{store-once}
 use Rattle.store.specs.Good.{Good, Kept}
 use Rattle.store.specs.Contract.{Untouched}
-use Rattle.store.specs.declared.Interned.{Interned}
-use Rattle.store.specs.declared.Interned.TheVariants.{Is, NoRoom}
-use Rattle.apply_walk.specs.Lists.{Numbers, numbers_of, Has}
+use Rattle.store.specs.declared.Full.{Full}
 
 -- THE STORE AFTER MAKING THE SORT s: its parts and itself are interned, i is its number, and the old records stay.
 pub record Made (b p : List ℕ) (n u : ℕ) (s : Sort) (b' p' ix' : List ℕ) (i n' u' : ℕ) : Type 0 where
@@ -26,16 +24,14 @@ pub record Made (b p : List ℕ) (n u : ℕ) (s : Sort) (b' p' ix' : List ℕ) (
   pub kept : Kept b p n u b' p'
 
 -- Or there is no room for that store, and nothing has changed.
-abbrev pub MadeIs : List ℕ → List ℕ → List ℕ → ℕ → ℕ → Sort → List ℕ → List ℕ → List ℕ → Interned → Type 0
-MadeIs b p ix n u s b' p' ix' (Is i n' u') = Made b p n u s b' p' ix' i n' u'
-MadeIs b p ix n u s b' p' ix' NoRoom =
-    (room (length b) (length p) (intern s (store_of b p n)) ≡ false) × Untouched b p ix b' p' ix'
+abbrev pub MadeIs : List ℕ → List ℕ → List ℕ → ℕ → ℕ → Sort → List ℕ → List ℕ → List ℕ → ℕ → ℕ → Result ℕ Full → Type 0
+MadeIs b p ix n u s b' p' ix' n' u' (Ok i) = Made b p n u s b' p' ix' i n' u'
+MadeIs b p ix n u s b' p' ix' n' u' (Err e) =
+    (room (length b) (length p) (intern s (store_of b p n)) ≡ false) × Untouched b p ix b' p' ix' × (n' ≡ n) × (u' ≡ u)
 
--- A good store, and the fields of a sort over it whose lists are held in ps and ms.
-pub record FieldsMakeAsks (b p ix : List ℕ) (n u : ℕ) (f : Fields) (ps ms : Numbers) : Type 0 where
+-- A good store, and the fields of a sort over it.
+pub record FieldsMakeAsks (b p ix : List ℕ) (n u : ℕ) (f : Fields) : Type 0 where
   pub good : Good b p ix n u
-  pub parts : Has ps (numbers_of ps)
-  pub names : Has ms (numbers_of ms)
   pub shape : Shape f
   pub below : Below f n
   pub small : size (sort_of (store_of b p n) f) ≤ 4096

@@ -1,84 +1,103 @@
-// Lists of at most 64 numbers in lent arrays: the references of a record, and the names of a Par that a table of images leaves.
-ghost use Rattle.std.specs.Prelude.{◌≡◌, true, [], ◌∷◌, ◌++◌, ◌+◌, length, take};
+// Lists of at most 64 numbers: the references of a record, and the names of a Par that a table of images leaves.
+ghost use Rattle.std.specs.Prelude.{◌≡◌, ◌+◌, ◌<◌, ◌≤◌, true, List as Items, [], ◌∷◌, ◌++◌, ℕ, eqb, get_or, length, take};
 ghost use Rattle.record.specs.Number.{numbers_at};
-ghost use Rattle.apply_walk.specs.Lists.{numbers_of, held, unbound, Has, KeepAsks, ReadAsks, NamesKeptAsk, SameAsks};
+ghost use Rattle.apply_walk.specs.Lists.{unbound, ReadAsks, NamesKeptAsk, SameAsks};
 
 use record::limits::LONGEST_LIST;
-use record::u16_at;
+use record::span::Span;
+use std::marker::Model;
 
-// Writes the `n` numbers of two bytes each from `at` on to the beginning of `out`.
-pub fn read_numbers(records: &[u8], at: usize, n: usize, out: &mut [u16])
-    requires { ReadAsks records.now at n × (length out.old ≡ 64) }
-    ensures { Has (held out.new n) (numbers_at records.now at n) }
-{
-    let mut next = at;
-    let mut left = n;
-    let mut j = 0;
-    while 0 < left {
-        let v = u16_at(records, next);
-        out[j] = v as u16;
-        next += 2;
-        left -= 1;
-        j += 1;
-    }
+// At most 64 numbers of two bytes each.
+#[derive(Drop)]
+pub struct List {
+    items: [u16; LONGEST_LIST],
+    len: usize,
 }
 
-// Whether the first `n` numbers are those of two bytes each from `at` on; false where one differs.
-pub fn same_numbers(records: &[u8], at: usize, list: &[u16], n: usize) -> bool
-    requires { SameAsks records.now at list.now n }
-    ensures { result ≡ true → take n list.now ≡ numbers_at records.now at n }
-{
-    let mut next = at;
-    let mut j = 0;
-    while j < n {
-        let v = u16_at(records, next);
-        let w = list[j] as usize;
-        if v != w {
-            return false;
+// Clauses see the numbers, from the first to the last.
+impl Model for List {
+    ghost Value = { Items ℕ };
+
+    ghost view = { λ s. take s.len s.items };
+
+    ghost invariant = { λ s. s.len ≤ 64 };
+}
+
+impl List {
+    // A list of no numbers.
+    pub fn new() -> List
+        ensures { result ≡ [] }
+    {
+        List {
+            items: [0; LONGEST_LIST],
+            len: 0,
         }
-        next += 2;
-        j += 1;
     }
-    true
+
+    // One number more behind the others.
+    pub fn push(&mut self, v: usize)
+        requires room { length self.old < 64 }
+        requires small { v < 65536 }
+        ensures { self.new ≡ self.old ++ (v ∷ []) }
+    {
+        self.items[self.len] = v as u16;
+        self.len += 1;
+    }
+
+    // The numbers, from the first to the last.
+    pub fn as_slice(&self) -> &[u16]
+        ensures value { result.now ≡ self.now }
+        ensures few { length result.now ≤ 64 }
+    {
+        &self.items[..self.len]
+    }
 }
 
-// Writes the name `v` behind the `n` names of `out`, if it has no image; how many there are then.
-pub fn keep_name(out: &mut [u16], n: usize, v: usize, images: &[u16]) -> usize
-    requires { KeepAsks (held out.old n) v images.now }
-    ensures { Has (held out.new result) (numbers_of (held out.old n) ++ unbound images.now (v ∷ [])) }
+// Writes the numbers of the list `span` into `out`, which is as long.
+pub fn read_numbers(bytes: &[u8], span: Span, out: &mut [u16])
+    requires { ReadAsks bytes.now span.at span.count × (length out.old ≡ span.count) }
+    ensures { out.new ≡ numbers_at bytes.now span.at span.count }
 {
-    if images[v] == 0 {
-        out[n] = v as u16;
-        return n + 1;
+    for (i, slot) in out.iter_mut().enumerate() {
+        *slot = span.get(bytes, i) as u16;
     }
-    n
 }
 
-// Writes those of the `n` names from `at` on that have no image to the beginning of `out`, in their order; how many.
-pub fn names_left(records: &[u8], at: usize, n: usize, images: &[u16], out: &mut [u16]) -> usize
-    requires { NamesKeptAsk records.now at n images.now × (length out.old ≡ 64) }
-    ensures { Has (held out.new result) (unbound images.now (numbers_at records.now at n)) }
+// Whether the numbers are those of the list `span`, which is as long; false where one differs.
+pub fn same_numbers(bytes: &[u8], span: Span, numbers: &[u16]) -> bool
+    requires { SameAsks bytes.now span.at span.count numbers.now }
+    ensures only { result ≡ true → numbers.now ≡ numbers_at bytes.now span.at span.count }
+    ensures all { numbers.now ≡ numbers_at bytes.now span.at span.count → result ≡ true }
 {
-    let mut kept = 0;
-    let mut next = at;
-    let mut left = n;
-    while 0 < left {
-        let v = u16_at(records, next);
-        kept = keep_name(out, kept, v, images);
-        next += 2;
-        left -= 1;
-    }
-    kept
+    span.numbers(bytes)
+        .zip(numbers)
+        .all(|(v, number)| v == usize::from(*number))
 }
 
-// How many of the `n` names from `at` on have no image.
-pub fn names_kept(records: &[u8], at: usize, n: usize, images: &[u16]) -> usize
-    requires { NamesKeptAsk records.now at n images.now }
-    ensures { result ≡ length (unbound images.now (numbers_at records.now at n)) }
+// Whether the name `v` has no image.
+pub fn is_free(images: &[u16], v: usize) -> bool
+    ensures { result ≡ eqb (get_or images.now v 0) 0 }
 {
-    if n == 0 {
-        return 0;
+    images.get(v).is_none_or(|image| *image == 0)
+}
+
+// Puts those of the names of the list `span` that have no image behind the names of `out`, in their order.
+pub fn names_left(bytes: &[u8], span: Span, images: &[u16], out: &mut List)
+    requires asks { NamesKeptAsk bytes.now span.at span.count images.now }
+    requires room { length out.old + span.count ≤ 64 }
+    ensures { out.new ≡ out.old ++ unbound images.now (numbers_at bytes.now span.at span.count) }
+{
+    for v in span.numbers(bytes) {
+        if is_free(images, v) {
+            out.push(v);
+        }
     }
-    let mut names = [0u16; LONGEST_LIST];
-    names_left(records, at, n, images, &mut names)
+}
+
+// How many of the names of the list `span` have no image.
+pub fn names_kept(bytes: &[u8], span: Span, images: &[u16]) -> usize
+    requires { NamesKeptAsk bytes.now span.at span.count images.now }
+    ensures { result ≡ length (unbound images.now (numbers_at bytes.now span.at span.count)) }
+{
+    span.numbers(bytes).filter(|v| is_free(images, *v)).count()
 }

@@ -1,31 +1,36 @@
--- Scans over the arguments, and the sorts that they are: by kind, by number, and whether one is a Par.
-use Prim.Native.Nat.{ℕ, zero, suc, ◌+◌, ◌*◌, ◌≤◌, ◌<◌}
-use mathlib.Core.Path.{◌≡◌, refl, sym, ap, ap₂, subst, ◌∙◌}
-use mathlib.Core.Bool.{Bool, true, false, ◌&&◌, ◌||◌}
-use mathlib.Core.List.{List}
+-- Scans over the arguments: by kind, by number, and against a list of kinds.
+use Prim.Native.Nat.{ℕ, zero, suc, ◌+◌, ◌*◌, ◌<◌}
+use mathlib.Core.Path.{◌≡◌, refl, sym, ap, ap₂, ◌∙◌}
+use mathlib.Core.Bool.{Bool, true, false, ◌&&◌}
+use mathlib.Core.List.{List, [], ◌∷◌}
 use native.Mathlib.Omega.{arith}
-use native.Mathlib.Numerals.{add-one}
 use native.Mathlib.Nat.{not-suc-le-zero}
 use native.Mathlib.Decide.{dec_lt}
-use lib.ListN.{get_or}
-use lib.Dec.{eqb}
-use borrow.Author.Tests.{le-leb, lt-leb}
+use lib.ListN.{length, get_or}
+use lib.Dec.{eqb, leb}
+use borrow.Author.Tests.{leb-true}
+use Rattle.std.specs.Prelude.{MatchBool}
+use Rattle.std.specs.List.{zip, AllWithin, HoldsAt}
+use Rattle.std.proofs.lemmas.List.{get_or-map}
+use Rattle.std.proofs.lemmas.Slice.Zip.{get_or-zip, length-zip}
 use Rattle.record.specs.Number.{u16_at, numbers_at}
-use Rattle.record.specs.Sort.{Sort, Sorts, end, ◌then◌, kind_of, same}
+use Rattle.record.specs.Kinds.{sort_number}
+use Rattle.record.specs.declared.kinds.SortKind.{SortKind}
+use Rattle.record.specs.declared.kinds.SortKind.TheVariants.{Function as first}
+use Rattle.record.specs.Sort.{Sort, Sorts, end, ◌then◌, kind_of, same, same_all}
 use Rattle.record.specs.SortLaws.{same-complete, same-other}
-use Rattle.record.specs.Record.{leaf, sorts_of}
-use Rattle.record.specs.Decode.{store_of, sort_at, Stored}
+use Rattle.record.specs.Record.{map_of, leaf, sorts_of}
+use Rattle.record.specs.Decode.{store_of, sort_at}
+use Rattle.record.specs.Codec.{length-numbers_at}
 use Rattle.record.specs.StoreLaws.{sorts-one}
-use Rattle.record.specs.SortLists.{below_suc}
 use Rattle.record.specs.Cases.{false-second}
-use Rattle.store.specs.Entry.{EntryAsks, KindHas}
-use Rattle.store.specs.Walk.{entry-asks}
 use Rattle.check_rules.specs.Checked.{only_of}
-use Rattle.check_operator.specs.Rule.{plain_sort, all_same}
+use Rattle.check_operator.specs.Rule.{plain_sort, fixed_of, all_same}
+use Rattle.check_operator.specs.Numbered.{kind_in}
 use Rattle.check_operator.specs.Contract.{arg_at, ArgsAsk, args_of, KindsHave, SameHas}
-use Rattle.check_operator.specs.Contract.{ArgumentKindHas as KindAtHas}
-use Rattle.check_operator.specs.KindLaws.{kind-plain, kind-same}
+use Rattle.check_operator.specs.KindLaws.{kind-same}
 
+---------------------------------------------------------------- one test of every argument
 -- A test that holds of every sort of a list.
 unfoldable all_by : (Sort → Bool) → Sorts → Bool
 all_by f end = true
@@ -36,109 +41,167 @@ unfolding all_same all_by
 same_by s end = refl
 same_by s (t then ts) = ap (same s t &&◌) (same_by s ts)
 
-by_all : (f : Sort → Bool) (st : List Sort) (a : List ℕ) (x m : ℕ) → ((j : ℕ) → j < m → f (get_or st (u16_at a (x + 2 * j)) leaf) ≡ true) → all_by f (sorts_of st (numbers_at a x m)) ≡ true
-unfolding all_by sorts_of numbers_at
-by_all f st a x zero h = refl
-by_all f st a x (suc m) h =
-    let e : x + 2 * 0 ≡ x = omega arith in
-    ap₂ ◌&&◌ (sym (ap (λ (i : ℕ). f (get_or st (u16_at a i) leaf)) e) ∙ h 0 (omega arith))
-    (by_all f st a (x + 2) m
-    (λ j l. let q : x + 2 + 2 * j ≡ x + 2 * suc j = omega arith in ap (λ (i : ℕ). f (get_or st (u16_at a i) leaf)) q ∙ h (suc j) (omega arith)))
+by_all : (f : Sort → Bool) (st : List Sort) (xs : List ℕ) → ((j : ℕ) → j < length xs → f (get_or st (get_or xs j 0) leaf) ≡ true) → all_by f (sorts_of st xs) ≡ true
+unfolding all_by sorts_of
+by_all f st [] h = refl
+by_all f st (x ∷ xs) h = ap₂ ◌&&◌ (h 0 (omega arith)) (by_all f st xs (λ j l. h (suc j) (omega arith)))
 
-by_one : (f : Sort → Bool) (st : List Sort) (a : List ℕ) (x m j : ℕ) → j < m → f (get_or st (u16_at a (x + 2 * j)) leaf) ≡ false → all_by f (sorts_of st (numbers_at a x m)) ≡ false
-unfolding all_by sorts_of numbers_at
-by_one f st a x zero j l h = absurd (not-suc-le-zero l)
-by_one f st a x (suc m) zero l h =
-    let e : x + 2 * 0 ≡ x = omega arith in
-    ap (◌&& all_by f (sorts_of st (numbers_at a (x + 2) m))) (sym (ap (λ (i : ℕ). f (get_or st (u16_at a i) leaf)) e) ∙ h)
-by_one f st a x (suc m) (suc j) l h =
-    let q : x + 2 + 2 * j ≡ x + 2 * suc j = omega arith in
-    ap (f (get_or st (u16_at a x) leaf) &&◌) (by_one f st a (x + 2) m j (omega arith) (ap (λ (i : ℕ). f (get_or st (u16_at a i) leaf)) q ∙ h))
-    ∙ false-second (f (get_or st (u16_at a x) leaf)) false refl
+by_one : (f : Sort → Bool) (st : List Sort) (xs : List ℕ) (j : ℕ) → j < length xs → f (get_or st (get_or xs j 0) leaf) ≡ false → all_by f (sorts_of st xs) ≡ false
+unfolding all_by sorts_of
+by_one f st [] j l e = absurd (not-suc-le-zero l)
+by_one f st (x ∷ xs) zero l e = ap (◌&& all_by f (sorts_of st xs)) e
+by_one f st (x ∷ xs) (suc j) l e = false-second (f (get_or st x leaf)) (all_by f (sorts_of st xs)) (by_one f st xs j (omega arith) e)
 
----------------------------------------------------------------- kinds
-none-same : (b p : List ℕ) (n : ℕ) (a : List ℕ) → all_same (only_of (args_of b p n a 0)) (args_of b p n a 0) ≡ true
-unfolding all_same sorts_of numbers_at
-none-same b p n a = refl
+-- What `all` tells of a list: each element passes, or one does not.
+abbrev pub Scanned : {A : Type 0} → Bool → (A → Type 0) → (A → Type 0) → List A → Type 0
+Scanned r Yes No xs = MatchBool r (AllWithin Yes xs 0 (length xs)) ((k : ℕ) × (k < length xs) × HoldsAt No xs k)
 
----------------------------------------------------------------- scans
--- The first i arguments have kinds that P holds of, whatever the count of the store's sorts is.
-abbrev pub Seen : List ℕ → List ℕ → List ℕ → (ℕ → Type 0) → ℕ → Type 0
-Seen b p a P i = (j : ℕ) → j < i → (n : ℕ) → Stored b p n → arg_at a j < n → P (kind_of (sort_at b p n (arg_at a j)))
+-- The number in a place of the list; past its end there is none.
+pub get-number : (a : List ℕ) (m k d : ℕ) → k < m → get_or (numbers_at a 3 m) k d ≡ arg_at a k
+unfolding numbers_at
+get-number a m k d l = at-place a 3 m k d l
+  where
+    at-place : (s : List ℕ) (x n j e : ℕ) → j < n → get_or (numbers_at s x n) j e ≡ u16_at s (x + 2 * j)
+    at-place s x zero j e l = absurd (not-suc-le-zero l)
+    at-place s x (suc n) zero e l = let q : x ≡ x + 2 * 0 = omega arith in ap (u16_at s) q
+    at-place s x (suc n) (suc j) e l = let q : x + 2 + 2 * j ≡ x + 2 * suc j = omega arith in at-place s (x + 2) n j e (omega arith) ∙ ap (u16_at s) q
 
-module _ (b p a : List ℕ) where
-  pub seen_none : (P : ℕ → Type 0) → Seen b p a P 0
-  seen_none P j l n s h = absurd (not-suc-le-zero l)
+within-list : (a : List ℕ) (m k : ℕ) → k < length (numbers_at a 3 m) → k < m
+within-list a m k l = omega (arith, length-numbers_at a 3 m)
 
-  kind-here : (P : ℕ → Type 0) (i v q : ℕ) → v ≡ arg_at a i → KindHas b p v q → P q → (n : ℕ) → Stored b p n → arg_at a i < n → P (kind_of (sort_at b p n (arg_at a i)))
-  kind-here P i v q e h t n s l =
-      subst (λ (k : ℕ). P (kind_of (sort_at b p n k))) e (subst P (h n s (omega arith)) t)
+-- An argument that a scan came to is one of the store.
+pub arg_known : {b p : List ℕ} {n : ℕ} {a : List ℕ} {m : ℕ} → ArgsAsk b p n a m → (x k : ℕ) → k < length (numbers_at a 3 m) → x ≡ get_or (numbers_at a 3 m) k x → x < n
+arg_known {a = a} {m} f x k l e =
+    let h = within-list a m k l in
+    omega (arith, e, get-number a m k x h, f.over.below k h)
 
-  pub seen_more : (P : ℕ → Type 0) (i : ℕ) {v : ℕ} (q : ℕ) → v ≡ arg_at a i → KindHas b p v q → P q → Seen b p a P i → Seen b p a P (i + 1)
-  seen_more P i {v} q e h t g =
-      subst (Seen b p a P) (sym (add-one i))
-      (below_suc (λ (j : ℕ). (n : ℕ) → Stored b p n → arg_at a j < n → P (kind_of (sort_at b p n (arg_at a j)))) i g (kind-here P i v q e h t))
-
-  pub arg-asks : {m : ℕ} (i : ℕ) {v : ℕ} → ArgsAsk b p a m → i < m → v ≡ arg_at a i → EntryAsks b p v
-  arg-asks {m} i {v} k l e = subst (EntryAsks b p) (sym e) (entry-asks b p k.many (arg_at a i) k.over.stored (k.over.below i l))
-
-  pub kinds-no : (m k i : ℕ) {v : ℕ} (q : ℕ) → i < m → v ≡ arg_at a i → KindHas b p v q → (q ≡ k → ⊥) → KindsHave b p a m k false
+---------------------------------------------------------------- kinds and numbers
+module _ (b p : List ℕ) (n : ℕ) (a : List ℕ) (m : ℕ) where
+  pub kinds_by : ArgsAsk b p n a m → (k : ℕ) (t : Bool) → Scanned t (λ v. eqb (kind_of (sort_at b p n v)) k ≡ true) (λ v. eqb (kind_of (sort_at b p n v)) k ≡ false) (numbers_at a 3 m) → KindsHave b p n a m k t
   unfolding sort_at
-  kinds-no m k i {v} q l e h t n o map =
-      let s = sort_at b p n (arg_at a i) in
-      let d = kind-here (λ (j : ℕ). j ≡ k → ⊥) i v q e h t n o.stored (o.below i l) in
-      sym (same_by (plain_sort k) (args_of b p n a m)
-      ∙ by_one (λ x. same (plain_sort k) x) (store_of b p n) a 3 m i l (same-other (plain_sort k) s (λ x. d (sym (ap kind_of x)))))
-
-  pub kinds-yes : (m k i : ℕ) → m ≤ i → Seen b p a (λ j. j ≡ k) i → KindsHave b p a m k true
-  unfolding sort_at
-  kinds-yes m k i l g n o map =
-      sym (same_by (plain_sort k) (args_of b p n a m)
-      ∙ by_all (λ x. same (plain_sort k) x) (store_of b p n) a 3 m
-      (λ j h.
-      same-complete (plain_sort k) (sort_at b p n (arg_at a j))
-      (sym (kind-plain b p n (arg_at a j) o.stored (o.below j h) k map (g j (omega arith) n o.stored (o.below j h))))))
-
-  -- The argument i, missing or there.
-  pub kind-missing : (m i k : ℕ) → m ≤ i → KindAtHas b p a m i k true
-  kind-missing m i k l n o map = sym (ap (◌|| same (plain_sort k) (sort_at b p n (arg_at a i))) (le-leb m i l))
-
-  pub kind-there : (m i k : ℕ) {v : ℕ} (q : ℕ) → i < m → v ≡ arg_at a i → KindHas b p v q → KindAtHas b p a m i k (eqb q k)
-  kind-there m i k {v} q l e h n o map =
-      ap (λ (x : ℕ). eqb x k) (kind-here (λ (j : ℕ). q ≡ j) i v q e h refl n o.stored (o.below i l))
-      ∙ sym (kind-same b p n (arg_at a i) o.stored (o.below i l) k map)
-      ∙ sym (ap (◌|| same (plain_sort k) (sort_at b p n (arg_at a i))) (lt-leb m i l))
-
-  -- Arguments equal to the first.
-  first-is : (m n : ℕ) → 0 < m → only_of (args_of b p n a m) ≡ sort_at b p n (arg_at a 0)
-  unfolding sort_at sorts_of numbers_at
-  first-is zero n l = absurd (not-suc-le-zero l)
-  first-is (suc m) n l = refl
-
-  pub same_none : (j : ℕ) → j < 1 → arg_at a j ≡ arg_at a 0
-  same_none j l = let e : j ≡ 0 = omega arith in ap (arg_at a) e
-
-  pub same_more : (i : ℕ) {v w : ℕ} → v ≡ arg_at a i → w ≡ arg_at a 0 → v ≡ w → ((j : ℕ) → j < i → arg_at a j ≡ arg_at a 0) → (j : ℕ) → j < i + 1 → arg_at a j ≡ arg_at a 0
-  same_more i {v} {w} e f q g =
-      subst (λ (m : ℕ). (j : ℕ) → j < m → arg_at a j ≡ arg_at a 0) (sym (add-one i))
-      (below_suc (λ (j : ℕ). arg_at a j ≡ arg_at a 0) i g (sym e ∙ q ∙ f))
-
-  pub same-no : (m i : ℕ) {v w : ℕ} → i < m → v ≡ arg_at a i → w ≡ arg_at a 0 → (v ≡ w → ⊥) → SameHas b p a m false
-  unfolding sort_at
-  same-no m i {v} {w} l e f d n o =
-      let s = sort_at b p n (arg_at a 0) in
-      sym (ap (λ (x : Sort). all_same x (args_of b p n a m)) (first-is m n (omega arith)) ∙ same_by s (args_of b p n a m)
-      ∙ by_one (λ x. same s x) (store_of b p n) a 3 m i l
-      (same-other s (sort_at b p n (arg_at a i))
-      (λ x. d (e ∙ sym (sorts-one b p n o.stored o.distinct (arg_at a 0) (arg_at a i) (o.below 0 (omega arith)) (o.below i l) x) ∙ sym f))))
-
-  pub same-yes : (m i : ℕ) → m ≤ i → ((j : ℕ) → j < i → arg_at a j ≡ arg_at a 0) → SameHas b p a m true
-  unfolding sort_at
-  same-yes m i l g n o = go (dec_lt 0 m)
+  kinds_by f k t h plain = go t h
     where
-      go : Dec (0 < m) → true ≡ all_same (only_of (args_of b p n a m)) (args_of b p n a m)
-      go (yes t) =
+      same-at : (j : ℕ) → j < length (numbers_at a 3 m) → same (plain_sort k) (get_or (store_of b p n) (get_or (numbers_at a 3 m) j 0) leaf) ≡ eqb (kind_of (sort_at b p n (get_or (numbers_at a 3 m) j 0))) k
+      same-at j l =
+          let w = within-list a m j l in
+          kind-same b p n (get_or (numbers_at a 3 m) j 0) f.over.stored (omega (arith, get-number a m j 0 w, f.over.below j w)) k plain
+
+      go : (r : Bool) → Scanned r (λ v. eqb (kind_of (sort_at b p n v)) k ≡ true) (λ v. eqb (kind_of (sort_at b p n v)) k ≡ false) (numbers_at a 3 m) → r ≡ all_same (plain_sort k) (args_of b p n a m)
+      go true g =
+          sym (same_by (plain_sort k) (args_of b p n a m)
+          ∙ by_all (λ x. same (plain_sort k) x) (store_of b p n) (numbers_at a 3 m) (λ j l. same-at j l ∙ g j 0 (omega arith) l))
+      go false g =
+          sym (same_by (plain_sort k) (args_of b p n a m)
+          ∙ by_one (λ x. same (plain_sort k) x) (store_of b p n) (numbers_at a 3 m) g.0 g.1 (same-at g.0 g.1 ∙ g.2 0))
+
+  -- The first argument, where there is one.
+  first-is : 0 < m → only_of (args_of b p n a m) ≡ sort_at b p n (arg_at a 0)
+  unfolding sort_at sorts_of numbers_at
+  first-is l = go m l
+    where
+      go : (i : ℕ) → 0 < i → only_of (args_of b p n a i) ≡ get_or (store_of b p n) (u16_at a 3) leaf
+      go zero o = absurd (not-suc-le-zero o)
+      go (suc i) o = refl
+
+  none-same : m ≡ 0 → all_same (only_of (args_of b p n a m)) (args_of b p n a m) ≡ true
+  unfolding all_same sorts_of numbers_at
+  none-same e = ap (λ (x : ℕ). all_same (only_of (args_of b p n a x)) (args_of b p n a x)) e
+
+  pub same_all_by : (t : Bool) → Scanned t (λ v. v ≡ arg_at a 0) (λ v. v ≡ arg_at a 0 → ⊥) (numbers_at a 3 m) → SameHas b p n a m t
+  unfolding sort_at
+  same_all_by t h o = go (dec_lt 0 m)
+    where
+      on : 0 < m → (r : Bool) → Scanned r (λ v. v ≡ arg_at a 0) (λ v. v ≡ arg_at a 0 → ⊥) (numbers_at a 3 m) → r ≡ all_by (λ x. same (sort_at b p n (arg_at a 0)) x) (args_of b p n a m)
+      on l true g =
           let s = sort_at b p n (arg_at a 0) in
-          sym (ap (λ (x : Sort). all_same x (args_of b p n a m)) (first-is m n t) ∙ same_by s (args_of b p n a m)
-          ∙ by_all (λ x. same s x) (store_of b p n) a 3 m (λ j h. same-complete s (sort_at b p n (arg_at a j)) (ap (sort_at b p n) (sym (g j (omega arith))))))
-      go (no t) = let e : m ≡ 0 = omega arith in sym (ap (λ (x : ℕ). all_same (only_of (args_of b p n a x)) (args_of b p n a x)) e ∙ none-same b p n a)
+          sym (by_all (λ x. same s x) (store_of b p n) (numbers_at a 3 m)
+          (λ j w. same-complete s (get_or (store_of b p n) (get_or (numbers_at a 3 m) j 0) leaf) (ap (sort_at b p n) (sym (g j 0 (omega arith) w)))))
+      on l false g =
+          let s = sort_at b p n (arg_at a 0) in
+          let v = get_or (numbers_at a 3 m) g.0 0 in
+          let i = within-list a m g.0 g.1 in
+          sym (by_one (λ x. same s x) (store_of b p n) (numbers_at a 3 m) g.0 g.1
+          (same-other s (sort_at b p n v)
+          (λ e. g.2 0 (sym (sorts-one b p n o.stored o.distinct (arg_at a 0) v (o.below 0 l) (omega (arith, get-number a m g.0 0 i, o.below g.0 i)) e)))))
+
+      go : Dec (0 < m) → t ≡ all_same (only_of (args_of b p n a m)) (args_of b p n a m)
+      go (yes l) = on l t h ∙ sym (ap (λ (x : Sort). all_same x (args_of b p n a m)) (first-is l) ∙ same_by (sort_at b p n (arg_at a 0)) (args_of b p n a m))
+      go (no l) = let z : m ≡ 0 = omega arith in none t h z ∙ sym (none-same z)
+        where
+          none : (r : Bool) → Scanned r (λ v. v ≡ arg_at a 0) (λ v. v ≡ arg_at a 0 → ⊥) (numbers_at a 3 m) → m ≡ 0 → r ≡ true
+          none true g z = refl
+          none false g z = absurd (omega (arith, within-list a m g.0 g.1))
+
+---------------------------------------------------------------- a list of kinds
+-- The sorts of these kinds.
+abbrev pub plain_sorts : List SortKind → Sorts
+plain_sorts [] = end
+plain_sorts (k ∷ ks) = plain_sort (sort_number k) then plain_sorts ks
+
+pub fixed-plain : (ks : List SortKind) → leb (length ks) 3 ≡ true → fixed_of (length ks) (kind_in ks 0) (kind_in ks 1) (kind_in ks 2) ≡ plain_sorts ks
+fixed-plain [] e = refl
+fixed-plain (x ∷ []) e = refl
+fixed-plain (x ∷ y ∷ []) e = refl
+fixed-plain (x ∷ y ∷ z ∷ []) e = refl
+fixed-plain (x ∷ y ∷ z ∷ w ∷ ks) e = let l = leb-true (suc (suc (suc (suc (length ks))))) 3 e in absurd (omega arith)
+
+plain-each : (st : List Sort) (ks : List SortKind) (xs : List ℕ) → length ks ≡ length xs
+    → ((j : ℕ) → j < length ks → same (plain_sort (kind_in ks j)) (get_or st (get_or xs j 0) leaf) ≡ true) → same_all (plain_sorts ks) (sorts_of st xs) ≡ true
+unfolding same sorts_of
+plain-each st [] [] e h = refl
+plain-each st [] (x ∷ xs) e h = absurd (omega arith)
+plain-each st (k ∷ ks) [] e h = absurd (omega arith)
+plain-each st (k ∷ ks) (x ∷ xs) e h = ap₂ ◌&&◌ (h 0 (omega arith)) (plain-each st ks xs (omega arith) (λ j l. h (suc j) (omega arith)))
+
+plain-not : (st : List Sort) (ks : List SortKind) (xs : List ℕ) (j : ℕ) → j < length ks → j < length xs
+    → same (plain_sort (kind_in ks j)) (get_or st (get_or xs j 0) leaf) ≡ false → same_all (plain_sorts ks) (sorts_of st xs) ≡ false
+unfolding same sorts_of
+plain-not st [] xs j l o e = absurd (not-suc-le-zero l)
+plain-not st (k ∷ ks) [] j l o e = absurd (not-suc-le-zero o)
+plain-not st (k ∷ ks) (x ∷ xs) zero l o e = ap (◌&& same_all (plain_sorts ks) (sorts_of st xs)) e
+plain-not st (k ∷ ks) (x ∷ xs) (suc j) l o e =
+    false-second (same (plain_sort (sort_number k)) (get_or st x leaf)) (same_all (plain_sorts ks) (sorts_of st xs)) (plain-not st ks xs j (omega arith) (omega arith) e)
+
+-- The test of an argument beside its kind.
+abbrev pub of_kind : List ℕ → List ℕ → ℕ → ℕ × SortKind → Bool
+of_kind b p n x = eqb (kind_of (sort_at b p n x.0)) (sort_number x.1)
+
+module _ {b p : List ℕ} {n : ℕ} {a : List ℕ} {m : ℕ} (f : ArgsAsk b p n a m) (ks : List SortKind) (many : length ks ≡ m) where
+  abbrev pairs : List (ℕ × SortKind)
+  pairs = zip (numbers_at a 3 m) ks
+
+  pair-at : (k : ℕ) (d : ℕ × SortKind) → k < length pairs → (k < m) × (get_or pairs k d ≡ (arg_at a k, get_or ks k d.1))
+  pair-at k d l =
+      let h : k < m = omega (arith, length-zip (numbers_at a 3 m) ks, length-numbers_at a 3 m) in
+      (h, get_or-zip (numbers_at a 3 m) ks k d (omega (arith, length-numbers_at a 3 m)) (omega arith) ∙ ap (λ (v : ℕ). (v, get_or ks k d.1)) (get-number a m k d.0 h))
+
+  pub zip_known : (x : ℕ × SortKind) (k : ℕ) → k < length pairs → x ≡ get_or pairs k x → x.0 < n
+  zip_known x k l e =
+      let h = pair-at k x l in
+      omega (arith, ap (λ (y : ℕ × SortKind). y.0) (e ∙ h.1), f.over.below k h.0)
+
+  module _ (plain : (j : ℕ) → j < m → map_of (kind_in ks j) ≡ 1) where
+    kind-at : (j : ℕ) (d : SortKind) → j < m → sort_number (get_or ks j d) ≡ kind_in ks j
+    kind-at j d l = sym (get_or-map sort_number ks j d 3 (omega arith))
+
+    same-kind : (j : ℕ) (d : ℕ × SortKind) → j < length pairs → same (plain_sort (kind_in ks j)) (sort_at b p n (arg_at a j)) ≡ of_kind b p n (get_or pairs j d)
+    same-kind j d l =
+        let h = pair-at j d l in
+        kind-same b p n (arg_at a j) f.over.stored (f.over.below j h.0) (kind_in ks j) (plain j h.0)
+        ∙ ap (eqb (kind_of (sort_at b p n (arg_at a j)))) (sym (kind-at j d.1 h.0)) ∙ ap (of_kind b p n) (sym h.1)
+
+    pub fixed_by : (t : Bool) → Scanned t (λ x. of_kind b p n x ≡ true) (λ x. of_kind b p n x ≡ false) pairs
+        → t ≡ same_all (plain_sorts ks) (args_of b p n a m)
+    unfolding sort_at
+    fixed_by true h =
+        sym (plain-each (store_of b p n) ks (numbers_at a 3 m) (many ∙ sym (length-numbers_at a 3 m))
+        (λ j l.
+        let k : j < length pairs = omega (arith, length-zip (numbers_at a 3 m) ks, length-numbers_at a 3 m) in
+        let d : ℕ × SortKind = (0, first) in
+        ap (λ (v : ℕ). same (plain_sort (kind_in ks j)) (sort_at b p n v)) (get-number a m j 0 (omega arith)) ∙ same-kind j d k ∙ h j d (omega arith) k))
+    fixed_by false h =
+        let j = h.0 in
+        let d : ℕ × SortKind = (0, first) in
+        let k : j < m = (pair-at j d h.1).0 in
+        sym (plain-not (store_of b p n) ks (numbers_at a 3 m) j (omega arith) (omega (arith, length-numbers_at a 3 m))
+        (ap (λ (v : ℕ). same (plain_sort (kind_in ks j)) (sort_at b p n v)) (get-number a m j 0 k) ∙ same-kind j d h.1 ∙ h.2 d))

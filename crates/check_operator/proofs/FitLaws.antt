@@ -1,46 +1,68 @@
 -- The fits of the rules, by what the scans and the entries of the store told.
 use Prim.Native.Nat.{ℕ, zero, suc, ◌+◌, ◌<◌}
 use mathlib.Core.Path.{◌≡◌, refl, sym, ap, ap₂, subst, ◌∙◌}
-use mathlib.Core.Bool.{Bool, true, false, cond, ◌&&◌, ◌||◌}
+use mathlib.Core.Bool.{Bool, true, false, cond, ◌&&◌, ◌||◌, false≢true}
 use mathlib.Core.List.{List}
 use native.Mathlib.Omega.{arith}
 use lib.ListN.{length, get_or}
 use lib.Dec.{eqb, leb}
 use borrow.Author.Tests.{eq-eqb, eqb-true, ne_eqb, leb-true}
+use Rattle.std.specs.Bool.{then_some}
+use Rattle.std.specs.Option.{unwrap_or}
+use Rattle.std.specs.Prelude.{Option, Some, None}
 use Rattle.record.specs.Number.{u16_at, numbers_at}
-use Rattle.record.specs.Sort.{Sort, node, end, ◌then◌, bool, int, real, array, bitvec, kind_of, number_in, same, same_all}
-use Rattle.record.specs.SortLaws.{same-sound, same-complete}
-use Rattle.record.specs.Record.{Fields, bit, maps, map_of, leasts, least_of, mosts, most_of, leaf, sorts_of}
+use Rattle.record.specs.Kinds.{sort_number}
+use Rattle.record.specs.KindLaws.{sort_number-same}
+use Rattle.record.specs.declared.kinds.SortKind.{SortKind}
+use Rattle.record.specs.declared.kinds.SortKind.TheVariants.{Bool as SortBool, Int as SortInt, Real as SortReal, BitVec as SortBitVec}
+use Rattle.record.specs.Sort.{Sort, Sorts, node, end, ◌then◌, bool, int, real, array, bitvec, kind_of, number_in, same, same_all}
+use Rattle.record.specs.SortLaws.{same-sound, same-complete, same-swap}
+use Rattle.record.specs.Record.{Fields, bit, maps, map_of, leasts, least_of, mosts, most_of, sorts_of}
 use Rattle.record.specs.Decode.{fields_at, store_of, sort_at, Stored, Distinct}
 use Rattle.record.specs.Codec.{length-numbers_at}
 use Rattle.record.specs.StoreLaws.{sorts-one}
-use Rattle.record.specs.Cases.{and_left, and_right, or_cases, both_ways, false-second}
+use Rattle.record.specs.Cases.{and_left, and_right, both_ways, false-second}
 use Rattle.record.specs.declared.SortRecord.{SortRecord}
-use Rattle.store.specs.Entry.{EntryIs, EntryHas, KindHas}
+use Rattle.store.specs.Entry.{EntryIs, EntryHas}
 use Rattle.store.specs.Walk.{walk-node}
 use Rattle.row_rules.specs.declared.Cause.TheVariants.{Misfit}
-use Rattle.row_rules.specs.Verdict.{Verdict, sort, refused, need}
+use Rattle.row_rules.specs.Verdict.{Verdict, sort, need}
 use Rattle.check_rules.specs.Rank.{vector}
 use Rattle.check_rules.specs.Checked.{only_of}
-use Rattle.check_operator.specs.declared.rule.Rule.TheVariants.{All, Fixed, Numbers, Equal, Choose, Vectors, Concat}
-use Rattle.check_operator.specs.declared.op.Fit.TheVariants.{Known, Plain, Width, Nothing}
-use Rattle.check_operator.specs.Rule.{plain_sort, fixed_of, numbers_result, vectors_result, all_same, choosing, concatenated, fitted, plain_kind, one_or_two, well_rule}
-use Rattle.check_operator.specs.Contract.{arg_at, Over, ArgsAsk, args_of, KindsHave, SameHas, FitIs, FitAsks, FitHas}
-use Rattle.check_operator.specs.Contract.{ArgumentKindHas as KindAtHas}
-use Rattle.check_operator.specs.KindLaws.{vector-small, vector-not, kind-vector}
+use Rattle.check_operator.specs.declared.op.Fit.{Fit}
+use Rattle.check_operator.specs.declared.op.Fit.TheVariants.{Known, Plain, Width}
+use Rattle.check_operator.specs.Rule.{All, Numbers, Equal, Choose, Vectors, Concat, plain_sort, numbers_result, vectors_result, all_same, choosing, concatenated, fitted, plain_kind, one_or_two, well_rule}
+use Rattle.check_operator.specs.Numbered.{kind_in, plain_result, result_number, fixed_numbers}
+use Rattle.check_operator.specs.Contract.{Over, args_of, KindsHave, SameHas, fit_verdict, fits_verdict, FitOk, FitsOk, FitIs, FitAsks, FitHas}
+use Rattle.check_operator.specs.KindLaws.{vector-small, kind-vector, kind-same}
+use Rattle.check_operator.proofs.ArgumentLaws.{plain_sorts, fixed-plain}
 
-need-yes : {b : Bool} (v : Verdict) → b ≡ true → v ≡ need b Misfit v
-need-yes {b} v e = sym (ap (λ (t : Bool). need t Misfit v) e)
+---------------------------------------------------------------- a test by which a rule fits
+module _ {n : ℕ} {st : List Sort} (f : Fit) {x : Option Fit} (t : Bool) (e : x ≡ then_some t f) where
+  -- The test s of the definition is the one that the code made; where it holds, f is the fit.
+  pub by_test : {s : Bool} (v : Sort) → t ≡ s → fit_verdict st f ≡ sort v → (t ≡ true → FitOk n f) → FitIs n st (need s Misfit (sort v)) x
+  by_test {s} v q h ok = subst (λ (c : Bool). FitIs n st (need c Misfit (sort v)) x) q (go t e ok)
+    where
+      go : (c : Bool) → x ≡ then_some c f → (c ≡ true → FitOk n f) → FitIs n st (need c Misfit (sort v)) x
+      go true g k = record { is = ap (fits_verdict st) g ∙ h; ok = subst (FitsOk n) (sym g) (k refl) }
+      go false g k = record { is = ap (fits_verdict st) g; ok = subst (FitsOk n) (sym g) tt }
 
-need-no : {b : Bool} (v : Verdict) → b ≡ false → refused Misfit ≡ need b Misfit v
-need-no {b} v e = sym (ap (λ (t : Bool). need t Misfit v) e)
+-- The same of one fit, and of none.
+pub fits : {n : ℕ} {st : List Sort} {f : Fit} {s : Bool} (v : Sort) → true ≡ s → fit_verdict st f ≡ sort v → FitOk n f → FitIs n st (need s Misfit (sort v)) (Some f)
+fits {f = f} v q h ok = by_test f true refl v q h (λ e. ok)
+
+pub no_fit : {n : ℕ} {st : List Sort} {s : Bool} (v : Sort) → false ≡ s → FitIs n st (need s Misfit (sort v)) None
+no_fit {n} {st} {s} v q = subst (λ (c : Bool). FitIs n st (need c Misfit (sort v)) None) q (record { is = refl; ok = tt })
+
+-- The value of `t && x`, by the way that was taken.
+pub and_then : (t x : Bool) {f : Bool} → t ≡ true → f ≡ x → f ≡ (t && x)
+and_then t x e h = h ∙ sym (ap (◌&& x) e)
+
+pub and_else : (t x : Bool) {f : Bool} → t ≡ false → f ≡ t → f ≡ (t && x)
+and_else t x e h = h ∙ e ∙ sym (ap (◌&& x) e)
 
 plain_map : (k : ℕ) → plain_kind k ≡ true → map_of k ≡ 1
 plain_map k e = eqb-true (map_of k) 1 e
-
-and_one : (b : Bool) → (b && true) ≡ b
-and_one true = refl
-and_one false = refl
 
 -- Two numbers of a store are the same sort where they are equal.
 pub numbers-same : {b p : List ℕ} {n : ℕ} (i j : ℕ) → Stored b p n → Distinct b p n → i < n → j < n → same (sort_at b p n i) (sort_at b p n j) ≡ eqb i j
@@ -64,319 +86,234 @@ module _ (b p : List ℕ) (n : ℕ) (a : List ℕ) where
   first-arg zero l = absurd (omega arith)
   first-arg (suc m) l = refl
 
-fixed-sames : (st : List Sort) (l : List ℕ) (m a b c : ℕ) → leb m 3 ≡ true → same_all (fixed_of m a b c) (sorts_of st (numbers_at l 3 m))
-    ≡ ((leb m 0 || same (plain_sort a) (get_or st (u16_at l 3) leaf)) && ((leb m 1 || same (plain_sort b) (get_or st (u16_at l 5) leaf)) && (leb m 2 || same (plain_sort c) (get_or st (u16_at l 7) leaf))))
-unfolding same sorts_of numbers_at
-fixed-sames st l zero a b c e = refl
-fixed-sames st l (suc zero) a b c e = refl
-fixed-sames st l (suc (suc zero)) a b c e = refl
-fixed-sames st l (suc (suc (suc zero))) a b c e =
-    ap (λ (t : Bool). same (plain_sort a) (get_or st (u16_at l 3) leaf) && (same (plain_sort b) (get_or st (u16_at l 5) leaf) && t)) (and_one (same (plain_sort c) (get_or st (u16_at l 7) leaf)))
-fixed-sames st l (suc (suc (suc (suc m)))) a b c e = let z = leb-true (suc (suc (suc (suc m)))) 3 e in absurd (omega arith)
+---------------------------------------------------------------- the kind of a result
+plain-result : (i : ℕ) → plain_kind (plain_result i) ≡ true → plain_result i ≡ i
+unfolding map_of maps
+plain-result zero e = absurd (false≢true e)
+plain-result (suc i) e = refl
 
-pub result-kind : (r : ℕ) (s : Sort) → (r ≡ 0 → ⊥) → numbers_result r s ≡ plain_sort r
-result-kind zero s h = absurd (h refl)
-result-kind (suc r) s h = refl
+result-is : (o : Option SortKind) (k : SortKind) → map_of (sort_number k) ≡ 1 → eqb (result_number o) 0 || plain_kind (result_number o) ≡ true
+    → (map_of (sort_number (unwrap_or o k)) ≡ 1) × (plain_sort (sort_number (unwrap_or o k)) ≡ numbers_result (result_number o) (plain_sort (sort_number k)))
+unfolding map_of maps
+result-is None k e h = (e, refl)
+result-is (Some i) k e h = go (sort_number i) h
+  where
+    go : (j : ℕ) → eqb (plain_result j) 0 || plain_kind (plain_result j) ≡ true → (map_of j ≡ 1) × (plain_sort j ≡ numbers_result (plain_result j) (plain_sort (sort_number k)))
+    go zero w = absurd (false≢true w)
+    go (suc j) w = (plain_map (suc j) (sym (ap (λ (c : Bool). c || plain_kind (suc j)) (ne_eqb (suc j) 0 (λ e. absurd (omega arith)))) ∙ w), refl)
 
----------------------------------------------------------------- the rules
-module _ (b p a : List ℕ) (m : ℕ) where
-  pub all_yes : (k r : ℕ) → FitAsks b p a m (All k r) → {t : Bool} → KindsHave b p a m k t → t ≡ true → FitHas b p a m (All k r) (Plain r)
-  unfolding fitted well_rule
-  all_yes k r f {t} h e n o =
-      record {
-        is = need-yes (sort (plain_sort r)) (sym (h n o (plain_map k (and_left (plain_kind k) (plain_kind r) f.well))) ∙ e);
-        ok = plain_map r (and_right (plain_kind k) (plain_kind r) f.well);
-      }
-
-  pub all-no : (k r : ℕ) → FitAsks b p a m (All k r) → {t : Bool} → KindsHave b p a m k t → t ≡ false → FitHas b p a m (All k r) Nothing
-  unfolding fitted well_rule
-  all-no k r f {t} h e n o =
-      record {
-        is = need-no (sort (plain_sort r)) (sym (h n o (plain_map k (and_left (plain_kind k) (plain_kind r) f.well))) ∙ e);
-        ok = tt;
-      }
-
-  -- Fixed kinds.
-  module _ (x y z r : ℕ) (f : FitAsks b p a m (Fixed m x y z r)) where
-    fixed-is : (n : ℕ) → same_all (fixed_of m x y z) (args_of b p n a m)
-        ≡ ((leb m 0 || same (plain_sort x) (sort_at b p n (arg_at a 0))) && ((leb m 1 || same (plain_sort y) (sort_at b p n (arg_at a 1))) && (leb m 2 || same (plain_sort z) (sort_at b p n (arg_at a 2)))))
-    unfolding sort_at well_rule
-    fixed-is n = fixed-sames (store_of b p n) a m x y z (and_left (leb m 3) (plain_kind x && (plain_kind y && (plain_kind z && plain_kind r))) f.well)
-
-    fixed-kinds : (map_of x ≡ 1) × (map_of y ≡ 1) × (map_of z ≡ 1) × (map_of r ≡ 1)
-    unfolding well_rule
-    fixed-kinds =
-        let g = and_right (leb m 3) (plain_kind x && (plain_kind y && (plain_kind z && plain_kind r))) f.well in
-        let h = and_right (plain_kind x) (plain_kind y && (plain_kind z && plain_kind r)) g in
-        let i = and_right (plain_kind y) (plain_kind z && plain_kind r) h in (
-          plain_map x (and_left (plain_kind x) (plain_kind y && (plain_kind z && plain_kind r)) g),
-          plain_map y (and_left (plain_kind y) (plain_kind z && plain_kind r) h),
-          plain_map z (and_left (plain_kind z) (plain_kind r) i),
-          plain_map r (and_right (plain_kind z) (plain_kind r) i),
+kind-result : (i : SortKind) → (i ≡ SortBitVec → ⊥) → eqb (result_number (Some i)) 0 || eqb (result_number (Some i)) 9 || plain_kind (result_number (Some i)) ≡ true → (s : Sort)
+    → (map_of (sort_number i) ≡ 1) × (sort (vectors_result (result_number (Some i)) s) ≡ sort (plain_sort (sort_number i)))
+unfolding map_of maps
+kind-result i y h s = go (sort_number i) (λ e. y (sort_number-same i SortBitVec e)) h
+  where
+    go : (j : ℕ) → (j ≡ 9 → ⊥) → eqb (plain_result j) 0 || eqb (plain_result j) 9 || plain_kind (plain_result j) ≡ true → (map_of j ≡ 1) × (sort (vectors_result (plain_result j) s) ≡ sort (plain_sort j))
+    go zero d w = absurd (false≢true w)
+    go (suc j) d w =
+        let z = ne_eqb (suc j) 0 (λ e. absurd (omega arith)) in
+        let e = ne_eqb (suc j) 9 d in (
+          plain_map (suc j) (sym (ap₂ (λ (c f : Bool). c || f || plain_kind (suc j)) z e) ∙ w),
+          ap₂ (λ (c f : Bool). sort (cond c s (cond f (bitvec 1) (plain_sort (suc j))))) z e,
         )
 
-    fixed-fails : (n : ℕ) → same_all (fixed_of m x y z) (args_of b p n a m) ≡ false → FitIs n (store_of b p n) (fitted (Fixed m x y z r) (args_of b p n a m)) Nothing
+---------------------------------------------------------------- the rules
+module _ {b p : List ℕ} {n : ℕ} {a : List ℕ} {m : ℕ} where
+  pub all-fits : (k : ℕ) (r : SortKind) → FitAsks b p n a m (All k (sort_number r)) → (t : Bool) → KindsHave b p n a m k t → {x : Option Fit} → x ≡ then_some t (Plain r)
+      → FitHas b p n a m (All k (sort_number r)) x
+  unfolding fitted well_rule
+  all-fits k r f t h e =
+      by_test (Plain r) t e (plain_sort (sort_number r)) (h (plain_map k (and_left (plain_kind k) (plain_kind (sort_number r)) f.well))) refl
+      (λ q. plain_map (sort_number r) (and_right (plain_kind k) (plain_kind (sort_number r)) f.well))
+
+  -- Fixed kinds.
+  module _ (ks : List SortKind) (r : SortKind) (f : FitAsks b p n a m (fixed_numbers ks r)) where
+    pub fixed-many : length ks ≡ m
+    fixed-many = sym (eqb-true m (length ks) f.counted)
+
+    rest : plain_kind (kind_in ks 0) && (plain_kind (kind_in ks 1) && (plain_kind (kind_in ks 2) && plain_kind (sort_number r))) ≡ true
+    unfolding well_rule
+    rest = and_right (leb (length ks) 3) _ f.well
+
+    few : leb (length ks) 3 ≡ true
+    unfolding well_rule
+    few = and_left (leb (length ks) 3) _ f.well
+
+    pub fixed-kinds : (j : ℕ) → j < m → map_of (kind_in ks j) ≡ 1
+    fixed-kinds j l = go j (omega (arith, leb-true (length ks) 3 few, fixed-many))
+      where
+        go : (i : ℕ) → i < 3 → map_of (kind_in ks i) ≡ 1
+        go zero o = plain_map (kind_in ks 0) (and_left (plain_kind (kind_in ks 0)) _ rest)
+        go (suc zero) o = plain_map (kind_in ks 1) (and_left (plain_kind (kind_in ks 1)) _ (and_right (plain_kind (kind_in ks 0)) _ rest))
+        go (suc (suc zero)) o = plain_map (kind_in ks 2) (and_left (plain_kind (kind_in ks 2)) _ (and_right (plain_kind (kind_in ks 1)) _ (and_right (plain_kind (kind_in ks 0)) _ rest)))
+        go (suc (suc (suc i))) o = absurd (omega arith)
+
+    pub fixed-fits : (t : Bool) → t ≡ same_all (plain_sorts ks) (args_of b p n a m) → {x : Option Fit} → x ≡ then_some t (Plain r) → FitHas b p n a m (fixed_numbers ks r) x
     unfolding fitted
-    fixed-fails n e = record { is = need-no (sort (plain_sort r)) e; ok = tt }
-
-    module _ (t : Bool) (h : KindAtHas b p a m 0 x t) where
-      pub fixed_no : t ≡ false → FitHas b p a m (Fixed m x y z r) Nothing
-      fixed_no e n o =
-          fixed-fails n (fixed-is n ∙ ap (◌&& ((leb m 1 || same (plain_sort y) (sort_at b p n (arg_at a 1))) && (leb m 2 || same (plain_sort z) (sort_at b p n (arg_at a 2))))) (sym (h n o fixed-kinds.0) ∙ e))
-
-      module _ (u : Bool) (i : KindAtHas b p a m 1 y u) where
-        pub fixed-no-2 : u ≡ false → FitHas b p a m (Fixed m x y z r) Nothing
-        fixed-no-2 e n o =
-            fixed-fails n (fixed-is n
-            ∙ ap (λ (c : Bool). (leb m 0 || same (plain_sort x) (sort_at b p n (arg_at a 0))) && (c && (leb m 2 || same (plain_sort z) (sort_at b p n (arg_at a 2))))) (sym (i n o fixed-kinds.1) ∙ e)
-            ∙ false-second (leb m 0 || same (plain_sort x) (sort_at b p n (arg_at a 0))) false refl)
-
-        module _ (v : Bool) (j : KindAtHas b p a m 2 z v) where
-          pub fixed-no-3 : v ≡ false → FitHas b p a m (Fixed m x y z r) Nothing
-          fixed-no-3 e n o =
-              let X = leb m 0 || same (plain_sort x) (sort_at b p n (arg_at a 0)) in
-              let Y = leb m 1 || same (plain_sort y) (sort_at b p n (arg_at a 1)) in
-              fixed-fails n (fixed-is n ∙ ap (λ (c : Bool). X && (Y && c)) (sym (j n o fixed-kinds.2) ∙ e) ∙ ap (X &&◌) (false-second Y false refl) ∙ false-second X false refl)
-
-          pub fixed-yes : t ≡ true → u ≡ true → v ≡ true → FitHas b p a m (Fixed m x y z r) (Plain r)
-          unfolding fitted
-          fixed-yes et eu ev n o =
-              record {
-                is = need-yes (sort (plain_sort r))
-                    (fixed-is n ∙ ap₂ ◌&&◌ (sym (h n o fixed-kinds.0) ∙ et) (ap₂ ◌&&◌ (sym (i n o fixed-kinds.1) ∙ eu) (sym (j n o fixed-kinds.2) ∙ ev)));
-                ok = fixed-kinds.3;
-              }
+    fixed-fits t h e =
+        by_test (Plain r) t e (plain_sort (sort_number r)) (h ∙ sym (ap (λ (ss : Sorts). same_all ss (args_of b p n a m)) (fixed-plain ks few))) refl
+        (λ q. plain_map (sort_number r) (and_right (plain_kind (kind_in ks 2)) _ (and_right (plain_kind (kind_in ks 1)) _ (and_right (plain_kind (kind_in ks 0)) _ rest))))
 
   -- All Int or all Real.
-  module _ (r : ℕ) (f : FitAsks b p a m (Numbers 1 r)) where
-    pub numbers-kind : (r ≡ 0 → ⊥) → map_of r ≡ 1
+  module _ (r : Option SortKind) (f : FitAsks b p n a m (Numbers 1 (result_number r))) where
+    numbers-well : eqb (result_number r) 0 || plain_kind (result_number r) ≡ true
     unfolding well_rule
-    numbers-kind h = or_cases (eqb r 0) (plain_kind r) (and_right (one_or_two 1) (eqb r 0 || plain_kind r) f.well) (λ e. absurd (h (eqb-true r 0 e))) (λ e. plain_map r e)
+    numbers-well = and_right (one_or_two 1) (eqb (result_number r) 0 || plain_kind (result_number r)) f.well
 
-    module _ (t : Bool) (h : KindsHave b p a m 4 t) where
-      ints : {n : ℕ} → Over b p n a m → t ≡ all_same int (args_of b p n a m)
+    pub numbers-int : (t : Bool) → KindsHave b p n a m 4 t → t ≡ true → {k : SortKind} → k ≡ unwrap_or r SortInt → FitHas b p n a m (Numbers 1 (result_number r)) (Some (Plain k))
+    unfolding fitted map_of maps
+    numbers-int t h e {k} q =
+        let g = result-is r SortInt refl numbers-well in
+        subst (λ (i : SortKind). FitHas b p n a m (Numbers 1 (result_number r)) (Some (Plain i))) (sym q)
+        (subst (λ (c : Bool). FitIs n (store_of b p n) (cond c (sort (numbers_result (result_number r) int)) (need (all_same real (args_of b p n a m)) Misfit (sort (numbers_result (result_number r) real)))) (Some (Plain (unwrap_or r SortInt))))
+        (sym e ∙ h refl) (record { is = ap sort g.1; ok = g.0 }))
+
+    module _ (t : Bool) (h : KindsHave b p n a m 4 t) (e : t ≡ false) (u : Bool) (i : KindsHave b p n a m 5 u) where
+      second : fitted (Numbers 1 (result_number r)) (args_of b p n a m) ≡ need u Misfit (sort (numbers_result (result_number r) real))
+      unfolding fitted map_of maps
+      second =
+          ap₂ (λ (c d : Bool). cond c (sort (numbers_result (result_number r) int)) (need d Misfit (sort (numbers_result (result_number r) real)))) (sym (h refl) ∙ e) (sym (i refl))
+
+      pub numbers-real : u ≡ true → {k : SortKind} → k ≡ unwrap_or r SortReal → FitHas b p n a m (Numbers 1 (result_number r)) (Some (Plain k))
       unfolding map_of maps
-      ints {n} o = h n o refl
+      numbers-real d {k} q =
+          let g = result-is r SortReal refl numbers-well in
+          subst (λ (j : SortKind). FitHas b p n a m (Numbers 1 (result_number r)) (Some (Plain j))) (sym q)
+          (subst (λ (v : Verdict). FitIs n (store_of b p n) v (Some (Plain (unwrap_or r SortReal)))) (sym second)
+          (fits (numbers_result (result_number r) real) (sym d) (ap sort g.1) g.0))
 
-      pub numbers-int : t ≡ true → (k : ℕ) → numbers_result r int ≡ plain_sort k → map_of k ≡ 1 → FitHas b p a m (Numbers 1 r) (Plain k)
-      unfolding fitted
-      numbers-int e k q g n o =
-          record {
-            is = ap sort (sym q) ∙ sym (ap (λ (c : Bool). cond c (sort (numbers_result r int)) (need (all_same real (args_of b p n a m)) Misfit (sort (numbers_result r real)))) (sym (ints o) ∙ e));
-            ok = g;
-          }
+      pub numbers-no : u ≡ false → FitHas b p n a m (Numbers 1 (result_number r)) None
+      numbers-no d = subst (λ (v : Verdict). FitIs n (store_of b p n) v None) (sym second) (no_fit (numbers_result (result_number r) real) (sym d))
 
-      module _ (u : Bool) (i : KindsHave b p a m 5 u) where
-        reals : {n : ℕ} → Over b p n a m → u ≡ all_same real (args_of b p n a m)
-        unfolding map_of maps
-        reals {n} o = i n o refl
-
-        second : {n : ℕ} → Over b p n a m → t ≡ false → fitted (Numbers 1 r) (args_of b p n a m) ≡ need u Misfit (sort (numbers_result r real))
-        unfolding fitted
-        second {n} o e =
-            ap₂ (λ (c d : Bool). cond c (sort (numbers_result r int)) (need d Misfit (sort (numbers_result r real)))) (sym (ints o) ∙ e) (sym (reals o))
-
-        pub numbers-real : t ≡ false → u ≡ true → (k : ℕ) → numbers_result r real ≡ plain_sort k → map_of k ≡ 1 → FitHas b p a m (Numbers 1 r) (Plain k)
-        numbers-real e d k q g n o = record { is = ap sort (sym q) ∙ need-yes (sort (numbers_result r real)) d ∙ sym (second o e); ok = g }
-
-        pub numbers-no : t ≡ false → u ≡ false → FitHas b p a m (Numbers 1 r) Nothing
-        numbers-no e d n o = record { is = need-no (sort (numbers_result r real)) d ∙ sym (second o e); ok = tt }
-
-  pub equal-yes : {t : Bool} → SameHas b p a m t → t ≡ true → FitHas b p a m Equal (Plain 3)
+  pub equal-fits : Over b p n a m → (t : Bool) → SameHas b p n a m t → {x : Option Fit} → x ≡ then_some t (Plain SortBool) → FitHas b p n a m Equal x
   unfolding fitted map_of maps
-  equal-yes {t} h e n o = record { is = need-yes (sort bool) (sym (h n o) ∙ e); ok = refl }
-
-  pub equal-no : {t : Bool} → SameHas b p a m t → t ≡ false → FitHas b p a m Equal Nothing
-  unfolding fitted
-  equal-no {t} h e n o = record { is = need-no (sort bool) (sym (h n o) ∙ e); ok = tt }
+  equal-fits o t h e = by_test (Plain SortBool) t e bool (h o) refl (λ q. refl)
 
   -- Bool A A.
-  module _ (three : m ≡ 3) (t : Bool) (h : KindAtHas b p a m 0 3 t) where
-    chosen : {n : ℕ} → Over b p n a m → fitted Choose (args_of b p n a m)
-        ≡ need (t && same (sort_at b p n (u16_at a 5)) (sort_at b p n (u16_at a 7))) Misfit (sort (sort_at b p n (u16_at a 5)))
-    unfolding fitted map_of maps
-    chosen {n} o =
-        let q : t ≡ same bool (sort_at b p n (u16_at a 3)) = h n o refl ∙ ap (λ (c : ℕ). leb c 0 || same bool (sort_at b p n (u16_at a 3))) three in
-        ap choosing (three-args b p n a three)
-        ∙ ap (λ (c : Bool). need (c && same (sort_at b p n (u16_at a 5)) (sort_at b p n (u16_at a 7))) Misfit (sort (sort_at b p n (u16_at a 5)))) (sym q)
-
-    pub choose_no : t ≡ false → FitHas b p a m Choose Nothing
-    choose_no e n o =
-        record {
-          is = sym (chosen o ∙ ap (λ (c : Bool). need (c && same (sort_at b p n (u16_at a 5)) (sort_at b p n (u16_at a 7))) Misfit (sort (sort_at b p n (u16_at a 5)))) e);
-          ok = tt;
-        }
-
-    second-third : {n : ℕ} → Over b p n a m → same (sort_at b p n (u16_at a 5)) (sort_at b p n (u16_at a 7)) ≡ eqb (u16_at a 5) (u16_at a 7)
-    second-third {n} o = numbers-same (u16_at a 5) (u16_at a 7) o.stored o.distinct (o.below 1 (omega arith)) (o.below 2 (omega arith))
-
-    module _ {i j : ℕ} (ei : i ≡ u16_at a 5) (ej : j ≡ u16_at a 7) where
-      pub choose-no-2 : t ≡ true → (i ≡ j → ⊥) → FitHas b p a m Choose Nothing
-      choose-no-2 e d n o =
-          record {
-            is = sym (chosen o ∙ ap₂ (λ (c x : Bool). need (c && x) Misfit (sort (sort_at b p n (u16_at a 5)))) e
-                (second-third o ∙ ne_eqb (u16_at a 5) (u16_at a 7) (λ q. d (ei ∙ q ∙ sym ej))));
-            ok = tt;
-          }
-
-      pub choose_yes : t ≡ true → i ≡ j → FitHas b p a m Choose (Known i)
-      unfolding sort_at
-      choose_yes e d n o =
-          record {
-            is = ap (λ (k : ℕ). sort (sort_at b p n k)) ei ∙ sym (chosen o ∙ ap₂ (λ (c x : Bool). need (c && x) Misfit (sort (sort_at b p n (u16_at a 5)))) e
-                (second-third o ∙ eq-eqb (u16_at a 5) (u16_at a 7) (sym ei ∙ d ∙ ej)));
-            ok = subst (λ (k : ℕ). k < n) (sym ei) (o.below 1 (omega arith));
-          }
+  pub choose-fits : Over b p n a m → m ≡ 3 → (c : ℕ) → c ≡ u16_at a 5 → {i j : ℕ} → i ≡ u16_at a 3 → j ≡ u16_at a 7 → (t : Bool) → t ≡ (eqb (kind_of (sort_at b p n i)) 3 && eqb j c) → (x : Option Fit) → x ≡ then_some t (Known c)
+      → FitHas b p n a m Choose x
+  unfolding fitted map_of maps sort_at
+  choose-fits o three c ec {i} {j} ei ej t h x e =
+      let B = sort_at b p n (u16_at a 5) in
+      let D = sort_at b p n (u16_at a 7) in
+      subst (λ (ts : Sorts). FitIs n (store_of b p n) (choosing ts) x) (sym (three-args b p n a three))
+      (by_test (Known c) t e B
+      (h ∙ ap₂ ◌&&◌ (ap (λ (k : ℕ). eqb (kind_of (sort_at b p n k)) 3) ei ∙ sym (kind-same b p n (u16_at a 3) o.stored (o.below 0 (omega arith)) 3 refl))
+      (ap₂ eqb ej ec ∙ sym (numbers-same (u16_at a 7) (u16_at a 5) o.stored o.distinct (o.below 2 (omega arith)) (o.below 1 (omega arith))) ∙ same-swap D B))
+      (ap (λ (k : ℕ). sort (sort_at b p n k)) ec)
+      (λ q. subst (λ (k : ℕ). k < n) (sym ec) (o.below 1 (omega arith))))
 
 ---------------------------------------------------------------- vectors and arrays
 -- What the record of an Array stands for.
 module _ {b p : List ℕ} {n k : ℕ} (s : Stored b p n) (l : k < n) {r : SortRecord} (e : EntryIs b p n k r) where
-  read-kind : (fields_at b (get_or p k 0)).kind ≡ r.kind
+  read-kind : (fields_at b (get_or p k 0)).kind ≡ sort_number r.kind
   read-kind = ap (λ (f : Fields). f.kind) e.place.same
 
-  pub array-two : r.kind ≡ 8 → r.count ≡ 2
+  pub array-two : sort_number r.kind ≡ 8 → r.parts.count ≡ 2
   unfolding least_of leasts most_of mosts
   array-two h =
-      let q : length (fields_at b (get_or p k 0)).list ≡ r.count = ap (λ (f : Fields). length f.list) e.place.same ∙ length-numbers_at b r.list r.count in
+      let q : length (fields_at b (get_or p k 0)).list ≡ r.parts.count = ap (λ (f : Fields). length f.list) e.place.same ∙ length-numbers_at b r.parts.at r.parts.count in
       let x : least_of (fields_at b (get_or p k 0)).kind ≡ 2 = ap least_of (read-kind ∙ h) in
       let y : most_of (fields_at b (get_or p k 0)).kind ≡ 2 = ap most_of (read-kind ∙ h) in
       omega (arith, (s.each k l).shape.least, (s.each k l).shape.most, q, x, y)
 
-  pub array-sort : r.kind ≡ 8 → sort_at b p n k ≡ array (sort_at b p n (u16_at b r.list)) (sort_at b p n (u16_at b (r.list + 2)))
+  pub array-sort : sort_number r.kind ≡ 8 → sort_at b p n k ≡ array (sort_at b p n (u16_at b r.parts.at)) (sort_at b p n (u16_at b (r.parts.at + 2)))
   unfolding bit map_of maps sorts_of numbers_at sort_at
   array-sort h =
       let st = store_of b p n in
       let t : map_of (fields_at b (get_or p k 0)).kind ≡ 17 = ap map_of (read-kind ∙ h) in
       walk-node b p n k s l r e (λ q. absurd (omega arith)) (λ q. absurd (omega arith))
-      ∙ ap (λ (i : ℕ). node i r.name r.number (sorts_of st (numbers_at b r.list r.count))) h
-      ∙ ap (λ (i : ℕ). node 8 i r.number (sorts_of st (numbers_at b r.list r.count)))
+      ∙ ap (λ (i : ℕ). node i r.name r.number (sorts_of st (numbers_at b r.parts.at r.parts.count))) h
+      ∙ ap (λ (i : ℕ). node 8 i r.number (sorts_of st (numbers_at b r.parts.at r.parts.count)))
       (sym (ap (λ (f : Fields). f.name) e.place.same) ∙ (s.each k l).shape.proper.no_name (ap (bit 2) t))
-      ∙ ap (λ (i : ℕ). node 8 0 i (sorts_of st (numbers_at b r.list r.count)))
+      ∙ ap (λ (i : ℕ). node 8 0 i (sorts_of st (numbers_at b r.parts.at r.parts.count)))
       (sym (ap (λ (f : Fields). f.number) e.place.same) ∙ (s.each k l).shape.proper.no_number (ap (bit 4) t))
-      ∙ ap (λ (i : ℕ). node 8 0 0 (sorts_of st (numbers_at b r.list i))) (array-two h)
+      ∙ ap (λ (i : ℕ). node 8 0 0 (sorts_of st (numbers_at b r.parts.at i))) (array-two h)
+
+-- A sort is a vector by its kind.
+pub kind-is-vector : (b p : List ℕ) (n k : ℕ) → Stored b p n → k < n → vector (sort_at b p n k) ≡ eqb (kind_of (sort_at b p n k)) 9
+kind-is-vector b p n k s l =
+    let v = sort_at b p n k in
+    both_ways (vector v) (eqb (kind_of v) 9)
+    (λ e. eq-eqb (kind_of v) 9 (ap kind_of (same-sound v (bitvec (number_in v)) e)))
+    (λ e. kind-vector b p n k s l (eqb-true (kind_of v) 9 e))
 
 -- Vectors of one width.
-module _ {b p a : List ℕ} {m : ℕ} (r : ℕ) (f : FitAsks b p a m (Vectors 1 1 r)) where
+module _ {b p : List ℕ} {n : ℕ} {a : List ℕ} {m : ℕ} (r : Option SortKind) (f : FitAsks b p n a m (Vectors 1 1 (result_number r))) where
   pub vectors-some : 0 < m
   vectors-some = leb-true 1 m f.counted
 
-  module _ {k : ℕ} (q : ℕ) (ek : k ≡ u16_at a 3) (h : KindHas b p k q) where
-    first_kind : {n : ℕ} → Over b p n a m → q ≡ kind_of (only_of (args_of b p n a m))
-    first_kind {n} o =
-        h n o.stored (subst (λ (i : ℕ). i < n) (sym ek) (o.below 0 vectors-some)) ∙ ap (λ (i : ℕ). kind_of (sort_at b p n i)) ek
-        ∙ ap kind_of (sym (first-arg b p n a m vectors-some))
+  -- The first argument is a vector, and the others are it.
+  module _ {k : ℕ} (ek : k ≡ u16_at a 3) (t : Bool) (h : t ≡ eqb (kind_of (sort_at b p n k)) 9) where
+    only : only_of (args_of b p n a m) ≡ sort_at b p n k
+    only = first-arg b p n a m vectors-some ∙ ap (sort_at b p n) (sym ek)
 
-    pub vectors-other : (q ≡ 9 → ⊥) → FitHas b p a m (Vectors 1 1 r) Nothing
+    first-vector : vector (only_of (args_of b p n a m)) ≡ t
+    first-vector =
+        ap vector only ∙ kind-is-vector b p n k f.args.over.stored (subst (λ (i : ℕ). i < n) (sym ek) (f.args.over.below 0 vectors-some)) ∙ sym h
+
+    pub vectors-other : t ≡ false → FitHas b p n a m (Vectors 1 1 (result_number r)) None
     unfolding fitted
-    vectors-other d n o =
-        let s = only_of (args_of b p n a m) in
-        record {
-          is = sym (ap (λ (c : Bool). need (c && all_same s (args_of b p n a m)) Misfit (sort (vectors_result r s))) (vector-not s (λ e. d (first_kind o ∙ e))));
-          ok = tt;
-        }
+    vectors-other e =
+        let ts = args_of b p n a m in
+        no_fit (vectors_result (result_number r) (only_of ts)) (sym (ap (◌&& all_same (only_of ts) ts) (first-vector ∙ e)))
 
-    module _ (t : Bool) (g : SameHas b p a m t) where
-      pub vectors-differ : t ≡ false → FitHas b p a m (Vectors 1 1 r) Nothing
+    module _ (u : Bool) (g : SameHas b p n a m u) where
+      vectors-on : (vector (only_of (args_of b p n a m)) && all_same (only_of (args_of b p n a m)) (args_of b p n a m)) ≡ (t && u)
+      vectors-on = ap₂ ◌&&◌ first-vector (sym (g f.args.over))
+
+      pub vectors-differ : u ≡ false → FitHas b p n a m (Vectors 1 1 (result_number r)) None
       unfolding fitted
-      vectors-differ e n o =
-          let s = only_of (args_of b p n a m) in
-          record {
-            is = sym (ap (λ (c : Bool). need (vector s && c) Misfit (sort (vectors_result r s))) (sym (g n o) ∙ e)
-                ∙ ap (λ (c : Bool). need c Misfit (sort (vectors_result r s))) (false-second (vector s) false refl));
-            ok = tt;
-          }
+      vectors-differ e = no_fit (vectors_result (result_number r) (only_of (args_of b p n a m))) (sym (vectors-on ∙ ap (t &&◌) e ∙ false-second t false refl))
 
-      module _ (nine : q ≡ 9) (e : t ≡ true) where
-        vectors-fit : {n : ℕ} → Over b p n a m → fitted (Vectors 1 1 r) (args_of b p n a m) ≡ sort (vectors_result r (sort_at b p n k))
+      module _ (d : t ≡ true) (e : u ≡ true) where
+        both : true ≡ (vector (only_of (args_of b p n a m)) && all_same (only_of (args_of b p n a m)) (args_of b p n a m))
+        both = sym (vectors-on ∙ ap₂ ◌&&◌ d e)
+
+        pub vectors-same : r ≡ None → FitHas b p n a m (Vectors 1 1 (result_number r)) (Some (Known k))
+        unfolding fitted sort_at
+        vectors-same z =
+            fits (vectors_result (result_number r) (only_of (args_of b p n a m))) both
+            (sym (ap₂ (λ (o : Option SortKind) (s : Sort). sort (vectors_result (result_number o) s)) z only))
+            (subst (λ (i : ℕ). i < n) (sym ek) (f.args.over.below 0 vectors-some))
+
+        pub vectors-bit : r ≡ Some SortBitVec → FitHas b p n a m (Vectors 1 1 (result_number r)) (Some (Width 1))
         unfolding fitted
-        vectors-fit {n} o =
-            let l : u16_at a 3 < n = o.below 0 vectors-some in
-            let s = only_of (args_of b p n a m) in
-            let w : s ≡ sort_at b p n (u16_at a 3) = first-arg b p n a m vectors-some in
-            ap₂ (λ (c d : Bool). need (c && d) Misfit (sort (vectors_result r s)))
-            (ap vector w ∙ kind-vector b p n (u16_at a 3) o.stored l (ap kind_of (sym w) ∙ sym (first_kind o) ∙ nine)) (sym (g n o) ∙ e)
-            ∙ ap (λ (x : Sort). sort (vectors_result r x)) (w ∙ ap (sort_at b p n) (sym ek))
+        vectors-bit z =
+            fits (vectors_result (result_number r) (only_of (args_of b p n a m))) both
+            (sym (ap (λ (o : Option SortKind). sort (vectors_result (result_number o) (only_of (args_of b p n a m)))) z)) tt
 
-        pub vectors-same : r ≡ 0 → FitHas b p a m (Vectors 1 1 r) (Known k)
-        unfolding sort_at
-        vectors-same z n o =
-            record {
-              is = sym (vectors-fit o ∙ ap (λ (i : ℕ). sort (vectors_result i (sort_at b p n k))) z);
-              ok = subst (λ (i : ℕ). i < n) (sym ek) (o.below 0 vectors-some);
-            }
-
-        pub vectors-bit : r ≡ 9 → FitHas b p a m (Vectors 1 1 r) (Width 1)
-        vectors-bit z n o = record { is = sym (vectors-fit o ∙ ap (λ (i : ℕ). sort (vectors_result i (sort_at b p n k))) z); ok = tt }
-
-        pub vectors-kind : (r ≡ 0 → ⊥) → (r ≡ 9 → ⊥) → FitHas b p a m (Vectors 1 1 r) (Plain r)
-        unfolding well_rule
-        vectors-kind x y n o =
-            record {
-              is = sym (vectors-fit o
-                  ∙ ap₂ (λ (c d : Bool). sort (cond c (sort_at b p n k) (cond d (bitvec 1) (plain_sort r)))) (ne_eqb r 0 x) (ne_eqb r 9 y));
-              ok = or_cases (eqb r 0 || eqb r 9) (plain_kind r) (and_right (one_or_two 1) (eqb r 0 || eqb r 9 || plain_kind r) f.well)
-                  (λ c. or_cases (eqb r 0) (eqb r 9) c (λ d. absurd (x (eqb-true r 0 d))) (λ d. absurd (y (eqb-true r 9 d)))) (λ c. plain_map r c);
-            }
+        pub vectors-kind : (i : SortKind) → r ≡ Some i → (i ≡ SortBitVec → ⊥) → FitHas b p n a m (Vectors 1 1 (result_number r)) (Some (Plain i))
+        unfolding fitted well_rule
+        vectors-kind i z y =
+            let w = subst (λ (o : Option SortKind). one_or_two 1 && (eqb (result_number o) 0 || eqb (result_number o) 9 || plain_kind (result_number o)) ≡ true) z f.well in
+            let g = kind-result i y (and_right (one_or_two 1) _ w) (only_of (args_of b p n a m)) in
+            fits (vectors_result (result_number r) (only_of (args_of b p n a m))) both
+            (sym (ap (λ (o : Option SortKind). sort (vectors_result (result_number o) (only_of (args_of b p n a m)))) z ∙ g.1)) g.0
 
 -- Two vectors joined.
-module _ {b p a : List ℕ} {m : ℕ} (f : FitAsks b p a m Concat) where
+module _ {b p : List ℕ} {n : ℕ} {a : List ℕ} {m : ℕ} (f : FitAsks b p n a m Concat) where
   pub concat-two : m ≡ 2
   concat-two = eqb-true m 2 f.counted
 
-  module _ {i j : ℕ} (ei : i ≡ u16_at a 3) (ej : j ≡ u16_at a 5) where
-    concat-is : (n : ℕ) → fitted Concat (args_of b p n a m)
-        ≡ need (vector (sort_at b p n i) && vector (sort_at b p n j)) Misfit (sort (bitvec (number_in (sort_at b p n i) + number_in (sort_at b p n j))))
+  module _ {i j : ℕ} (ei : i ≡ u16_at a 3) (ej : j ≡ u16_at a 5) (x y : SortRecord) (hx : EntryHas b p i x) (hy : EntryHas b p j y) where
+    first-known : i < n
+    first-known = subst (λ (k : ℕ). k < n) (sym ei) (f.args.over.below 0 (omega (arith, concat-two)))
+
+    second-known : j < n
+    second-known = subst (λ (k : ℕ). k < n) (sym ej) (f.args.over.below 1 (omega (arith, concat-two)))
+
+    pub concat-fits : (t : Bool) → t ≡ (eqb (kind_of (sort_at b p n i)) 9 && eqb (kind_of (sort_at b p n j)) 9) → (z : Option Fit) → z ≡ then_some t (Width (x.number + y.number)) → FitHas b p n a m Concat z
     unfolding fitted
-    concat-is n =
-        ap concatenated (two-args b p n a concat-two)
-        ∙ ap₂ (λ (x y : ℕ). need (vector (sort_at b p n x) && vector (sort_at b p n y)) Misfit (sort (bitvec (number_in (sort_at b p n x) + number_in (sort_at b p n y))))) (sym ei) (sym ej)
+    concat-fits t h z e =
+        subst (λ (ts : Sorts). FitIs n (store_of b p n) (concatenated ts) z) (sym (two-args b p n a concat-two ∙ ap₂ (λ (c d : ℕ). sort_at b p n c then sort_at b p n d then end) (sym ei) (sym ej)))
+        (by_test (Width (x.number + y.number)) t e (bitvec (number_in (sort_at b p n i) + number_in (sort_at b p n j)))
+        (h ∙ ap₂ ◌&&◌ (sym (kind-is-vector b p n i f.args.over.stored first-known)) (sym (kind-is-vector b p n j f.args.over.stored second-known)))
+        (ap₂ (λ (c d : ℕ). sort (bitvec (c + d))) (hx n f.args.over.stored first-known).number (hy n f.args.over.stored second-known).number) (λ q. tt))
 
-    pub concat-first : {n : ℕ} → Over b p n a m → i < n
-    concat-first {n} o = subst (λ (x : ℕ). x < n) (sym ei) (o.below 0 (omega (arith, concat-two)))
-
-    pub concat-second : {n : ℕ} → Over b p n a m → j < n
-    concat-second {n} o = subst (λ (x : ℕ). x < n) (sym ej) (o.below 1 (omega (arith, concat-two)))
-
-    module _ (x y : SortRecord) (hx : EntryHas b p i x) (hy : EntryHas b p j y) where
-      pub concat-no : (x.kind ≡ 9 → ⊥) → FitHas b p a m Concat Nothing
-      concat-no d n o =
-          record {
-            is = sym (concat-is n
-                ∙ ap (λ (c : Bool). need (c && vector (sort_at b p n j)) Misfit (sort (bitvec (number_in (sort_at b p n i) + number_in (sort_at b p n j)))))
-                (vector-not (sort_at b p n i) (λ e. d ((hx n o.stored (concat-first o)).kind ∙ e))));
-            ok = tt;
-          }
-
-      pub concat-no-2 : (y.kind ≡ 9 → ⊥) → FitHas b p a m Concat Nothing
-      concat-no-2 d n o =
-          let W = sort (bitvec (number_in (sort_at b p n i) + number_in (sort_at b p n j))) in
-          record {
-            is = sym (concat-is n
-                ∙ ap (λ (c : Bool). need (vector (sort_at b p n i) && c) Misfit W)
-                (vector-not (sort_at b p n j) (λ e. d ((hy n o.stored (concat-second o)).kind ∙ e)))
-                ∙ ap (λ (c : Bool). need c Misfit W) (false-second (vector (sort_at b p n i)) false refl));
-            ok = tt;
-          }
-
-      pub concat-yes : x.kind ≡ 9 → y.kind ≡ 9 → FitHas b p a m Concat (Width (x.number + y.number))
-      concat-yes ex ey n o =
-          let li = concat-first o in
-          let lj = concat-second o in
-          let hi = hx n o.stored li in
-          let hj = hy n o.stored lj in
-          record {
-            is = ap₂ (λ (c d : ℕ). sort (bitvec (c + d))) hi.number hj.number
-                ∙ sym (concat-is n ∙ ap₂ (λ (c d : Bool). need (c && d) Misfit (sort (bitvec (number_in (sort_at b p n i) + number_in (sort_at b p n j)))))
-                (kind-vector b p n i o.stored li (sym hi.kind ∙ ex)) (kind-vector b p n j o.stored lj (sym hj.kind ∙ ey)));
-            ok = tt;
-          }
-
-      pub concat-fits : ArgsAsk b p a m → x.number + y.number < 200000
-      concat-fits k =
-          let n = k.many in
-          let o = k.over in
-          omega (
-            arith,
-            vector-small b p n i o.stored (concat-first o) x (hx n o.stored (concat-first o)),
-            vector-small b p n j o.stored (concat-second o) y (hy n o.stored (concat-second o)),
-          )
+    pub concat-small : x.number + y.number < 200000
+    concat-small =
+        omega (
+          arith,
+          vector-small b p n i f.args.over.stored first-known x (hx n f.args.over.stored first-known),
+          vector-small b p n j f.args.over.stored second-known y (hy n f.args.over.stored second-known),
+        )

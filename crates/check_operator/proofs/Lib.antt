@@ -1,4 +1,5 @@
-pub mod RangeLaws
+pub mod RuleOfLaws
 pub mod ArgumentLaws
 pub mod FitLaws
 pub mod OperatedLaws
+pub mod RowLaws

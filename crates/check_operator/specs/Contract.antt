@@ -1,19 +1,20 @@
 -- What the functions on an operator's arguments ask and promise. The arguments are store numbers in a lent array from byte 3 on.
-use Rattle.std.specs.Prelude.{ℕ, ◌+◌, ◌*◌, ◌≤◌, ◌<◌, ◌≡◌, ◌⊎◌, Bool, true, ◌||◌, List, length, get_or, leb}
+use Rattle.std.specs.Prelude.{ℕ, ◌+◌, ◌*◌, ◌≤◌, ◌<◌, ◌≡◌, ◌⊎◌, Bool, true, List, length, get_or, Option, Some, None}
+use Rattle.record.specs.Kinds.{sort_number}
 use Rattle.record.specs.Number.{u16_at, numbers_at}
-use Rattle.record.specs.Sort.{Sort, Sorts, bitvec, same}
+use Rattle.record.specs.Sort.{Sort, Sorts, bitvec}
 use Rattle.record.specs.Record.{map_of, leaf, sorts_of}
-use Rattle.record.specs.Decode.{store_of, sort_at, Stored, Distinct}
+use Rattle.record.specs.Decode.{store_of, Stored, Distinct}
 use Rattle.store.specs.Good.{Good}
+use Rattle.store.specs.declared.entries.Sorts.{Sorts as StoreSorts}
 use Rattle.matching_tables.specs.Usable.{Refs}
 use Rattle.row_rules.specs.declared.Cause.TheVariants.{Misfit}
 use Rattle.row_rules.specs.Verdict.{Verdict, sort, refused}
 use Rattle.check_rules.specs.Checked.{only_of}
-use Rattle.check_operator.specs.declared.rule.Rule.{Rule}
-use Rattle.check_operator.specs.declared.rule.Rule.TheVariants.{Select, Store}
+use Rattle.row_answer.specs.declared.arguments.Args.{Args}
 use Rattle.check_operator.specs.declared.op.Fit.{Fit}
-use Rattle.check_operator.specs.declared.op.Fit.TheVariants.{Known, Plain, Width, Nothing}
-use Rattle.check_operator.specs.Rule.{plain_sort, all_same, counts_for, fitted, well_rule}
+use Rattle.check_operator.specs.declared.op.Fit.TheVariants.{Known, Plain, Width}
+use Rattle.check_operator.specs.Rule.{Rule, Select, Store, plain_sort, all_same, counts_for, fitted, well_rule}
 
 -- The store number of the argument j.
 abbrev pub arg_at : List ℕ → ℕ → ℕ
@@ -25,79 +26,89 @@ pub record Over (b p : List ℕ) (n : ℕ) (a : List ℕ) (m : ℕ) : Type 0 whe
   pub distinct : Distinct b p n
   pub below : (j : ℕ) → j < m → arg_at a j < n
 
-pub record ArgsAsk (b p a : List ℕ) (m : ℕ) : Type 0 where
+pub record ArgsAsk (b p : List ℕ) (n : ℕ) (a : List ℕ) (m : ℕ) : Type 0 where
   pub within : 3 + 2 * m ≤ length a
-  pub many : ℕ
-  pub over : Over b p many a m
+  pub over : Over b p n a m
 
 -- The sorts of the arguments.
 abbrev pub args_of : List ℕ → List ℕ → ℕ → List ℕ → ℕ → Sorts
 args_of b p n a m = sorts_of (store_of b p n) (numbers_at a 3 m)
 
--- Whatever the count of the store's sorts is: every argument is the sort of a kind without parts.
-abbrev pub KindsHave : List ℕ → List ℕ → List ℕ → ℕ → ℕ → Bool → Type 0
-KindsHave b p a m k r = (n : ℕ) → Over b p n a m → map_of k ≡ 1 → r ≡ all_same (plain_sort k) (args_of b p n a m)
-
--- The argument i is missing, or is that sort.
-abbrev pub ArgumentKindHas : List ℕ → List ℕ → List ℕ → ℕ → ℕ → ℕ → Bool → Type 0
-ArgumentKindHas b p a m i k r = (n : ℕ) → Over b p n a m → map_of k ≡ 1 → r ≡ (leb m i || same (plain_sort k) (sort_at b p n (arg_at a i)))
+-- Every argument is the sort of a kind without parts.
+abbrev pub KindsHave : List ℕ → List ℕ → ℕ → List ℕ → ℕ → ℕ → Bool → Type 0
+KindsHave b p n a m k r = map_of k ≡ 1 → r ≡ all_same (plain_sort k) (args_of b p n a m)
 
 -- Every argument is the first one.
-abbrev pub SameHas : List ℕ → List ℕ → List ℕ → ℕ → Bool → Type 0
-SameHas b p a m r = (n : ℕ) → Over b p n a m → r ≡ all_same (only_of (args_of b p n a m)) (args_of b p n a m)
+abbrev pub SameHas : List ℕ → List ℕ → ℕ → List ℕ → ℕ → Bool → Type 0
+SameHas b p n a m r = Over b p n a m → r ≡ all_same (only_of (args_of b p n a m)) (args_of b p n a m)
 
 -- They are references to its sorts.
 pub args-refs : (b p a : List ℕ) (n m : ℕ) → 3 + 2 * m ≤ length a → Over b p n a m → Refs a 3 m n
 args-refs b p a n m h o = record { within = h; below = o.below }
 
 ---------------------------------------------------------------- fits
--- The verdict of a fit over a store.
+-- The verdict of a fit over a store, and of a rule that may not fit.
 abbrev pub fit_verdict : List Sort → Fit → Verdict
 fit_verdict st (Known k) = sort (get_or st k leaf)
-fit_verdict st (Plain k) = sort (plain_sort k)
+fit_verdict st (Plain k) = sort (plain_sort (sort_number k))
 fit_verdict st (Width w) = sort (bitvec w)
-fit_verdict st Nothing = refused Misfit
+
+abbrev pub fits_verdict : List Sort → Option Fit → Verdict
+fits_verdict st None = refused Misfit
+fits_verdict st (Some f) = fit_verdict st f
 
 -- Its number is one of the store, its kind one without parts.
 abbrev pub FitOk : ℕ → Fit → Type 0
 FitOk n (Known k) = k < n
-FitOk n (Plain k) = map_of k ≡ 1
+FitOk n (Plain k) = map_of (sort_number k) ≡ 1
 FitOk n (Width w) = Unit {0}
-FitOk n Nothing = Unit {0}
 
-pub record FitIs (n : ℕ) (st : List Sort) (v : Verdict) (r : Fit) : Type 0 where
-  pub is : fit_verdict st r ≡ v
-  pub ok : FitOk n r
+abbrev pub FitsOk : ℕ → Option Fit → Type 0
+FitsOk n None = Unit {0}
+FitsOk n (Some f) = FitOk n f
+
+pub record FitIs (n : ℕ) (st : List Sort) (v : Verdict) (r : Option Fit) : Type 0 where
+  pub is : fits_verdict st r ≡ v
+  pub ok : FitsOk n r
 
 -- A rule of the table whose count the arguments have.
-pub record FitAsks (b p a : List ℕ) (m : ℕ) (r : Rule) : Type 0 where
-  pub args : ArgsAsk b p a m
+pub record FitAsks (b p : List ℕ) (n : ℕ) (a : List ℕ) (m : ℕ) (r : Rule) : Type 0 where
+  pub args : ArgsAsk b p n a m
   pub well : well_rule r ≡ true
   pub counted : counts_for r m ≡ true
 
-abbrev pub FitHas : List ℕ → List ℕ → List ℕ → ℕ → Rule → Fit → Type 0
-FitHas b p a m rule r = (n : ℕ) → Over b p n a m → FitIs n (store_of b p n) (fitted rule (args_of b p n a m)) r
+abbrev pub FitHas : List ℕ → List ℕ → ℕ → List ℕ → ℕ → Rule → Option Fit → Type 0
+FitHas b p n a m rule r = FitIs n (store_of b p n) (fitted rule (args_of b p n a m)) r
 
 -- Two arguments or three, for Select and Store.
-pub record ArrayAsks (b p a : List ℕ) (m : ℕ) : Type 0 where
-  pub args : ArgsAsk b p a m
+pub record ArrayAsks (b p : List ℕ) (n : ℕ) (a : List ℕ) (m : ℕ) : Type 0 where
+  pub args : ArgsAsk b p n a m
   pub few : (m ≡ 2) ⊎ (m ≡ 3)
 
-pub record ArrayIs (n : ℕ) (st : List Sort) (ts : Sorts) (m : ℕ) (r : Fit) : Type 0 where
+pub record ArrayIs (n : ℕ) (st : List Sort) (ts : Sorts) (m : ℕ) (r : Option Fit) : Type 0 where
   pub two : m ≡ 2 → FitIs n st (fitted Select ts) r
   pub three : m ≡ 3 → FitIs n st (fitted Store ts) r
 
-abbrev pub ArrayHas : List ℕ → List ℕ → List ℕ → ℕ → Fit → Type 0
-ArrayHas b p a m r = (n : ℕ) → Over b p n a m → ArrayIs n (store_of b p n) (args_of b p n a m) m r
+abbrev pub ArrayHas : List ℕ → List ℕ → ℕ → List ℕ → ℕ → Option Fit → Type 0
+ArrayHas b p n a m r = ArrayIs n (store_of b p n) (args_of b p n a m) m r
 
 ---------------------------------------------------------------- answers
 pub record DeliverFitAsks (b p ix : List ℕ) (n u : ℕ) (r : Fit) : Type 0 where
   pub good : Good b p ix n u
   pub ok : FitOk n r
 
--- An operator of enum Operator, and m arguments that are numbers of a good store.
-pub record CheckOperatorAsks (b p ix : List ℕ) (n u op : ℕ) (a : List ℕ) (m : ℕ) : Type 0 where
+-- m arguments that are numbers of a good store.
+pub record CheckOperatorAsks (b p ix : List ℕ) (n u : ℕ) (a : List ℕ) (m : ℕ) : Type 0 where
   pub good : Good b p ix n u
-  pub few : op ≤ 134
   pub within : 3 + 2 * m ≤ length a
   pub below : (j : ℕ) → j < m → arg_at a j < n
+
+---------------------------------------------------------------- the same over a store and the arguments as they are lent
+abbrev pub ArgsKnown : StoreSorts → Args → Type 0
+ArgsKnown s a = ArgsAsk s.records.now s.places.now s.count a.bytes.now a.count
+
+abbrev pub RuleAsks : StoreSorts → Args → Rule → Type 0
+RuleAsks s a rule = FitAsks s.records.now s.places.now s.count a.bytes.now a.count rule
+
+abbrev pub RuleFits : StoreSorts → Args → Rule → Option Fit → Type 0
+RuleFits s a rule r = FitHas s.records.now s.places.now s.count a.bytes.now a.count rule r

@@ -1,4 +1,5 @@
 pub mod Rule
 pub mod RuleLaws
+pub mod Numbered
 pub mod Contract
 pub mod KindLaws

@@ -8,8 +8,25 @@ use Rattle.row_rules.specs.Verdict.{Verdict, sort, refused, need}
 use Rattle.check_rules.specs.Rank.{Rank, rank, vector}
 use Rattle.check_rules.specs.Ranks.{x, y, one, two, one_rank, more}
 use Rattle.check_rules.specs.Checked.{values, only_of}
-use Rattle.check_operator.specs.declared.rule.Rule.{Rule}
-use Rattle.check_operator.specs.declared.rule.Rule.TheVariants.{Unranked, All, Fixed, Numbers, Equal, Choose, Select, Store, Vectors, Concat}
+
+---------------------------------------------------------------- rules
+-- What arguments an operator takes and what sort it then has, over the numbers of kinds; `Numbered` has those of the code.
+pub data Rule : Type 0 where
+  -- no rank
+  Unranked : Rule
+  -- two or more of the first kind; the second kind is the result's
+  All : (kind result : ℕ) → Rule
+  -- as many as the first number says, at most three, of the next three kinds, those left out Bool; the last kind is the result's
+  Fixed : (many a b c result : ℕ) → Rule
+  -- at least so many, one or two, all Int or all Real; the result is of this kind, 0 where it is theirs
+  Numbers : (least result : ℕ) → Rule
+  Equal : Rule
+  Choose : Rule
+  Select : Rule
+  Store : Rule
+  -- so many vectors of one width, or more where the second number is 1; the result is of this kind, 0 where it is theirs
+  Vectors : (many more result : ℕ) → Rule
+  Concat : Rule
 
 ---------------------------------------------------------------- the ranks of a rule
 -- The sort of a kind without parts.

@@ -14,9 +14,7 @@ use Rattle.check_rules.specs.Rank.{Rank, repeated, stretched, patterns, same_cou
 use Rattle.check_rules.specs.Ranks.{RankTable, done, row, ranks_in, standard, smt_lib, x, y, one, two}
 use Rattle.check_rules.specs.Checked.{value, values, only_of, nonempty, ranked, concatenation, operated}
 use Rattle.check_rules.proofs.RankTheorems.{repeated-count}
-use Rattle.check_operator.specs.declared.rule.Rule.{Rule}
-use Rattle.check_operator.specs.declared.rule.Rule.TheVariants.{Unranked, All, Fixed, Numbers, Equal, Choose, Select, Store, Vectors, Concat}
-use Rattle.check_operator.specs.Rule.{Rules, none, range, rules_in, rules, rule_of, plain_sort, fixed_of, as_many_of, numbers_result, vectors_result, ranks_of, well_rule, all_same, counts_for, choosing, selecting, storing, ruled_select, stored, fitted, is_ranked, ruled, one_or_two}
+use Rattle.check_operator.specs.Rule.{Rule, Unranked, All, Fixed, Numbers, Equal, Choose, Select, Store, Vectors, Concat, Rules, none, range, rules_in, rules, rule_of, plain_sort, fixed_of, as_many_of, numbers_result, vectors_result, ranks_of, well_rule, all_same, counts_for, choosing, selecting, storing, ruled_select, stored, fitted, is_ranked, ruled, one_or_two}
 
 -- The table of ranks is the table of rules.
 unfoldable ranks_table : Rules → RankTable

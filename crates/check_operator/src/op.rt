@@ -1,292 +1,207 @@
-// The checked sort of an operator at n arguments, whose sorts are in `args` from byte 3 on.
-ghost use Rattle.std.specs.Prelude.{◌<◌};
+// The checked sort of an operator at its arguments.
+ghost use Rattle.std.specs.Prelude.{◌≡◌, ℕ, ◌<◌, List, eqb};
+ghost use Rattle.record.specs.Kinds.{sort_number};
+ghost use Rattle.record.specs.Sort.{kind_of};
+ghost use Rattle.record.specs.Decode.{store_of, sort_at};
+ghost use Rattle.store.specs.Changes.{Same};
 ghost use Rattle.check_rules.specs.Ranks.{smt_lib};
 ghost use Rattle.check_rules.specs.Checked.{operated};
-ghost use Rattle.row_answer.specs.Answer.{AnswerIs};
-ghost use Rattle.check_operator.specs.declared.rule.Rule.TheVariants.{All, Fixed, Numbers, Equal, Choose, Vectors, Concat};
-ghost use Rattle.check_operator.specs.Contract.{ArgsAsk, args_of, KindsHave, ArgumentKindHas, SameHas, FitAsks, FitHas, ArrayAsks, ArrayHas, fit_verdict, DeliverFitAsks, CheckOperatorAsks};
-ghost use Rattle.record.specs.Decode.{store_of};
+ghost use Rattle.row_answer.specs.Answer.{Answered};
+ghost use Rattle.check_operator.specs.Rule.{All, Numbers, Equal, Choose, Vectors, Concat};
+ghost use Rattle.check_operator.specs.Numbered.{result_number, fixed_numbers, rule_numbers};
+ghost use Rattle.check_operator.specs.Contract.{ArgsKnown, args_of, KindsHave, SameHas, RuleAsks, RuleFits, ArrayAsks, ArrayHas, fit_verdict, DeliverFitAsks, CheckOperatorAsks};
 
-use super::rule::{Rule, THEIRS, counts, is_ranked, rule_of};
-use record::kinds::{SORT_ARRAY, SORT_BIT_VEC, SORT_BOOL, SORT_INT, SORT_REAL};
-use record::u16_at;
-use row_answer::arguments::{FIRST_AT, SECOND_AT, THIRD_AT};
+use super::rule::{Rule, counts, rule_of};
+use record::kinds::SortKind;
+use row_answer::arguments::Args;
 use row_answer::values::all_values;
-use row_answer::{Answer, bit_vector, found, leaf, refuse};
-use row_rules::Cause;
-use store::entries::{entry, kind_at};
+use row_answer::{bit_vector, leaf};
+use row_rules::{Cause, Row};
+use store::Store;
+use store::entries::Sorts;
 
-// The result of a rule that fits: a sort of the store, the sort of a kind without parts, a vector of a width; or no fit.
-#[derive(Drop)]
+// The result of a rule that fits: a sort of the store, the sort of a kind without parts, or a vector of a width.
+#[derive(Clone, Copy, Debug, PartialEq, Eq)]
 pub enum Fit {
     Known(usize),
-    Plain(usize),
+    Plain(SortKind),
     Width(usize),
-    Nothing,
 }
 
-// Whether the n arguments are all of this kind.
-pub fn all_kind(records: &[u8], places: &[u32], args: &[u8], n: usize, kind: usize) -> bool
-    requires { ArgsAsk records.now places.now args.now n }
-    ensures { KindsHave records.now places.now args.now n kind result }
+// Whether the sort k is of this kind.
+pub fn is_kind(sorts: &Sorts<'_>, k: usize, kind: SortKind) -> bool
+    requires { k < sorts.now.count }
+    ensures { result ≡ eqb (kind_of (sort_at sorts.now.records.now sorts.now.places.now sorts.now.count k)) (sort_number kind) }
 {
-    let mut i = 0;
-    while i < n {
-        let k = u16_at(args, FIRST_AT + 2 * i);
-        if kind_at(records, places, k) != kind {
-            return false;
-        }
-        i += 1;
-    }
-    true
+    sorts.kind(k) == kind
 }
 
-// Whether the n arguments are all of the sort of the first one.
-pub fn all_same(records: &[u8], places: &[u32], args: &[u8], n: usize) -> bool
-    requires { ArgsAsk records.now places.now args.now n }
-    ensures { SameHas records.now places.now args.now n result }
+// Whether the arguments are all of this kind.
+pub fn all_kind(sorts: &Sorts<'_>, args: &Args<'_>, kind: SortKind) -> bool
+    requires { ArgsKnown sorts.now args.now }
+    ensures { KindsHave sorts.now.records.now sorts.now.places.now sorts.now.count args.now.bytes.now args.now.count (sort_number kind) result }
 {
-    let mut i = 1;
-    while i < n {
-        if u16_at(args, FIRST_AT + 2 * i) != u16_at(args, FIRST_AT) {
-            return false;
-        }
-        i += 1;
-    }
-    true
+    args.numbers().all(|k| is_kind(sorts, k, kind))
 }
 
-// Whether the argument number i is missing or of this kind.
-pub fn is_kind(records: &[u8], places: &[u32], args: &[u8], n: usize, i: usize, kind: usize) -> bool
-    requires { ArgsAsk records.now places.now args.now n }
-    ensures { ArgumentKindHas records.now places.now args.now n i kind result }
+// Whether the arguments are all of the sort of the first one.
+pub fn all_same(args: &Args<'_>) -> bool
+    ensures { (b p : List ℕ) (n : ℕ) → SameHas b p n args.now.bytes.now args.now.count result }
 {
-    if n <= i {
-        return true;
-    }
-    let k = u16_at(args, FIRST_AT + 2 * i);
-    kind_at(records, places, k) == kind
+    args.numbers().all(|k| k == args.number(0))
 }
 
 // Two or more of one kind.
-pub fn fit_all(
-    records: &[u8],
-    places: &[u32],
-    args: &[u8],
-    n: usize,
-    kind: usize,
-    res: usize,
-) -> Fit
-    requires { FitAsks records.now places.now args.now n (All kind res) }
-    ensures { FitHas records.now places.now args.now n (All kind res) result }
+pub fn fit_all(sorts: &Sorts<'_>, args: &Args<'_>, kind: SortKind, res: SortKind) -> Option<Fit>
+    requires { RuleAsks sorts.now args.now (All (sort_number kind) (sort_number res)) }
+    ensures { RuleFits sorts.now args.now (All (sort_number kind) (sort_number res)) result }
 {
-    if all_kind(records, places, args, n, kind) {
-        return Fit::Plain(res);
-    }
-    Fit::Nothing
+    all_kind(sorts, args, kind).then_some(Fit::Plain(res))
 }
 
-// At most three arguments of the kinds a, b and c.
+// At most three arguments of these kinds.
 pub fn fit_fixed(
-    records: &[u8],
-    places: &[u32],
-    args: &[u8],
-    n: usize,
-    a: usize,
-    b: usize,
-    c: usize,
-    res: usize,
-) -> Fit
-    requires { FitAsks records.now places.now args.now n (Fixed n a b c res) }
-    ensures { FitHas records.now places.now args.now n (Fixed n a b c res) result }
+    sorts: &Sorts<'_>,
+    args: &Args<'_>,
+    kinds: &[SortKind],
+    res: SortKind,
+) -> Option<Fit>
+    requires { RuleAsks sorts.now args.now (fixed_numbers kinds.now res) }
+    ensures { RuleFits sorts.now args.now (fixed_numbers kinds.now res) result }
 {
-    if !is_kind(records, places, args, n, 0, a) {
-        return Fit::Nothing;
-    }
-    if !is_kind(records, places, args, n, 1, b) {
-        return Fit::Nothing;
-    }
-    if !is_kind(records, places, args, n, 2, c) {
-        return Fit::Nothing;
-    }
-    Fit::Plain(res)
+    let mut pairs = args.numbers().zip(kinds);
+    let fits = pairs.all(|(k, kind)| is_kind(sorts, k, *kind));
+    fits.then_some(Fit::Plain(res))
 }
 
-// All Int or all Real; the result is of this kind, or theirs where it is 0.
-pub fn fit_numbers(records: &[u8], places: &[u32], args: &[u8], n: usize, res: usize) -> Fit
-    requires { FitAsks records.now places.now args.now n (Numbers 1 res) }
-    ensures { FitHas records.now places.now args.now n (Numbers 1 res) result }
+// All Int or all Real; the result is of this kind, or theirs.
+pub fn fit_numbers(sorts: &Sorts<'_>, args: &Args<'_>, res: Option<SortKind>) -> Option<Fit>
+    requires { RuleAsks sorts.now args.now (Numbers 1 (result_number res)) }
+    ensures { RuleFits sorts.now args.now (Numbers 1 (result_number res)) result }
 {
-    if all_kind(records, places, args, n, SORT_INT) {
-        if res == THEIRS {
-            return Fit::Plain(SORT_INT);
-        }
-        return Fit::Plain(res);
+    if all_kind(sorts, args, SortKind::Int) {
+        return Some(Fit::Plain(res.unwrap_or(SortKind::Int)));
     }
-    if all_kind(records, places, args, n, SORT_REAL) {
-        if res == THEIRS {
-            return Fit::Plain(SORT_REAL);
-        }
-        return Fit::Plain(res);
+    if all_kind(sorts, args, SortKind::Real) {
+        return Some(Fit::Plain(res.unwrap_or(SortKind::Real)));
     }
-    Fit::Nothing
+    None
 }
 
 // All of one sort gives Bool.
-pub fn fit_equal(records: &[u8], places: &[u32], args: &[u8], n: usize) -> Fit
-    requires { FitAsks records.now places.now args.now n Equal }
-    ensures { FitHas records.now places.now args.now n Equal result }
+pub fn fit_equal(sorts: &Sorts<'_>, args: &Args<'_>) -> Option<Fit>
+    requires { RuleAsks sorts.now args.now Equal }
+    ensures { RuleFits sorts.now args.now Equal result }
 {
-    if all_same(records, places, args, n) {
-        return Fit::Plain(SORT_BOOL);
-    }
-    Fit::Nothing
+    all_same(args).then_some(Fit::Plain(SortKind::Bool))
 }
 
 // Bool A A gives A.
-pub fn fit_choose(records: &[u8], places: &[u32], args: &[u8], n: usize) -> Fit
-    requires { FitAsks records.now places.now args.now n Choose }
-    ensures { FitHas records.now places.now args.now n Choose result }
+pub fn fit_choose(sorts: &Sorts<'_>, args: &Args<'_>) -> Option<Fit>
+    requires { RuleAsks sorts.now args.now Choose }
+    ensures { RuleFits sorts.now args.now Choose result }
 {
-    if !is_kind(records, places, args, n, 0, SORT_BOOL) {
-        return Fit::Nothing;
-    }
-    let a = u16_at(args, SECOND_AT);
-    let b = u16_at(args, THIRD_AT);
-    if a != b {
-        return Fit::Nothing;
-    }
-    Fit::Known(a)
+    let test = args.number(0);
+    let chosen = args.number(1);
+    let other = args.number(2);
+    let fits = is_kind(sorts, test, SortKind::Bool) && other == chosen;
+    fits.then_some(Fit::Known(chosen))
 }
 
-// (Array X Y) X gives Y; with n = 3, (Array X Y) X Y gives (Array X Y).
-pub fn fit_array(records: &[u8], places: &[u32], args: &[u8], n: usize) -> Fit
-    requires { ArrayAsks records.now places.now args.now n }
-    ensures { ArrayHas records.now places.now args.now n result }
+// (Array X Y) X gives Y; with three arguments, (Array X Y) X Y gives (Array X Y).
+pub fn fit_array(sorts: &Sorts<'_>, args: &Args<'_>) -> Option<Fit>
+    requires { ArrayAsks sorts.now.records.now sorts.now.places.now sorts.now.count args.now.bytes.now args.now.count }
+    ensures { ArrayHas sorts.now.records.now sorts.now.places.now sorts.now.count args.now.bytes.now args.now.count result }
 {
-    let k = u16_at(args, FIRST_AT);
-    let a = entry(records, places, k);
-    if a.kind != SORT_ARRAY {
-        return Fit::Nothing;
+    let array = args.number(0);
+    if !is_kind(sorts, array, SortKind::Array) {
+        return None;
     }
-    let list = a.list;
-    let index = u16_at(records, list);
-    let element = u16_at(records, list + 2);
-    if u16_at(args, SECOND_AT) != index {
-        return Fit::Nothing;
+    let parts = sorts.entry(array).parts;
+    let index = parts.get(sorts.records, 0);
+    let element = parts.get(sorts.records, 1);
+    if args.number(1) != index {
+        return None;
     }
-    if n == 2 {
-        return Fit::Known(element);
+    if args.count == 2 {
+        return Some(Fit::Known(element));
     }
-    if u16_at(args, THIRD_AT) != element {
-        return Fit::Nothing;
-    }
-    Fit::Known(k)
+    (args.number(2) == element).then_some(Fit::Known(array))
 }
 
-// Vectors of one width; the result is theirs (0), one bit (9), or of this kind.
-pub fn fit_vectors(records: &[u8], places: &[u32], args: &[u8], n: usize, res: usize) -> Fit
-    requires { FitAsks records.now places.now args.now n (Vectors 1 1 res) }
-    ensures { FitHas records.now places.now args.now n (Vectors 1 1 res) result }
+// Vectors of one width; the result is theirs, one bit, or of this kind.
+pub fn fit_vectors(sorts: &Sorts<'_>, args: &Args<'_>, res: Option<SortKind>) -> Option<Fit>
+    requires { RuleAsks sorts.now args.now (Vectors 1 1 (result_number res)) }
+    ensures { RuleFits sorts.now args.now (Vectors 1 1 (result_number res)) result }
 {
-    let k = u16_at(args, FIRST_AT);
-    if kind_at(records, places, k) != SORT_BIT_VEC {
-        return Fit::Nothing;
+    let k = args.number(0);
+    if !is_kind(sorts, k, SortKind::BitVec) || !all_same(args) {
+        return None;
     }
-    if !all_same(records, places, args, n) {
-        return Fit::Nothing;
-    }
-    if res == THEIRS {
-        return Fit::Known(k);
-    }
-    if res == SORT_BIT_VEC {
-        return Fit::Width(1);
-    }
-    Fit::Plain(res)
+    Some(match res {
+        None => Fit::Known(k),
+        Some(SortKind::BitVec) => Fit::Width(1),
+        Some(kind) => Fit::Plain(kind),
+    })
 }
 
 // Two vectors; the result is as wide as both.
-pub fn fit_concat(records: &[u8], places: &[u32], args: &[u8], n: usize) -> Fit
-    requires { FitAsks records.now places.now args.now n Concat }
-    ensures { FitHas records.now places.now args.now n Concat result }
+pub fn fit_concat(sorts: &Sorts<'_>, args: &Args<'_>) -> Option<Fit>
+    requires { RuleAsks sorts.now args.now Concat }
+    ensures { RuleFits sorts.now args.now Concat result }
 {
-    let i = u16_at(args, FIRST_AT);
-    let j = u16_at(args, SECOND_AT);
-    let a = entry(records, places, i);
-    let b = entry(records, places, j);
-    if a.kind != SORT_BIT_VEC {
-        return Fit::Nothing;
-    }
-    if b.kind != SORT_BIT_VEC {
-        return Fit::Nothing;
-    }
-    Fit::Width(a.number + b.number)
+    let a = args.number(0);
+    let b = args.number(1);
+    let fits = is_kind(sorts, a, SortKind::BitVec) && is_kind(sorts, b, SortKind::BitVec);
+    fits.then_some(Fit::Width(sorts.entry(a).number + sorts.entry(b).number))
 }
 
-// The result of a rule at n arguments, whose count it has.
-pub fn fit_rule(records: &[u8], places: &[u32], rule: Rule, args: &[u8], n: usize) -> Fit
-    requires { FitAsks records.now places.now args.now n rule }
-    ensures { FitHas records.now places.now args.now n rule result }
+// The result of a rule at the arguments, whose count it has; None where it does not fit.
+#[tactic(auto, using(crate::proofs::OperatedLaws::numbers_has, crate::proofs::OperatedLaws::vectors_has))]
+pub fn fit_rule(sorts: &Sorts<'_>, rule: Rule, args: &Args<'_>) -> Option<Fit>
+    requires { RuleAsks sorts.now args.now (rule_numbers rule) }
+    ensures { RuleFits sorts.now args.now (rule_numbers rule) result }
 {
     match rule {
-        Rule::Unranked => Fit::Nothing,
-        Rule::All(kind, result) => fit_all(records, places, args, n, kind, result),
-        Rule::Fixed(_, a, b, c, result) => fit_fixed(records, places, args, n, a, b, c, result),
-        Rule::Numbers(_, result) => fit_numbers(records, places, args, n, result),
-        Rule::Equal => fit_equal(records, places, args, n),
-        Rule::Choose => fit_choose(records, places, args, n),
-        Rule::Select => fit_array(records, places, args, n),
-        Rule::Store => fit_array(records, places, args, n),
-        Rule::Vectors(_, _, result) => fit_vectors(records, places, args, n, result),
-        Rule::Concat => fit_concat(records, places, args, n),
+        Rule::All(kind, result) => fit_all(sorts, args, kind, result),
+        Rule::Fixed(kinds, result) => fit_fixed(sorts, args, kinds, result),
+        Rule::Numbers(_, result) => fit_numbers(sorts, args, result),
+        Rule::Equal => fit_equal(sorts, args),
+        Rule::Choose => fit_choose(sorts, args),
+        Rule::Select | Rule::Store => fit_array(sorts, args),
+        Rule::Vectors(_, result) => fit_vectors(sorts, args, result),
+        Rule::Concat => fit_concat(sorts, args),
     }
 }
 
-// The answer of a fit: its sort, made where it is not in the store; Misfit without one.
-pub fn delivered_fit(
-    records: &mut [u8],
-    places: &mut [u32],
-    index: &mut [u16],
-    count: usize,
-    used: usize,
-    made: Fit,
-) -> Answer
-    requires { DeliverFitAsks records.old places.old index.old count used made }
-    ensures { AnswerIs records.old places.old count (fit_verdict (store_of records.old places.old count) made) records.new places.new index.new result }
+// The answer of a fit: its sort, made where it is not in the store.
+pub fn delivered_fit(store: &mut Store<'_>, made: Fit) -> Row
+    requires { DeliverFitAsks store.old.records.now store.old.places.now store.old.index.now store.old.count store.old.used made }
+    ensures same { Same store.old store.new }
+    ensures answer { Answered store.old (fit_verdict (store_of store.old.records.now store.old.places.now store.old.count) made) store.new result }
 {
     match made {
-        Fit::Known(k) => found(k, count, used),
-        Fit::Plain(kind) => leaf(records, places, index, count, used, kind as u8),
-        Fit::Width(w) => bit_vector(records, places, index, count, used, w),
-        Fit::Nothing => refuse(Cause::Misfit, count, used),
+        Fit::Known(k) => Ok(k),
+        Fit::Plain(kind) => leaf(store, kind),
+        Fit::Width(width) => bit_vector(store, width),
     }
 }
 
 // The checked sort of the operator: NoRank without a rule, Count where the rule has another count of arguments, Misfit where
 // an argument is a Par or the rule does not fit.
-pub fn checked_operator(
-    records: &mut [u8],
-    places: &mut [u32],
-    index: &mut [u16],
-    count: usize,
-    used: usize,
-    op: usize,
-    args: &[u8],
-    n: usize,
-) -> Answer
-    requires { CheckOperatorAsks records.old places.old index.old count used op args.now n }
-    ensures { AnswerIs records.old places.old count (operated smt_lib op (args_of records.old places.old count args.now n)) records.new places.new index.new result }
+pub fn checked_operator(store: &mut Store<'_>, op: usize, args: &Args<'_>) -> Row
+    requires { CheckOperatorAsks store.old.records.now store.old.places.now store.old.index.now store.old.count store.old.used args.now.bytes.now args.now.count }
+    ensures same { Same store.old store.new }
+    ensures answer { Answered store.old (operated smt_lib op (args_of store.old.records.now store.old.places.now store.old.count args.now.bytes.now args.now.count)) store.new result }
 {
-    let rule = rule_of(op);
-    if !is_ranked(rule) {
-        return refuse(Cause::NoRank, count, used);
+    let rule = rule_of(op).ok_or(Cause::NoRank)?;
+    if !counts(rule, args.count) {
+        return Err(Cause::Count);
     }
-    if !counts(rule, n) {
-        return refuse(Cause::Count, count, used);
+    let sorts = store.sorts();
+    if !all_values(sorts.entries(), args.bytes, args.span()) {
+        return Err(Cause::Misfit);
     }
-    if !all_values(records, places, args, FIRST_AT, n) {
-        return refuse(Cause::Misfit, count, used);
-    }
-    let made = fit_rule(records, places, rule, args, n);
-    delivered_fit(records, places, index, count, used, made)
+    let made = fit_rule(&sorts, rule, args).ok_or(Cause::Misfit)?;
+    delivered_fit(store, made)
 }

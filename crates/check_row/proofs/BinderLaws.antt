@@ -3,32 +3,37 @@ use Prim.Native.Nat.{ℕ, zero, suc, ◌+◌, ◌*◌, ◌≤◌, ◌<◌}
 use mathlib.Core.Path.{◌≡◌, refl, sym, ap, ap₂, subst, ◌∙◌}
 use mathlib.Core.Bool.{Bool, true, false, cond, ◌&&◌}
 use mathlib.Core.List.{List}
+use mathlib.Core.Logic.{◌⊎◌, inl, inr}
 use native.Mathlib.Omega.{arith}
-use native.Mathlib.Numerals.{add-one}
 use native.Mathlib.Nat.{not-suc-le-zero}
 use lib.ListN.{length, get_or}
 use lib.Dec.{eqb, ltb}
 use borrow.Author.Tests.{eq-eqb, ne_eqb, lt-ltb}
-use Rattle.record.specs.Number.{u16_at, numbers_at}
+use Rattle.record.specs.Number.{u16_at, numbers_at, pairs_at}
 use Rattle.record.specs.Sort.{Sort, Sorts, end, ◌then◌, bool, function, kind_of, count, same}
 use Rattle.record.specs.SortLaws.{same-sound, same-swap}
 use Rattle.record.specs.Record.{maps, map_of, leaf, sorts_of}
 use Rattle.record.specs.Decode.{store_of, sort_at}
-use Rattle.record.specs.SortLists.{below_suc}
 use Rattle.record.specs.Cases.{false-second}
 use Rattle.reader.specs.Reader.{pair_sorts_at}
-use Rattle.store.specs.Entry.{EntryAsks, KindHas}
-use Rattle.store.specs.Walk.{entry-asks}
+use Rattle.store.specs.Entry.{KindHas}
+use Rattle.record.specs.Kinds.{binder_number, BinderDecodes}
+use Rattle.record.specs.declared.kinds.Binder.{Binder}
+use Rattle.record.specs.declared.kinds.Binder.TheVariants.{Forall as BinderForall}
+use Rattle.record.specs.declared.kinds.UnknownKind.{UnknownKind}
+use Rattle.std.specs.Prelude.{Result, Ok, Err}
+use Rattle.std.specs.Result.{result_unwrap_or}
 use Rattle.substitution.specs.Premises.{proper, proper_all}
 use Rattle.matching_tables.specs.Usable.{OneAsks}
 use Rattle.row_rules.specs.declared.Cause.TheVariants.{Count, Misfit, Barred}
 use Rattle.row_rules.specs.Verdict.{sort, refused, need}
 use Rattle.row_rules.specs.Lists.{joined}
 use Rattle.check_rules.specs.Checked.{value, only_of, bound_body, binder}
-use Rattle.row_answer.specs.Arguments.{looked, bound_numbers, binding_at, LambdaAsks}
+use Rattle.row_answer.specs.Arguments.{looked, bound_numbers, LambdaAsks}
 use Rattle.row_answer.specs.Values.{value-kind, stored-value}
 use Rattle.check_operator.specs.Contract.{args_of}
 use Rattle.check_operator.specs.KindLaws.{kind-same}
+use Rattle.check_operator.proofs.ArgumentLaws.{Scanned}
 use Rattle.check_row.specs.Bound.{BindingsAsk, BodyAsks, BinderAsks}
 
 ---------------------------------------------------------------- the pairs
@@ -36,27 +41,33 @@ use Rattle.check_row.specs.Bound.{BindingsAsk, BodyAsks, BinderAsks}
 abbrev pub pair_sorts : List Sort → List ℕ → List ℕ → ℕ → ℕ → Sorts
 pair_sorts st tbl s x m = sorts_of st (bound_numbers tbl s x m)
 
-pairs-proper : (st : List Sort) (tbl s : List ℕ) (x m : ℕ) → ((j : ℕ) → j < m → proper (get_or st (binding_at s x tbl j) leaf) ≡ true) → proper_all (pair_sorts st tbl s x m) ≡ true
-unfolding proper sorts_of looked pair_sorts_at
-pairs-proper st tbl s x zero h = refl
-pairs-proper st tbl s x (suc m) h =
-    let e : x + 4 * 0 + 2 ≡ x + 2 = omega arith in
-    ap₂ ◌&&◌ (sym (ap (λ (i : ℕ). proper (get_or st (get_or tbl (u16_at s i) 0) leaf)) e) ∙ h 0 (omega arith))
-    (pairs-proper st tbl s (x + 4) m
-    (λ j l.
-    let q : x + 4 + 4 * j + 2 ≡ x + 4 * suc j + 2 = omega arith in
-    ap (λ (i : ℕ). proper (get_or st (get_or tbl (u16_at s i) 0) leaf)) q ∙ h (suc j) (omega arith)))
+-- The sort that the pair v names.
+abbrev pub pair_proper : List ℕ → List ℕ → ℕ → List ℕ → ℕ × ℕ → Bool
+pair_proper b p n tbl v = proper (sort_at b p n (get_or tbl v.1 0))
 
-pair-barred : (st : List Sort) (tbl s : List ℕ) (x m j : ℕ) → j < m → proper (get_or st (binding_at s x tbl j) leaf) ≡ false → proper_all (pair_sorts st tbl s x m) ≡ false
-unfolding proper sorts_of looked pair_sorts_at
-pair-barred st tbl s x zero j l h = absurd (not-suc-le-zero l)
-pair-barred st tbl s x (suc m) zero l h =
-    let e : x + 4 * 0 + 2 ≡ x + 2 = omega arith in
-    ap (◌&& proper_all (pair_sorts st tbl s (x + 4) m)) (sym (ap (λ (i : ℕ). proper (get_or st (get_or tbl (u16_at s i) 0) leaf)) e) ∙ h)
-pair-barred st tbl s x (suc m) (suc j) l h =
-    let q : x + 4 + 4 * j + 2 ≡ x + 4 * suc j + 2 = omega arith in
+pairs-proper : (st : List Sort) (tbl s : List ℕ) (x m : ℕ) → ((j : ℕ) (d : ℕ × ℕ) → j < length (pairs_at s x m) → proper (get_or st (get_or tbl (get_or (pairs_at s x m) j d).1 0) leaf) ≡ true)
+    → proper_all (pair_sorts st tbl s x m) ≡ true
+unfolding proper sorts_of looked pair_sorts_at pairs_at
+pairs-proper st tbl s x zero h = refl
+pairs-proper st tbl s x (suc m) h = ap₂ ◌&&◌ (h 0 (0, 0) (omega arith)) (pairs-proper st tbl s (x + 4) m (λ j d l. h (suc j) d (omega arith)))
+
+pair-barred : (st : List Sort) (tbl s : List ℕ) (x m j : ℕ) (d : ℕ × ℕ) → j < length (pairs_at s x m) → proper (get_or st (get_or tbl (get_or (pairs_at s x m) j d).1 0) leaf) ≡ false
+    → proper_all (pair_sorts st tbl s x m) ≡ false
+unfolding proper sorts_of looked pair_sorts_at pairs_at
+pair-barred st tbl s x zero j d l h = absurd (not-suc-le-zero l)
+pair-barred st tbl s x (suc m) zero d l h = ap (◌&& proper_all (pair_sorts st tbl s (x + 4) m)) h
+pair-barred st tbl s x (suc m) (suc j) d l h =
     false-second (proper (get_or st (get_or tbl (u16_at s (x + 2)) 0) leaf)) (proper_all (pair_sorts st tbl s (x + 4) m))
-    (pair-barred st tbl s (x + 4) m j (omega arith) (ap (λ (i : ℕ). proper (get_or st (get_or tbl (u16_at s i) 0) leaf)) q ∙ h))
+    (pair-barred st tbl s (x + 4) m j d (omega arith) h)
+
+-- The sort number of a pair in its place.
+pair-at : (s : List ℕ) (x m j : ℕ) (d : ℕ × ℕ) → j < length (pairs_at s x m) → (j < m) × ((get_or (pairs_at s x m) j d).1 ≡ u16_at s (x + 4 * j + 2))
+unfolding pairs_at
+pair-at s x zero j d l = absurd (not-suc-le-zero l)
+pair-at s x (suc m) zero d l = let e : x + 2 ≡ x + 4 * 0 + 2 = omega arith in (omega arith, ap (u16_at s) e)
+pair-at s x (suc m) (suc j) d l =
+    let h = pair-at s (x + 4) m j d (omega arith) in
+    let e : x + 4 + 4 * j + 2 ≡ x + 4 * suc j + 2 = omega arith in (omega (arith, h.0), h.1 ∙ ap (u16_at s) e)
 
 pair-count : (st : List Sort) (tbl s : List ℕ) (x m : ℕ) → count (pair_sorts st tbl s x m) ≡ m
 unfolding count sorts_of looked pair_sorts_at
@@ -67,36 +78,19 @@ pair-only : (st : List Sort) (tbl s : List ℕ) (x : ℕ) → only_of (pair_sort
 unfolding sorts_of looked pair_sorts_at
 pair-only st tbl s x = refl
 
--- The first i pairs are proper.
-abbrev pub ProperPairs : List ℕ → List ℕ → ℕ → List ℕ → List ℕ → ℕ → ℕ → Type 0
-ProperPairs b p n s tbl x i = (j : ℕ) → j < i → proper (sort_at b p n (binding_at s x tbl j)) ≡ true
-
 module _ {b p : List ℕ} {n : ℕ} {s tbl : List ℕ} {x m : ℕ} (f : BindingsAsk b p n s tbl x m) where
-  pub proper-none : ProperPairs b p n s tbl x 0
-  proper-none j l = absurd (not-suc-le-zero l)
+  pub pair_in : (v : ℕ × ℕ) (j : ℕ) → j < length (pairs_at s x m) → v ≡ get_or (pairs_at s x m) j v → v.1 < length tbl
+  pair_in v j l e = let h = pair-at s x m j v l in omega (arith, ap (λ (y : ℕ × ℕ). y.1) e, h.1, f.each j h.0)
 
-  module _ (i : ℕ) (l : i < m) {v : ℕ} (e : v ≡ u16_at s (x + 4 * i + 2)) where
-    pub pair-in : v < length tbl
-    pair-in = subst (λ (k : ℕ). k < length tbl) (sym e) (f.each i l)
+  pub pair_asks : (v : ℕ × ℕ) (j : ℕ) → j < length (pairs_at s x m) → v ≡ get_or (pairs_at s x m) j v → OneAsks b p n (get_or tbl v.1 0)
+  pair_asks v j l e =
+      let h = pair-at s x m j v l in
+      record { usable = f.usable; known = subst (λ (k : ℕ). get_or tbl k 0 < n) (sym (ap (λ (y : ℕ × ℕ). y.1) e ∙ h.1)) (f.below j h.0) }
 
-    pub pair-asks : OneAsks b p n (get_or tbl v 0)
-    pair-asks = record { usable = f.usable; known = subst (λ (k : ℕ). get_or tbl k 0 < n) (sym e) (f.below i l) }
-
-    module _ {t : Bool} (h : t ≡ proper (sort_at b p n (get_or tbl v 0))) where
-      pub proper-more : t ≡ true → ProperPairs b p n s tbl x i → ProperPairs b p n s tbl x (i + 1)
-      proper-more d g =
-          subst (ProperPairs b p n s tbl x) (sym (add-one i))
-          (below_suc (λ (j : ℕ). proper (sort_at b p n (binding_at s x tbl j)) ≡ true) i g
-          (ap (λ (k : ℕ). proper (sort_at b p n (get_or tbl k 0))) (sym e) ∙ sym h ∙ d))
-
-      pub proper-no : t ≡ false → false ≡ proper_all (pair_sorts (store_of b p n) tbl s x m)
-      unfolding sort_at
-      proper-no d =
-          sym (pair-barred (store_of b p n) tbl s x m i l (ap (λ (k : ℕ). proper (get_or (store_of b p n) (get_or tbl k 0) leaf)) (sym e) ∙ sym h ∙ d))
-
-  pub proper-yes : (i : ℕ) → m ≤ i → ProperPairs b p n s tbl x i → true ≡ proper_all (pair_sorts (store_of b p n) tbl s x m)
+  pub proper_by : (t : Bool) → Scanned t (λ v. pair_proper b p n tbl v ≡ true) (λ v. pair_proper b p n tbl v ≡ false) (pairs_at s x m) → t ≡ proper_all (pair_sorts (store_of b p n) tbl s x m)
   unfolding sort_at
-  proper-yes i l g = sym (pairs-proper (store_of b p n) tbl s x m (λ j h. g j (omega arith)))
+  proper_by true h = sym (pairs-proper (store_of b p n) tbl s x m (λ j d l. h j d (omega arith) l))
+  proper_by false h = sym (pair-barred (store_of b p n) tbl s x m h.0 (0, 0) h.1 (h.2 (0, 0)))
 
 ---------------------------------------------------------------- the body
 -- What each number of Binder asks, over the count of its bindings.
@@ -120,9 +114,6 @@ body-none k bs t e = go (eqb k 3) (eqb k 2)
     go false false = ap (λ (i : ℕ). need (ltb 0 i) Count (need (same t bool) Misfit (sort bool))) e
 
 module _ {b p : List ℕ} {n : ℕ} {s tbl : List ℕ} {x m : ℕ} (f : BindingsAsk b p n s tbl x m) (body : ℕ) (l : body < n) (k : ℕ) where
-  pub body_entry : EntryAsks b p body
-  body_entry = entry-asks b p n body f.usable.stored l
-
   pub bound-none : m ≡ 0 → bound_body k (pair_sorts (store_of b p n) tbl s x m) (sort_at b p n body then end) ≡ refused Count
   bound-none e = body-none k (pair_sorts (store_of b p n) tbl s x m) (sort_at b p n body) (pair-count (store_of b p n) tbl s x m ∙ e)
 
@@ -168,7 +159,10 @@ module _ {b p : List ℕ} {n : ℕ} {s tbl : List ℕ} {x m : ℕ} (f : Bindings
       choice-no d =
           choice-on ∙ ap (λ (c : Bool). need c Misfit (sort (get_or (store_of b p n) (get_or tbl (u16_at s (x + 2)) 0) leaf))) (ne_eqb q 3 d)
 
-      module _ {v : ℕ} (e : v ≡ u16_at s (x + 2)) where
+      module _ {v : ℕ} (ev : v ≡ u16_at s (x + 2 * 1)) where
+        e : v ≡ u16_at s (x + 2)
+        e = ev
+
         only-place : u16_at s (x + 4 * 0 + 2) ≡ v
         only-place = let y : x + 4 * 0 + 2 ≡ x + 2 = omega arith in ap (u16_at s) y ∙ sym e
 
@@ -219,8 +213,22 @@ lambda-asks {b} {p} {ix} {n} {u} {s} {tbl} {x} {m} {a} {body} f =
       room = f.room;
     }
 
+-- The binders of an arm.
+pub plain_binder : (o : Binder) → (o ≡ Binder.Forall) ⊎ (o ≡ Binder.Exists) → (binder_number o ≡ 3 → ⊥) × (binder_number o ≡ 2 → ⊥)
+plain_binder o (inl e) = let q = ap binder_number e in ((λ z. absurd (omega (arith, q, z))), (λ z. absurd (omega (arith, q, z))))
+plain_binder o (inr e) = let q = ap binder_number e in ((λ z. absurd (omega (arith, q, z))), (λ z. absurd (omega (arith, q, z))))
+
+-- A number that is no Binder's is taken as Forall.
+bound-same : (k : ℕ) (bs : Sorts) (t : Sort) → 4 ≤ k → bound_body k bs (t then end) ≡ bound_body 0 bs (t then end)
+bound-same k bs t l = body-other k bs t (λ e. absurd (omega arith)) (λ e. absurd (omega arith))
+
+pub binder_number_is : (k : ℕ) (r : Result Binder UnknownKind) → BinderDecodes k r → (bs : Sorts) (t : Sort)
+    → bound_body k bs (t then end) ≡ bound_body (binder_number (result_unwrap_or r BinderForall)) bs (t then end)
+binder_number_is k (Ok o) e bs t = ap (λ (i : ℕ). bound_body i bs (t then end)) (sym e)
+binder_number_is k (Err o) e bs t = bound-same k bs t e.1
+
 ---------------------------------------------------------------- the binder
-module _ {b p ix : List ℕ} {n u : ℕ} {s tbl : List ℕ} {x m : ℕ} {a : List ℕ} (f : BinderAsks b p ix n u s tbl x m a) (k : ℕ) {t : Bool} (h : t ≡ proper_all (pair_sorts (store_of b p n) tbl s x m)) where
+module _ {b p ix : List ℕ} {n u : ℕ} {s tbl : List ℕ} {x m : ℕ} {a : List ℕ} {c : ℕ} (f : BinderAsks b p ix n u s tbl x m a c) (k : ℕ) {t : Bool} (h : t ≡ proper_all (pair_sorts (store_of b p n) tbl s x m)) where
   pub binder-barred : t ≡ false → binder k (pair_sorts (store_of b p n) tbl s x m) (args_of b p n a 1) ≡ refused Barred
   unfolding binder
   binder-barred e = ap (λ (c : Bool). need c Barred (bound_body k (pair_sorts (store_of b p n) tbl s x m) (args_of b p n a 1))) (sym h ∙ e)

@@ -1,14 +1,19 @@
 -- The verdict on a record by its kind, and what a record that stands tells the function of its kind.
 use Prim.Native.Nat.{ℕ, zero, suc, ◌+◌, ◌*◌, ◌≤◌, ◌<◌}
-use mathlib.Core.Path.{◌≡◌, refl, ap, ap₂, ◌∙◌}
+use mathlib.Core.Path.{◌≡◌, refl, sym, ap, ap₂, ◌∙◌}
+use mathlib.Core.Logic.{◌⊎◌, inl, inr}
 use mathlib.Core.Bool.{Bool, not, cond}
 use mathlib.Core.List.{List, []}
 use native.Mathlib.Omega.{arith}
 use lib.ListN.{length, get_or}
 use lib.Dec.{eqb}
-use borrow.Author.Tests.{eq-eqb, ne_eqb}
-use Rattle.record.specs.Sort.{Sort, Sorts, int, real, string, reglan, bitvec}
+use borrow.Author.Tests.{eq-eqb}
+use Rattle.record.specs.Sort.{Sorts, int, real, string, reglan, bitvec}
+use Rattle.record.specs.Number.{u16_at}
+use Rattle.record.specs.Kinds.{term_number}
+use Rattle.record.specs.declared.kinds.TermKind.{TermKind}
 use Rattle.record.specs.Record.{sorts_of}
+use Rattle.store.specs.Good.{Good}
 use Rattle.record.specs.Decode.{store_of, sort_at}
 use Rattle.reader.specs.declared.TermRecord.{TermRecord}
 use Rattle.matching_tables.specs.Usable.{OneAsks}
@@ -20,13 +25,12 @@ use Rattle.row_rules.specs.Term.{Site}
 use Rattle.check_rules.specs.Ranks.{smt_lib}
 use Rattle.check_rules.specs.Checked.{checked_app, operated, binder, letting, indexing, qualified, checked}
 use Rattle.row_answer.specs.Arguments.{bound_numbers, constants_in}
-use Rattle.check_operator.specs.Contract.{args_of, CheckOperatorAsks}
-use Rattle.check_row.specs.Single.{constant_verdict, variable_verdict, QualifiedAsks}
-use Rattle.row_parts.specs.Site.{own_over, site_over}
-use Rattle.row_parts.specs.SiteLaws.{var-owns, as_own, bindings-sorts, bindings-bound, index-constants, count-few, op-number, binder-one}
+use Rattle.check_operator.specs.Contract.{ArgsAsk, args_of, CheckOperatorAsks}
+use Rattle.check_row.specs.Single.{constant_verdict, variable_verdict}
+use Rattle.row_parts.specs.Site.{site_over, SiteAsks}
+use Rattle.row_parts.specs.SiteLaws.{OwnIs, var-owns, as_own, bindings-sorts, bindings-bound, index-constants, count-few, binder-one}
 use Rattle.check_row.specs.Indexed.{IndexingAsks}
 use Rattle.check_row.specs.Bound.{BinderAsks}
-use Rattle.check_row.specs.Kinds.{known_verdict, KnownSiteAsks, CheckComposedAsks}
 
 ---------------------------------------------------------------- the verdict by the kind
 -- The five constants, before whatever follows.
@@ -64,106 +68,113 @@ module _ (z : Site) where
   unfolding checked
   checked-indexed e = rw e refl
 
-  checked-known : 5 ≤ z.kind → (z.kind ≡ 6 → ⊥) → (z.kind ≡ 7 → ⊥) → (z.kind ≡ 8 → ⊥) → (z.kind ≡ 11 → ⊥)
-      → checked smt_lib z ≡ known_verdict z.kind z.number z.own z.args
+  checked-let : z.kind ≡ 9 → checked smt_lib z ≡ letting z.args
   unfolding checked
-  checked-known l h6 h7 h8 h11 =
-      rw (
-        ne_eqb z.kind 0 (λ e. absurd (omega arith)),
-        ne_eqb z.kind 1 (λ e. absurd (omega arith)),
-        ne_eqb z.kind 2 (λ e. absurd (omega arith)),
-        ne_eqb z.kind 3 (λ e. absurd (omega arith)),
-        ne_eqb z.kind 4 (λ e. absurd (omega arith)),
-        ne_eqb z.kind 6 h6,
-        ne_eqb z.kind 7 h7,
-        ne_eqb z.kind 8 h8,
-        ne_eqb z.kind 11 h11,
-      ) refl
+  checked-let e = rw e refl
 
----------------------------------------------------------------- sorts that the store has
-module _ (k w : ℕ) (own : Sort) (ts : Sorts) where
-  known-let : k ≡ 9 → known_verdict k w own ts ≡ letting ts
-  known-let e = ap (λ (i : ℕ). known_verdict i w own ts) e
+  checked-var : z.kind ≡ 5 → checked smt_lib z ≡ variable_verdict z.own
+  unfolding checked
+  checked-var e = rw e refl
 
-  known-var : k ≡ 5 → known_verdict k w own ts ≡ variable_verdict own
-  known-var e = ap (λ (i : ℕ). known_verdict i w own ts) e
+  checked_as : z.kind ≡ 12 → checked smt_lib z ≡ qualified z.number z.own z.args
+  unfolding checked
+  checked_as e = rw e refl
 
-  known_as : k ≡ 12 → known_verdict k w own ts ≡ qualified w own ts
-  known_as e = ap (λ (i : ℕ). known_verdict i w own ts) e
+  pub checked-match : z.kind ≡ 10 → checked smt_lib z ≡ refused NoRank
+  unfolding checked
+  checked-match e = rw e refl
 
-  pub known-none : (k ≡ 9 → ⊥) → (k ≡ 5 → ⊥) → (k ≡ 12 → ⊥) → known_verdict k w own ts ≡ refused NoRank
-  known-none h9 h5 h12 = rw (ne_eqb k 5 h5, ne_eqb k 9 h9, ne_eqb k 12 h12) refl
+-- The kinds of the constants.
+pub five_kinds : (k : TermKind) → (k ≡ TermKind.Integer) ⊎ ((k ≡ TermKind.Real) ⊎ ((k ≡ TermKind.String) ⊎ ((k ≡ TermKind.RegLan) ⊎ (k ≡ TermKind.BitVector)))) → term_number k < 5
+five_kinds k (inl e) = let q = ap term_number e in omega (arith, q)
+five_kinds k (inr (inl e)) = let q = ap term_number e in omega (arith, q)
+five_kinds k (inr (inr (inl e))) = let q = ap term_number e in omega (arith, q)
+five_kinds k (inr (inr (inr (inl e)))) = let q = ap term_number e in omega (arith, q)
+five_kinds k (inr (inr (inr (inr e)))) = let q = ap term_number e in omega (arith, q)
 
-module _ {b p : List ℕ} {n : ℕ} {tbl : List ℕ} {r : TermRecord} {a : List ℕ} (f : KnownSiteAsks b p n tbl r a) where
-  pub let-is : r.kind ≡ 9 → known_verdict r.kind r.number (own_over (store_of b p n) tbl r) (args_of b p n a r.list_count) ≡ letting (args_of b p n a r.list_count)
-  let-is e = known-let r.kind r.number (own_over (store_of b p n) tbl r) (args_of b p n a r.list_count) e
+---------------------------------------------------------------- what a record that stands tells
+module _ {b p ix : List ℕ} {n u : ℕ} {prm imgs bnd s tbl xs : List ℕ} {r : TermRecord} {a : List ℕ} (f : SiteAsks b p ix n u prm imgs bnd s tbl xs r a) {m : ℕ} (count : m ≡ r.list.count) where
+  good : Good b p ix n u
+  good = f.asks.good
 
-  pub var-asks : r.kind ≡ 5 → OneAsks b p n (get_or tbl r.sort 0)
-  var-asks e = record { usable = f.usable; known = (f.variable e).known }
+  few : r.list.count ≤ 64
+  few = count-few f.asks.standing
 
-  pub var-is : r.kind ≡ 5 → known_verdict r.kind r.number (own_over (store_of b p n) tbl r) (args_of b p n a r.list_count)
-      ≡ variable_verdict (sort_at b p n (get_or tbl r.sort 0))
-  var-is e = known-var r.kind r.number (own_over (store_of b p n) tbl r) (args_of b p n a r.list_count) e ∙ ap variable_verdict (f.variable e).is
+  within : 3 + 2 * m ≤ length a
+  within = omega (arith, few, f.asks.room, count)
 
-  pub as-asks : r.kind ≡ 12 → QualifiedAsks b p n (get_or tbl r.sort 0) a r.list_count
-  as-asks e = record { args = f.args; own = record { usable = f.usable; known = (f.typed e).known } }
+  below : (j : ℕ) → j < m → u16_at a (3 + 2 * j) < n
+  below j l = f.below j (omega (arith, count))
 
-  pub as_is : r.kind ≡ 12 → known_verdict r.kind r.number (own_over (store_of b p n) tbl r) (args_of b p n a r.list_count)
-      ≡ qualified r.number (sort_at b p n (get_or tbl r.sort 0)) (args_of b p n a r.list_count)
-  as_is e =
-      known_as r.kind r.number (own_over (store_of b p n) tbl r) (args_of b p n a r.list_count) e
-      ∙ ap (λ (t : Sort). qualified r.number t (args_of b p n a r.list_count)) (f.typed e).is
+  abbrev site : Site
+  site = site_over (store_of b p n) s tbl xs a r
 
----------------------------------------------------------------- sorts that are made
-module _ {b p ix : List ℕ} {n u : ℕ} {s tbl xs : List ℕ} {r : TermRecord} {a : List ℕ} (f : CheckComposedAsks b p ix n u s tbl xs r a) where
-  few : r.list_count ≤ 64
-  few = count-few f.standing
+  many : args_of b p n a r.list.count ≡ args_of b p n a m
+  many = ap (args_of b p n a) (sym count)
 
-  within : 3 + 2 * r.list_count ≤ length a
-  within = omega (arith, few, f.room)
+  pub known-args : ArgsAsk b p n a m
+  known-args = record { within = within; over = record { stored = good.stored; distinct = good.distinct; below = below } }
 
-  pub op-asks : r.kind ≡ 7 → CheckOperatorAsks b p ix n u r.number a r.list_count
-  op-asks e = record { good = f.good; few = op-number f.standing e; within = within; below = f.below }
+  pub app-is : term_number r.kind ≡ 6 → checked smt_lib site ≡ checked_app (args_of b p n a m)
+  app-is e = checked-app site e ∙ ap checked_app many
 
-  pub op-is : r.kind ≡ 7 → checked smt_lib (site_over (store_of b p n) s tbl xs a r) ≡ operated smt_lib r.number (args_of b p n a r.list_count)
-  op-is e = checked-op (site_over (store_of b p n) s tbl xs a r) e
+  pub op-asks : CheckOperatorAsks b p ix n u a m
+  op-asks = record { good = good; within = within; below = below }
 
-  pub binder-asks : r.kind ≡ 8 → BinderAsks b p ix n u s tbl r.pairs_at r.pairs_count a
+  pub op-is : term_number r.kind ≡ 7 → checked smt_lib site ≡ operated smt_lib r.number (args_of b p n a m)
+  op-is e = checked-op site e ∙ ap (operated smt_lib r.number) many
+
+  pub binder-asks : term_number r.kind ≡ 8 → BinderAsks b p ix n u s tbl r.pairs.at r.pairs.count a m
   binder-asks e =
-      let h = bindings-bound f.standing in
-      let one = binder-one f.standing e in
+      let h = bindings-bound f.asks.standing in
+      let one = binder-one f.asks.standing e in
       record {
-        good = f.good;
-        bound = record { usable = good-usable b p ix n u f.good; within = h.within; each = h.each; below = h.below };
+        good = good;
+        bound = record { usable = good-usable b p ix n u good; within = h.within; each = h.each; below = h.below };
         few = h.few;
-        room = omega (arith, f.room);
+        room = omega (arith, f.asks.room);
+        some = omega (arith, one, count);
         known = f.below 0 (omega (arith, one));
       }
 
-  pub binder-kind : r.kind ≡ 8 → checked smt_lib (site_over (store_of b p n) s tbl xs a r)
-      ≡ binder r.number (sorts_of (store_of b p n) (bound_numbers tbl s r.pairs_at r.pairs_count)) (args_of b p n a 1)
+  pub binder-kind : term_number r.kind ≡ 8 → checked smt_lib site ≡ binder r.number (sorts_of (store_of b p n) (bound_numbers tbl s r.pairs.at r.pairs.count)) (args_of b p n a 1)
   binder-kind e =
-      checked-binder (site_over (store_of b p n) s tbl xs a r) e
-      ∙ ap₂ (λ (bs : Sorts) (m : ℕ). binder r.number bs (args_of b p n a m)) (bindings-sorts (store_of b p n) tbl s r) (binder-one f.standing e)
+      checked-binder site e
+      ∙ ap₂ (λ (bs : Sorts) (i : ℕ). binder r.number bs (args_of b p n a i)) (bindings-sorts (store_of b p n) tbl s r) (binder-one f.asks.standing e)
 
-  pub index-asks : r.kind ≡ 11 → IndexingAsks b p ix n u s xs r.second_at r.second_count a r.list_count
-  index-asks e = record { good = f.good; constants = index-constants f.standing e; within = within; below = f.below }
+  pub let-is : term_number r.kind ≡ 9 → checked smt_lib site ≡ letting (args_of b p n a m)
+  let-is e = checked-let site e ∙ ap letting many
 
-  pub index-kind : r.kind ≡ 11 → checked smt_lib (site_over (store_of b p n) s tbl xs a r)
-      ≡ indexing r.number (constants_in s xs r.second_at r.second_count) (args_of b p n a r.list_count)
+  pub index-asks : term_number r.kind ≡ 11 → IndexingAsks b p ix n u s xs r.second.at r.second.count a m
+  index-asks e = record { good = good; constants = index-constants f.asks.standing e; within = within; below = below }
+
+  pub index-kind : term_number r.kind ≡ 11 → checked smt_lib site ≡ indexing r.number (constants_in s xs r.second.at r.second.count) (args_of b p n a m)
   index-kind e =
-      checked-indexed (site_over (store_of b p n) s tbl xs a r) e
-      ∙ ap (λ (t : Bool). indexing r.number (cond t (constants_in s xs r.second_at r.second_count) []) (args_of b p n a r.list_count)) (eq-eqb r.kind 11 e)
+      checked-indexed site e
+      ∙ ap₂ (λ (t : Bool) (ts : Sorts). indexing r.number (cond t (constants_in s xs r.second.at r.second.count) []) ts) (eq-eqb (term_number r.kind) 11 e) many
 
-  pub known-asks : KnownSiteAsks b p n tbl r a
-  known-asks =
-      record {
-        usable = good-usable b p ix n u f.good;
-        variable = λ e. var-owns f.standing b p e;
-        typed = λ e. as_own f.standing b p e;
-        args = record { within = within; over = record { stored = f.good.stored; distinct = f.good.distinct; below = f.below } };
-      }
+  module _ (e : term_number r.kind ≡ 5) where
+    own-var : OwnIs b p n tbl r
+    own-var = var-owns f.asks.standing b p e
 
-  pub known_is : (r.kind ≡ 7 → ⊥) → (r.kind ≡ 8 → ⊥) → (r.kind ≡ 11 → ⊥) → checked smt_lib (site_over (store_of b p n) s tbl xs a r)
-      ≡ known_verdict r.kind r.number (own_over (store_of b p n) tbl r) (args_of b p n a r.list_count)
-  known_is h7 h8 h11 = checked-known (site_over (store_of b p n) s tbl xs a r) f.large f.other h7 h8 h11
+    pub var-inside : r.sort < length tbl
+    var-inside = own-var.inside
+
+    pub var-asks : OneAsks b p n (get_or tbl r.sort 0)
+    var-asks = record { usable = good-usable b p ix n u good; known = own-var.known }
+
+    pub var-is : checked smt_lib site ≡ variable_verdict (sort_at b p n (get_or tbl r.sort 0))
+    var-is = checked-var site e ∙ ap variable_verdict own-var.is
+
+  module _ (e : term_number r.kind ≡ 12) where
+    own_as : OwnIs b p n tbl r
+    own_as = as_own f.asks.standing b p e
+
+    pub as-inside : r.sort < length tbl
+    as-inside = own_as.inside
+
+    pub as_asks : OneAsks b p n (get_or tbl r.sort 0)
+    as_asks = record { usable = good-usable b p ix n u good; known = own_as.known }
+
+    pub as_is : checked smt_lib site ≡ qualified r.number (sort_at b p n (get_or tbl r.sort 0)) (args_of b p n a m)
+    as_is = checked_as site e ∙ ap₂ (qualified r.number) own_as.is many

@@ -6,18 +6,20 @@ use mathlib.Core.List.{List, [], ◌∷◌}
 use native.Mathlib.Omega.{arith}
 use lib.ListN.{length, get_or}
 use lib.Dec.{eqb, ltb}
-use borrow.Author.Tests.{eq-eqb, ne_eqb, lt-ltb, le-ltb}
+use borrow.Author.Tests.{eq-eqb, eqb-true, eqb-false, ne_eqb, lt-ltb, le-ltb}
 use Rattle.record.specs.Number.{u16_at, numbers_at}
 use Rattle.record.specs.Sort.{Sort, var, par, node, end, ◌then◌, array, bitvec, kind_of, same}
 use Rattle.record.specs.SortLaws.{same_refl}
 use Rattle.record.specs.Record.{Fields, maps, map_of, leaf, sorts_of}
 use Rattle.record.specs.Decode.{store_of, sort_at, Stored}
+use Rattle.record.specs.Kinds.{sort_number, term_number}
+use Rattle.record.specs.declared.kinds.TermKind.{TermKind}
 use Rattle.record.specs.Codec.{length-numbers_at}
 use Rattle.record.specs.Sizes.{count-sorts}
 use Rattle.record.specs.declared.SortRecord.{SortRecord}
 use Rattle.substitution.specs.Premises.{proper}
-use Rattle.store.specs.Entry.{EntryAsks, EntryIs, EntryHas, KindHas}
-use Rattle.store.specs.Walk.{entry-asks, walk-par, walk-one}
+use Rattle.store.specs.Entry.{EntryIs, EntryHas}
+use Rattle.store.specs.Walk.{walk-par, walk-one}
 use Rattle.matching_tables.specs.Usable.{OneAsks}
 use Rattle.row_rules.specs.declared.Cause.TheVariants.{NoRank, Count, Misfit, Barred}
 use Rattle.row_rules.specs.Verdict.{Verdict, sort, refused, need}
@@ -25,8 +27,12 @@ use Rattle.row_rules.specs.Lists.{last_of}
 use Rattle.check_rules.specs.Checked.{carried, values, inner_of, letting, constant_array, qualified}
 use Rattle.row_answer.specs.Values.{ValuesHave, ValuesAsk}
 use Rattle.check_operator.specs.Rule.{plain_sort}
-use Rattle.check_operator.specs.Contract.{args_of, args-refs}
-use Rattle.check_row.specs.Single.{constant_verdict, OverAsks, QualifiedAsks}
+use Rattle.row_rules.specs.declared.Cause.{Cause}
+use Rattle.row_answer.specs.Answer.{AnswerIs}
+use Rattle.row_answer.specs.AnswerLaws.{judged-as, made-refused, answer-known}
+use Rattle.std.specs.Prelude.{Result, Ok, Err}
+use Rattle.check_operator.specs.Contract.{ArgsAsk, args_of, args-refs}
+use Rattle.check_row.specs.Single.{ReadIs, constant_verdict}
 use Rattle.check_operator.proofs.FitLaws.{numbers-same, array-two, array-sort}
 
 ---------------------------------------------------------------- constants
@@ -44,6 +50,22 @@ constant-map (suc zero) l = refl
 constant-map (suc (suc zero)) l = refl
 constant-map (suc (suc (suc zero))) l = refl
 constant-map (suc (suc (suc (suc k)))) l = absurd (omega arith)
+
+-- The kinds behind the first four.
+pub kind_high : (k : TermKind) → (k ≡ TermKind.Integer → ⊥) → (k ≡ TermKind.Real → ⊥) → (k ≡ TermKind.String → ⊥) → (k ≡ TermKind.RegLan → ⊥) → 4 ≤ term_number k
+kind_high TermKind.Integer a b c d = absurd (a refl)
+kind_high TermKind.Real a b c d = absurd (b refl)
+kind_high TermKind.String a b c d = absurd (c refl)
+kind_high TermKind.RegLan a b c d = absurd (d refl)
+kind_high TermKind.BitVector a b c d = omega arith
+kind_high TermKind.Var a b c d = omega arith
+kind_high TermKind.App a b c d = omega arith
+kind_high TermKind.Op a b c d = omega arith
+kind_high TermKind.Binder a b c d = omega arith
+kind_high TermKind.Let a b c d = omega arith
+kind_high TermKind.Match a b c d = omega arith
+kind_high TermKind.ParamOp a b c d = omega arith
+kind_high TermKind.AsOp a b c d = omega arith
 
 constant-other : (k w : ℕ) → 4 ≤ k → constant_verdict k w ≡ need (not (eqb w 0)) Barred (sort (bitvec w))
 constant-other k w l =
@@ -74,59 +96,73 @@ carried_none (n ∷ ns) (var v) h = refl
 carried_none (n ∷ ns) (par ms b) h = refl
 carried_none (n ∷ ns) (node k a w ss) h = sym (ap (λ (c : Bool). c && proper (node k a w ss)) (ne_eqb k 0 h))
 
-module _ {b p : List ℕ} {n k : ℕ} (f : OneAsks b p n k) where
+module _ {b p : List ℕ} {n k : ℕ} (f : OneAsks b p n k) {par_test : Bool} (ep : par_test ≡ eqb (kind_of (sort_at b p n k)) 12) where
   own-stored : Stored b p n
   own-stored = f.usable.stored
 
-  pub own-entry : EntryAsks b p k
-  own-entry = entry-asks b p n k own-stored f.known
+  pub carried-plain : par_test ≡ false → {t : Bool} → t ≡ proper (sort_at b p n k) → t ≡ carried (sort_at b p n k)
+  carried-plain d {t} e = e ∙ carried_other (sort_at b p n k) (eqb-false (kind_of (sort_at b p n k)) 12 (sym ep ∙ d))
 
-  module _ (r : SortRecord) (h : EntryHas b p k r) where
+  module _ (on : par_test ≡ true) (r : SortRecord) (h : EntryHas b p k r) where
     own_read : EntryIs b p n k r
     own_read = h n own-stored f.known
 
-    pub carried-plain : (r.kind ≡ 12 → ⊥) → {t : Bool} → t ≡ proper (sort_at b p n k) → t ≡ carried (sort_at b p n k)
-    carried-plain d {t} e = e ∙ carried_other (sort_at b p n k) (λ q. d (own_read.kind ∙ q))
+    e : sort_number r.kind ≡ 12
+    e = own_read.kind ∙ eqb-true (kind_of (sort_at b p n k)) 12 (sym ep ∙ on)
 
-    module _ (e : r.kind ≡ 12) where
-      pub body-place : r.list + 2 ≤ length b
-      body-place = omega (arith, own_read.place.list, walk-one b p n k own-stored f.known r own_read e)
+    pub body-place : r.parts.at + 2 ≤ length b
+    body-place = omega (arith, own_read.place.list, walk-one b p n k own-stored f.known r own_read e)
 
-      body_below : u16_at b r.list < n
-      body_below =
-          let q : r.list + 2 * 0 ≡ r.list = omega arith in
-          omega (arith, ap (u16_at b) q, own_read.below 0 (omega (arith, walk-one b p n k own-stored f.known r own_read e)), f.known)
+    body_below : u16_at b r.parts.at < n
+    body_below =
+        let q : r.parts.at + 2 * 0 ≡ r.parts.at = omega arith in
+        omega (arith, ap (u16_at b) q, own_read.below 0 (omega (arith, walk-one b p n k own-stored f.known r own_read e)), f.known)
 
-      own-par : sort_at b p n k ≡ par (numbers_at b r.names r.named) (sort_at b p n (u16_at b r.list))
-      own-par = walk-par b p n k own-stored f.known r own_read e
+    own-par : sort_at b p n k ≡ par (numbers_at b r.names.at r.names.count) (sort_at b p n (u16_at b r.parts.at))
+    own-par = walk-par b p n k own-stored f.known r own_read e
 
-      names-some : 1 ≤ length (numbers_at b r.names r.named)
-      names-some =
-          omega (
-            arith,
-            (own-stored.each k f.known).shape.some (ap (λ (x : Fields). x.kind) own_read.place.same ∙ e),
-            ap (λ (x : Fields). length x.names) own_read.place.same,
-          )
+    names-some : 1 ≤ length (numbers_at b r.names.at r.names.count)
+    names-some =
+        omega (
+          arith,
+          (own-stored.each k f.known).shape.some (ap (λ (x : Fields). x.kind) own_read.place.same ∙ e),
+          ap (λ (x : Fields). length x.names) own_read.place.same,
+        )
 
-      module _ {i : ℕ} (ei : i ≡ u16_at b r.list) where
-        pub body-asks : OneAsks b p n i
-        body-asks = record { usable = f.usable; known = subst (λ (x : ℕ). x < n) (sym ei) body_below }
+    module _ {i : ℕ} (ei : i ≡ u16_at b (r.parts.at + 0)) where
+      ej : i ≡ u16_at b r.parts.at
+      ej = let q : r.parts.at + 0 ≡ r.parts.at = omega arith in ei ∙ ap (u16_at b) q
 
-        pub body_entry : EntryAsks b p i
-        body_entry = entry-asks b p n i own-stored body-asks.known
+      pub body-known : i < n
+      body-known = subst (λ (x : ℕ). x < n) (sym ej) body_below
 
-        module _ (q : ℕ) (g : KindHas b p i q) where
-          body-kind : q ≡ kind_of (sort_at b p n (u16_at b r.list))
-          body-kind = g n own-stored body-asks.known ∙ ap (λ (x : ℕ). kind_of (sort_at b p n x)) ei
+      pub body-asks : OneAsks b p n i
+      body-asks = record { usable = f.usable; known = body-known }
 
-          pub carried-no : (q ≡ 0 → ⊥) → false ≡ carried (sort_at b p n k)
-          carried-no d =
-              carried_none (numbers_at b r.names r.named) (sort_at b p n (u16_at b r.list)) (λ x. d (body-kind ∙ x)) ∙ ap carried (sym own-par)
+      module _ {q : Bool} (g : q ≡ eqb (kind_of (sort_at b p n i)) 0) where
+        body-kind : q ≡ eqb (kind_of (sort_at b p n (u16_at b r.parts.at))) 0
+        body-kind = g ∙ ap (λ (x : ℕ). eqb (kind_of (sort_at b p n x)) 0) ej
 
-          pub carried-par : q ≡ 0 → {t : Bool} → t ≡ proper (sort_at b p n i) → t ≡ carried (sort_at b p n k)
-          carried-par d {t} x =
-              x ∙ ap (λ (y : ℕ). proper (sort_at b p n y)) ei
-              ∙ carried-body (numbers_at b r.names r.named) (sort_at b p n (u16_at b r.list)) names-some (sym body-kind ∙ d) ∙ ap carried (sym own-par)
+        pub carried-no : q ≡ false → false ≡ carried (sort_at b p n k)
+        carried-no d =
+            carried_none (numbers_at b r.names.at r.names.count) (sort_at b p n (u16_at b r.parts.at)) (eqb-false (kind_of (sort_at b p n (u16_at b r.parts.at))) 0 (sym body-kind ∙ d))
+            ∙ ap carried (sym own-par)
+
+        pub carried-par : q ≡ true → {t : Bool} → t ≡ proper (sort_at b p n i) → t ≡ carried (sort_at b p n k)
+        carried-par d {t} x =
+            x ∙ ap (λ (y : ℕ). proper (sort_at b p n y)) ej
+            ∙ carried-body (numbers_at b r.names.at r.names.count) (sort_at b p n (u16_at b r.parts.at)) names-some (eqb-true (kind_of (sort_at b p n (u16_at b r.parts.at))) 0 (sym body-kind ∙ d))
+            ∙ ap carried (sym own-par)
+
+---------------------------------------------------------------- rows that change nothing
+-- Refused, and of a sort that the store has.
+pub reads-refused : {b p : List ℕ} {n : ℕ} {v : Verdict} {r : Result ℕ Cause} (c : Cause) → v ≡ refused c → r ≡ Err c → ReadIs b p n v r
+reads-refused {b} {p} {n} {v} {r} c e h ix u g =
+    subst (λ (q : Result ℕ Cause). AnswerIs b p n v b p ix (record { verdict = q; count = n; used = u })) (sym h) (judged-as e (made-refused b p ix n u g c))
+
+pub reads-known : {b p : List ℕ} {n : ℕ} {v : Verdict} {r : Result ℕ Cause} (k : ℕ) → v ≡ sort (sort_at b p n k) → k < n → r ≡ Ok k → ReadIs b p n v r
+reads-known {b} {p} {n} {v} {r} k e l h ix u g =
+    subst (λ (q : Result ℕ Cause). AnswerIs b p n v b p ix (record { verdict = q; count = n; used = u })) (sym h) (judged-as e (answer-known b p ix n u g k l))
 
 pub need-taken : {t : Bool} (v : Verdict) (s : Bool) → t ≡ s → t ≡ true → need s Barred v ≡ v
 need-taken {t} v s e h = ap (λ (c : Bool). need c Barred v) (sym e ∙ h)
@@ -150,7 +186,7 @@ inner-read st a (suc (suc m)) l =
     let e : 3 + 2 + 2 * m ≡ 3 + 2 * (suc (suc m) - 1) = omega arith in
     ap sort (last-read st (get_or st (u16_at a 3) leaf) a (3 + 2) m ∙ ap (λ (i : ℕ). get_or st (u16_at a i) leaf) e)
 
-module _ {b p : List ℕ} {n : ℕ} {a : List ℕ} {m : ℕ} (f : OverAsks b p n a m) where
+module _ {b p : List ℕ} {n : ℕ} {a : List ℕ} {m : ℕ} (f : ArgsAsk b p n a m) where
   pub over-values : ValuesAsk b p a 3 m
   over-values = record { many = n; stored = f.over.stored; refs = args-refs b p a n m f.within f.over }
 
@@ -197,7 +233,7 @@ constant-kind (node k n w (i then (e then end))) t h =
     ap (λ (c : Bool). need (c && eqb n 0 && eqb w 0 && (same i i && (same e e && true)) && same t e) Misfit (sort (array i e))) (ne_eqb k 8 h)
 constant-kind (node k n w (i then (e then (r then rs)))) t h = refl
 
-module _ {b p : List ℕ} {n k : ℕ} {a : List ℕ} {m : ℕ} (f : QualifiedAsks b p n k a m) (q : ℕ) where
+module _ {b p : List ℕ} {n k : ℕ} {a : List ℕ} {m : ℕ} (f : ArgsAsk b p n a m) (own : OneAsks b p n k) (q : ℕ) where
   pub qualified-other : (q ≡ 0 → ⊥) → qualified q (sort_at b p n k) (args_of b p n a m) ≡ refused NoRank
   unfolding qualified
   qualified-other h = ap (λ (c : Bool). need c NoRank (need (proper (sort_at b p n k)) Barred (constant_array (sort_at b p n k) (args_of b p n a m)))) (ne_eqb q 0 h)
@@ -217,36 +253,39 @@ module _ {b p : List ℕ} {n k : ℕ} {a : List ℕ} {m : ℕ} (f : QualifiedAsk
       pub qualified-count : (m ≡ 1 → ⊥) → qualified q (sort_at b p n k) (args_of b p n a m) ≡ refused Count
       qualified-count h = qualified-on ∙ constant-count (sort_at b p n k) (store_of b p n) a m h
 
-      module _ (e : m ≡ 1) (r : SortRecord) (h : EntryHas b p k r) where
+      module _ (e : m ≡ 1) {array_test : Bool} (ea : array_test ≡ eqb (kind_of (sort_at b p n k)) 8) where
         one-arg : args_of b p n a m ≡ sort_at b p n (u16_at a 3) then end
         unfolding sort_at sorts_of numbers_at
         one-arg = ap (args_of b p n a) e
 
-        array-read : EntryIs b p n k r
-        array-read = h n f.own.usable.stored f.own.known
-
-        pub qualified-kind : (r.kind ≡ 8 → ⊥) → qualified q (sort_at b p n k) (args_of b p n a m) ≡ refused Misfit
+        pub qualified-kind : array_test ≡ false → qualified q (sort_at b p n k) (args_of b p n a m) ≡ refused Misfit
         qualified-kind d =
-            qualified-on ∙ ap (constant_array (sort_at b p n k)) one-arg ∙ constant-kind (sort_at b p n k) (sort_at b p n (u16_at a 3)) (λ x. d (array-read.kind ∙ x))
+            qualified-on ∙ ap (constant_array (sort_at b p n k)) one-arg ∙ constant-kind (sort_at b p n k) (sort_at b p n (u16_at a 3)) (eqb-false (kind_of (sort_at b p n k)) 8 (sym ea ∙ d))
 
-        module _ (x : r.kind ≡ 8) where
-          array_count : r.count ≡ 2
-          array_count = array-two f.own.usable.stored f.own.known array-read x
+        module _ (array_on : array_test ≡ true) (r : SortRecord) (h : EntryHas b p k r) where
+          array-read : EntryIs b p n k r
+          array-read = h n own.usable.stored own.known
 
-          pub element_place : r.list + 4 ≤ length b
+          x : sort_number r.kind ≡ 8
+          x = array-read.kind ∙ eqb-true (kind_of (sort_at b p n k)) 8 (sym ea ∙ array_on)
+
+          array_count : r.parts.count ≡ 2
+          array_count = array-two own.usable.stored own.known array-read x
+
+          pub element_place : r.parts.at + 4 ≤ length b
           element_place = omega (arith, array-read.place.list, array_count)
 
-          module _ {i j : ℕ} (ei : i ≡ u16_at b (r.list + 2)) (ej : j ≡ u16_at a 3) where
+          module _ {i j : ℕ} (ei : i ≡ u16_at b (r.parts.at + 2)) (ej : j ≡ u16_at a 3) where
             element-below : i < n
             element-below =
-                let y : r.list + 2 * 1 ≡ r.list + 2 = omega arith in
-                omega (arith, ei, ap (u16_at b) y, array-read.below 1 (omega (arith, array_count)), f.own.known)
+                let y : r.parts.at + 2 * 1 ≡ r.parts.at + 2 = omega arith in
+                omega (arith, ei, ap (u16_at b) y, array-read.below 1 (omega (arith, array_count)), own.known)
 
             argument-below : j < n
-            argument-below = subst (λ (y : ℕ). y < n) (sym ej) (f.args.over.below 0 (omega arith))
+            argument-below = subst (λ (y : ℕ). y < n) (sym ej) (f.over.below 0 (omega arith))
 
-            array-is : sort_at b p n k ≡ array (sort_at b p n (u16_at b r.list)) (sort_at b p n i)
-            array-is = array-sort f.own.usable.stored f.own.known array-read x ∙ ap (λ (y : ℕ). array (sort_at b p n (u16_at b r.list)) (sort_at b p n y)) (sym ei)
+            array-is : sort_at b p n k ≡ array (sort_at b p n (u16_at b r.parts.at)) (sort_at b p n i)
+            array-is = array-sort own.usable.stored own.known array-read x ∙ ap (λ (y : ℕ). array (sort_at b p n (u16_at b r.parts.at)) (sort_at b p n y)) (sym ei)
 
             const-is : (s u t : Sort) → constant_array (array s u) (t then end) ≡ need (same t u) Misfit (sort (array s u))
             const-is s u t = ap (λ (c : Bool). need (c && same t u) Misfit (sort (array s u))) (same_refl (array s u))
@@ -254,9 +293,9 @@ module _ {b p : List ℕ} {n k : ℕ} {a : List ℕ} {m : ℕ} (f : QualifiedAsk
             qualified-array : qualified q (sort_at b p n k) (args_of b p n a m) ≡ need (eqb j i) Misfit (sort (sort_at b p n k))
             qualified-array =
                 qualified-on ∙ ap₂ constant_array array-is (one-arg ∙ ap (λ (y : ℕ). sort_at b p n y then end) (sym ej))
-                ∙ const-is (sort_at b p n (u16_at b r.list)) (sort_at b p n i) (sort_at b p n j)
+                ∙ const-is (sort_at b p n (u16_at b r.parts.at)) (sort_at b p n i) (sort_at b p n j)
                 ∙ ap₂ (λ (c : Bool) (s : Sort). need c Misfit (sort s))
-                (numbers-same j i f.own.usable.stored f.own.usable.distinct argument-below element-below) (sym array-is)
+                (numbers-same j i own.usable.stored own.usable.distinct argument-below element-below) (sym array-is)
 
             pub qualified-misfit : (j ≡ i → ⊥) → qualified q (sort_at b p n k) (args_of b p n a m) ≡ refused Misfit
             qualified-misfit d = qualified-array ∙ ap (λ (c : Bool). need c Misfit (sort (sort_at b p n k))) (ne_eqb j i d)

@@ -1,42 +1,45 @@
 -- What the functions on indexed operators ask and promise.
-use Rattle.std.specs.Prelude.{ℕ, ◌+◌, ◌*◌, ◌≤◌, ◌<◌, ◌≡◌, cond, List, [], ◌∷◌, length, eqb}
+use Rattle.std.specs.Prelude.{ℕ, ◌+◌, ◌*◌, ◌≤◌, ◌<◌, ◌≡◌, cond, List, [], ◌∷◌, length, eqb, Result, Ok, Err}
 use Rattle.std.proofs.Math.Option.{Option, none, some}
+use Rattle.std.specs.Prelude.{Option as Maybe, Some, None}
 use Rattle.record.specs.Sort.{Sort, bitvec}
 use Rattle.store.specs.Good.{Good}
+use Rattle.row_rules.specs.declared.Cause.{Cause}
 use Rattle.row_rules.specs.declared.Cause.TheVariants.{Count, Misfit}
 use Rattle.row_rules.specs.Verdict.{Verdict, sort, refused, need}
 use Rattle.check_rules.specs.Checked.{indexed₁, indexed₂}
-use Rattle.row_answer.specs.declared.Answer.{Answer}
-use Rattle.row_answer.specs.Answer.{accepting, refusing}
 use Rattle.row_answer.specs.Arguments.{constants_in, ConstantsAsk}
 use Rattle.check_operator.specs.Contract.{arg_at}
 use Rattle.check_row.specs.declared.indexed.Indices.{Indices}
-use Rattle.check_row.specs.declared.indexed.Indices.TheVariants.{One, Two, Wrong}
+use Rattle.check_row.specs.declared.indexed.Indices.TheVariants.{One, Two}
 
 ---------------------------------------------------------------- the indices
 -- One or two integer constants.
-abbrev pub indices_from : List (Option ℕ) → Indices
-indices_from [] = Wrong
-indices_from (none ∷ is) = Wrong
-indices_from (some i ∷ []) = One i
-indices_from (some i ∷ (none ∷ is)) = Wrong
-indices_from (some i ∷ (some j ∷ [])) = Two i j
-indices_from (some i ∷ (some j ∷ (k ∷ is))) = Wrong
+abbrev pub indices_from : List (Option ℕ) → Maybe Indices
+indices_from [] = None
+indices_from (none ∷ is) = None
+indices_from (some i ∷ []) = Some (One i)
+indices_from (some i ∷ (none ∷ is)) = None
+indices_from (some i ∷ (some j ∷ [])) = Some (Two i j)
+indices_from (some i ∷ (some j ∷ (k ∷ is))) = None
 
 -- A first index that stands alone is of four bytes.
 abbrev pub SmallOne : Indices → Type 0
 SmallOne (One i) = i < 4294967296
 SmallOne (Two i j) = Unit {0}
-SmallOne Wrong = Unit {0}
 
-pub record IndicesAre (s xs : List ℕ) (x m : ℕ) (r : Indices) : Type 0 where
+abbrev pub SmallIfOne : Maybe Indices → Type 0
+SmallIfOne None = Unit {0}
+SmallIfOne (Some is) = SmallOne is
+
+pub record IndicesAre (s xs : List ℕ) (x m : ℕ) (r : Maybe Indices) : Type 0 where
   pub are : r ≡ indices_from (constants_in s xs x m)
-  pub small : SmallOne r
+  pub small : SmallIfOne r
 
 ---------------------------------------------------------------- answers
 -- The argument a where its kind is the one wanted.
-abbrev pub kept_as : ℕ → ℕ → ℕ → ℕ → ℕ → Answer
-kept_as n u a kind wanted = cond (eqb kind wanted) (accepting a n u) (refusing Misfit n u)
+abbrev pub kept_as : ℕ → ℕ → ℕ → Result ℕ Cause
+kept_as a kind wanted = cond (eqb kind wanted) (Ok a) (Err Misfit)
 
 -- A vector of a width where the argument's kind is the one wanted.
 abbrev pub widened_verdict : ℕ → ℕ → ℕ → Verdict
@@ -57,7 +60,11 @@ pub record CheckIndexedAsks (b p ix : List ℕ) (n u : ℕ) (is : Indices) (a : 
 abbrev pub indexed_with : ℕ → Indices → Sort → Verdict
 indexed_with op (One i) a = indexed₁ op i a
 indexed_with op (Two i j) a = indexed₂ op i j a
-indexed_with op Wrong a = refused Count
+
+-- The same without indices.
+abbrev pub indexed_within : ℕ → Maybe Indices → Sort → Verdict
+indexed_within op None a = refused Count
+indexed_within op (Some is) a = indexed_with op is a
 
 -- The index terms that the sheet names, and m arguments that are numbers of a good store.
 pub record IndexingAsks (b p ix : List ℕ) (n u : ℕ) (s xs : List ℕ) (x y : ℕ) (a : List ℕ) (m : ℕ) : Type 0 where

@@ -1,21 +1,24 @@
 -- What the functions on constants, Vars, Lets and (as const) ask and promise.
-use Rattle.std.specs.Prelude.{ℕ, ◌+◌, ◌*◌, ◌≤◌, not, cond, List, length, eqb}
+use Rattle.std.specs.Prelude.{ℕ, not, cond, List, Result, eqb}
 use Rattle.record.specs.Sort.{Sort, int, real, string, reglan, bitvec}
 use Rattle.store.specs.Good.{Good}
+use Rattle.store.specs.declared.entries.Sorts.{Sorts}
 use Rattle.matching_tables.specs.Usable.{OneAsks}
+use Rattle.row_rules.specs.declared.Cause.{Cause}
 use Rattle.row_rules.specs.declared.Cause.TheVariants.{Barred}
 use Rattle.row_rules.specs.Verdict.{Verdict, sort, need}
 use Rattle.check_rules.specs.Checked.{carried}
-use Rattle.row_answer.specs.declared.Answer.{Answer}
+use Rattle.row_answer.specs.declared.arguments.Args.{Args}
 use Rattle.row_answer.specs.Answer.{AnswerIs}
-use Rattle.check_operator.specs.Contract.{Over}
+use Rattle.check_operator.specs.Contract.{ArgsKnown}
 
--- An answer that changes nothing, whatever index and sizes the good store has.
-abbrev pub ReadIs : List ℕ → List ℕ → ℕ → ℕ → Verdict → Answer → Type 0
-ReadIs b p n u v r = (ix : List ℕ) → Good b p ix n u → AnswerIs b p n v b p ix r
+-- The row r changes nothing: it answers the verdict over each good store that has these sorts, whatever its index and its bytes
+-- in use.
+abbrev pub ReadIs : List ℕ → List ℕ → ℕ → Verdict → Result ℕ Cause → Type 0
+ReadIs b p n v r = (ix : List ℕ) (u : ℕ) → Good b p ix n u → AnswerIs b p n v b p ix (record { verdict = r; count = n; used = u })
 
-abbrev pub CheckConstantAsks : List ℕ → List ℕ → List ℕ → ℕ → ℕ → Type 0
-CheckConstantAsks b p ix n u = Good b p ix n u
+abbrev pub Reads : Sorts → Verdict → Result ℕ Cause → Type 0
+Reads s v r = ReadIs s.records.now s.places.now s.count v r
 
 -- The kinds 0 to 4 of `checked`.
 abbrev pub constant_verdict : ℕ → ℕ → Verdict
@@ -30,10 +33,7 @@ constant_verdict k w =
 abbrev pub variable_verdict : Sort → Verdict
 variable_verdict s = need (carried s) Barred (sort s)
 
-pub record OverAsks (b p : List ℕ) (n : ℕ) (a : List ℕ) (m : ℕ) : Type 0 where
-  pub within : 3 + 2 * m ≤ length a
-  pub over : Over b p n a m
-
-pub record QualifiedAsks (b p : List ℕ) (n k : ℕ) (a : List ℕ) (m : ℕ) : Type 0 where
-  pub args : OverAsks b p n a m
-  pub own : OneAsks b p n k
+-- Arguments and a sort k of the store.
+pub record QualifiedAsks (s : Sorts) (k : ℕ) (a : Args) : Type 0 where
+  pub args : ArgsKnown s a
+  pub own : OneAsks s.records.now s.places.now s.count k

@@ -1,146 +1,96 @@
-// The checked sort of a Binder: n pairs of the sheet from `pairs` on bind names to sorts, by way of the table of sheet numbers,
-// over one body.
+// The checked sort of a Binder: pairs of the sheet bind names to sorts, by way of the table of sheet numbers, over one body.
 ghost use Rattle.std.specs.Prelude.{◌≡◌};
+ghost use Rattle.record.specs.Kinds.{binder_number};
 ghost use Rattle.record.specs.Sort.{end, ◌then◌};
-ghost use Rattle.record.specs.Record.{sorts_of};
-ghost use Rattle.record.specs.Decode.{store_of, sort_at};
+ghost use Rattle.record.specs.Decode.{sort_at};
+ghost use Rattle.store.specs.Changes.{Same};
 ghost use Rattle.substitution.specs.Premises.{proper_all};
 ghost use Rattle.check_rules.specs.Checked.{bound_body, binder};
-ghost use Rattle.row_answer.specs.Answer.{AnswerIs};
-ghost use Rattle.row_answer.specs.Arguments.{bound_numbers};
+ghost use Rattle.row_answer.specs.Answer.{Answered};
+ghost use Rattle.row_answer.specs.Args.{SameArgs};
 ghost use Rattle.check_operator.specs.Contract.{args_of};
-ghost use Rattle.check_row.specs.Single.{ReadIs};
-ghost use Rattle.check_row.specs.Bound.{BindingsAsk, QuantifiedAsks, BodyAsks, BinderAsks};
+ghost use Rattle.check_row.specs.Bound.{BindingsAsk, bound_sorts, BodyAsks, BinderAsks};
 
+use super::indexed::kept;
 use matching_each::premises::is_proper;
-use record::kinds::{BINDER_CHOICE, BINDER_LAMBDA, SORT_BOOL, SORT_PAR};
-use record::u16_at;
-use row_answer::arguments::FIRST_AT;
+use record::kinds::{Binder, SortKind};
+use record::span::Span;
+use row_answer::arguments::Args;
 use row_answer::lists::lambda;
-use row_answer::{Answer, found, refuse};
-use row_rules::Cause;
-use store::entries::kind_at;
+use row_rules::{Cause, Row};
+use sheet::ReadSheet;
+use store::Store;
+use store::entries::Sorts;
 
-// Whether the sorts of the n pairs are proper.
-pub fn all_proper(
-    records: &[u8],
-    places: &[u32],
-    count: usize,
-    sheet: &[u8],
-    table: &[u16],
-    pairs: usize,
-    n: usize,
-) -> bool
-    requires { BindingsAsk records.now places.now count sheet.now table.now pairs n }
-    ensures { result ≡ proper_all (sorts_of (store_of records.now places.now count) (bound_numbers table.now sheet.now pairs n)) }
+// Whether the sorts of the pairs are proper.
+pub fn all_proper(sorts: &Sorts<'_>, sheet: &ReadSheet<'_>, pairs: Span) -> bool
+    requires { BindingsAsk sorts.now.records.now sorts.now.places.now sorts.now.count sheet.now.bytes.now sheet.now.table.now pairs.at pairs.count }
+    ensures { result ≡ proper_all (bound_sorts sorts.now.records.now sorts.now.places.now sorts.now.count sheet.now pairs) }
 {
-    let mut i = 0;
-    while i < n {
-        let v = u16_at(sheet, pairs + 4 * i + 2);
-        let k = table[v] as usize;
-        if is_proper(records, places, count, k) {
-            i += 1;
-        } else {
-            return false;
-        }
-    }
-    true
+    pairs
+        .pairs(sheet.bytes)
+        .all(|(_, sort)| is_proper(sorts, sheet.table[sort] as usize))
 }
 
-// Forall (0) and Exists (1) over the sort `body`: Count without a pair, Misfit where the body is not Bool, else Bool. Choice
-// (2): Count unless it has one pair, Misfit where the body is not Bool, else the sort of its pair.
-pub fn quantified(
-    records: &[u8],
-    places: &[u32],
-    count: usize,
-    used: usize,
-    sheet: &[u8],
-    table: &[u16],
-    pairs: usize,
-    n: usize,
-    number: usize,
-    body: usize,
-) -> Answer
-    requires { QuantifiedAsks records.now places.now count sheet.now table.now pairs n number body }
-    ensures { ReadIs records.now places.now count used (bound_body number (sorts_of (store_of records.now places.now count) (bound_numbers table.now sheet.now pairs n)) (sort_at records.now places.now count body then end)) result }
-{
-    if n == 0 {
-        return refuse(Cause::Count, count, used);
-    }
-    if number != BINDER_CHOICE {
-        if kind_at(records, places, body) != SORT_BOOL {
-            return refuse(Cause::Misfit, count, used);
-        }
-        return found(body, count, used);
-    }
-    if n != 1 {
-        return refuse(Cause::Count, count, used);
-    }
-    if kind_at(records, places, body) != SORT_BOOL {
-        return refuse(Cause::Misfit, count, used);
-    }
-    let v = u16_at(sheet, pairs + 2);
-    let k = table[v] as usize;
-    found(k, count, used)
-}
-
-// A Binder whose pairs are proper over the sort `body`: Lambda (3) gives the Function of its pairs' sorts and its body's, Count
-// without a pair, Misfit where the body is a Par; else as `quantified`.
+// A Binder whose pairs are proper over the sort `body`. Forall and Exists give Bool, Choice the sort of its pair, Lambda the
+// Function of its pairs' sorts and its body's. Count without a pair, and for Choice unless it has one; Misfit where the body is
+// not Bool, for Lambda where it is a Par.
 pub fn bound_body(
-    records: &mut [u8],
-    places: &mut [u32],
-    index: &mut [u16],
-    count: usize,
-    used: usize,
-    sheet: &[u8],
-    table: &[u16],
-    pairs: usize,
-    n: usize,
-    number: usize,
-    args: &mut [u8],
+    store: &mut Store<'_>,
+    sheet: &ReadSheet<'_>,
+    pairs: Span,
+    binder: Binder,
+    args: &mut Args<'_>,
     body: usize,
-) -> Answer
-    requires { BodyAsks records.old places.old index.old count used sheet.now table.now pairs n args.old body }
-    ensures { AnswerIs records.old places.old count (bound_body number (sorts_of (store_of records.old places.old count) (bound_numbers table.now sheet.now pairs n)) (sort_at records.old places.old count body then end)) records.new places.new index.new result }
+) -> Row
+    requires { BodyAsks store.old.records.now store.old.places.now store.old.index.now store.old.count store.old.used sheet.now.bytes.now sheet.now.table.now pairs.at pairs.count args.old.bytes.now body }
+    ensures same { Same store.old store.new }
+    ensures same_args { SameArgs args.old args.new }
+    ensures answer { Answered store.old (bound_body (binder_number binder) (bound_sorts store.old.records.now store.old.places.now store.old.count sheet.now pairs) (sort_at store.old.records.now store.old.places.now store.old.count body then end)) store.new result }
 {
-    if number != BINDER_LAMBDA {
-        return quantified(
-            records, places, count, used, sheet, table, pairs, n, number, body,
-        );
+    if pairs.count == 0 {
+        return Err(Cause::Count);
     }
-    if n == 0 {
-        return refuse(Cause::Count, count, used);
+    let kind = store.kind(body);
+    match binder {
+        Binder::Lambda => {
+            if kind == SortKind::Par {
+                return Err(Cause::Misfit);
+            }
+            lambda(store, sheet, pairs, args, body)
+        }
+        Binder::Choice => {
+            if pairs.count != 1 {
+                return Err(Cause::Count);
+            }
+            if kind != SortKind::Bool {
+                return Err(Cause::Misfit);
+            }
+            let sort = pairs.get(sheet.bytes, 1);
+            Ok(sheet.table[sort] as usize)
+        }
+        Binder::Forall | Binder::Exists => kept(body, kind, SortKind::Bool),
     }
-    if kind_at(records, places, body) == SORT_PAR {
-        return refuse(Cause::Misfit, count, used);
-    }
-    lambda(
-        records, places, index, count, used, sheet, pairs, n, table, args, body,
-    )
 }
 
-// A Binder over the body whose sort is the one in `args`: Barred where a pair's sort is not proper; else as `bound_body`.
+// A Binder over the body whose sort is the one in `args`: Barred where a pair's sort is not proper; else as `bound_body`, a
+// number that is no Binder's as Forall.
 pub fn checked_binder(
-    records: &mut [u8],
-    places: &mut [u32],
-    index: &mut [u16],
-    count: usize,
-    used: usize,
-    sheet: &[u8],
-    table: &[u16],
-    pairs: usize,
-    n: usize,
+    store: &mut Store<'_>,
+    sheet: &ReadSheet<'_>,
+    pairs: Span,
     number: usize,
-    args: &mut [u8],
-) -> Answer
-    requires { BinderAsks records.old places.old index.old count used sheet.now table.now pairs n args.old }
-    ensures { AnswerIs records.old places.old count (binder number (sorts_of (store_of records.old places.old count) (bound_numbers table.now sheet.now pairs n)) (args_of records.old places.old count args.old 1)) records.new places.new index.new result }
+    args: &mut Args<'_>,
+) -> Row
+    requires { BinderAsks store.old.records.now store.old.places.now store.old.index.now store.old.count store.old.used sheet.now.bytes.now sheet.now.table.now pairs.at pairs.count args.old.bytes.now args.old.count }
+    ensures same { Same store.old store.new }
+    ensures same_args { SameArgs args.old args.new }
+    ensures answer { Answered store.old (binder number (bound_sorts store.old.records.now store.old.places.now store.old.count sheet.now pairs) (args_of store.old.records.now store.old.places.now store.old.count args.old.bytes.now 1)) store.new result }
 {
-    if all_proper(records, places, count, sheet, table, pairs, n) {
-        let body = u16_at(args, FIRST_AT);
-        return bound_body(
-            records, places, index, count, used, sheet, table, pairs, n, number, args, body,
-        );
+    if !all_proper(&store.sorts(), sheet, pairs) {
+        return Err(Cause::Barred);
     }
-    refuse(Cause::Barred, count, used)
+    let binder = Binder::try_from(number).unwrap_or(Binder::Forall);
+    let body = args.number(0);
+    bound_body(store, sheet, pairs, binder, args, body)
 }

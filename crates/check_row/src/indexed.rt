@@ -1,251 +1,170 @@
-// The checked sort of an indexed operator, which has `seconds` index terms, named from `second` on of the sheet, and n
-// arguments, whose sorts are in `args` from byte 3 on.
-ghost use Rattle.std.specs.Prelude.{◌≡◌};
+// The checked sort of an indexed operator: its index terms are named on the sheet.
+ghost use Rattle.std.specs.Prelude.{◌≡◌, ◌||◌, not, eqb};
+ghost use Rattle.record.specs.Kinds.{sort_number, param_number};
 ghost use Rattle.record.specs.Decode.{sort_at};
+ghost use Rattle.store.specs.Changes.{Same};
 ghost use Rattle.check_rules.specs.Checked.{indexed₁, indexed₂, indexing};
-ghost use Rattle.row_answer.specs.Answer.{AnswerIs};
+ghost use Rattle.row_answer.specs.Answer.{Answered};
 ghost use Rattle.row_answer.specs.Asks.{KnownAsks};
 ghost use Rattle.row_answer.specs.Arguments.{constants_in, ConstantsAsk};
-ghost use Rattle.store.specs.Good.{Good};
 ghost use Rattle.check_operator.specs.Contract.{args_of};
 ghost use Rattle.check_row.specs.Indexed.{IndicesAre, kept_as, widened_verdict, OneIndexAsks, CheckIndexedAsks, indexed_with, IndexingAsks};
 
-use record::kinds::{
-    PARAM_BIT_OF, PARAM_BV_CONST, PARAM_EXTRACT, PARAM_INT_OF, PARAM_INT_TO_BV, PARAM_RE_LOOP,
-    PARAM_RE_POWER, PARAM_REPEAT, PARAM_ROTATE_LEFT, PARAM_ROTATE_RIGHT, PARAM_SIGN_EXTEND,
-    PARAM_ZERO_EXTEND, SORT_BIT_VEC, SORT_INT, SORT_REG_LAN,
-};
-use record::u16_at;
-use row_answer::arguments::{Constant, FIRST_AT, index_at};
-use row_answer::{Answer, bit_vector, found, refuse};
-use row_rules::Cause;
-use store::entries::entry;
+use record::kinds::{ParamOp, SortKind};
+use record::span::Span;
+use row_answer::arguments::{Args, index_at};
+use row_answer::bit_vector;
+use row_rules::{Cause, Row};
+use sheet::ReadSheet;
+use store::Store;
 
-// The indices of an indexed operator: one or two integer constants; or neither.
-#[derive(Drop)]
+// The indices of an indexed operator.
+#[derive(Clone, Copy, Debug, PartialEq, Eq)]
 pub enum Indices {
     One(usize),
     Two(usize, usize),
-    Wrong,
 }
 
-// The index terms where they are one or two integer constants.
-pub fn indices_of(sheet: &[u8], starts: &[u16], second: usize, seconds: usize) -> Indices
-    requires { ConstantsAsk sheet.now starts.now second seconds }
-    ensures { IndicesAre sheet.now starts.now second seconds result }
+// The index terms where they are one or two integer constants; else None.
+pub fn indices_of(sheet: &ReadSheet<'_>, second: Span) -> Option<Indices>
+    requires { ConstantsAsk sheet.now.bytes.now sheet.now.starts.now second.at second.count }
+    ensures { IndicesAre sheet.now.bytes.now sheet.now.starts.now second.at second.count result }
 {
-    if seconds == 0 {
-        return Indices::Wrong;
-    }
-    if 2 < seconds {
-        return Indices::Wrong;
-    }
-    let first = index_at(sheet, starts, second);
-    match first {
-        Constant::Integer(i) => {
-            if seconds == 1 {
-                return Indices::One(i);
-            }
-            let last = index_at(sheet, starts, second + 2);
-            match last {
-                Constant::Integer(j) => Indices::Two(i, j),
-                Constant::Other => Indices::Wrong,
-            }
+    match second.count {
+        1 => Some(Indices::One(index_at(sheet, second.at)?)),
+        2 => {
+            let first = index_at(sheet, second.at)?;
+            let last = index_at(sheet, second.at + 2)?;
+            Some(Indices::Two(first, last))
         }
-        Constant::Other => Indices::Wrong,
+        _ => None,
     }
 }
 
 // The argument a itself where its kind is the one wanted, else Misfit.
-pub fn kept(count: usize, used: usize, a: usize, kind: usize, wanted: usize) -> Answer
-    ensures { result ≡ kept_as count used a kind wanted }
+pub fn kept(a: usize, kind: SortKind, wanted: SortKind) -> Row
+    ensures { result ≡ kept_as a (sort_number kind) (sort_number wanted) }
 {
-    if kind == wanted {
-        return found(a, count, used);
+    if kind != wanted {
+        return Err(Cause::Misfit);
     }
-    refuse(Cause::Misfit, count, used)
+    Ok(a)
 }
 
 // The vector of this width where the argument's kind is the one wanted, else Misfit.
-pub fn widened(
-    records: &mut [u8],
-    places: &mut [u32],
-    index: &mut [u16],
-    count: usize,
-    used: usize,
-    kind: usize,
-    wanted: usize,
-    width: usize,
-) -> Answer
-    requires { Good records.old places.old index.old count used }
-    ensures { AnswerIs records.old places.old count (widened_verdict kind wanted width) records.new places.new index.new result }
+pub fn widened(store: &mut Store<'_>, kind: SortKind, wanted: SortKind, width: usize) -> Row
+    ensures same { Same store.old store.new }
+    ensures answer { Answered store.old (widened_verdict (sort_number kind) (sort_number wanted) width) store.new result }
 {
-    if kind == wanted {
-        return bit_vector(records, places, index, count, used, width);
+    if kind != wanted {
+        return Err(Cause::Misfit);
     }
-    refuse(Cause::Misfit, count, used)
+    bit_vector(store, width)
 }
 
-// One index i at the argument a: 3 ZeroExtend, 4 SignExtend, 5 RotateLeft, 6 RotateRight, 7 Repeat and 9 IntToBv (i at least
-// 1), 10 RePower; Count for another operator; Misfit where the argument is of another kind.
-pub fn with_one(
-    records: &mut [u8],
-    places: &mut [u32],
-    index: &mut [u16],
-    count: usize,
-    used: usize,
-    op: usize,
-    i: usize,
-    a: usize,
-) -> Answer
-    requires { OneIndexAsks records.old places.old index.old count used i a }
-    ensures { AnswerIs records.old places.old count (indexed₁ op i (sort_at records.old places.old count a)) records.new places.new index.new result }
+// One index i at the argument a; Count for an operator with two, and where i is 0 for Repeat and IntToBv; Misfit where the
+// argument is of another kind.
+pub fn with_one(store: &mut Store<'_>, op: ParamOp, i: usize, a: usize) -> Row
+    requires { OneIndexAsks store.old.records.now store.old.places.now store.old.index.now store.old.count store.old.used i a }
+    ensures same { Same store.old store.new }
+    ensures answer { Answered store.old (indexed₁ (param_number op) i (sort_at store.old.records.now store.old.places.now store.old.count a)) store.new result }
 {
-    let e = entry(records, places, a);
-    let kind = e.kind;
-    let w = e.number;
+    let e = store.entry(a);
     match op {
-        PARAM_ZERO_EXTEND | PARAM_SIGN_EXTEND => widened(
-            records,
-            places,
-            index,
-            count,
-            used,
-            kind,
-            SORT_BIT_VEC,
-            w + i,
-        ),
-        PARAM_ROTATE_LEFT | PARAM_ROTATE_RIGHT => kept(count, used, a, kind, SORT_BIT_VEC),
-        PARAM_REPEAT => {
-            if i == 0 {
-                return refuse(Cause::Count, count, used);
-            }
-            widened(
-                records,
-                places,
-                index,
-                count,
-                used,
-                kind,
-                SORT_BIT_VEC,
-                i * w,
-            )
+        ParamOp::ZeroExtend | ParamOp::SignExtend => {
+            widened(store, e.kind, SortKind::BitVec, e.number + i)
         }
-        PARAM_INT_TO_BV => {
+        ParamOp::RotateLeft | ParamOp::RotateRight => kept(a, e.kind, SortKind::BitVec),
+        ParamOp::Repeat => {
             if i == 0 {
-                return refuse(Cause::Count, count, used);
+                return Err(Cause::Count);
             }
-            widened(records, places, index, count, used, kind, SORT_INT, i)
+            widened(store, e.kind, SortKind::BitVec, i * e.number)
         }
-        PARAM_RE_POWER => kept(count, used, a, kind, SORT_REG_LAN),
-        _ => refuse(Cause::Count, count, used),
+        ParamOp::IntToBv => {
+            if i == 0 {
+                return Err(Cause::Count);
+            }
+            widened(store, e.kind, SortKind::Int, i)
+        }
+        ParamOp::RePower => kept(a, e.kind, SortKind::RegLan),
+        _ => Err(Cause::Count),
     }
 }
 
 // Extract i, j at the argument a: Count unless j <= i and, of a vector, i under its width; Misfit where it is no vector.
-pub fn checked_extract(
-    records: &mut [u8],
-    places: &mut [u32],
-    index: &mut [u16],
-    count: usize,
-    used: usize,
-    i: usize,
-    j: usize,
-    a: usize,
-) -> Answer
-    requires { KnownAsks records.old places.old index.old count used a }
-    ensures { AnswerIs records.old places.old count (indexed₂ 0 i j (sort_at records.old places.old count a)) records.new places.new index.new result }
+pub fn checked_extract(store: &mut Store<'_>, i: usize, j: usize, a: usize) -> Row
+    requires { KnownAsks store.old.records.now store.old.places.now store.old.index.now store.old.count store.old.used a }
+    ensures same { Same store.old store.new }
+    ensures answer { Answered store.old (indexed₂ 0 i j (sort_at store.old.records.now store.old.places.now store.old.count a)) store.new result }
 {
-    let e = entry(records, places, a);
+    let e = store.entry(a);
     if i < j {
-        return refuse(Cause::Count, count, used);
+        return Err(Cause::Count);
     }
-    if e.kind != SORT_BIT_VEC {
-        return refuse(Cause::Misfit, count, used);
+    if e.kind != SortKind::BitVec {
+        return Err(Cause::Misfit);
     }
     if e.number <= i {
-        return refuse(Cause::Count, count, used);
+        return Err(Cause::Count);
     }
-    bit_vector(records, places, index, count, used, i - j + 1)
+    bit_vector(store, i - j + 1)
 }
 
-// Two indices i, j at the argument a: 0 Extract, 11 ReLoop; Count for another operator.
-pub fn with_two(
-    records: &mut [u8],
-    places: &mut [u32],
-    index: &mut [u16],
-    count: usize,
-    used: usize,
-    op: usize,
-    i: usize,
-    j: usize,
-    a: usize,
-) -> Answer
-    requires { KnownAsks records.old places.old index.old count used a }
-    ensures { AnswerIs records.old places.old count (indexed₂ op i j (sort_at records.old places.old count a)) records.new places.new index.new result }
+// Two indices i, j at the argument a, for Extract and ReLoop; Count for another operator.
+pub fn with_two(store: &mut Store<'_>, op: ParamOp, i: usize, j: usize, a: usize) -> Row
+    requires { KnownAsks store.old.records.now store.old.places.now store.old.index.now store.old.count store.old.used a }
+    ensures same { Same store.old store.new }
+    ensures answer { Answered store.old (indexed₂ (param_number op) i j (sort_at store.old.records.now store.old.places.now store.old.count a)) store.new result }
 {
-    if op == PARAM_EXTRACT {
-        return checked_extract(records, places, index, count, used, i, j, a);
+    match op {
+        ParamOp::Extract => checked_extract(store, i, j, a),
+        ParamOp::ReLoop => kept(a, store.entry(a).kind, SortKind::RegLan),
+        _ => Err(Cause::Count),
     }
-    if op == PARAM_RE_LOOP {
-        let e = entry(records, places, a);
-        return kept(count, used, a, e.kind, SORT_REG_LAN);
-    }
-    refuse(Cause::Count, count, used)
 }
 
-// The indices at the argument a: two for 0 Extract and 11 ReLoop, one for the others; Count where they are not so.
-pub fn indexed_by(
-    records: &mut [u8],
-    places: &mut [u32],
-    index: &mut [u16],
-    count: usize,
-    used: usize,
-    op: usize,
-    indices: Indices,
-    a: usize,
-) -> Answer
-    requires { CheckIndexedAsks records.old places.old index.old count used indices a }
-    ensures { AnswerIs records.old places.old count (indexed_with op indices (sort_at records.old places.old count a)) records.new places.new index.new result }
+// The indices at the argument a: two for Extract and ReLoop, one for the others; Count where they are not so.
+pub fn indexed_by(store: &mut Store<'_>, op: ParamOp, indices: Indices, a: usize) -> Row
+    requires { CheckIndexedAsks store.old.records.now store.old.places.now store.old.index.now store.old.count store.old.used indices a }
+    ensures same { Same store.old store.new }
+    ensures answer { Answered store.old (indexed_with (param_number op) indices (sort_at store.old.records.now store.old.places.now store.old.count a)) store.new result }
 {
     match indices {
-        Indices::One(i) => with_one(records, places, index, count, used, op, i, a),
-        Indices::Two(i, j) => with_two(records, places, index, count, used, op, i, j, a),
-        Indices::Wrong => refuse(Cause::Count, count, used),
+        Indices::One(i) => with_one(store, op, i, a),
+        Indices::Two(i, j) => with_two(store, op, i, j, a),
     }
 }
 
-// The checked sort of the indexed operator: NoRank for 1 BvBitOf, 2 BvIntOf and 8 BvConst; Count unless it has one argument.
-pub fn checked_indexed(
-    records: &mut [u8],
-    places: &mut [u32],
-    index: &mut [u16],
-    count: usize,
-    used: usize,
-    sheet: &[u8],
-    starts: &[u16],
-    second: usize,
-    seconds: usize,
-    op: usize,
-    args: &[u8],
-    n: usize,
-) -> Answer
-    requires { IndexingAsks records.old places.old index.old count used sheet.now starts.now second seconds args.now n }
-    ensures { AnswerIs records.old places.old count (indexing op (constants_in sheet.now starts.now second seconds) (args_of records.old places.old count args.now n)) records.new places.new index.new result }
+// Whether the operator has ranks: not BitOf, IntOf and BvConst.
+fn has_ranks(op: ParamOp) -> bool
+    ensures { result ≡ not (eqb (param_number op) 1 || eqb (param_number op) 2 || eqb (param_number op) 8) }
 {
-    if op == PARAM_BIT_OF {
-        return refuse(Cause::NoRank, count, used);
+    !matches!(op, ParamOp::BitOf | ParamOp::IntOf | ParamOp::BvConst)
+}
+
+// The checked sort of the indexed operator, whose index terms the sheet names in `second`: NoRank for BitOf, IntOf and BvConst;
+// Count unless it has one argument, and for a number that is no operator's.
+pub fn checked_indexed(
+    store: &mut Store<'_>,
+    sheet: &ReadSheet<'_>,
+    second: Span,
+    op: usize,
+    args: &Args<'_>,
+) -> Row
+    requires { IndexingAsks store.old.records.now store.old.places.now store.old.index.now store.old.count store.old.used sheet.now.bytes.now sheet.now.starts.now second.at second.count args.now.bytes.now args.now.count }
+    ensures same { Same store.old store.new }
+    ensures answer { Answered store.old (indexing op (constants_in sheet.now.bytes.now sheet.now.starts.now second.at second.count) (args_of store.old.records.now store.old.places.now store.old.count args.now.bytes.now args.now.count)) store.new result }
+{
+    let Ok(op) = ParamOp::try_from(op) else {
+        return Err(Cause::Count);
+    };
+    if !has_ranks(op) {
+        return Err(Cause::NoRank);
     }
-    if op == PARAM_INT_OF {
-        return refuse(Cause::NoRank, count, used);
+    if args.count != 1 {
+        return Err(Cause::Count);
     }
-    if op == PARAM_BV_CONST {
-        return refuse(Cause::NoRank, count, used);
-    }
-    if n != 1 {
-        return refuse(Cause::Count, count, used);
-    }
-    let indices = indices_of(sheet, starts, second, seconds);
-    let a = u16_at(args, FIRST_AT);
-    indexed_by(records, places, index, count, used, op, indices, a)
+    let indices = indices_of(sheet, second).ok_or(Cause::Count)?;
+    indexed_by(store, op, indices, args.number(0))
 }

@@ -1,131 +1,98 @@
 // The checked sort of a constant, a Var, a Let and an (as const).
 ghost use Rattle.std.specs.Prelude.{◌≡◌};
+ghost use Rattle.record.specs.Kinds.{term_number};
 ghost use Rattle.record.specs.Decode.{sort_at};
+ghost use Rattle.store.specs.Changes.{Same};
 ghost use Rattle.matching_tables.specs.Usable.{OneAsks};
 ghost use Rattle.check_rules.specs.Checked.{carried, letting, qualified};
-ghost use Rattle.row_answer.specs.Answer.{AnswerIs};
-ghost use Rattle.check_operator.specs.Contract.{args_of};
-ghost use Rattle.check_row.specs.Single.{ReadIs, CheckConstantAsks, constant_verdict, OverAsks, QualifiedAsks, variable_verdict};
+ghost use Rattle.row_answer.specs.Answer.{Answered};
+ghost use Rattle.check_operator.specs.Contract.{ArgsKnown, args_of};
+ghost use Rattle.check_row.specs.Single.{Reads, constant_verdict, QualifiedAsks, variable_verdict};
 
+use check_operator::op::is_kind;
 use matching_each::premises::is_proper;
-use record::kinds::{AS_CONST, SORT_ARRAY, SORT_FUNCTION, SORT_INT, SORT_PAR, TERM_BIT_VECTOR};
-use record::u16_at;
-use row_answer::arguments::FIRST_AT;
+use record::kinds::{AsOp, SortKind, TermKind};
+use row_answer::arguments::Args;
 use row_answer::values::all_values;
-use row_answer::{Answer, bit_vector, found, leaf, refuse};
-use row_rules::Cause;
-use store::entries::{entry, kind_at};
+use row_answer::{bit_vector, leaf};
+use row_rules::{Cause, Row};
+use store::Store;
+use store::entries::Sorts;
 
-// A constant: 0 integer, 1 real, 2 string, 3 RegLan constant, else bit-vector constant, which is Barred with the width 0.
-pub fn checked_constant(
-    records: &mut [u8],
-    places: &mut [u32],
-    index: &mut [u16],
-    count: usize,
-    used: usize,
-    kind: usize,
-    number: usize,
-) -> Answer
-    requires { CheckConstantAsks records.old places.old index.old count used }
-    ensures { AnswerIs records.old places.old count (constant_verdict kind number) records.new places.new index.new result }
+// A constant: the sort of an integer, real, string or RegLan constant, else that of a bit-vector constant, which is Barred with
+// the width 0.
+pub fn checked_constant(store: &mut Store<'_>, kind: TermKind, number: usize) -> Row
+    ensures same { Same store.old store.new }
+    ensures answer { Answered store.old (constant_verdict (term_number kind) number) store.new result }
 {
-    if kind < TERM_BIT_VECTOR {
-        return leaf(records, places, index, count, used, (kind + SORT_INT) as u8);
+    match kind {
+        TermKind::Integer => leaf(store, SortKind::Int),
+        TermKind::Real => leaf(store, SortKind::Real),
+        TermKind::String => leaf(store, SortKind::String),
+        TermKind::RegLan => leaf(store, SortKind::RegLan),
+        _ if number == 0 => Err(Cause::Barred),
+        _ => bit_vector(store, number),
     }
-    if number == 0 {
-        return refuse(Cause::Barred, count, used);
-    }
-    bit_vector(records, places, index, count, used, number)
 }
 
 // Whether the sort k may be a Var's: no Type, ParamBitVec or BitVec 0 inside, and a Par only outermost, over a Function.
-pub fn is_carried(records: &[u8], places: &[u32], count: usize, k: usize) -> bool
-    requires { OneAsks records.now places.now count k }
-    ensures { result ≡ carried (sort_at records.now places.now count k) }
+pub fn is_carried(sorts: &Sorts<'_>, k: usize) -> bool
+    requires { OneAsks sorts.now.records.now sorts.now.places.now sorts.now.count k }
+    ensures { result ≡ carried (sort_at sorts.now.records.now sorts.now.places.now sorts.now.count k) }
 {
-    let a = entry(records, places, k);
-    if a.kind != SORT_PAR {
-        return is_proper(records, places, count, k);
+    if !is_kind(sorts, k, SortKind::Par) {
+        return is_proper(sorts, k);
     }
-    let list = a.list;
-    let body = u16_at(records, list);
-    if kind_at(records, places, body) != SORT_FUNCTION {
-        return false;
-    }
-    is_proper(records, places, count, body)
+    let body = sorts.entry(k).parts.get(sorts.records, 0);
+    is_kind(sorts, body, SortKind::Function) && is_proper(sorts, body)
 }
 
 // A Var of the sort k: that sort, or Barred.
-pub fn checked_variable(
-    records: &[u8],
-    places: &[u32],
-    count: usize,
-    used: usize,
-    k: usize,
-) -> Answer
-    requires { OneAsks records.now places.now count k }
-    ensures { ReadIs records.now places.now count used (variable_verdict (sort_at records.now places.now count k)) result }
+pub fn checked_variable(sorts: &Sorts<'_>, k: usize) -> Row
+    requires { OneAsks sorts.now.records.now sorts.now.places.now sorts.now.count k }
+    ensures { Reads sorts.now (variable_verdict (sort_at sorts.now.records.now sorts.now.places.now sorts.now.count k)) result }
 {
-    if is_carried(records, places, count, k) {
-        return found(k, count, used);
+    if !is_carried(sorts, k) {
+        return Err(Cause::Barred);
     }
-    refuse(Cause::Barred, count, used)
+    Ok(k)
 }
 
-// A Let of n - 1 values and its inner term: the inner one's sort; Count without a value; Misfit where one of the n is a Par.
-pub fn checked_let(
-    records: &[u8],
-    places: &[u32],
-    count: usize,
-    used: usize,
-    args: &[u8],
-    n: usize,
-) -> Answer
-    requires { OverAsks records.now places.now count args.now n }
-    ensures { ReadIs records.now places.now count used (letting (args_of records.now places.now count args.now n)) result }
+// A Let of values and, last, its inner term: the inner one's sort; Count without a value; Misfit where one of them all is a Par.
+pub fn checked_let(sorts: &Sorts<'_>, args: &Args<'_>) -> Row
+    requires { ArgsKnown sorts.now args.now }
+    ensures { Reads sorts.now (letting (args_of sorts.now.records.now sorts.now.places.now sorts.now.count args.now.bytes.now args.now.count)) result }
 {
-    if n < 2 {
-        return refuse(Cause::Count, count, used);
+    if args.count < 2 {
+        return Err(Cause::Count);
     }
-    if !all_values(records, places, args, FIRST_AT, n) {
-        return refuse(Cause::Misfit, count, used);
+    if !all_values(sorts.entries(), args.bytes, args.span()) {
+        return Err(Cause::Misfit);
     }
-    let k = u16_at(args, FIRST_AT + 2 * (n - 1));
-    found(k, count, used)
+    Ok(args.number(args.count - 1))
 }
 
-// (as const) with the sort k at n arguments: k, where it is an Array and the one argument is of its element sort; NoRank for
-// the other operators, Barred where k is not proper, Count, Misfit.
-pub fn checked_as(
-    records: &[u8],
-    places: &[u32],
-    count: usize,
-    used: usize,
-    number: usize,
-    k: usize,
-    args: &[u8],
-    n: usize,
-) -> Answer
-    requires { QualifiedAsks records.now places.now count k args.now n }
-    ensures { ReadIs records.now places.now count used (qualified number (sort_at records.now places.now count k) (args_of records.now places.now count args.now n)) result }
+// (as const) with the sort k: k, where it is an Array and the one argument is of its element sort; NoRank for the other
+// operators, Barred where k is not proper, Count, Misfit.
+pub fn checked_as(sorts: &Sorts<'_>, number: usize, k: usize, args: &Args<'_>) -> Row
+    requires { QualifiedAsks sorts.now k args.now }
+    ensures { Reads sorts.now (qualified number (sort_at sorts.now.records.now sorts.now.places.now sorts.now.count k) (args_of sorts.now.records.now sorts.now.places.now sorts.now.count args.now.bytes.now args.now.count)) result }
 {
-    if number != AS_CONST {
-        return refuse(Cause::NoRank, count, used);
+    if number != AsOp::Const as usize {
+        return Err(Cause::NoRank);
     }
-    if !is_proper(records, places, count, k) {
-        return refuse(Cause::Barred, count, used);
+    if !is_proper(sorts, k) {
+        return Err(Cause::Barred);
     }
-    if n != 1 {
-        return refuse(Cause::Count, count, used);
+    if args.count != 1 {
+        return Err(Cause::Count);
     }
-    let a = entry(records, places, k);
-    if a.kind != SORT_ARRAY {
-        return refuse(Cause::Misfit, count, used);
+    if !is_kind(sorts, k, SortKind::Array) {
+        return Err(Cause::Misfit);
     }
-    let list = a.list;
-    let element = u16_at(records, list + 2);
-    if u16_at(args, FIRST_AT) != element {
-        return refuse(Cause::Misfit, count, used);
+    let element = sorts.entry(k).parts.get(sorts.records, 1);
+    if args.number(0) != element {
+        return Err(Cause::Misfit);
     }
-    found(k, count, used)
+    Ok(k)
 }

@@ -30,8 +30,7 @@ pub extern "C" fn napsilo_judge(
 pub extern "C" fn napsilo_text(sheet: &[u8], from: usize, out: &mut [u8]) -> usize
     ensures { EndIs sheet.now from out.old out.new result }
 {
-    let piece = text(sheet, from, out);
-    piece.end
+    text(sheet, from, out).end
 }
 
 // Judges a sheet over buffers of the program's lengths and writes the whole lines of its pages from the number `from` on into `out`, as
@@ -41,6 +40,5 @@ pub extern "C" fn napsilo_text(sheet: &[u8], from: usize, out: &mut [u8]) -> usi
 pub extern "C" fn napsilo_page_text(sheet: &[u8], from: usize, out: &mut [u8]) -> usize
     ensures { PageEndIs sheet.now from out.old out.new result }
 {
-    let shown = pages(sheet, from, out);
-    shown.end
+    pages(sheet, from, out).end
 }

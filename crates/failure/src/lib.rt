@@ -37,6 +37,18 @@ impl<S> Watched<S> {
     }
 }
 
+// What a read or a write gave, as it is; where that is a failure, it is kept.
+fn kept<T>(failure: &mut Option<io::Error>, given: io::Result<T>) -> io::Result<T>
+    ensures same { result ≡ given }
+    ensures kept { IfErr given (λ e. failure.new ≡ Some e) }
+    ensures calm { OnOk given (failure.new ≡ failure.old) }
+{
+    if let Err(e) = given {
+        *failure = Some(e);
+    }
+    given
+}
+
 impl<S: Read> Read for Watched<S> {
     ghost remaining = { λ w. S.remaining w.stream };
 
@@ -46,13 +58,8 @@ impl<S: Read> Read for Watched<S> {
         ensures kept { IfErr result (λ e. self.new.failure ≡ Some e) }
         ensures calm { OnOk result (self.new.failure ≡ self.old.failure) }
     {
-        match self.stream.read(buf) {
-            Ok(n) => Ok(n),
-            Err(e) => {
-                self.failure = Some(e);
-                Err(e)
-            }
-        }
+        let read = self.stream.read(buf);
+        kept(&mut self.failure, read)
     }
 }
 
@@ -65,13 +72,8 @@ impl<S: Write> Write for Watched<S> {
         ensures kept { IfErr result (λ e. self.new.failure ≡ Some e) }
         ensures calm { OnOk result (self.new.failure ≡ self.old.failure) }
     {
-        match self.stream.write(buf) {
-            Ok(n) => Ok(n),
-            Err(e) => {
-                self.failure = Some(e);
-                Err(e)
-            }
-        }
+        let written = self.stream.write(buf);
+        kept(&mut self.failure, written)
     }
 
     fn flush(&mut self) -> io::Result<()>
@@ -79,13 +81,8 @@ impl<S: Write> Write for Watched<S> {
         ensures kept { IfErr result (λ e. self.new.failure ≡ Some e) }
         ensures calm { OnOk result (self.new.failure ≡ self.old.failure) }
     {
-        match self.stream.flush() {
-            Ok(()) => Ok(()),
-            Err(e) => {
-                self.failure = Some(e);
-                Err(e)
-            }
-        }
+        let flushed = self.stream.flush();
+        kept(&mut self.failure, flushed)
     }
 
     fn write_all(&mut self, buf: &[u8]) -> io::Result<()>
@@ -93,13 +90,8 @@ impl<S: Write> Write for Watched<S> {
         ensures kept { IfErr result (λ e. self.new.failure ≡ Some e) }
         ensures calm { OnOk result (self.new.failure ≡ self.old.failure) }
     {
-        match self.stream.write_all(buf) {
-            Ok(()) => Ok(()),
-            Err(e) => {
-                self.failure = Some(e);
-                Err(e)
-            }
-        }
+        let written = self.stream.write_all(buf);
+        kept(&mut self.failure, written)
     }
 }
 

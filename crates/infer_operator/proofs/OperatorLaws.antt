@@ -1,105 +1,45 @@
 -- The families of a group that are left when some were told apart.
-use Prim.Native.Nat.{ℕ}
-use mathlib.Core.Path.{◌≡◌, refl}
+use mathlib.Core.Path.{◌≡◌, refl, ap}
 use mathlib.Core.Bool.{true, false≢true}
-use mathlib.Core.List.{List, [], ◌∷◌}
+use mathlib.Core.List.{List}
 use mathlib.Core.Option.{Option}
-use types.Run.{OneOf}
+use Prim.Native.Nat.{ℕ}
 use Rattle.record.specs.Sort.{Sorts}
+use Rattle.row_answer.specs.Answer.{Answer, AnswerIs}
+use Rattle.row_answer.specs.AnswerLaws.{judged-as}
 use Rattle.infer_rules.specs.Inferred.{operated_by}
 use Rattle.infer_rules.specs.declared.Family.{Family}
 use Rattle.infer_rules.specs.declared.Family.TheVariants.{Truth, Integer, Decimal, Text, Regular, Vector, OneBit, Bits, Constant, Concat, First, Second, Last, Sum, Element, RareList, Singleton, Tuple, UnitTuple, Transpose, Join, Product}
-use Rattle.record.specs.Arms.{keyed, one-keyed}
 use Rattle.infer_operator.specs.Operators.{no_constants, makes, looks}
-use denote.Enum.Declared.{tag_of}
-use Rattle.infer_rules.specs.contracts.Family.{the_type}
 
--- The numbers of the families that are not Singleton, Tuple, UnitTuple, Transpose or Join.
-abbrev pub others : List ℕ
-others = 0 ∷ 1 ∷ 2 ∷ 3 ∷ 4 ∷ 5 ∷ 6 ∷ 7 ∷ 8 ∷ 9 ∷ 10 ∷ 11 ∷ 12 ∷ 13 ∷ 14 ∷ 15 ∷ 21 ∷ []
+-- An answer of a family, by its name.
+pub family-answer : (ss : Sorts) (cs : List (Option ℕ)) {f g : Family} → f ≡ g → {b p : List ℕ} {n : ℕ} {b' p' ix' : List ℕ} {r : Answer}
+    → AnswerIs b p n (operated_by g ss cs) b' p' ix' r → AnswerIs b p n (operated_by f ss cs) b' p' ix' r
+family-answer ss cs {f} {g} e h = judged-as (ap (λ (x : Family). operated_by x ss cs) e) h
 
-pub product-only : (f : Family) → makes f ≡ true → OneOf others (tag_of the_type f) → f ≡ Product
-unfolding keyed
-product-only Truth m h = absurd (false≢true m)
-product-only Integer m h = absurd (false≢true m)
-product-only Decimal m h = absurd (false≢true m)
-product-only Text m h = absurd (false≢true m)
-product-only Regular m h = absurd (false≢true m)
-product-only Vector m h = absurd (false≢true m)
-product-only OneBit m h = absurd (false≢true m)
-product-only Bits m h = absurd (false≢true m)
-product-only Constant m h = absurd (false≢true m)
-product-only Concat m h = absurd (false≢true m)
-product-only First m h = absurd (false≢true m)
-product-only Second m h = absurd (false≢true m)
-product-only Last m h = absurd (false≢true m)
-product-only Sum m h = absurd (false≢true m)
-product-only Element m h = absurd (false≢true m)
-product-only RareList m h = absurd (false≢true m)
-product-only Singleton m h = absurd (false≢true (one-keyed others 16 h))
-product-only Tuple m h = absurd (false≢true (one-keyed others 17 h))
-product-only UnitTuple m h = absurd (false≢true (one-keyed others 18 h))
-product-only Transpose m h = absurd (false≢true (one-keyed others 19 h))
-product-only Join m h = absurd (false≢true (one-keyed others 20 h))
-product-only Product m h = refl
-
--- The numbers of the families that are not Vector, Concat, First, Second, Last, Sum, Element or RareList.
-abbrev pub unseen : List ℕ
-unseen = 0 ∷ 1 ∷ 2 ∷ 3 ∷ 4 ∷ 6 ∷ 7 ∷ 8 ∷ 16 ∷ 17 ∷ 18 ∷ 19 ∷ 20 ∷ 21 ∷ []
-
-pub made-left : (f : Family) → looks f ≡ true → OneOf unseen (tag_of the_type f) → makes f ≡ true
-unfolding keyed
-made-left Truth m h = absurd (false≢true m)
-made-left Integer m h = absurd (false≢true m)
-made-left Decimal m h = absurd (false≢true m)
-made-left Text m h = absurd (false≢true m)
-made-left Regular m h = absurd (false≢true m)
-made-left Vector m h = absurd (false≢true (one-keyed unseen 5 h))
-made-left OneBit m h = absurd (false≢true m)
-made-left Bits m h = absurd (false≢true m)
-made-left Constant m h = absurd (false≢true m)
-made-left Concat m h = absurd (false≢true (one-keyed unseen 9 h))
-made-left First m h = absurd (false≢true (one-keyed unseen 10 h))
-made-left Second m h = absurd (false≢true (one-keyed unseen 11 h))
-made-left Last m h = absurd (false≢true (one-keyed unseen 12 h))
-made-left Sum m h = absurd (false≢true (one-keyed unseen 13 h))
-made-left Element m h = absurd (false≢true (one-keyed unseen 14 h))
-made-left RareList m h = absurd (false≢true (one-keyed unseen 15 h))
-made-left Singleton m h = refl
-made-left Tuple m h = refl
-made-left UnitTuple m h = refl
-made-left Transpose m h = refl
-made-left Join m h = refl
-made-left Product m h = refl
-
--- The numbers of the families that look at vectors and at arguments, and of those that make sorts of them.
-abbrev pub seen : List ℕ
-seen = 5 ∷ 9 ∷ 10 ∷ 11 ∷ 12 ∷ 13 ∷ 14 ∷ 15 ∷ 16 ∷ 17 ∷ 18 ∷ 19 ∷ 20 ∷ 21 ∷ []
-
-pub looked-left : (f : Family) → OneOf seen (tag_of the_type f) → looks f ≡ true
-unfolding keyed
-looked-left Truth h = absurd (false≢true (one-keyed seen 0 h))
-looked-left Integer h = absurd (false≢true (one-keyed seen 1 h))
-looked-left Decimal h = absurd (false≢true (one-keyed seen 2 h))
-looked-left Text h = absurd (false≢true (one-keyed seen 3 h))
-looked-left Regular h = absurd (false≢true (one-keyed seen 4 h))
-looked-left Vector h = refl
-looked-left OneBit h = absurd (false≢true (one-keyed seen 6 h))
-looked-left Bits h = absurd (false≢true (one-keyed seen 7 h))
-looked-left Constant h = absurd (false≢true (one-keyed seen 8 h))
-looked-left Concat h = refl
-looked-left First h = refl
-looked-left Second h = refl
-looked-left Last h = refl
-looked-left Sum h = refl
-looked-left Element h = refl
-looked-left RareList h = refl
-looked-left Singleton h = refl
-looked-left Tuple h = refl
-looked-left UnitTuple h = refl
-looked-left Transpose h = refl
-looked-left Join h = refl
-looked-left Product h = refl
+pub product-only : (f : Family) → makes f ≡ true → (f ≡ Singleton → ⊥) → (f ≡ Tuple → ⊥) → (f ≡ UnitTuple → ⊥) → (f ≡ Transpose → ⊥) → (f ≡ Join → ⊥) → f ≡ Product
+product-only Truth m a b c d e = absurd (false≢true m)
+product-only Integer m a b c d e = absurd (false≢true m)
+product-only Decimal m a b c d e = absurd (false≢true m)
+product-only Text m a b c d e = absurd (false≢true m)
+product-only Regular m a b c d e = absurd (false≢true m)
+product-only Vector m a b c d e = absurd (false≢true m)
+product-only OneBit m a b c d e = absurd (false≢true m)
+product-only Bits m a b c d e = absurd (false≢true m)
+product-only Constant m a b c d e = absurd (false≢true m)
+product-only Concat m a b c d e = absurd (false≢true m)
+product-only First m a b c d e = absurd (false≢true m)
+product-only Second m a b c d e = absurd (false≢true m)
+product-only Last m a b c d e = absurd (false≢true m)
+product-only Sum m a b c d e = absurd (false≢true m)
+product-only Element m a b c d e = absurd (false≢true m)
+product-only RareList m a b c d e = absurd (false≢true m)
+product-only Singleton m a b c d e = absurd (a refl)
+product-only Tuple m a b c d e = absurd (b refl)
+product-only UnitTuple m a b c d e = absurd (c refl)
+product-only Transpose m a b c d e = absurd (d refl)
+product-only Join m a b c d e = absurd (e refl)
+product-only Product m a b c d e = refl
 
 -- They look at no constants.
 pub no-constants : (f : Family) → looks f ≡ true → (ss : Sorts) (cs : List (Option ℕ)) → operated_by f ss cs ≡ operated_by f ss no_constants

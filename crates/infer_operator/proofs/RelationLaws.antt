@@ -9,8 +9,16 @@ use native.Mathlib.Nat.{not-suc-le-zero}
 use native.Mathlib.Decide.{dec_lt}
 use lib.ListN.{length, get_or}
 use lib.Dec.{leb}
-use borrow.Author.Tests.{ne_eqb, le-leb, lt-leb}
+use borrow.Author.Tests.{ne_eqb, eqb-true, le-leb, lt-leb}
+use denote.Enum.Bare.{sameb}
+use Rattle.std.specs.Prelude.{Option, Some, None, Ok, Err, ok_or}
+use Rattle.std.specs.Bool.{then_some}
+use Rattle.std.proofs.lemmas.Bool.{eqb-false}
 use Rattle.record.specs.Number.{u16_at, numbers_at}
+use Rattle.record.specs.Kinds.{sort_number}
+use Rattle.record.specs.declared.span.Span.{Span}
+use Rattle.record.specs.contracts.kinds.SortKind.{the_type}
+use Rattle.record.specs.declared.kinds.SortKind.TheVariants.{Tuple}
 use Rattle.record.specs.Sort.{Sort, Sorts, var, par, node, end, ◌then◌, set, tuple, kind_of}
 use Rattle.record.specs.Record.{Fields, leaf, leasts, least_of, sorts_of}
 use Rattle.record.specs.Decode.{fields_at, store_of, sort_at, Stored}
@@ -18,87 +26,78 @@ use Rattle.record.specs.Codec.{length-numbers_at}
 use Rattle.record.specs.StoreLaws.{parts_more}
 use Rattle.record.specs.declared.SortRecord.{SortRecord}
 use Rattle.store.specs.Good.{Good}
-use Rattle.store.specs.Entry.{EntryAsks, EntryHas}
-use Rattle.store.specs.Walk.{entry-asks, walk-node}
+use Rattle.store.specs.Entry.{EntryIs, EntryHas}
+use Rattle.store.specs.Walk.{walk-node}
+use Rattle.store.specs.declared.Store.{Store}
+use Rattle.store.specs.declared.entries.Sorts.{Sorts as Readable}
+use Rattle.row_rules.specs.declared.Cause.{Cause}
 use Rattle.row_rules.specs.declared.Cause.TheVariants.{Panics}
 use Rattle.row_rules.specs.Verdict.{Verdict, sort, refused}
 use Rattle.row_rules.specs.Lists.{appended}
-use Rattle.infer_rules.specs.Inferred.{columns, relation, backwards, all_but_last, join_of, product_of, over_columns, over_both, transpose_of}
+use Rattle.infer_rules.specs.Inferred.{columns, backwards, all_but_last, join_of, product_of, over_columns, over_both}
 use Rattle.row_answer.specs.Arguments.{put_at, Filled, filled_more}
+use Rattle.row_answer.specs.declared.arguments.Args.{Args}
 use Rattle.row_answer.specs.Asks.{StoredListAsks}
-use Rattle.row_answer.specs.Heads.{HeadAsks}
-use Rattle.infer_operator.specs.declared.relations.Columns.TheVariants.{Are, NoColumns}
-use Rattle.infer_operator.specs.declared.relations.Both.TheVariants.{Have, Lack}
-use Rattle.infer_operator.specs.Asks.{Referring, sorts_in, ReadArgumentsAsk, ArgsAsks, refer-first, refer-rest, sorts-first}
-use Rattle.infer_operator.specs.Relations.{ColumnsStand, ColumnsHas, Having, BothHas, PutColumnsAsk, PutHas, BackwardsIs, SideAsks}
+use Rattle.infer_operator.specs.Asks.{Referring, sorts_in, arguments, read_arguments, refer-rest, sorts-first}
+use Rattle.infer_operator.specs.Relations.{ColumnsIs, ColumnsStand, BothIs, PutHas, BackwardsIs, SideAsks}
+use Rattle.infer_operator.proofs.SingleLaws.{same-test}
 
 ---------------------------------------------------------------- the columns of a sort
-not_set : (s : Sort) → (kind_of s ≡ 14 → ⊥) → columns s ≡ none
-not_set (var v) d = refl
-not_set (par ns t) d = refl
-not_set (node k a w end) d = refl
-not_set (node k a w (var v then ss)) d = refl
-not_set (node k a w (par ns t then ss)) d = refl
-not_set (node k a w (node l c x cs then ss)) d = rw (ne_eqb k 14 d) refl
-
 not-tuple : (a w : ℕ) (t : Sort) (ss : Sorts) → (kind_of t ≡ 15 → ⊥) → columns (node 14 a w (t then ss)) ≡ none
 not-tuple a w (var v) ss d = refl
 not-tuple a w (par ns t) ss d = refl
 not-tuple a w (node l c x cs) ss d = rw (ne_eqb l 15 d) refl
 
-module _ (b p : List ℕ) (k : ℕ) (r : SortRecord) (q : EntryHas b p k r) where
-  pub columns-none : (r.kind ≡ 14 → ⊥) → ColumnsHas b p k NoColumns
-  columns-none d n st l = not_set (sort_at b p n k) (λ z. d ((q n st l).kind ∙ z))
-
+module _ {b p : List ℕ} {n k : ℕ} (st : Stored b p n) (l : k < n) (r : SortRecord) (q : EntryHas b p k r) where
   -- The sort inside a Set, by the number that was read.
-  module _ (i : r.kind ≡ 14) where
-    one-part : {n : ℕ} → Stored b p n → k < n → 1 ≤ r.count
+  module _ (i : sort_number r.kind ≡ 14) where
+    one-part : 1 ≤ r.parts.count
     unfolding least_of leasts
-    one-part {n} st l =
+    one-part =
         let f = fields_at b (get_or p k 0) in
         let e = (q n st l).place.same in
         let kind : f.kind ≡ 14 = ap (λ (g : Fields). g.kind) e ∙ i in
         let least : 1 ≤ length f.list = subst (λ (j : ℕ). least_of j ≤ length f.list) kind (st.each k l).shape.least in
-        omega (arith, ap (λ (g : Fields). length g.list) e, length-numbers_at b r.list r.count)
+        omega (arith, ap (λ (g : Fields). length g.list) e, length-numbers_at b r.parts.at r.parts.count)
 
-    pub inner-place : HeadAsks b p k → r.list + 2 ≤ length b
-    inner-place (n, h) = omega (arith, one-part h.stored h.known, (q n h.stored h.known).place.list)
+    pub inner-place : r.parts.at + 2 ≤ length b
+    inner-place = omega (arith, one-part, (q n st l).place.list)
 
-    module _ {v : ℕ} (z : v ≡ u16_at b r.list) where
-      inner_below : {n : ℕ} → Stored b p n → k < n → v < n
-      inner_below {n} st l =
-          let o : r.list + 2 * 0 ≡ r.list = omega arith in
-          let h = subst (λ (y : ℕ). u16_at b y < k) o ((q n st l).below 0 (one-part st l)) in
-          omega arith
+    module _ {v : ℕ} (z : v ≡ u16_at b (r.parts.at + 2 * 0)) where
+      pub inner-below : v < n
+      inner-below = omega (arith, l, z, (q n st l).below 0 one-part)
 
-      pub inner-entry : HeadAsks b p k → EntryAsks b p v
-      inner-entry (n, h) = entry-asks b p n v h.stored (inner_below h.stored h.known)
-
-      inner-sort : {n : ℕ} → Stored b p n → k < n → sort_at b p n k ≡ node 14 r.name r.number (sort_at b p n v then sorts_in b p n b (r.list + 2) (r.count - 1))
+      inner-sort : sort_at b p n k ≡ node 14 r.name r.number (sort_at b p n v then sorts_in b p n b (r.parts.at + 2) (r.parts.count - 1))
       unfolding sort_at
-      inner-sort {n} st l =
+      inner-sort =
+          let o : r.parts.at + 2 * 0 ≡ r.parts.at = omega arith in
           walk-node b p n k st l r (q n st l) (λ y. absurd (omega arith)) (λ y. absurd (omega arith))
           ∙ ap₂ (λ (j : ℕ) (ss : Sorts). node j r.name r.number ss) i
-          (parts_more (store_of b p n) b r.list r.count (one-part st l)
-          ∙ ap (λ (j : ℕ). get_or (store_of b p n) j leaf then sorts_in b p n b (r.list + 2) (r.count - 1)) (sym z))
+          (parts_more (store_of b p n) b r.parts.at r.parts.count one-part
+          ∙ ap (λ (j : ℕ). get_or (store_of b p n) j leaf then sorts_in b p n b (r.parts.at + 2) (r.parts.count - 1)) (sym (z ∙ ap (u16_at b) o)))
 
       module _ (c : SortRecord) (d : EntryHas b p v c) where
-        pub tuple-none : (c.kind ≡ 15 → ⊥) → ColumnsHas b p k NoColumns
-        tuple-none h n st l =
-            ap columns (inner-sort st l)
-            ∙ not-tuple r.name r.number (sort_at b p n v) (sorts_in b p n b (r.list + 2) (r.count - 1)) (λ y. h ((d n st (inner_below st l)).kind ∙ y))
+        read : EntryIs b p n v c
+        read = d n st inner-below
 
-        pub columns-list : c.kind ≡ 15 → ColumnsHas b p k (Are c.list c.count)
-        columns-list h n st l =
-            let o = inner_below st l in
-            let e = d n st o in
-            let cs = sorts_in b p n b c.list c.count in (
-              ap columns (inner-sort st l)
-                  ∙ ap (λ (t : Sort). columns (node 14 r.name r.number (t then sorts_in b p n b (r.list + 2) (r.count - 1))))
-                  (walk-node b p n v st o c e (λ y. absurd (omega arith)) (λ y. absurd (omega arith))
+        columns-list : sort_number c.kind ≡ 15 → ColumnsIs b p n (sort_at b p n k) (Some c.parts)
+        columns-list h =
+            let cs = sorts_in b p n b c.parts.at c.parts.count in (
+              ap columns inner-sort
+                  ∙ ap (λ (t : Sort). columns (node 14 r.name r.number (t then sorts_in b p n b (r.parts.at + 2) (r.parts.count - 1))))
+                  (walk-node b p n v st inner-below c read (λ y. absurd (omega arith)) (λ y. absurd (omega arith))
                   ∙ ap (λ (j : ℕ). node j c.name c.number cs) h),
-              record { within = e.place.list; below = λ j y. omega (arith, e.below j y); few = e.few },
+              record { within = read.place.list; below = λ j y. omega (arith, inner-below, read.below j y); few = read.few },
             )
+
+        tuple-none : (sort_number c.kind ≡ 15 → ⊥) → columns (sort_at b p n k) ≡ none
+        tuple-none h =
+            ap columns inner-sort
+            ∙ not-tuple r.name r.number (sort_at b p n v) (sorts_in b p n b (r.parts.at + 2) (r.parts.count - 1)) (λ y. h (read.kind ∙ y))
+
+        pub columns-by : (t : Bool) → t ≡ sameb the_type c.kind Tuple → ColumnsIs b p n (sort_at b p n k) (then_some t c.parts)
+        columns-by true e = columns-list (eqb-true (sort_number c.kind) 15 (sym (same-test c.kind Tuple) ∙ sym e))
+        columns-by false e = tuple-none (eqb-false (sort_number c.kind) 15 (sym (same-test c.kind Tuple) ∙ sym e))
 
 ---------------------------------------------------------------- lists put together
 -- Equal numbers; one list behind another; a list backwards; all but its last.
@@ -158,9 +157,6 @@ but_last st b x zero = refl
 but_last st b x (suc m) = ap (λ (ss : Sorts). get_or st (u16_at b x) leaf then ss) (but_last st b (x + 2) m)
 
 ---------------------------------------------------------------- putting columns
-pub put-none : (b : List ℕ) (x : ℕ) (a : List ℕ) (i : ℕ) → PutHas b x 0 a i a
-put-none b x a i f h e = let o : i ≡ i + 0 = omega arith in subst (λ (m : ℕ). Filled a f m) o h
-
 pub put-more : (b : List ℕ) (x m : ℕ) (a : List ℕ) (i : ℕ) (c : List ℕ) {v : ℕ} → 3 + 2 * (i + m) + 2 ≤ length c → v ≡ u16_at b (x + 2 * m)
     → PutHas b x m a i c → PutHas b x (m + 1) a i (put_at c (3 + 2 * (i + m)) v)
 put-more b x m a i c {v} room z h f g e =
@@ -170,22 +166,46 @@ put-more b x m a i c {v} room z h f g e =
 
 ---------------------------------------------------------------- the columns backwards
 module _ {b : List ℕ} (p ix : List ℕ) {n : ℕ} (u : ℕ) {x m : ℕ} (st : ColumnsStand b n x m) (c : List ℕ) (h : BackwardsIs b x m c) where
-  pub backwards-asks : Good b p ix n u → 131 ≤ length c → StoredListAsks b p ix n u c m
+  backwards-asks : Good b p ix n u → 131 ≤ length c → StoredListAsks b p ix n u c m
   backwards-asks g room = record { good = g; room = room; below = λ j l. omega (arith, h j l, st.below (m - 1 - j) (omega arith)) }
 
-  pub backwards-is : sorts_in b p n c 3 m ≡ backwards (sorts_in b p n b x m) end
+  backwards-is : sorts_in b p n c 3 m ≡ backwards (sorts_in b p n b x m) end
   unfolding sorts_of numbers_at
   backwards-is =
       let e : m ≡ m + 0 = omega arith in
       ap (λ (i : ℕ). sorts_in b p n c 3 i) e ∙ sorts-back (store_of b p n) c b 3 x m 0 h
 
--- RelTranspose of a sort by its columns.
-module _ {ss : Sorts} (s : Sort) (rest : Sorts) (e : ss ≡ s then rest) where
-  pub trans-none : columns s ≡ none → transpose_of ss ≡ refused Panics
-  trans-none h = ap transpose_of e ∙ ap (over_columns (λ xs. relation (backwards xs end))) h
+pub back-put : {b p ix : List ℕ} {n u : ℕ} → Good b p ix n u → {x m : ℕ} → ColumnsStand b n x m → (s c : List ℕ) {k : ℕ} → s ≡ b → BackwardsIs s x m c → k ≡ m → 131 ≤ length c
+    → StoredListAsks b p ix n u c k × (sorts_in b p n c 3 k ≡ backwards (sorts_in b p n b x m) end)
+back-put {b} {p} {ix} {n} {u} g {x} {m} st s c {k} e h q room =
+    let put = subst (λ (v : List ℕ). BackwardsIs v x m c) e h in
+    subst (λ (v : ℕ). StoredListAsks b p ix n u c v × (sorts_in b p n c 3 v ≡ backwards (sorts_in b p n b x m) end)) (sym q)
+    (backwards-asks p ix u st c put g room, backwards-is p ix u st c put)
 
-  pub trans-is : (cs : Sorts) {ds : Sorts} → columns s ≡ some cs → ds ≡ backwards cs end → transpose_of ss ≡ sort (set (tuple ds))
-  trans-is cs {ds} h d = ap transpose_of e ∙ ap (over_columns (λ xs. relation (backwards xs end))) h ∙ ap (λ (i : Sorts). sort (set (tuple i))) (sym d)
+-- What `columns_of` and `ok_or` gave, over the store whose sorts were read.
+module _ (z : Readable) (s : Store) (er : z.records.now ≡ s.records.now) (ep : z.places.now ≡ s.places.now) (ec : z.count ≡ s.count) (k : ℕ) (r : Option Span)
+    (h : ColumnsIs z.records.now z.places.now z.count (sort_at z.records.now z.places.now z.count k) r) where
+  over-columns : ColumnsIs s.records.now s.places.now s.count (sort_at s.records.now s.places.now s.count k) r
+  over-columns =
+      let Is = λ (b p : List ℕ) (n : ℕ). ColumnsIs b p n (sort_at b p n k) r in
+      subst (λ (n : ℕ). Is s.records.now s.places.now n) ec (subst (λ (p : List ℕ). Is s.records.now p z.count) ep (subst (λ (b : List ℕ). Is b z.places.now z.count) er h))
+
+  pub columns-missing : {c : Cause} → ok_or r Panics ≡ Err c → columns (sort_at s.records.now s.places.now s.count k) ≡ none
+  columns-missing {c} e = go r over-columns e
+    where
+      go : (o : Option Span) → ColumnsIs s.records.now s.places.now s.count (sort_at s.records.now s.places.now s.count k) o → ok_or o Panics ≡ Err c
+          → columns (sort_at s.records.now s.places.now s.count k) ≡ none
+      go (Some x) h e = cc
+      go None h e = h
+
+  pub columns-read : {x : Span} → ok_or r Panics ≡ Ok x → ColumnsIs s.records.now s.places.now s.count (sort_at s.records.now s.places.now s.count k) (Some x)
+  columns-read {x} e = go r over-columns e
+    where
+      go : (o : Option Span) → ColumnsIs s.records.now s.places.now s.count (sort_at s.records.now s.places.now s.count k) o → ok_or o Panics ≡ Ok x
+          → ColumnsIs s.records.now s.places.now s.count (sort_at s.records.now s.places.now s.count k) (Some x)
+      go (Some v) h e =
+          let q : v ≡ x = cc in subst (λ (o : Span). ColumnsIs s.records.now s.places.now s.count (sort_at s.records.now s.places.now s.count k) (Some o)) q h
+      go None h e = cc
 
 ---------------------------------------------------------------- side by side
 abbrev side_by : Bool → ℕ → ℕ → ℕ
@@ -205,14 +225,7 @@ side-high b x m y j =
     rw (lt-leb (suc (m + j)) m (omega arith)) (ap (λ (i : ℕ). u16_at b (y + 2 * i)) e)
 
 module _ {b p ix : List ℕ} {n u : ℕ} {a : List ℕ} {x m y q : ℕ} (asks : SideAsks b p ix n u a x m y q) where
-  pub side-first : PutColumnsAsk b x m a 0
-  side-first = record { within = asks.left.within; room = omega (arith, asks.left.few, asks.room); low = omega arith; few = asks.left.few }
-
-  pub side-second : (c : List ℕ) → length c ≡ length a → PutColumnsAsk b y q c m
-  side-second c e =
-      record { within = asks.right.within; room = omega (arith, asks.left.few, asks.right.few, asks.room); low = asks.left.few; few = asks.right.few }
-
-  module _ (c d : List ℕ) (hc : PutHas b x m a 0 c) (hd : PutHas b y q c m d) where
+  module _ (o c d : List ℕ) (hc : PutHas b x m o 0 c) (hd : PutHas b y q c m d) where
     filled : Filled d (side_at b x m y) (m + q)
     filled =
         let z : 0 + m ≡ m = omega arith in
@@ -228,7 +241,7 @@ module _ {b p ix : List ℕ} {n u : ℕ} {a : List ℕ} {x m y q : ℕ} (asks : 
     high_is : (j : ℕ) → j < q → u16_at d (3 + 2 * (m + j)) ≡ u16_at b (y + 2 * j)
     high_is j l = filled (m + j) (omega arith) ∙ side-high b x m y j
 
-    pub side-asks : length d ≡ length a → StoredListAsks b p ix n u d (m + q)
+    side-asks : length d ≡ length a → StoredListAsks b p ix n u d (m + q)
     side-asks e = record { good = asks.good; room = omega (arith, asks.room); below = λ j l. go j l (dec_lt j m) }
       where
         go : (j : ℕ) → j < m + q → Dec (j < m) → u16_at d (3 + 2 * j) < n
@@ -238,8 +251,22 @@ module _ {b p ix : List ℕ} {n u : ℕ} {a : List ℕ} {x m y q : ℕ} (asks : 
             let z : m + (j - m) ≡ j = omega arith in
             subst (λ (k : ℕ). u16_at d (3 + 2 * k) < n) z (omega (arith, high_is (j - m) i, asks.right.below (j - m) i))
 
-    pub side-is : product_of (sorts_in b p n b x m) (sorts_in b p n b y q) ≡ sort (set (tuple (sorts_in b p n d 3 (m + q))))
+    side-is : product_of (sorts_in b p n b x m) (sorts_in b p n b y q) ≡ sort (set (tuple (sorts_in b p n d 3 (m + q))))
     side-is = ap (λ (ss : Sorts). sort (set (tuple ss))) (sym (sorts-append (store_of b p n) d b 3 x m y q low-is high_is))
+
+  -- The list after both were put, by the counts that were there.
+  pub sides-put : {s : List ℕ} (o c d : List ℕ) {i j k : ℕ} → s ≡ b → PutHas s x m o i c → PutHas s y q c j d → i ≡ 0 → j ≡ i + m → k ≡ j + q → length d ≡ length a
+      → StoredListAsks b p ix n u d k × (product_of (sorts_in b p n b x m) (sorts_in b p n b y q) ≡ sort (set (tuple (sorts_in b p n d 3 k))))
+  sides-put {s} o c d {i} {j} {k} f hc hd z ej ek e =
+      let one = subst (λ (v : List ℕ). PutHas v x m o i c) f hc in
+      let two = subst (λ (v : List ℕ). PutHas v y q c j d) f hd in
+      let first = subst (λ (v : ℕ). PutHas b x m o v c) z one in
+      let jm : j ≡ m = omega arith in
+      let second = subst (λ (v : ℕ). PutHas b y q c v d) jm two in
+      let all : m + q ≡ k = omega arith in (
+        subst (λ (v : ℕ). StoredListAsks b p ix n u d v) all (side-asks o c d first second e),
+        side-is o c d first second ∙ ap (λ (v : ℕ). sort (set (tuple (sorts_in b p n d 3 v)))) all,
+      )
 
   --------------------------------------------------------------- without the shared columns
   pub join-panics : q ≡ 0 → join_of (sorts_in b p n b x m) (sorts_in b p n b y q) ≡ refused Panics
@@ -260,20 +287,7 @@ module _ {b p ix : List ℕ} {n u : ℕ} {a : List ℕ} {x m y q : ℕ} (asks : 
         ap (join_of (sorts_in b p n b x m)) (parts_more (store_of b p n) b y q more)
         ∙ ap (λ (i : Sorts). sort (set (tuple (appended i (sorts_in b p n b (y + 2) (q - 1)))))) e
 
-    pub empty-asks : SideAsks b p ix n u a x 0 (y + 2) (q - 1)
-    empty-asks =
-        record {
-          good = asks.good;
-          room = asks.room;
-          left = record { within = omega (arith, asks.left.within); below = λ j l. absurd (not-suc-le-zero l); few = omega arith };
-          right = less-right;
-        }
-
-    pub join-empty : m ≡ 0 → join_of (sorts_in b p n b x m) (sorts_in b p n b y q) ≡ product_of (sorts_in b p n b x 0) (sorts_in b p n b (y + 2) (q - 1))
-    unfolding all_but_last sorts_of numbers_at
-    join-empty z = without end (ap (λ (i : ℕ). all_but_last (sorts_in b p n b x i)) z)
-
-    pub less-asks : SideAsks b p ix n u a x (m - 1) (y + 2) (q - 1)
+    less-asks : SideAsks b p ix n u a x (m - 1) (y + 2) (q - 1)
     less-asks =
         record {
           good = asks.good;
@@ -282,10 +296,29 @@ module _ {b p ix : List ℕ} {n u : ℕ} {a : List ℕ} {x m y q : ℕ} (asks : 
           right = less-right;
         }
 
-    pub join-less : 0 < m → join_of (sorts_in b p n b x m) (sorts_in b p n b y q) ≡ product_of (sorts_in b p n b x (m - 1)) (sorts_in b p n b (y + 2) (q - 1))
+    join-less : 0 < m → join_of (sorts_in b p n b x m) (sorts_in b p n b y q) ≡ product_of (sorts_in b p n b x (m - 1)) (sorts_in b p n b (y + 2) (q - 1))
     join-less l =
         let e : m ≡ suc (m - 1) = omega arith in
         without (sorts_in b p n b x (m - 1)) (ap (λ (i : ℕ). all_but_last (sorts_in b p n b x i)) e ∙ but_last (store_of b p n) b x (m - 1))
+
+    -- Without columns on the left side there is no last one.
+    join-drops : join_of (sorts_in b p n b x m) (sorts_in b p n b y q) ≡ product_of (sorts_in b p n b x (m - 1)) (sorts_in b p n b (y + 2) (q - 1))
+    unfolding all_but_last sorts_of numbers_at
+    join-drops = go m refl
+      where
+        go : (v : ℕ) → m ≡ v → join_of (sorts_in b p n b x m) (sorts_in b p n b y q) ≡ product_of (sorts_in b p n b x (m - 1)) (sorts_in b p n b (y + 2) (q - 1))
+        go zero e =
+            let o : m - 1 ≡ 0 = omega arith in
+            without end (ap (λ (v : ℕ). all_but_last (sorts_in b p n b x v)) e)
+            ∙ ap (λ (v : ℕ). product_of (sorts_in b p n b x v) (sorts_in b p n b (y + 2) (q - 1))) (sym o)
+        go (suc v) e = join-less (omega arith)
+
+    -- The same at the places and counts that were computed.
+    pub join-sides : {v w z : ℕ} → v ≡ m - 1 → w ≡ y + 2 → z ≡ q - 1
+        → SideAsks b p ix n u a x v w z × (join_of (sorts_in b p n b x m) (sorts_in b p n b y q) ≡ product_of (sorts_in b p n b x v) (sorts_in b p n b w z))
+    join-sides {v} {w} {z} e f g =
+        let J = λ (i j k : ℕ). SideAsks b p ix n u a x i j k × (join_of (sorts_in b p n b x m) (sorts_in b p n b y q) ≡ product_of (sorts_in b p n b x i) (sorts_in b p n b j k)) in
+        subst (λ (i : ℕ). J i w z) (sym e) (subst (λ (j : ℕ). J (m - 1) j z) (sym f) (subst (λ (k : ℕ). J (m - 1) (y + 2) k) (sym g) (less-asks, join-drops)))
 
 ---------------------------------------------------------------- two relations
 none_both : (f : Sorts → Sorts → Verdict) (st : List Sort) (a : List ℕ) (x m : ℕ) → m < 2 → over_both f (sorts_of st (numbers_at a x m)) ≡ refused Panics
@@ -303,57 +336,47 @@ over-right f s t ss xs h g = ap (over_columns (λ xs. over_columns (λ ys. f xs 
 over-two : (f : Sorts → Sorts → Verdict) (s t : Sort) (ss xs ys : Sorts) → columns s ≡ some xs → columns t ≡ some ys → over_both f (s then (t then ss)) ≡ f xs ys
 over-two f s t ss xs ys h g = ap (over_columns (λ xs. over_columns (λ ys. f xs ys) (columns t))) h ∙ ap (over_columns (λ ys. f xs ys)) g
 
-module _ (b p a : List ℕ) (m : ℕ) where
-  pub both-few : m < 2 → BothHas b p a m Lack
-  both-few l n h f = none_both f (store_of b p n) a 3 m l
+-- The first two of the arguments, by what their columns are.
+module _ {b p : List ℕ} {n : ℕ} {a : List ℕ} {m : ℕ} (h : Referring b p n a 3 m) where
+  pub both-few : m < 2 → BothIs b p n (sorts_in b p n a 3 m) None
+  both-few l f = none_both f (store_of b p n) a 3 m l
 
-  module _ (l : 2 ≤ m) {k : ℕ} (e : k ≡ u16_at a 3) where
-    left-known : {n : ℕ} → Referring b p n a 3 m → k < n
-    left-known {n} h = subst (λ (i : ℕ). i < n) (sym e) (refer-first b p n a 3 m h (omega arith))
+  module _ (l : 2 ≤ m) {k v : ℕ} (e : k ≡ u16_at a (3 + 2 * 0)) (z : v ≡ u16_at a (3 + 2 * 1)) where
+    two-sorts : sorts_in b p n a 3 m ≡ sort_at b p n k then (sort_at b p n v then sorts_in b p n a 7 (m - 1 - 1))
+    two-sorts =
+        sorts-first b p n a 3 m h (omega arith)
+        ∙ ap₂ (λ (i : ℕ) (ss : Sorts). sort_at b p n i then ss) (sym e)
+        (sorts-first b p n a 5 (m - 1) (refer-rest b p n a 3 m h (omega arith)) (omega arith)
+        ∙ ap (λ (i : ℕ). sort_at b p n i then sorts_in b p n a 7 (m - 1 - 1)) (sym z))
 
-    pub left-asks : ReadArgumentsAsk b p a 3 m → HeadAsks b p k
-    left-asks (n, h) = (n, record { stored = h.stored; known = left-known h })
+    pub left-none : ColumnsIs b p n (sort_at b p n k) None → BothIs b p n (sorts_in b p n a 3 m) None
+    left-none c f = ap (over_both f) two-sorts ∙ over-left f (sort_at b p n k) (sort_at b p n v) (sorts_in b p n a 7 (m - 1 - 1)) c
 
-    two-sorts : {n : ℕ} → Referring b p n a 3 m → sorts_in b p n a 3 m ≡ sort_at b p n k then (sort_at b p n (u16_at a 5) then sorts_in b p n a 7 (m - 1 - 1))
-    two-sorts {n} h =
-        let more : 0 < m = omega arith in
-        sorts-first b p n a 3 m h more
-        ∙ ap₂ (λ (i : ℕ) (ss : Sorts). sort_at b p n i then ss) (sym e) (sorts-first b p n a 5 (m - 1) (refer-rest b p n a 3 m h more) (omega arith))
+    pub right-none : (x : Span) → ColumnsIs b p n (sort_at b p n k) (Some x) → ColumnsIs b p n (sort_at b p n v) None → BothIs b p n (sorts_in b p n a 3 m) None
+    right-none x c d f =
+        ap (over_both f) two-sorts
+        ∙ over-right f (sort_at b p n k) (sort_at b p n v) (sorts_in b p n a 7 (m - 1 - 1)) (sorts_in b p n b x.at x.count) c.0 d
 
-    pub left-none : ColumnsHas b p k NoColumns → BothHas b p a m Lack
-    left-none c n h f =
-        ap (over_both f) (two-sorts h)
-        ∙ over-left f (sort_at b p n k) (sort_at b p n (u16_at a 5)) (sorts_in b p n a 7 (m - 1 - 1)) (c n h.stored (left-known h))
+    pub both-have : (x y : Span) → ColumnsIs b p n (sort_at b p n k) (Some x) → ColumnsIs b p n (sort_at b p n v) (Some y) → BothIs b p n (sorts_in b p n a 3 m) (Some (x, y))
+    both-have x y c d =
+        record {
+          is = λ f.
+              ap (over_both f) two-sorts
+              ∙ over-two f (sort_at b p n k) (sort_at b p n v) (sorts_in b p n a 7 (m - 1 - 1)) (sorts_in b p n b x.at x.count) (sorts_in b p n b y.at y.count) c.0 d.0;
+          left = c.1;
+          right = d.1;
+        }
 
-    module _ {v : ℕ} (z : v ≡ u16_at a 5) where
-      right-known : {n : ℕ} → Referring b p n a 3 m → v < n
-      right-known {n} h =
-          let more : 0 < m = omega arith in
-          subst (λ (i : ℕ). i < n) (sym z) (refer-first b p n a 5 (m - 1) (refer-rest b p n a 3 m h more) (omega arith))
+-- What `both_columns` and `ok_or` gave, over the store whose sorts were read.
+module _ (z : Readable) (s : Store) (er : z.records.now ≡ s.records.now) (ep : z.places.now ≡ s.places.now) (ec : z.count ≡ s.count) (a : Args) (r : Option (Span × Span)) where
+  over-store : BothIs z.records.now z.places.now z.count (read_arguments z a) r → BothIs s.records.now s.places.now s.count (arguments s a) r
+  over-store h =
+      let Both = λ (b p : List ℕ) (n : ℕ). BothIs b p n (sorts_in b p n a.bytes.now 3 a.count) r in
+      subst (λ (n : ℕ). Both s.records.now s.places.now n) ec (subst (λ (p : List ℕ). Both s.records.now p z.count) ep (subst (λ (b : List ℕ). Both b z.places.now z.count) er h))
 
-      pub right-asks : ReadArgumentsAsk b p a 3 m → HeadAsks b p v
-      right-asks (n, h) = (n, record { stored = h.stored; known = right-known h })
-
-      module _ (x c : ℕ) (left : ColumnsHas b p k (Are x c)) where
-        pub right-none : ColumnsHas b p v NoColumns → BothHas b p a m Lack
-        right-none r n h f =
-            ap (over_both f) (two-sorts h ∙ ap (λ (i : ℕ). sort_at b p n k then (sort_at b p n i then sorts_in b p n a 7 (m - 1 - 1))) (sym z))
-            ∙ over-right f (sort_at b p n k) (sort_at b p n v) (sorts_in b p n a 7 (m - 1 - 1)) (sorts_in b p n b x c) (left n h.stored (left-known h)).0 (r n h.stored (right-known h))
-
-        pub both-have : (y d : ℕ) → ColumnsHas b p v (Are y d) → BothHas b p a m (Have x c y d)
-        both-have y d r n h =
-            let one = left n h.stored (left-known h) in
-            let two = r n h.stored (right-known h) in
-            record {
-              is = λ f.
-                  ap (over_both f) (two-sorts h ∙ ap (λ (i : ℕ). sort_at b p n k then (sort_at b p n i then sorts_in b p n a 7 (m - 1 - 1))) (sym z))
-                  ∙ over-two f (sort_at b p n k) (sort_at b p n v) (sorts_in b p n a 7 (m - 1 - 1)) (sorts_in b p n b x c) (sorts_in b p n b y d) one.0 two.0;
-              left = one.1;
-              right = two.1;
-            }
-
-pub side-of : {b p ix : List ℕ} {n u : ℕ} {a : List ℕ} {m : ℕ} → ArgsAsks b p ix n u a m → {x c y d : ℕ} → Having b p n (sorts_in b p n a 3 m) x c y d → SideAsks b p ix n u a x c y d
-side-of {b} {p} {ix} {n} {u} {a} {m} h {x} {c} {y} {d} e = record { good = h.good; room = h.room; left = e.left; right = e.right }
-
-pub known-entry : {b p : List ℕ} {k : ℕ} → HeadAsks b p k → EntryAsks b p k
-known-entry {b} {p} {k} (n, h) = entry-asks b p n k h.stored h.known
+  pub both-missing : BothIs z.records.now z.places.now z.count (read_arguments z a) r → {c : Cause} → ok_or r Panics ≡ Err c → (f : Sorts → Sorts → Verdict) → over_both f (arguments s a) ≡ refused Panics
+  both-missing h {c} e = go r (over-store h) e
+    where
+      go : (o : Option (Span × Span)) → BothIs s.records.now s.places.now s.count (arguments s a) o → ok_or o Panics ≡ Err c → (f : Sorts → Sorts → Verdict) → over_both f (arguments s a) ≡ refused Panics
+      go (Some x) h e = cc
+      go None h e = h

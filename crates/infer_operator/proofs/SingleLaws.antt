@@ -1,34 +1,44 @@
 -- One argument, by its place; Real among the arguments; the element of an Array; the constants that arguments are.
 use Prim.Native.Nat.{ℕ, zero, suc, ◌+◌, ◌*◌, ◌-◌, ◌≤◌, ◌<◌}
-use mathlib.Core.Path.{◌≡◌, refl, sym, ap, subst, ◌∙◌}
-use mathlib.Core.Bool.{Bool, true, false}
+use mathlib.Core.Path.{◌≡◌, refl, sym, ap, ap₂, subst, ◌∙◌}
+use mathlib.Core.Bool.{Bool, true, false, not, ◌||◌}
 use mathlib.Core.List.{List, [], ◌∷◌}
 use mathlib.Core.Option.{Option, none, some}
+use mathlib.Core.Logic.{◌⊎◌, inl, inr, ⊎_elim}
 use native.Mathlib.Omega.{arith}
 use native.Mathlib.Nat.{not-suc-le-zero}
 use lib.ListN.{length, get_or}
-use borrow.Author.Tests.{ne_eqb}
+use lib.Dec.{eqb}
+use borrow.Author.Tests.{ne_eqb, eqb-true}
+use Rattle.std.proofs.lemmas.Bool.{eqb-false}
+use denote.Enum.Bare.{sameb}
+use denote.Enum.Declared.{tag_of}
+use Rattle.std.specs.Prelude.{Result, Ok, Err, Option as Found, Some, None, ok_or, slice_get}
+use Rattle.std.specs.List.{list_any}
 use Rattle.record.specs.Number.{u16_at, numbers_at}
+use Rattle.record.specs.Kinds.{sort_number}
+use Rattle.record.specs.contracts.kinds.SortKind.{the_type}
+use Rattle.record.specs.declared.kinds.SortKind.{SortKind}
+use Rattle.record.specs.declared.kinds.SortKind.TheVariants.{Function, Atom, Var, Bool as Truth, Int, Real, String, RegLan, Array, BitVec, ParamBitVec, Datatype, Par, «Type», Set, Tuple}
 use Rattle.record.specs.Sort.{Sort, Sorts, var, par, node, end, ◌then◌, real, bitvec, param_bit_vec, kind_of, count, same}
 use Rattle.record.specs.Record.{Fields, leaf, maps, map_of, bit, leasts, least_of, sorts_of}
 use Rattle.record.specs.Decode.{fields_at, store_of, sort_at, Stored}
 use Rattle.record.specs.Codec.{length-numbers_at}
 use Rattle.record.specs.declared.SortRecord.{SortRecord}
-use Rattle.store.specs.Entry.{EntryAsks, EntryIs, EntryHas, KindHas}
-use Rattle.store.specs.Walk.{entry-asks, walk-node}
+use Rattle.store.specs.Entry.{EntryIs, EntryHas, KindHas}
+use Rattle.store.specs.Walk.{walk-node}
 use Rattle.record.specs.Store.{fields_of}
 use Rattle.record.specs.Sizes.{Formed, sort-formed, length-indices}
 use Rattle.record.specs.StoreLaws.{sort-node}
+use Rattle.row_rules.specs.declared.Cause.{Cause}
 use Rattle.row_rules.specs.declared.Cause.TheVariants.{Panics}
 use Rattle.row_rules.specs.Verdict.{Verdict, sort, refused}
 use Rattle.row_rules.specs.Lists.{last_of}
-use Rattle.infer_rules.specs.Inferred.{final_of, some_real, element_of, selected, constant_width}
-use Rattle.row_answer.specs.declared.arguments.Constant.{Constant}
-use Rattle.row_answer.specs.Arguments.{integer_of, integer_at, ConstantAsks}
-use Rattle.row_answer.specs.Arguments.{constants_from, constants_in, ConstantsAsk}
-use Rattle.infer_operator.specs.Asks.{Referring, sorts_in, refer-first, sorts-first}
-use Rattle.infer_operator.specs.Single.{nth_of, last_from, RealHas}
-use Rattle.infer_operator.proofs.WalkLaws.{Walking, walk_end, walk_here, walk-on, walk-kind, walk-known}
+use Rattle.infer_rules.specs.Inferred.{final_of, some_real, element_of, constant_width}
+use Rattle.row_answer.specs.AnswerLaws.{judged-as, answered-as, answer-known, made-refused}
+use Rattle.row_answer.specs.Arguments.{integer_at, index_at, constants_from, constants_in}
+use Rattle.infer_operator.specs.Asks.{Referring, sorts_in, args-refer}
+use Rattle.infer_operator.specs.Single.{nth_of, last_from, ArgumentHas, LastHas}
 
 ---------------------------------------------------------------- by place
 module _ (b p : List ℕ) (n : ℕ) (a : List ℕ) where
@@ -80,6 +90,38 @@ last-known {b} {p} {n} {a} {m} h more =
     let e : 3 + 2 * (m - 1) ≡ 1 + 2 * m = omega arith in
     subst (λ (y : ℕ). u16_at a y < n) e (h.below (m - 1) (omega arith))
 
+-- THE ARGUMENT that was found in a place, or none; and the last one.
+nth-slice : (a : List ℕ) (x m i : ℕ) → (m ≤ i) × (slice_get (numbers_at a x m) i ≡ None) ⊎ (i < m) × (slice_get (numbers_at a x m) i ≡ Some (u16_at a (x + 2 * i)))
+unfolding numbers_at
+nth-slice a x zero i = inl (omega arith, refl)
+nth-slice a x (suc m) zero = let e : x ≡ x + 2 * 0 = omega arith in inr (omega arith, ap (λ (y : ℕ). Some (u16_at a y)) e)
+nth-slice a x (suc m) (suc i) =
+    let e : x + 2 + 2 * i ≡ x + 2 * suc i = omega arith in
+    ⊎_elim (λ (h : (m ≤ i) × (slice_get (numbers_at a (x + 2) m) i ≡ None)). inl (omega (arith, h.0), h.1))
+    (λ (h : (i < m) × (slice_get (numbers_at a (x + 2) m) i ≡ Some (u16_at a (x + 2 + 2 * i)))). inr (omega (arith, h.0), h.1 ∙ ap (λ (y : ℕ). Some (u16_at a y)) e))
+    (nth-slice a (x + 2) m i)
+
+pub argument-has : (a : List ℕ) (m i : ℕ) {r : Result ℕ Cause} → r ≡ ok_or (slice_get (numbers_at a 3 m) i) Panics → ArgumentHas a m i r
+argument-has a m i {r} e b p ix n u h =
+    ⊎_elim
+    (λ (g : (m ≤ i) × (slice_get (numbers_at a 3 m) i ≡ None)).
+    answered-as (ap (λ (o : Result ℕ Cause). record { verdict = o; count = n; used = u }) (e ∙ ap (λ (o : Found ℕ). ok_or o Panics) g.1))
+    (judged-as (nth-none b p n a 3 m i g.0) (made-refused b p ix n u h.good Panics)))
+    (λ (g : (i < m) × (slice_get (numbers_at a 3 m) i ≡ Some (u16_at a (3 + 2 * i)))).
+    answered-as (ap (λ (o : Result ℕ Cause). record { verdict = o; count = n; used = u }) (e ∙ ap (λ (o : Found ℕ). ok_or o Panics) g.1))
+    (judged-as (nth-some b p n a 3 m i g.0) (answer-known b p ix n u h.good (u16_at a (3 + 2 * i)) (h.below i g.0))))
+    (nth-slice a 3 m i)
+
+pub last-none : (a : List ℕ) (m i : ℕ) → m ≤ i → LastHas a m i (Err Panics)
+last-none a m i l b p ix n u h = judged-as (last_none b p n a 3 m i l) (made-refused b p ix n u h.good Panics)
+
+pub last-has : (a : List ℕ) (m i : ℕ) {k : ℕ} → i < m → k ≡ u16_at a (3 + 2 * (m - 1)) → LastHas a m i (Ok k)
+last-has a m i {k} l e b p ix n u h =
+    let o : 3 + 2 * (m - 1) ≡ 1 + 2 * m = omega arith in
+    let q : k ≡ u16_at a (1 + 2 * m) = e ∙ ap (u16_at a) o in
+    judged-as (last_found b p n a m i l ∙ ap (λ (j : ℕ). sort (sort_at b p n j)) (sym q))
+    (answer-known b p ix n u h.good k (omega (arith, q, last-known (args-refer b p ix n u a m h) (omega arith))))
+
 ---------------------------------------------------------------- Real
 -- A sort of the store of the kind Real is Real.
 no-parts : (ss : Sorts) → count ss ≡ 0 → ss ≡ end
@@ -111,94 +153,105 @@ real-other (node k a w ss) h = rw (ne_eqb k 5 h) refl
 stored-formed : {b p : List ℕ} {n : ℕ} (k : ℕ) → Stored b p n → k < n → Formed (sort_at b p n k)
 stored-formed {b} {p} {n} k st l = subst Formed (sym (sort-node b p n k st l)) (sort-formed (store_of b p n) (fields_at b (get_or p k 0)) (st.each k l).shape)
 
-some-here : (s : Sort) (ss : Sorts) → same s real ≡ true → some_real (s then ss) ≡ true
-unfolding some_real
-some-here s ss h = rw h refl
+real-test : (s : Sort) → Formed s → same s real ≡ eqb (kind_of s) 5
+real-test s f = go (eqb (kind_of s) 5) refl
+  where
+    go : (t : Bool) → eqb (kind_of s) 5 ≡ t → same s real ≡ t
+    go true e = real_same f (eqb-true (kind_of s) 5 e)
+    go false e = real-other s (eqb-false (kind_of s) 5 e)
 
-some-on : (s : Sort) (ss : Sorts) → same s real ≡ false → some_real (s then ss) ≡ some_real ss
-unfolding some_real
-some-on s ss h = rw h refl
+-- The number of a kind is its tag, so that a test of two kinds is one of their numbers.
+tag-number : (k : SortKind) → tag_of the_type k ≡ sort_number k
+tag-number Function = refl
+tag-number Atom = refl
+tag-number Var = refl
+tag-number Truth = refl
+tag-number Int = refl
+tag-number Real = refl
+tag-number String = refl
+tag-number RegLan = refl
+tag-number Array = refl
+tag-number BitVec = refl
+tag-number ParamBitVec = refl
+tag-number Datatype = refl
+tag-number Par = refl
+tag-number «Type» = refl
+tag-number Set = refl
+tag-number Tuple = refl
 
-module _ {b p a : List ℕ} {m at left : ℕ} (w : Walking Bool some_real some_real b p a 3 m at left) where
-  pub real-none : left ≡ 0 → RealHas b p a m false
-  unfolding some_real
-  real-none z n h = walk_end w z h
+pub same-test : (j k : SortKind) → sameb the_type j k ≡ eqb (sort_number j) (sort_number k)
+same-test j k = ap₂ (λ (x y : ℕ). eqb x y) (tag-number j) (tag-number k)
 
-  module _ (some : 0 < left) {k : ℕ} (e : k ≡ u16_at a at) (kind : ℕ) (q : KindHas b p k kind) where
-    pub real-found : kind ≡ 5 → RealHas b p a m true
-    real-found i n h =
-        walk_here w some e h
-        ∙ some-here (sort_at b p n k) (sorts_in b p n a (at + 2) (left - 1))
-        (real_same (stored-formed k h.stored (walk-known w some e h)) (sym (walk-kind w some e kind q h) ∙ i))
+-- What a test that failed says.
+not-false : (b : Bool) → false ≡ not b → b ≡ true
+not-false true e = refl
+not-false false e = cc
 
-    pub real-more : (kind ≡ 5 → ⊥) → Walking Bool some_real some_real b p a 3 m (at + 2) (left - 1)
-    real-more i =
-        walk-on w some e some_real
-        (λ n h ss. some-on (sort_at b p n k) ss (real-other (sort_at b p n k) (λ z. i (walk-kind w some e kind q h ∙ z))))
+not-true : (b : Bool) → true ≡ not b → b ≡ false
+not-true true e = cc
+not-true false e = refl
 
----------------------------------------------------------------- no argument, and the first
-module _ (b p : List ℕ) (n : ℕ) (a : List ℕ) (m : ℕ) where
-  pub sorts-none : m ≡ 0 → sorts_in b p n a 3 m ≡ end
+pub same-kind : (j k : SortKind) → false ≡ not (sameb the_type j k) → sort_number j ≡ sort_number k
+same-kind j k e = eqb-true (sort_number j) (sort_number k) (sym (same-test j k) ∙ not-false (sameb the_type j k) e)
+
+pub other-kind : (j k : SortKind) → true ≡ not (sameb the_type j k) → sort_number j ≡ sort_number k → ⊥
+other-kind j k e = eqb-false (sort_number j) (sort_number k) (sym (same-test j k) ∙ not-true (sameb the_type j k) e)
+
+-- The test of a kind that was read.
+pub is-real : (b p : List ℕ) (n k : ℕ) → Stored b p n → k < n → (r : SortKind) → KindHas b p k (sort_number r) → sameb the_type r Real ≡ same (sort_at b p n k) real
+is-real b p n k st l r h = same-test r Real ∙ ap (λ (i : ℕ). eqb i 5) (h n st l) ∙ sym (real-test (sort_at b p n k) (stored-formed k st l))
+
+pub some-any : (b p : List ℕ) (n : ℕ) (ks : List ℕ) → some_real (sorts_of (store_of b p n) ks) ≡ list_any (λ k. same (sort_at b p n k) real) ks
+unfolding some_real sorts_of sort_at
+some-any b p n [] = refl
+some-any b p n (k ∷ ks) = ap (λ (t : Bool). same (get_or (store_of b p n) k leaf) real || t) (some-any b p n ks)
+
+---------------------------------------------------------------- Select
+-- The second part of the Array k, by what was read of it; another sort has none.
+module _ {b p : List ℕ} {n k : ℕ} (st : Stored b p n) (known : k < n) (r : SortRecord) (q : EntryHas b p k r) where
+  read : EntryIs b p n k r
+  read = q n st known
+
+  two-parts : sort_number r.kind ≡ 8 → 2 ≤ r.parts.count
+  unfolding least_of leasts
+  two-parts i =
+      let f = fields_at b (get_or p k 0) in
+      let kind : f.kind ≡ 8 = ap (λ (g : Fields). g.kind) read.place.same ∙ i in
+      let least : 2 ≤ length f.list = subst (λ (j : ℕ). least_of j ≤ length f.list) kind (st.each k known).shape.least in
+      omega (arith, ap (λ (g : Fields). length g.list) read.place.same, length-numbers_at b r.parts.at r.parts.count)
+
+  pub element-in : sort_number r.kind ≡ 8 → r.parts.at + 2 + 2 ≤ length b
+  element-in i = omega (arith, two-parts i, read.place.list)
+
+  pub element-known : sort_number r.kind ≡ 8 → {v : ℕ} → v ≡ u16_at b (r.parts.at + 2) → v < n
+  element-known i {v} z =
+      let o : r.parts.at + 2 * 1 ≡ r.parts.at + 2 = omega arith in
+      let l = subst (λ (y : ℕ). u16_at b y < k) o (read.below 1 (omega (arith, two-parts i))) in
+      omega (arith, known)
+
+  element-of : (ss : List Sort) (x c : ℕ) → 2 ≤ c → element_of (node 8 r.name r.number (sorts_of ss (numbers_at b x c))) ≡ sort (get_or ss (u16_at b (x + 2)) leaf)
   unfolding sorts_of numbers_at
-  sorts-none z = ap (λ (i : ℕ). sorts_in b p n a 3 i) z
+  element-of ss x zero l = absurd (not-suc-le-zero l)
+  element-of ss x (suc zero) l = absurd (omega arith)
+  element-of ss x (suc (suc c)) l = refl
 
--- THE FIRST ARGUMENT, by the number that was read there.
-module _ {b p : List ℕ} {n : ℕ} {a : List ℕ} {m : ℕ} (h : Referring b p n a 3 m) (some : 0 < m) {k : ℕ} (e : k ≡ u16_at a 3) where
-  pub first-known : k < n
-  first-known = subst (λ (i : ℕ). i < n) (sym e) (refer-first b p n a 3 m h some)
+  pub element-is : (i : sort_number r.kind ≡ 8) {v : ℕ} → v ≡ u16_at b (r.parts.at + 2) → element_of (sort_at b p n k) ≡ sort (sort_at b p n v)
+  unfolding sort_at
+  element-is i {v} z =
+      ap element_of (walk-node b p n k st known r read (λ y. absurd (omega arith)) (λ y. absurd (omega arith))
+      ∙ ap (λ (j : ℕ). node j r.name r.number (sorts_of (store_of b p n) (numbers_at b r.parts.at r.parts.count))) i)
+      ∙ element-of (store_of b p n) r.parts.at r.parts.count (two-parts i)
+      ∙ ap (λ (j : ℕ). sort (get_or (store_of b p n) j leaf)) (sym z)
 
-  pub first_then : sorts_in b p n a 3 m ≡ sort_at b p n k then sorts_in b p n a 5 (m - 1)
-  first_then = sorts-first b p n a 3 m h some ∙ ap (λ (i : ℕ). sort_at b p n i then sorts_in b p n a 5 (m - 1)) (sym e)
+  not-array : (s : Sort) → (kind_of s ≡ 8 → ⊥) → element_of s ≡ refused Panics
+  not-array (var v) d = refl
+  not-array (par ns t) d = refl
+  not-array (node c g w end) d = refl
+  not-array (node c g w (x then end)) d = refl
+  not-array (node c g w (x then (y then ss))) d = rw (ne_eqb c 8 d) refl
 
-  pub first_entry : EntryAsks b p k
-  first_entry = entry-asks b p n k h.stored first-known
-
-  ------------------------------------------------------------ Select
-  module _ (r : SortRecord) (q : EntryHas b p k r) where
-    read : EntryIs b p n k r
-    read = q n h.stored first-known
-
-    two-parts : r.kind ≡ 8 → 2 ≤ r.count
-    unfolding least_of leasts
-    two-parts i =
-        let f = fields_at b (get_or p k 0) in
-        let kind : f.kind ≡ 8 = ap (λ (g : Fields). g.kind) read.place.same ∙ i in
-        let least : 2 ≤ length f.list = subst (λ (j : ℕ). least_of j ≤ length f.list) kind (h.stored.each k first-known).shape.least in
-        omega (arith, ap (λ (g : Fields). length g.list) read.place.same, length-numbers_at b r.list r.count)
-
-    pub element-in : r.kind ≡ 8 → r.list + 2 + 2 ≤ length b
-    element-in i = omega (arith, two-parts i, read.place.list)
-
-    pub element-known : r.kind ≡ 8 → {v : ℕ} → v ≡ u16_at b (r.list + 2) → v < n
-    element-known i {v} z =
-        let o : r.list + 2 * 1 ≡ r.list + 2 = omega arith in
-        let l = subst (λ (y : ℕ). u16_at b y < k) o (read.below 1 (omega (arith, two-parts i))) in
-        omega (arith, first-known)
-
-    element-of : (st : List Sort) (x c : ℕ) → 2 ≤ c → element_of (node 8 r.name r.number (sorts_of st (numbers_at b x c))) ≡ sort (get_or st (u16_at b (x + 2)) leaf)
-    unfolding sorts_of numbers_at
-    element-of st x zero l = absurd (not-suc-le-zero l)
-    element-of st x (suc zero) l = absurd (omega arith)
-    element-of st x (suc (suc c)) l = refl
-
-    pub element-is : (i : r.kind ≡ 8) {v : ℕ} → v ≡ u16_at b (r.list + 2) → selected (sorts_in b p n a 3 m) ≡ sort (sort_at b p n v)
-    unfolding sort_at
-    element-is i {v} z =
-        ap selected first_then
-        ∙ ap element_of (walk-node b p n k h.stored first-known r read (λ y. absurd (omega arith)) (λ y. absurd (omega arith))
-        ∙ ap (λ (j : ℕ). node j r.name r.number (sorts_of (store_of b p n) (numbers_at b r.list r.count))) i)
-        ∙ element-of (store_of b p n) r.list r.count (two-parts i)
-        ∙ ap (λ (j : ℕ). sort (get_or (store_of b p n) j leaf)) (sym z)
-
-    not-array : (s : Sort) → (kind_of s ≡ 8 → ⊥) → element_of s ≡ refused Panics
-    not-array (var v) d = refl
-    not-array (par ns t) d = refl
-    not-array (node c g w end) d = refl
-    not-array (node c g w (x then end)) d = refl
-    not-array (node c g w (x then (y then ss))) d = rw (ne_eqb c 8 d) refl
-
-    pub element-none : (r.kind ≡ 8 → ⊥) → selected (sorts_in b p n a 3 m) ≡ refused Panics
-    element-none d = ap selected first_then ∙ not-array (sort_at b p n k) (λ z. d (read.kind ∙ z))
+  pub element-none : (sort_number r.kind ≡ 8 → ⊥) → element_of (sort_at b p n k) ≡ refused Panics
+  element-none d = not-array (sort_at b p n k) (λ z. d (read.kind ∙ z))
 
 ---------------------------------------------------------------- constants
 -- The vector of a width that is written.
@@ -206,17 +259,14 @@ abbrev pub width_in : Option ℕ → Verdict
 width_in none = sort param_bit_vec
 width_in (some w) = sort (bitvec w)
 
-module _ {sheet starts : List ℕ} {x m : ℕ} (h : ConstantsAsk sheet starts x m) where
-  pub written_none : m < 2 → constant_width (constants_in sheet starts x m) ≡ refused Panics
+module _ (sheet starts : List ℕ) (x : ℕ) where
+  pub written_none : (m : ℕ) → m < 2 → constant_width (constants_in sheet starts x m) ≡ refused Panics
   unfolding constants_from numbers_at
-  written_none l = go m l
-    where
-      go : (i : ℕ) → i < 2 → constant_width (constants_in sheet starts x i) ≡ refused Panics
-      go zero l = refl
-      go (suc zero) l = refl
-      go (suc (suc i)) l = absurd (omega arith)
+  written_none zero l = refl
+  written_none (suc zero) l = refl
+  written_none (suc (suc i)) l = absurd (omega arith)
 
-  width-second : (i : ℕ) → 2 ≤ i → constant_width (constants_in sheet starts x i) ≡ width_in (integer_at sheet (get_or starts (u16_at sheet (x + 2)) 0))
+  pub width-second : (i : ℕ) → 2 ≤ i → constant_width (constants_in sheet starts x i) ≡ width_in (index_at sheet starts (x + 2))
   unfolding constants_from numbers_at
   width-second zero l = absurd (not-suc-le-zero l)
   width-second (suc zero) l = absurd (omega arith)
@@ -225,18 +275,3 @@ module _ {sheet starts : List ℕ} {x m : ℕ} (h : ConstantsAsk sheet starts x 
       go : (o : Option ℕ) (cs : List (Option ℕ)) → constant_width (integer_at sheet (get_or starts (u16_at sheet x) 0) ∷ (o ∷ cs)) ≡ width_in o
       go none cs = refl
       go (some w) cs = refl
-
-  module _ (l : 2 ≤ m) {t : ℕ} (e : t ≡ u16_at sheet (x + 2)) where
-    place : x + 2 * 1 ≡ x + 2
-    place = omega arith
-
-    pub second-in : t < length starts
-    second-in = omega (arith, e, subst (λ (y : ℕ). u16_at sheet y < length starts) place (h.term 1 (omega arith)))
-
-    pub second-asks : ConstantAsks sheet (get_or starts t 0)
-    second-asks =
-        subst (λ (i : ℕ). ConstantAsks sheet (get_or starts i 0)) (sym e)
-        (subst (λ (y : ℕ). ConstantAsks sheet (get_or starts (u16_at sheet y) 0)) place (h.start 1 (omega arith)))
-
-    pub written_is : (o : Constant) → integer_of o ≡ integer_at sheet (get_or starts t 0) → constant_width (constants_in sheet starts x m) ≡ width_in (integer_of o)
-    written_is o q = width-second m l ∙ ap (λ (i : ℕ). width_in (integer_at sheet (get_or starts i 0))) (sym e) ∙ ap width_in (sym q)

@@ -1,84 +1,54 @@
--- Loops over the arguments: what is left of them computes the whole; and what each argument of a vector operator does.
-use Prim.Native.Nat.{ℕ, ◌+◌, ◌*◌, ◌-◌, ◌≤◌, ◌<◌}
+-- Walks over the arguments' numbers: what each argument of a vector operator does to the verdict on those that are left.
+use Prim.Native.Nat.{ℕ, zero, suc, ◌+◌, ◌*◌, ◌≤◌, ◌<◌}
 use mathlib.Core.Path.{◌≡◌, refl, sym, ap, subst, ◌∙◌}
-use mathlib.Core.Bool.{Bool, true, false, ◌||◌}
-use mathlib.Core.List.{List}
-use mathlib.Core.Logic.{⊎_elim}
+use mathlib.Core.Bool.{Bool, true, false, cond, ◌&&◌}
+use mathlib.Core.List.{List, [], ◌∷◌}
 use native.Mathlib.Omega.{arith}
-use native.Mathlib.Nat.{eq-or-lt_of_le}
-use lib.ListN.{length}
-use lib.Dec.{eqb}
+use lib.ListN.{length, get_or}
 use borrow.Author.Tests.{eq-eqb, ne_eqb}
-use Rattle.record.specs.Number.{u16_at, numbers_at}
 use Rattle.record.specs.Sort.{Sort, Sorts, end, ◌then◌, kind_of, number_in}
-use Rattle.record.specs.Record.{sorts_of, Fields}
-use Rattle.record.specs.Decode.{sort_at}
+use Rattle.record.specs.Record.{sorts_of}
+use Rattle.record.specs.Decode.{store_of, sort_at, Stored}
+use Rattle.record.specs.Kinds.{sort_number}
+use Rattle.record.specs.KindLaws.{sort_number-same}
+use Rattle.record.specs.declared.kinds.SortKind.{SortKind}
+use Rattle.store.specs.Entry.{EntryIs, EntryHas, KindHas}
+use Rattle.record.specs.Record.{Fields}
 use Rattle.record.specs.declared.SortRecord.{SortRecord}
-use Rattle.store.specs.Entry.{EntryAsks, EntryIs, EntryHas, KindHas}
-use Rattle.store.specs.Walk.{entry-asks}
-use Rattle.substitution.proofs.MatchWithLaws.{param-kind, vector-kind}
+use Rattle.substitution.specs.MatchWith.{is_bit_vec}
+use Rattle.substitution.proofs.MatchWithLaws.{param-kind}
 use Rattle.row_rules.specs.declared.Cause.TheVariants.{Panics}
-use Rattle.row_rules.specs.Verdict.{Verdict, sort, refused}
+use Rattle.row_rules.specs.Verdict.{sort, refused}
 use Rattle.infer_rules.specs.Inferred.{first_vector, concat_unknown, concat_from}
-use Rattle.infer_operator.specs.declared.vectors.Scan.TheVariants.{Vector, Nothing, Other}
-use Rattle.infer_operator.specs.declared.vectors.Widths.TheVariants.{Sum, Unknown, NoVector}
-use Rattle.infer_operator.specs.Asks.{Referring, sorts_in, ReadArgumentsAsk, refer-first, refer-rest, sorts-first}
-use Rattle.infer_operator.specs.Vectors.{ScanHas, VectorsHas, WidthAsks, WidthsHas}
+use Rattle.std.specs.Prelude.{Ok, Err, Option, Some, None, ok_or}
+use Rattle.std.specs.Bool.{then_some}
+use Rattle.std.specs.List.{list_all}
+use Rattle.std.specs.Iterator.{YieldsFirst}
+use Rattle.record.specs.Number.{u16_at, numbers_at}
+use Rattle.record.specs.Codec.{length-numbers_at}
+use Rattle.record.specs.Numbers.{numbers_left}
+use Rattle.record.specs.declared.numbers.Numbers.{Numbers}
+use Rattle.store.specs.declared.Store.{Store}
+use Rattle.row_rules.specs.declared.Cause.{Cause}
+use Rattle.row_answer.specs.declared.arguments.Args.{Args}
+use Rattle.infer_operator.specs.Asks.{Known, ArgumentsAsk}
+use Rattle.infer_operator.specs.Vectors.{unknown_by, widths_of}
 
--- f of the `left` arguments from `at` on is g of all.
-pub record Walking (T : Type 0) (f g : Sorts → T) (b p a : List ℕ) (x m at left : ℕ) : Type 0 where
-  pub each : (n : ℕ) → Referring b p n a x m → Referring b p n a at left
-  pub rest : (n : ℕ) → Referring b p n a x m → f (sorts_in b p n a at left) ≡ g (sorts_in b p n a x m)
+-- One number more is one sort more.
+pub sorts-step : {T : Type 0} (f : Sorts → T) (b p : List ℕ) (n : ℕ) {ks left : List ℕ} {k : ℕ} → ks ≡ k ∷ left
+    → f (sorts_of (store_of b p n) ks) ≡ f (sort_at b p n k then sorts_of (store_of b p n) left)
+unfolding sorts_of sort_at
+sorts-step f b p n e = ap (λ (is : List ℕ). f (sorts_of (store_of b p n) is)) e
 
-pub walk_start : (T : Type 0) (f : Sorts → T) (b p a : List ℕ) (x m : ℕ) → Walking T f f b p a x m x m
-walk_start T f b p a x m = record { each = λ n h. h; rest = λ n h. refl }
+pub sorts-stop : {T : Type 0} (f : Sorts → T) (b p : List ℕ) (n : ℕ) {ks : List ℕ} → ks ≡ [] → f (sorts_of (store_of b p n) ks) ≡ f end
+unfolding sorts_of
+sorts-stop f b p n e = ap (λ (is : List ℕ). f (sorts_of (store_of b p n) is)) e
 
-no-sorts : (b p : List ℕ) (n : ℕ) (a : List ℕ) (x : ℕ) {m : ℕ} → m ≡ 0 → sorts_in b p n a x m ≡ end
-unfolding sorts_of numbers_at
-no-sorts b p n a x {m} z = ap (λ (i : ℕ). sorts_in b p n a x i) z
+pub known-first : {n : ℕ} {ks left : List ℕ} {k : ℕ} → ks ≡ k ∷ left → Known n ks → k < n
+known-first {n} {ks} {left} {k} e h = subst (λ (is : List ℕ). get_or is 0 0 < n) e (h 0 0 (omega (arith, ap (λ (is : List ℕ). length is) e)))
 
-module _ {T : Type 0} {f g : Sorts → T} {b p a : List ℕ} {x m at left : ℕ} (w : Walking T f g b p a x m at left) where
-  pub walk_end : left ≡ 0 → {n : ℕ} → Referring b p n a x m → g (sorts_in b p n a x m) ≡ f end
-  walk_end z {n} h = sym (w.rest n h) ∙ ap f (no-sorts b p n a at z)
-
-  module _ (some : 0 < left) where
-    pub walk-in : ReadArgumentsAsk b p a x m → at + 2 ≤ length a
-    walk-in r = omega (arith, (w.each r.0 r.1).within)
-
-    module _ {k : ℕ} (e : k ≡ u16_at a at) where
-      pub walk-known : {n : ℕ} → Referring b p n a x m → k < n
-      walk-known {n} h = subst (λ (i : ℕ). i < n) (sym e) (refer-first b p n a at left (w.each n h) some)
-
-      pub walk-entry : ReadArgumentsAsk b p a x m → EntryAsks b p k
-      walk-entry r = entry-asks b p r.0 k r.1.stored (walk-known r.1)
-
-      -- The argument that is looked at, before the others.
-      pub walk_here : {n : ℕ} → Referring b p n a x m → g (sorts_in b p n a x m) ≡ f (sort_at b p n k then sorts_in b p n a (at + 2) (left - 1))
-      walk_here {n} h =
-          sym (w.rest n h)
-          ∙ ap f (sorts-first b p n a at left (w.each n h) some ∙ ap (λ (i : ℕ). sort_at b p n i then sorts_in b p n a (at + 2) (left - 1)) (sym e))
-
-      pub walk-on : (d : Sorts → T) → ((n : ℕ) → Referring b p n a x m → (ss : Sorts) → f (sort_at b p n k then ss) ≡ d ss) → Walking T d g b p a x m (at + 2) (left - 1)
-      walk-on d step =
-          record {
-            each = λ n h. refer-rest b p n a at left (w.each n h) some;
-            rest = λ n h. sym (step n h (sorts_in b p n a (at + 2) (left - 1))) ∙ sym (walk_here h);
-          }
-
-      pub walk-kind : (kind : ℕ) → KindHas b p k kind → {n : ℕ} → Referring b p n a x m → kind ≡ kind_of (sort_at b p n k)
-      walk-kind kind q {n} h = q n h.stored (walk-known h)
-
-      pub walk-read : (r : SortRecord) → EntryHas b p k r → {n : ℕ} → Referring b p n a x m → EntryIs b p n k r
-      walk-read r q {n} h = q n h.stored (walk-known h)
-
-pub none_left : (i : ℕ) → i ≤ 0 → i ≡ 0
-none_left i h = omega arith
-
-pub read-few : {b p a : List ℕ} {m : ℕ} → WidthAsks b p a m → ReadArgumentsAsk b p a 3 m
-read-few (n, f) = (n, f.refer)
-
-pub few-of : {b p a : List ℕ} {m : ℕ} → WidthAsks b p a m → m ≤ 64
-few-of (n, f) = f.few
+pub known-rest : {n : ℕ} {ks left : List ℕ} {k : ℕ} → ks ≡ k ∷ left → Known n ks → Known n left
+known-rest {n} {ks} {left} {k} e h = λ i d l. subst (λ (is : List ℕ). get_or is (suc i) d < n) e (h (suc i) d (omega (arith, ap (λ (is : List ℕ). length is) e)))
 
 ---------------------------------------------------------------- one argument of a vector operator
 apart : {k : ℕ} (i j : ℕ) → k ≡ i → (i ≡ j → ⊥) → k ≡ j → ⊥
@@ -87,133 +57,106 @@ apart {k} i j e d q = d (sym e ∙ q)
 nine-ten : ◌≡◌ {A = ℕ} 10 9 → ⊥
 nine-ten e = omega arith
 
-first-known : (s : Sort) (ss : Sorts) → kind_of s ≡ 9 → first_vector (s then ss) ≡ sort s
+pub first-known : (s : Sort) (ss : Sorts) → kind_of s ≡ 9 → first_vector (s then ss) ≡ sort s
 unfolding first_vector
 first-known s ss h = rw (eq-eqb (kind_of s) 9 h) refl
 
-first-unknown : (s : Sort) (ss : Sorts) → kind_of s ≡ 10 → first_vector (s then ss) ≡ first_vector ss
+pub first-unknown : (s : Sort) (ss : Sorts) → kind_of s ≡ 10 → first_vector (s then ss) ≡ first_vector ss
 unfolding first_vector
 first-unknown s ss h = rw (ne_eqb (kind_of s) 9 (apart 10 9 h nine-ten), param-kind s, eq-eqb (kind_of s) 10 h) refl
 
-first-other : (s : Sort) (ss : Sorts) → (kind_of s ≡ 9 → ⊥) → (kind_of s ≡ 10 → ⊥) → first_vector (s then ss) ≡ refused Panics
+pub first-other : (s : Sort) (ss : Sorts) → (kind_of s ≡ 9 → ⊥) → (kind_of s ≡ 10 → ⊥) → first_vector (s then ss) ≡ refused Panics
 unfolding first_vector
 first-other s ss h d = rw (ne_eqb (kind_of s) 9 h, param-kind s, ne_eqb (kind_of s) 10 d) refl
 
-cat-known : (w : ℕ) (s : Sort) (ss : Sorts) → kind_of s ≡ 9 → concat_from w (s then ss) ≡ concat_from (w + number_in s) ss
+pub cat-known : (w : ℕ) (s : Sort) (ss : Sorts) → kind_of s ≡ 9 → concat_from w (s then ss) ≡ concat_from (w + number_in s) ss
 unfolding concat_from
 cat-known w s ss h = rw (eq-eqb (kind_of s) 9 h) refl
 
-cat-unknown : (w : ℕ) (s : Sort) (ss : Sorts) → kind_of s ≡ 10 → concat_from w (s then ss) ≡ concat_unknown ss
+pub cat-unknown : (w : ℕ) (s : Sort) (ss : Sorts) → kind_of s ≡ 10 → concat_from w (s then ss) ≡ concat_unknown ss
 unfolding concat_from
 cat-unknown w s ss h = rw (ne_eqb (kind_of s) 9 (apart 10 9 h nine-ten), param-kind s, eq-eqb (kind_of s) 10 h) refl
 
-cat-other : (w : ℕ) (s : Sort) (ss : Sorts) → (kind_of s ≡ 9 → ⊥) → (kind_of s ≡ 10 → ⊥) → concat_from w (s then ss) ≡ refused Panics
+pub cat-other : (w : ℕ) (s : Sort) (ss : Sorts) → (kind_of s ≡ 9 → ⊥) → (kind_of s ≡ 10 → ⊥) → concat_from w (s then ss) ≡ refused Panics
 unfolding concat_from
 cat-other w s ss h d = rw (ne_eqb (kind_of s) 9 h, param-kind s, ne_eqb (kind_of s) 10 d) refl
 
-unknown-on : (s : Sort) (ss : Sorts) → 9 ≤ kind_of s → kind_of s ≤ 10 → concat_unknown (s then ss) ≡ concat_unknown ss
-unfolding concat_unknown
-unknown-on s ss l h = rw (vector-kind s, two (kind_of s) l h) refl
+pub list-rest : {ks left : List ℕ} {k : ℕ} → ks ≡ k ∷ left → length ks ≡ suc (length left)
+list-rest e = ap (λ (is : List ℕ). length is) e
+
+-- THE ARGUMENTS' NUMBERS are of the store.
+known-nil : (n : ℕ) → Known n []
+known-nil n i d h = absurd (omega arith)
+
+known-cons : (n k : ℕ) (ks : List ℕ) → k < n → Known n ks → Known n (k ∷ ks)
+known-cons n k ks h t zero d l = h
+known-cons n k ks h t (suc i) d l = t i d (omega arith)
+
+known-numbers : (a : List ℕ) (n x m : ℕ) → ((j : ℕ) → j < m → u16_at a (x + 2 * j) < n) → Known n (numbers_at a x m)
+unfolding numbers_at
+known-numbers a n x zero h = known-nil n
+known-numbers a n x (suc m) h =
+    let e : x + 2 * 0 ≡ x = omega arith in
+    known-cons n (u16_at a x) (numbers_at a (x + 2) m) (subst (λ (y : ℕ). u16_at a y < n) e (h 0 (omega arith)))
+    (known-numbers a n (x + 2) m (λ j l. let f : x + 2 * suc j ≡ x + 2 + 2 * j = omega arith in subst (λ (y : ℕ). u16_at a y < n) f (h (suc j) (omega arith))))
+
+pub args-known : (s : Store) (a : Args) → ArgumentsAsk s a → {ks : List ℕ} → ks ≡ numbers_at a.bytes.now 3 a.count → Known s.count ks
+args-known s a h {ks} e = subst (Known s.count) (sym e) (known-numbers a.bytes.now s.count 3 a.count h.below)
+
+pub few-numbers : (s : Store) (a : Args) → ArgumentsAsk s a → {ks : List ℕ} → ks ≡ numbers_at a.bytes.now 3 a.count → length ks ≤ 64
+few-numbers s a h e = omega (arith, ap (λ (is : List ℕ). length is) e, length-numbers_at a.bytes.now 3 a.count, h.few)
+
+-- The first of them, which `next` took; or there is none.
+module _ (n : Numbers) (r : Option ℕ) (t : Numbers) (steps : YieldsFirst numbers_left n r t) where
+  pub first-taken : {k : ℕ} → ok_or r Panics ≡ Ok k → numbers_left n ≡ k ∷ numbers_left t
+  first-taken {k} e = go r e steps
+    where
+      go : (o : Option ℕ) → ok_or o Panics ≡ Ok k → YieldsFirst numbers_left n o t → numbers_left n ≡ k ∷ numbers_left t
+      go (Some j) e h = let q : j ≡ k = cc in h ∙ ap (λ (i : ℕ). i ∷ numbers_left t) q
+      go None e h = cc
+
+  pub none-taken : {c : Cause} → ok_or r Panics ≡ Err c → numbers_left n ≡ []
+  none-taken {c} e = go r e steps
+    where
+      go : (o : Option ℕ) → ok_or o Panics ≡ Err c → YieldsFirst numbers_left n o t → numbers_left n ≡ []
+      go (Some j) e h = cc
+      go None e h = h.0
+
+---------------------------------------------------------------- kinds
+-- A kind that was read, and one that it is not.
+module _ {b p : List ℕ} {n : ℕ} (stored : Stored b p n) {k : ℕ} (known : k < n) {r : SortKind} (h : KindHas b p k (sort_number r)) where
+  pub kind-is : (q : SortKind) → r ≡ q → kind_of (sort_at b p n k) ≡ sort_number q
+  kind-is q e = sym (h n stored known) ∙ ap sort_number e
+
+  pub kind-not : (q : SortKind) → (r ≡ q → ⊥) → kind_of (sort_at b p n k) ≡ sort_number q → ⊥
+  kind-not q d e = d (sort_number-same r q (h n stored known ∙ e))
+
+-- Whether all are vectors.
+pub unknown-all : (b p : List ℕ) (n : ℕ) (ks : List ℕ) → concat_unknown (sorts_of (store_of b p n) ks) ≡ unknown_by (list_all (λ k. is_bit_vec (sort_at b p n k)) ks)
+unfolding concat_unknown sorts_of sort_at
+unknown-all b p n [] = refl
+unknown-all b p n (k ∷ ks) = go (is_bit_vec (sort_at b p n k)) (list_all (λ k. is_bit_vec (sort_at b p n k)) ks) (unknown-all b p n ks)
   where
-    or_right : (t : Bool) → t || true ≡ true
-    or_right true = refl
-    or_right false = refl
+    go : (t u : Bool) → concat_unknown (sorts_of (store_of b p n) ks) ≡ unknown_by u → cond t (concat_unknown (sorts_of (store_of b p n) ks)) (refused Panics) ≡ unknown_by (t && u)
+    go true u e = e
+    go false u e = refl
 
-    two : (k : ℕ) → 9 ≤ k → k ≤ 10 → eqb k 9 || eqb k 10 ≡ true
-    two k l h =
-        ⊎_elim (λ (q : 9 ≡ k). rw (eq-eqb k 9 (sym q)) refl)
-        (λ (q : 9 < k). let e : k ≡ 10 = omega arith in rw (eq-eqb k 10 e) (or_right (eqb k 9))) (eq-or-lt_of_le l)
+-- A width is a number of two bytes.
+pub width-small : {b p : List ℕ} {n k : ℕ} → Stored b p n → k < n → (r : SortRecord) → EntryHas b p k r → r.number ≤ 65535
+width-small st l r h = let o = h _ st l in omega (arith, (st.each _ l).shape.number, ap (λ (g : Fields). g.number) o.place.same)
 
-unknown-other : (s : Sort) (ss : Sorts) → (kind_of s ≡ 9 → ⊥) → (kind_of s ≡ 10 → ⊥) → concat_unknown (s then ss) ≡ refused Panics
-unfolding concat_unknown
-unknown-other s ss h d = rw (vector-kind s, ne_eqb (kind_of s) 9 h, ne_eqb (kind_of s) 10 d) refl
+-- The kind of an entry that was read.
+module _ {b p : List ℕ} {n k : ℕ} {r : SortRecord} (read : EntryIs b p n k r) where
+  pub entry-is : (q : SortKind) → r.kind ≡ q → kind_of (sort_at b p n k) ≡ sort_number q
+  entry-is q e = sym read.kind ∙ ap sort_number e
 
----------------------------------------------------------------- looking for the first vector
-module _ {b p a : List ℕ} {m at left : ℕ} (w : Walking Verdict first_vector first_vector b p a 3 m at left) where
-  pub scan-none : left ≡ 0 → ScanHas b p a m Nothing
-  unfolding first_vector
-  scan-none z n h = walk_end w z h
+  pub entry-not : (q : SortKind) → (r.kind ≡ q → ⊥) → kind_of (sort_at b p n k) ≡ sort_number q → ⊥
+  entry-not q d e = d (sort_number-same r.kind q (read.kind ∙ e))
 
-  module _ (some : 0 < left) {k : ℕ} (e : k ≡ u16_at a at) (kind : ℕ) (q : KindHas b p k kind) where
-    pub scan-found : kind ≡ 9 → ScanHas b p a m (Vector k)
-    scan-found i n h =
-        (walk-known w some e h, walk_here w some e h ∙ first-known (sort_at b p n k) (sorts_in b p n a (at + 2) (left - 1)) (sym (walk-kind w some e kind q h) ∙ i))
+pub cat-added : (w : ℕ) (s : Sort) (ss : Sorts) (j : ℕ) → kind_of s ≡ 9 → j ≡ number_in s → concat_from w (s then ss) ≡ concat_from (w + j) ss
+cat-added w s ss j h e = cat-known w s ss h ∙ ap (λ (i : ℕ). concat_from (w + i) ss) (sym e)
 
-    pub scan-other : (kind ≡ 9 → ⊥) → (kind ≡ 10 → ⊥) → ScanHas b p a m Other
-    scan-other i j n h =
-        let o = walk-kind w some e kind q h in
-        walk_here w some e h ∙ first-other (sort_at b p n k) (sorts_in b p n a (at + 2) (left - 1)) (λ z. i (o ∙ z)) (λ z. j (o ∙ z))
-
-    pub scan-more : kind ≡ 10 → Walking Verdict first_vector first_vector b p a 3 m (at + 2) (left - 1)
-    scan-more i = walk-on w some e first_vector (λ n h ss. first-unknown (sort_at b p n k) ss (sym (walk-kind w some e kind q h) ∙ i))
-
----------------------------------------------------------------- adding widths
-module _ {b p a : List ℕ} {x m at left : ℕ} (w : Walking Verdict concat_unknown concat_unknown b p a x m at left) where
-  pub vectors-all : left ≡ 0 → VectorsHas b p a x m true
-  unfolding concat_unknown
-  vectors-all z n h = walk_end w z h
-
-  module _ (some : 0 < left) {k : ℕ} (e : k ≡ u16_at a at) (kind : ℕ) (q : KindHas b p k kind) where
-    pub vectors-other : (kind ≡ 9 → ⊥) → (kind ≡ 10 → ⊥) → VectorsHas b p a x m false
-    vectors-other i j n h =
-        let o = walk-kind w some e kind q h in
-        walk_here w some e h ∙ unknown-other (sort_at b p n k) (sorts_in b p n a (at + 2) (left - 1)) (λ z. i (o ∙ z)) (λ z. j (o ∙ z))
-
-    pub vectors-more : 9 ≤ kind → kind ≤ 10 → Walking Verdict concat_unknown concat_unknown b p a x m (at + 2) (left - 1)
-    vectors-more l h =
-        walk-on w some e concat_unknown
-        (λ n i ss. let o = walk-kind w some e kind q i in unknown-on (sort_at b p n k) ss (omega arith) (omega arith))
-
--- The sum so far, of at most 65,535 for each argument.
-pub record Adding (b p a : List ℕ) (m at left sum : ℕ) : Type 0 where
-  pub walk : Walking Verdict (concat_from sum) (concat_from 0) b p a 3 m at left
-  pub low : sum + 65535 * left ≤ 65535 * m
-
-pub adding-start : (b p a : List ℕ) (m : ℕ) → Adding b p a m 3 m 0
-adding-start b p a m = record { walk = walk_start Verdict (concat_from 0) b p a 3 m; low = omega arith }
-
-module _ {b p a : List ℕ} {m at left sum : ℕ} (v : Adding b p a m at left sum) where
-  pub widths-all : left ≡ 0 → WidthsHas b p a m (Sum sum)
-  unfolding concat_from
-  widths-all z n h = walk_end v.walk z h
-
-  module _ (some : 0 < left) {k : ℕ} (e : k ≡ u16_at a at) (r : SortRecord) (q : EntryHas b p k r) where
-    read : {n : ℕ} → Referring b p n a 3 m → EntryIs b p n k r
-    read {n} h = walk-read v.walk some e r q h
-
-    pub widths-other : (r.kind ≡ 9 → ⊥) → (r.kind ≡ 10 → ⊥) → WidthsHas b p a m NoVector
-    widths-other i j n h =
-        let o = (read h).kind in
-        walk_here v.walk some e h ∙ cat-other sum (sort_at b p n k) (sorts_in b p n a (at + 2) (left - 1)) (λ z. i (o ∙ z)) (λ z. j (o ∙ z))
-
-    -- A width is unknown: the others are only looked at.
-    module _ (i : r.kind ≡ 10) where
-      pub rest-asks : WidthAsks b p a m → ReadArgumentsAsk b p a (at + 2) (left - 1)
-      rest-asks (n, f) = (n, refer-rest b p n a at left (v.walk.each n f.refer) some)
-
-      rest-is : (t : Bool) → VectorsHas b p a (at + 2) (left - 1) t → {n : ℕ} → (h : Referring b p n a 3 m) → concat_from 0 (sorts_in b p n a 3 m) ≡ concat_unknown (sorts_in b p n a (at + 2) (left - 1))
-      rest-is t u {n} h =
-          walk_here v.walk some e h
-          ∙ cat-unknown sum (sort_at b p n k) (sorts_in b p n a (at + 2) (left - 1)) (sym (read h).kind ∙ i)
-
-      pub widths-unknown : VectorsHas b p a (at + 2) (left - 1) true → WidthsHas b p a m Unknown
-      widths-unknown u n h = rest-is true u h ∙ u n (refer-rest b p n a at left (v.walk.each n h) some)
-
-      pub widths-none : VectorsHas b p a (at + 2) (left - 1) false → WidthsHas b p a m NoVector
-      widths-none u n h = rest-is false u h ∙ u n (refer-rest b p n a at left (v.walk.each n h) some)
-
-    pub width_small : WidthAsks b p a m → r.number ≤ 65535
-    width_small (n, f) =
-        let l = walk-known v.walk some e f.refer in
-        let o = read f.refer in
-        let s = (f.refer.stored.each k l).shape.number in
-        omega (arith, s, ap (λ (g : Fields). g.number) o.place.same)
-
-    pub widths-more : WidthAsks b p a m → r.kind ≡ 9 → Adding b p a m (at + 2) (left - 1) (sum + r.number)
-    widths-more asks i =
-        record {
-          walk = walk-on v.walk some e (concat_from (sum + r.number))
-              (λ n h ss.
-              cat-known sum (sort_at b p n k) ss (sym (read h).kind ∙ i) ∙ ap (λ (j : ℕ). concat_from (sum + j) ss) (sym (read h).number));
-          low = omega (arith, width_small asks, v.low);
-        }
+-- What is answered where a width is unknown.
+pub unknown-answer : (all : Bool) → unknown_by all ≡ widths_of (ok_or (then_some all None) Panics)
+unknown-answer true = refl
+unknown-answer false = refl

@@ -1,5 +1,5 @@
 -- What the functions over arguments ask: numbers of the store's sorts in a lent array, from byte 3 on.
-use Rattle.std.specs.Prelude.{ℕ, ◌+◌, ◌*◌, ◌-◌, ◌≤◌, ◌<◌, ◌≡◌, List, length}
+use Rattle.std.specs.Prelude.{ℕ, ◌+◌, ◌*◌, ◌-◌, ◌≤◌, ◌<◌, ◌≡◌, List, length, All}
 use Rattle.std.proofs.Common.{subst, arith}
 use Rattle.record.specs.Number.{u16_at, numbers_at}
 use Rattle.record.specs.Sort.{Sorts, ◌then◌}
@@ -7,6 +7,9 @@ use Rattle.record.specs.Record.{sorts_of}
 use Rattle.record.specs.Decode.{store_of, sort_at, Stored}
 use Rattle.record.specs.StoreLaws.{parts_more}
 use Rattle.store.specs.Good.{Good}
+use Rattle.store.specs.declared.Store.{Store}
+use Rattle.store.specs.declared.entries.Sorts.{Sorts as Readable}
+use Rattle.row_answer.specs.declared.arguments.Args.{Args}
 
 -- m numbers of the store of n sorts in b p stand in a from x on.
 pub record Referring (b p : List ℕ) (n : ℕ) (a : List ℕ) (x m : ℕ) : Type 0 where
@@ -18,10 +21,6 @@ pub record Referring (b p : List ℕ) (n : ℕ) (a : List ℕ) (x m : ℕ) : Typ
 abbrev pub sorts_in : List ℕ → List ℕ → ℕ → List ℕ → ℕ → ℕ → Sorts
 sorts_in b p n a x m = sorts_of (store_of b p n) (numbers_at a x m)
 
--- Of some store in these buffers; what is read holds for each that has them.
-abbrev pub ReadArgumentsAsk : List ℕ → List ℕ → List ℕ → ℕ → ℕ → Type 0
-ReadArgumentsAsk b p a x m = (n : ℕ) × Referring b p n a x m
-
 -- A good store, and m arguments of it in a from byte 3 on, at most 64; a is long enough for two lists of 64.
 pub record ArgsAsks (b p ix : List ℕ) (n u : ℕ) (a : List ℕ) (m : ℕ) : Type 0 where
   pub good : Good b p ix n u
@@ -32,6 +31,29 @@ pub record ArgsAsks (b p ix : List ℕ) (n u : ℕ) (a : List ℕ) (m : ℕ) : T
 pub args-refer : (b p ix : List ℕ) (n u : ℕ) (a : List ℕ) (m : ℕ) → ArgsAsks b p ix n u a m → Referring b p n a 3 m
 args-refer b p ix n u a m h = record { stored = h.good.stored; within = omega (arith, h.few, h.room); below = h.below }
 
+---------------------------------------------------------------- whole stores and arguments
+-- The arguments are numbers of the store, and their sorts.
+abbrev pub ArgumentsAsk : Store → Args → Type 0
+ArgumentsAsk s a = ArgsAsks s.records.now s.places.now s.index.now s.count s.used a.bytes.now a.count
+
+abbrev pub arguments : Store → Args → Sorts
+arguments s a = sorts_in s.records.now s.places.now s.count a.bytes.now 3 a.count
+
+-- The same of the sorts of a store that are only read.
+abbrev pub ReadArgumentsAsk : Readable → Args → Type 0
+ReadArgumentsAsk s a = Referring s.records.now s.places.now s.count a.bytes.now 3 a.count
+
+abbrev pub read_arguments : Readable → Args → Sorts
+read_arguments s a = sorts_in s.records.now s.places.now s.count a.bytes.now 3 a.count
+
+-- Each of the numbers is below n, one of the store's; and their sorts.
+abbrev pub Known : ℕ → List ℕ → Type 0
+Known n ks = All (λ k. k < n) ks
+
+abbrev pub sorts_with : Readable → List ℕ → Sorts
+sorts_with s ks = sorts_of (store_of s.records.now s.places.now s.count) ks
+
+---------------------------------------------------------------- the first of some numbers
 -- THE FIRST OF SOME NUMBERS, and the rest.
 module _ (b p : List ℕ) (n : ℕ) (a : List ℕ) (x m : ℕ) (h : Referring b p n a x m) (some : 0 < m) where
   pub refer-first : u16_at a x < n

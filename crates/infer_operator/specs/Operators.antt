@@ -6,11 +6,15 @@ use Rattle.infer_rules.specs.declared.Family.TheVariants.{Truth, Integer, Decima
 use Rattle.infer_rules.specs.Inferred.{operated_by}
 use Rattle.record.specs.Sort.{Sorts, node, end, bitvec, count}
 use Rattle.record.specs.Record.{map_of}
+use Rattle.record.specs.Kinds.{sort_number}
+use Rattle.record.specs.declared.span.Span.{Span}
+use Rattle.store.specs.declared.Store.{Store}
 use Rattle.row_rules.specs.Verdict.{sort}
+use Rattle.row_answer.specs.declared.arguments.Args.{Args}
 use Rattle.row_answer.specs.Arguments.{ConstantsAsk}
 use Rattle.infer_operator.specs.declared.family.Plain.{Plain}
 use Rattle.infer_operator.specs.declared.family.Plain.TheVariants.{Kind, Width, Written, Other}
-use Rattle.infer_operator.specs.Asks.{ArgsAsks}
+use Rattle.infer_operator.specs.Asks.{ArgumentsAsk}
 
 -- All but one family, Constant, look at no constants.
 abbrev pub no_constants : List (Option ℕ)
@@ -66,21 +70,22 @@ looks Product = true
 
 -- What a family of operators with m arguments answers, by what is said of it without their sorts.
 abbrev pub PlainFamilyIs : Family → ℕ → Plain → Type 0
-PlainFamilyIs f m (Kind k) = (map_of k ≡ 1) × ((ss : Sorts) (cs : List (Option ℕ)) → operated_by f ss cs ≡ sort (node k 0 0 end))
+PlainFamilyIs f m (Kind k) =
+    (map_of (sort_number k) ≡ 1) × ((ss : Sorts) (cs : List (Option ℕ)) → operated_by f ss cs ≡ sort (node (sort_number k) 0 0 end))
 PlainFamilyIs f m (Width w) = (ss : Sorts) (cs : List (Option ℕ)) → count ss ≡ m → operated_by f ss cs ≡ sort (bitvec w)
 PlainFamilyIs f m Written = f ≡ Constant
 PlainFamilyIs f m Other = looks f ≡ true
 
 -- Arguments, and a family of the group.
-pub record MadeAsks (b p ix : List ℕ) (n u : ℕ) (f : Family) (a : List ℕ) (m : ℕ) : Type 0 where
-  pub args : ArgsAsks b p ix n u a m
+pub record MadeAsks (s : Store) (f : Family) (a : Args) : Type 0 where
+  pub args : ArgumentsAsk s a
   pub made : makes f ≡ true
 
-pub record LookedAsks (b p ix : List ℕ) (n u : ℕ) (f : Family) (a : List ℕ) (m : ℕ) : Type 0 where
-  pub args : ArgsAsks b p ix n u a m
+pub record LookedAsks (s : Store) (f : Family) (a : Args) : Type 0 where
+  pub args : ArgumentsAsk s a
   pub look : looks f ≡ true
 
--- Arguments, and the terms that the sheet names for them.
-pub record InferOperatorAsks (b p ix : List ℕ) (n u : ℕ) (sheet starts : List ℕ) (x : ℕ) (a : List ℕ) (m : ℕ) : Type 0 where
-  pub args : ArgsAsks b p ix n u a m
-  pub terms : ConstantsAsk sheet starts x m
+-- Arguments, and as many terms that the sheet names for them.
+pub record InferOperatorAsks (s : Store) (sheet starts : List ℕ) (list : Span) (a : Args) : Type 0 where
+  pub args : ArgumentsAsk s a
+  pub terms : ConstantsAsk sheet starts list.at list.count

@@ -1,19 +1,14 @@
 -- What looking at one argument promises.
-use Rattle.std.specs.Prelude.{ℕ, zero, suc, ◌+◌, ◌*◌, ◌≤◌, ◌≡◌, refl, Bool, List, length}
+use Rattle.std.specs.Prelude.{ℕ, zero, suc, ◌≡◌, refl, List, Result}
 use Rattle.record.specs.Sort.{Sorts, end, ◌then◌}
+use Rattle.row_rules.specs.declared.Cause.{Cause}
 use Rattle.row_rules.specs.declared.Cause.TheVariants.{Panics}
 use Rattle.row_rules.specs.Verdict.{Verdict, sort, refused}
-use Rattle.infer_rules.specs.Inferred.{final_of, first_of, second_of, matched, some_real, selected}
+use Rattle.infer_rules.specs.Inferred.{final_of, first_of, second_of, matched}
 use Rattle.store.specs.Good.{Good}
-use Rattle.row_answer.specs.declared.Answer.{Answer}
 use Rattle.row_answer.specs.Answer.{AnswerIs}
 use Rattle.row_answer.specs.Arguments.{ConstantsAsk}
-use Rattle.infer_operator.specs.Asks.{Referring, sorts_in, ArgsAsks}
-
--- At most 64 numbers lie in a from byte 3 on.
-pub record FewAsks (a : List ℕ) (m : ℕ) : Type 0 where
-  pub few : m ≤ 64
-  pub within : 3 + 2 * m ≤ length a
+use Rattle.infer_operator.specs.Asks.{sorts_in, ArgsAsks}
 
 -- The sort number i, and the last one behind the first i.
 unfoldable pub nth_of : ℕ → Sorts → Verdict
@@ -48,21 +43,13 @@ last-body end = refl
 last-body (s then ss) = refl
 
 -- Whatever good store the arguments are of.
-abbrev pub ArgumentHas : ℕ → ℕ → List ℕ → ℕ → ℕ → Answer → Type 0
-ArgumentHas n u a m i r = (b p ix : List ℕ) → ArgsAsks b p ix n u a m → AnswerIs b p n (nth_of i (sorts_in b p n a 3 m)) b p ix r
+abbrev pub ArgumentHas : List ℕ → ℕ → ℕ → Result ℕ Cause → Type 0
+ArgumentHas a m i r =
+    (b p ix : List ℕ) (n u : ℕ) → ArgsAsks b p ix n u a m → AnswerIs b p n (nth_of i (sorts_in b p n a 3 m)) b p ix (record { verdict = r; count = n; used = u })
 
-abbrev pub LastHas : ℕ → ℕ → List ℕ → ℕ → ℕ → Answer → Type 0
-LastHas n u a m i r = (b p ix : List ℕ) → ArgsAsks b p ix n u a m → AnswerIs b p n (last_from i (sorts_in b p n a 3 m)) b p ix r
-
-abbrev pub RealHas : List ℕ → List ℕ → List ℕ → ℕ → Bool → Type 0
-RealHas b p a m r = (n : ℕ) → Referring b p n a 3 m → some_real (sorts_in b p n a 3 m) ≡ r
-
--- Arguments of the store of n sorts.
-abbrev pub ElementAsks : List ℕ → List ℕ → ℕ → List ℕ → ℕ → Type 0
-ElementAsks b p n a m = Referring b p n a 3 m
-
-abbrev pub ElementHas : List ℕ → List ℕ → ℕ → ℕ → List ℕ → ℕ → Answer → Type 0
-ElementHas b p n u a m r = (ix : List ℕ) → ArgsAsks b p ix n u a m → AnswerIs b p n (selected (sorts_in b p n a 3 m)) b p ix r
+abbrev pub LastHas : List ℕ → ℕ → ℕ → Result ℕ Cause → Type 0
+LastHas a m i r =
+    (b p ix : List ℕ) (n u : ℕ) → ArgsAsks b p ix n u a m → AnswerIs b p n (last_from i (sorts_in b p n a 3 m)) b p ix (record { verdict = r; count = n; used = u })
 
 -- A good store, and terms of a sheet.
 pub record WrittenAsks (b p ix : List ℕ) (n u : ℕ) (sheet starts : List ℕ) (x m : ℕ) : Type 0 where

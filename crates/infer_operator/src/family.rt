@@ -1,89 +1,88 @@
 // The families of operators, and which of them answer without a look at the arguments' sorts.
 ghost use Rattle.std.specs.Prelude.{◌≡◌};
+ghost use Rattle.record.specs.Operators.{operator_number};
 ghost use Rattle.infer_rules.specs.Family.{family_of};
 ghost use Rattle.infer_operator.specs.Operators.{PlainFamilyIs};
 
 use infer_rules::Family;
-use record::kinds::{BYTE_BOOL, BYTE_INT, BYTE_REAL, BYTE_REG_LAN, BYTE_STRING};
-use record::operators::*;
+use record::kinds::SortKind;
+use record::operators::Operator;
 
 // A sort of this kind without parts, a vector of this width, a vector whose width an argument says, or none of these.
-#[derive(Drop)]
+#[derive(Clone, Copy, Debug, PartialEq, Eq)]
 pub enum Plain {
-    Kind(u8),
+    Kind(SortKind),
     Width(usize),
     Written,
     Other,
+}
+
+// A match on an operator, by the names of each family.
+macro_rules! family {
+    ($op:ident; $($family:ident: $($operator:ident)*;)*) => {
+        match $op {
+            $($(Operator::$operator)|* => Family::$family,)*
+        }
+    };
+}
+
+// The family of an operator.
+#[tactic(auto, unfolding(infer_rules::specs::Family::family_of, infer_rules::specs::Family::family_in, infer_rules::specs::Family::families))]
+pub fn family(op: Operator) -> Family
+    ensures { result ≡ family_of (operator_number op) }
+{
+    family! { op;
+        Truth: True False Not Implies And Or Xor Equals Distinct LessThan GreaterThan LessEq GreaterEq IsInt IsPow2;
+        Truth: StrLessThan StrLessEq PrefixOf SuffixOf Contains StrIsDigit StrInRe Cl Delete;
+        Truth: BvULt BvULe BvUGt BvUGe BvSLt BvSLe BvSGt BvSGe SetMember SetSubset SetIsEmpty SetIsSingleton;
+        Integer: IntDiv Mod ToInt Pow2 Log2 StrLen IndexOf IndexOfRe StrToCode StrToInt UBvToInt SBvToInt BvSize SetCard;
+        Decimal: RealDiv ToReal RealPi Sqrt Exp Sin Cos Tan Csc Sec Cot Arcsin Arccos Arctan Arccsc Arcsec Arccot;
+        Text: StrConcat CharAt Substring Replace ReplaceAll ReplaceRe ReplaceReAll StrFromCode StrFromInt;
+        Regular: StrToRe ReNone ReAll ReAllChar ReConcat ReUnion ReIntersection ReKleeneClosure ReComplement ReDiff;
+        Regular: ReKleeneCross ReOption ReRange ReFromAutomaton;
+        Vector: BvNot BvNeg BvAnd BvOr BvAdd BvMul BvUDiv BvURem BvShl BvLShr BvNAnd BvNOr BvXor BvXNor;
+        Vector: BvSub BvSDiv BvSRem BvSMod BvAShr;
+        OneBit: BvComp;
+        Bits: BvPBbTerm BvBbTerm;
+        Constant: BvConst;
+        Concat: BvConcat;
+        First: Abs Store SetUnion SetInter SetMinus SetComplement RelTclosure;
+        Second: Ite BvIte;
+        Last: SetInsert;
+        Sum: Add Sub Mult;
+        Element: Select;
+        RareList: RareList;
+        Singleton: SetSingleton;
+        Tuple: Tuple;
+        UnitTuple: TupleUnit;
+        Transpose: RelTranspose;
+        Join: RelJoin;
+        Product: RelProduct;
+    }
 }
 
 // The family of the operator with this number in enum Operator; Truth for a number that is none's.
 pub fn family_of(op: usize) -> Family
     ensures { result ≡ family_of op }
 {
-    match op {
-        OP_TRUE..=OP_DISTINCT
-        | OP_LESS_THAN..=OP_GREATER_EQ
-        | OP_IS_INT
-        | OP_IS_POW2
-        | OP_STR_LESS_THAN..=OP_STR_LESS_EQ
-        | OP_PREFIX_OF..=OP_CONTAINS
-        | OP_STR_IS_DIGIT
-        | OP_STR_IN_RE
-        | OP_BV_ULT => Family::Truth,
-        OP_BV_ULE..=OP_BV_SGE
-        | OP_CL..=OP_DELETE
-        | OP_SET_MEMBER..=OP_SET_SUBSET
-        | OP_SET_IS_EMPTY..=OP_SET_IS_SINGLETON => Family::Truth,
-        OP_INT_DIV
-        | OP_MOD
-        | OP_TO_INT
-        | OP_POW2
-        | OP_LOG2
-        | OP_STR_LEN
-        | OP_INDEX_OF..=OP_INDEX_OF_RE
-        | OP_STR_TO_CODE
-        | OP_STR_TO_INT => Family::Integer,
-        OP_UBV_TO_INT..=OP_SBV_TO_INT | OP_BV_SIZE | OP_SET_CARD => Family::Integer,
-        OP_REAL_DIV | OP_TO_REAL | OP_REAL_PI..=OP_ARCCOT => Family::Decimal,
-        OP_STR_CONCAT
-        | OP_CHAR_AT..=OP_SUBSTRING
-        | OP_REPLACE..=OP_REPLACE_RE_ALL
-        | OP_STR_FROM_CODE
-        | OP_STR_FROM_INT => Family::Text,
-        OP_STR_TO_RE | OP_RE_NONE..=OP_RE_FROM_AUTOMATON => Family::Regular,
-        OP_BV_NOT..=OP_BV_LSHR | OP_BV_NAND..=OP_BV_XNOR | OP_BV_SUB..=OP_BV_ASHR => Family::Vector,
-        OP_BV_COMP => Family::OneBit,
-        OP_BV_PBB_TERM..=OP_BV_BB_TERM => Family::Bits,
-        OP_BV_CONST => Family::Constant,
-        OP_BV_CONCAT => Family::Concat,
-        OP_ABS | OP_STORE | OP_SET_UNION..=OP_SET_MINUS | OP_SET_COMPLEMENT | OP_REL_TCLOSURE =>
-            Family::First,
-        OP_ITE | OP_BV_ITE => Family::Second,
-        OP_SET_INSERT => Family::Last,
-        OP_ADD..=OP_MULT => Family::Sum,
-        OP_SELECT => Family::Element,
-        OP_RARE_LIST => Family::RareList,
-        OP_SET_SINGLETON => Family::Singleton,
-        OP_TUPLE => Family::Tuple,
-        OP_TUPLE_UNIT => Family::UnitTuple,
-        OP_REL_TRANSPOSE => Family::Transpose,
-        OP_REL_JOIN => Family::Join,
-        OP_REL_PRODUCT => Family::Product,
-        _ => Family::Truth,
+    match Operator::try_from(op) {
+        Ok(op) => family(op),
+        Err(_) => Family::Truth,
     }
 }
 
 // The sort that an operator of this family with n arguments has, whatever their sorts are; Written for the family that
 // reads a constant, Other for those that look at the arguments' sorts.
+#[tactic(auto, unfolding(infer_rules::specs::Inferred::operated_by, record::specs::Record::map_of, record::specs::Record::maps))]
 pub fn plain_of(family: Family, n: usize) -> Plain
     ensures { PlainFamilyIs family n result }
 {
     match family {
-        Family::Truth => Plain::Kind(BYTE_BOOL),
-        Family::Integer => Plain::Kind(BYTE_INT),
-        Family::Decimal => Plain::Kind(BYTE_REAL),
-        Family::Text => Plain::Kind(BYTE_STRING),
-        Family::Regular => Plain::Kind(BYTE_REG_LAN),
+        Family::Truth => Plain::Kind(SortKind::Bool),
+        Family::Integer => Plain::Kind(SortKind::Int),
+        Family::Decimal => Plain::Kind(SortKind::Real),
+        Family::Text => Plain::Kind(SortKind::String),
+        Family::Regular => Plain::Kind(SortKind::RegLan),
         Family::OneBit => Plain::Width(1),
         Family::Bits => Plain::Width(n),
         Family::Constant => Plain::Written,

@@ -1,5 +1,5 @@
-// The inferred row of a term, made in the store: Pool::compute_sort and compute_indexed_op_sort of pool/mod.rs, with 21 where
-// the Rust panics. Each function returns the row with the store's count and bytes in use after it.
+// The inferred row of a term, made in the store: Pool::compute_sort and compute_indexed_op_sort of pool/mod.rs, with Panics where
+// the Rust panics. Each function returns the row; the store has the sorts that were made for it.
 #![tactic(auto)]
 
 pub mod family;

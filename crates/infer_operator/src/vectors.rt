@@ -1,146 +1,94 @@
-// The operators of vectors, over n arguments whose sorts are in `args` from byte 3 on: the group of nineteen, and BvConcat.
-ghost use Rattle.infer_rules.specs.Inferred.{first_vector, concat_from};
-ghost use Rattle.row_answer.specs.Answer.{AnswerIs};
-ghost use Rattle.infer_operator.specs.Asks.{ReadArgumentsAsk, ArgsAsks, sorts_in};
-ghost use Rattle.infer_operator.specs.Vectors.{ScanHas, VectorsHas, WidthAsks, WidthsHas};
+// The operators of vectors, over the numbers of their arguments' sorts: the group of nineteen, and BvConcat.
+ghost use Rattle.std.specs.Prelude.{◌≡◌, ◌<◌};
+ghost use Rattle.record.specs.Numbers.{numbers_left};
+ghost use Rattle.substitution.specs.MatchWith.{is_bit_vec};
+ghost use Rattle.record.specs.Decode.{sort_at};
+ghost use Rattle.store.specs.Changes.{Same};
+ghost use Rattle.infer_rules.specs.Inferred.{first_vector, concat_unknown, concat_from};
+ghost use Rattle.row_answer.specs.Answer.{Answered};
+ghost use Rattle.infer_operator.specs.Asks.{Known, ArgumentsAsk, arguments, sorts_with};
+ghost use Rattle.infer_operator.specs.Vectors.{ScanIs, unknown_by, WidthsAsk, widths_of};
 
-use record::kinds::{BYTE_PARAM_BIT_VEC, SORT_BIT_VEC, SORT_PARAM_BIT_VEC};
-use record::u16_at;
-use row_answer::arguments::FIRST_AT;
-use row_answer::{Answer, bit_vector, found, leaf, refuse};
-use row_rules::Cause;
-use store::entries::{entry, kind_at};
+use record::kinds::SortKind;
+use record::numbers::Numbers;
+use row_answer::arguments::Args;
+use row_answer::{bit_vector, leaf};
+use row_rules::{Cause, Row};
+use store::Store;
+use store::entries::Sorts;
 
-// What the first arguments of a vector operator show: a vector of known width, none at all, or another sort met before.
-#[derive(Drop)]
-pub enum Scan {
-    Vector(usize),
-    Nothing,
-    Other,
-}
-
-// The widths of vectors added up, unknown, or not all vectors.
-#[derive(Drop)]
-pub enum Widths {
-    Sum(usize),
-    Unknown,
-    NoVector,
-}
-
-// The first vector of known width among the n arguments, if nothing but vectors of unknown width stands before it; Nothing
-// where there are only those; Other where another sort is met.
-pub fn scan_vectors(records: &[u8], places: &[u32], args: &[u8], n: usize) -> Scan
-    requires { ReadArgumentsAsk records.now places.now args.now 3 n }
-    ensures { ScanHas records.now places.now args.now n result }
+// The first vector of known width among the arguments, if nothing but vectors of unknown width stands before it; None where
+// there are only those; Panics where another sort is met.
+pub fn scan_vectors(sorts: &Sorts<'_>, numbers: Numbers<'_>) -> Result<Option<usize>, Cause>
+    requires { Known sorts.now.count (numbers_left numbers) }
+    ensures { ScanIs sorts.now (numbers_left numbers.entry) result }
 {
-    let mut at = FIRST_AT;
-    let mut left = n;
-    let found = 'scan: loop {
-        if left == 0 {
-            break 'scan Scan::Nothing;
+    for k in numbers {
+        match sorts.kind(k) {
+            SortKind::BitVec => return Ok(Some(k)),
+            SortKind::ParamBitVec => {}
+            _ => return Err(Cause::Panics),
         }
-        let k = u16_at(args, at);
-        let kind = kind_at(records, places, k);
-        if kind == SORT_BIT_VEC {
-            break 'scan Scan::Vector(k);
-        }
-        if kind != SORT_PARAM_BIT_VEC {
-            break 'scan Scan::Other;
-        }
-        at += 2;
-        left -= 1;
-    };
-    found
+    }
+    Ok(None)
 }
 
 // The group of nineteen: the first vector of known width; ParamBitVec without one; Panics at another sort before it.
-pub fn first_vector(
-    records: &mut [u8],
-    places: &mut [u32],
-    index: &mut [u16],
-    count: usize,
-    used: usize,
-    args: &[u8],
-    n: usize,
-) -> Answer
-    requires { ArgsAsks records.old places.old index.old count used args.now n }
-    ensures { AnswerIs records.old places.old count (first_vector (sorts_in records.old places.old count args.now 3 n)) records.new places.new index.new result }
+pub fn first_vector(store: &mut Store<'_>, args: &Args<'_>) -> Row
+    requires { ArgumentsAsk store.old args.now }
+    ensures same { Same store.old store.new }
+    ensures answer { Answered store.old (first_vector (arguments store.old args.now)) store.new result }
 {
-    let scan = scan_vectors(records, places, args, n);
-    match scan {
-        Scan::Vector(k) => found(k, count, used),
-        Scan::Nothing => leaf(records, places, index, count, used, BYTE_PARAM_BIT_VEC),
-        Scan::Other => refuse(Cause::Panics, count, used),
+    match scan_vectors(&store.sorts(), args.numbers())? {
+        Some(k) => Ok(k),
+        None => leaf(store, SortKind::ParamBitVec),
     }
 }
 
-// Whether the `many` arguments from `start` on are vectors, of known or unknown width.
-pub fn all_vectors(records: &[u8], places: &[u32], args: &[u8], start: usize, many: usize) -> bool
-    requires { ReadArgumentsAsk records.now places.now args.now start many }
-    ensures { VectorsHas records.now places.now args.now start many result }
+// Whether a sort is a vector, of known or unknown width.
+fn is_vector(sorts: &Sorts<'_>, k: usize) -> bool
+    requires { k < sorts.now.count }
+    ensures { result ≡ is_bit_vec (sort_at sorts.now.records.now sorts.now.places.now sorts.now.count k) }
 {
-    let mut at = start;
-    let mut left = many;
-    while 0 < left {
-        let k = u16_at(args, at);
-        let kind = kind_at(records, places, k);
-        if kind < SORT_BIT_VEC {
-            return false;
-        }
-        if SORT_PARAM_BIT_VEC < kind {
-            return false;
-        }
-        at += 2;
-        left -= 1;
-    }
-    true
+    matches!(sorts.kind(k), SortKind::BitVec | SortKind::ParamBitVec)
 }
 
-// The widths of the n arguments added up; Unknown where they are vectors but a width is unknown; NoVector where one is none.
-pub fn add_widths(records: &[u8], places: &[u32], args: &[u8], n: usize) -> Widths
-    requires { WidthAsks records.now places.now args.now n }
-    ensures { WidthsHas records.now places.now args.now n result }
+// Whether all of these sorts are vectors.
+pub fn all_vectors(sorts: &Sorts<'_>, mut numbers: Numbers<'_>) -> bool
+    requires { Known sorts.now.count (numbers_left numbers) }
+    ensures { concat_unknown (sorts_with sorts.now (numbers_left numbers.entry)) ≡ unknown_by result }
 {
-    let mut at = FIRST_AT;
-    let mut left = n;
+    numbers.all(|k| is_vector(sorts, k))
+}
+
+// The widths of the arguments added up; None where they are vectors but a width is unknown; Panics where one is no vector.
+pub fn add_widths(sorts: &Sorts<'_>, mut numbers: Numbers<'_>) -> Result<Option<usize>, Cause>
+    requires { WidthsAsk sorts.now (numbers_left numbers) }
+    ensures { concat_from 0 (sorts_with sorts.now (numbers_left numbers.entry)) ≡ widths_of result }
+{
     let mut sum = 0;
-    while 0 < left {
-        let k = u16_at(args, at);
-        let a = entry(records, places, k);
-        let kind = a.kind;
-        if kind == SORT_PARAM_BIT_VEC {
-            if all_vectors(records, places, args, at + 2, left - 1) {
-                return Widths::Unknown;
+    while let Some(k) = numbers.next() {
+        let sort = sorts.entry(k);
+        match sort.kind {
+            SortKind::BitVec => sum += sort.number,
+            SortKind::ParamBitVec => {
+                let vectors = all_vectors(sorts, numbers);
+                return vectors.then_some(None).ok_or(Cause::Panics);
             }
-            return Widths::NoVector;
+            _ => return Err(Cause::Panics),
         }
-        if kind != SORT_BIT_VEC {
-            return Widths::NoVector;
-        }
-        sum += a.number;
-        at += 2;
-        left -= 1;
     }
-    Widths::Sum(sum)
+    Ok(Some(sum))
 }
 
 // BvConcat: the vector of all widths together; ParamBitVec where one is unknown; Panics where an argument is no vector.
-pub fn concat(
-    records: &mut [u8],
-    places: &mut [u32],
-    index: &mut [u16],
-    count: usize,
-    used: usize,
-    args: &[u8],
-    n: usize,
-) -> Answer
-    requires { ArgsAsks records.old places.old index.old count used args.now n }
-    ensures { AnswerIs records.old places.old count (concat_from 0 (sorts_in records.old places.old count args.now 3 n)) records.new places.new index.new result }
+pub fn concat(store: &mut Store<'_>, args: &Args<'_>) -> Row
+    requires { ArgumentsAsk store.old args.now }
+    ensures same { Same store.old store.new }
+    ensures answer { Answered store.old (concat_from 0 (arguments store.old args.now)) store.new result }
 {
-    let widths = add_widths(records, places, args, n);
-    match widths {
-        Widths::Sum(w) => bit_vector(records, places, index, count, used, w),
-        Widths::Unknown => leaf(records, places, index, count, used, BYTE_PARAM_BIT_VEC),
-        Widths::NoVector => refuse(Cause::Panics, count, used),
+    match add_widths(&store.sorts(), args.numbers())? {
+        Some(w) => bit_vector(store, w),
+        None => leaf(store, SortKind::ParamBitVec),
     }
 }

@@ -1,14 +1,22 @@
 -- What the indexed operators ask: arguments, and index terms that the sheet names.
-use Rattle.std.specs.Prelude.{ℕ, ◌+◌, ◌*◌, ◌<◌, ◌≡◌, Bool, true, false, List}
-use Rattle.store.specs.Good.{Good}
-use Rattle.row_answer.specs.Arguments.{ConstantsAsk}
-use Rattle.infer_operator.specs.Asks.{ArgsAsks}
+use Rattle.std.specs.Prelude.{ℕ, ◌+◌, ◌-◌, ◌<◌, ◌≡◌, List}
+use Rattle.std.proofs.Math.Option.{Option}
+use Rattle.record.specs.Kinds.{param_number}
+use Rattle.record.specs.declared.kinds.ParamOp.{ParamOp}
+use Rattle.record.specs.declared.span.Span.{Span}
+use Rattle.sheet.specs.declared.ReadSheet.{ReadSheet}
+use Rattle.store.specs.declared.Store.{Store}
+use Rattle.row_answer.specs.declared.arguments.Args.{Args}
+use Rattle.row_answer.specs.Arguments.{constants_in, ConstantsAsk}
+use Rattle.infer_operator.specs.Asks.{ArgumentsAsk}
 
 ---------------------------------------------------------------- the operators
--- The width of a vector with the index: added, or so many times.
-abbrev pub resizing : Bool → ℕ → ℕ → ℕ
-resizing true i w = i + w
-resizing false i w = i * w
+-- The index terms that the sheet names, as integer constants; and those behind the first.
+abbrev pub indices : ReadSheet → Span → List (Option ℕ)
+indices z c = constants_in z.bytes.now z.starts.now c.at c.count
+
+abbrev pub others : ReadSheet → Span → List (Option ℕ)
+others z c = constants_in z.bytes.now z.starts.now (c.at + 2) (c.count - 1)
 
 -- The operators that look at their first index.
 pub data Indexing (op : ℕ) : Type 0 where
@@ -18,27 +26,21 @@ pub data Indexing (op : ℕ) : Type 0 where
   repeats : op ≡ 7 → Indexing op
   converts : op ≡ 9 → Indexing op
 
--- A good store, index terms, and the first index.
-pub record ExtractAsks (b p ix : List ℕ) (n u : ℕ) (s xs : List ℕ) (x q i : ℕ) : Type 0 where
-  pub good : Good b p ix n u
-  pub terms : ConstantsAsk s xs x q
-  pub small : i < 4294967296
-
--- Arguments, and the first index.
-pub record ResizeAsks (b p ix : List ℕ) (n u : ℕ) (a : List ℕ) (m i : ℕ) : Type 0 where
-  pub args : ArgsAsks b p ix n u a m
+-- Index terms, and the first index.
+pub record ExtractAsks (z : ReadSheet) (c : Span) (i : ℕ) : Type 0 where
+  pub terms : ConstantsAsk z.bytes.now z.starts.now c.at c.count
   pub small : i < 4294967296
 
 -- Arguments and index terms.
-pub record InferIndexedAsks (b p ix : List ℕ) (n u : ℕ) (s xs : List ℕ) (x q : ℕ) (a : List ℕ) (m : ℕ) : Type 0 where
-  pub args : ArgsAsks b p ix n u a m
-  pub terms : ConstantsAsk s xs x q
+pub record InferIndexedAsks (s : Store) (z : ReadSheet) (c : Span) (a : Args) : Type 0 where
+  pub args : ArgumentsAsk s a
+  pub terms : ConstantsAsk z.bytes.now z.starts.now c.at c.count
 
 -- And an operator that looks at the first index; and that index.
-pub record FirstAsks (b p ix : List ℕ) (n u : ℕ) (s xs : List ℕ) (x q op : ℕ) (a : List ℕ) (m : ℕ) : Type 0 where
-  pub asks : InferIndexedAsks b p ix n u s xs x q a m
-  pub looks : Indexing op
+pub record FirstAsks (s : Store) (z : ReadSheet) (c : Span) (op : ParamOp) (a : Args) : Type 0 where
+  pub asks : InferIndexedAsks s z c a
+  pub looks : Indexing (param_number op)
 
-pub record GivenAsks (b p ix : List ℕ) (n u : ℕ) (s xs : List ℕ) (x q op : ℕ) (a : List ℕ) (m i : ℕ) : Type 0 where
-  pub first : FirstAsks b p ix n u s xs x q op a m
+pub record GivenAsks (s : Store) (z : ReadSheet) (c : Span) (op : ParamOp) (a : Args) (i : ℕ) : Type 0 where
+  pub first : FirstAsks s z c op a
   pub small : i < 4294967296

@@ -1,51 +1,43 @@
 // The inferred sort of a Binder.
-ghost use Rattle.record.specs.Decode.{store_of};
+ghost use Rattle.store.specs.Changes.{Same};
 ghost use Rattle.infer_rules.specs.Inferred.{inferred_binder};
-ghost use Rattle.row_answer.specs.Answer.{AnswerIs};
-ghost use Rattle.row_parts.specs.Site.{bindings_over};
-ghost use Rattle.infer_operator.specs.Asks.{sorts_in};
-ghost use Rattle.infer_row.specs.Terms.{BoundAsks};
+ghost use Rattle.row_answer.specs.Answer.{Answered};
+ghost use Rattle.row_answer.specs.Args.{SameArgs};
+ghost use Rattle.infer_operator.specs.Asks.{arguments};
+ghost use Rattle.infer_row.specs.Terms.{BoundAsks, bindings};
 
 use reader::TermRecord;
-use record::kinds::{BINDER_CHOICE, BINDER_LAMBDA, BYTE_BOOL};
-use record::u16_at;
-use row_answer::arguments::FIRST_AT;
+use record::kinds::{Binder, SortKind};
+use row_answer::arguments::Args;
+use row_answer::leaf;
 use row_answer::lists::lambda;
-use row_answer::{Answer, found, leaf, refuse};
-use row_rules::Cause;
+use row_rules::{Cause, Row};
+use sheet::ReadSheet;
+use store::Store;
 
-// A Binder, whose body's sort is in `args` at byte 3: Bool for Forall (0) and Exists (1); for Choice (2) the sort of its first
-// binding, Panics without one; for Lambda (3) the Function of its bindings' sorts and its body's, put together in `args`.
+// A Binder, whose body is its argument: Bool for Forall, Exists and a number that is none's; for Choice the sort of its first binding, Panics without one;
+// for Lambda the Function of its bindings' sorts and its body's, put together in `args`.
 pub fn inferred_binder(
-    records: &mut [u8],
-    places: &mut [u32],
-    index: &mut [u16],
-    count: usize,
-    used: usize,
-    sheet: &[u8],
-    table: &[u16],
+    store: &mut Store<'_>,
+    sheet: &ReadSheet<'_>,
     term: TermRecord,
-    args: &mut [u8],
-) -> Answer
-    requires { BoundAsks records.old places.old index.old count used sheet.now table.now term args.old }
-    ensures { AnswerIs records.old places.old count (inferred_binder term.number (bindings_over (store_of records.old places.old count) table.now sheet.now term) (sorts_in records.old places.old count args.old 3 term.list_count)) records.new places.new index.new result }
+    args: &mut Args<'_>,
+) -> Row
+    requires { BoundAsks store.old sheet.now term args.old }
+    ensures same { Same store.old store.new }
+    ensures same_args { SameArgs args.old args.new }
+    ensures answer { Answered store.old (inferred_binder term.number (bindings store.old sheet.now term) (arguments store.old args.old)) store.new result }
 {
-    let number = term.number;
-    let pairs = term.pairs_at;
-    let paired = term.pairs_count;
-    if number == BINDER_LAMBDA {
-        let body = u16_at(args, FIRST_AT);
-        return lambda(
-            records, places, index, count, used, sheet, pairs, paired, table, args, body,
-        );
+    match Binder::try_from(term.number).unwrap_or(Binder::Forall) {
+        Binder::Lambda => {
+            let body = args.number(0);
+            lambda(store, sheet, term.pairs, args, body)
+        }
+        Binder::Choice => {
+            let mut pairs = term.pairs.pairs(sheet.bytes);
+            let (_, sort) = pairs.next().ok_or(Cause::Panics)?;
+            Ok(sheet.table[sort] as usize)
+        }
+        Binder::Forall | Binder::Exists => leaf(store, SortKind::Bool),
     }
-    if number != BINDER_CHOICE {
-        return leaf(records, places, index, count, used, BYTE_BOOL);
-    }
-    if paired == 0 {
-        return refuse(Cause::Panics, count, used);
-    }
-    let v = u16_at(sheet, pairs + 2);
-    let k = table[v] as usize;
-    found(k, count, used)
 }

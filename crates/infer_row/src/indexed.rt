@@ -1,181 +1,123 @@
-// The inferred sort of an indexed operator, which has `seconds` index terms, named from `second` on of the sheet, and n
-// arguments, whose sorts are in `args` from byte 3 on.
+// The inferred sort of an indexed operator, whose index terms the sheet names in `second`.
+ghost use Rattle.std.specs.Prelude.{◌≡◌, ◌≤◌, ◌∷◌, ℕ};
 ghost use Rattle.std.proofs.Math.Option.{some};
-ghost use Rattle.std.specs.Prelude.{◌∷◌, ◌+◌, ◌-◌};
+ghost use Rattle.record.specs.Kinds.{param_number};
+ghost use Rattle.store.specs.Changes.{Same};
 ghost use Rattle.infer_rules.specs.Inferred.{extracted, resized_of, indexed};
-ghost use Rattle.row_answer.specs.Answer.{AnswerIs};
-ghost use Rattle.row_answer.specs.Arguments.{constants_in};
-ghost use Rattle.infer_operator.specs.Asks.{sorts_in};
-ghost use Rattle.infer_row.specs.Indexed.{ExtractAsks, ResizeAsks, resizing, InferIndexedAsks, FirstAsks, GivenAsks};
+ghost use Rattle.row_answer.specs.Answer.{Answered};
+ghost use Rattle.infer_operator.specs.Asks.{ArgumentsAsk, arguments};
+ghost use Rattle.infer_row.specs.Indexed.{indices, others, ExtractAsks, InferIndexedAsks, FirstAsks, GivenAsks};
 
 use infer_operator::single::argument;
-use record::kinds::{
-    BYTE_BOOL, BYTE_INT, BYTE_PARAM_BIT_VEC, BYTE_REG_LAN, PARAM_BIT_OF, PARAM_EXTRACT,
-    PARAM_INT_OF, PARAM_INT_TO_BV, PARAM_RE_LOOP, PARAM_RE_POWER, PARAM_REPEAT, PARAM_ROTATE_LEFT,
-    PARAM_ROTATE_RIGHT, PARAM_SIGN_EXTEND, PARAM_ZERO_EXTEND, SORT_BIT_VEC, SORT_PARAM_BIT_VEC,
-};
-use record::u16_at;
-use row_answer::arguments::{Constant, FIRST_AT, index_at};
-use row_answer::{Answer, bit_vector, leaf, refuse};
-use row_rules::Cause;
-use store::entries::entry;
+use record::kinds::{ParamOp, SortKind};
+use record::span::Span;
+use row_answer::arguments::{Args, index_at};
+use row_answer::{bit_vector, leaf};
+use row_rules::{Cause, Row};
+use sheet::ReadSheet;
+use store::Store;
 
 // BvExtract's width from its second index and the first, i; ParamBitVec where it is no integer; Panics where it is missing or
 // over i.
-pub fn inferred_extract(
-    records: &mut [u8],
-    places: &mut [u32],
-    index: &mut [u16],
-    count: usize,
-    used: usize,
-    sheet: &[u8],
-    starts: &[u16],
-    second: usize,
-    seconds: usize,
-    i: usize,
-) -> Answer
-    requires { ExtractAsks records.old places.old index.old count used sheet.now starts.now second seconds i }
-    ensures { AnswerIs records.old places.old count (extracted (some i ∷ constants_in sheet.now starts.now (second + 2) (seconds - 1))) records.new places.new index.new result }
+pub fn inferred_extract(store: &mut Store<'_>, sheet: &ReadSheet<'_>, second: Span, i: usize) -> Row
+    requires { ExtractAsks sheet.now second i }
+    ensures same { Same store.old store.new }
+    ensures answer { Answered store.old (extracted (some i ∷ others sheet.now second)) store.new result }
 {
-    if seconds < 2 {
-        return refuse(Cause::Panics, count, used);
+    if second.count < 2 {
+        return Err(Cause::Panics);
     }
-    let low = index_at(sheet, starts, second + 2);
-    match low {
-        Constant::Integer(j) => {
-            if i < j {
-                return refuse(Cause::Panics, count, used);
-            }
-            bit_vector(records, places, index, count, used, i - j + 1)
-        }
-        Constant::Other => leaf(records, places, index, count, used, BYTE_PARAM_BIT_VEC),
+    match index_at(sheet, second.at + 2) {
+        Some(j) if i < j => Err(Cause::Panics),
+        Some(j) => bit_vector(store, i - j + 1),
+        None => leaf(store, SortKind::ParamBitVec),
     }
 }
 
-// The vector of the width of the first argument and i together where `adds`, else i times as wide; ParamBitVec where the
-// width is unknown; Panics where it is no vector, or missing.
-pub fn resized(
-    records: &mut [u8],
-    places: &mut [u32],
-    index: &mut [u16],
-    count: usize,
-    used: usize,
-    args: &[u8],
-    n: usize,
-    i: usize,
-    adds: bool,
-) -> Answer
-    requires { ResizeAsks records.old places.old index.old count used args.now n i }
-    ensures { AnswerIs records.old places.old count (resized_of (resizing adds i) (sorts_in records.old places.old count args.now 3 n)) records.new places.new index.new result }
+// The vector whose width is what `resize` makes of the first argument's width; ParamBitVec where that is unknown; Panics where it
+// is no vector, or missing.
+pub fn resized<F: FnOnce(usize) -> usize>(store: &mut Store<'_>, args: &Args<'_>, resize: F) -> Row
+    requires asked { ArgumentsAsk store.old args.now }
+    requires callable { (w : ℕ) → w ≤ 65535 → F.pre resize w }
+    ensures same { Same store.old store.new }
+    ensures answer { (f : ℕ → ℕ) → ((w r : ℕ) → F.post resize w r → r ≡ f w) → Answered store.old (resized_of f (arguments store.old args.now)) store.new result }
 {
-    if n == 0 {
-        return refuse(Cause::Panics, count, used);
+    let k = args.numbers().next().ok_or(Cause::Panics)?;
+    let vector = store.entry(k);
+    match vector.kind {
+        SortKind::BitVec => bit_vector(store, resize(vector.number)),
+        SortKind::ParamBitVec => leaf(store, SortKind::ParamBitVec),
+        _ => Err(Cause::Panics),
     }
-    let k = u16_at(args, FIRST_AT);
-    let a = entry(records, places, k);
-    let kind = a.kind;
-    let width = a.number;
-    if kind == SORT_PARAM_BIT_VEC {
-        return leaf(records, places, index, count, used, BYTE_PARAM_BIT_VEC);
-    }
-    if kind != SORT_BIT_VEC {
-        return refuse(Cause::Panics, count, used);
-    }
-    if adds {
-        return bit_vector(records, places, index, count, used, i + width);
-    }
-    bit_vector(records, places, index, count, used, i * width)
 }
 
-// The operators that look at their first index, i: 0 BvExtract, 3 ZeroExtend, 4 SignExtend, 7 Repeat, 9 IntToBv.
+// The operators that look at their first index, i: BvExtract, ZeroExtend, SignExtend, Repeat and IntToBv.
 pub fn by_index(
-    records: &mut [u8],
-    places: &mut [u32],
-    index: &mut [u16],
-    count: usize,
-    used: usize,
-    sheet: &[u8],
-    starts: &[u16],
-    second: usize,
-    seconds: usize,
-    op: usize,
-    args: &[u8],
-    n: usize,
+    store: &mut Store<'_>,
+    sheet: &ReadSheet<'_>,
+    second: Span,
+    op: ParamOp,
+    args: &Args<'_>,
     i: usize,
-) -> Answer
-    requires { GivenAsks records.old places.old index.old count used sheet.now starts.now second seconds op args.now n i }
-    ensures { AnswerIs records.old places.old count (indexed op (some i ∷ constants_in sheet.now starts.now (second + 2) (seconds - 1)) (sorts_in records.old places.old count args.now 3 n)) records.new places.new index.new result }
+) -> Row
+    requires { GivenAsks store.old sheet.now second op args.now i }
+    ensures same { Same store.old store.new }
+    ensures answer { Answered store.old (indexed (param_number op) (some i ∷ others sheet.now second) (arguments store.old args.now)) store.new result }
 {
     match op {
-        PARAM_EXTRACT => inferred_extract(
-            records, places, index, count, used, sheet, starts, second, seconds, i,
-        ),
-        PARAM_ZERO_EXTEND | PARAM_SIGN_EXTEND => resized(
-            records, places, index, count, used, args, n, i, true,
-        ),
-        PARAM_REPEAT => resized(records, places, index, count, used, args, n, i, false),
-        _ => bit_vector(records, places, index, count, used, i),
+        ParamOp::Extract => inferred_extract(store, sheet, second, i),
+        ParamOp::ZeroExtend | ParamOp::SignExtend => resized(store, args, |w| i + w),
+        ParamOp::Repeat => resized(store, args, |w| i * w),
+        _ => bit_vector(store, i),
     }
 }
 
 // The same operators: Panics without an index, ParamBitVec where the first is no integer constant.
 pub fn first_index(
-    records: &mut [u8],
-    places: &mut [u32],
-    index: &mut [u16],
-    count: usize,
-    used: usize,
-    sheet: &[u8],
-    starts: &[u16],
-    second: usize,
-    seconds: usize,
-    op: usize,
-    args: &[u8],
-    n: usize,
-) -> Answer
-    requires { FirstAsks records.old places.old index.old count used sheet.now starts.now second seconds op args.now n }
-    ensures { AnswerIs records.old places.old count (indexed op (constants_in sheet.now starts.now second seconds) (sorts_in records.old places.old count args.now 3 n)) records.new places.new index.new result }
+    store: &mut Store<'_>,
+    sheet: &ReadSheet<'_>,
+    second: Span,
+    op: ParamOp,
+    args: &Args<'_>,
+) -> Row
+    requires { FirstAsks store.old sheet.now second op args.now }
+    ensures same { Same store.old store.new }
+    ensures answer { Answered store.old (indexed (param_number op) (indices sheet.now second) (arguments store.old args.now)) store.new result }
 {
-    if seconds == 0 {
-        return refuse(Cause::Panics, count, used);
+    if second.count == 0 {
+        return Err(Cause::Panics);
     }
-    let first = index_at(sheet, starts, second);
-    match first {
-        Constant::Integer(i) => by_index(
-            records, places, index, count, used, sheet, starts, second, seconds, op, args, n, i,
-        ),
-        Constant::Other => leaf(records, places, index, count, used, BYTE_PARAM_BIT_VEC),
+    match index_at(sheet, second.at) {
+        Some(i) => by_index(store, sheet, second, op, args, i),
+        None => leaf(store, SortKind::ParamBitVec),
     }
 }
 
-// The inferred sort of the indexed operator: 0 BvExtract, 1 BvBitOf, 2 BvIntOf, 3 ZeroExtend, 4 SignExtend, 5 RotateLeft,
-// 6 RotateRight, 7 Repeat, 9 IntToBv, 10 RePower, 11 ReLoop; Panics for 8 BvConst.
+// The inferred sort of the indexed operator with this number; Panics for BvConst, and for a number that is none's.
 pub fn inferred_indexed(
-    records: &mut [u8],
-    places: &mut [u32],
-    index: &mut [u16],
-    count: usize,
-    used: usize,
-    sheet: &[u8],
-    starts: &[u16],
-    second: usize,
-    seconds: usize,
+    store: &mut Store<'_>,
+    sheet: &ReadSheet<'_>,
+    second: Span,
     op: usize,
-    args: &[u8],
-    n: usize,
-) -> Answer
-    requires { InferIndexedAsks records.old places.old index.old count used sheet.now starts.now second seconds args.now n }
-    ensures { AnswerIs records.old places.old count (indexed op (constants_in sheet.now starts.now second seconds) (sorts_in records.old places.old count args.now 3 n)) records.new places.new index.new result }
+    args: &Args<'_>,
+) -> Row
+    requires { InferIndexedAsks store.old sheet.now second args.now }
+    ensures same { Same store.old store.new }
+    ensures answer { Answered store.old (indexed op (indices sheet.now second) (arguments store.old args.now)) store.new result }
 {
+    let Ok(op) = ParamOp::try_from(op) else {
+        return Err(Cause::Panics);
+    };
     match op {
-        PARAM_EXTRACT | PARAM_ZERO_EXTEND | PARAM_SIGN_EXTEND | PARAM_REPEAT | PARAM_INT_TO_BV =>
-            first_index(
-                records, places, index, count, used, sheet, starts, second, seconds, op, args, n,
-            ),
-        PARAM_BIT_OF => leaf(records, places, index, count, used, BYTE_BOOL),
-        PARAM_INT_OF => leaf(records, places, index, count, used, BYTE_INT),
-        PARAM_ROTATE_LEFT | PARAM_ROTATE_RIGHT => argument(count, used, args, n, 0),
-        PARAM_RE_POWER | PARAM_RE_LOOP => leaf(records, places, index, count, used, BYTE_REG_LAN),
-        _ => refuse(Cause::Panics, count, used),
+        ParamOp::Extract
+        | ParamOp::ZeroExtend
+        | ParamOp::SignExtend
+        | ParamOp::Repeat
+        | ParamOp::IntToBv => first_index(store, sheet, second, op, args),
+        ParamOp::BitOf => leaf(store, SortKind::Bool),
+        ParamOp::IntOf => leaf(store, SortKind::Int),
+        ParamOp::RotateLeft | ParamOp::RotateRight => argument(args, 0),
+        ParamOp::RePower | ParamOp::ReLoop => leaf(store, SortKind::RegLan),
+        ParamOp::BvConst => Err(Cause::Panics),
     }
 }

@@ -1,126 +1,88 @@
-// The inferred sort of one record of any kind, over the sorts of its arguments. Each function returns the answer with the store's
-// count and bytes in use after it.
+// The inferred sort of one record of any kind, over the sorts of its arguments. Each function returns the row; the store has the
+// sorts that were made for it.
 #![tactic(auto)]
 
 pub mod binders;
 pub mod indexed;
 
-ghost use Rattle.record.specs.Decode.{store_of};
+ghost use Rattle.std.specs.Prelude.{◌≡◌};
+ghost use Rattle.store.specs.Changes.{Same};
+ghost use Rattle.matching_tables.specs.Names.{SameNames};
 ghost use Rattle.infer_rules.specs.Inferred.{inferred};
-ghost use Rattle.row_answer.specs.Answer.{AnswerIs};
-ghost use Rattle.row_parts.specs.Site.{site_over, SiteAsks, SiteIs};
-ghost use Rattle.infer_row.specs.Terms.{PlainTermAsks, PlainTermIs, InferComposedAsks};
+ghost use Rattle.row_answer.specs.Args.{SameArgs};
+ghost use Rattle.infer_row.specs.Terms.{PlainTermAsks, PlainTermIs, InferComposedAsks, ComposedIs, InferAsks, InferIs};
 
 use binders::inferred_binder;
 use indexed::inferred_indexed;
 use infer_operator::op::inferred_operator;
 use infer_operator::single::last_of;
+use matching_tables::names::Names;
 use reader::TermRecord;
-use record::kinds::{
-    BYTE_INT, BYTE_REAL, BYTE_REG_LAN, BYTE_STRING, TERM_APP, TERM_BINDER, TERM_BIT_VECTOR,
-    TERM_INTEGER, TERM_LET, TERM_MATCH, TERM_OP, TERM_PARAM_OP, TERM_REAL, TERM_REG_LAN,
-    TERM_STRING,
-};
-use row_answer::{Answer, bit_vector, found, leaf};
+use record::kinds::{SortKind, TermKind};
+use row_answer::arguments::Args;
+use row_answer::{bit_vector, leaf};
 use row_application::inferred_app;
+use row_rules::Row;
+use sheet::ReadSheet;
+use store::Store;
 
-// A term whose sort needs no argument: 0 integer, 1 real, 2 string, 3 RegLan constant, 4 bit-vector constant, Limit where its
-// width is over 65,535; 5 Var and 12 AsOp have a sort of their own, which the table names in the store.
-pub fn inferred_plain(
-    records: &mut [u8],
-    places: &mut [u32],
-    index: &mut [u16],
-    count: usize,
-    used: usize,
-    table: &[u16],
-    term: TermRecord,
-) -> Answer
-    requires { PlainTermAsks records.old places.old index.old count used table.now term }
-    ensures { PlainTermIs records.old places.old count table.now term records.new places.new index.new result }
+// A term whose sort needs no argument: a constant, Limit where the width of a bit vector is over 65,535; a Var and an AsOp have
+// a sort of their own, which the sheet's table names in the store.
+pub fn inferred_plain(store: &mut Store<'_>, sheet: &ReadSheet<'_>, term: TermRecord) -> Row
+    requires { PlainTermAsks store.old sheet.now term }
+    ensures same { Same store.old store.new }
+    ensures answer { PlainTermIs store.old sheet.now term store.new result }
 {
-    let kind = term.kind;
-    let number = term.number;
-    let sort = term.sort;
-    match kind {
-        TERM_INTEGER => leaf(records, places, index, count, used, BYTE_INT),
-        TERM_REAL => leaf(records, places, index, count, used, BYTE_REAL),
-        TERM_STRING => leaf(records, places, index, count, used, BYTE_STRING),
-        TERM_REG_LAN => leaf(records, places, index, count, used, BYTE_REG_LAN),
-        TERM_BIT_VECTOR => bit_vector(records, places, index, count, used, number),
-        _ => {
-            let k = table[sort] as usize;
-            found(k, count, used)
-        }
+    match term.kind {
+        TermKind::Integer => leaf(store, SortKind::Int),
+        TermKind::Real => leaf(store, SortKind::Real),
+        TermKind::String => leaf(store, SortKind::String),
+        TermKind::RegLan => leaf(store, SortKind::RegLan),
+        TermKind::BitVector => bit_vector(store, term.number),
+        _ => Ok(sheet.table[term.sort] as usize),
     }
 }
 
-// A term by its arguments, whose sorts are in `args` from byte 3 on: 7 Op; 8 Binder; 9 Let, the last one; 10 Match, the last
-// body, Panics without one; 11 ParamOp.
+// A term by its arguments: an Op, a Binder or a ParamOp; a Let, the last one; a Match, the last body, Panics without one.
 pub fn inferred_composed(
-    records: &mut [u8],
-    places: &mut [u32],
-    index: &mut [u16],
-    count: usize,
-    used: usize,
-    sheet: &[u8],
-    table: &[u16],
-    starts: &[u16],
+    store: &mut Store<'_>,
+    sheet: &ReadSheet<'_>,
     term: TermRecord,
-    args: &mut [u8],
-) -> Answer
-    requires { InferComposedAsks records.old places.old index.old count used sheet.now table.now starts.now term args.old }
-    ensures { AnswerIs records.old places.old count (inferred (site_over (store_of records.old places.old count) sheet.now table.now starts.now args.old term)) records.new places.new index.new result }
+    args: &mut Args<'_>,
+) -> Row
+    requires { InferComposedAsks store.old sheet.now term args.old }
+    ensures same { Same store.old store.new }
+    ensures same_args { SameArgs args.old args.new }
+    ensures answer { ComposedIs store.old sheet.now term args.old store.new result }
 {
-    let kind = term.kind;
-    let number = term.number;
-    let list = term.list_at;
-    let n = term.list_count;
-    let second = term.second_at;
-    let seconds = term.second_count;
-    match kind {
-        TERM_OP => inferred_operator(
-            records, places, index, count, used, sheet, starts, list, number, args, n,
-        ),
-        TERM_BINDER => inferred_binder(
-            records, places, index, count, used, sheet, table, term, args,
-        ),
-        TERM_LET => last_of(count, used, args, n, 0),
-        TERM_MATCH => last_of(count, used, args, n, 1),
-        _ => inferred_indexed(
-            records, places, index, count, used, sheet, starts, second, seconds, number, args, n,
-        ),
+    match term.kind {
+        TermKind::Op => inferred_operator(store, sheet, term.list, term.number, args),
+        TermKind::Binder => inferred_binder(store, sheet, term, args),
+        TermKind::Let => last_of(args, 0),
+        TermKind::Match => last_of(args, 1),
+        _ => inferred_indexed(store, sheet, term.second, term.number, args),
     }
 }
 
-// The inferred sort of a record whose arguments' sorts are in `args` from byte 3 on: for 6 App what remains of the head's sort; else
-// as `inferred_composed` and `inferred_plain`. `args` is used up; the tables of names come back as they were.
+// The inferred sort of a record over the sorts of its arguments: for an App what remains of the head's sort; else as
+// `inferred_composed` and `inferred_plain`. `args` is used up; the tables of names come back as they were.
 pub fn infer(
-    records: &mut [u8],
-    places: &mut [u32],
-    index: &mut [u16],
-    count: usize,
-    used: usize,
-    params: &mut [u16],
-    images: &mut [u16],
-    bound: &mut [u16],
-    sheet: &[u8],
-    table: &[u16],
-    starts: &[u16],
+    store: &mut Store<'_>,
+    names: &mut Names<'_>,
+    sheet: &ReadSheet<'_>,
     term: TermRecord,
-    args: &mut [u8],
-) -> Answer
-    requires { SiteAsks records.old places.old index.old count used params.old images.old bound.old sheet.now table.now starts.now term args.old }
-    ensures { SiteIs inferred records.old places.old count params.old images.old bound.old sheet.now table.now starts.now term args.old records.new places.new index.new params.new images.new bound.new result }
+    args: &mut Args<'_>,
+) -> Row
+    requires { InferAsks store.old names.old sheet.now term args.old }
+    ensures same { Same store.old store.new }
+    ensures same_names { SameNames names.old names.new }
+    ensures same_args { SameArgs args.old args.new }
+    ensures answer { InferIs store.old names.old sheet.now term args.old store.new names.new result }
 {
-    let kind = term.kind;
-    let n = term.list_count;
-    match kind {
-        TERM_APP => inferred_app(
-            records, places, index, count, used, params, images, bound, args, n,
-        ),
-        TERM_OP..=TERM_PARAM_OP => inferred_composed(
-            records, places, index, count, used, sheet, table, starts, term, args,
-        ),
-        _ => inferred_plain(records, places, index, count, used, table, term),
+    match term.kind {
+        TermKind::App => inferred_app(store, names, args),
+        TermKind::Op | TermKind::Binder | TermKind::Let | TermKind::Match | TermKind::ParamOp =>
+            inferred_composed(store, sheet, term, args),
+        _ => inferred_plain(store, sheet, term),
     }
 }

@@ -3,7 +3,7 @@
 // Operators whose inferred sort is found in the same way (the arms of Pool::compute_sort).
 #![tactic(auto)]
 
-#[derive(Clone, Copy)]
+#[derive(Clone, Copy, Debug, PartialEq, Eq)]
 pub enum Family {
     // Bool, Int, Real, String and RegLan, whatever the arguments.
     Truth,

@@ -5,8 +5,7 @@ use Rattle.record.specs.Decode.{store_of, sort_at}
 use Rattle.substitution.specs.Substitution.{Map}
 use Rattle.substitution.specs.Matching.{matches}
 use Rattle.matching_tables.specs.Tables.{Told, table_map}
-use Rattle.matching_tables.specs.declared.Matched.{Matched}
-use Rattle.matching_tables.specs.declared.Matched.TheVariants.{Fits, Misfits}
+use Rattle.matching_tables.specs.Matched.{Matched, Fits, Misfits}
 use Rattle.matching_tables.specs.Notes.{Pairs}
 
 -- The pattern k matches the target j from the map θ and gives θ, for every test of names that the table prm stands for.

@@ -23,4 +23,4 @@ abbrev pub StepIs : List ℕ → List ℕ → ℕ → List ℕ → ℕ → ℕ �
 StepIs b p n l k j Stays = (prm : List ℕ) (θ : Map) → Pairs (MatchedAt b p n prm θ) l → MatchedAt b p n prm θ k j
 StepIs b p n l k j Stops = (f : ℕ → Bool) (θ : Map) → none ≡ matches f (sort_at b p n k) (sort_at b p n j) θ
 StepIs b p n l k j (Meets v) = (v < 65536) × (sort_at b p n k ≡ var v)
-StepIs b p n l k j (Parted x y c) = StepParts b p n k j x y c
+StepIs b p n l k j (Parted x y) = StepParts b p n k j x.at y.at x.count × (y.count ≡ x.count)

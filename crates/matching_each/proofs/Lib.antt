@@ -1,3 +1,2 @@
-mod UsualLaws
 mod PremiseLaws
 mod EachLaws

@@ -9,8 +9,6 @@ use Rattle.matching_tables.specs.Tables.{listed}
 use Rattle.matching_tables.specs.Usable.{sorts_at, OneAsks, ListAsks}
 use Rattle.matching_tables.specs.Contract.{none_of}
 use Rattle.matching_tables.specs.Notes.{NoteTable}
-use Rattle.matching_each.specs.declared.each.Test.{Test}
-use Rattle.matching_each.specs.declared.each.Test.TheVariants.{Known, Proper, Unlisted, Settled, Parless}
 
 -- EVERY NODE of a sort passes the test f, which is asked of the sort at each node.
 unfoldable mutual
@@ -24,6 +22,19 @@ unfoldable mutual
   every_all f (s then ss) = every f s && every_all f ss
 
 ---------------------------------------------------------------- the tests
+-- What is asked of a node.
+pub data Test : Type 0 where
+  -- It is neither a Par nor a ParamBitVec.
+  Known : Test
+  -- It is no Par, Type, ParamBitVec or BitVec 0.
+  Proper : Test
+  -- It has no listed name: a Var's own, those of a Par.
+  Unlisted : Test
+  -- It is no Var whose name is listed and not bound.
+  Settled : Test
+  -- It is no Par.
+  Parless : Test
+
 -- A Var of the name v; l is the table of listed names, d that of images.
 abbrev pub on_var : Test → List ℕ → List ℕ → ℕ → Bool
 on_var Known l d v = true
@@ -74,18 +85,10 @@ pub record TestLent (t : Test) (l d : List ℕ) : Type 0 where
   pub listed : ListedFor t l
   pub bound : BoundFor t d
 
-pub record NameAsks (t : Test) (l d : List ℕ) (v : ℕ) : Type 0 where
-  pub lent : TestLent t l d
-  pub small : v < 65536
-
-pub record ParAsks (t : Test) (l b : List ℕ) (x m : ℕ) : Type 0 where
-  pub table : ListedFor t l
-  pub within : x + 2 * m ≤ length b
-
 pub record PassAsks (t : Test) (l d b : List ℕ) (r : SortRecord) : Type 0 where
   pub lent : TestLent t l d
   pub name : r.name < 65536
-  pub names : r.names + 2 * r.named ≤ length b
+  pub names : r.names.at + 2 * r.names.count ≤ length b
 
 -- Whichever sort of a store has the entry r.
 abbrev pub PassIs : Test → List ℕ → List ℕ → List ℕ → SortRecord → Bool → Type 0
@@ -96,23 +99,32 @@ PassIs t l d b r q = (p : List ℕ) (n k : ℕ) → OneAsks b p n k → EntryHas
 abbrev pub Noted : List ℕ → List ℕ → ℕ → (Sort → Bool) → List ℕ → Type 0
 Noted b p n f o = NoteTable (λ k. every f (sort_at b p n k) ≡ true) o
 
-pub record EachAsks (b p : List ℕ) (n : ℕ) (t : Test) (l d o : List ℕ) (k : ℕ) : Type 0 where
-  pub one : OneAsks b p n k
-  pub lent : TestLent t l d
-  pub noted : Noted b p n (passing t l d) o
+-- What the walk is given to test a node with may be asked of the entry of each sort of the store.
+abbrev pub AskedOf : List ℕ → List ℕ → ℕ → (SortRecord → Type 0) → Type 0
+AskedOf b p n may = (r : SortRecord) (k : ℕ) → OneAsks b p n k → EntryHas b p k r → may r
 
-pub record AllEachAsks (b p : List ℕ) (n : ℕ) (t : Test) (l d o : List ℕ) (x m : ℕ) : Type 0 where
+-- Its answers are those of the test f.
+abbrev pub Answers : List ℕ → List ℕ → ℕ → (SortRecord → Bool → Type 0) → (Sort → Bool) → Type 0
+Answers b p n says f = (r : SortRecord) (k : ℕ) (q : Bool) → OneAsks b p n k → EntryHas b p k r → says r q → q ≡ f (sort_at b p n k)
+
+pub record EachAsks (b p : List ℕ) (n : ℕ) (may : SortRecord → Type 0) (k : ℕ) : Type 0 where
+  pub one : OneAsks b p n k
+  pub asked : AskedOf b p n may
+
+pub record AllEachAsks (b p : List ℕ) (n : ℕ) (may : SortRecord → Type 0) (x m : ℕ) : Type 0 where
   pub list : ListAsks b p n b x m
-  pub lent : TestLent t l d
-  pub noted : Noted b p n (passing t l d) o
+  pub asked : AskedOf b p n may
 
 -- THE ANSWER IS v, and the table is right again.
 pub record EveryFound (b p : List ℕ) (n : ℕ) (f : Sort → Bool) (v : Bool) (o : List ℕ) (r : Bool) : Type 0 where
   pub answer : r ≡ v
   pub noted : Noted b p n f o
 
-abbrev pub EachIs : List ℕ → List ℕ → ℕ → Test → List ℕ → List ℕ → ℕ → List ℕ → Bool → Type 0
-EachIs b p n t l d k o r = EveryFound b p n (passing t l d) (every (passing t l d) (sort_at b p n k)) o r
+-- For every test whose answers these are, from a table o that is right for it.
+abbrev pub EachIs : List ℕ → List ℕ → ℕ → (SortRecord → Bool → Type 0) → List ℕ → ℕ → List ℕ → Bool → Type 0
+EachIs b p n says o k o' r =
+    (f : Sort → Bool) → Answers b p n says f → Noted b p n f o → EveryFound b p n f (every f (sort_at b p n k)) o' r
 
-abbrev pub AllEachIs : List ℕ → List ℕ → ℕ → Test → List ℕ → List ℕ → ℕ → ℕ → List ℕ → Bool → Type 0
-AllEachIs b p n t l d x m o r = EveryFound b p n (passing t l d) (every_all (passing t l d) (sorts_at b p n b x m)) o r
+abbrev pub AllEachIs : List ℕ → List ℕ → ℕ → (SortRecord → Bool → Type 0) → List ℕ → ℕ → ℕ → List ℕ → Bool → Type 0
+AllEachIs b p n says o x m o' r =
+    (f : Sort → Bool) → Answers b p n says f → Noted b p n f o → EveryFound b p n f (every_all f (sorts_at b p n b x m)) o' r

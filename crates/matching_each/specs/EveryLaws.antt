@@ -9,17 +9,17 @@ use Rattle.record.specs.Sort.{Sort, Sorts, var, par, node, end, ◌then◌, part
 use Rattle.record.specs.Cases.{by_test}
 use Rattle.record.specs.Names.{member}
 use Rattle.record.specs.Decode.{sort_at}
+use Rattle.record.specs.declared.SortRecord.{SortRecord}
 use Rattle.substitution.specs.Matching.{known, known_all, apart, unlisted, unlisted_all}
 use Rattle.substitution.specs.Premises.{proper, proper_all, parless, parless_all}
 use Rattle.matching_tables.specs.Tables.{Lists}
 use Rattle.matching_tables.specs.TableLaws.{listed-is}
-use Rattle.matching_tables.specs.Usable.{OneAsks}
+use Rattle.matching_tables.specs.Usable.{sorts_at}
 use Rattle.matching_tables.specs.Contract.{none_of}
 use Rattle.matching_tables.specs.Notes.{NoteTable}
 use Rattle.matching_tables.specs.NoteLaws.{table-as}
-use Rattle.matching_each.specs.Every.{every, every_all, passing, TestLent, EachAsks, EveryFound}
-use Rattle.matching_each.specs.declared.each.Test.{Test}
-use Rattle.matching_each.specs.declared.each.Test.TheVariants.{Known, Proper, Unlisted, Parless}
+use Rattle.matching_tables.specs.Entered.{entry-name, entry-names}
+use Rattle.matching_each.specs.Every.{Test, Known, Proper, Unlisted, Parless, every, every_all, passing, TestLent, PassAsks, AskedOf, Answers, EachIs, AllEachIs}
 
 and_last : (t : Bool) → (t && true) ≡ t
 and_last true = refl
@@ -88,12 +88,22 @@ module _ {l ns : List ℕ} (h : Lists l ns) where
       }
 
 ---------------------------------------------------------------- the walk for such a function
--- What was noted of the function is noted of the test.
-pub each-by : {b p : List ℕ} {n k : ℕ} {t : Test} {l d o : List ℕ} {g : Sort → Bool} {h : Sorts → Bool} → Tests (passing t l d) g h
-    → OneAsks b p n k → TestLent t l d → NoteTable (λ i. g (sort_at b p n i) ≡ true) o → EachAsks b p n t l d o k
-each-by {b} {p} {n} c a e t = record { one = a; lent = e; noted = table-as (λ i q. every-is c (sort_at b p n i) ∙ q) t }
+-- Each entry of a store may be asked.
+pub entry-asked : {b p : List ℕ} {n : ℕ} {t : Test} {l d : List ℕ} → TestLent t l d → AskedOf b p n (PassAsks t l d b)
+entry-asked {b} {p} {n} e r k a h =
+    record { lent = e; name = entry-name b p n k a.usable a.known r h; names = entry-names b p n k a.usable a.known r h }
 
--- The walk's answer is the function's.
-pub found-by : {b p : List ℕ} {n : ℕ} {f g : Sort → Bool} {h : Sorts → Bool} {s : Sort} {o : List ℕ} {r : Bool} → Tests f g h
-    → EveryFound b p n f (every f s) o r → (r ≡ g s) × NoteTable (λ i. g (sort_at b p n i) ≡ true) o
-found-by {b} {p} {n} {s = s} c a = (a.answer ∙ every-is c s, table-as (λ i q. sym (every-is c (sort_at b p n i)) ∙ q) a.noted)
+-- The walk's answer is the function's, and what is noted of it is noted again.
+module _ {b p : List ℕ} {n : ℕ} {f g : Sort → Bool} {h : Sorts → Bool} (c : Tests f g h) {says : SortRecord → Bool → Type 0} (a : Answers b p n says f)
+    {o : List ℕ} (t : NoteTable (λ i. g (sort_at b p n i) ≡ true) o) where
+  old : NoteTable (λ i. every f (sort_at b p n i) ≡ true) o
+  old = table-as (λ i q. every-is c (sort_at b p n i) ∙ q) t
+
+  new : {o' : List ℕ} → NoteTable (λ i. every f (sort_at b p n i) ≡ true) o' → NoteTable (λ i. g (sort_at b p n i) ≡ true) o'
+  new = table-as (λ i q. sym (every-is c (sort_at b p n i)) ∙ q)
+
+  pub found-by : (k : ℕ) {o' : List ℕ} {r : Bool} → EachIs b p n says o k o' r → (r ≡ g (sort_at b p n k)) × NoteTable (λ i. g (sort_at b p n i) ≡ true) o'
+  found-by k e = let w = e f a old in (w.answer ∙ every-is c (sort_at b p n k), new w.noted)
+
+  pub all-found-by : (x m : ℕ) {o' : List ℕ} {r : Bool} → AllEachIs b p n says o x m o' r → (r ≡ h (sorts_at b p n b x m)) × NoteTable (λ i. g (sort_at b p n i) ≡ true) o'
+  all-found-by x m e = let w = e f a old in (w.answer ∙ every_all-is c (sorts_at b p n b x m), new w.noted)

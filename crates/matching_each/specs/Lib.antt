@@ -1,3 +1,4 @@
 pub mod Every
 pub mod EveryLaws
 pub mod Premises
+pub mod Words

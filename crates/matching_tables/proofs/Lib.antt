@@ -1,3 +1,1 @@
 mod NamesLaws
-mod ForgetLaws
-mod HeadLaws

@@ -1,8 +1,8 @@
 -- The loops over names: what is done and what is left make the whole.
-use Prim.Native.Nat.{ℕ, zero, suc, ◌+◌, ◌*◌, ◌-◌, ◌≤◌, ◌<◌}
-use mathlib.Core.Path.{◌≡◌, refl, sym, ap, ◌∙◌}
-use mathlib.Core.Bool.{true, false, ◌&&◌}
-use mathlib.Core.List.{List, ◌∷◌}
+use Prim.Native.Nat.{ℕ, zero, suc, ◌+◌, ◌-◌, ◌≤◌, ◌<◌}
+use mathlib.Core.Path.{◌≡◌, refl, sym, ap, subst, ◌∙◌}
+use mathlib.Core.Bool.{Bool, true, false, ◌&&◌}
+use mathlib.Core.List.{List, [], ◌∷◌}
 use native.Mathlib.Omega.{arith}
 use native.Mathlib.Nat.{not-suc-le-zero}
 use native.Mathlib.Decide.{dec_lt, ℕ_discrete}
@@ -10,141 +10,167 @@ use lib.ListN.{length, get_or, set, length-set}
 use lib.Seq.{get_or-set_same, get_or-set_other}
 use lib.Dec.{eqb}
 use borrow.Author.Tests.{eq-eqb, ne_eqb}
+use Rattle.std.specs.Bool.{MatchBool}
+use Rattle.std.specs.List.{AllWithin, HoldsAt, FoldsTo}
+use Rattle.std.specs.Iterator.{Yields, YieldsFirst, CallableAtEachTurn}
 use Rattle.record.specs.Names.{member}
-use Rattle.record.specs.Number.{u16_at, numbers_at}
+use Rattle.record.specs.Number.{numbers_at}
+use Rattle.record.specs.Numbers.{numbers_left, numbers-small}
 use Rattle.record.specs.Decode.{Zeros}
-use Rattle.record.specs.Codec.{numbers_more}
+use Rattle.record.specs.declared.numbers.Numbers.{Numbers}
 use Rattle.substitution.specs.MatchWith.{all_members}
 use Rattle.matching_tables.specs.Tables.{times, Lists, Added, Tabled, Cleared}
-use Rattle.matching_tables.specs.Contract.{NamesAsk, AddAsks, TakeAsks, AllListed, none_of}
-use Rattle.matching_tables.specs.TableLaws.{times-first, times-other, listed-is, listed-some, listed-none, numbers-none}
+use Rattle.matching_tables.specs.Contract.{none_of}
+use Rattle.matching_tables.specs.TableLaws.{times-first, times-other, listed-is, listed-some, listed-none}
 
--- Of the names that are left, v is the first.
-module _ (s : List ℕ) (y l : ℕ) (some : 0 < l) {v : ℕ} (e : v ≡ u16_at s y) where
-  left-first : numbers_at s y l ≡ v ∷ numbers_at s (y + 2) (l - 1)
-  left-first = numbers_more s y l some ∙ ap (λ (i : ℕ). i ∷ numbers_at s (y + 2) (l - 1)) (sym e)
+and-false : (b : Bool) → (b && false) ≡ false
+and-false true = refl
+and-false false = refl
 
-  left_here : (u : ℕ) → v ≡ u → times u (numbers_at s y l) ≡ suc (times u (numbers_at s (y + 2) (l - 1)))
-  left_here u q = ap (times u) left-first ∙ times-first u v (numbers_at s (y + 2) (l - 1)) q
+-- Names that are left, of which v is the first.
+module _ {rest : List ℕ} {v : ℕ} {rest' : List ℕ} (e : rest ≡ v ∷ rest') where
+  left_here : (u : ℕ) → v ≡ u → times u rest ≡ suc (times u rest')
+  left_here u q = ap (times u) e ∙ times-first u v rest' q
 
-  left_other : (u : ℕ) → (v ≡ u → ⊥) → times u (numbers_at s y l) ≡ times u (numbers_at s (y + 2) (l - 1))
-  left_other u d = ap (times u) left-first ∙ times-other u v (numbers_at s (y + 2) (l - 1)) d
+  left_other : (u : ℕ) → (v ≡ u → ⊥) → times u rest ≡ times u rest'
+  left_other u d = ap (times u) e ∙ times-other u v rest' d
 
-left-none : (s : List ℕ) (y l v : ℕ) → l ≤ 0 → times v (numbers_at s y l) ≡ 0
-unfolding times
-left-none s y l v h = let e : l ≡ 0 = omega arith in ap (times v) (numbers-none s y l e)
+  left-small : ((j : ℕ) → get_or rest j 0 < 65536) → (j : ℕ) → get_or rest' j 0 < 65536
+  left-small h j = subst (λ (l : List ℕ). get_or l (suc j) 0 < 65536) e (h (suc j))
+
+  left-first : ((j : ℕ) → get_or rest j 0 < 65536) → v < 65536
+  left-first h = omega (arith, h 0, ap (λ (l : List ℕ). get_or l 0 0) e)
 
 ---------------------------------------------------------------- listing
-pub record Adding (prm s : List ℕ) (x m : ℕ) (now : List ℕ) (y l : ℕ) : Type 0 where
+pub record Adding (prm us now rest : List ℕ) : Type 0 where
   pub long : length now ≡ length prm
-  pub within : y + 2 * l ≤ length s
-  pub each : (v : ℕ) → get_or now v 0 + times v (numbers_at s y l) ≡ get_or prm v 0 + times v (numbers_at s x m)
+  pub small : (j : ℕ) → get_or rest j 0 < 65536
+  pub each : (v : ℕ) → get_or now v 0 + times v rest ≡ get_or prm v 0 + times v us
 
-pub adding-start : {prm s : List ℕ} {x m : ℕ} → AddAsks prm s x m → Adding prm s x m prm x m
-adding-start {prm} {s} {x} {m} a = record { long = refl; within = a.names.within; each = λ v. refl }
+pub adding-start : {prm us rest : List ℕ} → rest ≡ us → ((j : ℕ) → get_or us j 0 < 65536) → Adding prm us prm rest
+adding-start {prm} {us} e h = rw e (record { long = refl; small = h; each = λ v. refl })
 
-module _ {prm s : List ℕ} {x m : ℕ} {now : List ℕ} {y l : ℕ} (a : Adding prm s x m now y l) (some : 0 < l) {v : ℕ} (e : v ≡ u16_at s y) where
-  pub adding-small : AddAsks prm s x m → get_or now v 0 + 1 ≤ 65535
-  adding-small q = omega (arith, a.each v, q.room v, left_here s y l some e v refl)
+module _ {prm us now rest : List ℕ} (a : Adding prm us now rest) {v : ℕ} {rest' : List ℕ} (e : rest ≡ v ∷ rest') where
+  pub adding-low : length prm ≡ 65536 → v < length now
+  adding-low l = omega (arith, a.long, left-first e a.small)
 
-  pub adding-step : v < length now → Adding prm s x m (set now v (get_or now v 0 + 1)) (y + 2) (l - 1)
+  pub adding-small : ((u : ℕ) → get_or prm u 0 + times u us ≤ 65535) → get_or now v 0 + 1 ≤ 65535
+  adding-small q = omega (arith, a.each v, q v, left_here e v refl)
+
+  pub adding-step : v < length now → Adding prm us (set now v (get_or now v 0 + 1)) rest'
   adding-step h =
       record {
         long = length-set now v (get_or now v 0 + 1) ∙ a.long;
-        within = omega (arith, a.within);
+        small = left-small e a.small;
         each = λ u. go u (ℕ_discrete v u);
       }
     where
-      go : (u : ℕ) → Dec (v ≡ u) → get_or (set now v (get_or now v 0 + 1)) u 0 + times u (numbers_at s (y + 2) (l - 1)) ≡ get_or prm u 0 + times u (numbers_at s x m)
+      go : (u : ℕ) → Dec (v ≡ u) → get_or (set now v (get_or now v 0 + 1)) u 0 + times u rest' ≡ get_or prm u 0 + times u us
       go u (yes q) =
           let z : get_or (set now v (get_or now v 0 + 1)) u 0 ≡ get_or now u 0 + 1 =
           ap (λ (i : ℕ). get_or (set now v (get_or now v 0 + 1)) i 0) (sym q) ∙ get_or-set_same now v (get_or now v 0 + 1) 0 h ∙ ap (λ (i : ℕ). get_or now i 0 + 1) q in
-          omega (arith, a.each u, left_here s y l some e u q)
+          omega (arith, a.each u, left_here e u q)
       go u (no d) =
-          omega (arith, a.each u, left_other s y l some e u d, get_or-set_other now v u (get_or now v 0 + 1) 0 (λ z. d (sym z)))
+          omega (arith, a.each u, left_other e u d, get_or-set_other now v u (get_or now v 0 + 1) 0 (λ z. d (sym z)))
 
-pub adding-end : {prm s : List ℕ} {x m : ℕ} {now : List ℕ} {y l : ℕ} → Adding prm s x m now y l → l ≤ 0 → Added prm (numbers_at s x m) now
-adding-end {prm} {s} {x} {m} {now} {y} {l} a h = record { long = a.long; each = λ v. omega (arith, a.each v, left-none s y l v h) }
+pub adding-end : {prm us now rest : List ℕ} → Adding prm us now rest → rest ≡ [] → Added prm us now
+unfolding times
+adding-end a z = record { long = a.long; each = λ v. omega (arith, a.each v, ap (times v) z) }
 
 ---------------------------------------------------------------- taking off
-pub record Taking (prm s : List ℕ) (x m : ℕ) (now : List ℕ) (y l : ℕ) : Type 0 where
+pub record Taking (prm us now rest : List ℕ) : Type 0 where
   pub long : length now ≡ length prm
-  pub within : y + 2 * l ≤ length s
-  pub each : (v : ℕ) → get_or now v 0 + times v (numbers_at s x m) ≡ get_or prm v 0 + times v (numbers_at s y l)
+  pub small : (j : ℕ) → get_or rest j 0 < 65536
+  pub each : (v : ℕ) → get_or now v 0 + times v us ≡ get_or prm v 0 + times v rest
 
-pub taking-start : {prm s : List ℕ} {x m : ℕ} → TakeAsks prm s x m → Taking prm s x m prm x m
-taking-start {prm} {s} {x} {m} a = record { long = refl; within = a.names.within; each = λ v. refl }
+pub taking-start : {prm us rest : List ℕ} → rest ≡ us → ((j : ℕ) → get_or us j 0 < 65536) → Taking prm us prm rest
+taking-start {prm} {us} e h = rw e (record { long = refl; small = h; each = λ v. refl })
 
-module _ {prm s : List ℕ} {x m : ℕ} {now : List ℕ} {y l : ℕ} (a : Taking prm s x m now y l) (some : 0 < l) {v : ℕ} (e : v ≡ u16_at s y) (q : TakeAsks prm s x m) where
-  pub taking-some : 1 ≤ get_or now v 0
-  taking-some = omega (arith, a.each v, q.there v, left_here s y l some e v refl)
+module _ {prm us now rest : List ℕ} (a : Taking prm us now rest) {v : ℕ} {rest' : List ℕ} (e : rest ≡ v ∷ rest') where
+  pub taking-low : length prm ≡ 65536 → v < length now
+  taking-low l = omega (arith, a.long, left-first e a.small)
 
-  pub taking_step : v < length now → Taking prm s x m (set now v (get_or now v 0 - 1)) (y + 2) (l - 1)
-  taking_step h =
+  pub taking-some : ((u : ℕ) → times u us ≤ get_or prm u 0) → 1 ≤ get_or now v 0
+  taking-some q = omega (arith, a.each v, q v, left_here e v refl)
+
+  pub taking_step : ((u : ℕ) → times u us ≤ get_or prm u 0) → v < length now → Taking prm us (set now v (get_or now v 0 - 1)) rest'
+  taking_step q h =
       record {
         long = length-set now v (get_or now v 0 - 1) ∙ a.long;
-        within = omega (arith, a.within);
+        small = left-small e a.small;
         each = λ u. go u (ℕ_discrete v u);
       }
     where
-      go : (u : ℕ) → Dec (v ≡ u) → get_or (set now v (get_or now v 0 - 1)) u 0 + times u (numbers_at s x m) ≡ get_or prm u 0 + times u (numbers_at s (y + 2) (l - 1))
+      go : (u : ℕ) → Dec (v ≡ u) → get_or (set now v (get_or now v 0 - 1)) u 0 + times u us ≡ get_or prm u 0 + times u rest'
       go u (yes w) =
           let z : get_or (set now v (get_or now v 0 - 1)) u 0 ≡ get_or now v 0 - 1 =
           ap (λ (i : ℕ). get_or (set now v (get_or now v 0 - 1)) i 0) (sym w) ∙ get_or-set_same now v (get_or now v 0 - 1) 0 h in
-          omega (arith, a.each u, taking-some, ap (λ (i : ℕ). get_or now i 0) w, left_here s y l some e u w)
+          omega (arith, a.each u, taking-some q, ap (λ (i : ℕ). get_or now i 0) w, left_here e u w)
       go u (no d) =
-          omega (arith, a.each u, left_other s y l some e u d, get_or-set_other now v u (get_or now v 0 - 1) 0 (λ z. d (sym z)))
+          omega (arith, a.each u, left_other e u d, get_or-set_other now v u (get_or now v 0 - 1) 0 (λ z. d (sym z)))
 
-pub taking-end : {prm s : List ℕ} {x m : ℕ} {now : List ℕ} {y l : ℕ} → Taking prm s x m now y l → l ≤ 0 → Added now (numbers_at s x m) prm
-taking-end {prm} {s} {x} {m} {now} {y} {l} a h = record { long = sym a.long; each = λ v. omega (arith, a.each v, left-none s y l v h) }
+pub taking-end : {prm us now rest : List ℕ} → Taking prm us now rest → rest ≡ [] → Added now us prm
+unfolding times
+taking-end a z = record { long = sym a.long; each = λ v. omega (arith, a.each v, ap (times v) z) }
 
 ---------------------------------------------------------------- looking at all
-pub record AllScan (prm s : List ℕ) (x m y l : ℕ) : Type 0 where
-  pub within : y + 2 * l ≤ length s
-  pub rest : (ns : List ℕ) → Lists prm ns → all_members (numbers_at s y l) ns ≡ all_members (numbers_at s x m) ns
+-- The numbers of a span of bytes are those of two bytes.
+pub span-small : (n : Numbers) (b : List ℕ) (x m : ℕ) → numbers_left n ≡ numbers_at b x m → ((i : ℕ) → get_or b i 0 < 256) → (j : ℕ) → get_or (numbers_left n) j 0 < 65536
+span-small n b x m e h j = subst (λ (l : List ℕ). get_or l j 0 < 65536) (sym e) (numbers-small b x m h j)
 
-pub all_start : {prm s : List ℕ} {x m : ℕ} → NamesAsk prm s x m → AllScan prm s x m x m
-all_start {prm} {s} {x} {m} a = record { within = a.within; rest = λ ns h. refl }
+-- What a closure that keeps its state may be asked of each number of a list.
+pub asked-of-numbers : {P : Type 0} {R : P → ℕ → P → Type 0} {Q : P → ℕ → Type 0} {s : Numbers} {p : P}
+    → ((j : ℕ) → get_or (numbers_left s) j 0 < 65536) → ((x : ℕ) (o q : P) → R o x q → q ≡ o) → ((x : ℕ) → x < 65536 → Q p x)
+    → CallableAtEachTurn (YieldsFirst numbers_left) R Q s p
+asked-of-numbers {P} {R} {Q} {s} {p} small stays h =
+    record { at = λ xs t q x u y c e. subst (λ (k : P). Q k x) (kept p xs q c) (h x (left-first e (later s xs t y small))) }
+  where
+    kept : (p : P) (xs : List ℕ) (q : P) → FoldsTo R p xs q → p ≡ q
+    kept p [] q c = c
+    kept p (x ∷ xs) q (j, r, c) = sym (stays x p j r) ∙ kept j xs q c
 
-module _ {prm s : List ℕ} {x m y l : ℕ} (a : AllScan prm s x m y l) (some : 0 < l) {v : ℕ} (e : v ≡ u16_at s y) where
-  all_first : {ns : List ℕ} → Lists prm ns → (member v ns && all_members (numbers_at s (y + 2) (l - 1)) ns) ≡ all_members (numbers_at s x m) ns
+    later : (s : Numbers) (xs : List ℕ) (t : Numbers) → Yields (YieldsFirst numbers_left) s xs t → ((j : ℕ) → get_or (numbers_left s) j 0 < 65536)
+        → (j : ℕ) → get_or (numbers_left t) j 0 < 65536
+    later s [] t e l = subst (λ (n : Numbers). (j : ℕ) → get_or (numbers_left n) j 0 < 65536) e l
+    later s (x ∷ xs) t (j, e, y) l = later j xs t y (left-small e l)
+
+-- The names all have an entry, or one has none.
+module _ {prm ns : List ℕ} (h : Lists prm ns) where
+  all-there : (us : List ℕ) → AllWithin (λ v. get_or prm v 0 ≡ 0 → ⊥) us 0 (length us) → all_members us ns ≡ true
   unfolding all_members
-  all_first {ns} h = sym (ap (λ (us : List ℕ). all_members us ns) (left-first s y l some e)) ∙ a.rest ns h
+  all-there [] a = refl
+  all-there (u ∷ us) a =
+      rw (listed-is prm ns h u, listed-some prm u (a 0 0 (omega arith) (omega arith)))
+      (all-there us (λ k d l g. a (suc k) d (omega arith) (omega arith)))
 
-  pub all-fails : get_or prm v 0 ≡ 0 → AllListed prm s x m false
-  all-fails z ns h = sym (rw (listed-is prm ns h v, listed-none prm v z) refl) ∙ all_first h
+  all-fail : (us : List ℕ) (k : ℕ) → k < length us → HoldsAt (λ v. get_or prm v 0 ≡ 0) us k → all_members us ns ≡ false
+  unfolding all_members
+  all-fail [] k l a = absurd (omega arith)
+  all-fail (u ∷ us) zero l a = rw (listed-is prm ns h u, listed-none prm u (a 0)) refl
+  all-fail (u ∷ us) (suc k) l a = ap (λ (t : Bool). member u ns && t) (all-fail us k (omega arith) a) ∙ and-false (member u ns)
 
-  pub all-step : (get_or prm v 0 ≡ 0 → ⊥) → AllScan prm s x m (y + 2) (l - 1)
-  all-step d =
-      record {
-        within = omega (arith, a.within);
-        rest = λ ns h. sym (rw (listed-is prm ns h v, listed-some prm v d) refl) ∙ all_first h;
-      }
+pub all-answer : {prm : List ℕ} (us : List ℕ) (r : Bool)
+    → MatchBool r (AllWithin (λ v. get_or prm v 0 ≡ 0 → ⊥) us 0 (length us)) ((k : ℕ) × (k < length us) × HoldsAt (λ v. get_or prm v 0 ≡ 0) us k)
+    → (ns : List ℕ) → Lists prm ns → r ≡ all_members us ns
+all-answer us true a ns h = sym (all-there h us a)
+all-answer us false (k, l, a) ns h = sym (all-fail h us k l a)
 
-pub all_end : {prm s : List ℕ} {x m y l : ℕ} → AllScan prm s x m y l → l ≤ 0 → AllListed prm s x m true
-unfolding all_members
-all_end {prm} {s} {x} {m} {y} {l} a z ns h =
-    let e : l ≡ 0 = omega arith in sym (ap (λ (us : List ℕ). all_members us ns) (numbers-none s y l e)) ∙ a.rest ns h
+none-there : (prm us : List ℕ) → AllWithin (λ v. get_or prm v 0 ≡ 0) us 0 (length us) → none_of prm us ≡ true
+unfolding none_of
+none-there prm [] a = refl
+none-there prm (u ∷ us) a = rw (eq-eqb (get_or prm u 0) 0 (a 0 0 (omega arith) (omega arith))) (none-there prm us (λ k d l g. a (suc k) d (omega arith) (omega arith)))
 
-pub record NoneScan (prm s : List ℕ) (x m y l : ℕ) : Type 0 where
-  pub within : y + 2 * l ≤ length s
-  pub rest : none_of prm (numbers_at s y l) ≡ none_of prm (numbers_at s x m)
+none-fail : (prm us : List ℕ) (k : ℕ) → k < length us → HoldsAt (λ v. get_or prm v 0 ≡ 0 → ⊥) us k → none_of prm us ≡ false
+unfolding none_of
+none-fail prm [] k l a = absurd (omega arith)
+none-fail prm (u ∷ us) zero l a = rw (ne_eqb (get_or prm u 0) 0 (a 0)) refl
+none-fail prm (u ∷ us) (suc k) l a = ap (λ (t : Bool). eqb (get_or prm u 0) 0 && t) (none-fail prm us k (omega arith) a) ∙ and-false (eqb (get_or prm u 0) 0)
 
-module _ {prm s : List ℕ} {x m y l : ℕ} (a : NoneScan prm s x m y l) where
-  module _ (some : 0 < l) {v : ℕ} (e : v ≡ u16_at s y) where
-    none_first : (eqb (get_or prm v 0) 0 && none_of prm (numbers_at s (y + 2) (l - 1))) ≡ none_of prm (numbers_at s x m)
-    unfolding none_of
-    none_first = sym (ap (none_of prm) (left-first s y l some e)) ∙ a.rest
-
-    pub none-fails : (get_or prm v 0 ≡ 0 → ⊥) → false ≡ none_of prm (numbers_at s x m)
-    none-fails d = rw (ne_eqb (get_or prm v 0) 0 d) at none_first
-
-    pub none-step : get_or prm v 0 ≡ 0 → NoneScan prm s x m (y + 2) (l - 1)
-    none-step z = record { within = omega (arith, a.within); rest = rw (eq-eqb (get_or prm v 0) 0 z) at none_first }
-
-  pub none_end : l ≤ 0 → true ≡ none_of prm (numbers_at s x m)
-  unfolding none_of
-  none_end z = let e : l ≡ 0 = omega arith in sym (ap (none_of prm) (numbers-none s y l e)) ∙ a.rest
+pub none-answer : (prm us : List ℕ) (r : Bool)
+    → MatchBool r (AllWithin (λ v. get_or prm v 0 ≡ 0) us 0 (length us)) ((k : ℕ) × (k < length us) × HoldsAt (λ v. get_or prm v 0 ≡ 0 → ⊥) us k)
+    → r ≡ none_of prm us
+none-answer prm us true a = sym (none-there prm us a)
+none-answer prm us false (k, l, a) = sym (none-fail prm us k l a)
 
 ---------------------------------------------------------------- unbinding
 -- The names before i are unbound again.

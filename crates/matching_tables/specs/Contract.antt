@@ -8,8 +8,7 @@ use Rattle.substitution.specs.Substitution.{Map, find}
 use Rattle.substitution.specs.Matching.{meet}
 use Rattle.substitution.specs.MatchWith.{all_members}
 use Rattle.matching_tables.specs.Tables.{times, Lists, image_of, table_map, VarIn, Mapped}
-use Rattle.matching_tables.specs.declared.Matched.{Matched}
-use Rattle.matching_tables.specs.declared.Matched.TheVariants.{Fits, Misfits}
+use Rattle.matching_tables.specs.Matched.{Matched, Fits, Misfits}
 use Rattle.matching_tables.specs.Usable.{PairAsks, Usable}
 
 ---------------------------------------------------------------- names

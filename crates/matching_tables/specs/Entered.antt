@@ -5,6 +5,7 @@ use Rattle.std.proofs.Common.{sym, subst, ◌∙◌, arith}
 use Rattle.std.proofs.Math.Path.{ap}
 use Rattle.std.proofs.Math.Dec.{eqb}
 use borrow.Author.Tests.{eqb-true}
+use Rattle.record.specs.Kinds.{sort_number}
 use Rattle.record.specs.Cases.{and_left, and_right}
 use Rattle.record.specs.Names.{distinct}
 use Rattle.record.specs.Number.{u16_at, numbers_at}
@@ -73,22 +74,22 @@ module _ (b p : List ℕ) (n k : ℕ) (u : Usable b p n) (l : k < n) (r : SortRe
   here = fields_at b (get_or p k 0)
 
   there : Fields
-  there = fields r.kind r.name r.number (numbers_at b r.list r.count) (numbers_at b r.names r.named)
+  there = fields (sort_number r.kind) r.name r.number (numbers_at b r.parts.at r.parts.count) (numbers_at b r.names.at r.names.count)
 
   held : here ≡ there
   unfolding here there
   held = is.place.same
 
-  pub entry-var : r.kind ≡ 2 → sort_at b p n k ≡ var r.name
+  pub entry-var : sort_number r.kind ≡ 2 → sort_at b p n k ≡ var r.name
   entry-var h = walk-var b p n k u.stored l r is h
 
-  pub entry-one : r.kind ≡ 12 → r.count ≡ 1
+  pub entry-one : sort_number r.kind ≡ 12 → r.parts.count ≡ 1
   entry-one h = walk-one b p n k u.stored l r is h
 
-  pub entry-par : r.kind ≡ 12 → sort_at b p n k ≡ par (numbers_at b r.names r.named) (sort_at b p n (u16_at b r.list))
+  pub entry-par : sort_number r.kind ≡ 12 → sort_at b p n k ≡ par (numbers_at b r.names.at r.names.count) (sort_at b p n (u16_at b r.parts.at))
   entry-par h = walk-par b p n k u.stored l r is h
 
-  pub entry-node : (r.kind ≡ 2 → ⊥) → (r.kind ≡ 12 → ⊥) → sort_at b p n k ≡ node r.kind r.name r.number (sorts_at b p n b r.list r.count)
+  pub entry-node : (sort_number r.kind ≡ 2 → ⊥) → (sort_number r.kind ≡ 12 → ⊥) → sort_at b p n k ≡ node (sort_number r.kind) r.name r.number (sorts_at b p n b r.parts.at r.parts.count)
   entry-node h q = walk-node b p n k u.stored l r is h q
 
   -- Its name is one, its names are distinct and in the bytes, its parts are below it.
@@ -96,39 +97,39 @@ module _ (b p : List ℕ) (n k : ℕ) (u : Usable b p n) (l : k < n) (r : SortRe
   unfolding here there
   entry-name = omega (arith, (u.stored.each k l).shape.name, ap (λ (f : Fields). f.name) held)
 
-  pub entry-once : distinct (numbers_at b r.names r.named) ≡ true
+  pub entry-once : distinct (numbers_at b r.names.at r.names.count) ≡ true
   unfolding here there
   entry-once = ap (λ (f : Fields). distinct f.names) (sym held) ∙ (u.stored.each k l).shape.once
 
-  pub entry-names : r.names + 2 * r.named ≤ length b
+  pub entry-names : r.names.at + 2 * r.names.count ≤ length b
   entry-names = is.place.names
 
-  pub entry-refs : Refs b r.list r.count n
+  pub entry-refs : Refs b r.parts.at r.parts.count n
   entry-refs = record { within = is.place.list; below = λ j h. omega (arith, is.below j h) }
 
-  pub entry-own : r.kind ≡ 2 → VarIn b p n r.name
+  pub entry-own : sort_number r.kind ≡ 2 → VarIn b p n r.name
   entry-own h = var-own b p n k r.name l (entry-var h)
 
   -- THE SIZE FALLS from an entry to its parts.
-  pub entry-size : size (sort_at b p n k) ≡ 1 + sizes (sorts_at b p n b r.list r.count)
+  pub entry-size : size (sort_at b p n k) ≡ 1 + sizes (sorts_at b p n b r.parts.at r.parts.count)
   entry-size = walk-size b p n k u.stored l r is
 
   -- The body of a Par.
-  pub entry-body : r.kind ≡ 12 → (u16_at b r.list < n) × (size (sort_at b p n k) ≡ 1 + size (sort_at b p n (u16_at b r.list)))
+  pub entry-body : sort_number r.kind ≡ 12 → (u16_at b r.parts.at < n) × (size (sort_at b p n k) ≡ 1 + size (sort_at b p n (u16_at b r.parts.at)))
   unfolding size
   entry-body h =
-      let some : 0 < r.count = omega (arith, entry-one h) in
-      (refs-first b r.list r.count n some entry-refs, ap size (entry-par h))
+      let some : 0 < r.parts.count = omega (arith, entry-one h) in
+      (refs-first b r.parts.at r.parts.count n some entry-refs, ap size (entry-par h))
 
 ---------------------------------------------------------------- two heads
 module _ (r q : SortRecord) where
-  pub head-same : same_head r q ≡ true → (r.kind ≡ q.kind) × (r.name ≡ q.name) × (r.number ≡ q.number) × (r.count ≡ q.count)
+  pub head-same : same_head r q ≡ true → (sort_number r.kind ≡ sort_number q.kind) × (r.name ≡ q.name) × (r.number ≡ q.number) × (r.parts.count ≡ q.parts.count)
   unfolding same_head
   head-same e =
-      let t = and_left (eqb r.kind q.kind && eqb r.name q.name && eqb r.number q.number) (eqb r.count q.count) e in
-      let h = and_left (eqb r.kind q.kind && eqb r.name q.name) (eqb r.number q.number) t in (
-        eqb-true r.kind q.kind (and_left (eqb r.kind q.kind) (eqb r.name q.name) h),
-        eqb-true r.name q.name (and_right (eqb r.kind q.kind) (eqb r.name q.name) h),
-        eqb-true r.number q.number (and_right (eqb r.kind q.kind && eqb r.name q.name) (eqb r.number q.number) t),
-        eqb-true r.count q.count (and_right (eqb r.kind q.kind && eqb r.name q.name && eqb r.number q.number) (eqb r.count q.count) e),
+      let t = and_left (eqb (sort_number r.kind) (sort_number q.kind) && eqb r.name q.name && eqb r.number q.number) (eqb r.parts.count q.parts.count) e in
+      let h = and_left (eqb (sort_number r.kind) (sort_number q.kind) && eqb r.name q.name) (eqb r.number q.number) t in (
+        eqb-true (sort_number r.kind) (sort_number q.kind) (and_left (eqb (sort_number r.kind) (sort_number q.kind)) (eqb r.name q.name) h),
+        eqb-true r.name q.name (and_right (eqb (sort_number r.kind) (sort_number q.kind)) (eqb r.name q.name) h),
+        eqb-true r.number q.number (and_right (eqb (sort_number r.kind) (sort_number q.kind) && eqb r.name q.name) (eqb r.number q.number) t),
+        eqb-true r.parts.count q.parts.count (and_right (eqb (sort_number r.kind) (sort_number q.kind) && eqb r.name q.name && eqb r.number q.number) (eqb r.parts.count q.parts.count) e),
       )

@@ -1,10 +1,14 @@
 pub mod Usable
 pub mod Tables
+pub mod Matched
+pub mod Names
 pub mod Contract
 pub mod Notes
+pub mod KindTests
 pub mod NoteLaws
 pub mod TableLaws
 pub mod Entered
 pub mod WalkLaws
 pub mod LastLaws
 pub mod MapLaws
+pub mod Words

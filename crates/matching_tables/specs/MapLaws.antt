@@ -1,7 +1,12 @@
 -- A variable met against a target: bound at its first meeting, compared at later ones.
-use Rattle.std.specs.Prelude.{ℕ, suc, ◌+◌, ◌-◌, ◌<◌, ◌≡◌, refl, List}
-use Rattle.std.proofs.Common.{ap, ◌∙◌, add-one}
+use Rattle.std.specs.Prelude.{ℕ, suc, ◌+◌, ◌-◌, ◌<◌, ◌≤◌, ◌≡◌, refl, Bool, true, false, List, eqb}
+use Rattle.std.proofs.Common.{sym, ap, subst, ◌∙◌, add-one, eqb-true}
+use Rattle.std.proofs.lemmas.Bool.{eqb-false}
+use Rattle.record.specs.Cases.{by_test}
 use Rattle.std.proofs.Math.Option.{Option, none, some}
+use Rattle.std.specs.Prelude.{Option as Maybe, Some, None}
+use Rattle.std.specs.Option.{SomeIff}
+use Rattle.matching_tables.specs.Names.{entry_of}
 use native.Mathlib.Omega.{arith}
 use Rattle.std.proofs.Math.ListN.{get_or}
 use Rattle.record.specs.Sort.{Sort}
@@ -9,13 +14,27 @@ use Rattle.record.specs.Record.{leaf}
 use Rattle.record.specs.Decode.{store_of, sort_at}
 use Rattle.substitution.specs.Substitution.{Map, bind, find}
 use Rattle.substitution.specs.Matching.{meet}
-use Rattle.matching_tables.specs.declared.Matched.{Matched}
-use Rattle.matching_tables.specs.declared.Matched.TheVariants.{Fits, Misfits}
+use Rattle.matching_tables.specs.Matched.{Matched, Fits, Misfits, found}
 use Rattle.matching_tables.specs.Tables.{image_of, table_map, Tabled, VarIn, Mapped}
 use Rattle.matching_tables.specs.Usable.{Usable}
-use Rattle.matching_tables.specs.Contract.{Answered, LookIs, BindIs, MeetIs}
+use Rattle.matching_tables.specs.Contract.{count_of, Answered, LookIs, BindIs, MeetIs}
 use Rattle.matching_tables.specs.TableLaws.{find-is, bind-mapped, bind-map}
 use Rattle.matching_tables.specs.Entered.{same_number, other-number}
+
+---------------------------------------------------------------- what is found
+pub count-found : (m : ℕ) (q : Bool) → count_of (found m q) ≡ m
+count-found m true = refl
+count-found m false = refl
+
+pub found-fits : (m : ℕ) {q : Bool} → q ≡ true → found m q ≡ Fits m
+found-fits m e = ap (found m) e
+
+pub found-misfits : (m : ℕ) {q : Bool} → q ≡ false → found m q ≡ Misfits m
+found-misfits m e = ap (found m) e
+
+-- The tables are well formed, with as many names as are bound.
+pub answered-mapped : {b p : List ℕ} {n : ℕ} {imgs bnd : List ℕ} {m : ℕ} (q : Bool) {o : Option Map} → Answered b p n imgs bnd (found m q) o → Mapped b p n imgs bnd m
+answered-mapped {b} {p} {n} {imgs} {bnd} {m} q a = subst (Mapped b p n imgs bnd) (count-found m q) a.mapped
 
 pub answered-as : {b p : List ℕ} {n : ℕ} {imgs bnd : List ℕ} {r : Matched} {o q : Option Map} → o ≡ q → Answered b p n imgs bnd r o → Answered b p n imgs bnd r q
 answered-as e a = record { mapped = a.mapped; result = a.result ∙ e }
@@ -30,6 +49,11 @@ answered-misfits {b} {p} {n} {imgs} {bnd} {m} h = record { mapped = h; result = 
 
 pub look_is : (imgs : List ℕ) (v : ℕ) → LookIs imgs v (get_or imgs v 0)
 look_is imgs v = record { entry = refl; image = λ b p bnd n m h. find-is (store_of b p n) imgs bnd m v h.tabled }
+
+-- One less than the entry, if it is not 0.
+pub look-by : (imgs : List ℕ) (v : ℕ) (r : Maybe ℕ) → SomeIff r (1 ≤ get_or imgs v 0) (get_or imgs v 0 - 1) → LookIs imgs v (entry_of r)
+look-by imgs v None h = subst (LookIs imgs v) (omega arith) (look_is imgs v)
+look-by imgs v (Some k) h = subst (LookIs imgs v) (omega (arith, h.0, h.1)) (look_is imgs v)
 
 -- A name with an entry has an image.
 pub find-some : (st : List Sort) {imgs bnd : List ℕ} {m : ℕ} (v : ℕ) → Tabled imgs bnd m → (get_or imgs v 0 ≡ 0 → ⊥)
@@ -84,3 +108,10 @@ meet-same imgs bnd m v j e b p n u h below own = met-same v j u h below own e
 
 pub meet-other : (imgs bnd : List ℕ) (m v j : ℕ) → (get_or imgs v 0 ≡ 0 → ⊥) → (get_or imgs v 0 ≡ j + 1 → ⊥) → MeetIs imgs bnd m v j imgs bnd (Misfits m)
 meet-other imgs bnd m v j d w b p n u h below own = met-other v j u h below own d w
+
+-- By whether the number of its image is the target's.
+pub meet-bound : (imgs bnd : List ℕ) (m v j : ℕ) {k : ℕ} → get_or imgs v 0 ≡ suc k → MeetIs imgs bnd m v j imgs bnd (found m (eqb k j))
+meet-bound imgs bnd m v j {k} e =
+    by_test (eqb k j)
+    (λ q. let h = eqb-true k j q in subst (MeetIs imgs bnd m v j imgs bnd) (sym (found-fits m q)) (meet-same imgs bnd m v j (omega arith)))
+    (λ q. let h = eqb-false k j q in subst (MeetIs imgs bnd m v j imgs bnd) (sym (found-misfits m q)) (meet-other imgs bnd m v j (λ z. omega arith) (λ z. h (omega arith))))

@@ -11,10 +11,6 @@ pub record NoteTable (P : ℕ → Type 0) (l : List ℕ) : Type 0 where
   pub long : length l ≡ 64
   pub each : (i k : ℕ) → get_or l i 0 ≡ k + 1 → P k
 
-pub record NoteAsks (l : List ℕ) (k : ℕ) : Type 0 where
-  pub long : length l ≡ 64
-  pub small : k < 65535
-
 abbrev pub NotedIs : List ℕ → ℕ → Bool → Type 0
 NotedIs l k r = r ≡ true → get_or l (k % 64) 0 ≡ k + 1
 
@@ -26,8 +22,7 @@ NoteIs l k l' = l' ≡ set l (k % 64) (k + 1)
 abbrev pub pair_of : ℕ → ℕ → ℕ
 pair_of k j = (k + 1) * 65536 + j
 
-pub record MetAsks (l : List ℕ) (k j : ℕ) : Type 0 where
-  pub long : length l ≡ 32
+pub record MetAsks (k j : ℕ) : Type 0 where
   pub small : k < 65535
   pub target : j < 65536
 

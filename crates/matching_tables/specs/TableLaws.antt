@@ -1,6 +1,6 @@
 -- Laws of the tables: listing names and taking them off, one look for membership, what a name is bound to, one more name
 -- bound, and that there is always room for it, since each bound name has a Var of its own in the store.
-use Rattle.std.specs.Prelude.{ℕ, zero, suc, ◌+◌, ◌-◌, ◌≤◌, ◌<◌, ◌≡◌, true, false, not, cond, List, [], ◌∷◌, ◌++◌, length, set, replicate, eqb}
+use Rattle.std.specs.Prelude.{ℕ, zero, suc, ◌+◌, ◌-◌, ◌≤◌, ◌<◌, ◌≡◌, Bool, true, false, not, cond, List, [], ◌∷◌, ◌++◌, length, set, replicate, eqb}
 use Rattle.std.proofs.Math.Path.{refl}
 use Rattle.std.proofs.Common.{sym, ap, subst, ◌∙◌, arith, not-suc-le-zero, length-set, ext_get_or, get_or-set_same, eqb-true, eq-eqb, ne_eqb}
 use Rattle.std.proofs.Math.Option.{none, some}
@@ -77,6 +77,16 @@ listed-some prm v h = rw (ne_eqb (get_or prm v 0) 0 h) refl
 
 pub listed-none : (prm : List ℕ) (v : ℕ) → get_or prm v 0 ≡ 0 → listed prm v ≡ false
 listed-none prm v h = rw (eq-eqb (get_or prm v 0) 0 h) refl
+
+-- The same by the answer of a look.
+pub look-some : (prm : List ℕ) (v : ℕ) {r : Bool} → r ≡ listed prm v → r ≡ true → get_or prm v 0 ≡ 0 → ⊥
+look-some prm v e q z = clash (sym e ∙ q) (listed-none prm v z)
+
+pub look-none : (prm : List ℕ) (v : ℕ) {r : Bool} → r ≡ listed prm v → r ≡ false → get_or prm v 0 ≡ 0
+look-none prm v e q =
+    by_test (eqb (get_or prm v 0) 0)
+    (λ z. eqb-true (get_or prm v 0) 0 z)
+    (λ z. clash (listed-some prm v (eqb-false (get_or prm v 0) 0 z)) (sym e ∙ q))
 
 -- EVERY TABLE LISTS SOME NAMES: each as often as its entry says.
 unfoldable names_in : ℕ → List ℕ → List ℕ

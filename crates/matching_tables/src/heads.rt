@@ -8,14 +8,5 @@ use record::SortRecord;
 pub fn same_head(p: SortRecord, t: SortRecord) -> bool
     ensures { result ≡ same_head p t }
 {
-    if p.kind != t.kind {
-        return false;
-    }
-    if p.name != t.name {
-        return false;
-    }
-    if p.number != t.number {
-        return false;
-    }
-    p.count == t.count
+    (p.kind, p.name, p.number, p.parts.count) == (t.kind, t.name, t.number, t.parts.count)
 }

@@ -1,58 +1,81 @@
-// What a walk has found already, so that it goes down no sort for it twice, in two lent tables. `seen` has 64 entries, by a
-// sort's number modulo 64: 0, or one more than the number of a sort of which the answer was yes. `met` has 32 entries, by a
-// pattern's number modulo 32: 0, or 65,536 times one more than the pattern's number and the number of a target that it fits.
-ghost use Rattle.std.specs.Prelude.{◌≡◌, length, replicate};
-ghost use Rattle.matching_tables.specs.Notes.{NotedIs, NoteAsks, NoteIs, MetAsks, MetIs, PairIs};
+// What a walk has found already, so that it goes down no sort for it twice. `Seen` has 64 slots, by a sort's number modulo 64:
+// 0, or one more than the number of a sort of which the answer was yes. `Met` has 32 slots, by a pattern's number modulo 32:
+// 0, or 65,536 times one more than the pattern's number and the number of a target that it fits.
+ghost use Rattle.std.specs.Prelude.{◌≡◌, ◌<◌, replicate};
+ghost use Rattle.matching_tables.specs.Notes.{NotedIs, NoteIs, MetAsks, MetIs, PairIs};
 
-// The lengths of the tables `seen` and `met`.
+// How many slots they have.
 pub const NOTES: usize = 64;
 
 pub const PAIR_NOTES: usize = 32;
 
-// Whether the sort `k` is noted.
-pub fn is_noted(seen: &[u16], k: usize) -> bool
-    requires { NoteAsks seen.now k }
-    ensures { NotedIs seen.now k result }
-{
-    let slot = k % NOTES;
-    seen[slot] as usize == k + 1
+// Sorts by their numbers.
+#[derive(Drop)]
+pub struct Seen {
+    pub slots: [u16; NOTES],
 }
 
-// Notes the sort `k`, in the place of the one noted there before.
-pub fn note(seen: &mut [u16], k: usize)
-    requires { NoteAsks seen.old k }
-    ensures { NoteIs seen.old k seen.new }
-{
-    let slot = k % NOTES;
-    seen[slot] = (k + 1) as u16;
+impl Seen {
+    // No sort is noted.
+    pub fn new() -> Seen
+        ensures { result.slots ≡ replicate 64 0 }
+    {
+        Seen { slots: [0; NOTES] }
+    }
+
+    // Whether the sort `k` is noted.
+    pub fn is_noted(&self, k: usize) -> bool
+        requires { k < 65535 }
+        ensures { NotedIs self.now.slots k result }
+    {
+        self.slots[k % NOTES] as usize == k + 1
+    }
+
+    // Notes the sort `k`, in the place of the one noted there before.
+    pub fn note(&mut self, k: usize)
+        requires { k < 65535 }
+        ensures { NoteIs self.old.slots k self.new.slots }
+    {
+        self.slots[k % NOTES] = (k + 1) as u16;
+    }
 }
 
-// Whether the pattern `p` and the target `t` are noted.
-pub fn is_met(met: &[u32], p: usize, t: usize) -> bool
-    requires { MetAsks met.now p t }
-    ensures { MetIs met.now p t result }
-{
-    let slot = p % PAIR_NOTES;
-    met[slot] as usize == (p + 1) * 65536 + t
+// Pairs of a pattern and a target.
+#[derive(Drop)]
+pub struct Met {
+    pub slots: [u32; PAIR_NOTES],
 }
 
-// Notes the pattern `p` and the target `t`, in the place of the pair noted there before.
-pub fn note_pair(met: &mut [u32], p: usize, t: usize)
-    requires { MetAsks met.old p t }
-    ensures { PairIs met.old p t met.new }
-{
-    let slot = p % PAIR_NOTES;
-    met[slot] = ((p + 1) * 65536 + t) as u32;
-}
+impl Met {
+    // No pair is noted.
+    pub fn new() -> Met
+        ensures { result.slots ≡ replicate 32 0 }
+    {
+        Met {
+            slots: [0; PAIR_NOTES],
+        }
+    }
 
-// Notes no pair any more.
-pub fn forget(met: &mut [u32])
-    requires { length met.old ≡ 32 }
-    ensures { met.new ≡ replicate 32 0 }
-{
-    let mut i = 0;
-    while i < PAIR_NOTES {
-        met[i] = 0;
-        i += 1;
+    // Whether the pattern `p` and the target `t` are noted.
+    pub fn is_met(&self, p: usize, t: usize) -> bool
+        requires { MetAsks p t }
+        ensures { MetIs self.now.slots p t result }
+    {
+        self.slots[p % PAIR_NOTES] as usize == (p + 1) * 65536 + t
+    }
+
+    // Notes the pattern `p` and the target `t`, in the place of the pair noted there before.
+    pub fn note(&mut self, p: usize, t: usize)
+        requires { MetAsks p t }
+        ensures { PairIs self.old.slots p t self.new.slots }
+    {
+        self.slots[p % PAIR_NOTES] = ((p + 1) * 65536 + t) as u32;
+    }
+
+    // Notes no pair any more.
+    pub fn forget(&mut self)
+        ensures { self.new.slots ≡ replicate 32 0 }
+    {
+        self.slots = [0; PAIR_NOTES];
     }
 }

@@ -1,39 +1,40 @@
 -- match_with along two lists, in a loop: what is found for the pairs behind, and the pairs left, make the whole.
-use Prim.Native.Nat.{ℕ, ◌+◌, ◌-◌, ◌≤◌, ◌<◌}
-use mathlib.Core.Path.{◌≡◌, refl, sym, subst, ◌∙◌}
-use mathlib.Core.List.{List}
+use Prim.Native.Nat.{ℕ, ◌+◌, ◌≤◌, ◌<◌}
+use mathlib.Core.Path.{◌≡◌, refl, sym, ap, subst, ◌∙◌}
+use mathlib.Core.List.{List, [], ◌∷◌}
 use native.Mathlib.Omega.{arith}
-use Rattle.record.specs.Number.{u16_at}
+use lib.ListN.{length}
 use Rattle.record.specs.Sort.{size, sizes}
-use Rattle.record.specs.Decode.{sort_at}
-use Rattle.matching_tables.specs.declared.Matched.{Matched}
-use Rattle.matching_tables.specs.declared.Matched.TheVariants.{Fits, Misfits}
+use Rattle.record.specs.Record.{sorts_of}
+use Rattle.record.specs.Decode.{store_of, sort_at}
+use Rattle.matching_tables.specs.Matched.{Matched, Fits, Misfits}
 use Rattle.matching_tables.specs.Tables.{Lists}
-use Rattle.matching_tables.specs.Usable.{sorts_at}
-use Rattle.matching_with.specs.Contract.{WithAsks, WithAllAsks, WithIs, PairWith, PairsWith}
-use Rattle.matching_tables.specs.Notes.{MetAsks, PairIs}
+use Rattle.matching_with.specs.Contract.{WithAsks, WithListsAsk, WithIs, PairWith, ListsWith}
+use Rattle.matching_tables.specs.Notes.{PairIs}
 use Rattle.matching_with.specs.Met.{WithBefore, WithAfter}
-use Rattle.matching_tables.specs.Entered.{sizes-more}
 use Rattle.matching_with.proofs.WithLaws.{with-put, with-next}
-use Rattle.matching_with.proofs.GeneralLaws.{general-none, general-first, general-rest, general-more, general-misfit}
+use Rattle.matching_with.proofs.GeneralLaws.{left-size, right-size, general-none, general-first, general-rest, general-more, general-misfit}
 
--- The c₁ pairs left, at x₁ and y₁, of the c at x and y.
-pub record Along (b p : List ℕ) (n : ℕ) (prm imgs bnd : List ℕ) (m : ℕ) (s : List ℕ) (x : ℕ) (t : List ℕ) (y c : ℕ) (prm₁ imgs₁ bnd₁ l₁ : List ℕ) (m₁ x₁ y₁ c₁ : ℕ) : Type 0 where
+-- The pairs left, of ks₁ and js₁, of those of ks and js.
+pub record Along (b p : List ℕ) (n : ℕ) (prm imgs bnd : List ℕ) (m : ℕ) (ks js prm₁ imgs₁ bnd₁ l₁ : List ℕ) (m₁ : ℕ) (ks₁ js₁ : List ℕ) : Type 0 where
   pub params : prm₁ ≡ prm
-  pub asks : WithAllAsks b p n prm₁ imgs₁ bnd₁ m₁ s x₁ t y₁ c₁
+  pub asks : WithListsAsk b p n prm₁ imgs₁ bnd₁ m₁ ks₁ js₁
   pub noted : WithBefore b p n prm₁ imgs₁ bnd₁ m₁ l₁
-  pub less : sizes (sorts_at b p n s x₁ c₁) + sizes (sorts_at b p n t y₁ c₁) ≤ sizes (sorts_at b p n s x c) + sizes (sorts_at b p n t y c)
-  pub whole : (ns : List ℕ) → Lists prm ns → PairsWith b p n imgs₁ bnd₁ m₁ s x₁ t y₁ c₁ ns ≡ PairsWith b p n imgs bnd m s x t y c ns
+  pub less : sizes (sorts_of (store_of b p n) ks₁) + sizes (sorts_of (store_of b p n) js₁) ≤ sizes (sorts_of (store_of b p n) ks) + sizes (sorts_of (store_of b p n) js)
+  pub whole : (ns : List ℕ) → Lists prm ns → ListsWith b p n imgs₁ bnd₁ m₁ ks₁ js₁ ns ≡ ListsWith b p n imgs bnd m ks js ns
 
-pub along-start : {b p : List ℕ} {n : ℕ} {prm imgs bnd : List ℕ} {m : ℕ} {s : List ℕ} {x : ℕ} {t : List ℕ} {y c : ℕ} (l : List ℕ)
-    → WithAllAsks b p n prm imgs bnd m s x t y c → WithBefore b p n prm imgs bnd m l → Along b p n prm imgs bnd m s x t y c prm imgs bnd l m x y c
-along-start {b} {p} {n} {prm} {imgs} {bnd} {m} {s} {x} {t} {y} {c} l a w =
-    record { params = refl; asks = a; noted = w; less = omega arith; whole = λ ns h. refl }
+pub along-start : {b p : List ℕ} {n : ℕ} {prm imgs bnd : List ℕ} {m : ℕ} {ks js l : List ℕ}
+    → WithListsAsk b p n prm imgs bnd m ks js → WithBefore b p n prm imgs bnd m l → Along b p n prm imgs bnd m ks js prm imgs bnd l m ks js
+along-start a w = record { params = refl; asks = a; noted = w; less = omega arith; whole = λ ns h. refl }
 
-module _ {b p : List ℕ} {n : ℕ} {prm imgs bnd : List ℕ} {m : ℕ} {s : List ℕ} {x : ℕ} {t : List ℕ} {y c : ℕ} {prm₁ imgs₁ bnd₁ l₁ : List ℕ} {m₁ x₁ y₁ c₁ : ℕ} (a : Along b p n prm imgs bnd m s x t y c prm₁ imgs₁ bnd₁ l₁ m₁ x₁ y₁ c₁) where
+empty : (l : List ℕ) → length l ≡ 0 → l ≡ []
+empty [] h = refl
+empty (a ∷ l) h = absurd (omega arith)
+
+module _ {b p : List ℕ} {n : ℕ} {prm imgs bnd : List ℕ} {m : ℕ} {ks js prm₁ imgs₁ bnd₁ l₁ : List ℕ} {m₁ : ℕ} {ks₁ js₁ : List ℕ} (a : Along b p n prm imgs bnd m ks js prm₁ imgs₁ bnd₁ l₁ m₁ ks₁ js₁) where
   -- What is found for the pairs left is found for all.
-  along-found : {prm₂ imgs₂ bnd₂ : List ℕ} {q : Matched} → WithIs b p n prm₁ prm₂ imgs₂ bnd₂ q (PairsWith b p n imgs₁ bnd₁ m₁ s x₁ t y₁ c₁)
-      → WithIs b p n prm prm₂ imgs₂ bnd₂ q (PairsWith b p n imgs bnd m s x t y c)
+  along-found : {prm₂ imgs₂ bnd₂ : List ℕ} {q : Matched} → WithIs b p n prm₁ prm₂ imgs₂ bnd₂ q (ListsWith b p n imgs₁ bnd₁ m₁ ks₁ js₁)
+      → WithIs b p n prm prm₂ imgs₂ bnd₂ q (ListsWith b p n imgs bnd m ks js)
   along-found {prm₂} {imgs₂} {bnd₂} {q} f =
       record {
         params = f.params ∙ a.params;
@@ -41,45 +42,43 @@ module _ {b p : List ℕ} {n : ℕ} {prm imgs bnd : List ℕ} {m : ℕ} {s : Lis
         result = λ ns h. f.result ns (subst (λ (l : List ℕ). Lists l ns) (sym a.params) h) ∙ a.whole ns h;
       }
 
-  pub along-end : c₁ ≤ 0 → WithIs b p n prm prm₁ imgs₁ bnd₁ (Fits m₁) (PairsWith b p n imgs bnd m s x t y c) × WithAfter b p n prm imgs₁ bnd₁ l₁ (Fits m₁)
-  along-end e =
-      let z : c₁ ≡ 0 = omega arith in (
-        along-found (general-none a.asks z),
-        subst (λ (l : List ℕ). WithBefore b p n l imgs₁ bnd₁ m₁ l₁) a.params a.noted,
-      )
+  both-end : ks₁ ≡ [] → js₁ ≡ [] → WithIs b p n prm prm₁ imgs₁ bnd₁ (Fits m₁) (ListsWith b p n imgs bnd m ks js)
+  both-end e d = along-found (general-none a.asks e d)
 
-  module _ (some : 0 < c₁) {k j : ℕ} (ek : k ≡ u16_at s x₁) (ej : j ≡ u16_at t y₁) where
+  -- Where one list ends, so does the other.
+  pub along-end : ks₁ ≡ [] → WithIs b p n prm prm₁ imgs₁ bnd₁ (Fits m₁) (ListsWith b p n imgs bnd m ks js)
+  along-end e = both-end e (empty js₁ (a.asks.lists.even ∙ ap length e))
+
+  pub along-ended : js₁ ≡ [] → WithIs b p n prm prm₁ imgs₁ bnd₁ (Fits m₁) (ListsWith b p n imgs bnd m ks js)
+  along-ended e = both-end (empty ks₁ (sym a.asks.lists.even ∙ ap length e)) e
+
+  pub along-noted : WithAfter b p n prm imgs₁ bnd₁ l₁ (Fits m₁)
+  along-noted = subst (λ (l : List ℕ). WithBefore b p n l imgs₁ bnd₁ m₁ l₁) a.params a.noted
+
+  module _ {k j : ℕ} {ks' js' : List ℕ} (ek : ks₁ ≡ k ∷ ks') (ej : js₁ ≡ j ∷ js') where
     pub along-first : WithAsks b p n prm₁ imgs₁ bnd₁ m₁ k j
-    along-first = rw (ek, ej) (general-first a.asks some)
+    along-first = general-first a.asks ek ej
 
-    pub along-falls : size (sort_at b p n k) + size (sort_at b p n j) ≤ sizes (sorts_at b p n s x c) + sizes (sorts_at b p n t y c)
-    along-falls = rw (ek, ej) (omega (arith, a.less, sizes-more b p n s x₁ c₁ some, sizes-more b p n t y₁ c₁ some))
+    pub along-falls : size (sort_at b p n k) + size (sort_at b p n j) ≤ sizes (sorts_of (store_of b p n) ks) + sizes (sorts_of (store_of b p n) js)
+    along-falls = omega (arith, a.less, left-size a.asks ek ej, right-size a.asks ek ej)
 
     module _ {prm₂ imgs₂ bnd₂ : List ℕ} (l₂ : List ℕ) {q : Matched} (g : WithIs b p n prm₁ prm₂ imgs₂ bnd₂ q (PairWith b p n imgs₁ bnd₁ m₁ k j)) where
-      pub along-misfit : (i : ℕ) → q ≡ Misfits i → WithIs b p n prm prm₂ imgs₂ bnd₂ (Misfits i) (PairsWith b p n imgs bnd m s x t y c)
-      along-misfit i e =
-          along-found (general-misfit a.asks some ek ej g i e)
+      pub along-misfit : (i : ℕ) → q ≡ Misfits i → WithIs b p n prm prm₂ imgs₂ bnd₂ (Misfits i) (ListsWith b p n imgs bnd m ks js)
+      along-misfit i e = along-found (general-misfit a.asks ek ej g i e)
 
       module _ (w : WithAfter b p n prm₁ imgs₂ bnd₂ l₂ q) (i : ℕ) (e : q ≡ Fits i) where
-        pub along-met : MetAsks l₂ k j
-        along-met =
-            record {
-              long = (subst (WithAfter b p n prm₁ imgs₂ bnd₂ l₂) e w).long;
-              small = omega (arith, along-first.pair.left, along-first.pair.usable.count);
-              target = omega (arith, along-first.pair.right, along-first.pair.usable.count);
-            }
-
-        pub along-more : (l₃ : List ℕ) → PairIs l₂ k j l₃ → Along b p n prm imgs bnd m s x t y c prm₂ imgs₂ bnd₂ l₃ i (x₁ + 2) (y₁ + 2) (c₁ - 1)
+        pub along-more : (l₃ : List ℕ) → PairIs l₂ k j l₃ → Along b p n prm imgs bnd m ks js prm₂ imgs₂ bnd₂ l₃ i ks' js'
         along-more l₃ o =
+            let low : j < 65536 = omega (arith, along-first.pair.right, along-first.pair.usable.count) in
             record {
               params = g.params ∙ a.params;
-              asks = general-rest a.asks some ek ej g i e;
+              asks = general-rest a.asks ek ej g i e;
               noted =
                   with-next b p n prm₁ imgs₂ bnd₂ l₃ i g.params e
-                  (with-put b p n prm₁ imgs₁ bnd₁ m₁ k j prm₂ imgs₂ bnd₂ l₂ l₃ q along-met.target w g o);
-              less = omega (arith, a.less, sizes-more b p n s x₁ c₁ some, sizes-more b p n t y₁ c₁ some);
+                  (with-put b p n prm₁ imgs₁ bnd₁ m₁ k j prm₂ imgs₂ bnd₂ l₂ l₃ q low w g o);
+              less = omega (arith, a.less, left-size a.asks ek ej, right-size a.asks ek ej);
               whole = λ ns h.
-                  general-more a.asks some ek ej g i e
+                  general-more a.asks ek ej g i e
                   (subst (λ (l : List ℕ). Lists l ns) (sym a.params) h)
                   ∙ a.whole ns h;
             }

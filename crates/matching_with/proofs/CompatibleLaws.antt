@@ -3,27 +3,39 @@
 use Prim.Native.Nat.{ℕ, suc, ◌+◌, ◌*◌, ◌-◌, ◌≤◌, ◌<◌}
 use mathlib.Core.Path.{◌≡◌, refl, sym, ap, ◌∙◌}
 use mathlib.Core.Bool.{Bool, true, false, ◌&&◌, ◌||◌}
-use mathlib.Core.List.{List}
+use mathlib.Core.List.{List, [], ◌∷◌}
 use native.Mathlib.Omega.{arith}
+use lib.ListN.{length}
 use lib.Dec.{eqb}
 use borrow.Author.Tests.{eq-eqb}
+use Rattle.record.specs.Kinds.{sort_number}
 use Rattle.record.specs.Cases.{false-second, positive}
 use Rattle.record.specs.Number.{u16_at, numbers_at}
 use Rattle.record.specs.Sort.{Sort, Sorts, end, ◌then◌, count, size, sizes}
-use Rattle.record.specs.Decode.{sort_at}
+use Rattle.record.specs.Record.{sorts_of}
+use Rattle.record.specs.Decode.{store_of, sort_at}
 use Rattle.record.specs.declared.SortRecord.{SortRecord}
 use Rattle.store.specs.Entry.{EntryHas}
 use Rattle.substitution.specs.MatchWith.{param_eq}
 use Rattle.substitution.specs.Compatible.{compatible, compatible_all}
 use Rattle.substitution.proofs.CompatibleLaws.{compatible-var, compatible-to-var, compatible-par, compatible-to-par}
-use Rattle.matching_tables.specs.Usable.{sorts_at, same_head, PairAsks, PairsAsk}
+use Rattle.matching_tables.specs.Usable.{sorts_at, same_head, PairAsks, ListsAsk}
 use Rattle.matching_tables.specs.Notes.{PairIs, Pairs}
 use Rattle.matching_with.specs.Met.{CompatibleAt}
 use Rattle.matching_tables.specs.NoteLaws.{pairs-put}
-use Rattle.matching_with.specs.Compared.{FitOn, FitParts}
-use Rattle.matching_tables.specs.Entered.{sorts-end, sorts-more, sizes-more, entry-var, entry-par, entry-node, entry-body, head-same}
-use Rattle.matching_tables.specs.WalkLaws.{left_body, right-body, both-parts, both-fall, pair-first, pair-rest, head-differs}
-use Rattle.matching_tables.specs.LastLaws.{sizes-last, pair-last, compatible-last}
+use Rattle.matching_with.specs.Compared.{FitOn, FitParts, CompatibleIs}
+use Rattle.matching_with.specs.declared.compatible.Compared.TheVariants.{Parts}
+use Rattle.matching_tables.specs.Entered.{sorts-end, entry-var, entry-par, entry-node, entry-body, head-same}
+use Rattle.matching_tables.specs.WalkLaws.{left_body, right-body, both-parts, both-fall, head-differs, lists-ask, below-first, below-rest}
+use Rattle.matching_tables.specs.LastLaws.{sizes-last, pair-last, pairs-others, compatible-last}
+
+empty : (l : List ℕ) → length l ≡ 0 → l ≡ []
+empty [] h = refl
+empty (a ∷ l) h = absurd (omega arith)
+
+-- The first number of a list.
+pub at-start : (b : List ℕ) (x : ℕ) {i : ℕ} → i ≡ u16_at b (x + 2 * 0) → i ≡ u16_at b x
+at-start b x e = let q : x + 2 * 0 ≡ x = omega arith in e ∙ ap (u16_at b) q
 
 -- Lists of different lengths never fit.
 uneven : (ss ts : Sorts) → (count ss ≡ count ts → ⊥) → compatible_all ss ts ≡ false
@@ -34,53 +46,81 @@ uneven (s then ss) end d = refl
 uneven (s then ss) (t then ts) d = false-second (compatible s t) (compatible_all ss ts) (uneven ss ts (λ e. d (ap suc e)))
 
 ---------------------------------------------------------------- along two lists
--- THE LOOP over two lists, from x₀, y₀ and c₀ to x, y and c: what is left gives the whole answer, and the table is right.
-pub record FitsInv (b p : List ℕ) (n x₀ y₀ c₀ : ℕ) (l : List ℕ) (x y c : ℕ) : Type 0 where
-  pub asks : PairsAsk b p n b x b y c
+-- THE LOOP over two lists, from ks₀ and js₀ to ks and js: what is left gives the whole answer, and the table is right.
+pub record FitsInv (b p : List ℕ) (n : ℕ) (ks₀ js₀ l ks js : List ℕ) : Type 0 where
+  pub asks : ListsAsk b p n ks js
   pub noted : Pairs (CompatibleAt b p n) l
-  pub less : sizes (sorts_at b p n b x c) + sizes (sorts_at b p n b y c) ≤ sizes (sorts_at b p n b x₀ c₀) + sizes (sorts_at b p n b y₀ c₀)
-  pub whole : compatible_all (sorts_at b p n b x c) (sorts_at b p n b y c) ≡ compatible_all (sorts_at b p n b x₀ c₀) (sorts_at b p n b y₀ c₀)
+  pub less : sizes (sorts_of (store_of b p n) ks) + sizes (sorts_of (store_of b p n) js) ≤ sizes (sorts_of (store_of b p n) ks₀) + sizes (sorts_of (store_of b p n) js₀)
+  pub whole : compatible_all (sorts_of (store_of b p n) ks) (sorts_of (store_of b p n) js) ≡ compatible_all (sorts_of (store_of b p n) ks₀) (sorts_of (store_of b p n) js₀)
 
-pub fits-start : {b p : List ℕ} {n x y c : ℕ} {l : List ℕ} → PairsAsk b p n b x b y c → Pairs (CompatibleAt b p n) l → FitsInv b p n x y c l x y c
+pub fits-start : {b p : List ℕ} {n : ℕ} {ks js l : List ℕ} → ListsAsk b p n ks js → Pairs (CompatibleAt b p n) l → FitsInv b p n ks js l ks js
 fits-start a t = record { asks = a; noted = t; less = omega arith; whole = refl }
 
 fit_none : (b p : List ℕ) (n x y : ℕ) {c : ℕ} → c ≡ 0 → true ≡ compatible_all (sorts_at b p n b x c) (sorts_at b p n b y c)
 unfolding compatible
 fit_none b p n x y {c} e = rw (sorts-end b p n b x c e, sorts-end b p n b y c e) refl
 
-module _ {b p : List ℕ} {n x₀ y₀ c₀ : ℕ} {l : List ℕ} {x y c : ℕ} (v : FitsInv b p n x₀ y₀ c₀ l x y c) where
-  pub fits-end : c ≤ 0 → true ≡ compatible_all (sorts_at b p n b x₀ c₀) (sorts_at b p n b y₀ c₀)
-  fits-end h = fit_none b p n x y (omega arith) ∙ v.whole
+module _ {b p : List ℕ} {n : ℕ} {ks₀ js₀ l ks js : List ℕ} (v : FitsInv b p n ks₀ js₀ l ks js) where
+  both-end : ks ≡ [] → js ≡ [] → true ≡ compatible_all (sorts_of (store_of b p n) ks₀) (sorts_of (store_of b p n) js₀)
+  unfolding compatible sorts_of
+  both-end e d = sym (rw (e, d) refl) ∙ v.whole
 
-  module _ (some : 0 < c) where
+  -- Where one list ends, so does the other.
+  pub fits-end : ks ≡ [] → true ≡ compatible_all (sorts_of (store_of b p n) ks₀) (sorts_of (store_of b p n) js₀)
+  fits-end e = both-end e (empty js (v.asks.even ∙ ap length e))
+
+  pub fits-ended : js ≡ [] → true ≡ compatible_all (sorts_of (store_of b p n) ks₀) (sorts_of (store_of b p n) js₀)
+  fits-ended e = both-end (empty ks (sym v.asks.even ∙ ap length e)) e
+
+  module _ {k j : ℕ} {ks' js' : List ℕ} (ek : ks ≡ k ∷ ks') (ej : js ≡ j ∷ js') where
+    lists : ListsAsk b p n (k ∷ ks') (j ∷ js')
+    lists = rw (← ek, ← ej) v.asks
+
+    pub fits-first : PairAsks b p n k j
+    fits-first = record { usable = lists.usable; left = below-first k ks' n lists.left; right = below-first j js' n lists.right }
+
+    left-size : sizes (sorts_of (store_of b p n) ks) ≡ size (sort_at b p n k) + sizes (sorts_of (store_of b p n) ks')
+    unfolding sorts_of sort_at size
+    left-size = ap (λ (w : List ℕ). sizes (sorts_of (store_of b p n) w)) ek
+
+    right-size : sizes (sorts_of (store_of b p n) js) ≡ size (sort_at b p n j) + sizes (sorts_of (store_of b p n) js')
+    unfolding sorts_of sort_at size
+    right-size = ap (λ (w : List ℕ). sizes (sorts_of (store_of b p n) w)) ej
+
     -- The first two are smaller than both lists.
-    pub fits-fall : size (sort_at b p n (u16_at b x)) + size (sort_at b p n (u16_at b y)) ≤ sizes (sorts_at b p n b x₀ c₀) + sizes (sorts_at b p n b y₀ c₀)
-    fits-fall = omega (arith, v.less, sizes-more b p n b x c some, sizes-more b p n b y c some)
+    pub fits-fall : size (sort_at b p n k) + size (sort_at b p n j) ≤ sizes (sorts_of (store_of b p n) ks₀) + sizes (sorts_of (store_of b p n) js₀)
+    fits-fall = omega (arith, v.less, left-size, right-size)
 
-    module _ {k j : ℕ} (ek : k ≡ u16_at b x) (ej : j ≡ u16_at b y) {f : Bool} (h : f ≡ compatible (sort_at b p n k) (sort_at b p n j)) where
-      first : compatible_all (sorts_at b p n b x c) (sorts_at b p n b y c) ≡ (f && compatible_all (sorts_at b p n b (x + 2) (c - 1)) (sorts_at b p n b (y + 2) (c - 1)))
-      unfolding compatible
-      first = rw (sorts-more b p n b x c some, sorts-more b p n b y c some, ← ek, ← ej, ← h) refl
+    module _ {f : Bool} (h : f ≡ compatible (sort_at b p n k) (sort_at b p n j)) where
+      first : compatible_all (sorts_of (store_of b p n) ks) (sorts_of (store_of b p n) js) ≡ (f && compatible_all (sorts_of (store_of b p n) ks') (sorts_of (store_of b p n) js'))
+      unfolding compatible sorts_of sort_at
+      first = rw (ek, ej, h) refl
 
-      pub fits-fails : f ≡ false → false ≡ compatible_all (sorts_at b p n b x₀ c₀) (sorts_at b p n b y₀ c₀)
+      pub fits-fails : f ≡ false → false ≡ compatible_all (sorts_of (store_of b p n) ks₀) (sorts_of (store_of b p n) js₀)
       fits-fails q = sym (first ∙ rw q refl) ∙ v.whole
 
-      pub fits_more : f ≡ true → {l' : List ℕ} (l'' : List ℕ) → Pairs (CompatibleAt b p n) l' → PairIs l' k j l'' → FitsInv b p n x₀ y₀ c₀ l'' (x + 2) (y + 2) (c - 1)
+      pub fits_more : f ≡ true → {l' : List ℕ} (l'' : List ℕ) → Pairs (CompatibleAt b p n) l' → PairIs l' k j l'' → FitsInv b p n ks₀ js₀ l'' ks' js'
       fits_more q {l'} l'' t w =
-          let low : j < 65536 = omega (arith, ej, (pair-first v.asks some).right, v.asks.usable.count) in
+          let low : j < 65536 = omega (arith, fits-first.right, v.asks.usable.count) in
           record {
-            asks = pair-rest v.asks some;
+            asks =
+                record {
+                  usable = lists.usable;
+                  left = below-rest k ks' n lists.left;
+                  right = below-rest j js' n lists.right;
+                  even = omega (arith, lists.even);
+                };
             noted = pairs-put (CompatibleAt b p n) l' k j l'' low t (sym h ∙ q) w;
-            less = omega (arith, v.less, sizes-more b p n b x c some, sizes-more b p n b y c some);
+            less = omega (arith, v.less, left-size, right-size);
             whole = sym (first ∙ rw q refl) ∙ v.whole;
           }
 
 ---------------------------------------------------------------- two sorts by their entries
 module _ {b p : List ℕ} {n k j : ℕ} (a : PairAsks b p n k j) (r : SortRecord) (e : EntryHas b p k r) where
-  pub fit-var : r.kind ≡ 2 → true ≡ compatible (sort_at b p n k) (sort_at b p n j)
+  pub fit-var : sort_number r.kind ≡ 2 → true ≡ compatible (sort_at b p n k) (sort_at b p n j)
   fit-var h = rw (entry-var b p n k a.usable a.left r e h) (sym (compatible-var r.name (sort_at b p n j)))
 
-  pub fit-par : r.kind ≡ 12 → {i : ℕ} → i ≡ u16_at b r.list → FitOn b p n k j i j
+  pub fit-par : sort_number r.kind ≡ 12 → {i : ℕ} → i ≡ u16_at b r.parts.at → FitOn b p n k j i j
   fit-par h {i} ei =
       let body = entry-body b p n k a.usable a.left r e h in
       rw ei
@@ -88,15 +128,15 @@ module _ {b p : List ℕ} {n k j : ℕ} (a : PairAsks b p n k j) (r : SortRecord
         asks = left_body a r e h;
         falls = omega (arith, body.1);
         whole =
-            sym (compatible-par (numbers_at b r.names r.named) (sort_at b p n (u16_at b r.list)) (sort_at b p n j))
+            sym (compatible-par (numbers_at b r.names.at r.names.count) (sort_at b p n (u16_at b r.parts.at)) (sort_at b p n j))
             ∙ sym (ap (λ (z : Sort). compatible z (sort_at b p n j)) (entry-par b p n k a.usable a.left r e h));
       })
 
   module _ (q : SortRecord) (f : EntryHas b p j q) where
-    pub fit-to-var : q.kind ≡ 2 → true ≡ compatible (sort_at b p n k) (sort_at b p n j)
+    pub fit-to-var : sort_number q.kind ≡ 2 → true ≡ compatible (sort_at b p n k) (sort_at b p n j)
     fit-to-var h = rw (entry-var b p n j a.usable a.right q f h) (sym (compatible-to-var (sort_at b p n k) q.name))
 
-    pub fit-to-par : q.kind ≡ 12 → {i : ℕ} → i ≡ u16_at b q.list → FitOn b p n k j k i
+    pub fit-to-par : sort_number q.kind ≡ 12 → {i : ℕ} → i ≡ u16_at b q.parts.at → FitOn b p n k j k i
     fit-to-par h {i} ei =
         let body = entry-body b p n j a.usable a.right q f h in
         rw ei
@@ -104,13 +144,13 @@ module _ {b p : List ℕ} {n k j : ℕ} (a : PairAsks b p n k j) (r : SortRecord
           asks = right-body a q f h;
           falls = omega (arith, body.1);
           whole =
-              sym (compatible-to-par (sort_at b p n k) (numbers_at b q.names q.named) (sort_at b p n (u16_at b q.list)))
+              sym (compatible-to-par (sort_at b p n k) (numbers_at b q.names.at q.names.count) (sort_at b p n (u16_at b q.parts.at)))
               ∙ sym (ap (compatible (sort_at b p n k)) (entry-par b p n j a.usable a.right q f h));
         })
 
-    module _ (k2 : r.kind ≡ 2 → ⊥) (k12 : r.kind ≡ 12 → ⊥) (j2 : q.kind ≡ 2 → ⊥) (j12 : q.kind ≡ 12 → ⊥) {c : Bool} (g : c ≡ param_eq (sort_at b p n k) (sort_at b p n j)) where
+    module _ (k2 : sort_number r.kind ≡ 2 → ⊥) (k12 : sort_number r.kind ≡ 12 → ⊥) (j2 : sort_number q.kind ≡ 2 → ⊥) (j12 : sort_number q.kind ≡ 12 → ⊥) {c : Bool} (g : c ≡ param_eq (sort_at b p n k) (sort_at b p n j)) where
       -- Two nodes: param_eq, or field by field.
-      nodes : (c || eqb r.kind q.kind && eqb r.name q.name && eqb r.number q.number && compatible_all (sorts_at b p n b r.list r.count) (sorts_at b p n b q.list q.count))
+      nodes : (c || eqb (sort_number r.kind) (sort_number q.kind) && eqb r.name q.name && eqb r.number q.number && compatible_all (sorts_at b p n b r.parts.at r.parts.count) (sorts_at b p n b q.parts.at q.parts.count))
           ≡ compatible (sort_at b p n k) (sort_at b p n j)
       unfolding compatible
       nodes =
@@ -119,30 +159,33 @@ module _ {b p : List ℕ} {n k j : ℕ} (a : PairAsks b p n k j) (r : SortRecord
       pub fit-param : c ≡ true → true ≡ compatible (sort_at b p n k) (sort_at b p n j)
       fit-param h = sym (rw h refl) ∙ nodes
 
-      inside : c ≡ false → same_head r q ≡ true → compatible_all (sorts_at b p n b r.list r.count) (sorts_at b p n b q.list r.count)
+      inside : c ≡ false → same_head r q ≡ true → compatible_all (sorts_at b p n b r.parts.at r.parts.count) (sorts_at b p n b q.parts.at r.parts.count)
           ≡ compatible (sort_at b p n k) (sort_at b p n j)
       inside h s =
           let i = head-same r q s in
-          sym (rw (h, eq-eqb r.kind q.kind i.0, eq-eqb r.name q.name i.1, eq-eqb r.number q.number i.2, i.3) refl) ∙ nodes
+          sym (rw (h, eq-eqb (sort_number r.kind) (sort_number q.kind) i.0, eq-eqb r.name q.name i.1, eq-eqb r.number q.number i.2, i.3) refl) ∙ nodes
 
-      pub fit-bare : c ≡ false → same_head r q ≡ true → r.count ≡ 0 → true ≡ compatible (sort_at b p n k) (sort_at b p n j)
-      fit-bare h s z = fit_none b p n r.list q.list z ∙ inside h s
+      pub fit-bare : c ≡ false → same_head r q ≡ true → r.parts.count ≡ 0 → true ≡ compatible (sort_at b p n k) (sort_at b p n j)
+      fit-bare h s z = fit_none b p n r.parts.at q.parts.at z ∙ inside h s
 
-      pub fit-node : c ≡ false → same_head r q ≡ true → (r.count ≡ 0 → ⊥) → FitParts b p n k j r.list q.list r.count
+      pub fit-node : c ≡ false → same_head r q ≡ true → (r.parts.count ≡ 0 → ⊥) → FitParts b p n k j r.parts.at q.parts.at r.parts.count
       fit-node h s z =
           record {
-            some = positive r.count z;
+            some = positive r.parts.count z;
             asks = both-parts a r q e f s;
             falls = omega (arith, both-fall a r q e f s);
             whole = inside h s;
           }
 
+      pub fit-both : c ≡ false → same_head r q ≡ true → (r.parts.count ≡ 0 → ⊥) → CompatibleIs b p n k j (Parts r.parts q.parts)
+      fit-both h s z = (fit-node h s z, sym (head-same r q s).3)
+
       pub fit-other : c ≡ false → same_head r q ≡ false → false ≡ compatible (sort_at b p n k) (sort_at b p n j)
       fit-other h s =
           head-differs b p n r q s
           (λ w. sym (rw (h, w) refl) ∙ nodes)
-          (λ d. sym (rw (h, uneven (sorts_at b p n b r.list r.count) (sorts_at b p n b q.list q.count) d)
-          (false-second (eqb r.kind q.kind && eqb r.name q.name && eqb r.number q.number) false refl)) ∙ nodes)
+          (λ d. sym (rw (h, uneven (sorts_at b p n b r.parts.at r.parts.count) (sorts_at b p n b q.parts.at q.parts.count) d)
+          (false-second (eqb (sort_number r.kind) (sort_number q.kind) && eqb r.name q.name && eqb r.number q.number) false refl)) ∙ nodes)
 
 ---------------------------------------------------------------- the walk
 -- THE LOOP over two sorts, from k₀ and j₀ to k and j: their answer is the whole answer, and the table is right.
@@ -168,9 +211,20 @@ module _ {b p : List ℕ} {n k₀ j₀ : ℕ} {l : List ℕ} {k j : ℕ} (v : Fi
         + (sizes (sorts_at b p n b y (c - 1)) + size (sort_at b p n (u16_at b (y + 2 * (c - 1))))) < size (sort_at b p n k) + size (sort_at b p n j)
     sum = omega (arith, o.falls, sizes-last b p n b x c o.some, sizes-last b p n b y c o.some)
 
-    -- All but the last are smaller than the two sorts.
-    pub fit-fall : sizes (sorts_at b p n b x (c - 1)) + sizes (sorts_at b p n b y (c - 1)) < size (sort_at b p n k₀) + size (sort_at b p n j₀)
-    fit-fall = omega (arith, sum, v.less)
+    -- They are smaller than the two sorts.
+    fall : sizes (sorts_at b p n b x (c - 1)) + sizes (sorts_at b p n b y (c - 1)) < size (sort_at b p n k₀) + size (sort_at b p n j₀)
+    fall = omega (arith, sum, v.less)
+
+    -- All but the last, by their numbers.
+    module _ {ks js : List ℕ} (ek : ks ≡ numbers_at b x (c - 1)) (ej : js ≡ numbers_at b y (c - 1)) where
+      pub fit-lists : ListsAsk b p n ks js
+      fit-lists = rw (ek, ej) (lists-ask (pairs-others b p n b x b y c o.some o.asks))
+
+      pub fit-fall : sizes (sorts_of (store_of b p n) ks) + sizes (sorts_of (store_of b p n) js) < size (sort_at b p n k₀) + size (sort_at b p n j₀)
+      fit-fall = rw (ek, ej) fall
+
+      pub fit-found : {f : Bool} → f ≡ compatible_all (sorts_of (store_of b p n) ks) (sorts_of (store_of b p n) js) → f ≡ compatible_all (sorts_at b p n b x (c - 1)) (sorts_at b p n b y (c - 1))
+      fit-found h = rw (← ek, ← ej) h
 
     module _ {f : Bool} (h : f ≡ compatible_all (sorts_at b p n b x (c - 1)) (sorts_at b p n b y (c - 1))) where
       pub fit-fails : f ≡ false → false ≡ compatible (sort_at b p n k₀) (sort_at b p n j₀)

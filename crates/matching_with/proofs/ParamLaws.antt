@@ -1,6 +1,6 @@
 -- param_eq by the numbers and kinds of two sorts, and a parameter met by match_with.
-use Prim.Native.Nat.{ℕ, ◌-◌}
-use mathlib.Core.Path.{◌≡◌, refl, sym, ◌∙◌}
+use Prim.Native.Nat.{ℕ, suc, ◌-◌}
+use mathlib.Core.Path.{◌≡◌, refl, sym, subst, ◌∙◌}
 use mathlib.Core.Bool.{Bool, true, false, ◌&&◌, ◌||◌}
 use mathlib.Core.List.{List}
 use native.Mathlib.Omega.{arith}
@@ -12,12 +12,12 @@ use Rattle.record.specs.Sort.{Sort, kind_of, same}
 use Rattle.record.specs.Decode.{store_of, sort_at}
 use Rattle.substitution.specs.MatchWith.{param_eq}
 use Rattle.substitution.proofs.MatchWithLaws.{param-kind, vector-kind}
-use Rattle.matching_tables.specs.declared.Matched.TheVariants.{Fits, Misfits}
+use Rattle.matching_tables.specs.Matched.{Fits, Misfits, found}
 use Rattle.matching_tables.specs.Usable.{PairAsks}
 use Rattle.matching_tables.specs.Contract.{BindIs}
 use Rattle.matching_with.specs.Contract.{MeetWithAsks, MeetWithIs}
 use Rattle.matching_tables.specs.Entered.{same_number, other-number}
-use Rattle.matching_tables.specs.MapLaws.{answered-fits, answered-misfits, answered-bound, find-some, find_none}
+use Rattle.matching_tables.specs.MapLaws.{found-fits, found-misfits, answered-fits, answered-misfits, answered-bound, find-some, find_none}
 
 ---------------------------------------------------------------- param_eq
 abbrev vectors : Bool → ℕ → ℕ → Bool
@@ -44,11 +44,11 @@ module _ {b p : List ℕ} {n i j : ℕ} (a : PairAsks b p n i j) where
     pub param-both : k ≡ 10 → (l ≡ 9 → ⊥) → eqb l 10 ≡ param_eq (sort_at b p n i) (sort_at b p n j)
     param-both e f = sym (rw (e, ne_eqb l 9 f) (by_test (eqb l 10) (λ q. rw q refl) (λ q. rw q refl))) ∙ other
 
-    pub param-right : (k ≡ 10 → ⊥) → l ≡ 10 → eqb k 9 ≡ param_eq (sort_at b p n i) (sort_at b p n j)
-    param-right e f = sym (rw (f, ne_eqb k 10 e) (by_test (eqb k 9) (λ q. rw q refl) (λ q. rw q refl))) ∙ other
+    pub param-bits : k ≡ 9 → eqb l 10 ≡ param_eq (sort_at b p n i) (sort_at b p n j)
+    param-bits e = sym (rw e (by_test (eqb l 10) (λ q. rw q refl) (λ q. rw q refl))) ∙ other
 
-    pub param-neither : (k ≡ 10 → ⊥) → (l ≡ 10 → ⊥) → false ≡ param_eq (sort_at b p n i) (sort_at b p n j)
-    param-neither e f = sym (rw (ne_eqb k 10 e, ne_eqb l 10 f) refl) ∙ other
+    pub param-plain : (k ≡ 10 → ⊥) → (k ≡ 9 → ⊥) → false ≡ param_eq (sort_at b p n i) (sort_at b p n j)
+    param-plain e f = sym (rw (ne_eqb k 10 e, ne_eqb k 9 f) (by_test (eqb l 10) (λ q. rw q refl) (λ q. rw q refl))) ∙ other
 
 ---------------------------------------------------------------- a parameter met by match_with
 module _ {b p : List ℕ} {n : ℕ} {imgs bnd : List ℕ} {m v j : ℕ} (a : MeetWithAsks b p n imgs bnd m v j) where
@@ -61,10 +61,28 @@ module _ {b p : List ℕ} {n : ℕ} {imgs bnd : List ℕ} {m v j : ℕ} (a : Mee
     pub with_pair : PairAsks b p n (get_or imgs v 0 - 1) j
     with_pair = record { usable = a.usable; left = omega (arith, a.mapped.below v); right = a.target }
 
-    pub with-fits : true ≡ param_eq (sort_at b p n (get_or imgs v 0 - 1)) (sort_at b p n j) → MeetWithIs b p n imgs bnd m v j imgs bnd (Fits m)
+    with-fits : true ≡ param_eq (sort_at b p n (get_or imgs v 0 - 1)) (sort_at b p n j) → MeetWithIs b p n imgs bnd m v j imgs bnd (Fits m)
     unfolding sort_at
     with-fits e = rw (find-some (store_of b p n) v a.mapped.tabled d, ← e) (answered-fits a.mapped)
 
-    pub with-misfits : false ≡ param_eq (sort_at b p n (get_or imgs v 0 - 1)) (sort_at b p n j) → MeetWithIs b p n imgs bnd m v j imgs bnd (Misfits m)
+    with-misfits : false ≡ param_eq (sort_at b p n (get_or imgs v 0 - 1)) (sort_at b p n j) → MeetWithIs b p n imgs bnd m v j imgs bnd (Misfits m)
     unfolding sort_at
     with-misfits e = rw (find-some (store_of b p n) v a.mapped.tabled d, ← e) (answered-misfits a.mapped)
+
+  -- A name bound to the sort i.
+  module _ {i : ℕ} (e : get_or imgs v 0 ≡ suc i) where
+    image : get_or imgs v 0 - 1 ≡ i
+    image = omega (arith, e)
+
+    bound : get_or imgs v 0 ≡ 0 → ⊥
+    bound z = omega (arith, e)
+
+    pub with-pair : PairAsks b p n i j
+    with-pair = rw (← image) (with_pair bound)
+
+    pub with-image : {q : Bool} → q ≡ param_eq (sort_at b p n i) (sort_at b p n j) → MeetWithIs b p n imgs bnd m v j imgs bnd (found m q)
+    with-image {q} g =
+        let h : q ≡ param_eq (sort_at b p n (get_or imgs v 0 - 1)) (sort_at b p n j) = rw image g in
+        by_test q
+        (λ z. subst (MeetWithIs b p n imgs bnd m v j imgs bnd) (sym (found-fits m z)) (with-fits bound (sym z ∙ h)))
+        (λ z. subst (MeetWithIs b p n imgs bnd m v j imgs bnd) (sym (found-misfits m z)) (with-misfits bound (sym z ∙ h)))

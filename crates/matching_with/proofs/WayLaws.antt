@@ -8,7 +8,7 @@ use lib.ListN.{length, get_or, replicate}
 use lib.Seq.{ext_get_or}
 use native.Mathlib.Decide.{ℕ_discrete}
 use Rattle.record.specs.Number.{u16_at, numbers_at}
-use Rattle.record.specs.Sort.{Sort, parts_of, names_of, count, size}
+use Rattle.record.specs.Sort.{Sort, parts_of, names_of, count, size, sizes}
 use Rattle.record.specs.Record.{leaf, sorts_of}
 use Rattle.record.specs.SortLists.{below_suc}
 use Rattle.record.specs.Decode.{store_of, sort_at}
@@ -17,17 +17,17 @@ use Rattle.store.specs.Entry.{EntryHas, EntryAsks}
 use Rattle.substitution.specs.Substitution.{Map}
 use Rattle.substitution.specs.Matching.{and_then}
 use Rattle.substitution.specs.MatchWith.{match_with, match_all_with}
-use Rattle.matching_tables.specs.declared.Matched.{Matched}
-use Rattle.matching_tables.specs.declared.Matched.TheVariants.{Fits, Misfits}
+use Rattle.matching_tables.specs.Matched.{Matched, Fits, Misfits, found}
 use Rattle.matching_with.specs.declared.Turn.{Turn}
 use Rattle.matching_with.specs.declared.Turn.TheVariants.{Holds, Fails, Meets, Under, Past, Parts}
 use Rattle.matching_with.specs.declared.Move.TheVariants.{Ends, Under as Down, Past as Through, Parts as Several}
-use Rattle.matching_with.specs.declared.Walked.{Walked}
+use Rattle.record.specs.declared.span.Span.{Span}
+use mathlib.Core.Bool.{Bool, true, false}
 use Rattle.matching_tables.specs.Tables.{times, Lists, Added, table_map, Mapped}
 use Rattle.matching_tables.specs.TableLaws.{times-append, lists-added, added-back}
 use Rattle.matching_tables.specs.Usable.{sorts_at}
 use Rattle.matching_tables.specs.Contract.{TakeAsks, count_of, matched_map}
-use Rattle.matching_with.specs.Contract.{MeetWithIs, WithAsks, WithIs, PairWith, PairsWith, TurnIs}
+use Rattle.matching_with.specs.Contract.{MeetWithIs, WithAsks, WithListsAsk, WithIs, PairWith, PairsWith, ListsWith, TurnIs, Parted}
 use Rattle.matching_tables.specs.Notes.{pair_of}
 use Rattle.matching_with.specs.Met.{MatchedWith, WithBefore, WithAfter}
 use Rattle.matching_tables.specs.NoteLaws.{pairs-none}
@@ -36,7 +36,7 @@ use Rattle.matching_tables.specs.Entered.{entry-names, entry-refs}
 use Rattle.matching_tables.specs.WalkLaws.{count_at}
 use Rattle.matching_tables.specs.LastLaws.{and-some, sizes-more, refs-less}
 use Rattle.matching_with.proofs.WithLaws.{with-same, with-fits, with-next, with-back}
-use Rattle.matching_with.proofs.GeneralLaws.{under, body-asks, through, target-asks, parted, parts-ask, general-holds, general-fails, general-met, general-parts, general-none}
+use Rattle.matching_with.proofs.GeneralLaws.{under, body-asks, through, target-asks, parted, general-holds, general-fails, general-met, general-empty, with-lists}
 
 ---------------------------------------------------------------- all but the last, then the last
 -- The last of c + 1 sorts.
@@ -94,30 +94,60 @@ added_then {prm} {us} {prm'} {ws} {prm''} a c =
 
 ---------------------------------------------------------------- a turn
 module _ {b p : List ℕ} {n : ℕ} {prm imgs bnd : List ℕ} {m k j : ℕ} (a : WithAsks b p n prm imgs bnd m k j) (l : List ℕ) (w : WithBefore b p n prm imgs bnd m l) where
-  pub move-met : get_or l (k % 32) 0 ≡ pair_of k j → MoveIs b p n prm imgs bnd m k j prm imgs bnd l (Ends (Fits m))
+  pub move-met : get_or l (k % 32) 0 ≡ pair_of k j → MoveIs b p n prm imgs bnd m k j prm imgs bnd m l (Ends true)
   move-met e = (with-fits l a (omega (arith, a.pair.right, a.pair.usable.count)) w e, w)
 
+  -- The parts but for the last, then the last.
+  move-split : {x y c : ℕ} (d : ℕ) → c ≡ suc d → Parted b p n k j x y c → Split b p n prm imgs bnd m k j prm imgs bnd m l x y d
+  move-split {x} {y} {c} d f o' =
+      let o = subst (λ (i : ℕ). Parted b p n k j x y i) f o' in
+      record {
+        params = refl;
+        asks =
+            record {
+              pairs = record { usable = o.pairs.usable; left = refs-less b p n b x d o.pairs.left; right = refs-less b p n b y d o.pairs.right };
+              table = a.table;
+              room = λ v. omega (arith, a.room v, o.less, sizes-more b p n b x d);
+              mapped = a.mapped;
+            };
+        noted = w;
+        left = omega (arith, o.pairs.left.within);
+        right = omega (arith, o.pairs.right.within);
+        ends = record { usable = o.pairs.usable; left = o.pairs.left.below d (omega arith); right = o.pairs.right.below d (omega arith) };
+        leads =
+            record {
+              some = omega (arith, ap count o.parts, count_at b p n b x (suc d));
+              last = ap last_sort o.parts ∙ last-at b p n b x d;
+              less = omega (arith, o.less, sizes-more b p n b x d);
+            };
+        nameless = o.names;
+        falls = omega (arith, o.falls, sizes-more b p n b x d, sizes-more b p n b y d);
+        whole = λ ns h.
+            sym (with-last b p n ns b b x y d (table_map (store_of b p n) imgs bnd m))
+            ∙ o.whole ns (table_map (store_of b p n) imgs bnd m);
+      }
+
   module _ (z : Turn) (g : TurnIs b p n prm k j z) where
-    pub move-holds : z ≡ Holds → MoveIs b p n prm imgs bnd m k j prm imgs bnd l (Ends (Fits m))
+    pub move-holds : z ≡ Holds → MoveIs b p n prm imgs bnd m k j prm imgs bnd m l (Ends true)
     move-holds e = (general-holds a z g e, w)
 
-    pub move-fails : z ≡ Fails → MoveIs b p n prm imgs bnd m k j prm imgs bnd l (Ends (Misfits m))
+    pub move-fails : z ≡ Fails → MoveIs b p n prm imgs bnd m k j prm imgs bnd m l (Ends false)
     move-fails e = (general-fails a z g e, tt)
 
-    pub move-meets : (v : ℕ) → z ≡ Meets v → (imgs' bnd' : List ℕ) (q : Matched) → MeetWithIs b p n imgs bnd m v j imgs' bnd' q
-        → MoveIs b p n prm imgs bnd m k j prm imgs' bnd' l (Ends q)
-    move-meets v e imgs' bnd' q h =
-        let f = general-met a z g v e imgs' bnd' q h in
-        (f, with-same b p n prm imgs bnd m k j prm imgs' bnd' l q w f)
+    pub move-meets : (v : ℕ) → z ≡ Meets v → (imgs' bnd' : List ℕ) (m' : ℕ) (q : Bool) → MeetWithIs b p n imgs bnd m v j imgs' bnd' (found m' q)
+        → MoveIs b p n prm imgs bnd m k j prm imgs' bnd' m' l (Ends q)
+    move-meets v e imgs' bnd' m' q h =
+        let f = general-met a z g v e imgs' bnd' (found m' q) h in
+        (f, with-same b p n prm imgs bnd m k j prm imgs' bnd' l (found m' q) w f)
 
-    pub move-under : (i x c : ℕ) → z ≡ Under i x c → {prm' l' : List ℕ} → Added prm (numbers_at b x c) prm' → l' ≡ replicate 32 0
-        → MoveIs b p n prm imgs bnd m k j prm' imgs bnd l' (Down i)
+    pub move-under : (i : ℕ) (x : Span) → z ≡ Under i x → {prm' l' : List ℕ} → Added prm (numbers_at b x.at x.count) prm' → l' ≡ replicate 32 0
+        → MoveIs b p n prm imgs bnd m k j prm' imgs bnd m l' (Down i)
     unfolding count last_sort
-    move-under i x c e {prm'} {l'} s f =
-        let o = under a z g i x c e in (
+    move-under i x e {prm'} {l'} s f =
+        let o = under a z g i x e in (
           record {
             added = subst (λ (us : List ℕ). Added prm us prm') (sym o.names) s;
-            asks = body-asks a z g i x c e s;
+            asks = body-asks a z g i x e s;
             noted = subst (WithBefore b p n prm' imgs bnd m) (sym f) (pairs-none (MatchedWith b p n prm' (table_map (store_of b p n) imgs bnd m)));
             whole = λ ns h.
                 ap (λ (us : List ℕ). PairWith b p n imgs bnd m i j (ns ++ us)) o.names
@@ -130,7 +160,7 @@ module _ {b p : List ℕ} {n : ℕ} {prm imgs bnd : List ℕ} {m k j : ℕ} (a :
           },
         )
 
-    pub move-past : (i : ℕ) → z ≡ Past i → MoveIs b p n prm imgs bnd m k j prm imgs bnd l (Through i)
+    pub move-past : (i : ℕ) → z ≡ Past i → MoveIs b p n prm imgs bnd m k j prm imgs bnd m l (Through i)
     move-past i e =
         let o = through a z g i e in (
           record {
@@ -144,42 +174,13 @@ module _ {b p : List ℕ} {n : ℕ} {prm imgs bnd : List ℕ} {m k j : ℕ} (a :
           omega (arith, o.falls),
         )
 
-    module _ (x y c : ℕ) (e : z ≡ Parts x y c) where
-      pub move-empty : c ≡ 0 → MoveIs b p n prm imgs bnd m k j prm imgs bnd l (Ends (Fits m))
-      move-empty f = (
-        general-parts a z g x y c e
-            (general-none (parts-ask a z g x y c e) f),
-        w,
-      )
+    module _ (x y : Span) (e : z ≡ Parts x y) where
+      pub move-empty : x.count ≡ 0 → MoveIs b p n prm imgs bnd m k j prm imgs bnd m l (Ends true)
+      move-empty f = (general-empty a z g x y e f, w)
 
-      pub move-parts : (d : ℕ) → c ≡ suc d → MoveIs b p n prm imgs bnd m k j prm imgs bnd l (Several x y d)
-      move-parts d f =
-          let o = subst (λ (i : ℕ). TurnIs b p n prm k j (Parts x y i)) f (parted a z g x y c e) in
-          record {
-            params = refl;
-            asks =
-                record {
-                  pairs = record { usable = o.pairs.usable; left = refs-less b p n b x d o.pairs.left; right = refs-less b p n b y d o.pairs.right };
-                  table = a.table;
-                  room = λ v. omega (arith, a.room v, o.less, sizes-more b p n b x d);
-                  mapped = a.mapped;
-                };
-            noted = w;
-            left = omega (arith, o.pairs.left.within);
-            right = omega (arith, o.pairs.right.within);
-            ends = record { usable = o.pairs.usable; left = o.pairs.left.below d (omega arith); right = o.pairs.right.below d (omega arith) };
-            leads =
-                record {
-                  some = omega (arith, ap count o.parts, count_at b p n b x (suc d));
-                  last = ap last_sort o.parts ∙ last-at b p n b x d;
-                  less = omega (arith, o.less, sizes-more b p n b x d);
-                };
-            nameless = o.names;
-            falls = omega (arith, o.falls, sizes-more b p n b x d, sizes-more b p n b y d);
-            whole = λ ns h.
-                sym (with-last b p n ns b b x y d (table_map (store_of b p n) imgs bnd m))
-                ∙ o.whole ns (table_map (store_of b p n) imgs bnd m);
-          }
+      pub move-parts : (x.count ≡ 0 → ⊥) → MoveIs b p n prm imgs bnd m k j prm imgs bnd m l (Several x y)
+      move-parts f =
+          (move-split (x.count - 1) (omega arith) (parted a z g x y e).0, omega arith, (parted a z g x y e).1)
 
 ---------------------------------------------------------------- turn after turn
 instead-then : {b p : List ℕ} {n : ℕ} {prm imgs bnd : List ℕ} {m k j : ℕ} {us prm₁ imgs₁ bnd₁ : List ℕ} {m₁ k₁ j₁ : ℕ} {l₁ ws prm₂ imgs₂ bnd₂ : List ℕ} {m₂ k₂ j₂ : ℕ} {l₂ : List ℕ}
@@ -239,12 +240,12 @@ module _ {b p : List ℕ} {n : ℕ} {prm imgs bnd : List ℕ} {m k j : ℕ} {prm
       ap (λ (us : List ℕ). us ++ names_of (way_end (sort_at b p n k) steps)) a.names
       ∙ ap (λ (s : Sort). way_names (sort_at b p n k) down ++ names_of s) a.ends
 
-  pub walking-under : (prm₂ imgs₂ bnd₂ l₂ : List ℕ) (i : ℕ) {z : ℕ} → MoveIs b p n prm₁ imgs₁ bnd₁ m₁ k₁ j₁ prm₂ imgs₂ bnd₂ l₂ (Down i) → z ≡ suc steps
-      → Walking b p n prm imgs bnd m k j prm₂ imgs₂ bnd₂ l₂ m₁ i j₁ z z
-  walking-under prm₂ imgs₂ bnd₂ l₂ i {z} (f, e) q =
+  pub walking-under : (prm₂ imgs₂ bnd₂ : List ℕ) (m₂ : ℕ) (l₂ : List ℕ) (i : ℕ) {z : ℕ} → MoveIs b p n prm₁ imgs₁ bnd₁ m₁ k₁ j₁ prm₂ imgs₂ bnd₂ m₂ l₂ (Down i) → z ≡ suc steps
+      → Walking b p n prm imgs bnd m k j prm₂ imgs₂ bnd₂ l₂ m₂ i j₁ z z
+  walking-under prm₂ imgs₂ bnd₂ m₂ l₂ i {z} (f, e) q =
       rw q (record {
         instead =
-            subst (λ (us : List ℕ). Instead b p n prm imgs bnd m k j us prm₂ imgs₂ bnd₂ m₁ i j₁ l₂) (sym step-names)
+            subst (λ (us : List ℕ). Instead b p n prm imgs bnd m k j us prm₂ imgs₂ bnd₂ m₂ i j₁ l₂) (sym step-names)
             (instead-then a.instead f);
         ends = step-ends e;
         names = refl;
@@ -261,9 +262,9 @@ module _ {b p : List ℕ} {n : ℕ} {prm imgs bnd : List ℕ} {m k j : ℕ} {prm
       subst (λ (us : List ℕ). Instead b p n prm imgs bnd m k j us prm₂ imgs₂ bnd₂ m₂ k₂ j₂ l₂) (append-nil (way_names (sort_at b p n k) down))
       (instead-then a.instead f)
 
-  pub walking-past : (prm₂ imgs₂ bnd₂ l₂ : List ℕ) (i : ℕ) → MoveIs b p n prm₁ imgs₁ bnd₁ m₁ k₁ j₁ prm₂ imgs₂ bnd₂ l₂ (Through i)
-      → Walking b p n prm imgs bnd m k j prm₂ imgs₂ bnd₂ l₂ m₁ k₁ i steps down
-  walking-past prm₂ imgs₂ bnd₂ l₂ i (f, e) =
+  pub walking-past : (prm₂ imgs₂ bnd₂ : List ℕ) (m₂ : ℕ) (l₂ : List ℕ) (i : ℕ) → MoveIs b p n prm₁ imgs₁ bnd₁ m₁ k₁ j₁ prm₂ imgs₂ bnd₂ m₂ l₂ (Through i)
+      → Walking b p n prm imgs bnd m k j prm₂ imgs₂ bnd₂ l₂ m₂ k₁ i steps down
+  walking-past prm₂ imgs₂ bnd₂ m₂ l₂ i (f, e) =
       record {
         instead = instead-on f;
         ends = a.ends;
@@ -275,8 +276,9 @@ module _ {b p : List ℕ} {n : ℕ} {prm imgs bnd : List ℕ} {m k j : ℕ} {prm
       }
 
   -- WHAT IS FOUND at the end of a walk is that of the whole.
-  pub walk_ends : (prm₂ imgs₂ bnd₂ l₂ : List ℕ) (q : Matched) → MoveIs b p n prm₁ imgs₁ bnd₁ m₁ k₁ j₁ prm₂ imgs₂ bnd₂ l₂ (Ends q)
-      → WalkIs b p n prm imgs bnd m k j prm₂ imgs₂ bnd₂ l₂ (record { found = q; down = down })
+  pub walk_ends : (prm₂ imgs₂ bnd₂ l₂ : List ℕ) (q : Matched)
+      → WithIs b p n prm₁ prm₂ imgs₂ bnd₂ q (PairWith b p n imgs₁ bnd₁ m₁ k₁ j₁) × WithAfter b p n prm₁ imgs₂ bnd₂ l₂ q
+      → WalkIs b p n prm imgs bnd m k j prm₂ imgs₂ bnd₂ l₂ q down
   unfolding way_names
   walk_ends prm₂ imgs₂ bnd₂ l₂ q (f, t) =
       record {
@@ -292,7 +294,7 @@ module _ {b p : List ℕ} {n : ℕ} {prm imgs bnd : List ℕ} {m k j : ℕ} {prm
       }
 
   ---------------------------------------------------------------- the parts
-  module _ {prm₂ imgs₂ bnd₂ l₂ : List ℕ} {x y c : ℕ} (s : Split b p n prm₁ imgs₁ bnd₁ m₁ k₁ j₁ prm₂ imgs₂ bnd₂ l₂ x y c) {prm₃ imgs₃ bnd₃ : List ℕ} (l₃ : List ℕ) {z : Matched} (g : WithIs b p n prm₂ prm₃ imgs₃ bnd₃ z (PairsWith b p n imgs₂ bnd₂ m₁ b x b y c)) where
+  module _ {prm₂ imgs₂ bnd₂ : List ℕ} {m₂ : ℕ} {l₂ : List ℕ} {x y c : ℕ} (s : Split b p n prm₁ imgs₁ bnd₁ m₁ k₁ j₁ prm₂ imgs₂ bnd₂ m₂ l₂ x y c) {prm₃ imgs₃ bnd₃ : List ℕ} (l₃ : List ℕ) {z : Matched} (g : WithIs b p n prm₂ prm₃ imgs₃ bnd₃ z (PairsWith b p n imgs₂ bnd₂ m₂ b x b y c)) where
     -- All but the last, then the last, from what is found for the first.
     parts-on : {ns : List ℕ} → Lists prm₁ ns
         → and_then (matched_map (store_of b p n) imgs₃ bnd₃ z) (λ θ. match_with ns (sort_at b p n (u16_at b (x + 2 * c))) (sort_at b p n (u16_at b (y + 2 * c))) θ)
@@ -305,7 +307,7 @@ module _ {b p : List ℕ} {n : ℕ} {prm imgs bnd : List ℕ} {m k j : ℕ} {prm
     same_params : prm₃ ≡ prm₁
     same_params = g.params ∙ s.params
 
-    pub walk-misfit : (i : ℕ) → z ≡ Misfits i → WalkIs b p n prm imgs bnd m k j prm₃ imgs₃ bnd₃ l₃ (record { found = Misfits i; down = down })
+    pub walk-misfit : (i : ℕ) → z ≡ Misfits i → WalkIs b p n prm imgs bnd m k j prm₃ imgs₃ bnd₃ l₃ (Misfits i) down
     walk-misfit i e =
         walk_ends prm₃ imgs₃ bnd₃ l₃ (Misfits i) (
           record {
@@ -352,10 +354,23 @@ module _ {b p : List ℕ} {n : ℕ} {prm imgs bnd : List ℕ} {m k j : ℕ} {prm
             less = omega (arith, a.less, s.falls);
           })
 
+---------------------------------------------------------------- the parts by their numbers
+module _ {b p : List ℕ} {n : ℕ} {prm imgs bnd : List ℕ} {m k j : ℕ} {prm₁ imgs₁ bnd₁ : List ℕ} {m₁ : ℕ} {l : List ℕ} {x y c : ℕ} (s : Split b p n prm imgs bnd m k j prm₁ imgs₁ bnd₁ m₁ l x y c)
+    {ks js : List ℕ} (ek : ks ≡ numbers_at b x c) (ej : js ≡ numbers_at b y c) where
+  pub split-asks : WithListsAsk b p n prm₁ imgs₁ bnd₁ m₁ ks js
+  split-asks = with-lists s.asks ek ej
+
+  pub split-falls : sizes (sorts_of (store_of b p n) ks) + sizes (sorts_of (store_of b p n) js) + 2 ≤ size (sort_at b p n k) + size (sort_at b p n j)
+  split-falls = rw (ek, ej) (omega (arith, s.falls))
+
+  pub split-is : {prm' imgs' bnd' : List ℕ} {q : Matched} → WithIs b p n prm₁ prm' imgs' bnd' q (ListsWith b p n imgs₁ bnd₁ m₁ ks js)
+      → WithIs b p n prm₁ prm' imgs' bnd' q (PairsWith b p n imgs₁ bnd₁ m₁ b x b y c)
+  split-is g = record { params = g.params; mapped = g.mapped; result = λ ns h. rw (← ek, ← ej) (g.result ns h) }
+
 ---------------------------------------------------------------- behind a walk
-module _ {b p : List ℕ} {n : ℕ} {prm imgs bnd : List ℕ} {m k j : ℕ} (a : WithAsks b p n prm imgs bnd m k j) {prm₁ imgs₁ bnd₁ l₁ : List ℕ} {r : Walked} (w : WalkIs b p n prm imgs bnd m k j prm₁ imgs₁ bnd₁ l₁ r) where
-  pub match-plain : r.down ≡ 0
-      → WithIs b p n prm prm₁ imgs₁ bnd₁ r.found (PairWith b p n imgs bnd m k j) × WithAfter b p n prm imgs₁ bnd₁ l₁ r.found
+module _ {b p : List ℕ} {n : ℕ} {prm imgs bnd : List ℕ} {m k j : ℕ} (a : WithAsks b p n prm imgs bnd m k j) {prm₁ imgs₁ bnd₁ l₁ : List ℕ} {q : Matched} {d : ℕ} (w : WalkIs b p n prm imgs bnd m k j prm₁ imgs₁ bnd₁ l₁ q d) where
+  pub match-plain : d ≡ 0
+      → WithIs b p n prm prm₁ imgs₁ bnd₁ q (PairWith b p n imgs bnd m k j) × WithAfter b p n prm imgs₁ bnd₁ l₁ q
   unfolding way_names
   match-plain e = (
     record {
@@ -366,7 +381,7 @@ module _ {b p : List ℕ} {n : ℕ} {prm imgs bnd : List ℕ} {m k j : ℕ} (a :
     w.noted e,
   )
 
-  pub close-asks : CloseAsks b p n prm₁ k r.down
+  pub close-asks : CloseAsks b p n prm₁ k d
   close-asks =
       record {
         one = record { usable = a.pair.usable; known = a.pair.left };
@@ -375,15 +390,15 @@ module _ {b p : List ℕ} {n : ℕ} {prm imgs bnd : List ℕ} {m k j : ℕ} (a :
         there = λ v. omega (arith, w.added.each v);
       }
 
-  pub match-closed : (prm₂ : List ℕ) {l₂ : List ℕ} → CloseIs b p n prm₁ k r.down prm₂ → l₂ ≡ replicate 32 0
-      → WithIs b p n prm prm₂ imgs₁ bnd₁ r.found (PairWith b p n imgs bnd m k j) × WithAfter b p n prm imgs₁ bnd₁ l₂ r.found
+  pub match-closed : (prm₂ : List ℕ) {l₂ : List ℕ} → CloseIs b p n prm₁ k d prm₂ → l₂ ≡ replicate 32 0
+      → WithIs b p n prm prm₂ imgs₁ bnd₁ q (PairWith b p n imgs bnd m k j) × WithAfter b p n prm imgs₁ bnd₁ l₂ q
   match-closed prm₂ {l₂} t e = (
     record {
-      params = added-back prm (way_names (sort_at b p n k) r.down) prm₁ prm₂ w.added t;
+      params = added-back prm (way_names (sort_at b p n k) d) prm₁ prm₂ w.added t;
       mapped = w.mapped;
       result = w.result;
     },
-    forgot r.found,
+    forgot q,
   )
     where
       forgot : (q : Matched) → WithAfter b p n prm imgs₁ bnd₁ l₂ q
@@ -419,27 +434,27 @@ module _ {b p : List ℕ} {n : ℕ} {prm : List ℕ} {k i : ℕ} (a : CloseAsks 
       }
 
   module _ (l : h < i) (r : SortRecord) (e : EntryHas b p k₁ r) where
-    pub closing-some : 0 < r.count
+    pub closing-some : 0 < r.parts.count
     closing-some =
         omega (
           arith,
           a.deep h l,
           ap (λ (s : Sort). count (parts_of s)) c.ends,
           ap count (e n a.one.usable.stored c.known).parts,
-          count_at b p n b r.list r.count,
+          count_at b p n b r.parts.at r.parts.count,
         )
 
-    pub closing-last : r.list + 2 * (r.count - 1) + 2 ≤ length b
+    pub closing-last : r.parts.at + 2 * (r.parts.count - 1) + 2 ≤ length b
     closing-last = omega (arith, closing-some, (e n a.one.usable.stored c.known).place.list)
 
-    closing-names : (v : ℕ) → times v (way_names (sort_at b p n k) (suc h)) ≡ times v (way_names (sort_at b p n k) h) + times v (numbers_at b r.names r.named)
+    closing-names : (v : ℕ) → times v (way_names (sort_at b p n k) (suc h)) ≡ times v (way_names (sort_at b p n k) h) + times v (numbers_at b r.names.at r.names.count)
     unfolding way_names
     closing-names v =
         times-append v (way_names (sort_at b p n k) h) (names_of (way_end (sort_at b p n k) h))
         ∙ ap (λ (us : List ℕ). times v (way_names (sort_at b p n k) h) + times v us)
         (ap names_of c.ends ∙ sym (e n a.one.usable.stored c.known).names)
 
-    pub closing-asks : TakeAsks prm₁ b r.names r.named
+    pub closing-asks : TakeAsks prm₁ b r.names.at r.names.count
     closing-asks =
         record {
           names =
@@ -447,18 +462,18 @@ module _ {b p : List ℕ} {n : ℕ} {prm : List ℕ} {k i : ℕ} (a : CloseAsks 
           there = λ v. omega (arith, a.there v, c.taken.each v, closing-names v, times_way v (sort_at b p n k) (suc h) i l);
         }
 
-    pub closing-step : {prm₂ : List ℕ} {k₂ : ℕ} → Added prm₂ (numbers_at b r.names r.named) prm₁ → k₂ ≡ u16_at b (r.list + 2 * (r.count - 1))
+    pub closing-step : {prm₂ : List ℕ} {k₂ : ℕ} → Added prm₂ (numbers_at b r.names.at r.names.count) prm₁ → k₂ ≡ u16_at b (r.parts.at + 2 * (r.parts.count - 1))
         → Closing b p n prm k i prm₂ k₂ (suc h)
     unfolding way_end
     closing-step {prm₂} {k₂} t q =
-        let f : r.count ≡ suc (r.count - 1) = omega (arith, closing-some) in
+        let f : r.parts.count ≡ suc (r.parts.count - 1) = omega (arith, closing-some) in
         record {
-          known = omega (arith, q, (entry-refs b p n k₁ a.one.usable c.known r e).below (r.count - 1) (omega (arith, closing-some)));
+          known = omega (arith, q, (entry-refs b p n k₁ a.one.usable c.known r e).below (r.parts.count - 1) (omega (arith, closing-some)));
           ends =
               ap (λ (s : Sort). last_sort (parts_of s)) c.ends
               ∙ ap last_sort (sym (e n a.one.usable.stored c.known).parts)
-              ∙ ap (λ (u : ℕ). last_sort (sorts_at b p n b r.list u)) f
-              ∙ last-at b p n b r.list (r.count - 1)
+              ∙ ap (λ (u : ℕ). last_sort (sorts_at b p n b r.parts.at u)) f
+              ∙ last-at b p n b r.parts.at (r.parts.count - 1)
               ∙ ap (sort_at b p n) (sym q);
           taken = record { long = c.taken.long ∙ t.long; each = λ v. omega (arith, c.taken.each v, t.each v, closing-names v) };
           low = l;

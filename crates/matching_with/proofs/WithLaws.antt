@@ -17,8 +17,7 @@ use Rattle.substitution.specs.Substitution.{Map, bind, find}
 use Rattle.substitution.specs.Matching.{keep}
 use Rattle.substitution.proofs.MatchingLaws.{keep-test, keep-rest, and_then-middle}
 use Rattle.substitution.specs.MatchWith.{param_eq, meet_with, all_members, towards, match_with, match_all_with}
-use Rattle.matching_tables.specs.declared.Matched.{Matched}
-use Rattle.matching_tables.specs.declared.Matched.TheVariants.{Fits, Misfits}
+use Rattle.matching_tables.specs.Matched.{Matched, Fits, Misfits}
 use Rattle.matching_tables.specs.Tables.{table_map}
 use Rattle.matching_with.specs.Contract.{WithAsks, WithIs, PairWith}
 use Rattle.matching_tables.specs.Notes.{pair_of, PairIs}

@@ -25,4 +25,4 @@ abbrev pub CompatibleIs : List ℕ → List ℕ → ℕ → ℕ → ℕ → Comp
 CompatibleIs b p n k j Holds = true ≡ compatible (sort_at b p n k) (sort_at b p n j)
 CompatibleIs b p n k j Fails = false ≡ compatible (sort_at b p n k) (sort_at b p n j)
 CompatibleIs b p n k j (On i l) = FitOn b p n k j i l
-CompatibleIs b p n k j (Parts x y c) = FitParts b p n k j x y c
+CompatibleIs b p n k j (Parts x y) = FitParts b p n k j x.at y.at x.count × (y.count ≡ x.count)

@@ -2,3 +2,4 @@ pub mod Contract
 pub mod Met
 pub mod Compared
 pub mod Way
+pub mod Words

@@ -6,8 +6,7 @@ use Rattle.substitution.specs.Substitution.{Map}
 use Rattle.substitution.specs.MatchWith.{match_with}
 use Rattle.substitution.specs.Compatible.{compatible}
 use Rattle.matching_tables.specs.Tables.{Lists, table_map}
-use Rattle.matching_tables.specs.declared.Matched.{Matched}
-use Rattle.matching_tables.specs.declared.Matched.TheVariants.{Fits, Misfits}
+use Rattle.matching_tables.specs.Matched.{Matched, Fits, Misfits}
 use Rattle.matching_tables.specs.Notes.{Pairs}
 
 -- The pattern k matches the target j from the map θ and gives θ, by match_with, for every list of names that the table prm lists.

@@ -2,148 +2,119 @@
 // in a loop, so that only a part that is not the last of its list takes stack.
 #![tactic(auto)]
 
-ghost use Rattle.matching_tables.specs.Contract.{TestAsks};
-ghost use Rattle.matching_with.specs.Contract.{MeetWithAsks, MeetWithIs, NodeAsks, TurnIs, WithAsks, WithAllAsks, WithIs, PairWith, PairsWith};
-ghost use Rattle.matching_with.specs.Met.{WithBefore, WithAfter};
-ghost use Rattle.matching_with.specs.Way.{MoveIs, WalkIs, CloseAsks, CloseIs};
+ghost use Rattle.std.specs.Prelude.{◌≡◌};
+ghost use Rattle.matching_tables.specs.Names.{SameNames, SameParams, SameMap};
+ghost use Rattle.matching_with.specs.Words.{MeetWithAsked, MeetWithAnswered, TurnAsked, TurnTaken, NodeAsked, MoveTaken, CloseAsked, Closed, WithAsked, WithAnswered, WithRight, WithKept, WalkTaken, ListsAsked, ListsAnswered, WithAllAsked, WithAllAnswered};
 
 use compatible::param_eq;
-use matching_tables::Matched;
 use matching_tables::heads::same_head;
-use matching_tables::notes::{PAIR_NOTES, forget, is_met, note_pair};
-use matching_tables::tables::{all_listed, bind, list_names, look_up, unlist_names};
-use record::kinds::{SORT_PAR, SORT_VAR};
-use record::{SortRecord, u16_at};
-use store::entries::entry;
+use matching_tables::names::Names;
+use matching_tables::notes::Met;
+use matching_tables::parts::{all_but_last, last};
+use record::SortRecord;
+use record::kinds::SortKind;
+use record::numbers::Numbers;
+use record::span::Span;
+use store::entries::Sorts;
 
 pub mod compatible;
 
 // What match_with does with two sorts, by their entries.
-#[derive(Drop)]
+#[derive(Clone, Copy, Debug, PartialEq, Eq)]
 pub enum Turn {
     // They fit and bind nothing, or do not fit.
     Holds,
     Fails,
     // The pattern is a parameter of this name, and meets the target.
     Meets(usize),
-    // The pattern is a Par: its body, and where its names stand and how many they are.
-    Under(usize, usize, usize),
+    // The pattern is a Par: its body, and its names.
+    Under(usize, Span),
     // The target is a Par of parameters: its body.
     Past(usize),
-    // The parts are matched: where the two lists stand and how long they are.
-    Parts(usize, usize, usize),
+    // The parts are matched: two lists as long.
+    Parts(Span, Span),
 }
 
 // What a turn of match_with comes to.
-#[derive(Drop)]
+#[derive(Clone, Copy, Debug, PartialEq, Eq)]
 pub enum Move {
-    // It ends, with what is found.
-    Ends(Matched),
+    // It ends; whether the pattern fits.
+    Ends(bool),
     // The body of a Par of the pattern is matched next; or that of a Par of the target.
     Under(usize),
     Past(usize),
-    // The parts are matched next: where the two lists stand, and how many parts there are before the last.
-    Parts(usize, usize, usize),
+    // The parts are matched next: two lists as long, with one part at least.
+    Parts(Span, Span),
 }
 
-// What a walk down finds, and how many steps down it opened the last Par of the pattern, 0 where it opened none.
-#[derive(Drop)]
+// Whether a walk down finds that the pattern fits, and how many steps down it opened the last Par of the pattern, 0 where it
+// opened none.
+#[derive(Clone, Copy, Debug, PartialEq, Eq)]
 pub struct Walked {
-    pub found: Matched,
+    pub fits: bool,
     pub down: usize,
 }
 
-// A parameter of the pattern against the sort `target`: an unbound one is bound to it, a bound one is compared by param_eq
+// Whether a parameter of the pattern fits the sort `target`: an unbound one is bound to it, a bound one is compared by param_eq
 // and keeps its image.
-pub fn meet_with(
-    records: &[u8],
-    places: &[u32],
-    count: usize,
-    images: &mut [u16],
-    bound: &mut [u16],
-    m: usize,
-    name: usize,
-    target: usize,
-) -> Matched
-    requires { MeetWithAsks records.now places.now count images.old bound.old m name target }
-    ensures { MeetWithIs records.now places.now count images.old bound.old m name target images.new bound.new result }
+pub fn meet_with(sorts: &Sorts<'_>, names: &mut Names<'_>, name: usize, target: usize) -> bool
+    requires { MeetWithAsked sorts.now names.old name target }
+    ensures answer { MeetWithAnswered sorts.now names.old name target names.new result }
+    ensures params { SameParams names.old names.new }
+    ensures same { SameNames names.old names.new }
 {
-    let seen = look_up(images, name);
-    if seen == 0 {
-        let more = bind(images, bound, m, name, target);
-        return Matched::Fits(more);
+    match names.look_up(name) {
+        None => {
+            names.bind(name, target);
+            true
+        }
+        Some(image) => param_eq(sorts, image, target),
     }
-    if param_eq(records, places, count, seen - 1, target) {
-        return Matched::Fits(m);
-    }
-    Matched::Misfits(m)
 }
 
 // What is to be done with the pattern `p` and the target `t`: equal sorts fit; a variable meets the target if it is a
 // parameter; a Par of the pattern is opened before one of the target.
-pub fn next_turn(
-    records: &[u8],
-    places: &[u32],
-    count: usize,
-    params: &[u16],
-    p: usize,
-    t: usize,
-) -> Turn
-    requires { TestAsks records.now places.now count params.now p t }
-    ensures { TurnIs records.now places.now count params.now p t result }
+pub fn next_turn(sorts: &Sorts<'_>, names: &Names<'_>, p: usize, t: usize) -> Turn
+    requires { TurnAsked sorts.now names.now p t }
+    ensures { TurnTaken sorts.now names.now p t result }
 {
     if p == t {
         return Turn::Holds;
     }
-    let a = entry(records, places, p);
-    let name = a.name;
-    let at = a.list;
-    if a.kind == SORT_VAR {
-        if params[name] == 0 {
-            return Turn::Fails;
+    let a = sorts.entry(p);
+    match a.kind {
+        SortKind::Var => {
+            if names.is_listed(a.name) {
+                return Turn::Meets(a.name);
+            }
+            Turn::Fails
         }
-        return Turn::Meets(name);
+        SortKind::Par => Turn::Under(a.parts.get(sorts.records, 0), a.names),
+        _ => node_turn(sorts, names, a, p, t),
     }
-    if a.kind == SORT_PAR {
-        let body = u16_at(records, at);
-        return Turn::Under(body, a.names, a.named);
-    }
-    node_turn(records, places, count, params, a, p, t)
 }
 
 // The same for a pattern that is neither a Var nor a Par, by its entry: a Par of the target is opened if all its names are
 // parameters; another kind is decided by param_eq; of the same kind, fields are compared and parts matched.
-pub fn node_turn(
-    records: &[u8],
-    places: &[u32],
-    count: usize,
-    params: &[u16],
-    a: SortRecord,
-    p: usize,
-    t: usize,
-) -> Turn
-    requires { NodeAsks records.now places.now count params.now a p t }
-    ensures { TurnIs records.now places.now count params.now p t result }
+pub fn node_turn(sorts: &Sorts<'_>, names: &Names<'_>, a: SortRecord, p: usize, t: usize) -> Turn
+    requires { NodeAsked sorts.now names.now a p t }
+    ensures { TurnTaken sorts.now names.now p t result }
 {
-    let c = entry(records, places, t);
-    let at = a.list;
-    let to = c.list;
-    let left = a.count;
-    if c.kind == SORT_PAR {
-        if all_listed(params, records, c.names, c.named) {
-            let body = u16_at(records, to);
-            return Turn::Past(body);
+    let c = sorts.entry(t);
+    if c.kind == SortKind::Par {
+        if names.all_listed(sorts.records, c.names) {
+            return Turn::Past(c.parts.get(sorts.records, 0));
         }
         return Turn::Fails;
     }
     if a.kind != c.kind {
-        if param_eq(records, places, count, p, t) {
+        if param_eq(sorts, p, t) {
             return Turn::Holds;
         }
         return Turn::Fails;
     }
     if same_head(a, c) {
-        return Turn::Parts(at, to, left);
+        return Turn::Parts(a.parts, c.parts);
     }
     Turn::Fails
 }
@@ -151,248 +122,157 @@ pub fn node_turn(
 // One turn on the pattern `p` and the target `t`, past the pairs noted in `met`: what is found if it ends here, else what
 // is matched next. Under a Par of the pattern, whose names it lists, other names are parameters, so nothing is noted there.
 pub fn take_turn(
-    records: &[u8],
-    places: &[u32],
-    count: usize,
-    params: &mut [u16],
-    images: &mut [u16],
-    bound: &mut [u16],
-    met: &mut [u32],
-    m: usize,
+    sorts: &Sorts<'_>,
+    names: &mut Names<'_>,
+    met: &mut Met,
     p: usize,
     t: usize,
 ) -> Move
-    requires { WithAsks records.now places.now count params.old images.old bound.old m p t × WithBefore records.now places.now count params.old images.old bound.old m met.old }
-    ensures { MoveIs records.now places.now count params.old images.old bound.old m p t params.new images.new bound.new met.new result }
+    requires { WithAsked sorts.now names.old p t × WithRight sorts.now names.old met.old }
+    ensures done { MoveTaken sorts.now names.old p t names.new met.new result }
+    ensures same { SameNames names.old names.new }
 {
-    if is_met(met, p, t) {
-        return Move::Ends(Matched::Fits(m));
+    if met.is_met(p, t) {
+        return Move::Ends(true);
     }
-    let next = next_turn(records, places, count, params, p, t);
-    match next {
-        Turn::Holds => Move::Ends(Matched::Fits(m)),
-        Turn::Fails => Move::Ends(Matched::Misfits(m)),
-        Turn::Meets(name) => {
-            let found = meet_with(records, places, count, images, bound, m, name, t);
-            Move::Ends(found)
-        }
-        Turn::Under(body, names, named) => {
-            forget(met);
-            list_names(params, records, names, named);
+    match next_turn(sorts, names, p, t) {
+        Turn::Holds => Move::Ends(true),
+        Turn::Fails => Move::Ends(false),
+        Turn::Meets(name) => Move::Ends(meet_with(sorts, names, name, t)),
+        Turn::Under(body, listed) => {
+            met.forget();
+            names.list(sorts.records, listed);
             Move::Under(body)
         }
         Turn::Past(body) => Move::Past(body),
-        Turn::Parts(at, to, left) => {
-            if left == 0 {
-                return Move::Ends(Matched::Fits(m));
+        Turn::Parts(list, other) => {
+            if list.count == 0 {
+                return Move::Ends(true);
             }
-            Move::Parts(at, to, left - 1)
+            Move::Parts(list, other)
         }
     }
 }
 
-// Takes the names of the Pars among the first `steps` sorts on the way from `p` down last parts off `params` again.
-pub fn close_pars(
-    records: &[u8],
-    places: &[u32],
-    count: usize,
-    params: &mut [u16],
-    p: usize,
-    steps: usize,
-)
-    requires { CloseAsks records.now places.now count params.old p steps }
-    ensures { CloseIs records.now places.now count params.old p steps params.new }
+// Takes the names of the Pars among the first `steps` sorts on the way from `p` down last parts off the table again.
+pub fn close_pars(sorts: &Sorts<'_>, names: &mut Names<'_>, p: usize, steps: usize)
+    requires { CloseAsked sorts.now names.old p steps }
+    ensures closed { Closed sorts.now names.old p steps names.new }
+    ensures map { SameMap names.old names.new }
+    ensures same { SameNames names.old names.new }
 {
     let mut k = p;
-    let mut i = 0;
-    while i < steps {
-        let e = entry(records, places, k);
-        let at = e.list;
-        let last = e.count - 1;
-        unlist_names(params, records, e.names, e.named);
-        k = u16_at(records, at + 2 * last);
-        i += 1;
+    for _i in 0..steps {
+        let e = sorts.entry(k);
+        names.unlist(sorts.records, e.names);
+        k = last(e.parts, sorts.records);
     }
 }
 
-// The pattern `p` against the target `t`, past the pairs noted in `met`. The table `met` may be empty at the end.
-#[cycle(all_but_last_match_with_walk)]
+// Whether the pattern `p` fits the target `t`, past the pairs noted in `met`. The table `met` may be empty at the end.
+#[cycle(match_with)]
 pub fn match_with(
-    records: &[u8],
-    places: &[u32],
-    count: usize,
-    params: &mut [u16],
-    images: &mut [u16],
-    bound: &mut [u16],
-    met: &mut [u32],
-    m: usize,
+    sorts: &Sorts<'_>,
+    names: &mut Names<'_>,
+    met: &mut Met,
     p: usize,
     t: usize,
-) -> Matched
-    requires { WithAsks records.now places.now count params.old images.old bound.old m p t × WithBefore records.now places.now count params.old images.old bound.old m met.old }
-    ensures { WithIs records.now places.now count params.old params.new images.new bound.new result (PairWith records.now places.now count images.old bound.old m p t) × WithAfter records.now places.now count params.old images.new bound.new met.new result }
+) -> bool
+    requires { WithAsked sorts.now names.old p t × WithRight sorts.now names.old met.old }
+    ensures answer { WithAnswered sorts.now names.old p t names.new result }
+    ensures noted { WithKept sorts.now names.old names.new met.new result }
+    ensures same { SameNames names.old names.new }
 {
-    let end = walk(records, places, count, params, images, bound, met, m, p, t);
-    let found = end.found;
-    let down = end.down;
-    if down == 0 {
-        return found;
+    let end = walk(sorts, names, met, p, t);
+    if end.down == 0 {
+        return end.fits;
     }
-    close_pars(records, places, count, params, p, down);
-    forget(met);
-    found
+    close_pars(sorts, names, p, end.down);
+    met.forget();
+    end.fits
 }
 
 // The same, with the names of the opened Pars of the pattern still listed: what is found, and after how many steps down the
 // last of them was opened, 0 where none was.
-#[cycle(all_but_last_match_with_walk)]
-pub fn walk(
-    records: &[u8],
-    places: &[u32],
-    count: usize,
-    params: &mut [u16],
-    images: &mut [u16],
-    bound: &mut [u16],
-    met: &mut [u32],
-    m: usize,
-    p: usize,
-    t: usize,
-) -> Walked
-    requires { WithAsks records.now places.now count params.old images.old bound.old m p t × WithBefore records.now places.now count params.old images.old bound.old m met.old }
-    ensures { WalkIs records.now places.now count params.old images.old bound.old m p t params.new images.new bound.new met.new result }
+#[cycle(match_with)]
+pub fn walk(sorts: &Sorts<'_>, names: &mut Names<'_>, met: &mut Met, p: usize, t: usize) -> Walked
+    requires { WithAsked sorts.now names.old p t × WithRight sorts.now names.old met.old }
+    ensures walked { WalkTaken sorts.now names.old p t names.new met.new result }
+    ensures same { SameNames names.old names.new }
 {
-    let mut n = m;
+    let records = sorts.records;
     let mut a = p;
     let mut c = t;
     let mut steps = 0;
     let mut down = 0;
     loop {
-        let next = take_turn(records, places, count, params, images, bound, met, n, a, c);
-        match next {
-            Move::Ends(found) => {
-                return Walked {
-                    found: found,
-                    down: down,
-                };
-            }
+        match take_turn(sorts, names, met, a, c) {
+            Move::Ends(fits) => return Walked { fits, down },
             Move::Under(body) => {
                 a = body;
                 steps += 1;
                 down = steps;
             }
-            Move::Past(body) => {
-                c = body;
-            }
-            Move::Parts(at, to, last) => {
-                let pattern = u16_at(records, at + 2 * last);
-                let target = u16_at(records, to + 2 * last);
-                let first = all_but_last(
-                    records, places, count, params, images, bound, met, n, at, to, last,
-                );
-                match first {
-                    Matched::Fits(k) => {
-                        n = k;
-                        a = pattern;
-                        c = target;
-                        steps += 1;
-                    }
-                    Matched::Misfits(k) => {
-                        return Walked {
-                            found: Matched::Misfits(k),
-                            down: down,
-                        };
-                    }
+            Move::Past(body) => c = body,
+            Move::Parts(list, other) => {
+                let patterns = all_but_last(list, records);
+                let targets = all_but_last(other, records);
+                if !all_with(sorts, names, met, patterns, targets) {
+                    return Walked { fits: false, down };
                 }
+                a = last(list, records);
+                c = last(other, records);
+                steps += 1;
             }
         }
     }
 }
 
-// The `left` patterns whose numbers stand in `records` from `at` on, parts of a sort but for its last, against as many targets
-// from `to` on, with one map for all, past the pairs noted in `met`. Notes each pair that fits.
-#[cycle(all_but_last_match_with_walk)]
-pub fn all_but_last(
-    records: &[u8],
-    places: &[u32],
-    count: usize,
-    params: &mut [u16],
-    images: &mut [u16],
-    bound: &mut [u16],
-    met: &mut [u32],
-    m: usize,
-    at: usize,
-    to: usize,
-    left: usize,
-) -> Matched
-    requires { WithAllAsks records.now places.now count params.old images.old bound.old m records.now at records.now to left × WithBefore records.now places.now count params.old images.old bound.old m met.old }
-    ensures { WithIs records.now places.now count params.old params.new images.new bound.new result (PairsWith records.now places.now count images.old bound.old m records.now at records.now to left) × WithAfter records.now places.now count params.old images.new bound.new met.new result }
+// Whether each of the patterns fits the target in its place, with one map for all, past the pairs noted in `met`. Notes each
+// pair that fits.
+#[cycle(match_with)]
+pub fn all_with(
+    sorts: &Sorts<'_>,
+    names: &mut Names<'_>,
+    met: &mut Met,
+    patterns: Numbers<'_>,
+    targets: Numbers<'_>,
+) -> bool
+    requires { ListsAsked sorts.now names.old patterns targets × WithRight sorts.now names.old met.old }
+    ensures answer { ListsAnswered sorts.now names.old patterns.entry targets.entry names.new result }
+    ensures noted { WithKept sorts.now names.old names.new met.new result }
+    ensures same { SameNames names.old names.new }
 {
-    let mut n = m;
-    let mut x = at;
-    let mut y = to;
-    let mut rest = left;
-    while 0 < rest {
-        let p = u16_at(records, x);
-        let t = u16_at(records, y);
-        let first = match_with(records, places, count, params, images, bound, met, n, p, t);
-        match first {
-            Matched::Fits(k) => {
-                note_pair(met, p, t);
-                n = k;
-            }
-            Matched::Misfits(k) => {
-                return Matched::Misfits(k);
-            }
+    for (p, t) in patterns.zip(targets) {
+        if !match_with(sorts, names, met, p, t) {
+            return false;
         }
-        x += 2;
-        y += 2;
-        rest -= 1;
+        met.note(p, t);
     }
-    Matched::Fits(n)
+    true
 }
 
-// The `left` patterns whose numbers stand in `patterns` from `at` on against as many targets in `targets` from `to` on,
-// with one map for all, from `m` bound names. `params` is as it was at the end.
+// Whether each pattern whose number stands in the span `list` of `patterns` fits the target in its place in the span `other` of
+// `targets`, with one map for all. The names listed are as they were.
 pub fn match_all_with(
-    records: &[u8],
-    places: &[u32],
-    count: usize,
-    params: &mut [u16],
-    images: &mut [u16],
-    bound: &mut [u16],
-    m: usize,
+    sorts: &Sorts<'_>,
+    names: &mut Names<'_>,
     patterns: &[u8],
-    at: usize,
+    list: Span,
     targets: &[u8],
-    to: usize,
-    left: usize,
-) -> Matched
-    requires { WithAllAsks records.now places.now count params.old images.old bound.old m patterns.now at targets.now to left }
-    ensures { WithIs records.now places.now count params.old params.new images.new bound.new result (PairsWith records.now places.now count images.old bound.old m patterns.now at targets.now to left) }
+    other: Span,
+) -> bool
+    requires asks { WithAllAsked sorts.now names.old patterns.now list targets.now other }
+    requires even { other.count ≡ list.count }
+    ensures answer { WithAllAnswered sorts.now names.old patterns.now list targets.now other names.new result }
+    ensures same { SameNames names.old names.new }
 {
-    let mut met = [0u32; PAIR_NOTES];
-    let mut n = m;
-    let mut x = at;
-    let mut y = to;
-    let mut rest = left;
-    while 0 < rest {
-        let p = u16_at(patterns, x);
-        let t = u16_at(targets, y);
-        let first = match_with(
-            records, places, count, params, images, bound, &mut met, n, p, t,
-        );
-        match first {
-            Matched::Fits(k) => {
-                note_pair(&mut met, p, t);
-                n = k;
-            }
-            Matched::Misfits(k) => {
-                return Matched::Misfits(k);
-            }
-        }
-        x += 2;
-        y += 2;
-        rest -= 1;
-    }
-    Matched::Fits(n)
+    let mut met = Met::new();
+    all_with(
+        sorts,
+        names,
+        &mut met,
+        list.numbers(patterns),
+        other.numbers(targets),
+    )
 }

@@ -1,11 +1,11 @@
 -- Laws of the lines that are written: a blank more, what stands in a column, how long a line is.
-use Rattle.std.specs.Prelude.{ℕ, zero, suc, ◌+◌, ◌*◌, ◌-◌, ◌≤◌, ◌<◌, ◌≡◌, refl, List, [], ◌∷◌, ◌++◌, length, take, drop, set}
+use Rattle.std.specs.Prelude.{ℕ, zero, suc, ◌+◌, ◌*◌, ◌-◌, ◌≤◌, ◌<◌, ◌≡◌, refl, List, [], ◌∷◌, ◌++◌, length, take, drop}
 use Rattle.std.proofs.Common.{sym, ap, ◌∙◌, arith, add-one, length-append, length-take, length-drop, drop_of_length-le, take-add, take-take, take_all, drop_at, length-take-le}
 use Rattle.std.proofs.lemmas.List.{length-replicate, replicate-append-replicate}
 use Rattle.std.proofs.Math.Seq.{length-slice}
 use Rattle.printout_sort.specs.Text.{ascii, decimal}
 use Rattle.printout_sort.specs.DecimalLaws.{ten, decimal-most}
-use Rattle.printout_sort.specs.Wrote.{Wrote, TextRoom, total, wrote_as, wrote_none, wrote_one, wrote-more, wrote-long}
+use Rattle.printout_sort.specs.Wrote.{Wrote, TextRoom, total, wrote_as, wrote_none, wrote-more}
 use Rattle.printout.specs.Whole.{lines_from}
 use Rattle.printout.specs.WholeLaws.{lines_more}
 use Rattle.page.specs.Page.{blanks, justified, filled, line_of}
@@ -16,21 +16,10 @@ use Rattle.page_lines.specs.Line.{piece, PieceEnd, LineRoom}
 pub blanks-long : (n : ℕ) → length (blanks n) ≡ n
 blanks-long n = length-replicate {A = ℕ} n 32
 
--- No blank is written yet; one blank more.
-pub blanks-start : (o : List ℕ) (to : ℕ) → to ≤ length o → Wrote o to (blanks (to - to)) o to
-blanks-start o to h =
-    let e : 0 ≡ to - to = omega arith in
-    wrote_as (ap blanks e) (wrote_none o to h)
-
-pub blanks-more : {o : List ℕ} {to : ℕ} {o' : List ℕ} {e : ℕ} → to ≤ e → e < length o → Wrote o to (blanks (e - to)) o' e
-    → Wrote o to (blanks (e + 1 - to)) (set o' e 32) (e + 1)
-blanks-more {o} {to} {o'} {e} low h w =
-    let q : e - to + 1 ≡ e + 1 - to = omega arith in
-    wrote_as {s = blanks (e - to) ++ (32 ∷ [])} (replicate-append-replicate (e - to) 1 32 ∙ ap blanks q)
-    (wrote-more w (wrote_one o' e 32 (omega (arith, wrote-long w))))
-
-pub blanks-done : {o : List ℕ} {to : ℕ} (n : ℕ) {o' : List ℕ} {e : ℕ} → e ≡ to + n → Wrote o to (blanks (e - to)) o' e → Wrote o to (blanks n) o' e
-blanks-done {o} {to} n {o'} {e} q w = let z : e - to ≡ n = omega arith in wrote_as (ap blanks z) w
+-- One blank more.
+pub blanks-more : {o : List ℕ} {to : ℕ} (n : ℕ) {o₁ : List ℕ} {e : ℕ} {o₂ : List ℕ} {d : ℕ} → Wrote o to (blanks n) o₁ e → Wrote o₁ e (32 ∷ []) o₂ d
+    → Wrote o to (blanks (n + 1)) o₂ d
+blanks-more n v w = wrote_as (replicate-append-replicate n 1 32) (wrote-more v w)
 
 ---------------------------------------------------------------- the number column
 pub decimal-few : (t : ℕ) → t < 100000 → length (decimal t) ≤ 5
@@ -96,6 +85,10 @@ column-long l from end =
     let t = piece l from end in
     omega (arith, piece-short l from end, length-append t (blanks (36 - length t)), blanks-long (36 - length t))
 
+-- How long the bytes of a piece are that ends there.
+pub piece-long : (l : List ℕ) {from end r : ℕ} → end ≤ length l → PieceEnd from end r → length (take (r - from) (drop from l)) ≡ r - from
+piece-long l {from} {end} {r} h p = length-take-le (r - from) (drop from l) (omega (arith, p.high, length-drop from l))
+
 -- A column of blanks, and a piece with the blanks behind it.
 pub column-none : (l : List ℕ) (from end : ℕ) {o : List ℕ} {to : ℕ} {o' : List ℕ} {e : ℕ} → end ≤ length l → end ≤ from
     → Wrote o to (blanks 36) o' e → Wrote o to (filled 36 (piece l from end)) o' e
@@ -105,7 +98,7 @@ pub column-some : (l : List ℕ) {from end r : ℕ} {o : List ℕ} {to : ℕ} {o
     → Wrote o to (take (r - from) (drop from l)) o₁ e → Wrote o₁ e (blanks (36 - (r - from))) o₂ d → Wrote o to (filled 36 (piece l from end)) o₂ d
 column-some l {from} {end} {r} h p v w =
     let s = take (r - from) (drop from l) in
-    let n : r - from ≡ length s = sym (length-take-le (r - from) (drop from l) (omega (arith, p.high, length-drop from l))) in
+    let n : r - from ≡ length s = sym (piece-long l h p) in
     wrote_as (ap (λ (k : ℕ). s ++ blanks (36 - k)) n ∙ sym (ap (filled 36) (p.same l h))) (wrote-more v w)
 
 ---------------------------------------------------------------- a line

@@ -18,11 +18,10 @@ use Rattle.page.specs.Page.{padding, pages, table_lines}
 use Rattle.page.specs.Numbered.{blank_line, height_at, above, page_line}
 use Rattle.page.proofs.NumberedLaws.{page-count, page-blank, page-line-length}
 use Rattle.page_lines.specs.declared.heights.Spot.{Spot}
-use Rattle.page_lines.specs.declared.rows.Reached.{Reached}
 use Rattle.page_lines.specs.Heights.{height_in, SpotIs}
 use Rattle.page_lines.specs.LineRoomLaws.{blank-lines-long}
 use Rattle.page_lines.specs.LinesLaws.{lines-shift}
-use Rattle.page_lines.specs.Rows.{RowsJudged, PageAsks, number_of, Within, ReachedIs, LeastIs}
+use Rattle.page_lines.specs.Rows.{RowsJudged, PageAsks, number_of, Within, Reached, ReachedIs}
 use Rattle.page_lines.specs.RowLaws.{Words, above-is, above_most}
 use Rattle.page_lines.specs.GoingLaws.{going-below}
 use Rattle.page_lines.specs.Pages.{padding_of, BlanksIs, PageHas}
@@ -31,13 +30,6 @@ use Rattle.page_lines.specs.Pages.{padding_of, BlanksIs, PageHas}
 pub padding-is : (n : ℕ) → (60 - n % 60) % 60 ≡ padding_of n
 unfolding padding_of
 padding-is n = refl
-
-pub blanks-none : {lines done all : ℕ} (room : ℕ) → all ≡ padding_of lines → all ≤ done → BlanksIs lines done room 0
-blanks-none room e h = record { most = omega arith; fits = omega arith; full = λ u. absurd (omega arith) }
-
-pub blanks-least : {lines done all room r : ℕ} → all ≡ padding_of lines → LeastIs (all - done) (room / 81) r → BlanksIs lines done room r
-blanks-least {lines} {done} {all} {room} {r} e f =
-    record { most = omega (arith, f.first); fits = omega (arith, f.second); full = λ u. omega (arith, f.one (omega arith)) }
 
 ---------------------------------------------------------------- a piece
 pub spot-within : {z rows : List ℕ} {t n : ℕ} {s : Spot} → SpotIs z rows t n s → Within z rows t s.row s.line

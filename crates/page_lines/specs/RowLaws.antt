@@ -27,7 +27,7 @@ use Rattle.page_lines.specs.LineRoomLaws.{decimal-few}
 use Rattle.page_lines.specs.LinesLaws.{lines-shift, lines_long}
 use Rattle.page_window.specs.Window.{SizesAre, WindowIs}
 use Rattle.page_window.specs.WindowLaws.{window-piece}
-use Rattle.page_lines.specs.Rows.{RowsJudged, inferred_in, checked_in, seen, NextPiece, window_line, LeastIs, StretchIs, number_of}
+use Rattle.page_lines.specs.Rows.{RowsJudged, inferred_in, checked_in, seen, NextPiece, window_line, number_of}
 
 ---------------------------------------------------------------- how large heights are
 -- Entries of a table of u32s.
@@ -142,19 +142,6 @@ pieces-on from end r l k a f e =
 
 pub pieces-start : (a : List ℕ) → a ≡ drop (36 * 0) a
 pieces-start a = refl
-
--- The least of the lines left, of those that have room, and of those of a pair of windows.
-pub stretch-is : {left room fit r : ℕ} → LeastIs left (room / 81) fit → LeastIs fit 1024 r → StretchIs left room r
-stretch-is {left} {room} {fit} {r} f g =
-    record {
-      most = omega (arith, f.first, g.first);
-      fits = omega (arith, f.second, g.first);
-      few = g.second;
-      none = λ e h.
-          by_test (ltb 0 fit)
-          (λ x. absurd (omega (arith, g.one (omega (arith, ltb-true 0 fit x)))))
-          (λ x. let u = ltb-false 0 fit x in omega (arith, f.one (omega arith)));
-    }
 
 ---------------------------------------------------------------- lines of a row
 pub window-lines-none : (f : ℕ → List ℕ) (o : List ℕ) (to : ℕ) → to ≤ length o → Wrote o to (lines_from f 0 0) o to

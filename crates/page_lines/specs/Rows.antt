@@ -9,7 +9,6 @@ use Rattle.printout.specs.Whole.{lines_from}
 use Rattle.page.specs.Page.{line_of}
 use Rattle.page.specs.Numbered.{number_on, piece_on, above, page_line}
 use Rattle.page_lines.specs.declared.heights.Spot.{Spot}
-use Rattle.page_lines.specs.declared.rows.Reached.{Reached}
 use Rattle.page_window.specs.declared.Window.{Window}
 use Rattle.page_lines.specs.Heights.{height_in}
 use Rattle.page_window.specs.Window.{SizesAre, window_slack, WindowAsks}
@@ -49,9 +48,12 @@ pub record RowWindowAsks (b p z : List ℕ) (code want : ℕ) (stack o : List �
   pub sort : code < 65536 → WindowAsks b p z code want stack o
   pub fits : want + window_slack ≤ length o
 
--- What stands in a window.
+-- What stands in a buffer from a place on up to an end, and so in a window.
+abbrev pub cut_text : List ℕ → ℕ → ℕ → List ℕ
+cut_text o from end = drop from (take end o)
+
 abbrev pub seen : List ℕ → Window → List ℕ
-seen o w = drop w.lead (take w.end o)
+seen o w = cut_text o w.lead w.end
 
 -- r is where the piece behind the one at `from` starts, of every text that ends at `end`.
 abbrev pub NextPiece : ℕ → ℕ → ℕ → Type 0
@@ -63,13 +65,6 @@ unfoldable pub window_line : ℕ → ℕ → List ℕ → List ℕ → ℕ → L
 unfolding line_of decimal
 window_line t i a b k = line_of (number_on t (i + k)) (piece_on k a) (piece_on k b) ++ ascii "\n"
 
-pub record WindowLinesAsk (t i n : ℕ) (one : List ℕ) (v : Window) (two : List ℕ) (w : Window) (o : List ℕ) (to : ℕ) : Type 0 where
-  pub few : t < 100000
-  pub low : i + n ≤ 4294967296
-  pub first : v.end ≤ length one
-  pub second : w.end ≤ length two
-  pub fits : to + 81 * n ≤ length o
-
 pub record RowLinesAsk (b p z rows : List ℕ) (t i n : ℕ) (stack one two o : List ℕ) (to : ℕ) : Type 0 where
   pub count : ℕ
   pub page : PageAsks b p z rows count stack one two
@@ -77,12 +72,6 @@ pub record RowLinesAsk (b p z rows : List ℕ) (t i n : ℕ) (stack one two o : 
   pub low : i + n ≤ 4294967296
   pub few : n ≤ 1024
   pub fits : to + 81 * n ≤ length o
-
--- The least of two numbers.
-pub record LeastIs (m n r : ℕ) : Type 0 where
-  pub first : r ≤ m
-  pub second : r ≤ n
-  pub one : r < m → r ≡ n
 
 -- How many lines are written next, of those left of a row: none only where none is left or has room.
 pub record StretchIs (left room r : ℕ) : Type 0 where
@@ -120,6 +109,12 @@ pub record Going (b p z rows : List ℕ) (t row line : ℕ) (o : List ℕ) (row'
   pub behind : t ≤ row' → number_of z rows row line < number_of z rows row' line' → line' ≡ 0
   pub long : length o' ≡ length o
   pub within : end ≤ length o
+
+-- How far the lines of the rows have come: the next line's row and its number in the row, and the place behind what was written.
+pub record Reached : Type 0 where
+  pub row : ℕ
+  pub line : ℕ
+  pub end : ℕ
 
 -- THE LINES OF THE ROWS from the line `from` on are written, as many as fit.
 pub record ReachedIs (b p z rows : List ℕ) (t : ℕ) (from : Spot) (o o' : List ℕ) (r : Reached) : Type 0 where

@@ -4,11 +4,12 @@ ghost use Rattle.printout.specs.LineAsks.{RowKnown};
 ghost use Rattle.page_lines.specs.Heights.{length_by, height_by, HeightAsks, HeightsAsk, SpotIs};
 
 use super::line::COLUMN;
-use printout_sort::pieces::digits;
+use printout::lines::row_of;
+use printout_sort::buffer::digits;
 
 // A line of a row: the row's number, and the line's number in the row. Behind the last row: how many rows there are, and how many
 // lines behind the last one's end.
-#[derive(Drop)]
+#[derive(Clone, Copy, Debug, PartialEq, Eq)]
 pub struct Spot {
     pub row: usize,
     pub line: usize,
@@ -19,21 +20,17 @@ fn row_length(sizes: &[u32], code: u32) -> usize
     requires { RowKnown (length sizes.now) code }
     ensures { result ≡ length_by sizes.now code }
 {
-    let v = code as usize;
-    if v < 65536 {
-        return sizes[v] as usize;
+    match row_of(code) {
+        Ok(k) => sizes[k] as usize,
+        Err(number) => 1 + digits(number),
     }
-    1 + digits(v / 65536)
 }
 
 // How many lines a text of this many bytes needs below its first.
 fn lines_below(bytes: usize) -> usize
     ensures { result ≡ (bytes - 1) / 36 }
 {
-    if bytes == 0 {
-        return 0;
-    }
-    (bytes - 1) / COLUMN
+    bytes.saturating_sub(1) / COLUMN
 }
 
 // How many lines a row has: those that the longer of its two texts needs.
@@ -45,10 +42,7 @@ pub fn row_height(sizes: &[u32], inferred: u32, checked: u32) -> usize
     let second = row_length(sizes, checked);
     let one = lines_below(first);
     let two = lines_below(second);
-    if one <= two {
-        return two + 1;
-    }
-    one + 1
+    one.max(two) + 1
 }
 
 // Where the line with the number `from` stands among the rows of so many terms.
@@ -56,17 +50,13 @@ pub fn find_row(sizes: &[u32], rows: &[u32], terms: usize, from: usize) -> Spot
     requires { HeightsAsk sizes.now rows.now terms }
     ensures { SpotIs sizes.now rows.now terms from result }
 {
-    let mut row = 0;
     let mut line = from;
-    while row < terms {
-        let inferred = rows[2 * row];
-        let checked = rows[2 * row + 1];
-        let high = row_height(sizes, inferred, checked);
+    for row in 0..terms {
+        let high = row_height(sizes, rows[2 * row], rows[2 * row + 1]);
         if line < high {
             return Spot { row, line };
         }
         line -= high;
-        row += 1;
     }
-    Spot { row, line }
+    Spot { row: terms, line }
 }

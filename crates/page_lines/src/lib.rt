@@ -3,5 +3,6 @@
 
 pub mod heights;
 pub mod line;
+pub mod paged;
 pub mod pages;
 pub mod rows;

@@ -5,8 +5,10 @@ ghost use Rattle.page_lines.specs.Pages.{padding_of, BlanksIs, PageHas};
 
 use super::heights::find_row;
 use super::line::{LINE, put_blank_lines};
-use super::rows::{least, put_rows};
+use super::paged::{PagedRows, Windows};
+use super::rows::put_rows;
 use printout::whole::Piece;
+use printout_sort::buffer::TextBuffer;
 
 // How many lines a page has.
 const PAGE: usize = 60;
@@ -22,45 +24,38 @@ fn padding_of(lines: usize) -> usize
 fn blanks_next(lines: usize, done: usize, room: usize) -> usize
     ensures { BlanksIs lines done room result }
 {
-    let all = padding_of(lines);
-    if all <= done {
-        return 0;
-    }
-    least(all - done, room / LINE)
+    padding_of(lines).saturating_sub(done).min(room / LINE)
 }
 
 // Writes the lines of the pages from the number `from` on, as many as fit the buffer, from its start on; the number of the next line, and
 // the place behind what was written. Where the pages have no line `from`, nothing is written, and the next line is `from`.
 pub fn show_pages(
-    records: &[u8],
-    places: &[u32],
-    sizes: &[u32],
-    rows: &[u32],
-    terms: usize,
+    page: &PagedRows<'_>,
     from: usize,
-    stack: &mut [u32],
-    one: &mut [u8],
-    two: &mut [u8],
+    windows: &mut Windows<'_>,
     out: &mut [u8],
 ) -> Piece
-    requires { PageAsks records.now places.now sizes.now rows.now terms stack.old one.old two.old }
-    ensures { PageHas records.now places.now rows.now terms from out.old out.new result }
+    requires { PageAsks page.now.entries.records.now page.now.entries.places.now page.now.sizes.now page.now.rows.now page.now.terms windows.old.stack.now windows.old.one.now windows.old.two.now }
+    ensures { PageHas page.now.entries.records.now page.now.entries.places.now page.now.rows.now page.now.terms from out.old out.new result }
 {
-    let start = find_row(sizes, rows, terms, from);
-    let reached = put_rows(
-        records, places, sizes, rows, terms, start, stack, one, two, out,
-    );
-    let row = reached.row;
-    let line = reached.line;
-    let end = reached.end;
-    let next = from + end / LINE;
-    if row < terms {
-        return Piece { next, end };
+    let mut text = TextBuffer { bytes: out, end: 0 };
+    let start = find_row(page.sizes, page.rows, page.terms, from);
+    let reached = put_rows(page, start, windows, &mut text);
+    let next = from + text.end / LINE;
+    if reached.row < page.terms {
+        return Piece {
+            next,
+            end: text.end,
+        };
     }
-    let n = blanks_next(next - line, line, out.len() - end);
-    let last = put_blank_lines(out, end, n);
+    let n = blanks_next(
+        next - reached.line,
+        reached.line,
+        text.bytes.len() - text.end,
+    );
+    put_blank_lines(n, &mut text);
     Piece {
         next: next + n,
-        end: last,
+        end: text.end,
     }
 }

@@ -1,6 +1,7 @@
 -- What `judge` leaves of an accepted sheet has pages, whose lines are those of the judgement; and what follows for a caller of `pages`.
 use Rattle.std.specs.Prelude.{ℕ, ◌+◌, ◌*◌, ◌-◌, ◌≤◌, ◌<◌, ◌≡◌, List, [], length, get_or, take, ltb}
-use Rattle.std.proofs.Common.{sym, ap, ap₂, ◌∙◌, arith, length-append, ltb-true, ltb-false}
+use Rattle.std.proofs.Common.{sym, ap, ap₂, ◌∙◌, arith, rules, length-append, ltb-true, ltb-false}
+use Rattle.std.specs.Ordering.{ord_max, nat_cmp}
 use Rattle.record.specs.Sort.{Sort, size}
 use Rattle.record.specs.Cases.{by_test}
 use Rattle.record.specs.Decode.{store_of}
@@ -10,7 +11,7 @@ use Rattle.row_rules.proofs.OutcomeLaws.{room-few}
 use Rattle.judge_rules.proofs.JudgedLaws.{judged-store}
 use Rattle.judge_rules.proofs.KnownLaws.{judged-rows-known}
 use Rattle.check_rules.specs.Ranks.{smt_lib}
-use Rattle.verdicts.specs.declared.Outcome.TheVariants.{Accepted}
+use Rattle.verdicts.specs.Judge.{Accepted}
 use Rattle.verdicts.specs.Judge.{JudgeIs}
 use Rattle.printout_sort.specs.Text.{ascii}
 use Rattle.printout_sort.specs.TreeLaws.{tree-at}
@@ -64,11 +65,12 @@ page-store s b p w g a k k' r kinds =
     }
 
 ---------------------------------------------------------------- the sorts that rows name
-pub raised-more : (most code : ℕ) → most ≤ code → code < 65536 → RaisedIs most code (code + 1)
-raised-more most code h u = record { known = λ v. omega arith; low = omega arith; least = λ n l k. omega (arith, k u) }
+-- A row of a sort raises it as far as that sort needs; another leaves it.
+pub raised-sort : (most code k : ℕ) → k ≡ code → code < 65536 → RaisedIs most code (ord_max nat_cmp most (k + 1))
+raised-sort most code k e h = record { known = λ u. search rules; low = search rules; least = λ n l f. search rules }
 
-pub raised-same : (most code : ℕ) → (code < 65536 → code < most) → RaisedIs most code most
-raised-same most code h = record { known = h; low = omega arith; least = λ n l k. l }
+pub raised-same : (most code : ℕ) → 65536 ≤ code → RaisedIs most code most
+raised-same most code h = record { known = λ u. absurd (omega arith); low = omega arith; least = λ n l k. l }
 
 pub known-none : (rows : List ℕ) → KnownIs rows 0 0
 known-none rows = record { each = λ i h. absurd (omega arith); least = λ n f. omega arith }

@@ -2,8 +2,8 @@
 use Rattle.std.specs.Prelude.{ℕ, ◌*◌, ◌≤◌, ◌<◌, ◌≡◌, List, length, get_or, take}
 use Rattle.record.specs.Decode.{store_of}
 use Rattle.judge_rules.specs.Judged.{judged}
-use Rattle.verdicts.specs.declared.Outcome.{Outcome}
-use Rattle.verdicts.specs.declared.Outcome.TheVariants.{Accepted}
+use Rattle.verdicts.specs.Judge.{Outcome}
+use Rattle.verdicts.specs.Judge.{Accepted}
 use Rattle.printout.specs.declared.whole.Piece.{Piece}
 use Rattle.printout.specs.LineAsks.{RowKnown}
 use Rattle.printout.specs.Printed.{program_lengths}

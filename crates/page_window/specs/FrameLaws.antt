@@ -6,6 +6,7 @@ use Rattle.std.proofs.lemmas.Bool.{eqb-false}
 use Rattle.record.specs.Number.{u16_at, numbers_at}
 use Rattle.record.specs.Sort.{size, sizes}
 use Rattle.record.specs.Codec.{Bytes, length-numbers_at}
+use Rattle.record.specs.Kinds.{sort_number}
 use Rattle.record.specs.declared.SortRecord.{SortRecord}
 use Rattle.store.specs.Entry.{EntryIs}
 use Rattle.printout_sort.specs.Text.{ascii, names_text, text, texts}
@@ -16,8 +17,7 @@ use Rattle.printout_sort.specs.Trees.{tree_at, trees_at, inner_text_of, InnerAsk
 use Rattle.printout_sort.specs.TreeLaws.{texts-more, trees-size, rest-ask, entry-text, entry-text-size, entry-form, inner-asks, list-asks}
 use Rattle.printout_sort.specs.Wrote.{Wrote, wrote-more, wrote-long}
 use Rattle.page_window.specs.Window.{SizesAre}
-use Rattle.page_window.specs.Frames.{frame_of, place_of, left_of, form_in, next_part, piece_room, parts_in, FrameAsks, OpenAsks, OpenIs}
-use Rattle.page_window.specs.declared.frames.Opened.{Opened}
+use Rattle.page_window.specs.Frames.{frame_of, place_of, left_of, form_in, next_part, piece_room, parts_in, FrameAsks, OpenAsks, OpenIs, Opened}
 
 -- A frame that was made, taken apart again.
 module _ (x l f : ℕ) (hl : l ≤ 64) (hf : f < 17) where
@@ -69,19 +69,19 @@ inner-other : (b : List ℕ) (f : ℕ) (r : SortRecord) → InnerAsks b f r → 
     → length (inner_text_of b f r) ≤ get_or inner_mosts (get_or inners f 0) 0
 unfolding inner_text
 inner-other b f r a h =
-    inner-by (get_or inners f 0) r.name r.number (numbers_at b r.names r.named) a.name a.number h
+    inner-by (get_or inners f 0) r.name r.number (numbers_at b r.names.at r.names.count) a.name a.number h
 
 inner-short : (b : List ℕ) (f : ℕ) (r : SortRecord) → Bytes b → InnerAsks b f r → get_or frames f 0 + length (inner_text_of b f r) + 1 ≤ piece_room
 inner-short b f r bytes a = go (eqb (get_or inners f 0) 3) refl
   where
     names : List ℕ
-    names = numbers_at b r.names r.named
+    names = numbers_at b r.names.at r.names.count
 
     go : (t : Bool) → eqb (get_or inners f 0) 3 ≡ t → get_or frames f 0 + length (inner_text_of b f r) + 1 ≤ piece_room
     go true e =
         let q = eqb-true (get_or inners f 0) 3 e in
-        let n = length-numbers_at b r.names r.named in
-        let most = own-names names (numbers-small b bytes r.names r.named) (omega (arith, n, a.some q)) in
+        let n = length-numbers_at b r.names.at r.names.count in
+        let most = own-names names (numbers-small b bytes r.names.at r.names.count) (omega (arith, n, a.some q)) in
         own-short f (length (inner_text_of b f r)) a.form
         (omega (arith, n, most, a.few, ap length (inner-names f r.name r.number names q), length-append (names_text names) (ascii ")")))
         (λ h. absurd (h q))
@@ -93,7 +93,7 @@ pieces_are f a w ns ts = refl
 
 -- A SORT THAT WAS OPENED: its entry was read, its word and what stands behind it were written, its frame was made.
 module _ {b p : List ℕ} {k : ℕ} (a : TextAsks b p k) {r : SortRecord} (e : EntryIs b p (suc k) k r) {form : ℕ}
-    (is : form ≡ form_of r.kind r.count) (bytes : Bytes b) where
+    (is : form ≡ form_of (sort_number r.kind) r.parts.count) (bytes : Bytes b) where
   head-short : length (word_text form) + length (inner_text_of b form r) ≤ 455
   head-short =
       omega (arith, inner-short b form r bytes (inner-asks a e is), frame_is form (entry-form a e is))
@@ -105,27 +105,27 @@ module _ {b p : List ℕ} {k : ℕ} (a : TextAsks b p k) {r : SortRecord} (e : E
       → d + length (inner_text_of b form r) ≤ length o₁
   inner-fits h w = omega (arith, h.room, head-short, w.next, wrote-long w)
 
-  pub frame-asks : length b ≤ 65536 → (r.list ≤ 65536) × (r.count ≤ 64) × (form < 17)
+  pub frame-asks : length b ≤ 65536 → (r.parts.at ≤ 65536) × (r.parts.count ≤ 64) × (form < 17)
   frame-asks short = (omega (arith, e.place.list), e.few, entry-form a e is)
 
   pub open_is : {o : List ℕ} {to : ℕ} {o₁ : List ℕ} {d : ℕ} {o₂ : List ℕ} (v : Opened) → Wrote o to (word_text form) o₁ d
-      → Wrote o₁ d (inner_text_of b form r) o₂ v.end → v.frame ≡ frame_of r.list r.count form → OpenIs b p k o to o₂ v
+      → Wrote o₁ d (inner_text_of b form r) o₂ v.end → v.frame ≡ frame_of r.parts.at r.parts.count form → OpenIs b p k o to o₂ v
   open_is v w x q =
-      let place : place_of v.frame ≡ r.list = ap place_of q ∙ frame-place r.list r.count form e.few (entry-form a e is) in
-      let left : left_of v.frame ≡ r.count = ap left_of q ∙ frame-left r.list r.count form e.few (entry-form a e is) in
-      let bracket : form_in v.frame ≡ form = ap form_in q ∙ frame-form r.list r.count form e.few (entry-form a e is) in
+      let place : place_of v.frame ≡ r.parts.at = ap place_of q ∙ frame-place r.parts.at r.parts.count form e.few (entry-form a e is) in
+      let left : left_of v.frame ≡ r.parts.count = ap left_of q ∙ frame-left r.parts.at r.parts.count form e.few (entry-form a e is) in
+      let bracket : form_in v.frame ≡ form = ap form_in q ∙ frame-form r.parts.at r.parts.count form e.few (entry-form a e is) in
       record {
         head = word_text form ++ inner_text_of b form r;
         wrote = wrote-more w x;
         most = omega (arith, head-short, length-append (word_text form) (inner_text_of b form r));
         is =
             rw (place, left, bracket, append_assoc)
-            (entry-text a e is ∙ pieces_are form r.name r.number (numbers_at b r.names r.named) (texts (trees_at b p (numbers_at b r.list r.count))));
+            (entry-text a e is ∙ pieces_are form r.name r.number (numbers_at b r.names.at r.names.count) (texts (trees_at b p (numbers_at b r.parts.at r.parts.count))));
         weighs = rw (place, left) (entry-text-size a e is);
         list = rw (place, left) (list-asks a e is);
         below = λ j l.
-            let m : j < r.count = omega (arith, left) in
-            let at : r.list + 2 * j ≡ place_of v.frame + 2 * j = omega (arith, place) in
+            let m : j < r.parts.count = omega (arith, left) in
+            let at : r.parts.at + 2 * j ≡ place_of v.frame + 2 * j = omega (arith, place) in
             subst (λ (i : ℕ). u16_at b i < k) at (e.below j m);
         form = subst (λ (i : ℕ). i < 17) (sym bracket) (entry-form a e is);
       }

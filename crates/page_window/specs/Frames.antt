@@ -7,7 +7,6 @@ use Rattle.printout_sort.specs.Pieces.{close_text}
 use Rattle.printout_sort.specs.Trees.{tree_at, trees_at, TextAsks, TextsAsk}
 use Rattle.printout_sort.specs.Wrote.{Wrote}
 use Rattle.page_window.specs.Window.{SizesAre}
-use Rattle.page_window.specs.declared.frames.Opened.{Opened}
 
 -- A FRAME: the numbers of the parts to print stand from a place on, there are `left` of them, and a form's bracket closes the sort.
 unfoldable pub frame_of : ℕ → ℕ → ℕ → ℕ
@@ -45,6 +44,11 @@ pub record OpenAsks (b p : List ℕ) (k : ℕ) (o : List ℕ) (to : ℕ) : Type 
   pub asks : TextAsks b p k
   pub short : length b ≤ 65536
   pub room : to + 455 ≤ length o
+
+-- The frame of a sort that was opened, and the place behind what was written.
+pub record Opened : Type 0 where
+  pub frame : ℕ
+  pub end : ℕ
 
 -- THE SORT k WAS OPENED: `head` was written at `to`, and the frame has what is left of its text.
 pub record OpenIs (b p : List ℕ) (k : ℕ) (o : List ℕ) (to : ℕ) (o' : List ℕ) (r : Opened) : Type 0 where

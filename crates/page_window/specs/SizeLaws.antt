@@ -1,6 +1,7 @@
 -- The table of text sizes is made from the first sort on: each size is the sort's own pieces and, from the table, those of its parts.
-use Rattle.std.specs.Prelude.{ℕ, zero, suc, ◌+◌, ◌*◌, ◌-◌, ◌≤◌, ◌<◌, ◌≡◌, refl, List, ◌∷◌, length, get_or, set}
+use Rattle.std.specs.Prelude.{ℕ, zero, suc, ◌+◌, ◌*◌, ◌-◌, ◌≤◌, ◌<◌, ◌≡◌, refl, List, [], ◌∷◌, length, get_or, set}
 use Rattle.std.proofs.Common.{sym, ap, subst, ◌∙◌, ⊎_elim, arith, eq-or-lt_of_le, length-set, get_or-set_same, get_or-set_other}
+use Rattle.record.specs.Codec.{length-numbers_at}
 use Rattle.record.specs.Number.{u16_at, numbers_at}
 use Rattle.record.specs.Sort.{size, sizes}
 use Rattle.record.specs.Entries.{stored-first}
@@ -28,39 +29,39 @@ total-more : (z b : List ℕ) (x m : ℕ) → 0 < m
 unfolding parts_total
 total-more z b x m h = ap (parts_total z) (numbers_more b x m h)
 
-total-none : (z b : List ℕ) (x m : ℕ) → m ≡ 0 → parts_total z (numbers_at b x m) ≡ 0
-unfolding parts_total numbers_at
-total-none z b x m e = ap (λ (i : ℕ). parts_total z (numbers_at b x i)) e
+-- Numbers that are all of the table.
+abbrev pub AllKnown : List ℕ → List ℕ → Type 0
+AllKnown z [] = Unit {0}
+AllKnown z (k ∷ ks) = (k < length z) × AllKnown z ks
+
+all-known : (b z : List ℕ) (x m : ℕ) → ((j : ℕ) → j < m → u16_at b (x + 2 * j) < length z) → AllKnown z (numbers_at b x m)
+unfolding numbers_at
+all-known b z x zero h = tt
+all-known b z x (suc m) h =
+    let e : x + 2 * 0 ≡ x = omega arith in (
+      subst (λ (i : ℕ). u16_at b i < length z) e (h 0 (omega arith)),
+      all-known b z (x + 2) m (λ j l.
+          let d : x + 2 * (j + 1) ≡ x + 2 + 2 * j = omega arith in
+          subst (λ (i : ℕ). u16_at b i < length z) d (h (j + 1) (omega arith))),
+    )
 
 -- THE LOOP OVER THE PARTS: what is summed and what is left are the whole.
-pub record PartsInv (b z : List ℕ) (at count sum next left : ℕ) : Type 0 where
-  pub within : next + 2 * left ≤ length b
-  pub few : sum + wide * left ≤ wide * 64
-  pub known : (j : ℕ) → j < left → u16_at b (next + 2 * j) < length z
-  pub all : sum + parts_total z (numbers_at b next left) ≡ parts_total z (numbers_at b at count)
+pub record PartsInv (z all : List ℕ) (sum : ℕ) (ks : List ℕ) : Type 0 where
+  pub few : sum + wide * length ks ≤ wide * 64
+  pub known : AllKnown z ks
+  pub whole : sum + parts_total z ks ≡ parts_total z all
 
-pub parts-start : {b z : List ℕ} {at count : ℕ} → PartsAsk b z at count → PartsInv b z at count 0 at count
-parts-start a = record { within = a.within; few = omega (arith, a.few); known = a.known; all = omega arith }
+pub parts-start : {b z : List ℕ} {at count : ℕ} → PartsAsk b z at count → PartsInv z (numbers_at b at count) 0 (numbers_at b at count)
+parts-start {b} {z} {at} {count} a = record { few = omega (arith, a.few, length-numbers_at b at count); known = all-known b z at count a.known; whole = omega arith }
 
-module _ {b z : List ℕ} {at count sum next left : ℕ} (h : PartsInv b z at count sum next left) where
-  pub parts-known : 0 < left → {k : ℕ} → k ≡ u16_at b next → k < length z
-  parts-known l {k} q =
-      let e : next + 2 * 0 ≡ next = omega arith in
-      subst (λ (i : ℕ). i < length z) (ap (u16_at b) e ∙ sym q) (h.known 0 l)
+pub parts-step : {z all : List ℕ} {sum : ℕ} {ks : List ℕ} {k : ℕ} {rest : List ℕ} → PartsInv z all sum ks → ks ≡ k ∷ rest → get_or z k 0 < wide
+    → PartsInv z all (sum + (1 + get_or z k 0)) rest × (k < length z)
+unfolding parts_total
+parts-step i q small = let h = rw q at i in (record { few = omega (arith, h.few); known = h.known.1; whole = omega (arith, h.whole) }, h.known.0)
 
-  pub parts-step : 0 < left → {k : ℕ} → k ≡ u16_at b next → get_or z k 0 < wide → PartsInv b z at count (sum + (1 + get_or z k 0)) (next + 2) (left - 1)
-  parts-step l {k} q small =
-      record {
-        within = omega (arith, h.within);
-        few = omega (arith, h.few);
-        known = λ j m.
-            let e : next + 2 * (j + 1) ≡ next + 2 + 2 * j = omega arith in
-            subst (λ (i : ℕ). u16_at b i < length z) e (h.known (j + 1) (omega arith));
-        all = omega (arith, h.all, total-more z b next left l, ap (λ (i : ℕ). get_or z i 0) q);
-      }
-
-  pub parts-end : left ≡ 0 → sum ≡ parts_total z (numbers_at b at count)
-  parts-end e = omega (arith, h.all, total-none z b next left e)
+pub parts-end : {z all : List ℕ} {sum : ℕ} {ks : List ℕ} → PartsInv z all sum ks → ks ≡ [] → sum ≡ parts_total z all
+unfolding parts_total
+parts-end i q = let h = rw q at i in omega (arith, h.whole)
 
 -- THE PARTS of a sort by the table are their texts' length.
 parts_none : (b p z : List ℕ) (x : ℕ) → TextsAre (texts (trees_at b p (numbers_at b x 0))) (sizes (trees_at b p (numbers_at b x 0))) (parts_total z (numbers_at b x 0))
@@ -85,15 +86,15 @@ parts_are b p z x (suc m) h =
 
 -- A sort whose entry was read, with the sizes of the sorts before it.
 module _ {b p : List ℕ} {k : ℕ} {z : List ℕ} (a : SortSizeAsks b p k z) {r : SortRecord} (e : EntryIs b p (suc k) k r) where
-  pub parts-asks : PartsAsk b z r.list r.count
+  pub parts-asks : PartsAsk b z r.parts.at r.parts.count
   parts-asks =
       record { within = e.place.list; few = e.few; known = λ j l. omega (arith, e.below j l, a.table.room) }
 
-  pub parts-texts : {t : ℕ} → t ≡ parts_total z (numbers_at b r.list r.count)
-      → TextsAre (texts (trees_at b p (numbers_at b r.list r.count))) (sizes (trees_at b p (numbers_at b r.list r.count))) t
+  pub parts-texts : {t : ℕ} → t ≡ parts_total z (numbers_at b r.parts.at r.parts.count)
+      → TextsAre (texts (trees_at b p (numbers_at b r.parts.at r.parts.count))) (sizes (trees_at b p (numbers_at b r.parts.at r.parts.count))) t
   parts-texts q =
-      subst (TextsAre (texts (trees_at b p (numbers_at b r.list r.count))) (sizes (trees_at b p (numbers_at b r.list r.count)))) (sym q)
-      (parts_are b p z r.list r.count (λ j l. a.table.each (u16_at b (r.list + 2 * j)) (e.below j l)))
+      subst (TextsAre (texts (trees_at b p (numbers_at b r.parts.at r.parts.count))) (sizes (trees_at b p (numbers_at b r.parts.at r.parts.count)))) (sym q)
+      (parts_are b p z r.parts.at r.parts.count (λ j l. a.table.each (u16_at b (r.parts.at + 2 * j)) (e.below j l)))
 
 -- THE LOOP OVER THE SORTS: the table grows by one.
 pub size-asks : {b p : List ℕ} {n : ℕ} {z : List ℕ} → SizesAsk b p n z → {k : ℕ} {z' : List ℕ} → k < n → Measured b p k z' → SortSizeAsks b p k z'

@@ -16,10 +16,9 @@ use Rattle.printout_sort.specs.Trees.{tree_at, TextAsks}
 use Rattle.printout_sort.specs.TreeLaws.{texts-none, first-asks}
 use Rattle.printout_sort.specs.Wrote.{Wrote, wrote-more, wrote-long}
 use Rattle.page_window.specs.Window.{SizesAre}
-use Rattle.page_window.specs.Frames.{place_of, left_of, form_in, next_part, piece_room, parts_in, FrameAsks, OpenIs}
+use Rattle.page_window.specs.Frames.{place_of, left_of, form_in, next_part, piece_room, parts_in, FrameAsks, OpenIs, Opened}
 use Rattle.page_window.specs.FrameLaws.{next-form, next-texts, next-sizes, next-asks, open-frame}
 use Rattle.page_window.specs.Walk.{rest, weight, Valid, Near, Settled, EnterAsks, EnterIs, StepAsks, StepIs}
-use Rattle.page_window.specs.declared.frames.Opened.{Opened}
 use Rattle.page_window.specs.declared.walk.Walk.{Walk}
 
 -- A frame that is set above the first d changes nothing of them.

@@ -4,8 +4,9 @@ use Rattle.record.specs.Sort.{size, sizes}
 use Rattle.printout_sort.specs.Text.{ascii, text, texts}
 use Rattle.printout_sort.specs.Pieces.{close_text}
 use Rattle.printout_sort.specs.Trees.{tree_at, TextAsks}
+use Rattle.printout_sort.specs.Wrote.{Wrote}
 use Rattle.page_window.specs.Window.{SizesAre}
-use Rattle.page_window.specs.Frames.{form_in, piece_room, parts_in, FrameAsks}
+use Rattle.page_window.specs.Frames.{form_in, piece_room, parts_in, FrameAsks, Opened, OpenIs}
 use Rattle.page_window.specs.declared.walk.Walk.{Walk}
 
 -- WHAT IS STILL TO PRINT by the first d frames of a stack: the top frame's parts and its bracket, then what the frames below it say.
@@ -77,3 +78,16 @@ pub record StepIs (b p z st o : List ℕ) (w : Walk) (st' o' : List ℕ) (r : Wa
   pub same : left_by b p st o w ≡ left_by b p st' o' r
   pub fits : r.end ≤ length o'
   pub near : Near r
+
+-- THE WALK THROUGH THE SORT k BEFORE ANY STEP: the sort was opened at the start of the buffer, its frame is the only one on the stack.
+pub record StartIs (b p : List ℕ) (k skip : ℕ) (st o st' o' : List ℕ) (r : Walk) : Type 0 where
+  pub opened : Opened
+  pub is : OpenIs b p k o 0 o' opened
+  pub stack : st' ≡ set st 0 opened.frame
+  pub settled : Settled 1 skip opened.end r
+
+-- THE BRACKET of the form f was written, and the top frame is done.
+pub record CloseIs (f : ℕ) (w : Walk) (o o' : List ℕ) (r : Walk) : Type 0 where
+  pub end : ℕ
+  pub wrote : Wrote o w.end (close_text f) o' end
+  pub settled : Settled (w.depth - 1) w.lead end r

@@ -9,11 +9,10 @@ use Rattle.printout_sort.specs.PieceLaws.{after}
 use Rattle.printout_sort.specs.Trees.{tree_at}
 use Rattle.printout_sort.specs.Wrote.{wrote-long}
 use Rattle.page_window.specs.Window.{window_slack, WindowAsks, WindowIs}
-use Rattle.page_window.specs.Frames.{form_in, piece_room, parts_in, OpenAsks, OpenIs}
+use Rattle.page_window.specs.Frames.{form_in, piece_room, parts_in, OpenAsks, OpenIs, Opened}
 use Rattle.page_window.specs.FrameLaws.{sizes-first, open-frame}
-use Rattle.page_window.specs.Walk.{rest, weight, Valid, left_by, Near, Settled, Going, StepAsks, StepIs}
+use Rattle.page_window.specs.Walk.{rest, weight, Valid, left_by, Near, Settled, Going, StepAsks, StepIs, StartIs}
 use Rattle.page_window.specs.StepLaws.{rest-top, weight-top, valid-top, weight-deep, wrote-take, wrote-within, settled_same, settled-near, settled-fits}
-use Rattle.page_window.specs.declared.frames.Opened.{Opened}
 use Rattle.page_window.specs.declared.walk.Walk.{Walk}
 
 -- The last test of `going`.
@@ -77,6 +76,10 @@ module _ {b p z : List ℕ} {k want : ℕ} {st o : List ℕ} (a : WindowAsks b p
         fits = settled-fits s (wrote-within i.wrote);
         near = settled-near s (λ l. omega (arith, i.wrote.next, i.most));
       }
+
+  pub start_was : {st' o₁ : List ℕ} (skip : ℕ) {w : Walk} → StartIs b p k skip st o st' o₁ w → Walking b p z (text (tree_at b p k)) skip want st' o₁ w
+  start_was {st'} {o₁} skip {w} s =
+      subst (λ (x : List ℕ). Walking b p z (text (tree_at b p k)) skip want x o₁ w) (sym s.stack) (start_is skip s.is s.settled)
 
 -- Its steps, and its end.
 module _ {b p z t : List ℕ} {skip want : ℕ} {st o : List ℕ} {w : Walk} (h : Walking b p z t skip want st o w) where

@@ -1,31 +1,46 @@
 // Frames of the stack: what is still to print of a sort whose word was written, in one number.
+#![tactic(auto, unfolding(crate::specs::Frames::frame_of, crate::specs::Frames::place_of, crate::specs::Frames::left_of, crate::specs::Frames::form_in))]
+
 ghost use Rattle.std.specs.Prelude.{◌≡◌, ◌≤◌, ◌<◌};
+ghost use Rattle.printout_sort.specs.Buffer.{Same};
+ghost use Rattle.printout_sort.specs.Forms.{form_number};
+ghost use Rattle.store.specs.Entry.{EntryHas};
 ghost use Rattle.page_window.specs.Frames.{frame_of, place_of, left_of, form_in, OpenAsks, OpenIs};
 
-use printout_sort::text::{form_of, put_inner, put_word};
-use store::entries::entry;
+use printout_sort::buffer::TextBuffer;
+use printout_sort::form::{Form, form_of};
+use printout_sort::text::put_inner;
+use record::SortRecord;
+use record::kinds::SortKind;
+use store::entries::Entries;
 
 // A frame is a place, a count and a form, in these units.
 const PLACE_UNIT: usize = 4096;
 
 const LEFT_UNIT: usize = 32;
 
+// The number of the form behind those of the kinds.
+const BARE_ATOM: usize = 16;
+
 // One more than the counts that a frame has room for.
 const LEFTS: usize = 128;
 
-// The frame of a sort that was opened, and the place behind what was written.
-#[derive(Drop)]
-pub struct Opened {
-    pub frame: u32,
-    pub end: usize,
+// The number of a form.
+fn number_of(form: Form) -> usize
+    ensures { result ≡ form_number form }
+{
+    match form {
+        Form::Of(kind) => kind as usize,
+        Form::BareAtom => BARE_ATOM,
+    }
 }
 
 // The frame of a sort of the form `form` with `left` parts to print, whose numbers stand from `place` on.
-fn frame_of(place: usize, left: usize, form: usize) -> u32
-    requires { (place ≤ 65536) × (left ≤ 64) × (form < 17) }
-    ensures { result ≡ frame_of place left form }
+fn frame_of(place: usize, left: usize, form: Form) -> u32
+    requires { (place ≤ 65536) × (left ≤ 64) }
+    ensures { result ≡ frame_of place left (form_number form) }
 {
-    (place * PLACE_UNIT + left * LEFT_UNIT + form) as u32
+    (place * PLACE_UNIT + left * LEFT_UNIT + number_of(form)) as u32
 }
 
 // Where the numbers of the parts to print stand.
@@ -43,23 +58,41 @@ pub fn left_of(frame: u32) -> usize
 }
 
 // The form whose bracket closes the sort.
-pub fn form_in(frame: u32) -> usize
-    ensures { result ≡ form_in frame }
+pub fn form_in(frame: u32) -> Form
+    requires { form_in frame < 17 }
+    ensures { form_number result ≡ form_in frame }
 {
-    frame as usize % LEFT_UNIT
+    match SortKind::try_from(frame as usize % LEFT_UNIT) {
+        Ok(kind) => Form::Of(kind),
+        Err(_) => Form::BareAtom,
+    }
 }
 
-// Writes what the text of the sort `k` has before its parts at `to`.
-pub fn open_sort(records: &[u8], places: &[u32], k: usize, out: &mut [u8], to: usize) -> Opened
-    requires { OpenAsks records.now places.now k out.old to }
-    ensures { OpenIs records.now places.now k out.old to out.new result }
+// The same of the sort whose entry is `a`. Only the contract reads the places and `k`.
+fn open_entry(
+    records: &[u8],
+    places: &[u32],
+    k: usize,
+    a: SortRecord,
+    out: &mut TextBuffer<'_>,
+) -> u32
+    requires asks { OpenAsks records.now places.now k out.old.bytes.now out.old.end }
+    requires entry { EntryHas records.now places.now k a }
+    ensures same { Same out.old out.new }
+    ensures open { OpenIs records.now places.now k out.old.bytes.now out.old.end out.new.bytes.now (record { frame = result; end = out.new.end }) }
 {
-    let a = entry(records, places, k);
-    let form = form_of(a.kind, a.count);
-    let first = put_word(form, out, to);
-    let end = put_inner(records, form, a, out, first);
-    Opened {
-        frame: frame_of(a.list, a.count, form),
-        end: end,
-    }
+    let form = form_of(a.kind, a.parts.count);
+    out.put(form.word());
+    put_inner(records, form, a, out);
+    frame_of(a.parts.at, a.parts.count, form)
+}
+
+// Writes what the text of the sort `k` has before its parts; its frame.
+pub fn open_sort(entries: Entries<'_>, k: usize, out: &mut TextBuffer<'_>) -> u32
+    requires { OpenAsks entries.records.now entries.places.now k out.old.bytes.now out.old.end }
+    ensures same { Same out.old out.new }
+    ensures open { OpenIs entries.entry.records.now entries.entry.places.now k out.old.bytes.now out.old.end out.new.bytes.now (record { frame = result; end = out.new.end }) }
+{
+    let a = entries.entry(k);
+    open_entry(entries.records, entries.places, k, a, out)
 }

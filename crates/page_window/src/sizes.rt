@@ -6,36 +6,30 @@ ghost use Rattle.printout_sort.specs.Text.{text};
 ghost use Rattle.printout_sort.specs.Trees.{tree_at, TextSizeIs};
 ghost use Rattle.page_window.specs.Sizes.{parts_total, PartsAsk, SortSizeAsks};
 
-use printout_sort::text::{form_of, frame_size, inner_size};
-use record::u16_at;
-use store::entries::entry;
+use printout_sort::form::form_of;
+use printout_sort::text::inner_size;
+use record::span::Span;
+use store::entries::Entries;
 
-// The length of the text of the `count` sorts whose numbers stand from `at` on, each behind a blank: the sum of one and the table's value.
-fn parts_size(records: &[u8], sizes: &[u32], at: usize, count: usize) -> usize
-    requires { PartsAsk records.now sizes.now at count }
-    ensures { result ≡ parts_total sizes.now (numbers_at records.now at count) }
+// The length of the text of the sorts of a list, each behind a blank: the sum of one and the table's value.
+fn parts_size(records: &[u8], sizes: &[u32], parts: Span) -> usize
+    requires { PartsAsk records.now sizes.now parts.at parts.count }
+    ensures { result ≡ parts_total sizes.now (numbers_at records.now parts.at parts.count) }
 {
     let mut sum = 0;
-    let mut next = at;
-    let mut left = count;
-    while 0 < left {
-        let k = u16_at(records, next);
+    for k in parts.numbers(records) {
         sum += 1 + sizes[k] as usize;
-        next += 2;
-        left -= 1;
     }
     sum
 }
 
 // The length of the text of the sort `k`, where the table has those of the sorts before it.
-pub fn sort_size(records: &[u8], places: &[u32], k: usize, sizes: &[u32]) -> usize
-    requires { SortSizeAsks records.now places.now k sizes.now }
-    ensures { TextSizeIs (text (tree_at records.now places.now k)) (size (tree_at records.now places.now k)) result }
+pub fn sort_size(entries: Entries<'_>, k: usize, sizes: &[u32]) -> usize
+    requires { SortSizeAsks entries.records.now entries.places.now k sizes.now }
+    ensures { TextSizeIs (text (tree_at entries.entry.records.now entries.entry.places.now k)) (size (tree_at entries.entry.records.now entries.entry.places.now k)) result }
 {
-    let a = entry(records, places, k);
-    let form = form_of(a.kind, a.count);
-    let frame = frame_size(form);
-    let inner = inner_size(records, form, a);
-    let parts = parts_size(records, sizes, a.list, a.count);
-    frame + inner + parts
+    let a = entries.entry(k);
+    let form = form_of(a.kind, a.parts.count);
+    let inner = inner_size(entries.records, form, a);
+    form.frame_size() + inner + parts_size(entries.records, sizes, a.parts)
 }

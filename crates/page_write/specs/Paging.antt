@@ -9,3 +9,8 @@ pub record PiecesAsk (s b p z rows : List ℕ) (t : ℕ) (stack one two o : List
   pub page : PageAsks b p z rows t stack one two
   pub store : PageStore s b p rows t
   pub room : 81 ≤ length o
+
+-- The buffers are what `judge` left of the accepted sheet s of t terms, with what showing its pages asks for.
+pub record PageLinesAsk (s b p z rows : List ℕ) (t : ℕ) (stack one two : List ℕ) : Type 0 where
+  pub page : PageAsks b p z rows t stack one two
+  pub store : PageStore s b p rows t

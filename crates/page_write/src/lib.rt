@@ -1,103 +1,123 @@
 // The pages of a judged sheet printed to an output: their lines are gathered in a buffer of its own, and written piece by piece.
 #![tactic(auto)]
 
+ghost use Rattle.std.specs.Prelude.{◌≤◌, length};
 ghost use Rattle.judge_rules.specs.Judged.{judged};
-ghost use Rattle.verdicts.specs.declared.Outcome.TheVariants.{Accepted};
+ghost use Rattle.verdicts.specs.Judge.{Accepted};
 ghost use Rattle.printout.specs.Printed.{program_lengths};
 ghost use Rattle.page_text.specs.PageText.{PagesAsk};
-ghost use Rattle.written.specs.Written.{PagedIs};
-ghost use Rattle.page_write.specs.Paging.{PiecesAsk};
+ghost use Rattle.written.specs.Written.{on_pages, PagedIs};
+ghost use Rattle.page_write.specs.Paging.{PiecesAsk, PageLinesAsk};
 
+use page_lines::line::LINE;
+use page_lines::paged::{PagedRows, Windows};
 use page_lines::pages::show_pages;
 use page_lines::rows::WINDOW_ROOM;
 use page_text::page_sizes;
+use printout::whole::Piece;
+use printout_text::judged::JudgedSheet;
+use reader::Refusal;
+use record::limits::MOST_SORTS;
 use std::io::Write;
-use verdicts::Outcome;
-use written::{Written, nothing_written, print_refusal, write_page_lines};
-
-// The most sorts of a store, and how deep a walk over one of them goes.
-const SORTS: usize = 4096;
+use written::{Lines, Printer, Written, print_refusal, write_lines};
 
 // The bytes of 2,048 lines.
-const OUT_ROOM: usize = 165888;
+const OUT_ROOM: usize = 2048 * LINE;
 
-// Writes the pages of an accepted sheet that has so many terms, judged into these buffers, with the table of the sizes of its sorts'
-// texts, by way of a buffer that holds a line at least. All lines are written; or a write failed, nothing was handed over after it,
-// and the lines before it are written.
-fn print_pieces<W: Write>(
-    output: &mut W,
-    sheet: &[u8],
-    records: &[u8],
-    places: &[u32],
-    sizes: &[u32],
-    rows: &[u32],
-    terms: usize,
-    stack: &mut [u32],
-    one: &mut [u8],
-    two: &mut [u8],
-    out: &mut [u8],
-) -> Written
-    requires { PiecesAsk sheet.now records.now places.now sizes.now rows.now terms stack.old one.old two.old out.old }
-    ensures { PagedIs (judged sheet.now program_lengths) result }
-{
-    let mut done = nothing_written();
-    let mut k = 0;
-    loop {
-        let piece = show_pages(records, places, sizes, rows, terms, k, stack, one, two, out);
-        let end = piece.end;
-        let next = piece.next;
-        if end == 0 {
-            return done;
-        }
-        done = write_page_lines(output, done, sheet, next, &out[..end]);
-        if done.has_failed() {
-            return done;
-        }
-        k = next;
+// The lines of an accepted sheet's pages from the number `next` on. Only the contracts read the sheet's bytes.
+#[derive(Drop)]
+struct PageLines<'a, 'w> {
+    bytes: &'a [u8],
+    page: PagedRows<'a>,
+    windows: Windows<'w>,
+    next: usize,
+}
+
+impl Lines for PageLines<'_, '_> {
+    ghost layout = { on_pages };
+
+    ghost sheet = { λ l. l.bytes.now };
+
+    ghost next = { λ l. l.next };
+
+    ghost can_show = { λ l. PageLinesAsk l.bytes.now l.page.entries.records.now l.page.entries.places.now l.page.sizes.now l.page.rows.now l.page.terms l.windows.stack.now l.windows.one.now l.windows.two.now };
+
+    fn show(&mut self, out: &mut [u8]) -> Piece {
+        let piece = show_pages(&self.page, self.next, &mut self.windows, out);
+        self.next = piece.next;
+        piece
     }
 }
 
-// Writes the pages of an accepted sheet, judged into these buffers, by way of buffers of its own. All lines are written; or a write
-// failed, nothing was handed over after it, and the lines before it are written.
-fn print_accepted<W: Write>(
+// Writes the pages of an accepted sheet by way of a buffer that holds a line at least. All lines are written; or a write failed, nothing
+// was handed over after it, and the lines before it are written. Only the contracts read the sheet's bytes.
+fn print_pieces<'a, 'w, W: Write>(
     output: &mut W,
-    sheet: &[u8],
-    records: &[u8],
-    places: &[u32],
-    rows: &[u32],
-    answers: &[u32],
+    bytes: &'a [u8],
+    page: PagedRows<'a>,
+    stack: &'w mut [u32],
+    one: &'w mut [u8],
+    two: &'w mut [u8],
+    out: &mut [u8],
 ) -> Written
-    requires { PagesAsk sheet.now records.now places.now rows.now answers.now Accepted }
-    ensures { PagedIs (judged sheet.now program_lengths) result }
+    requires { PiecesAsk bytes.now page.entries.records.now page.entries.places.now page.sizes.now page.rows.now page.terms stack.old one.old two.old out.old }
+    ensures { PagedIs (judged bytes.now program_lengths) result }
 {
-    let mut sizes = [0u32; SORTS];
-    let mut stack = [0u32; SORTS];
+    let windows = Windows { stack, one, two };
+    let mut lines = PageLines {
+        bytes,
+        page,
+        windows,
+        next: 0,
+    };
+    write_lines(output, &mut lines, out)
+}
+
+// Writes the pages of an accepted sheet by way of buffers of its own. All lines are written; or a write failed, nothing was handed over
+// after it, and the lines before it are written.
+fn print_accepted<W: Write>(output: &mut W, sheet: &JudgedSheet<'_>) -> Written
+    requires { PagesAsk sheet.now.bytes.now sheet.now.entries.records.now sheet.now.entries.places.now sheet.now.rows.now sheet.now.answers.now Accepted }
+    ensures { PagedIs (judged sheet.now.bytes.now program_lengths) result }
+{
+    let mut sizes = [0u32; MOST_SORTS];
+    let mut stack = [0u32; MOST_SORTS];
     let mut one = [0u8; WINDOW_ROOM];
     let mut two = [0u8; WINDOW_ROOM];
     let mut out = [0u8; OUT_ROOM];
-    let terms = page_sizes(sheet, records, places, rows, answers, &mut sizes);
+    let terms = page_sizes(sheet, &mut sizes);
+    let page = PagedRows::new(sheet.entries, &sizes, sheet.rows, terms);
     print_pieces(
-        output, sheet, records, places, &sizes, rows, terms, &mut stack, &mut one, &mut two,
+        output,
+        sheet.bytes,
+        page,
+        &mut stack,
+        &mut one,
+        &mut two,
         &mut out,
     )
 }
 
-// Writes the pages of a sheet that was judged with this outcome into these buffers. All their lines are written, the one of a refused
-// sheet too; or a write failed, nothing was handed over after it, and the lines before it are written.
-pub fn print_pages<W: Write>(
-    output: &mut W,
-    sheet: &[u8],
-    records: &[u8],
-    places: &[u32],
-    rows: &[u32],
-    answers: &[u32],
-    outcome: Outcome,
-) -> Written
-    requires { PagesAsk sheet.now records.now places.now rows.now answers.now outcome }
-    ensures { PagedIs (judged sheet.now program_lengths) result }
-{
-    match outcome {
-        Outcome::Accepted => print_accepted(output, sheet, records, places, rows, answers),
-        Outcome::Refused(e) => print_refusal(output, e),
+// The printer of pages.
+#[derive(Clone, Copy, Debug, PartialEq, Eq)]
+pub struct Pages;
+
+impl Printer for Pages {
+    ghost layout = { on_pages };
+
+    // Writes the pages of a sheet that was judged with this outcome. All their lines are written, the one of a refused sheet too; or a
+    // write failed, nothing was handed over after it, and the lines before it are written.
+    fn print_judged<W: Write>(
+        &self,
+        output: &mut W,
+        sheet: &JudgedSheet<'_>,
+        outcome: Result<(), Refusal>,
+    ) -> Written
+        requires { PagesAsk sheet.now.bytes.now sheet.now.entries.records.now sheet.now.entries.places.now sheet.now.rows.now sheet.now.answers.now outcome }
+        ensures { PagedIs (judged sheet.now.bytes.now program_lengths) result }
+    {
+        match outcome {
+            Ok(()) => print_accepted(output, sheet),
+            Err(e) => print_refusal(output, e),
+        }
     }
 }

@@ -1,12 +1,21 @@
 -- What writing rows, answers and lines asks and gives.
-use Rattle.std.specs.Prelude.{ℕ, suc, ◌+◌, ◌≤◌, ◌<◌, ◌≡◌, List, ◌∷◌, ◌++◌, length}
+use Rattle.std.specs.Prelude.{ℕ, suc, ◌+◌, ◌≤◌, ◌<◌, ◌≡◌, List, ◌∷◌, ◌++◌, length, Result, Ok, Err}
 use Rattle.record.specs.Decode.{store_of}
 use Rattle.printout_sort.specs.Text.{ascii, decimal}
 use Rattle.printout_sort.specs.Wrote.{Wrote}
 use Rattle.printout_sort.specs.Trees.{TextAsks}
-use Rattle.printout.specs.declared.Shown.{Shown}
-use Rattle.printout.specs.declared.Shown.TheVariants.{To, Full}
+use Rattle.printout.specs.declared.NoRoom.{NoRoom}
 use Rattle.printout.specs.Lines.{row_text, answer_text, term_line, question_line}
+
+-- What showing a text came to: it stands up to a place, or it did not fit.
+pub data Shown : Type 0 where
+  To : ℕ → Shown
+  Full : Shown
+
+-- That of a call that left the end of the text at e.
+abbrev pub shown : ℕ → Result (Unit {0}) NoRoom → Shown
+shown e (Ok _) = To e
+shown e (Err _) = Full
 
 -- WHAT SHOWING A TEXT GIVES: it was written; or it does not fit, and the buffer is as it was.
 abbrev pub ShownIs : List ℕ → ℕ → List ℕ → List ℕ → Shown → Type 0

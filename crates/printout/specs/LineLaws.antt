@@ -9,8 +9,7 @@ use Rattle.printout_sort.specs.Wrote.{Wrote, wrote_as, total, TextRoom}
 use Rattle.printout_sort.specs.Trees.{tree_at}
 use Rattle.printout_sort.specs.TreeLaws.{tree-at}
 use Rattle.printout.specs.Lines.{refusal_text, refusal_line, row_text, answer_text, term_line, question_line}
-use Rattle.printout.specs.LineAsks.{row_text_at, answer_text_at, RowKnown, TermLineAsks, TermHas, QuestionLineAsks, QuestionHas, label_text, term_line_at, question_line_at}
-use Rattle.printout.specs.declared.Shown.TheVariants.{To, Full}
+use Rattle.printout.specs.LineAsks.{To, Full, row_text_at, answer_text_at, RowKnown, TermLineAsks, TermHas, QuestionLineAsks, QuestionHas, label_text, term_line_at, question_line_at}
 
 pub refusal-length : (n : ℕ) → length (refusal_text n) ≡ 1 + length (decimal n)
 unfolding refusal_text

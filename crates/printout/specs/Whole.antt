@@ -4,10 +4,9 @@ use Rattle.std.specs.Prelude.{ℕ, zero, suc, ◌+◌, ◌*◌, ◌-◌, ◌≤�
 use Rattle.record.specs.Sort.{Sort, size}
 use Rattle.record.specs.Decode.{store_of, sort_at, Stored}
 use Rattle.printout_sort.specs.Wrote.{Wrote}
-use Rattle.printout.specs.declared.Shown.{Shown}
 use Rattle.printout.specs.declared.whole.Piece.{Piece}
 use Rattle.printout.specs.Lines.{term_line, question_line}
-use Rattle.printout.specs.LineAsks.{ShownIs, RowKnown}
+use Rattle.printout.specs.LineAsks.{Shown, ShownIs, RowKnown}
 
 -- The line with the number k of a sheet of t terms: its terms' lines, then its questions'.
 unfoldable pub line_at : List Sort → List ℕ → List ℕ → List ℕ → ℕ → ℕ → List ℕ

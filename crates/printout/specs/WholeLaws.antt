@@ -7,10 +7,8 @@ use Rattle.record.specs.Decode.{store_of}
 use Rattle.record.specs.Sort.{Sort}
 use Rattle.printout_sort.specs.Wrote.{Wrote, wrote_none, wrote_as, wrote-more, wrote-long}
 use Rattle.printout_sort.specs.TreeLaws.{text-asks}
-use Rattle.printout.specs.declared.Shown.{Shown}
-use Rattle.printout.specs.declared.Shown.TheVariants.{To, Full}
 use Rattle.printout.specs.Lines.{term_line, question_line, term_lines, question_lines, lines_of}
-use Rattle.printout.specs.LineAsks.{ShownIs, RowAsks, RowKnown, TermLineAsks, QuestionLineAsks, TermHas, QuestionHas}
+use Rattle.printout.specs.LineAsks.{Shown, To, Full, ShownIs, RowAsks, RowKnown, TermLineAsks, QuestionLineAsks, TermHas, QuestionHas}
 use Rattle.printout.specs.Whole.{line_at, lines_from, Judged, LineAsks, LineHas, PieceAsks, PieceHas}
 
 ---------------------------------------------------------------- one line

@@ -2,10 +2,14 @@
 ghost use Rattle.std.specs.Prelude.{◌≤◌, length};
 ghost use Rattle.printout.specs.Kinds.{PutKindsAsk, KindsPut, KindsAre};
 
-use sheet::{SheetRead, read_sheet};
+use record::limits::{
+    LONGEST_RECORD, LONGEST_SHEET, MOST_QUESTIONS, MOST_SORT_RECORDS, MOST_SORTS, MOST_TERMS,
+};
+use sheet::read_sheet;
+use store::slots::INDEX_LENGTH;
 
 // How many terms and questions a sheet has.
-#[derive(Drop)]
+#[derive(Clone, Copy, Debug, PartialEq, Eq)]
 pub struct Totals {
     pub terms: usize,
     pub questions: usize,
@@ -16,33 +20,31 @@ fn put_kinds(sheet: &[u8], asked: &[u16], many: usize, kinds: &mut [u8])
     requires { PutKindsAsk sheet.now asked.now many kinds.old }
     ensures { KindsPut sheet.now asked.now many kinds.old kinds.new }
 {
-    let mut q = 0;
-    while q < many {
-        let at = asked[q] as usize;
-        kinds[q] = sheet[at + 1];
-        q += 1;
+    for q in 0..many {
+        kinds[q] = sheet[asked[q] as usize + 1];
     }
 }
 
 // Writes the kinds of the questions of a sheet into `kinds`, which has room for 1,024; how many terms and questions it has, none
 // where it is refused. The sheet is read once more, into buffers of the program's lengths.
+#[inline(never)]
 pub fn question_kinds(sheet: &[u8], kinds: &mut [u8]) -> Totals
     requires { 1024 ≤ length kinds.old }
     ensures { KindsAre sheet.now kinds.old kinds.new result }
 {
-    let mut records = [0u8; 65536];
-    let mut places = [0u32; 4096];
-    let mut index = [0u16; 13312];
-    let mut table = [0u16; 2048];
-    let mut starts = [0u16; 4096];
-    let mut asked = [0u16; 1024];
-    let mut scratch = [0u8; 266];
+    let mut records = [0u8; LONGEST_SHEET];
+    let mut places = [0u32; MOST_SORTS];
+    let mut index = [0u16; INDEX_LENGTH];
+    let mut table = [0u16; MOST_SORT_RECORDS];
+    let mut starts = [0u16; MOST_TERMS];
+    let mut asked = [0u16; MOST_QUESTIONS];
+    let mut scratch = [0u8; LONGEST_RECORD];
     let read = read_sheet(
         sheet,
         &mut records,
         &mut places,
-        8192,
-        1024,
+        2 * MOST_TERMS,
+        MOST_QUESTIONS,
         &mut index,
         &mut table,
         &mut starts,
@@ -50,14 +52,14 @@ pub fn question_kinds(sheet: &[u8], kinds: &mut [u8]) -> Totals
         &mut scratch,
     );
     match read {
-        SheetRead::Accepted(counts) => {
+        Ok(counts) => {
             put_kinds(sheet, &asked, counts.questions, kinds);
             Totals {
                 terms: counts.terms,
                 questions: counts.questions,
             }
         }
-        SheetRead::Refused(_) => Totals {
+        Err(_) => Totals {
             terms: 0,
             questions: 0,
         },

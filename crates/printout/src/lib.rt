@@ -6,9 +6,6 @@ pub mod kinds;
 pub mod lines;
 pub mod whole;
 
-// The place behind what was written; or it did not fit, and the buffer is as it was.
-#[derive(Drop)]
-pub enum Shown {
-    To(usize),
-    Full,
-}
+// A line does not fit the buffer.
+#[derive(Clone, Copy, Debug, PartialEq, Eq)]
+pub struct NoRoom;

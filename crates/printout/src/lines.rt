@@ -1,151 +1,160 @@
 // The rows and answers as text, and the lines `Tk inferred checked`, `Qk answer` and `!n`.
-ghost use Rattle.std.specs.Prelude.{◌≡◌, ◌+◌, ◌≤◌, ◌<◌, length};
-ghost use Rattle.printout_sort.specs.Wrote.{Wrote};
+ghost use Rattle.std.specs.Prelude.{◌≡◌, ◌+◌, ◌/◌, ◌≤◌, ◌<◌, length, IfOk, IfErr, OnErr};
+ghost use Rattle.printout_sort.specs.Buffer.{HasRoom, Puts, Same};
 ghost use Rattle.printout_sort.specs.Trees.{sort_room};
 ghost use Rattle.printout.specs.Lines.{refusal_text, refusal_line};
-ghost use Rattle.printout.specs.LineAsks.{ShownIs, row_text_at, answer_text_at, RowAsks, AnswerAsks, TermHas, QuestionHas, TermLineAsks, QuestionLineAsks, label_text};
+ghost use Rattle.printout.specs.LineAsks.{ShownIs, shown, row_text_at, answer_text_at, RowAsks, AnswerAsks, TermHas, QuestionHas, TermLineAsks, QuestionLineAsks, label_text};
 
-use super::Shown;
-use printout_sort::pieces::{digits, put, put_decimal};
+use super::NoRoom;
+use printout_sort::buffer::{TextBuffer, digits};
 use printout_sort::text::{put_sort, text_size};
-use record::kinds::QUESTION_COMPATIBLE;
+use record::kinds::QuestionKind;
+use store::entries::Entries;
 
-// Writes `!` and the number of a refusal at `to`.
-pub fn put_refusal(out: &mut [u8], to: usize, number: usize) -> usize
-    requires { to + length (refusal_text number) ≤ length out.old }
-    ensures { Wrote out.old to (refusal_text number) out.new result }
+// A row is refused from this number on: it is the refusal's number times this one.
+const REFUSED: usize = 65536;
+
+// The number of the sort that a row names, or the number of its refusal.
+pub fn row_of(code: u32) -> Result<usize, usize>
+    ensures sort { IfOk result (λ k. (k ≡ code) × (code < 65536)) }
+    ensures refusal { IfErr result (λ n. (n ≡ code / 65536) × (65536 ≤ code)) }
 {
-    let next = put(out, to, b"!");
-    put_decimal(out, next, number)
+    let v = code as usize;
+    if v < REFUSED { Ok(v) } else { Err(v / REFUSED) }
+}
+
+// Writes `!` and the number of a refusal.
+pub fn put_refusal(number: usize, out: &mut TextBuffer<'_>)
+    requires { HasRoom out.old (refusal_text number) }
+    ensures same { Same out.old out.new }
+    ensures put { Puts out.old (refusal_text number) out.new }
+{
+    out.put_byte(b'!');
+    out.put_decimal(number);
 }
 
 // The length of the text of a row.
-fn row_size(records: &[u8], places: &[u32], code: u32) -> usize
-    requires { RowAsks records.now places.now code }
-    ensures { (result ≡ length (row_text_at records.now places.now code)) × (result ≤ sort_room) }
+fn row_size(entries: Entries<'_>, code: u32) -> usize
+    requires { RowAsks entries.records.now entries.places.now code }
+    ensures { (result ≡ length (row_text_at entries.entry.records.now entries.entry.places.now code)) × (result ≤ sort_room) }
 {
-    let v = code as usize;
-    if v < 65536 {
-        return text_size(records, places, v);
+    match row_of(code) {
+        Ok(k) => text_size(entries, k),
+        Err(number) => 1 + digits(number),
     }
-    1 + digits(v / 65536)
 }
 
-// Writes the text of a row at `to`: its sort, or `!` and the number of its refusal.
-fn put_row(records: &[u8], places: &[u32], code: u32, out: &mut [u8], to: usize) -> usize
-    requires { RowAsks records.now places.now code × (to + length (row_text_at records.now places.now code) ≤ length out.old) }
-    ensures { Wrote out.old to (row_text_at records.now places.now code) out.new result }
+// Writes the text of a row: its sort, or `!` and the number of its refusal.
+fn put_row(entries: Entries<'_>, code: u32, out: &mut TextBuffer<'_>)
+    requires asks { RowAsks entries.records.now entries.places.now code }
+    requires room { HasRoom out.old (row_text_at entries.records.now entries.places.now code) }
+    ensures same { Same out.old out.new }
+    ensures put { Puts out.old (row_text_at entries.entry.records.now entries.entry.places.now code) out.new }
 {
-    let v = code as usize;
-    if v < 65536 {
-        return put_sort(records, places, v, out, to);
+    match row_of(code) {
+        Ok(k) => put_sort(entries, k, out),
+        Err(number) => put_refusal(number, out),
     }
-    put_refusal(out, to, v / 65536)
 }
 
 // The length of the text of an answer to a question of this kind.
-fn answer_text_size(records: &[u8], places: &[u32], kind: usize, code: u32) -> usize
-    requires { AnswerAsks records.now places.now kind code }
-    ensures { (result ≡ length (answer_text_at records.now places.now kind code)) × (result ≤ sort_room) }
+fn answer_text_size(entries: Entries<'_>, kind: u8, code: u32) -> usize
+    requires { AnswerAsks entries.records.now entries.places.now kind code }
+    ensures { (result ≡ length (answer_text_at entries.entry.records.now entries.entry.places.now kind code)) × (result ≤ sort_room) }
 {
-    if kind != QUESTION_COMPATIBLE {
-        return row_size(records, places, code);
+    if kind != QuestionKind::Compatible as u8 {
+        return row_size(entries, code);
     }
-    if code == 0 {
-        return 2;
-    }
-    3
+    if code == 0 { 2 } else { 3 }
 }
 
-// Writes the text of an answer to a question of this kind at `to`: no or yes whether two sorts are compatible, else as a row.
-fn put_answer(
-    records: &[u8],
-    places: &[u32],
-    kind: usize,
-    code: u32,
-    out: &mut [u8],
-    to: usize,
-) -> usize
-    requires { AnswerAsks records.now places.now kind code × (to + length (answer_text_at records.now places.now kind code) ≤ length out.old) }
-    ensures { Wrote out.old to (answer_text_at records.now places.now kind code) out.new result }
+// Writes the text of an answer to a question of this kind: no or yes whether two sorts are compatible, else as a row.
+fn put_answer(entries: Entries<'_>, kind: u8, code: u32, out: &mut TextBuffer<'_>)
+    requires asks { AnswerAsks entries.records.now entries.places.now kind code }
+    requires room { HasRoom out.old (answer_text_at entries.records.now entries.places.now kind code) }
+    ensures same { Same out.old out.new }
+    ensures put { Puts out.old (answer_text_at entries.entry.records.now entries.entry.places.now kind code) out.new }
 {
-    if kind != QUESTION_COMPATIBLE {
-        return put_row(records, places, code, out, to);
+    if kind != QuestionKind::Compatible as u8 {
+        put_row(entries, code, out);
+    } else if code == 0 {
+        out.put(b"no");
+    } else {
+        out.put(b"yes");
     }
-    if code == 0 {
-        return put(out, to, b"no");
-    }
-    put(out, to, b"yes")
 }
 
-// Writes a mark, a number and a blank at `to`, as `T0 `.
-fn put_label(mark: u8, v: usize, out: &mut [u8], to: usize) -> usize
-    requires { to + length (label_text mark v) ≤ length out.old }
-    ensures { Wrote out.old to (label_text mark v) out.new result }
+// Writes a mark, a number and a blank, as `T0 `.
+fn put_label(mark: u8, v: usize, out: &mut TextBuffer<'_>)
+    requires { HasRoom out.old (label_text mark v) }
+    ensures same { Same out.old out.new }
+    ensures put { Puts out.old (label_text mark v) out.new }
 {
-    out[to] = mark;
-    let next = put_decimal(out, to + 1, v);
-    put(out, next, b" ")
+    out.put_byte(mark);
+    out.put_decimal(v);
+    out.put_byte(b' ');
 }
 
-// Writes the line of the term `t` with its two rows at `to`; or Full, where it does not fit.
+// Writes the line of the term `t` with its two rows; or NoRoom, where it does not fit, and the buffer is as it was.
 pub fn term_line(
-    records: &[u8],
-    places: &[u32],
+    entries: Entries<'_>,
     t: usize,
     inferred: u32,
     checked: u32,
-    out: &mut [u8],
-    to: usize,
-) -> Shown
-    requires { TermLineAsks records.now places.now t inferred checked out.old to }
-    ensures { TermHas records.now places.now t inferred checked out.old to out.new result }
+    out: &mut TextBuffer<'_>,
+) -> Result<(), NoRoom>
+    requires { TermLineAsks entries.records.now entries.places.now t inferred checked out.old.bytes.now out.old.end }
+    ensures same { Same out.old out.new }
+    ensures end { OnErr result (out.new.end ≡ out.old.end) }
+    ensures line { TermHas entries.entry.records.now entries.entry.places.now t inferred checked out.old.bytes.now out.old.end out.new.bytes.now (shown out.new.end result) }
 {
-    let one = row_size(records, places, inferred);
-    let two = row_size(records, places, checked);
-    if out.len() - to < 4 + digits(t) + one + two {
-        return Shown::Full;
+    let one = row_size(entries, inferred);
+    let two = row_size(entries, checked);
+    if out.bytes.len() - out.end < 4 + digits(t) + one + two {
+        return Err(NoRoom);
     }
-    let first = put_label(b'T', t, out, to);
-    let second = put_row(records, places, inferred, out, first);
-    let third = put(out, second, b" ");
-    let fourth = put_row(records, places, checked, out, third);
-    let end = put(out, fourth, b"\n");
-    Shown::To(end)
+    put_label(b'T', t, out);
+    put_row(entries, inferred, out);
+    out.put_byte(b' ');
+    put_row(entries, checked, out);
+    out.put_byte(b'\n');
+    Ok(())
 }
 
-// Writes the line of the question `q` of this kind with its answer at `to`; or Full, where it does not fit.
+// Writes the line of the question `q` of this kind with its answer; or NoRoom, where it does not fit, and the buffer is as it was.
 pub fn question_line(
-    records: &[u8],
-    places: &[u32],
+    entries: Entries<'_>,
     q: usize,
-    kind: usize,
+    kind: u8,
     code: u32,
-    out: &mut [u8],
-    to: usize,
-) -> Shown
-    requires { QuestionLineAsks records.now places.now q kind code out.old to }
-    ensures { QuestionHas records.now places.now q kind code out.old to out.new result }
+    out: &mut TextBuffer<'_>,
+) -> Result<(), NoRoom>
+    requires { QuestionLineAsks entries.records.now entries.places.now q kind code out.old.bytes.now out.old.end }
+    ensures same { Same out.old out.new }
+    ensures end { OnErr result (out.new.end ≡ out.old.end) }
+    ensures line { QuestionHas entries.entry.records.now entries.entry.places.now q kind code out.old.bytes.now out.old.end out.new.bytes.now (shown out.new.end result) }
 {
-    let size = answer_text_size(records, places, kind, code);
-    if out.len() - to < 3 + digits(q) + size {
-        return Shown::Full;
+    let size = answer_text_size(entries, kind, code);
+    if out.bytes.len() - out.end < 3 + digits(q) + size {
+        return Err(NoRoom);
     }
-    let first = put_label(b'Q', q, out, to);
-    let second = put_answer(records, places, kind, code, out, first);
-    let end = put(out, second, b"\n");
-    Shown::To(end)
+    put_label(b'Q', q, out);
+    put_answer(entries, kind, code, out);
+    out.put_byte(b'\n');
+    Ok(())
 }
 
-// Writes the line of a refused sheet at `to`; or Full, where it does not fit.
-pub fn refusal_line(number: usize, out: &mut [u8], to: usize) -> Shown
-    requires { (number < 100000) × (to ≤ length out.old) }
-    ensures { ShownIs out.old to (refusal_line number) out.new result }
+// Writes the line of a refused sheet; or NoRoom, where it does not fit, and the buffer is as it was.
+pub fn refusal_line(number: usize, out: &mut TextBuffer<'_>) -> Result<(), NoRoom>
+    requires { (number < 100000) × (out.old.end ≤ length out.old.bytes.now) }
+    ensures same { Same out.old out.new }
+    ensures end { OnErr result (out.new.end ≡ out.old.end) }
+    ensures line { ShownIs out.old.bytes.now out.old.end (refusal_line number) out.new.bytes.now (shown out.new.end result) }
 {
-    if out.len() - to < 2 + digits(number) {
-        return Shown::Full;
+    if out.bytes.len() - out.end < 2 + digits(number) {
+        return Err(NoRoom);
     }
-    let next = put_refusal(out, to, number);
-    let end = put(out, next, b"\n");
-    Shown::To(end)
+    put_refusal(number, out);
+    out.put_byte(b'\n');
+    Ok(())
 }

@@ -1,75 +1,76 @@
 // The printout of a whole judged sheet, in pieces of whole lines that fit a lent buffer.
+ghost use Rattle.std.specs.Prelude.{◌≡◌, OnErr};
+ghost use Rattle.printout_sort.specs.Buffer.{Same};
+ghost use Rattle.printout.specs.LineAsks.{shown};
 ghost use Rattle.printout.specs.Whole.{LineAsks, LineHas, PieceAsks, PieceHas};
 
-use super::Shown;
+use super::NoRoom;
+use super::kinds::Totals;
 use super::lines::{question_line, term_line};
+use printout_sort::buffer::TextBuffer;
+use store::entries::Entries;
+
+// What is printed of a judged sheet: its sorts, its terms' rows, its questions' kinds and answers, and how many terms and questions it has.
+#[derive(Clone, Copy)]
+pub struct Printable<'a> {
+    pub entries: Entries<'a>,
+    pub rows: &'a [u32],
+    pub kinds: &'a [u8],
+    pub answers: &'a [u32],
+    pub totals: Totals,
+}
 
 // How far the printout has come: the number of the next line, and the place behind what was written.
-#[derive(Drop)]
+#[derive(Clone, Copy, Debug, PartialEq, Eq)]
 pub struct Piece {
     pub next: usize,
     pub end: usize,
 }
 
-// Writes the line with the number k at `to`, the `terms` terms' lines first, then the questions'; or Full, where it does not fit.
-fn line(
-    records: &[u8],
-    places: &[u32],
-    rows: &[u32],
-    kinds: &[u8],
-    answers: &[u32],
-    terms: usize,
-    questions: usize,
-    k: usize,
-    out: &mut [u8],
-    to: usize,
-) -> Shown
-    requires { LineAsks records.now places.now rows.now kinds.now answers.now terms questions k out.old to }
-    ensures { LineHas records.now places.now rows.now kinds.now answers.now terms questions k out.old to out.new result }
+// Writes the line with the number k, the terms' lines first, then the questions'; or NoRoom, where it does not fit, and the buffer is as it
+// was.
+fn line(sheet: &Printable<'_>, k: usize, out: &mut TextBuffer<'_>) -> Result<(), NoRoom>
+    requires { LineAsks sheet.now.entries.records.now sheet.now.entries.places.now sheet.now.rows.now sheet.now.kinds.now sheet.now.answers.now sheet.now.totals.terms sheet.now.totals.questions k out.old.bytes.now out.old.end }
+    ensures same { Same out.old out.new }
+    ensures end { OnErr result (out.new.end ≡ out.old.end) }
+    ensures line { LineHas sheet.now.entries.records.now sheet.now.entries.places.now sheet.now.rows.now sheet.now.kinds.now sheet.now.answers.now sheet.now.totals.terms sheet.now.totals.questions k out.old.bytes.now out.old.end out.new.bytes.now (shown out.new.end result) }
 {
+    let terms = sheet.totals.terms;
     if k < terms {
-        let inferred = rows[2 * k];
-        let checked = rows[2 * k + 1];
-        return term_line(records, places, k, inferred, checked, out, to);
+        let inferred = sheet.rows[2 * k];
+        let checked = sheet.rows[2 * k + 1];
+        return term_line(sheet.entries, k, inferred, checked, out);
     }
     let q = k - terms;
-    let kind = kinds[q] as usize;
-    let code = answers[q];
-    question_line(records, places, q, kind, code, out, to)
+    question_line(sheet.entries, q, sheet.kinds[q], sheet.answers[q], out)
+}
+
+// Writes the lines from the number `from` on into an empty buffer, as many as fit; the number of the next line.
+fn put_lines(sheet: &Printable<'_>, from: usize, out: &mut TextBuffer<'_>) -> usize
+    requires empty { out.old.end ≡ 0 }
+    requires asks { PieceAsks sheet.now.entries.records.now sheet.now.entries.places.now sheet.now.rows.now sheet.now.kinds.now sheet.now.answers.now sheet.now.totals.terms sheet.now.totals.questions from }
+    ensures same { Same out.old out.new }
+    ensures lines { PieceHas sheet.now.entries.records.now sheet.now.entries.places.now sheet.now.rows.now sheet.now.kinds.now sheet.now.answers.now sheet.now.totals.terms sheet.now.totals.questions from out.old.bytes.now out.new.bytes.now (record { next = result; end = out.new.end }) }
+{
+    let total = sheet.totals.terms + sheet.totals.questions;
+    for k in from..total {
+        if let Err(NoRoom) = line(sheet, k, out) {
+            return k;
+        }
+    }
+    total
 }
 
 // Writes the lines from the number `from` on, as many as fit the buffer, from its start on; the number of the next line, and the
 // place behind what was written.
-pub fn show_lines(
-    records: &[u8],
-    places: &[u32],
-    rows: &[u32],
-    kinds: &[u8],
-    answers: &[u32],
-    terms: usize,
-    questions: usize,
-    from: usize,
-    out: &mut [u8],
-) -> Piece
-    requires { PieceAsks records.now places.now rows.now kinds.now answers.now terms questions from }
-    ensures { PieceHas records.now places.now rows.now kinds.now answers.now terms questions from out.old out.new result }
+pub fn show_lines(sheet: &Printable<'_>, from: usize, out: &mut [u8]) -> Piece
+    requires { PieceAsks sheet.now.entries.records.now sheet.now.entries.places.now sheet.now.rows.now sheet.now.kinds.now sheet.now.answers.now sheet.now.totals.terms sheet.now.totals.questions from }
+    ensures { PieceHas sheet.now.entries.records.now sheet.now.entries.places.now sheet.now.rows.now sheet.now.kinds.now sheet.now.answers.now sheet.now.totals.terms sheet.now.totals.questions from out.old out.new result }
 {
-    let total = terms + questions;
-    let mut k = from;
-    let mut to = 0;
-    while k < total {
-        let shown = line(
-            records, places, rows, kinds, answers, terms, questions, k, out, to,
-        );
-        match shown {
-            Shown::To(end) => {
-                to = end;
-                k += 1;
-            }
-            Shown::Full => {
-                return Piece { next: k, end: to };
-            }
-        }
+    let mut text = TextBuffer { bytes: out, end: 0 };
+    let next = put_lines(sheet, from, &mut text);
+    Piece {
+        next,
+        end: text.end,
     }
-    Piece { next: k, end: to }
 }

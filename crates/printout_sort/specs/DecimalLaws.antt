@@ -63,6 +63,10 @@ ahead-some F (suc q) h = refl
 pub decimal-one : (n : ℕ) → n < 10 → decimal n ≡ (48 + n % 10) ∷ []
 decimal-one n h = decimal-is n ∙ ap (λ (l : List ℕ). l ++ ((48 + n % 10) ∷ [])) (ahead_none decimal (n / 10) (omega arith))
 
+-- Its digit is the number itself.
+pub decimal-own : (n : ℕ) → n < 10 → decimal n ≡ (48 + n) ∷ []
+decimal-own n h = let e : n % 10 ≡ n = omega arith in decimal-one n h ∙ ap (λ (d : ℕ). (48 + d) ∷ []) e
+
 pub decimal-more : (n : ℕ) → 10 ≤ n → decimal n ≡ decimal (n / 10) ++ ((48 + n % 10) ∷ [])
 decimal-more n h = decimal-is n ∙ ap (λ (l : List ℕ). l ++ ((48 + n % 10) ∷ [])) (ahead-some decimal (n / 10) (omega arith))
 

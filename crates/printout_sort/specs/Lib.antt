@@ -1,3 +1,5 @@
+pub mod Buffer
+pub mod Forms
 pub mod Text
 pub mod DecimalLaws
 pub mod Pieces

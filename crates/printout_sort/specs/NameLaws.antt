@@ -1,9 +1,14 @@
 -- Names: the laws of the loops that count and write them, and how long they are at most.
-use Rattle.std.specs.Prelude.{ℕ, zero, suc, ◌+◌, ◌*◌, ◌-◌, ◌≤◌, ◌<◌, ◌≡◌, refl, List, [], ◌∷◌, ◌++◌, length}
+use Rattle.std.specs.Prelude.{ℕ, zero, suc, ◌+◌, ◌*◌, ◌-◌, ◌≤◌, ◌<◌, ◌≡◌, refl, List, [], ◌∷◌, ◌++◌, length, get_or}
 use Rattle.std.proofs.Common.{ap, ◌∙◌, append_assoc, arith, length-append}
 use Rattle.record.specs.Number.{u16_at, numbers_at}
 use Rattle.printout_sort.specs.Text.{ascii, decimal, name_text, more_names, names_text}
-use Rattle.printout_sort.specs.Wrote.{TextLeft, Wrote, wrote_as, total, TextRoom}
+use Rattle.printout_sort.specs.Wrote.{TextLeft, Wrote, wrote_as, total, TextRoom, left-done}
+
+-- Numbers under 65,536.
+abbrev pub AllSmall : List ℕ → Type 0
+AllSmall [] = Unit {0}
+AllSmall (v ∷ vs) = (v < 65536) × AllSmall vs
 
 pub name-none : (a : ℕ) → a ≡ 0 → name_text a ≡ ascii "?"
 unfolding name_text
@@ -67,47 +72,48 @@ names-bracket b x m h =
       length-append (ascii " " ++ n) r,
     )
 
--- Counting: what is counted and what is left make the whole, of at most 7 bytes a name.
-pub record NamesSizeInv (b : List ℕ) (at m sum next left : ℕ) : Type 0 where
-  pub within : next + 2 * left ≤ length b
-  pub all : sum + length (more_names (numbers_at b next left)) ≡ length (more_names (numbers_at b at m))
-  pub most : sum + 7 * left ≤ 448
+-- Each of numbers that stand in bytes is under 65,536.
+pub numbers-small : (b : List ℕ) → ((i : ℕ) → get_or b i 0 < 256) → (x n : ℕ) → AllSmall (numbers_at b x n)
+unfolding numbers_at u16_at
+numbers-small b h x zero = tt
+numbers-small b h x (suc n) = (omega (arith, h x, h (x + 1)), numbers-small b h (x + 2) n)
 
-pub names-step : (b : List ℕ) (at m sum next left v r : ℕ) → NamesSizeInv b at m sum next left → 0 < left → v ≡ u16_at b next
-    → r ≡ length (name_text v) → r ≤ 6 → NamesSizeInv b at m (sum + (1 + r)) (next + 2) (left - 1)
-names-step b at m sum next left v r i h e q l =
+-- Counting: what is counted and what is left make the whole, of at most 7 bytes a name.
+pub record NamesSizeInv (all : List ℕ) (sum : ℕ) (rest : List ℕ) : Type 0 where
+  pub small : AllSmall rest
+  pub whole : sum + length (more_names rest) ≡ length (more_names all)
+  pub most : sum + 7 * length rest ≤ 448
+
+pub names-step : {all : List ℕ} {sum : ℕ} {ks : List ℕ} {v : ℕ} {rest : List ℕ} {r : ℕ} → NamesSizeInv all sum ks → ks ≡ v ∷ rest
+    → r ≡ length (name_text v) → r ≤ 6 → NamesSizeInv all (sum + (1 + r)) rest
+unfolding more_names
+names-step {all} {sum} {ks} {v} {rest} {r} i e q l =
+    let j = rw e at i in
     record {
-      within = omega (arith, i.within);
-      all =
-          omega (
-            arith,
-            i.all,
-            ap length (names_more b next left h),
-            length-append (ascii " " ++ name_text (u16_at b next)) (more_names (numbers_at b (next + 2) (left - 1))),
-            q,
-            ap (λ (k : ℕ). length (name_text k)) e,
-          );
-      most = omega (arith, i.most);
+      small = j.small.1;
+      whole = omega (arith, j.whole, q, length-append (name_text v) (more_names rest));
+      most = omega (arith, j.most);
     }
 
--- Writing: what is left to write gives the whole.
-pub record NamesPutInv (b : List ℕ) (at m : ℕ) (o : List ℕ) (to : ℕ) (o' : List ℕ) (e next left : ℕ) : Type 0 where
-  pub within : next + 2 * left ≤ length b
-  pub rest : TextLeft o to (more_names (numbers_at b at m)) o' e (more_names (numbers_at b next left))
-
-pub put-left : (b : List ℕ) (at m : ℕ) (o : List ℕ) (to : ℕ) (o' : List ℕ) (e next left : ℕ) → NamesPutInv b at m o to o' e next left → 0 < left
-    → TextLeft o to (more_names (numbers_at b at m)) o' e ((ascii " " ++ name_text (u16_at b next)) ++ more_names (numbers_at b (next + 2) (left - 1)))
-put-left b at m o to o' e next left i h = rw (names_more b next left h) at i.rest
+-- Writing: the next name behind its blank, with what is left.
+pub put-next : {o : List ℕ} {to : ℕ} {whole o' : List ℕ} {e : ℕ} {ks : List ℕ} {v : ℕ} {rest : List ℕ}
+    → TextLeft o to whole o' e (more_names ks) → ks ≡ v ∷ rest → TextLeft o to whole o' e ((ascii " " ++ name_text v) ++ more_names rest)
+unfolding more_names
+put-next l q = rw q at l
 
 -- There is room for the blank and the name.
-pub put-room : (b : List ℕ) (at m : ℕ) (o : List ℕ) (to : ℕ) (o' : List ℕ) (e next left : ℕ) → NamesPutInv b at m o to o' e next left → 0 < left
-    → e + 1 + length (name_text (u16_at b next)) ≤ length o'
-put-room b at m o to o' e next left i h =
-    let l = put-left b at m o to o' e next left i h in
-    omega (
-      arith,
-      l.next,
-      l.long,
-      l.fits,
-      length-append (ascii " " ++ name_text (u16_at b next)) (more_names (numbers_at b (next + 2) (left - 1))),
-    )
+pub next-room : {o : List ℕ} {to : ℕ} {whole o' : List ℕ} {e : ℕ} (v : ℕ) (rest : List ℕ)
+    → TextLeft o to whole o' e ((ascii " " ++ name_text v) ++ more_names rest) → e + 1 + length (name_text v) ≤ length o'
+next-room v rest l = omega (arith, l.next, l.long, l.fits, length-append (ascii " " ++ name_text v) (more_names rest))
+
+-- Nothing is left of no names.
+pub put-end : {o : List ℕ} {to : ℕ} {whole o' : List ℕ} {e : ℕ} {ks : List ℕ} → TextLeft o to whole o' e (more_names ks) → ks ≡ [] → Wrote o to whole o' e
+unfolding more_names
+put-end l q = left-done (rw q at l)
+
+pub size-start : {all : List ℕ} (n : ℕ) → AllSmall all → length all ≡ n → n ≤ 64 → NamesSizeInv all 0 all
+size-start n s e few = record { small = s; whole = omega arith; most = omega arith }
+
+pub size-end : {all : List ℕ} {sum : ℕ} {ks : List ℕ} → NamesSizeInv all sum ks → ks ≡ [] → (sum ≡ length (more_names all)) × (sum ≤ 448)
+unfolding more_names
+size-end i q = let j = rw q at i in (omega (arith, j.whole), omega (arith, j.most))

@@ -158,6 +158,10 @@ inner-rest (suc (suc zero)) a w ns p q r = absurd (q refl)
 inner-rest (suc (suc (suc zero))) a w ns p q r = absurd (r refl)
 inner-rest (suc (suc (suc (suc i)))) a w ns p q r = refl
 
+pub inner-nothing : (f a w : ℕ) (ns : List ℕ) → get_or inners f 0 ≡ 0 → inner_text f a w ns ≡ []
+unfolding inner_text inner_by
+inner-nothing f a w ns e = ap (λ (i : ℕ). inner_by i a w ns) e
+
 pub inner-none : (f a w : ℕ) (ns : List ℕ) → (get_or inners f 0 ≡ 1 → ⊥) → (get_or inners f 0 ≡ 2 → ⊥) → (get_or inners f 0 ≡ 3 → ⊥) → inner_text f a w ns ≡ []
 unfolding inner_text
 inner-none f a w ns p q r = inner-rest (get_or inners f 0) a w ns p q r

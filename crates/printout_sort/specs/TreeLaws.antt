@@ -13,13 +13,14 @@ use Rattle.record.specs.Codec.{length-numbers_at, number_at}
 use Rattle.record.specs.StoreLaws.{sort-made, sort-node}
 use Rattle.record.specs.Sizes.{Formed, sort-formed, count-sorts}
 use Rattle.record.specs.Entries.{stored-first}
+use Rattle.record.specs.Kinds.{sort_number}
 use Rattle.record.specs.declared.SortRecord.{SortRecord}
 use Rattle.store.specs.Entry.{EntryIs}
 use Rattle.store.specs.Walk.{walk-size, size-pos}
 use Rattle.printout_sort.specs.Text.{ascii, text, texts}
 use Rattle.printout_sort.specs.Pieces.{form_of, word_text, close_text, frames, pieces_text}
 use Rattle.printout_sort.specs.PieceLaws.{pieces-text, pieces-length, form-below, form-par, names-form, own-short, after}
-use Rattle.printout_sort.specs.Wrote.{Wrote, wrote_as, total, TextRoom}
+use Rattle.printout_sort.specs.Wrote.{Wrote, wrote_as, total, TextRoom, TextLeft, left-done}
 use Rattle.printout_sort.specs.Trees.{tree_at, trees_at, inner_text_of, TextAsks, TextsAsk, InnerAsks, InnerIs, TextSizeIs, TextsAre}
 
 -- THE SORT k, whatever the count of the store's sorts is.
@@ -72,13 +73,6 @@ texts-room b p x m o to h r =
     record { fits = omega (arith, ap length (texts-more b p x m h), length-append first (texts (trees_at b p (numbers_at b (x + 2) (m - 1))))) }
 
 -- The measures fall: from a list to its first sort, and to the rest.
-pub first-falls : (b p : List ℕ) (x m t : ℕ) → (m ≡ 0 → ⊥) → 2 * sizes (trees_at b p (numbers_at b x m)) + 1 ≡ t → 2 * size (tree_at b p (u16_at b x)) < t
-first-falls b p x m t h q = omega (arith, trees-size b p x m h)
-
-pub rest-falls : (b p : List ℕ) (x m t : ℕ) → (m ≡ 0 → ⊥) → 2 * sizes (trees_at b p (numbers_at b x m)) + 1 ≡ t
-    → 2 * sizes (trees_at b p (numbers_at b (x + 2) (m - 1))) + 1 < t
-rest-falls b p x m t h q = omega (arith, trees-size b p x m h, size-pos (tree_at b p (u16_at b x)))
-
 -- A sort of a well-formed store within document 01's limit meets what printing it asks.
 pub text-asks : (b p : List ℕ) (n k : ℕ) → Stored b p n → k < n → size (sort_at b p n k) ≤ 4096 → TextAsks b p k
 text-asks b p n k stored l small =
@@ -111,11 +105,11 @@ module _ {b p : List ℕ} {x m : ℕ} (a : TextsAsk b p x m) (h : m ≡ 0 → �
 
 -- AN ENTRY that was read: its text in pieces, its size, and what its pieces ask.
 module _ {b p : List ℕ} {k : ℕ} (a : TextAsks b p k) {r : SortRecord} (e : EntryIs b p (suc k) k r) {form : ℕ}
-    (is : form ≡ form_of r.kind r.count) where
+    (is : form ≡ form_of (sort_number r.kind) r.parts.count) where
   abbrev numbers : List ℕ
-  numbers = numbers_at b r.list r.count
+  numbers = numbers_at b r.parts.at r.parts.count
 
-  shape : Shape (fields r.kind r.name r.number numbers (numbers_at b r.names r.named))
+  shape : Shape (fields (sort_number r.kind) r.name r.number numbers (numbers_at b r.names.at r.names.count))
   shape = subst Shape e.place.same (a.stored.each k (omega arith)).shape
 
   formed : Formed (tree_at b p k)
@@ -126,8 +120,8 @@ module _ {b p : List ℕ} {k : ℕ} (a : TextAsks b p k) {r : SortRecord} (e : E
 
   below : (j : ℕ) → j < length numbers → get_or numbers j 0 < suc k
   below j l =
-      let q : j < r.count = omega (arith, length-numbers_at b r.list r.count) in
-      omega (arith, number_at b r.list r.count j q, e.below j q)
+      let q : j < r.parts.count = omega (arith, length-numbers_at b r.parts.at r.parts.count) in
+      omega (arith, number_at b r.parts.at r.parts.count j q, e.below j q)
 
   trees : sorts_of (store_of b p (suc k)) numbers ≡ trees_at b p numbers
   trees = trees-known b p (suc k) numbers below
@@ -136,19 +130,19 @@ module _ {b p : List ℕ} {k : ℕ} (a : TextAsks b p k) {r : SortRecord} (e : E
   unfolding tree_at
   parts = sym e.parts ∙ trees
 
-  counted : count (parts_of (tree_at b p k)) ≡ r.count
+  counted : count (parts_of (tree_at b p k)) ≡ r.parts.count
   unfolding tree_at
   counted =
-      ap count (sym e.parts) ∙ count-sorts (store_of b p (suc k)) numbers ∙ length-numbers_at b r.list r.count
+      ap count (sym e.parts) ∙ count-sorts (store_of b p (suc k)) numbers ∙ length-numbers_at b r.parts.at r.parts.count
 
-  pub entry-text : text (tree_at b p k) ≡ pieces_text form r.name r.number (numbers_at b r.names r.named) (texts (trees_at b p numbers))
+  pub entry-text : text (tree_at b p k) ≡ pieces_text form r.name r.number (numbers_at b r.names.at r.names.count) (texts (trees_at b p numbers))
   unfolding tree_at
   entry-text =
       pieces-text (tree_at b p k) formed
       ∙ ap₂ (λ (i : ℕ) (j : ℕ). pieces_text (form_of i j) (name_in (tree_at b p k)) (number_in (tree_at b p k)) (names_of (tree_at b p k)) (texts (parts_of (tree_at b p k)))) (sym e.kind) counted
-      ∙ ap₂ (λ (i : ℕ) (j : ℕ). pieces_text (form_of r.kind r.count) i j (names_of (tree_at b p k)) (texts (parts_of (tree_at b p k)))) (sym e.name) (sym e.number)
-      ∙ ap₂ (λ (ns : List ℕ) (ss : Sorts). pieces_text (form_of r.kind r.count) r.name r.number ns (texts ss)) (sym e.names) parts
-      ∙ ap (λ (f : ℕ). pieces_text f r.name r.number (numbers_at b r.names r.named) (texts (trees_at b p numbers))) (sym is)
+      ∙ ap₂ (λ (i : ℕ) (j : ℕ). pieces_text (form_of (sort_number r.kind) r.parts.count) i j (names_of (tree_at b p k)) (texts (parts_of (tree_at b p k)))) (sym e.name) (sym e.number)
+      ∙ ap₂ (λ (ns : List ℕ) (ss : Sorts). pieces_text (form_of (sort_number r.kind) r.parts.count) r.name r.number ns (texts ss)) (sym e.names) parts
+      ∙ ap (λ (f : ℕ). pieces_text f r.name r.number (numbers_at b r.names.at r.names.count) (texts (trees_at b p numbers))) (sym is)
 
   -- room for the text is room for its pieces
   pub entry-room : (o : List ℕ) (to : ℕ) → to + length (text (tree_at b p k)) ≤ length o
@@ -173,7 +167,7 @@ module _ {b p : List ℕ} {k : ℕ} (a : TextAsks b p k) {r : SortRecord} (e : E
   entry-wrote w = wrote_as (sym entry-text) w
 
   pub entry-form : form < 17
-  entry-form = subst (λ (f : ℕ). f < 17) (sym is) (form-below r.kind r.count shape.known)
+  entry-form = subst (λ (f : ℕ). f < 17) (sym is) (form-below (sort_number r.kind) r.parts.count shape.known)
 
   pub entry-text-size : size (tree_at b p k) ≡ 1 + sizes (trees_at b p numbers)
   unfolding tree_at
@@ -194,16 +188,16 @@ module _ {b p : List ℕ} {k : ℕ} (a : TextAsks b p k) {r : SortRecord} (e : E
         some = λ q.
             omega (
               arith,
-              shape.some (form-par r.kind r.count (sym is ∙ names-form form entry-form q)),
-              length-numbers_at b r.names r.named,
+              shape.some (form-par (sort_number r.kind) r.parts.count (sym is ∙ names-form form entry-form q)),
+              length-numbers_at b r.names.at r.names.count,
             );
       }
 
-  pub list-asks : TextsAsk b p r.list r.count
+  pub list-asks : TextsAsk b p r.parts.at r.parts.count
   list-asks =
       record {
         within = e.place.list;
-        stored = λ j l. stored-first b p (suc (u16_at b (r.list + 2 * j))) (suc k) (omega (arith, e.below j l)) a.stored;
+        stored = λ j l. stored-first b p (suc (u16_at b (r.parts.at + 2 * j))) (suc k) (omega (arith, e.below j l)) a.stored;
         small = omega (arith, entry-text-size, a.small);
       }
 
@@ -218,10 +212,86 @@ module _ {b p : List ℕ} {k : ℕ} (a : TextAsks b p k) {r : SortRecord} (e : E
               ei.is,
               et.is,
               ap length entry-text,
-              pieces-length form r.name r.number (numbers_at b r.names r.named) (texts (trees_at b p numbers)) entry-form,
+              pieces-length form r.name r.number (numbers_at b r.names.at r.names.count) (texts (trees_at b p numbers)) entry-form,
             );
         most = omega (arith, ez, et.most, own-short form i entry-form ei.most ei.low, entry-text-size);
       }
+
+-- THE PARTS THAT ARE LEFT of a list: their records are well formed, and their trees are no larger than those of all together.
+abbrev pub AllStored : List ℕ → List ℕ → List ℕ → Type 0
+AllStored b p [] = Unit {0}
+AllStored b p (k ∷ ks) = Stored b p (suc k) × AllStored b p ks
+
+pub record PartsLeft (b p all ks : List ℕ) : Type 0 where
+  pub stored : AllStored b p ks
+  pub within : sizes (trees_at b p ks) ≤ sizes (trees_at b p all)
+  pub small : sizes (trees_at b p all) ≤ 4096
+
+all-stored : (b p : List ℕ) (x m : ℕ) → ((j : ℕ) → j < m → Stored b p (suc (u16_at b (x + 2 * j)))) → AllStored b p (numbers_at b x m)
+unfolding numbers_at
+all-stored b p x zero h = tt
+all-stored b p x (suc m) h =
+    let e : x + 2 * 0 ≡ x = omega arith in (
+      subst (λ (i : ℕ). Stored b p (suc (u16_at b i))) e (h 0 (omega arith)),
+      all-stored b p (x + 2) m (λ j l.
+          let d : x + 2 * (j + 1) ≡ x + 2 + 2 * j = omega arith in
+          subst (λ (i : ℕ). Stored b p (suc (u16_at b i))) d (h (j + 1) (omega arith))),
+    )
+
+pub parts-left : {b p : List ℕ} {x m : ℕ} → TextsAsk b p x m → PartsLeft b p (numbers_at b x m) (numbers_at b x m)
+parts-left {b} {p} {x} {m} a = record { stored = all-stored b p x m a.stored; within = omega arith; small = a.small }
+
+-- The next part is a sort that can be printed, smaller than the whole.
+pub parts-next : {b p all ks : List ℕ} {k : ℕ} {rest : List ℕ} → PartsLeft b p all ks → ks ≡ k ∷ rest
+    → TextAsks b p k × PartsLeft b p all rest × (size (tree_at b p k) ≤ sizes (trees_at b p all))
+unfolding trees_at size
+parts-next l q =
+    let i = rw q at l in (
+      record { stored = i.stored.0; small = omega (arith, i.within, i.small) },
+      record { stored = i.stored.1; within = omega (arith, i.within); small = i.small },
+      omega (arith, i.within),
+    )
+
+-- Counting: what is counted and what is left make the whole, within the bound that the sizes give.
+pub record PartsSizeInv (b p all : List ℕ) (start sum : ℕ) (ks : List ℕ) : Type 0 where
+  pub left : PartsLeft b p all ks
+  pub whole : sum + length (texts (trees_at b p ks)) ≡ start + length (texts (trees_at b p all))
+  pub most : sum + 456 * sizes (trees_at b p ks) ≤ start + 456 * sizes (trees_at b p all)
+
+pub parts-start : {b p all : List ℕ} (start : ℕ) → PartsLeft b p all all → PartsSizeInv b p all start start all
+parts-start start l = record { left = l; whole = refl; most = omega arith }
+
+pub parts-step : {b p all : List ℕ} {start sum : ℕ} {ks : List ℕ} {k : ℕ} {rest : List ℕ} {f : ℕ} → PartsSizeInv b p all start sum ks → ks ≡ k ∷ rest
+    → TextSizeIs (text (tree_at b p k)) (size (tree_at b p k)) f → PartsSizeInv b p all start (sum + (1 + f)) rest
+unfolding trees_at text size
+parts-step {b} {p} {all} {start} {sum} {ks} {k} {rest} {f} i q w =
+    let j = rw q at i in
+    record {
+      left = (parts-next i.left q).1;
+      whole = omega (arith, j.whole, w.is, length-append (text (tree_at b p k)) (texts (trees_at b p rest)));
+      most = omega (arith, j.most, w.most);
+    }
+
+pub parts-end : {b p all : List ℕ} {start sum : ℕ} {ks : List ℕ} → PartsSizeInv b p all start sum ks → ks ≡ []
+    → (sum ≡ start + length (texts (trees_at b p all))) × (sum ≤ start + 456 * sizes (trees_at b p all))
+unfolding trees_at text size
+parts-end i q = let j = rw q at i in (omega (arith, j.whole), omega (arith, j.most))
+
+-- Writing: the next part behind its blank, with what is left.
+pub text-next : (b p : List ℕ) {o : List ℕ} {to : ℕ} {whole o' : List ℕ} {e : ℕ} {ks : List ℕ} {k : ℕ} {rest : List ℕ}
+    → TextLeft o to whole o' e (texts (trees_at b p ks)) → ks ≡ k ∷ rest
+    → TextLeft o to whole o' e ((ascii " " ++ text (tree_at b p k)) ++ texts (trees_at b p rest))
+unfolding trees_at text
+text-next b p l q = rw q at l
+
+pub text-next-room : {o : List ℕ} {to : ℕ} {whole o' : List ℕ} {e : ℕ} (t rest : List ℕ)
+    → TextLeft o to whole o' e ((ascii " " ++ t) ++ rest) → e + 1 + length t ≤ length o'
+text-next-room t rest l = omega (arith, l.next, l.long, l.fits, length-append (ascii " " ++ t) rest)
+
+pub text-end : (b p : List ℕ) {o : List ℕ} {to : ℕ} {whole o' : List ℕ} {e : ℕ} {ks : List ℕ} → TextLeft o to whole o' e (texts (trees_at b p ks)) → ks ≡ []
+    → Wrote o to whole o' e
+unfolding trees_at text
+text-end b p l q = left-done (rw q at l)
 
 -- The length of a list: a blank, its first, and the rest.
 pub list_length : (b p : List ℕ) (x m k : ℕ) {f t : ℕ} → (m ≡ 0 → ⊥) → k ≡ u16_at b x → TextSizeIs (text (tree_at b p k)) (size (tree_at b p k)) f

@@ -30,15 +30,15 @@ pub record TextsAsk (b p : List ℕ) (x m : ℕ) : Type 0 where
 
 -- What stands between the word and the parts of an entry, and when it can be read.
 abbrev pub inner_text_of : List ℕ → ℕ → SortRecord → List ℕ
-inner_text_of b f r = inner_text f r.name r.number (numbers_at b r.names r.named)
+inner_text_of b f r = inner_text f r.name r.number (numbers_at b r.names.at r.names.count)
 
 pub record InnerAsks (b : List ℕ) (f : ℕ) (r : SortRecord) : Type 0 where
   pub name : r.name < 65536
   pub number : r.number < 65536
-  pub within : r.names + 2 * r.named ≤ length b
-  pub few : r.named ≤ 64
+  pub within : r.names.at + 2 * r.names.count ≤ length b
+  pub few : r.names.count ≤ 64
   pub form : f < 17
-  pub some : get_or inners f 0 ≡ 3 → 1 ≤ r.named
+  pub some : get_or inners f 0 ≡ 3 → 1 ≤ r.names.count
 
 -- Its length, which is over 6 only of a Par's names.
 pub record InnerIs (b : List ℕ) (f : ℕ) (a : SortRecord) (r : ℕ) : Type 0 where

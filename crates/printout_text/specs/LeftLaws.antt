@@ -23,7 +23,7 @@ use Rattle.judge_rules.specs.QuestionLaws.{question_at}
 use Rattle.judge_rules.proofs.JudgedLaws.{judged-read, judged-counts, judged-fits}
 use Rattle.judge_rules.proofs.KnownLaws.{judged-rows-known, judged-answers-known}
 use Rattle.judge_rules.proofs.CarriedLaws.{judged-carried}
-use Rattle.verdicts.specs.declared.Outcome.TheVariants.{Accepted}
+use Rattle.verdicts.specs.Judge.{Accepted}
 use Rattle.verdicts.specs.Judge.{outcome_of, Reads, ReadsBack, JudgeIs}
 use Rattle.printout_sort.specs.Trees.{sort_room, checked_room}
 use Rattle.printout_sort.specs.TextLaws.{pars, pars_all}

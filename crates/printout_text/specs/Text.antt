@@ -1,9 +1,10 @@
 -- The printout of a sheet by its lines, and what writing some of them into a lent buffer promises.
-use Rattle.std.specs.Prelude.{ℕ, ◌+◌, ◌-◌, ◌≤◌, ◌<◌, List, length}
+use Rattle.std.specs.Prelude.{ℕ, ◌+◌, ◌-◌, ◌≤◌, ◌<◌, List, length, get_or}
+use Rattle.record.specs.Codec.{Bytes}
 use Rattle.reader.specs.declared.Refusal.{Refusal}
 use Rattle.reader.specs.Reader.{refusal_number}
 use Rattle.judge_rules.specs.Judged.{Judgement, sheet_refused, accepted, judged}
-use Rattle.verdicts.specs.declared.Outcome.{Outcome}
+use Rattle.verdicts.specs.Judge.{Outcome}
 use Rattle.verdicts.specs.Judge.{JudgeIs}
 use Rattle.printout_sort.specs.Wrote.{Wrote}
 use Rattle.printout.specs.declared.whole.Piece.{Piece}
@@ -43,6 +44,12 @@ RefusedLines e from o o' r = (room : ℕ) → 7 ≤ room → LinesBy 1 (λ k. re
 -- THE PROMISE OF `text`: the lines are those of the judgement of the bytes s over the program's lengths.
 abbrev pub TextIs : List ℕ → ℕ → List ℕ → List ℕ → Piece → Type 0
 TextIs s from o o' r = LinesAre (judged s program_lengths) from o o' r
+
+-- Each value of the records b, the rows w and the answers g is a number of its type.
+pub record InRange (b w g : List ℕ) : Type 0 where
+  pub bytes : Bytes b
+  pub rows : (i : ℕ) → get_or w i 0 < 4294967296
+  pub answers : (i : ℕ) → get_or g i 0 < 4294967296
 
 -- The buffers are those that `judge` left with this outcome, over the program's lengths.
 abbrev pub PrintAsks : List ℕ → List ℕ → List ℕ → List ℕ → List ℕ → Outcome → Type 0

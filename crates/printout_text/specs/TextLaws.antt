@@ -12,7 +12,7 @@ use Rattle.record.specs.Cases.{by_test}
 use Rattle.reader.specs.declared.Refusal.{Refusal}
 use Rattle.reader.specs.Reader.{refusal_number}
 use Rattle.judge_rules.specs.Judged.{Judgement, sheet_refused, accepted, judged}
-use Rattle.verdicts.specs.declared.Outcome.TheVariants.{Refused}
+use Rattle.verdicts.specs.Judge.{Refused}
 use Rattle.verdicts.specs.Judge.{outcome_of}
 use Rattle.printout_sort.specs.Wrote.{Wrote, wrote_none, wrote_as}
 use Rattle.printout_sort.specs.TextLaws.{decimal-short}

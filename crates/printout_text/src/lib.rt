@@ -2,15 +2,23 @@
 // written from a line's number on, as many as fit.
 #![tactic(auto)]
 
-ghost use Rattle.verdicts.specs.declared.Outcome.TheVariants.{Accepted};
+ghost use Rattle.verdicts.specs.Judge.{Accepted};
 ghost use Rattle.printout_text.specs.Text.{RefusedLines, TextIs, PrintAsks};
 
-use printout::Shown;
+pub mod judged;
+
+use judged::JudgedSheet;
+use printout::NoRoom;
 use printout::kinds::question_kinds;
 use printout::lines::refusal_line;
-use printout::whole::{Piece, show_lines};
+use printout::whole::{Piece, Printable, show_lines};
+use printout_sort::buffer::TextBuffer;
 use reader::Refusal;
-use verdicts::{Outcome, judge, refusal_number};
+use record::limits::{LONGEST_SHEET, MOST_QUESTIONS, MOST_SORTS, MOST_TERMS};
+use verdicts::judge;
+
+// The lengths of the program's rows.
+pub const ROWS: usize = 2 * MOST_TERMS;
 
 // Writes the line of a sheet that is refused for this reason, where it is asked for, from the number 0 on, and fits. The next line
 // is then 1; else it is `from`, nothing is written, and the buffer is as it was.
@@ -20,38 +28,36 @@ pub fn refused_line(e: Refusal, from: usize, out: &mut [u8]) -> Piece
     if 0 < from {
         return Piece { next: from, end: 0 };
     }
-    let number = refusal_number(e) as usize;
-    let shown = refusal_line(number, out, 0);
-    match shown {
-        Shown::To(end) => Piece { next: 1, end: end },
-        Shown::Full => Piece { next: 0, end: 0 },
+    let number = u32::from(e) as usize;
+    let mut text = TextBuffer { bytes: out, end: 0 };
+    match refusal_line(number, &mut text) {
+        Ok(()) => Piece {
+            next: 1,
+            end: text.end,
+        },
+        Err(NoRoom) => Piece { next: 0, end: 0 },
     }
 }
 
-// Writes the lines from the number `from` on of a sheet that was accepted and judged into these buffers, as many as fit; where it
-// has no such line nothing is written, and the next line is `from`.
-fn accepted_lines(
-    sheet: &[u8],
-    records: &[u8],
-    places: &[u32],
-    rows: &[u32],
-    answers: &[u32],
-    from: usize,
-    out: &mut [u8],
-) -> Piece
-    requires { PrintAsks sheet.now records.now places.now rows.now answers.now Accepted }
-    ensures { TextIs sheet.now from out.old out.new result }
+// Writes the lines from the number `from` on of a sheet that was accepted and judged, as many as fit; where it has no such line nothing
+// is written, and the next line is `from`.
+fn accepted_lines(sheet: &JudgedSheet<'_>, from: usize, out: &mut [u8]) -> Piece
+    requires { PrintAsks sheet.now.bytes.now sheet.now.entries.records.now sheet.now.entries.places.now sheet.now.rows.now sheet.now.answers.now Accepted }
+    ensures { TextIs sheet.now.bytes.now from out.old out.new result }
 {
-    let mut kinds = [0u8; 1024];
-    let totals = question_kinds(sheet, &mut kinds);
-    let terms = totals.terms;
-    let questions = totals.questions;
-    if terms + questions < from {
+    let mut kinds = [0u8; MOST_QUESTIONS];
+    let totals = question_kinds(sheet.bytes, &mut kinds);
+    if totals.terms + totals.questions < from {
         return Piece { next: from, end: 0 };
     }
-    show_lines(
-        records, places, rows, &kinds, answers, terms, questions, from, out,
-    )
+    let printable = Printable {
+        entries: sheet.entries,
+        rows: sheet.rows,
+        kinds: &kinds,
+        answers: sheet.answers,
+        totals,
+    };
+    show_lines(&printable, from, out)
 }
 
 // THE TEXT OF A SHEET: judges it over buffers of its own, of the program's lengths, and writes the whole lines of its printout from
@@ -61,13 +67,15 @@ fn accepted_lines(
 pub fn text(sheet: &[u8], from: usize, out: &mut [u8]) -> Piece
     ensures { TextIs sheet.now from out.old out.new result }
 {
-    let mut records = [0u8; 65536];
-    let mut places = [0u32; 4096];
-    let mut rows = [0u32; 8192];
-    let mut answers = [0u32; 1024];
-    let outcome = judge(sheet, &mut records, &mut places, &mut rows, &mut answers);
-    match outcome {
-        Outcome::Accepted => accepted_lines(sheet, &records, &places, &rows, &answers, from, out),
-        Outcome::Refused(e) => refused_line(e, from, out),
+    let mut records = [0u8; LONGEST_SHEET];
+    let mut places = [0u32; MOST_SORTS];
+    let mut rows = [0u32; ROWS];
+    let mut answers = [0u32; MOST_QUESTIONS];
+    match judge(sheet, &mut records, &mut places, &mut rows, &mut answers) {
+        Ok(()) => {
+            let judged = JudgedSheet::new(sheet, &records, &places, &rows, &answers);
+            accepted_lines(&judged, from, out)
+        }
+        Err(e) => refused_line(e, from, out),
     }
 }

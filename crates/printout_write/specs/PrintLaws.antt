@@ -5,7 +5,7 @@ use Rattle.record.specs.Decode.{store_of}
 use Rattle.reader.specs.declared.Refusal.{Refusal}
 use Rattle.sheet.specs.Sheet.{Lengths}
 use Rattle.judge_rules.specs.Judged.{Judgement, judged}
-use Rattle.verdicts.specs.declared.Outcome.TheVariants.{Refused}
+use Rattle.verdicts.specs.Judge.{Refused}
 use Rattle.verdicts.specs.Judge.{outcome_of}
 use Rattle.printout.specs.declared.kinds.Totals.{Totals}
 use Rattle.printout.specs.declared.whole.Piece.{Piece}

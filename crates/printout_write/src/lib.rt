@@ -2,139 +2,130 @@
 // piece by piece.
 #![tactic(auto)]
 
+ghost use Rattle.std.specs.Prelude.{◌≤◌, length};
 ghost use Rattle.judge_rules.specs.Judged.{judged};
-ghost use Rattle.verdicts.specs.declared.Outcome.TheVariants.{Accepted};
+ghost use Rattle.verdicts.specs.Judge.{Accepted};
 ghost use Rattle.printout.specs.Printed.{program_lengths};
 ghost use Rattle.printout_text.specs.Text.{PrintAsks};
 ghost use Rattle.printout_text.specs.LeftLaws.{JudgeLeft};
-ghost use Rattle.written.specs.Written.{PrintedIs};
-ghost use Rattle.printout_write.specs.Print.{LinesAsk};
+ghost use Rattle.written.specs.Written.{in_lines, PrintedIs};
+ghost use Rattle.printout_write.specs.Print.{LinesAsk, ShowAsks};
 
 use printout::kinds::{Totals, question_kinds};
-use printout::whole::show_lines;
+use printout::whole::{Piece, Printable, show_lines};
+use printout_text::judged::JudgedSheet;
+use reader::Refusal;
+use record::limits::MOST_QUESTIONS;
 use std::io::Write;
-use verdicts::Outcome;
-use written::{Written, nothing_written, print_refusal, write_lines};
+use written::{Lines, Printer, Written, print_refusal, write_lines};
 
 // The bytes that any line of a printout fits (`line_room`).
 const LINE_ROOM: usize = 1937856;
-
-// The most questions of a sheet.
-const QUESTIONS: usize = 1024;
 
 // A buffer of zeros that holds the longest line.
 fn line_buffer() -> [u8; LINE_ROOM] {
     [0; LINE_ROOM]
 }
 
-// Writes the lines of an accepted sheet, judged into these buffers, by way of a buffer that holds the longest line. All lines are
+// The lines of an accepted sheet from the number `next` on. Only the contracts read the sheet's bytes.
+#[derive(Drop)]
+struct SheetLines<'a> {
+    bytes: &'a [u8],
+    printable: Printable<'a>,
+    next: usize,
+}
+
+impl Lines for SheetLines<'_> {
+    ghost layout = { in_lines };
+
+    ghost sheet = { λ l. l.bytes.now };
+
+    ghost next = { λ l. l.next };
+
+    ghost can_show = { λ l. ShowAsks l.bytes.now l.printable.entries.records.now l.printable.entries.places.now l.printable.rows.now l.printable.kinds.now l.printable.answers.now l.printable.totals l.next };
+
+    fn show(&mut self, out: &mut [u8]) -> Piece {
+        let piece = show_lines(&self.printable, self.next, out);
+        self.next = piece.next;
+        piece
+    }
+}
+
+// Writes the lines of an accepted sheet with the kinds of its questions, by way of a buffer that holds the longest line. All lines are
 // written; or a write failed, nothing was handed over after it, and the lines before it are written.
 fn print_lines<W: Write>(
     output: &mut W,
-    sheet: &[u8],
-    records: &[u8],
-    places: &[u32],
-    rows: &[u32],
+    sheet: &JudgedSheet<'_>,
     kinds: &[u8],
-    answers: &[u32],
-    terms: usize,
-    questions: usize,
+    totals: Totals,
     out: &mut [u8],
 ) -> Written
-    requires { LinesAsk sheet.now records.now places.now rows.now kinds.now answers.now terms questions out.old }
-    ensures { PrintedIs (judged sheet.now program_lengths) result }
+    requires { LinesAsk sheet.now.bytes.now sheet.now.entries.records.now sheet.now.entries.places.now sheet.now.rows.now kinds.now sheet.now.answers.now totals.terms totals.questions out.old }
+    ensures { PrintedIs (judged sheet.now.bytes.now program_lengths) result }
 {
-    let total = terms + questions;
-    let mut done = nothing_written();
-    let mut k = 0;
-    while k < total {
-        let piece = show_lines(
-            records, places, rows, kinds, answers, terms, questions, k, out,
-        );
-        let end = piece.end;
-        let next = piece.next;
-        done = write_lines(output, done, sheet, next, &out[..end]);
-        if done.has_failed() {
-            return done;
-        }
-        k = next;
-    }
-    done
+    let printable = Printable {
+        entries: sheet.entries,
+        rows: sheet.rows,
+        kinds,
+        answers: sheet.answers,
+        totals,
+    };
+    let mut lines = SheetLines {
+        bytes: sheet.bytes,
+        printable,
+        next: 0,
+    };
+    write_lines(output, &mut lines, out)
 }
 
-// Writes the lines of an accepted sheet, judged into these buffers, by way of a buffer of its own. All lines are written; or a write
-// failed, nothing was handed over after it, and the lines before it are written.
+// Writes the lines of an accepted sheet with the kinds of its questions, by way of a buffer of its own, which is so large that it is kept out
+// of every other frame. All lines are written; or a write failed, nothing was handed over after it, and the lines before it are written.
+#[inline(never)]
 fn print_all<W: Write>(
     output: &mut W,
-    sheet: &[u8],
-    records: &[u8],
-    places: &[u32],
-    rows: &[u32],
+    sheet: &JudgedSheet<'_>,
     kinds: &[u8],
-    answers: &[u32],
     totals: Totals,
 ) -> Written
-    requires { JudgeLeft sheet.now records.now places.now rows.now kinds.now answers.now totals }
-    ensures { PrintedIs (judged sheet.now program_lengths) result }
+    requires { JudgeLeft sheet.now.bytes.now sheet.now.entries.records.now sheet.now.entries.places.now sheet.now.rows.now kinds.now sheet.now.answers.now totals }
+    ensures { PrintedIs (judged sheet.now.bytes.now program_lengths) result }
 {
     let mut out = line_buffer();
-    print_lines(
-        output,
-        sheet,
-        records,
-        places,
-        rows,
-        kinds,
-        answers,
-        totals.terms,
-        totals.questions,
-        &mut out,
-    )
+    print_lines(output, sheet, kinds, totals, &mut out)
 }
 
-// Writes the lines of an accepted sheet, judged into these buffers, with the kinds of its questions in the lent table; where that
-// is too short for 1,024, what this function writes with a table of its own. All lines are written; or a write failed, nothing
-// was handed over after it, and the lines before it are written. It calls itself so that the large buffer of `print_all` is on the
-// stack only while lines are printed: the compiler puts no large frame into a function that calls itself, nor that into another.
-fn print_accepted<W: Write>(
-    output: &mut W,
-    sheet: &[u8],
-    records: &[u8],
-    places: &[u32],
-    rows: &[u32],
-    answers: &[u32],
-    kinds: &mut [u8],
-) -> Written
-    requires { PrintAsks sheet.now records.now places.now rows.now answers.now Accepted }
-    ensures { PrintedIs (judged sheet.now program_lengths) result }
+// Writes the lines of an accepted sheet. All lines are written; or a write failed, nothing was handed over after it, and the lines before
+// it are written.
+fn print_accepted<W: Write>(output: &mut W, sheet: &JudgedSheet<'_>) -> Written
+    requires { PrintAsks sheet.now.bytes.now sheet.now.entries.records.now sheet.now.entries.places.now sheet.now.rows.now sheet.now.answers.now Accepted }
+    ensures { PrintedIs (judged sheet.now.bytes.now program_lengths) result }
 {
-    if kinds.len() < QUESTIONS {
-        let mut own = [0u8; QUESTIONS];
-        return print_accepted(output, sheet, records, places, rows, answers, &mut own);
-    }
-    let totals = question_kinds(sheet, kinds);
-    print_all(output, sheet, records, places, rows, kinds, answers, totals)
+    let mut kinds = [0u8; MOST_QUESTIONS];
+    let totals = question_kinds(sheet.bytes, &mut kinds);
+    print_all(output, sheet, &kinds, totals)
 }
 
-// Writes the printout of a sheet that was judged with this outcome into these buffers. All its lines are written, the
-// one of a refused sheet too; or a write failed, nothing was handed over after it, and the lines before it are written.
-pub fn print_judged<W: Write>(
-    output: &mut W,
-    sheet: &[u8],
-    records: &[u8],
-    places: &[u32],
-    rows: &[u32],
-    answers: &[u32],
-    outcome: Outcome,
-) -> Written
-    requires { PrintAsks sheet.now records.now places.now rows.now answers.now outcome }
-    ensures { PrintedIs (judged sheet.now program_lengths) result }
-{
-    match outcome {
-        Outcome::Accepted => {
-            let mut kinds = [0u8; 1];
-            print_accepted(output, sheet, records, places, rows, answers, &mut kinds)
+// The printer of printouts.
+#[derive(Clone, Copy, Debug, PartialEq, Eq)]
+pub struct Printout;
+
+impl Printer for Printout {
+    ghost layout = { in_lines };
+
+    // Writes the printout of a sheet that was judged with this outcome. All its lines are written, the one of a refused sheet too; or a
+    // write failed, nothing was handed over after it, and the lines before it are written.
+    fn print_judged<W: Write>(
+        &self,
+        output: &mut W,
+        sheet: &JudgedSheet<'_>,
+        outcome: Result<(), Refusal>,
+    ) -> Written
+        requires { PrintAsks sheet.now.bytes.now sheet.now.entries.records.now sheet.now.entries.places.now sheet.now.rows.now sheet.now.answers.now outcome }
+        ensures { PrintedIs (judged sheet.now.bytes.now program_lengths) result }
+    {
+        match outcome {
+            Ok(()) => print_accepted(output, sheet),
+            Err(e) => print_refusal(output, e),
         }
-        Outcome::Refused(e) => print_refusal(output, e),
     }
 }

@@ -15,8 +15,7 @@ use Rattle.record.specs.Cases.{not-true, not-false}
 use Rattle.reader.specs.declared.QuestionRecord.{QuestionRecord}
 use Rattle.substitution.specs.Substitution.{Map, empty}
 use Rattle.substitution.specs.Matching.{matches, listed_in, premise}
-use Rattle.matching_tables.specs.declared.Matched.{Matched}
-use Rattle.matching_tables.specs.declared.Matched.TheVariants.{Fits, Misfits}
+use Rattle.matching_tables.specs.Matched.{Matched, Fits, Misfits}
 use Rattle.matching_tables.specs.Tables.{Lists, Told, listed, Added, table_map, Tabled, Mapped, Cleared}
 use Rattle.matching_tables.specs.TableLaws.{times-few, listed-is, lists-none, lists-added, added-back, cleared-mapped, cleared-map, cleared-images, cleared-bound}
 use Rattle.matching_tables.specs.Usable.{PairAsks}
@@ -27,7 +26,7 @@ use Rattle.matching_tables.specs.Entered.{good-usable}
 use Rattle.apply.specs.Contract.{ApplyAsks as ReplaceAsks}
 use Rattle.row_rules.specs.declared.Cause.TheVariants.{Barred, NoAssignment}
 use Rattle.row_rules.specs.Verdict.{refused, need}
-use Rattle.row_answer.specs.declared.Answer.{Answer}
+use Rattle.row_answer.specs.Answer.{Answer}
 use Rattle.row_answer.specs.Answer.{refusing}
 use Rattle.row_answer.specs.AnswerLaws.{judged-as, answered-as, made-refused}
 use Rattle.row_instance.specs.Instance.{InstanceIs}
@@ -117,37 +116,37 @@ module _ {b p ix : List ℕ} {n u : ℕ} {prm imgs bnd : List ℕ} {k j i : ℕ}
 
 ---------------------------------------------------------------- listing the names and taking them off
 module _ {b p ix : List ℕ} {n u : ℕ} {prm imgs bnd s tbl : List ℕ} {q : QuestionRecord} (h : AnswerMatchAsks b p ix n u prm imgs bnd s tbl q) where
-  pub add-asks : AddAsks prm s q.names_at q.names_count
+  pub add-asks : AddAsks prm s q.names.at q.names.count
   add-asks =
       record {
         names = record { table = h.table; within = h.asked.names };
         room = λ v.
-            omega (arith, h.zeros v (omega arith), times-few v (numbers_at s q.names_at q.names_count), length-numbers_at s q.names_at q.names_count, h.asked.few);
+            omega (arith, h.zeros v (omega arith), times-few v (numbers_at s q.names.at q.names.count), length-numbers_at s q.names.at q.names.count, h.asked.few);
       }
 
-  module _ {m : List ℕ} (a : Added prm (numbers_at s q.names_at q.names_count) m) where
+  module _ {m : List ℕ} (a : Added prm (numbers_at s q.names.at q.names.count) m) where
     pub listed-asks : (k j i : ℕ) → k < n → j < n → i < n → MatchListedAsks b p ix n u m imgs bnd k j i
     listed-asks k j i x y z =
         record { good = h.good; table = a.long ∙ h.table; cleared = h.cleared; pattern = x; target = y; result = z }
 
-    pub take-asks : TakeAsks m s q.names_at q.names_count
+    pub take-asks : TakeAsks m s q.names.at q.names.count
     take-asks =
         record {
           names = record { table = a.long ∙ h.table; within = h.asked.names };
           there = λ v. omega (arith, a.each v);
         }
 
-    pub match_is : {k j i : ℕ} → k ≡ get_or tbl (u16_at s q.list_at) 0 → j ≡ get_or tbl (u16_at s (q.list_at + 2)) 0 → i ≡ get_or tbl (u16_at s (q.list_at + 4)) 0
+    pub match_is : {k j i : ℕ} → k ≡ get_or tbl (u16_at s q.list.at) 0 → j ≡ get_or tbl (u16_at s (q.list.at + 2)) 0 → i ≡ get_or tbl (u16_at s (q.list.at + 4)) 0
         → {b' p' ix' l' m' prm' : List ℕ} {r : Answer} → ListedIs b p n m imgs bnd k j i b' p' ix' l' m' r
-        → Added prm' (numbers_at s q.names_at q.names_count) m → AnswerMatchIs b p n prm imgs bnd s tbl q b' p' ix' prm' l' m' r
+        → Added prm' (numbers_at s q.names.at q.names.count) m → AnswerMatchIs b p n prm imgs bnd s tbl q b' p' ix' prm' l' m' r
     unfolding sort_at
     match_is {k} {j} {i} ek ej ei {b'} {p'} {ix'} {l'} {m'} {prm'} {r} w d =
         let st = store_of b p n in
-        let vs = numbers_at s q.names_at q.names_count in
-        let S = sorts_by st tbl s q.list_at q.list_count in
-        let e1 : first_sort S ≡ get_or st k leaf = sorts-by-first st tbl s q.list_at q.list_count (omega (arith, h.count)) ∙ ap (λ (x : ℕ). get_or st x leaf) (sym ek) in
-        let e2 : first_sort (rest_sorts S) ≡ get_or st j leaf = sorts-second st tbl s q.list_at q.list_count (omega (arith, h.count)) ∙ ap (λ (x : ℕ). get_or st x leaf) (sym ej) in
-        let e3 : first_sort (rest_sorts (rest_sorts S)) ≡ get_or st i leaf = sorts-third st tbl s q.list_at q.list_count (omega (arith, h.count)) ∙ ap (λ (x : ℕ). get_or st x leaf) (sym ei) in
+        let vs = numbers_at s q.names.at q.names.count in
+        let S = sorts_by st tbl s q.list.at q.list.count in
+        let e1 : first_sort S ≡ get_or st k leaf = sorts-by-first st tbl s q.list.at q.list.count (omega (arith, h.count)) ∙ ap (λ (x : ℕ). get_or st x leaf) (sym ek) in
+        let e2 : first_sort (rest_sorts S) ≡ get_or st j leaf = sorts-second st tbl s q.list.at q.list.count (omega (arith, h.count)) ∙ ap (λ (x : ℕ). get_or st x leaf) (sym ej) in
+        let e3 : first_sort (rest_sorts (rest_sorts S)) ≡ get_or st i leaf = sorts-third st tbl s q.list.at q.list.count (omega (arith, h.count)) ∙ ap (λ (x : ℕ). get_or st x leaf) (sym ei) in
         record {
           answer =
               judged-as

@@ -8,6 +8,7 @@ use lib.ListN.{get_or}
 use lib.Dec.{eqb}
 use borrow.Author.Tests.{eq-eqb, ne_eqb}
 use Rattle.record.specs.Number.{u16_at, numbers_at}
+use Rattle.record.specs.Kinds.{question_number}
 use Rattle.record.specs.Sort.{Sort}
 use Rattle.record.specs.Record.{leaf}
 use Rattle.record.specs.Decode.{store_of, sort_at}
@@ -19,30 +20,30 @@ use Rattle.substitution.specs.Compatible.{compatible}
 use Rattle.matching_tables.specs.Usable.{PairAsks}
 use Rattle.matching_tables.specs.Entered.{good-usable}
 use Rattle.row_rules.specs.Outcome.{CodedStore, outcome}
-use Rattle.row_answer.specs.declared.Answer.{Answer}
+use Rattle.row_answer.specs.Answer.{Answer}
 use Rattle.judge_rules.specs.Questions.{first_sort, rest_sorts, yes_no, match_answer, apply_answer, answer_of}
-use Rattle.questions.specs.declared.Word.{Word}
+use Rattle.questions.specs.Word.{Word}
 use Rattle.questions.specs.Contract.{question_over, AnswerApplyAsks, ApplyIs, AnswerMatchAsks, AnswerMatchIs, WordIs, QuestionAsks, QuestionIs}
-use Rattle.questions.specs.Asked.{sorts_by, sorts-by-first, sorts-second}
+use Rattle.questions.specs.Asked.{sorts_by, sorts-by-first, sorts-second, sort-known}
 
 -- The three cases of the definition.
 abbrev compatible_case : List Sort → List ℕ → List ℕ → QuestionRecord → CodedStore
 compatible_case st tbl s q =
     record {
       store = st;
-      code = yes_no (compatible (first_sort (sorts_by st tbl s q.list_at q.list_count)) (first_sort (rest_sorts (sorts_by st tbl s q.list_at q.list_count))));
+      code = yes_no (compatible (first_sort (sorts_by st tbl s q.list.at q.list.count)) (first_sort (rest_sorts (sorts_by st tbl s q.list.at q.list.count))));
     }
 
 abbrev match_case : Lengths → List Sort → List ℕ → List ℕ → QuestionRecord → CodedStore
 match_case l st tbl s q =
     outcome l st
-    (match_answer (numbers_at s q.names_at q.names_count) (first_sort (sorts_by st tbl s q.list_at q.list_count))
-    (first_sort (rest_sorts (sorts_by st tbl s q.list_at q.list_count))) (first_sort (rest_sorts (rest_sorts (sorts_by st tbl s q.list_at q.list_count)))))
+    (match_answer (numbers_at s q.names.at q.names.count) (first_sort (sorts_by st tbl s q.list.at q.list.count))
+    (first_sort (rest_sorts (sorts_by st tbl s q.list.at q.list.count))) (first_sort (rest_sorts (rest_sorts (sorts_by st tbl s q.list.at q.list.count)))))
 
 abbrev apply_case : Lengths → List Sort → List ℕ → List ℕ → QuestionRecord → CodedStore
 apply_case l st tbl s q =
     outcome l st
-    (apply_answer (numbers_at s q.names_at q.names_count) (first_sort (sorts_by st tbl s q.list_at q.list_count)) (rest_sorts (sorts_by st tbl s q.list_at q.list_count)))
+    (apply_answer (numbers_at s q.names.at q.names.count) (first_sort (sorts_by st tbl s q.list.at q.list.count)) (rest_sorts (sorts_by st tbl s q.list.at q.list.count)))
 
 pick-0 : (A B C : CodedStore) {k : ℕ} → k ≡ 0 → cond (eqb k 0) A (cond (eqb k 1) B C) ≡ A
 pick-0 A B C {k} e = ap (λ (t : Bool). cond t A (cond (eqb k 1) B C)) (eq-eqb k 0 e)
@@ -50,37 +51,39 @@ pick-0 A B C {k} e = ap (λ (t : Bool). cond t A (cond (eqb k 1) B C)) (eq-eqb k
 pick-1 : (A B C : CodedStore) {k : ℕ} → k ≡ 1 → cond (eqb k 0) A (cond (eqb k 1) B C) ≡ B
 pick-1 A B C {k} e = ap₂ (λ (t v : Bool). cond t A (cond v B C)) (ne_eqb k 0 (λ z. omega arith)) (eq-eqb k 1 e)
 
-pick-2 : (A B C : CodedStore) (k : ℕ) → (k ≡ 0 → ⊥) → (k ≡ 1 → ⊥) → cond (eqb k 0) A (cond (eqb k 1) B C) ≡ C
-pick-2 A B C k d e = ap₂ (λ (t v : Bool). cond t A (cond v B C)) (ne_eqb k 0 d) (ne_eqb k 1 e)
+pick-2 : (A B C : CodedStore) {k : ℕ} → k ≡ 2 → cond (eqb k 0) A (cond (eqb k 1) B C) ≡ C
+pick-2 A B C {k} e = ap₂ (λ (t v : Bool). cond t A (cond v B C)) (ne_eqb k 0 (λ z. omega arith)) (ne_eqb k 1 (λ z. omega arith))
 
 worded : {c q ix : List ℕ} {r : Answer} {w : Word} → WordIs r w → Good c q ix r.count r.used → Good c q ix w.count w.used
 worded {c} {q} {ix} {r} {w} e g =
     subst (λ (i : ℕ). Good c q ix i w.used) (sym e.count) (subst (λ (i : ℕ). Good c q ix r.count i) (sym e.used) g)
 
 module _ {b p ix : List ℕ} {n u : ℕ} {prm imgs bnd s tbl : List ℕ} {q : QuestionRecord} (h : QuestionAsks b p ix n u prm imgs bnd s tbl q) where
-  pub match-part : q.kind ≡ 1 → AnswerMatchAsks b p ix n u prm imgs bnd s tbl q
+  pub match-part : question_number q.kind ≡ 1 → AnswerMatchAsks b p ix n u prm imgs bnd s tbl q
   match-part e =
       record { good = h.good; table = h.table; zeros = h.zeros; cleared = h.cleared; asked = h.asked; count = h.three e }
 
-  pub apply-part : (q.kind ≡ 0 → ⊥) → (q.kind ≡ 1 → ⊥) → AnswerApplyAsks b p ix n u imgs s tbl q
-  apply-part d e =
-      record { good = h.good; table = h.cleared.names; zeros = h.cleared.images; asked = h.asked; count = h.pairs (two q.kind h.kind d e) }
-    where
-      two : (k : ℕ) → k < 3 → (k ≡ 0 → ⊥) → (k ≡ 1 → ⊥) → k ≡ 2
-      two k l d e = omega arith
+  pub apply-part : question_number q.kind ≡ 2 → AnswerApplyAsks b p ix n u imgs s tbl q
+  apply-part e =
+      record { good = h.good; table = h.cleared.names; zeros = h.cleared.images; asked = h.asked; count = h.pairs e }
 
   pub pair-part : (k j : ℕ) → k < n → j < n → PairAsks b p n k j
   pair-part k j x y = record { usable = good-usable b p ix n u h.good; left = x; right = y }
 
-  pub answered-0 : q.kind ≡ 0 → {k j v : ℕ} → k ≡ get_or tbl (u16_at s q.list_at) 0 → j ≡ get_or tbl (u16_at s (q.list_at + 2)) 0
+  pub pair-asked : question_number q.kind ≡ 0 → {k j : ℕ} → k ≡ get_or tbl (u16_at s q.list.at) 0 → j ≡ get_or tbl (u16_at s (q.list.at + 2)) 0 → PairAsks b p n k j
+  pair-asked e {k} {j} ek ej =
+      pair-part k j (sort-known n s tbl q h.asked 0 q.list.at (omega (arith, h.two e)) (omega arith) k ek)
+      (sort-known n s tbl q h.asked 1 (q.list.at + 2) (omega (arith, h.two e)) (omega arith) j ej)
+
+  pub answered-0 : question_number q.kind ≡ 0 → {k j v : ℕ} → k ≡ get_or tbl (u16_at s q.list.at) 0 → j ≡ get_or tbl (u16_at s (q.list.at + 2)) 0
       → v ≡ yes_no (compatible (sort_at b p n k) (sort_at b p n j)) → QuestionIs b p n prm imgs bnd s tbl q b p ix prm imgs bnd (record { code = v; count = n; used = u })
   unfolding answer_of question_over sort_at
   answered-0 e {k} {j} {v} ek ej ev =
       let st = store_of b p n in
-      let e1 : first_sort (sorts_by st tbl s q.list_at q.list_count) ≡ get_or st k leaf =
-      sorts-by-first st tbl s q.list_at q.list_count (omega (arith, h.two e)) ∙ ap (λ (x : ℕ). get_or st x leaf) (sym ek) in
-      let e2 : first_sort (rest_sorts (sorts_by st tbl s q.list_at q.list_count)) ≡ get_or st j leaf =
-      sorts-second st tbl s q.list_at q.list_count (omega (arith, h.two e)) ∙ ap (λ (x : ℕ). get_or st x leaf) (sym ej) in
+      let e1 : first_sort (sorts_by st tbl s q.list.at q.list.count) ≡ get_or st k leaf =
+      sorts-by-first st tbl s q.list.at q.list.count (omega (arith, h.two e)) ∙ ap (λ (x : ℕ). get_or st x leaf) (sym ek) in
+      let e2 : first_sort (rest_sorts (sorts_by st tbl s q.list.at q.list.count)) ≡ get_or st j leaf =
+      sorts-second st tbl s q.list.at q.list.count (omega (arith, h.two e)) ∙ ap (λ (x : ℕ). get_or st x leaf) (sym ej) in
       record {
         good = h.good;
         long = refl;
@@ -95,7 +98,7 @@ module _ {b p ix : List ℕ} {n u : ℕ} {prm imgs bnd s tbl : List ℕ} {q : Qu
       }
 
   module _ (b' p' ix' prm' imgs' bnd' : List ℕ) {r : Answer} {w : Word} (e : WordIs r w) where
-    pub answered-1 : q.kind ≡ 1 → AnswerMatchIs b p n prm imgs bnd s tbl q b' p' ix' prm' imgs' bnd' r
+    pub answered-1 : question_number q.kind ≡ 1 → AnswerMatchIs b p n prm imgs bnd s tbl q b' p' ix' prm' imgs' bnd' r
         → QuestionIs b p n prm imgs bnd s tbl q b' p' ix' prm' imgs' bnd' w
     unfolding answer_of question_over
     answered-1 k a =
@@ -112,16 +115,16 @@ module _ {b p ix : List ℕ} {n u : ℕ} {prm imgs bnd s tbl : List ℕ} {q : Qu
           bound = a.bound;
         }
 
-    pub answered-2 : (q.kind ≡ 0 → ⊥) → (q.kind ≡ 1 → ⊥) → ApplyIs b p n imgs s tbl q b' p' ix' imgs' r → prm' ≡ prm → bnd' ≡ bnd
+    pub answered-2 : question_number q.kind ≡ 2 → ApplyIs b p n imgs s tbl q b' p' ix' imgs' r → prm' ≡ prm → bnd' ≡ bnd
         → QuestionIs b p n prm imgs bnd s tbl q b' p' ix' prm' imgs' bnd' w
     unfolding answer_of question_over
-    answered-2 d k a ep eb =
+    answered-2 k a ep eb =
         record {
           good = worded e a.answer.good;
           long = a.answer.long;
           wide = a.answer.wide;
           is = λ l x y.
-              pick-2 (compatible_case (store_of b p n) tbl s q) (match_case l (store_of b p n) tbl s q) (apply_case l (store_of b p n) tbl s q) q.kind d k ∙ a.answer.is l x y
+              pick-2 (compatible_case (store_of b p n) tbl s q) (match_case l (store_of b p n) tbl s q) (apply_case l (store_of b p n) tbl s q) k ∙ a.answer.is l x y
               ∙ ap₂ (λ (c d : ℕ). record { store = store_of b' p' c; code = d }) (sym e.count) (sym e.code);
           starts = subst (λ (c : ℕ). Starts (store_of b p n) (store_of b' p' c)) (sym e.count) a.answer.starts;
           params = ep;

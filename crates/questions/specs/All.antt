@@ -1,10 +1,11 @@
 -- All questions of a sheet: what a question record at a place and the loop over all of them ask and promise, and that one
 -- answer more is the definition's.
-use Rattle.std.specs.Prelude.{ℕ, suc, ◌+◌, ◌*◌, ◌≤◌, ◌<◌, ◌≡◌, refl, length, get_or, set, take, drop}
+use Rattle.std.specs.Prelude.{ℕ, suc, Ok, ◌+◌, ◌*◌, ◌≤◌, ◌<◌, ◌≡◌, refl, length, get_or, set, take, drop}
 use Rattle.std.proofs.Math.Path.{sym, ap, ap₂}
 use Rattle.std.proofs.Common.{subst, ◌∙◌, arith, length-set, take-append-drop, take-suc-set, drop-set-lt, drop-drop}
 use mathlib.Core.List.{List, ◌++◌}
 use Rattle.record.specs.Number.{u16_at, numbers_at}
+use Rattle.record.specs.Kinds.{question_number}
 use Rattle.record.specs.Codec.{length-numbers_at, number_at}
 use Rattle.record.specs.Sort.{Sort, Sorts}
 use Rattle.record.specs.Decode.{store_of}
@@ -14,7 +15,6 @@ use Rattle.reader.specs.Reader.{read_question}
 use Rattle.reader.specs.QuestionWas.{QuestionWas}
 use Rattle.reader.specs.declared.Cursor.{Cursor}
 use Rattle.reader.specs.declared.QuestionRecord.{QuestionRecord}
-use Rattle.reader.specs.declared.ReadQuestion.TheVariants.{Question as QuestionAt}
 use Rattle.sheet.specs.declared.SheetCounts.{SheetCounts}
 use Rattle.sheet.specs.Sheet.{Lengths, QuestionFields, question_fields}
 use Rattle.sheet.specs.Trees.{trees_of, trees-length, trees-same, mapped-sorts}
@@ -24,8 +24,7 @@ use Rattle.store.specs.Good.{Good}
 use Rattle.matching_tables.specs.Tables.{Blank}
 use Rattle.row_rules.specs.Outcome.{CodedStore}
 use Rattle.judge_rules.specs.Questions.{answer_of, AnswersSoFar, answer_added, answers_of}
-use Rattle.questions.specs.declared.Word.{Word}
-use Rattle.store.specs.declared.Counts.{Counts}
+use Rattle.questions.specs.Word.{Word, Counts}
 use Rattle.questions.specs.Contract.{question_over, QuestionAsks, QuestionIs}
 
 pub record AtAsks (b p ix : List ℕ) (n u : ℕ) (prm imgs bnd s tbl : List ℕ) (m x : ℕ) : Type 0 where
@@ -99,7 +98,7 @@ stands-asks s b p ix tbl xs ys c h b' p' ix' n u g st prm imgs bnd an blank insi
 
 ---------------------------------------------------------------- a record at its place
 module _ (b p ix : List ℕ) (n u : ℕ) (prm imgs bnd s tbl : List ℕ) (m x : ℕ) (h : AtAsks b p ix n u prm imgs bnd s tbl m x)
-    (r : QuestionRecord) (c : Cursor) (e : read_question s m x ≡ QuestionAt r c) where
+    (r : QuestionRecord) (c : Cursor) (e : read_question s m x ≡ Ok (r, c)) where
   was : QuestionWas s m x r c
   was = question-again s m x h.stands r c e
 
@@ -114,12 +113,11 @@ module _ (b p ix : List ℕ) (n u : ℕ) (prm imgs bnd s tbl : List ℕ) (m x : 
             record {
               within = was.list;
               inside = λ j o. omega (arith, was.references j o, h.numbered.inside);
-              known = λ j o. h.numbered.known (u16_at s (r.list_at + 2 * j)) (was.references j o);
+              known = λ j o. h.numbered.known (u16_at s (r.list.at + 2 * j)) (was.references j o);
               names = was.names;
               few = was.named;
               short = h.numbered.short;
             };
-        kind = was.known;
         two = was.two;
         three = was.three;
         pairs = was.images;
@@ -130,14 +128,14 @@ module _ (b p ix : List ℕ) (n u : ℕ) (prm imgs bnd s tbl : List ℕ) (m x : 
   unfolding question_fields question_over
   over-same i =
       let st = store_of b p n in
-      let rs = numbers_at s r.list_at r.list_count in
+      let rs = numbers_at s r.list.at r.list.count in
       question-is s m x h.stands r c e i (trees_of st tbl m) (trees-length st tbl m)
-      ∙ ap (λ (ss : Sorts). record { kind = r.kind; sorts = ss; names = numbers_at s r.names_at r.names_count })
+      ∙ ap (λ (ss : Sorts). record { kind = question_number r.kind; sorts = ss; names = numbers_at s r.names.at r.names.count })
       (sym
       (mapped-sorts st tbl m rs
       (λ j o.
-      let y : j < r.list_count = omega (arith, length-numbers_at s r.list_at r.list_count) in
-      omega (arith, number_at s r.list_at r.list_count j y, was.references j y))))
+      let y : j < r.list.count = omega (arith, length-numbers_at s r.list.at r.list.count) in
+      omega (arith, number_at s r.list.at r.list.count j y, was.references j y))))
 
   pub at-is : (b' p' ix' prm' imgs' bnd' : List ℕ) (w : Word) → QuestionIs b p n prm imgs bnd s tbl r b' p' ix' prm' imgs' bnd' w
       → AtIs b p n prm imgs bnd s tbl m x b' p' ix' prm' imgs' bnd' w

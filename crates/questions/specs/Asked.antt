@@ -35,7 +35,7 @@ sorts-third st tbl s x m h =
     ∙ ap (λ (y : ℕ). get_or st (get_or tbl (u16_at s y) 0) leaf) e
 
 -- A sort of the question at x.
-module _ (n : ℕ) (s tbl : List ℕ) (q : QuestionRecord) (h : Asked n s tbl q) (j x : ℕ) (o : j < q.list_count) (e : x ≡ q.list_at + 2 * j) where
+module _ (n : ℕ) (s tbl : List ℕ) (q : QuestionRecord) (h : Asked n s tbl q) (j x : ℕ) (o : j < q.list.count) (e : x ≡ q.list.at + 2 * j) where
   pub sort-asks : SortAtAsks s x tbl
   sort-asks =
       record {

@@ -2,6 +2,7 @@
 -- over the store numbers of the sheet's sorts; and every table of names is as it was, whole.
 use Rattle.std.specs.Prelude.{ℕ, ◌+◌, ◌*◌, ◌≤◌, ◌<◌, ◌≡◌, List, length, get_or}
 use Rattle.record.specs.Number.{u16_at, numbers_at}
+use Rattle.record.specs.Kinds.{question_number}
 use Rattle.record.specs.Sort.{Sort}
 use Rattle.record.specs.Record.{sorts_of}
 use Rattle.record.specs.Decode.{store_of, sort_at, Zeros}
@@ -12,27 +13,27 @@ use Rattle.sheet.specs.Trees.{mapped}
 use Rattle.store.specs.Good.{Good}
 use Rattle.matching_tables.specs.Tables.{Lists, Cleared}
 use Rattle.row_rules.specs.Verdict.{code_of}
-use Rattle.row_answer.specs.declared.Answer.{Answer}
+use Rattle.row_answer.specs.Answer.{Answer}
 use Rattle.row_answer.specs.Answer.{AnswerIs}
 use Rattle.judge_rules.specs.Questions.{first_sort, rest_sorts, match_answer, apply_answer, answer_of}
-use Rattle.questions.specs.declared.Word.{Word}
+use Rattle.questions.specs.Word.{Word}
 
 -- THE QUESTION over the store st: the sheet's sorts by their store numbers, tbl.
 unfoldable pub question_over : List Sort → List ℕ → List ℕ → QuestionRecord → QuestionFields
 question_over st tbl s r =
     record {
-      kind = r.kind;
-      sorts = sorts_of st (mapped tbl (numbers_at s r.list_at r.list_count));
-      names = numbers_at s r.names_at r.names_count;
+      kind = question_number r.kind;
+      sorts = sorts_of st (mapped tbl (numbers_at s r.list.at r.list.count));
+      names = numbers_at s r.names.at r.names.count;
     }
 
 -- Its lists lie in the sheet, its sorts have numbers of the store.
 pub record Asked (n : ℕ) (s tbl : List ℕ) (r : QuestionRecord) : Type 0 where
-  pub within : r.list_at + 2 * r.list_count ≤ length s
-  pub inside : (j : ℕ) → j < r.list_count → u16_at s (r.list_at + 2 * j) < length tbl
-  pub known : (j : ℕ) → j < r.list_count → get_or tbl (u16_at s (r.list_at + 2 * j)) 0 < n
-  pub names : r.names_at + 2 * r.names_count ≤ length s
-  pub few : r.names_count ≤ 64
+  pub within : r.list.at + 2 * r.list.count ≤ length s
+  pub inside : (j : ℕ) → j < r.list.count → u16_at s (r.list.at + 2 * j) < length tbl
+  pub known : (j : ℕ) → j < r.list.count → get_or tbl (u16_at s (r.list.at + 2 * j)) 0 < n
+  pub names : r.names.at + 2 * r.names.count ≤ length s
+  pub few : r.names.count ≤ 64
   pub short : length s ≤ 65536
 
 ---------------------------------------------------------------- question 2
@@ -41,12 +42,12 @@ pub record AnswerApplyAsks (b p ix : List ℕ) (n u : ℕ) (imgs s tbl : List �
   pub table : length imgs ≡ 65536
   pub zeros : Zeros imgs 0
   pub asked : Asked n s tbl r
-  pub count : r.list_count ≡ r.names_count + 1
+  pub count : r.list.count ≡ r.names.count + 1
 
 pub record ApplyIs (b p : List ℕ) (n : ℕ) (imgs s tbl : List ℕ) (q : QuestionRecord) (b' p' ix' imgs' : List ℕ) (r : Answer) : Type 0 where
   pub answer : AnswerIs b p n
-      (apply_answer (numbers_at s q.names_at q.names_count) (first_sort (sorts_of (store_of b p n) (mapped tbl (numbers_at s q.list_at q.list_count))))
-      (rest_sorts (sorts_of (store_of b p n) (mapped tbl (numbers_at s q.list_at q.list_count)))))
+      (apply_answer (numbers_at s q.names.at q.names.count) (first_sort (sorts_of (store_of b p n) (mapped tbl (numbers_at s q.list.at q.list.count))))
+      (rest_sorts (sorts_of (store_of b p n) (mapped tbl (numbers_at s q.list.at q.list.count)))))
       b' p' ix' r
   pub images : imgs' ≡ imgs
 
@@ -70,22 +71,19 @@ pub record AnswerMatchAsks (b p ix : List ℕ) (n u : ℕ) (prm imgs bnd s tbl :
   pub zeros : Zeros prm 0
   pub cleared : Cleared imgs bnd
   pub asked : Asked n s tbl r
-  pub count : r.list_count ≡ 3
+  pub count : r.list.count ≡ 3
 
 pub record AnswerMatchIs (b p : List ℕ) (n : ℕ) (prm imgs bnd s tbl : List ℕ) (q : QuestionRecord) (b' p' ix' prm' imgs' bnd' : List ℕ) (r : Answer) : Type 0 where
   pub answer : AnswerIs b p n
-      (match_answer (numbers_at s q.names_at q.names_count) (first_sort (sorts_of (store_of b p n) (mapped tbl (numbers_at s q.list_at q.list_count))))
-      (first_sort (rest_sorts (sorts_of (store_of b p n) (mapped tbl (numbers_at s q.list_at q.list_count)))))
-      (first_sort (rest_sorts (rest_sorts (sorts_of (store_of b p n) (mapped tbl (numbers_at s q.list_at q.list_count)))))))
+      (match_answer (numbers_at s q.names.at q.names.count) (first_sort (sorts_of (store_of b p n) (mapped tbl (numbers_at s q.list.at q.list.count))))
+      (first_sort (rest_sorts (sorts_of (store_of b p n) (mapped tbl (numbers_at s q.list.at q.list.count)))))
+      (first_sort (rest_sorts (rest_sorts (sorts_of (store_of b p n) (mapped tbl (numbers_at s q.list.at q.list.count)))))))
       b' p' ix' r
   pub params : prm' ≡ prm
   pub images : imgs' ≡ imgs
   pub bound : bnd' ≡ bnd
 
 ---------------------------------------------------------------- the word
-pub record CodeAsks (a : Answer) : Type 0 where
-  pub small : code_of a.verdict < 4294967296
-
 pub record WordIs (a : Answer) (r : Word) : Type 0 where
   pub code : r.code ≡ code_of a.verdict
   pub count : r.count ≡ a.count
@@ -98,10 +96,9 @@ pub record QuestionAsks (b p ix : List ℕ) (n u : ℕ) (prm imgs bnd s tbl : Li
   pub zeros : Zeros prm 0
   pub cleared : Cleared imgs bnd
   pub asked : Asked n s tbl r
-  pub kind : r.kind < 3
-  pub two : r.kind ≡ 0 → r.list_count ≡ 2
-  pub three : r.kind ≡ 1 → r.list_count ≡ 3
-  pub pairs : r.kind ≡ 2 → r.list_count ≡ r.names_count + 1
+  pub two : question_number r.kind ≡ 0 → r.list.count ≡ 2
+  pub three : question_number r.kind ≡ 1 → r.list.count ≡ 3
+  pub pairs : question_number r.kind ≡ 2 → r.list.count ≡ r.names.count + 1
 
 -- THE ANSWER TO A QUESTION: the store after it and its code are the definition's, whatever other lengths were lent.
 pub record QuestionIs (b p : List ℕ) (n : ℕ) (prm imgs bnd s tbl : List ℕ) (q : QuestionRecord) (b' p' ix' prm' imgs' bnd' : List ℕ) (r : Word) : Type 0 where

@@ -119,33 +119,22 @@ filling-end l s tbl x y n l' left f h =
       below = subst (λ (vs : List ℕ). (j : ℕ) → j < n → get_or vs j 0 < 65536) en (λ j o. f.below j (omega arith));
     }
 
--- Emptying: the others are unbound.
-pub record Emptying (l s : List ℕ) (x n : ℕ) (l' : List ℕ) (left : ℕ) : Type 0 where
-  pub low : left ≤ n
-  pub long : length l' ≡ length l
-  pub whole : l' ≡ emptied l (numbers_at s (x + 2 * left) (n - left))
+-- Emptying: the order makes no difference.
+set-zeros : (l : List ℕ) (v w : ℕ) → set (set l v 0) w 0 ≡ set (set l w 0) v 0
+set-zeros [] v w = refl
+set-zeros (x ∷ l) zero zero = refl
+set-zeros (x ∷ l) zero (suc w) = refl
+set-zeros (x ∷ l) (suc v) zero = refl
+set-zeros (x ∷ l) (suc v) (suc w) = ap (λ (r : List ℕ). x ∷ r) (set-zeros l v w)
 
-pub emptying-start : (l s : List ℕ) (x n : ℕ) → Emptying l s x n l n
+pub emptied-first : (l : List ℕ) (v : ℕ) (vs : List ℕ) → emptied (set l v 0) vs ≡ emptied l (v ∷ vs)
 unfolding emptied
-emptying-start l s x n =
-    let z : n - n ≡ 0 = omega arith in
-    record { low = omega arith; long = refl; whole = sym (ap (emptied l) (numbers-none s (x + 2 * n) (n - n) z)) }
+emptied-first l v [] = refl
+emptied-first l v (w ∷ vs) = ap (λ (r : List ℕ). set r w 0) (emptied-first l v vs) ∙ set-zeros (emptied l vs) v w
 
-pub emptying-step : (l s : List ℕ) (x n : ℕ) (l' : List ℕ) (left v : ℕ) → Emptying l s x n l' left → 0 < left → v ≡ u16_at s (x + 2 * (left - 1))
-    → Emptying l s x n (set l' v 0) (left - 1)
+pub emptied-none : (l : List ℕ) → emptied l [] ≡ l
 unfolding emptied
-emptying-step l s x n l' left v f h ev =
-    record {
-      low = omega (arith, f.low);
-      long = length-set l' v 0 ∙ f.long;
-      whole =
-          ap₂ (λ (i : ℕ) (r : List ℕ). set r i 0) ev f.whole
-          ∙ sym (ap (emptied l) (numbers-step s x n left h f.low));
-    }
-
-pub emptying-end : (l s : List ℕ) (x n : ℕ) (l' : List ℕ) (left : ℕ) → Emptying l s x n l' left → left ≡ 0 → l' ≡ emptied l (numbers_at s x n)
-emptying-end l s x n l' left f h =
-    f.whole ∙ ap (emptied l) (ap₂ (numbers_at s) (at_none x left h) (all_left n left h))
+emptied-none l = refl
 
 ---------------------------------------------------------------- what the filled table stands for
 pub filled-length : (l vs ks : List ℕ) → length (filled l vs ks) ≡ length l

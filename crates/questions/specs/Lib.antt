@@ -1,4 +1,6 @@
+pub mod Word
 pub mod Fill
 pub mod Contract
 pub mod Asked
 pub mod All
+pub mod Words

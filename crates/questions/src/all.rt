@@ -1,74 +1,49 @@
 // All questions of a sheet, in order: each record is read again at its place.
-ghost use Rattle.questions.specs.All.{AtAsks, AtIs, AllAsks, AllIs};
+ghost use Rattle.store.specs.Changes.{Same};
+ghost use Rattle.matching_tables.specs.Names.{SameNames};
+ghost use Rattle.questions.specs.Words.{AtAsked, AtAnswered, AllAsked, AllAnswered};
 
-use super::{Word, answer_question};
-use reader::{Cursor, ReadQuestion};
-use store::Counts;
+use super::answer_question;
+use matching_tables::names::Names;
+use reader::Cursor;
+use sheet::ReadSheet;
+use store::Store;
 
-// The answer to the question whose record stands at `at`. Where none is read, which what is asked rules out, 0.
+// The answer to the question whose record stands at `at`, of a sheet with this many sorts. Where none is read, which what is asked
+// rules out, 0.
 pub fn answer_at(
-    records: &mut [u8],
-    places: &mut [u32],
-    index: &mut [u16],
-    count: usize,
-    used: usize,
-    params: &mut [u16],
-    images: &mut [u16],
-    bound: &mut [u16],
-    sheet: &[u8],
-    table: &[u16],
+    store: &mut Store<'_>,
+    names: &mut Names<'_>,
+    sheet: &ReadSheet<'_>,
     sorts: usize,
     at: usize,
-) -> Word
-    requires { AtAsks records.old places.old index.old count used params.old images.old bound.old sheet.now table.now sorts at }
-    ensures { AtIs records.old places.old count params.old images.old bound.old sheet.now table.now sorts at records.new places.new index.new params.new images.new bound.new result }
+) -> u32
+    requires { AtAsked store.old names.old sheet.now sorts at }
+    ensures same { Same store.old store.new }
+    ensures names { SameNames names.old names.new }
+    ensures answer { AtAnswered store.old names.old sheet.now sorts at store.new names.new result }
 {
-    let cursor = Cursor { at };
-    let read = cursor.question(sheet, sorts);
-    match read {
-        ReadQuestion::Question(question, _) => answer_question(
-            records, places, index, count, used, params, images, bound, sheet, table, question,
-        ),
-        ReadQuestion::NoQuestion(_) => Word {
-            code: 0,
-            count,
-            used,
-        },
+    match (Cursor { at }).question(sheet.bytes, sorts) {
+        Ok((question, _)) => answer_question(store, names, sheet, question),
+        Err(_) => 0,
     }
 }
 
-// Writes the answers to the first `many` questions, whose places are `asked`, into `answers`, over the store with these counts; its
-// counts after them.
+// Writes the answers to the questions whose places are `asked` into `answers`.
 pub fn answer_all(
-    records: &mut [u8],
-    places: &mut [u32],
-    index: &mut [u16],
-    counts: Counts,
-    params: &mut [u16],
-    images: &mut [u16],
-    bound: &mut [u16],
-    sheet: &[u8],
-    table: &[u16],
+    store: &mut Store<'_>,
+    names: &mut Names<'_>,
+    sheet: &ReadSheet<'_>,
     sorts: usize,
     asked: &[u16],
-    many: usize,
     answers: &mut [u32],
-) -> Counts
-    requires { AllAsks records.old places.old index.old counts.count counts.used params.old images.old bound.old sheet.now table.now sorts asked.now many answers.old }
-    ensures { AllIs records.old places.old counts.count params.old images.old bound.old sheet.now table.now sorts asked.now many answers.old records.new places.new index.new params.new images.new bound.new answers.new result }
+)
+    requires { AllAsked store.old names.old sheet.now sorts asked.now answers.old }
+    ensures same { Same store.old store.new }
+    ensures names { SameNames names.old names.new }
+    ensures answers { AllAnswered store.old names.old sheet.now sorts asked.now answers.old store.new names.new answers.new }
 {
-    let mut n = counts.count;
-    let mut u = counts.used;
-    let mut q = 0;
-    while q < many {
-        let at = asked[q] as usize;
-        let word = answer_at(
-            records, places, index, n, u, params, images, bound, sheet, table, sorts, at,
-        );
-        answers[q] = word.code;
-        n = word.count;
-        u = word.used;
-        q += 1;
+    for (q, at) in asked.iter().enumerate() {
+        answers[q] = answer_at(store, names, sheet, sorts, *at as usize);
     }
-    Counts { count: n, used: u }
 }

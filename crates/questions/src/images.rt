@@ -1,79 +1,66 @@
 // Question 2: the first sort with the names replaced by the other sorts. The table of images is filled by name and emptied.
 ghost use Rattle.std.specs.Prelude.{◌≡◌, get_or};
+ghost use Rattle.store.specs.Changes.{Same};
+ghost use Rattle.matching_tables.specs.Names.{SameNames};
 ghost use Rattle.record.specs.Number.{u16_at, numbers_at};
 ghost use Rattle.questions.specs.Fill.{SortAtAsks, FillAsks, FilledIs, EmptyAsks, emptied};
-ghost use Rattle.questions.specs.Contract.{AnswerApplyAsks, ApplyIs};
+ghost use Rattle.questions.specs.Words.{ApplyAsked, ApplyAnswered};
 
+use matching_tables::names::Names;
 use reader::QuestionRecord;
+use record::span::Span;
 use record::u16_at;
-use row_answer::Answer;
 use row_instance::instance;
+use row_rules::Row;
+use sheet::ReadSheet;
+use store::Store;
 
 // The store number of the sort that the sheet names at `at`.
-pub fn sort_at(sheet: &[u8], at: usize, table: &[u16]) -> usize
-    requires { SortAtAsks sheet.now at table.now }
-    ensures { result ≡ get_or table.now (u16_at sheet.now at) 0 }
+pub fn sort_at(sheet: &ReadSheet<'_>, at: usize) -> usize
+    requires { SortAtAsks sheet.now.bytes.now at sheet.now.table.now }
+    ensures { result ≡ get_or sheet.now.table.now (u16_at sheet.now.bytes.now at) 0 }
 {
-    let v = u16_at(sheet, at);
-    table[v] as usize
+    sheet.table[u16_at(sheet.bytes, at)] as usize
 }
 
-// Binds the n names that the sheet has from `names` on to the sorts that it names from `at` on, the last first.
-pub fn fill_images(
-    images: &mut [u16],
-    sheet: &[u8],
-    table: &[u16],
-    names: usize,
-    at: usize,
-    n: usize,
-)
-    requires { FillAsks images.old sheet.now table.now names at n }
-    ensures { FilledIs images.old sheet.now table.now names at n images.new }
+// Binds the names of a question to the sorts that the sheet names from `at` on, the last first.
+pub fn fill_images(images: &mut [u16], sheet: &ReadSheet<'_>, names: Span, at: usize)
+    requires { FillAsks images.old sheet.now.bytes.now sheet.now.table.now names.at at names.count }
+    ensures { FilledIs images.old sheet.now.bytes.now sheet.now.table.now names.at at names.count images.new }
 {
-    let mut left = n;
-    while 0 < left {
-        left -= 1;
-        let name = u16_at(sheet, names + 2 * left);
-        let k = sort_at(sheet, at + 2 * left, table);
-        images[name] = (k + 1) as u16;
+    for i in (0..names.count).rev() {
+        let name = names.get(sheet.bytes, i);
+        images[name] = (sort_at(sheet, at + 2 * i) + 1) as u16;
     }
 }
 
-// Unbinds the n names that the sheet has from `names` on.
-pub fn empty_images(images: &mut [u16], sheet: &[u8], names: usize, n: usize)
-    requires { EmptyAsks images.old sheet.now names n }
-    ensures { images.new ≡ emptied images.old (numbers_at sheet.now names n) }
+// Unbinds the names of a question.
+pub fn empty_images(images: &mut [u16], sheet: &[u8], names: Span)
+    requires { EmptyAsks images.old sheet.now names.at names.count }
+    ensures { images.new ≡ emptied images.old (numbers_at sheet.now names.at names.count) }
 {
-    let mut left = n;
-    while 0 < left {
-        left -= 1;
-        let name = u16_at(sheet, names + 2 * left);
+    for name in names.numbers(sheet) {
         images[name] = 0;
     }
 }
 
-// Question 2: the first sort with the names replaced by the other ones, found or added; Limit or Full. The table of images
-// is zeros before and after.
+// Question 2: the first sort with the names replaced by the other ones, found or added; Limit or Full. No name is bound before and
+// after.
 pub fn answer_apply(
-    records: &mut [u8],
-    places: &mut [u32],
-    index: &mut [u16],
-    count: usize,
-    used: usize,
-    images: &mut [u16],
-    sheet: &[u8],
-    table: &[u16],
+    store: &mut Store<'_>,
+    names: &mut Names<'_>,
+    sheet: &ReadSheet<'_>,
     question: QuestionRecord,
-) -> Answer
-    requires { AnswerApplyAsks records.old places.old index.old count used images.old sheet.now table.now question }
-    ensures { ApplyIs records.old places.old count images.old sheet.now table.now question records.new places.new index.new images.new result }
+) -> Row
+    requires { ApplyAsked store.old names.old sheet.now question }
+    ensures same { Same store.old store.new }
+    ensures names { SameNames names.old names.new }
+    ensures answer { ApplyAnswered store.old names.old sheet.now question store.new names.new result }
 {
-    let list = question.list_at;
-    let names = question.names_at;
-    let named = question.names_count;
-    fill_images(images, sheet, table, names, list + 2, named);
-    let k = sort_at(sheet, list, table);
-    let made = instance(records, places, index, count, used, images, k);
-    empty_images(images, sheet, names, named);
+    let list = question.list.at;
+    let images = &mut *names.images;
+    fill_images(images, sheet, question.names, list + 2);
+    let made = instance(store, images, sort_at(sheet, list));
+    empty_images(images, sheet.bytes, question.names);
     made
 }

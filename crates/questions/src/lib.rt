@@ -6,90 +6,53 @@ pub mod images;
 pub mod matched;
 
 ghost use Rattle.std.specs.Prelude.{◌≡◌};
+ghost use Rattle.store.specs.Changes.{Same};
+ghost use Rattle.matching_tables.specs.Names.{SameNames};
 ghost use Rattle.record.specs.Decode.{sort_at};
 ghost use Rattle.substitution.specs.Compatible.{compatible};
 ghost use Rattle.matching_tables.specs.Usable.{PairAsks};
 ghost use Rattle.judge_rules.specs.Questions.{yes_no};
-ghost use Rattle.questions.specs.Contract.{CodeAsks, WordIs, QuestionAsks, QuestionIs};
+ghost use Rattle.questions.specs.Words.{QuestionAsked, QuestionAnswered};
 
 use images::{answer_apply, sort_at};
 use matched::answer_match;
+use matching_tables::names::Names;
 use matching_with::compatible::is_compatible;
 use reader::QuestionRecord;
-use record::kinds::{QUESTION_COMPATIBLE, QUESTION_MATCH};
-use row_answer::{Answer, code};
-
-// The word of an answer as it is written, and the store's count and bytes in use after it.
-#[derive(Drop)]
-pub struct Word {
-    pub code: u32,
-    pub count: usize,
-    pub used: usize,
-}
+use record::kinds::QuestionKind;
+use row_answer::code;
+use sheet::ReadSheet;
+use store::Store;
+use store::entries::Sorts;
 
 // Question 0: 1 where the two sorts are compatible, else 0.
-pub fn answer_compatible(records: &[u8], places: &[u32], count: usize, p: usize, t: usize) -> u32
-    requires { PairAsks records.now places.now count p t }
-    ensures { result ≡ yes_no (compatible (sort_at records.now places.now count p) (sort_at records.now places.now count t)) }
+pub fn answer_compatible(sorts: &Sorts<'_>, p: usize, t: usize) -> u32
+    requires { PairAsks sorts.now.records.now sorts.now.places.now sorts.now.count p t }
+    ensures { result ≡ yes_no (compatible (sort_at sorts.now.records.now sorts.now.places.now sorts.now.count p) (sort_at sorts.now.records.now sorts.now.places.now sorts.now.count t)) }
 {
-    if is_compatible(records, places, count, p, t) {
-        return 1;
-    }
-    0
+    u32::from(is_compatible(sorts, p, t))
 }
 
-// An answer with its code.
-pub fn word_of(answer: Answer) -> Word
-    requires { CodeAsks answer }
-    ensures { WordIs answer result }
-{
-    let verdict = answer.verdict;
-    let word = code(verdict);
-    Word {
-        code: word,
-        count: answer.count,
-        used: answer.used,
-    }
-}
-
-// The answer to the question with this record, by its kind: 1 or 0 for 0; for 1 and 2 the code of `answer_match` and
-// `answer_apply`. The tables of names are zeros before and after.
+// The answer to the question with this record, by its kind: 1 or 0 for Compatible; for the others the code of `answer_match` and
+// `answer_apply`. No name is listed or bound before and after.
 pub fn answer_question(
-    records: &mut [u8],
-    places: &mut [u32],
-    index: &mut [u16],
-    count: usize,
-    used: usize,
-    params: &mut [u16],
-    images: &mut [u16],
-    bound: &mut [u16],
-    sheet: &[u8],
-    table: &[u16],
+    store: &mut Store<'_>,
+    names: &mut Names<'_>,
+    sheet: &ReadSheet<'_>,
     question: QuestionRecord,
-) -> Word
-    requires { QuestionAsks records.old places.old index.old count used params.old images.old bound.old sheet.now table.now question }
-    ensures { QuestionIs records.old places.old count params.old images.old bound.old sheet.now table.now question records.new places.new index.new params.new images.new bound.new result }
+) -> u32
+    requires { QuestionAsked store.old names.old sheet.now question }
+    ensures same { Same store.old store.new }
+    ensures names { SameNames names.old names.new }
+    ensures answer { QuestionAnswered store.old names.old sheet.now question store.new names.new result }
 {
-    let kind = question.kind;
-    let list = question.list_at;
-    if kind == QUESTION_COMPATIBLE {
-        let p = sort_at(sheet, list, table);
-        let t = sort_at(sheet, list + 2, table);
-        let word = answer_compatible(records, places, count, p, t);
-        return Word {
-            code: word,
-            count,
-            used,
-        };
+    match question.kind {
+        QuestionKind::Compatible => {
+            let p = sort_at(sheet, question.list.at);
+            let t = sort_at(sheet, question.list.at + 2);
+            answer_compatible(&store.sorts(), p, t)
+        }
+        QuestionKind::Match => code(answer_match(store, names, sheet, question)),
+        QuestionKind::Apply => code(answer_apply(store, names, sheet, question)),
     }
-    if kind == QUESTION_MATCH {
-        let found = answer_match(
-            records, places, index, count, used, params, images, bound, sheet, table, question,
-        );
-        return word_of(found);
-    }
-    let made = answer_apply(
-        records, places, index, count, used, images, sheet, table, question,
-    );
-    word_of(made)
 }

@@ -1,77 +1,76 @@
 -- Records read by the definitions, computed: the order of refusals where two of them apply, and records that are accepted.
-use Rattle.std.specs.Prelude.{◌≡◌, refl, [], ◌∷◌, replicate}
+use Rattle.std.specs.Prelude.{◌≡◌, refl, [], ◌∷◌, replicate, Err}
+use Rattle.record.specs.declared.kinds.TermKind.TheVariants.{Op, Let}
+use Rattle.record.specs.declared.kinds.QuestionKind.TheVariants.{Compatible}
 use Rattle.reader.specs.declared.Refusal.TheVariants.{PastEnd, Map, Value, Reference}
-use Rattle.reader.specs.declared.ReadSort.TheVariants.{NoSort}
-use Rattle.reader.specs.declared.ReadTerm.TheVariants.{Term, NoTerm}
-use Rattle.reader.specs.declared.ReadQuestion.TheVariants.{Question, NoQuestion}
-use Rattle.reader.specs.Reader.{place, read_sort, read_term, read_question}
+use Rattle.reader.specs.Reader.{got, span, read_sort, read_term, read_question}
 
 -- 4 without the bit of the kind, though no kind byte is there; with it the kind byte is missed first, also beside bit 128
-no-bit : read_sort (0 ∷ []) 0 0 ≡ NoSort Map
+no-bit : read_sort (0 ∷ []) 0 0 ≡ Err Map
 unfolding read_sort
 no-bit = refl
 
-no_kind : read_sort (129 ∷ []) 0 0 ≡ NoSort PastEnd
+no_kind : read_sort (129 ∷ []) 0 0 ≡ Err PastEnd
 unfolding read_sort
 no_kind = refl
 
 -- Bool with a name: the map is exactly the kind's; a kind that is none, 4 before its other fields are missed
-bool-named : read_sort (3 ∷ 3 ∷ 1 ∷ 0 ∷ []) 0 0 ≡ NoSort Map
+bool-named : read_sort (3 ∷ 3 ∷ 1 ∷ 0 ∷ []) 0 0 ≡ Err Map
 unfolding read_sort
 bool-named = refl
 
-kind-16 : read_sort (17 ∷ 16 ∷ []) 0 0 ≡ NoSort Map
+kind-16 : read_sort (17 ∷ 16 ∷ []) 0 0 ≡ Err Map
 unfolding read_sort
 kind-16 = refl
 
 -- a Function of 65 sorts: 3 where a byte of the list is missing, else 5
-long-cut : read_sort (17 ∷ 0 ∷ 65 ∷ replicate 129 0) 1 0 ≡ NoSort PastEnd
+long-cut : read_sort (17 ∷ 0 ∷ 65 ∷ replicate 129 0) 1 0 ≡ Err PastEnd
 unfolding read_sort
 long-cut = refl
 
-long-whole : read_sort (17 ∷ 0 ∷ 65 ∷ replicate 130 0) 1 0 ≡ NoSort Value
+long-whole : read_sort (17 ∷ 0 ∷ 65 ∷ replicate 130 0) 1 0 ≡ Err Value
 unfolding read_sort
 long-whole = refl
 
 -- an Array of one sort that is not there: 5 before 6; a Par of itself: 6, before its missing names are 3
-array-one : read_sort (17 ∷ 8 ∷ 1 ∷ 9 ∷ 0 ∷ []) 1 0 ≡ NoSort Value
+array-one : read_sort (17 ∷ 8 ∷ 1 ∷ 9 ∷ 0 ∷ []) 1 0 ≡ Err Value
 unfolding read_sort
 array-one = refl
 
-par-itself : read_sort (81 ∷ 12 ∷ 1 ∷ 3 ∷ 0 ∷ []) 3 0 ≡ NoSort Reference
+par-itself : read_sort (81 ∷ 12 ∷ 1 ∷ 3 ∷ 0 ∷ []) 3 0 ≡ Err Reference
 unfolding read_sort
 par-itself = refl
 
 -- AsOp 3 with nothing behind its number: 5; a Let whose first list is empty: 5, before the second is missed
-as-op-3 : read_term (29 ∷ 12 ∷ 3 ∷ 0 ∷ 0 ∷ 0 ∷ []) 1 0 0 ≡ NoTerm Value
+as-op-3 : read_term (29 ∷ 12 ∷ 3 ∷ 0 ∷ 0 ∷ 0 ∷ []) 1 0 0 ≡ Err Value
 unfolding read_term
 as-op-3 = refl
 
-let-none : read_term (81 ∷ 9 ∷ 0 ∷ []) 1 0 0 ≡ NoTerm Value
+let-none : read_term (81 ∷ 9 ∷ 0 ∷ []) 1 0 0 ≡ Err Value
 unfolding read_term
 let-none = refl
 
 -- 65 pairs, a byte short: 3
-pairs-cut : read_term (53 ∷ 8 ∷ 0 ∷ 0 ∷ 0 ∷ 0 ∷ 1 ∷ 0 ∷ 0 ∷ 65 ∷ replicate 259 0) 1 1 0 ≡ NoTerm PastEnd
+pairs-cut : read_term (53 ∷ 8 ∷ 0 ∷ 0 ∷ 0 ∷ 0 ∷ 1 ∷ 0 ∷ 0 ∷ 65 ∷ replicate 259 0) 1 1 0 ≡ Err PastEnd
 unfolding read_term
 pairs-cut = refl
 
 -- accepted: K1's second term and its question, and a Let whose name is 65,535
 k1-term : read_term (21 ∷ 7 ∷ 10 ∷ 0 ∷ 0 ∷ 0 ∷ 2 ∷ 0 ∷ 0 ∷ 0 ∷ 0 ∷ []) 1 1 0
-    ≡ Term (record { kind = 7; name = 0; number = 10; sort = 0; list_at = 7; list_count = 2; pairs_at = 11; pairs_count = 0; second_at = 11; second_count = 0 }) (place 11)
+    ≡ got (record { kind = Op; name = 0; number = 10; sort = 0; list = span 7 2; pairs = span 11 0; second = span 11 0 }) 11
 unfolding read_term
 k1-term = refl
 
-k1-question : read_question (17 ∷ 0 ∷ 2 ∷ 0 ∷ 0 ∷ 0 ∷ 0 ∷ []) 1 0 ≡ Question (record { kind = 0; list_at = 3; list_count = 2; names_at = 7; names_count = 0 }) (place 7)
+k1-question : read_question (17 ∷ 0 ∷ 2 ∷ 0 ∷ 0 ∷ 0 ∷ 0 ∷ []) 1 0 ≡ got (record { kind = Compatible; list = span 3 2; names = span 7 0 }) 7
 unfolding read_question
 k1-question = refl
 
 let-name : read_term (81 ∷ 9 ∷ 2 ∷ 0 ∷ 0 ∷ 0 ∷ 0 ∷ 1 ∷ 255 ∷ 255 ∷ []) 0 1 0
-    ≡ Term (record { kind = 9; name = 0; number = 0; sort = 0; list_at = 3; list_count = 2; pairs_at = 7; pairs_count = 0; second_at = 8; second_count = 1 }) (place 10)
+    ≡ got (record { kind = Let; name = 0; number = 0; sort = 0; list = span 3 2; pairs = span 7 0; second = span 8 1 }) 10
 unfolding read_term
 let-name = refl
 
 -- apply with a name twice: 5
-apply-twice : read_question (81 ∷ 2 ∷ 3 ∷ 0 ∷ 0 ∷ 0 ∷ 0 ∷ 0 ∷ 0 ∷ 2 ∷ 4 ∷ 0 ∷ 4 ∷ 0 ∷ []) 1 0 ≡ NoQuestion Value
+apply-twice : read_question (81 ∷ 2 ∷ 3 ∷ 0 ∷ 0 ∷ 0 ∷ 0 ∷ 0 ∷ 0 ∷ 2 ∷ 4 ∷ 0 ∷ 4 ∷ 0 ∷ []) 1 0 ≡ Err Value
 unfolding read_question
 apply-twice = refl

@@ -1,9 +1,8 @@
 pub mod Tables
 pub mod Reader
-pub mod Parts
-pub mod Cases
 pub mod Was
 pub mod SortWas
 pub mod TermWas
 pub mod QuestionWas
 pub mod Examples
+pub mod Scans

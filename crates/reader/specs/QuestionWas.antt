@@ -10,38 +10,39 @@ use Rattle.record.specs.Names.{distinct}
 use Rattle.record.specs.Record.{bit}
 use Rattle.record.specs.Table.{at}
 use Rattle.reader.specs.Tables.{question_maps, question_map_of, question_leasts, question_least_of, question_mosts, question_most_of, names_least_of, names_most_of}
-use Rattle.reader.specs.declared.Refusal.{Refusal}
+use Rattle.record.specs.Kinds.{question_number, question_kind}
+use Rattle.record.specs.KindLaws.{question_kind-found}
+use Rattle.record.specs.declared.kinds.QuestionKind.{QuestionKind}
 use Rattle.reader.specs.declared.Cursor.{Cursor}
 use Rattle.reader.specs.declared.QuestionRecord.{QuestionRecord}
-use Rattle.reader.specs.declared.ReadQuestion.TheVariants.{Question, NoQuestion}
-use Rattle.reader.specs.Reader.{all_below, read_head, read_references, read_names, read_question_fields, read_question}
-use Rattle.reader.specs.Was.{by-need, by-list, by-head, false-true, HeadWas, head-was, ListWas, references-were, names-were, references-low, or-last}
+use Rattle.reader.specs.Reader.{gave, all_below, read_head, read_references, read_names, read_question_fields, read_question}
+use Rattle.reader.specs.Was.{no-value, by-need, by-read, by-kind, read-value, read-cursor, false-true, HeadWas, head-was, ListWas, references-were, names-were, references-low, or-last}
 
 -- THE RECORD THAT WAS READ at x, on a sheet of `sorts` sorts
 pub record QuestionWas (s : List ℕ) (sorts x : ℕ) (r : QuestionRecord) (c : Cursor) : Type 0 where
   -- its map is that of its kind, which is a known one
-  pub known : r.kind < 3
-  pub map : get_or s x 0 ≡ question_map_of r.kind
-  pub tag : get_or s (x + 1) 0 ≡ r.kind
+  pub known : question_number r.kind < 3
+  pub map : get_or s x 0 ≡ question_map_of (question_number r.kind)
+  pub tag : get_or s (x + 1) 0 ≡ question_number r.kind
   -- the list: sorts of the sheet
-  pub least : question_least_of r.kind ≤ r.list_count
-  pub most : r.list_count ≤ question_most_of r.kind
-  pub few : r.list_count ≤ 64
-  pub list : r.list_at + 2 * r.list_count ≤ length s
-  pub references : (j : ℕ) → j < r.list_count → u16_at s (r.list_at + 2 * j) < sorts
+  pub least : question_least_of (question_number r.kind) ≤ r.list.count
+  pub most : r.list.count ≤ question_most_of (question_number r.kind)
+  pub few : r.list.count ≤ 64
+  pub list : r.list.at + 2 * r.list.count ≤ length s
+  pub references : (j : ℕ) → j < r.list.count → u16_at s (r.list.at + 2 * j) < sorts
   -- two sorts are compatible; pattern, target and result; a sort, then one image per name
-  pub two : r.kind ≡ 0 → r.list_count ≡ 2
-  pub three : r.kind ≡ 1 → r.list_count ≡ 3
-  pub images : r.kind ≡ 2 → r.list_count ≡ r.names_count + 1
+  pub two : question_number r.kind ≡ 0 → r.list.count ≡ 2
+  pub three : question_number r.kind ≡ 1 → r.list.count ≡ 3
+  pub images : question_number r.kind ≡ 2 → r.list.count ≡ r.names.count + 1
   -- the names
-  pub none : r.kind ≡ 0 → r.names_count ≡ 0
-  pub named : r.names_count ≤ 64
-  pub names : r.names_at + 2 * r.names_count ≤ length s
-  pub once : distinct (numbers_at s r.names_at r.names_count) ≡ true
+  pub none : question_number r.kind ≡ 0 → r.names.count ≡ 0
+  pub named : r.names.count ≤ 64
+  pub names : r.names.at + 2 * r.names.count ≤ length s
+  pub once : distinct (numbers_at s r.names.at r.names.count) ≡ true
   -- the next record starts behind all of it, in the slice
   pub after : x + 2 ≤ c.at
-  pub list_ends : r.list_at + 2 * r.list_count ≤ c.at
-  pub names_end : r.names_at + 2 * r.names_count ≤ c.at
+  pub list_ends : r.list.at + 2 * r.list.count ≤ c.at
+  pub names_end : r.names.at + 2 * r.names.count ≤ c.at
   pub inside : c.at ≤ length s
 
 -- what the tables say
@@ -78,48 +79,48 @@ names-images : (n q : ℕ) → 1 ≤ n → names_least_of 2 n ≤ q → q ≤ na
 unfolding names_least_of names_most_of
 names-images n q p l h = omega arith
 
-module _ (s : List ℕ) (sorts x m k : ℕ) (c2 : Cursor) (head : HeadWas s x m k c2) (mk : m ≡ question_map_of k)
+module _ (s : List ℕ) (sorts x m : ℕ) (kind : QuestionKind) (c2 : Cursor) (head : HeadWas s x m (question_number kind) c2) (mk : m ≡ question_map_of (question_number kind))
     (l n : ℕ) (c4 : Cursor) (ns q : ℕ) (c5 : Cursor)
-    (r4 : ListWas s (bit 16 m) (question_least_of k) (question_most_of k) c2.at l n c4) (below : all_below sorts (numbers_at s l n) ≡ true)
-    (r5 : ListWas s (bit 64 m) (names_least_of k n) (names_most_of k n) c4.at ns q c5) (once : distinct (numbers_at s ns q) ≡ true) where
-  known : k < 3
-  known = known_by k (leb 3 k) refl (sym (ap (bit 1) mk) ∙ head.odd)
+    (r4 : ListWas s (bit 16 m) (question_least_of (question_number kind)) (question_most_of (question_number kind)) c2.at l n c4) (below : all_below sorts (numbers_at s l n) ≡ true)
+    (r5 : ListWas s (bit 64 m) (names_least_of (question_number kind) n) (names_most_of (question_number kind) n) c4.at ns q c5) (once : distinct (numbers_at s ns q) ≡ true) where
+  known : question_number kind < 3
+  known = known_by (question_number kind) (leb 3 (question_number kind)) refl (sym (ap (bit 1) mk) ∙ head.odd)
 
   here : bit 16 m ≡ true
-  here = ap (bit 16) mk ∙ listed k known
+  here = ap (bit 16) mk ∙ listed (question_number kind) known
 
   in4 : c4.at ≤ length s
   in4 = r4.inside (omega (arith, head.next, head.inside))
 
   few : n ≤ 64
-  few = omega (arith, r4.most here, most-few k known)
+  few = omega (arith, r4.most here, most-few (question_number kind) known)
 
-  exactly : (d v : ℕ) → k ≡ d → question_least_of d ≡ v → question_most_of d ≡ v → n ≡ v
+  exactly : (d v : ℕ) → (question_number kind) ≡ d → question_least_of d ≡ v → question_most_of d ≡ v → n ≡ v
   exactly d v e p o = omega (arith, r4.least here, r4.most here, ap question_least_of e, ap question_most_of e, p, o)
 
-  is-two : k ≡ 0 → n ≡ 2
+  is-two : question_number kind ≡ 0 → n ≡ 2
   unfolding question_least_of question_leasts question_most_of question_mosts
   is-two e = exactly 0 2 e refl refl
 
-  is-three : k ≡ 1 → n ≡ 3
+  is-three : question_number kind ≡ 1 → n ≡ 3
   unfolding question_least_of question_leasts question_most_of question_mosts
   is-three e = exactly 1 3 e refl refl
 
-  some : k ≡ 2 → 1 ≤ n
+  some : question_number kind ≡ 2 → 1 ≤ n
   unfolding question_least_of question_leasts
   some e = subst (λ (j : ℕ). question_least_of j ≤ n) e (r4.least here)
 
-  is-images : k ≡ 2 → n ≡ q + 1
+  is-images : question_number kind ≡ 2 → n ≡ q + 1
   unfolding bit question_map_of question_maps
   is-images e =
       let b : bit 64 m ≡ true = ap (bit 64) mk ∙ ap (λ (j : ℕ). bit 64 (question_map_of j)) e in
       names-images n q (some e) (subst (λ (j : ℕ). names_least_of j n ≤ q) e (r5.least b)) (subst (λ (j : ℕ). q ≤ names_most_of j n) e (r5.most b))
 
-  is_none : k ≡ 0 → q ≡ 0
+  is_none : question_number kind ≡ 0 → q ≡ 0
   unfolding bit question_map_of question_maps
   is_none e = r5.empty (ap (bit 64) mk ∙ ap (λ (j : ℕ). bit 64 (question_map_of j)) e)
 
-  fields-were : QuestionWas s sorts x (record { kind = k; list_at = l; list_count = n; names_at = ns; names_count = q }) c5
+  fields-were : QuestionWas s sorts x (record { kind = kind; list = record { at = l; count = n }; names = record { at = ns; count = q } }) c5
   fields-were =
       record {
         known = known;
@@ -134,7 +135,7 @@ module _ (s : List ℕ) (sorts x m k : ℕ) (c2 : Cursor) (head : HeadWas s x m 
         three = is-three;
         images = is-images;
         none = is_none;
-        named = names-few k n q (bit 64 m) few r5.most r5.empty;
+        named = names-few (question_number kind) n q (bit 64 m) few r5.most r5.empty;
         names = omega (arith, r5.ends, r5.inside in4);
         once = once;
         after = omega (arith, head.next, r4.after, r4.ends, r5.after, r5.ends);
@@ -143,32 +144,30 @@ module _ (s : List ℕ) (sorts x m k : ℕ) (c2 : Cursor) (head : HeadWas s x m 
         inside = r5.inside in4;
       }
 
-no-question : {B : Type 0} {e : Refusal} {r : QuestionRecord} {c : Cursor} → NoQuestion e ≡ Question r c → B
-no-question h = let z : ◌≡◌ {A = ℕ} 0 1 = cc in absurd (omega arith)
-
-question-is : {r v : QuestionRecord} {c d : Cursor} → Question r c ≡ Question v d → r ≡ v
-question-is h = cc
-
-next-is : {r v : QuestionRecord} {c d : Cursor} → Question r c ≡ Question v d → c ≡ d
-next-is h = cc
-
 -- EVERY ACCEPTED QUESTION RECORD is such a one; the chain of its fields, taken apart
 module _ (s : List ℕ) (sorts x : ℕ) (r : QuestionRecord) (c : Cursor) where
-  fields-gave : (m k : ℕ) (c2 : Cursor) → HeadWas s x m k c2 → m ≡ question_map_of k → read_question_fields s m k sorts c2.at ≡ Question r c → QuestionWas s sorts x r c
+  fields-gave : (m : ℕ) (kind : QuestionKind) (c2 : Cursor) → HeadWas s x m (question_number kind) c2 → m ≡ question_map_of (question_number kind)
+      → read_question_fields s m kind sorts c2.at ≡ gave r c → QuestionWas s sorts x r c
   unfolding read_question_fields
-  fields-gave m k c2 head mk h =
-      by-list _ (read_references s m (question_least_of k) (question_most_of k) sorts c2.at) h (λ e. no-question)
-      (λ l n c4 p4 h4.
-      by-list _ (read_names s m (names_least_of k n) (names_most_of k n) c4.at) h4 (λ e. no-question)
-      (λ ns q c5 p5 h5.
-      let r4 = references-were s m (question_least_of k) (question_most_of k) sorts c2.at p4 in
-      let r5 = names-were s m (names_least_of k n) (names_most_of k n) c4.at p5 in
-      subst (QuestionWas s sorts x r) (next-is h5)
-      (subst (λ (j : QuestionRecord). QuestionWas s sorts x j c5) (question-is h5)
-      (fields-were s sorts x m k c2 head mk l n c4 ns q c5 r4.0 r4.1 r5.0 r5.1))))
+  fields-gave m kind c2 head mk h =
+      by-read _ (read_references s m (question_least_of (question_number kind)) (question_most_of (question_number kind)) sorts c2.at) h
+      (λ l c4 p4 h4.
+      by-read _ (read_names s m (names_least_of (question_number kind) l.count) (names_most_of (question_number kind) l.count) c4.at) h4
+      (λ ns c5 p5 h5.
+      let r4 = references-were s m (question_least_of (question_number kind)) (question_most_of (question_number kind)) sorts c2.at p4 in
+      let r5 = names-were s m (names_least_of (question_number kind) l.count) (names_most_of (question_number kind) l.count) c4.at p5 in
+      subst (QuestionWas s sorts x r) (read-cursor h5)
+      (subst (λ (j : QuestionRecord). QuestionWas s sorts x j c5) (read-value h5)
+      (fields-were s sorts x m kind c2 head mk l.at l.count c4 ns.at ns.count c5 r4.0 r4.1 r5.0 r5.1))))
 
-  pub question-was : read_question s sorts x ≡ Question r c → QuestionWas s sorts x r c
+  pub question-was : read_question s sorts x ≡ gave r c → QuestionWas s sorts x r c
   unfolding read_question
   question-was h =
-      by-head _ (read_head s x) h (λ e. no-question)
-      (λ m k c2 p h1. by-need (eqb m (question_map_of k)) h1 no-question (λ e h2. fields-gave m k c2 (head-was s x m k c2 p) (eqb-true m (question_map_of k) e) h2))
+      by-read _ (read_head s x) h
+      (λ d c2 p h1.
+      by-kind _ (question_kind d.kind) h1
+      (λ kind q h2.
+      let is : d.kind ≡ question_number kind = question_kind-found d.kind kind q in
+      by-need (eqb d.map (question_map_of (question_number kind))) h2 no-value
+      (λ e h3.
+      fields-gave d.map kind c2 (subst (λ (j : ℕ). HeadWas s x d.map j c2) is (head-was s x d c2 p)) (eqb-true d.map (question_map_of (question_number kind)) e) h3)))

@@ -11,27 +11,28 @@ use Rattle.record.specs.Store.{given}
 use Rattle.record.specs.Decode.{list_of, number_place, list_place, names_place, end_place, fields, fields_by, fields_at, ProperFields, Shape, Below, Held}
 use Rattle.record.specs.Table.{at}
 use Rattle.record.specs.Codec.{Bytes, canonical, record-end, length-numbers_at, fields-equal}
-use Rattle.reader.specs.declared.Refusal.{Refusal}
+use Rattle.record.specs.Kinds.{sort_number, sort_kind}
+use Rattle.record.specs.KindLaws.{sort_kind-found}
+use Rattle.record.specs.declared.kinds.SortKind.{SortKind}
 use Rattle.reader.specs.declared.Cursor.{Cursor}
 use Rattle.record.specs.declared.SortRecord.{SortRecord}
-use Rattle.reader.specs.declared.ReadSort.TheVariants.{Sort, NoSort}
-use Rattle.reader.specs.Reader.{all_below, read_head, read_name, read_number, read_references, read_names, read_sort_fields, read_sort}
-use Rattle.reader.specs.Was.{by-need, by-number, by-list, by-head, false-true, NumberWas, HeadWas, head-was, name-was, number-was, ListWas, references-were, names-were, all-below-each, u16-small, given-small, low_by, high-by, or-last}
+use Rattle.reader.specs.Reader.{gave, all_below, read_head, read_name, read_number, read_references, read_names, read_sort_fields, read_sort}
+use Rattle.reader.specs.Was.{no-value, by-need, by-read, by-kind, read-value, read-cursor, false-true, NumberWas, HeadWas, head-was, name-was, number-was, ListWas, references-were, names-were, all-below-each, u16-small, given-small, low_by, high-by, or-last}
 
 -- THE RECORD THAT WAS READ with the number i at x: it lies whole there, its fields are those read, and the next record
 -- starts behind it
 pub record SortWas (s : List ℕ) (i x : ℕ) (r : SortRecord) (c : Cursor) : Type 0 where
   pub held : Held s x i
-  pub same : fields_at s x ≡ fields r.kind r.name r.number (numbers_at s r.list r.count) (numbers_at s r.names r.named)
+  pub same : fields_at s x ≡ fields (sort_number r.kind) r.name r.number (numbers_at s r.parts.at r.parts.count) (numbers_at s r.names.at r.names.count)
   pub next : c.at ≡ x + length (record_bytes (fields_at s x))
   -- where the list stands, if the record has one
-  pub start : bit 16 (get_or s x 0) ≡ true → r.list ≡ list_place (get_or s x 0) x + 1
-  pub empty : bit 16 (get_or s x 0) ≡ false → r.count ≡ 0
-  pub low : x + 2 ≤ r.list
-  pub high : r.list + 2 * r.count ≤ c.at
+  pub start : bit 16 (get_or s x 0) ≡ true → r.parts.at ≡ list_place (get_or s x 0) x + 1
+  pub empty : bit 16 (get_or s x 0) ≡ false → r.parts.count ≡ 0
+  pub low : x + 2 ≤ r.parts.at
+  pub high : r.parts.at + 2 * r.parts.count ≤ c.at
   -- the names behind it, and the end
-  pub after : r.list + 2 * r.count ≤ r.names
-  pub ends : r.names + 2 * r.named ≤ c.at
+  pub after : r.parts.at + 2 * r.parts.count ≤ r.names.at
+  pub ends : r.names.at + 2 * r.names.count ≤ c.at
   pub inside : c.at ≤ length s
 
 -- what the tables say
@@ -47,7 +48,7 @@ unfolding bit map_of maps
 known_by k true e h = let z : map_of k ≡ 0 = get_or-eq_default maps 0 {n = k} (leb-true 16 k e) in false-true (sym (ap (bit 1) z) ∙ h)
 known_by k false e h = leb-false 16 k e
 
-module _ (s : List ℕ) (bytes : Bytes s) (i x m k : ℕ) (c2 : Cursor) (head : HeadWas s x m k c2) (mk : m ≡ map_of k)
+module _ (s : List ℕ) (bytes : Bytes s) (i x m : ℕ) (kind : SortKind) (k : ℕ) (is : k ≡ sort_number kind) (c2 : Cursor) (head : HeadWas s x m k c2) (mk : m ≡ map_of k)
     (a : ℕ) (c3 : Cursor) (w : ℕ) (c4 : Cursor) (l n : ℕ) (c5 : Cursor) (ns q : ℕ) (c6 : Cursor)
     (r3 : NumberWas s (x + 2) (given (bit 2 m) (u16_at s (x + 2))) (given (bit 2 m) 2) a c3)
     (r4 : NumberWas s (number_place m x) (given (bit 4 m) (u32_at s (number_place m x))) (given (bit 4 m) 4) w c4) (small : w ≤ 65535)
@@ -103,7 +104,7 @@ module _ (s : List ℕ) (bytes : Bytes s) (i x m k : ℕ) (c2 : Cursor) (head : 
       r6.inside (omega (arith, e5, r5.inside (omega (arith, e4, r4.inside (omega (arith, e3, r3.inside head.inside))))))
 
   fields-were : c3.at ≡ number_place m x → c4.at ≡ list_place m x → c5.at ≡ names_place m s x
-      → SortWas s i x (record { kind = k; name = a; number = w; list = l; count = n; names = ns; named = q }) c6
+      → SortWas s i x (record { kind = kind; name = a; number = w; parts = record { at = l; count = n }; names = record { at = ns; count = q } }) c6
   fields-were e3 e4 e5 =
       record {
         held =
@@ -113,7 +114,7 @@ module _ (s : List ℕ) (bytes : Bytes s) (i x m k : ℕ) (c2 : Cursor) (head : 
               shape = subst Shape (sym same) shape;
               below = subst (λ (f : Fields). Below f i) (sym same) (all-below-each i (numbers_at s l n) below);
             };
-        same = same;
+        same = same ∙ ap (λ (j : ℕ). fields j a w (numbers_at s l n) (numbers_at s ns q)) is;
         next = end_is;
         start = λ e. r5.start (ap (bit 16) head.map ∙ e) ∙ ap (λ (j : ℕ). list_place j x + 1) head.map;
         empty = λ e. r5.empty (ap (bit 16) head.map ∙ e);
@@ -124,38 +125,37 @@ module _ (s : List ℕ) (bytes : Bytes s) (i x m k : ℕ) (c2 : Cursor) (head : 
         inside = end-inside e3 e4 e5;
       }
 
-no-sort : {B : Type 0} {e : Refusal} {r : SortRecord} {c : Cursor} → NoSort e ≡ Sort r c → B
-no-sort h = let z : ◌≡◌ {A = ℕ} 0 1 = cc in absurd (omega arith)
-
-sort-is : {r t : SortRecord} {c d : Cursor} → Sort r c ≡ Sort t d → r ≡ t
-sort-is h = cc
-
-next-is : {r t : SortRecord} {c d : Cursor} → Sort r c ≡ Sort t d → c ≡ d
-next-is h = cc
-
 -- EVERY ACCEPTED SORT RECORD is such a one; the chain of its fields, taken apart
 module _ (s : List ℕ) (bytes : Bytes s) (i x : ℕ) (r : SortRecord) (c : Cursor) where
-  fields-gave : (m k : ℕ) (c2 : Cursor) → HeadWas s x m k c2 → m ≡ map_of k → read_sort_fields s m k i c2.at ≡ Sort r c → SortWas s i x r c
+  fields-gave : (m : ℕ) (kind : SortKind) (k : ℕ) (is : k ≡ sort_number kind) (c2 : Cursor) → HeadWas s x m k c2 → m ≡ map_of k
+      → read_sort_fields s m kind i c2.at ≡ gave r c → SortWas s i x r c
   unfolding read_sort_fields
-  fields-gave m k c2 head mk h =
-      by-number _ (read_name s m c2.at) h (λ e. no-sort)
+  fields-gave m kind k is c2 head mk h =
+      by-read _ (read_name s m c2.at) h
       (λ a c3 p3 h3.
-      by-number _ (read_number s m 65535 c3.at) h3 (λ e. no-sort)
+      by-read _ (read_number s m 65535 c3.at) h3
       (λ w c4 p4 h4.
-      by-list _ (read_references s m (least_of k) (most_of k) i c4.at) h4 (λ e. no-sort)
-      (λ l n c5 p5 h5.
-      by-list _ (read_names s m 1 64 c5.at) h5 (λ e. no-sort)
-      (λ ns q c6 p6 h6.
+      by-read _ (read_references s m (least_of (sort_number kind)) (most_of (sort_number kind)) i c4.at) h4
+      (λ l c5 p5 h5.
+      by-read _ (read_names s m 1 64 c5.at) h5
+      (λ ns c6 p6 h6.
       let r3 = name-was s m (x + 2) (rw head.next at p3) in
       let r4 = number-was s m 65535 (number_place m x) (rw r3.next at p4) in
-      let r5 = references-were s m (least_of k) (most_of k) i (list_place m x) (rw r4.0.next at p5) in
+      let p5k = rw (← is) at p5 in
+      let r5 = references-were s m (least_of k) (most_of k) i (list_place m x) (rw r4.0.next at p5k) in
       let r6 = names-were s m 1 64 (names_place m s x) (rw r5.0.next at p6) in
-      subst (SortWas s i x r) (next-is h6)
-      (subst (λ (j : SortRecord). SortWas s i x j c6) (sort-is h6)
-      (fields-were s bytes i x m k c2 head mk a c3 w c4 l n c5 ns q c6 r3 r4.0 r4.1 r5.0 r5.1 r6.0 r6.1 r3.next r4.0.next r5.0.next))))))
+      subst (SortWas s i x r) (read-cursor h6)
+      (subst (λ (j : SortRecord). SortWas s i x j c6) (read-value h6)
+      (fields-were s bytes i x m kind k is c2 head mk a c3 w c4 l.at l.count c5 ns.at ns.count c6 r3 r4.0 r4.1 r5.0 r5.1 r6.0 r6.1 r3.next r4.0.next r5.0.next))))))
 
-  pub sort-was : read_sort s i x ≡ Sort r c → SortWas s i x r c
+  pub sort-was : read_sort s i x ≡ gave r c → SortWas s i x r c
   unfolding read_sort
   sort-was h =
-      by-head _ (read_head s x) h (λ e. no-sort)
-      (λ m k c2 p h1. by-need (eqb m (map_of k)) h1 no-sort (λ e h2. fields-gave m k c2 (head-was s x m k c2 p) (eqb-true m (map_of k) e) h2))
+      by-read _ (read_head s x) h
+      (λ d c2 p h1.
+      by-kind _ (sort_kind d.kind) h1
+      (λ kind q h2.
+      let is : d.kind ≡ sort_number kind = sort_kind-found d.kind kind q in
+      by-need (eqb d.map (map_of (sort_number kind))) h2 no-value
+      (λ e h3.
+      fields-gave d.map kind d.kind is c2 (head-was s x d c2 p) (eqb-true d.map (map_of (sort_number kind)) e ∙ ap map_of (sym is)) h3)))

@@ -12,50 +12,51 @@ use Rattle.record.specs.Table.{at}
 use Rattle.record.specs.Codec.{Bytes}
 use Rattle.record.specs.Cases.{or-other}
 use Rattle.reader.specs.Tables.{term_maps, term_map_of, term_number_of, term_leasts, term_least_of, term_mosts, term_most_of, second_least_of, second_most_of}
-use Rattle.reader.specs.declared.Refusal.{Refusal}
+use Rattle.record.specs.Kinds.{term_number, term_kind}
+use Rattle.record.specs.KindLaws.{term_kind-found}
+use Rattle.record.specs.declared.kinds.TermKind.{TermKind}
 use Rattle.reader.specs.declared.Cursor.{Cursor}
 use Rattle.reader.specs.declared.TermRecord.{TermRecord}
-use Rattle.reader.specs.declared.ReadTerm.TheVariants.{Term, NoTerm}
-use Rattle.reader.specs.Reader.{all_below, read_head, read_name, read_number, read_own, read_references, read_pairs, read_second, read_term_fields, read_term}
-use Rattle.reader.specs.Was.{by-need, by-number, by-list, by-head, false-true, NumberWas, HeadWas, head-was, name-was, number-was, own-was, ListWas, references-were, second-was, PairsWere, pairs-were, references-low, pairs_below, u16-small, given-small, low_by, high-by, or-last}
+use Rattle.reader.specs.Reader.{gave, all_below, read_head, read_name, read_number, read_own, read_references, read_pairs, read_second, read_term_fields, read_term}
+use Rattle.reader.specs.Was.{no-value, by-need, by-read, by-kind, read-value, read-cursor, false-true, NumberWas, HeadWas, head-was, name-was, number-was, own-was, ListWas, references-were, second-was, PairsWere, pairs-were, references-low, pairs_below, u16-small, given-small, low_by, high-by, or-last}
 
 -- THE RECORD THAT WAS READ with the number t at x, on a sheet of `sorts` sorts
 pub record TermWas (s : List ℕ) (sorts t x : ℕ) (r : TermRecord) (c : Cursor) : Type 0 where
   -- its map is that of its kind, which is a known one
-  pub known : r.kind < 13
-  pub map : get_or s x 0 ≡ term_map_of r.kind
-  pub tag : get_or s (x + 1) 0 ≡ r.kind
+  pub known : term_number r.kind < 13
+  pub map : get_or s x 0 ≡ term_map_of (term_number r.kind)
+  pub tag : get_or s (x + 1) 0 ≡ term_number r.kind
   -- numbers within their limits
   pub name : r.name < 65536
-  pub number : r.number ≤ term_number_of r.kind
-  pub sort : bit 8 (term_map_of r.kind) ≡ true → r.sort < sorts
+  pub number : r.number ≤ term_number_of (term_number r.kind)
+  pub sort : bit 8 (term_map_of (term_number r.kind)) ≡ true → r.sort < sorts
   -- the list: terms before this one
-  pub least : term_least_of r.kind ≤ r.list_count
-  pub most : r.list_count ≤ term_most_of r.kind
-  pub few : r.list_count ≤ 64
-  pub list : r.list_at + 2 * r.list_count ≤ length s
-  pub references : (j : ℕ) → j < r.list_count → u16_at s (r.list_at + 2 * j) < t
+  pub least : term_least_of (term_number r.kind) ≤ r.list.count
+  pub most : r.list.count ≤ term_most_of (term_number r.kind)
+  pub few : r.list.count ≤ 64
+  pub list : r.list.at + 2 * r.list.count ≤ length s
+  pub references : (j : ℕ) → j < r.list.count → u16_at s (r.list.at + 2 * j) < t
   -- the pairs: sorts of the sheet
-  pub paired : r.pairs_count ≤ 64
-  pub pairs : r.pairs_at + 4 * r.pairs_count ≤ length s
-  pub bindings : (j : ℕ) → j < r.pairs_count → u16_at s (r.pairs_at + 4 * j + 2) < sorts
+  pub paired : r.pairs.count ≤ 64
+  pub pairs : r.pairs.at + 4 * r.pairs.count ≤ length s
+  pub bindings : (j : ℕ) → j < r.pairs.count → u16_at s (r.pairs.at + 4 * j + 2) < sorts
   -- the second list: a Let's names, one a value, or index terms before this one
-  pub seconds : r.second_count ≤ 64
-  pub second : r.second_at + 2 * r.second_count ≤ length s
-  pub values : r.kind ≡ 9 → r.second_count ≡ r.list_count - 1
-  pub indices : (r.kind ≡ 9 → ⊥) → (j : ℕ) → j < r.second_count → u16_at s (r.second_at + 2 * j) < t
+  pub seconds : r.second.count ≤ 64
+  pub second : r.second.at + 2 * r.second.count ≤ length s
+  pub values : term_number r.kind ≡ 9 → r.second.count ≡ r.list.count - 1
+  pub indices : (term_number r.kind ≡ 9 → ⊥) → (j : ℕ) → j < r.second.count → u16_at s (r.second.at + 2 * j) < t
   -- what the map leaves out is 0 or empty
-  pub no_name : bit 2 (term_map_of r.kind) ≡ false → r.name ≡ 0
-  pub no_number : bit 4 (term_map_of r.kind) ≡ false → r.number ≡ 0
-  pub no_sort : bit 8 (term_map_of r.kind) ≡ false → r.sort ≡ 0
-  pub no_list : bit 16 (term_map_of r.kind) ≡ false → r.list_count ≡ 0
-  pub no_pairs : bit 32 (term_map_of r.kind) ≡ false → r.pairs_count ≡ 0
-  pub no_second : bit 64 (term_map_of r.kind) ≡ false → r.second_count ≡ 0
+  pub no_name : bit 2 (term_map_of (term_number r.kind)) ≡ false → r.name ≡ 0
+  pub no_number : bit 4 (term_map_of (term_number r.kind)) ≡ false → r.number ≡ 0
+  pub no_sort : bit 8 (term_map_of (term_number r.kind)) ≡ false → r.sort ≡ 0
+  pub no_list : bit 16 (term_map_of (term_number r.kind)) ≡ false → r.list.count ≡ 0
+  pub no_pairs : bit 32 (term_map_of (term_number r.kind)) ≡ false → r.pairs.count ≡ 0
+  pub no_second : bit 64 (term_map_of (term_number r.kind)) ≡ false → r.second.count ≡ 0
   -- the next record starts behind all of it, in the slice
   pub after : x + 2 ≤ c.at
-  pub list_ends : r.list_at + 2 * r.list_count ≤ c.at
-  pub pairs_end : r.pairs_at + 4 * r.pairs_count ≤ c.at
-  pub second_ends : r.second_at + 2 * r.second_count ≤ c.at
+  pub list_ends : r.list.at + 2 * r.list.count ≤ c.at
+  pub pairs_end : r.pairs.at + 4 * r.pairs.count ≤ c.at
+  pub second_ends : r.second.at + 2 * r.second.count ≤ c.at
   pub inside : c.at ≤ length s
 
 -- what the tables say
@@ -92,18 +93,18 @@ second-let : (n q : ℕ) → second_least_of 9 n ≤ q → q ≤ second_most_of 
 unfolding second_least_of second_most_of
 second-let n q l h = omega arith
 
-module _ (s : List ℕ) (bytes : Bytes s) (sorts t x m k : ℕ) (c2 : Cursor) (head : HeadWas s x m k c2) (mk : m ≡ term_map_of k)
+module _ (s : List ℕ) (bytes : Bytes s) (sorts t x m : ℕ) (kind : TermKind) (c2 : Cursor) (head : HeadWas s x m (term_number kind) c2) (mk : m ≡ term_map_of (term_number kind))
     (a : ℕ) (c3 : Cursor) (w : ℕ) (c4 : Cursor) (o : ℕ) (c5 : Cursor) (l n : ℕ) (c6 : Cursor) (ps p : ℕ) (c7 : Cursor) (z q : ℕ) (c8 : Cursor)
     (r3 : NumberWas s c2.at (given (bit 2 m) (u16_at s c2.at)) (given (bit 2 m) 2) a c3)
-    (r4 : NumberWas s c3.at (given (bit 4 m) (u32_at s c3.at)) (given (bit 4 m) 4) w c4) (small : w ≤ term_number_of k)
+    (r4 : NumberWas s c3.at (given (bit 4 m) (u32_at s c3.at)) (given (bit 4 m) 4) w c4) (small : w ≤ term_number_of (term_number kind))
     (r5 : NumberWas s c4.at (given (bit 8 m) (u16_at s c4.at)) (given (bit 8 m) 2) o c5) (there : bit 8 m ≡ true → o < sorts)
-    (r6 : ListWas s (bit 16 m) (term_least_of k) (term_most_of k) c5.at l n c6) (below : all_below t (numbers_at s l n) ≡ true)
+    (r6 : ListWas s (bit 16 m) (term_least_of (term_number kind)) (term_most_of (term_number kind)) c5.at l n c6) (below : all_below t (numbers_at s l n) ≡ true)
     (r7 : PairsWere s (bit 32 m) sorts c6.at ps p c7)
-    (r8 : ListWas s (bit 64 m) (second_least_of k n) (second_most_of k n) c7.at z q c8) (indexed : (eqb k 9 || all_below t (numbers_at s z q)) ≡ true) where
-  known : k < 13
-  known = known_by k (leb 13 k) refl (sym (ap (bit 1) mk) ∙ head.odd)
+    (r8 : ListWas s (bit 64 m) (second_least_of (term_number kind) n) (second_most_of (term_number kind) n) c7.at z q c8) (indexed : (eqb (term_number kind) 9 || all_below t (numbers_at s z q)) ≡ true) where
+  known : (term_number kind) < 13
+  known = known_by (term_number kind) (leb 13 (term_number kind)) refl (sym (ap (bit 1) mk) ∙ head.odd)
 
-  on : (v : ℕ) {b : Bool} → bit v (term_map_of k) ≡ b → bit v m ≡ b
+  on : (v : ℕ) {b : Bool} → bit v (term_map_of (term_number kind)) ≡ b → bit v m ≡ b
   on v e = ap (bit v) mk ∙ e
 
   in5 : c5.at ≤ length s
@@ -112,20 +113,20 @@ module _ (s : List ℕ) (bytes : Bytes s) (sorts t x m k : ℕ) (c2 : Cursor) (h
   in7 : c7.at ≤ length s
   in7 = r7.inside (r6.inside in5)
 
-  most : n ≤ term_most_of k
-  most = high-by (bit 16 m) n (term_most_of k) r6.most r6.empty
+  most : n ≤ term_most_of (term_number kind)
+  most = high-by (bit 16 m) n (term_most_of (term_number kind)) r6.most r6.empty
 
   few : n ≤ 64
-  few = omega (arith, most, most-few k known)
+  few = omega (arith, most, most-few (term_number kind) known)
 
-  let-values : k ≡ 9 → q ≡ n - 1
+  let-values : (term_number kind) ≡ 9 → q ≡ n - 1
   unfolding bit term_map_of term_maps
   let-values e =
       let b : bit 64 m ≡ true = on 64 (ap (λ (j : ℕ). bit 64 (term_map_of j)) e) in
       second-let n q (subst (λ (j : ℕ). second_least_of j n ≤ q) e (r8.least b)) (subst (λ (j : ℕ). q ≤ second_most_of j n) e (r8.most b))
 
   fields-were : TermWas s sorts t x
-      (record { kind = k; name = a; number = w; sort = o; list_at = l; list_count = n; pairs_at = ps; pairs_count = p; second_at = z; second_count = q }) c8
+      (record { kind = kind; name = a; number = w; sort = o; list = record { at = l; count = n }; pairs = record { at = ps; count = p }; second = record { at = z; count = q } }) c8
   fields-were =
       record {
         known = known;
@@ -134,7 +135,7 @@ module _ (s : List ℕ) (bytes : Bytes s) (sorts t x m k : ℕ) (c2 : Cursor) (h
         name = omega (arith, r3.value, given-small (bit 2 m) (u16_at s c2.at) (u16-small s bytes c2.at));
         number = small;
         sort = λ e. there (on 8 e);
-        least = low_by (bit 16 m) (term_least_of k) n r6.least (λ e. no-least k known (sym (ap (bit 16) mk) ∙ e));
+        least = low_by (bit 16 m) (term_least_of (term_number kind)) n r6.least (λ e. no-least (term_number kind) known (sym (ap (bit 16) mk) ∙ e));
         most = most;
         few = few;
         list = omega (arith, r6.ends, r6.inside in5);
@@ -142,10 +143,10 @@ module _ (s : List ℕ) (bytes : Bytes s) (sorts t x m k : ℕ) (c2 : Cursor) (h
         paired = r7.few;
         pairs = omega (arith, r7.ends, in7);
         bindings = pairs_below s ps p sorts r7.below;
-        seconds = second-few k n q (bit 64 m) few r8.most r8.empty;
+        seconds = second-few (term_number kind) n q (bit 64 m) few r8.most r8.empty;
         second = omega (arith, r8.ends, r8.inside in7);
         values = let-values;
-        indices = λ d. references-low s z q t (or-other (eqb k 9) (all_below t (numbers_at s z q)) (ne_eqb k 9 d) indexed);
+        indices = λ d. references-low s z q t (or-other (eqb (term_number kind) 9) (all_below t (numbers_at s z q)) (ne_eqb (term_number kind) 9 d) indexed);
         no_name = λ e. r3.value ∙ ap (λ (b : Bool). given b (u16_at s c2.at)) (on 2 e);
         no_number = λ e. r4.value ∙ ap (λ (b : Bool). given b (u32_at s c3.at)) (on 4 e);
         no_sort = λ e. r5.value ∙ ap (λ (b : Bool). given b (u16_at s c4.at)) (on 8 e);
@@ -159,42 +160,40 @@ module _ (s : List ℕ) (bytes : Bytes s) (sorts t x m k : ℕ) (c2 : Cursor) (h
         inside = r8.inside in7;
       }
 
-pub no-term : {B : Type 0} {e : Refusal} {r : TermRecord} {c : Cursor} → NoTerm e ≡ Term r c → B
-no-term h = let z : ◌≡◌ {A = ℕ} 0 1 = cc in absurd (omega arith)
-
-pub term_of : {r v : TermRecord} {c d : Cursor} → Term r c ≡ Term v d → r ≡ v
-term_of h = cc
-
-next-is : {r v : TermRecord} {c d : Cursor} → Term r c ≡ Term v d → c ≡ d
-next-is h = cc
-
 -- EVERY ACCEPTED TERM RECORD is such a one; the chain of its fields, taken apart
 module _ (s : List ℕ) (bytes : Bytes s) (sorts t x : ℕ) (r : TermRecord) (c : Cursor) where
-  fields-gave : (m k : ℕ) (c2 : Cursor) → HeadWas s x m k c2 → m ≡ term_map_of k → read_term_fields s m k sorts t c2.at ≡ Term r c → TermWas s sorts t x r c
+  fields-gave : (m : ℕ) (kind : TermKind) (c2 : Cursor) → HeadWas s x m (term_number kind) c2 → m ≡ term_map_of (term_number kind)
+      → read_term_fields s m kind sorts t c2.at ≡ gave r c → TermWas s sorts t x r c
   unfolding read_term_fields
-  fields-gave m k c2 head mk h =
-      by-number _ (read_name s m c2.at) h (λ e. no-term)
+  fields-gave m kind c2 head mk h =
+      by-read _ (read_name s m c2.at) h
       (λ a c3 p3 h3.
-      by-number _ (read_number s m (term_number_of k) c3.at) h3 (λ e. no-term)
+      by-read _ (read_number s m (term_number_of (term_number kind)) c3.at) h3
       (λ w c4 p4 h4.
-      by-number _ (read_own s m sorts c4.at) h4 (λ e. no-term)
+      by-read _ (read_own s m sorts c4.at) h4
       (λ o c5 p5 h5.
-      by-list _ (read_references s m (term_least_of k) (term_most_of k) t c5.at) h5 (λ e. no-term)
-      (λ l n c6 p6 h6.
-      by-list _ (read_pairs s m sorts c6.at) h6 (λ e. no-term)
-      (λ ps p c7 p7 h7.
-      by-list _ (read_second s m k n t c7.at) h7 (λ e. no-term)
-      (λ z q c8 p8 h8.
-      let r4 = number-was s m (term_number_of k) c3.at p4 in
+      by-read _ (read_references s m (term_least_of (term_number kind)) (term_most_of (term_number kind)) t c5.at) h5
+      (λ l c6 p6 h6.
+      by-read _ (read_pairs s m sorts c6.at) h6
+      (λ ps c7 p7 h7.
+      by-read _ (read_second s m (term_number kind) l.count t c7.at) h7
+      (λ z c8 p8 h8.
+      let r4 = number-was s m (term_number_of (term_number kind)) c3.at p4 in
       let r5 = own-was s m sorts c4.at p5 in
-      let r6 = references-were s m (term_least_of k) (term_most_of k) t c5.at p6 in
-      let r8 = second-was s m k n t c7.at p8 in
-      subst (TermWas s sorts t x r) (next-is h8)
-      (subst (λ (j : TermRecord). TermWas s sorts t x j c8) (term_of h8)
-      (fields-were s bytes sorts t x m k c2 head mk a c3 w c4 o c5 l n c6 ps p c7 z q c8 (name-was s m c2.at p3) r4.0 r4.1 r5.0 r5.1 r6.0 r6.1 (pairs-were s m sorts c6.at p7) r8.0 r8.1))))))))
+      let r6 = references-were s m (term_least_of (term_number kind)) (term_most_of (term_number kind)) t c5.at p6 in
+      let r8 = second-was s m (term_number kind) l.count t c7.at p8 in
+      subst (TermWas s sorts t x r) (read-cursor h8)
+      (subst (λ (j : TermRecord). TermWas s sorts t x j c8) (read-value h8)
+      (fields-were s bytes sorts t x m kind c2 head mk a c3 w c4 o c5 l.at l.count c6 ps.at ps.count c7 z.at z.count c8 (name-was s m c2.at p3) r4.0 r4.1 r5.0 r5.1 r6.0 r6.1 (pairs-were s m sorts c6.at p7) r8.0 r8.1))))))))
 
-  pub term-was : read_term s sorts t x ≡ Term r c → TermWas s sorts t x r c
+  pub term-was : read_term s sorts t x ≡ gave r c → TermWas s sorts t x r c
   unfolding read_term
   term-was h =
-      by-head _ (read_head s x) h (λ e. no-term)
-      (λ m k c2 p h1. by-need (eqb m (term_map_of k)) h1 no-term (λ e h2. fields-gave m k c2 (head-was s x m k c2 p) (eqb-true m (term_map_of k) e) h2))
+      by-read _ (read_head s x) h
+      (λ d c2 p h1.
+      by-kind _ (term_kind d.kind) h1
+      (λ kind q h2.
+      let is : d.kind ≡ term_number kind = term_kind-found d.kind kind q in
+      by-need (eqb d.map (term_map_of (term_number kind))) h2 no-value
+      (λ e h3.
+      fields-gave d.map kind c2 (subst (λ (j : ℕ). HeadWas s x d.map j c2) is (head-was s x d c2 p)) (eqb-true d.map (term_map_of (term_number kind)) e) h3)))

@@ -1,5 +1,5 @@
 -- What a field that was read tells: its value, where it stands, and where the next one starts.
-use Rattle.std.specs.Prelude.{ℕ, zero, suc, ◌+◌, ◌*◌, ◌≤◌, ◌<◌, ◌≡◌, refl, Bool, true, false, cond, ◌||◌, List, [], ◌∷◌, length, get_or, leb, ltb, eqb, T}
+use Rattle.std.specs.Prelude.{ℕ, zero, suc, ◌+◌, ◌*◌, ◌≤◌, ◌<◌, ◌≡◌, refl, Bool, true, false, cond, ◌||◌, List, [], ◌∷◌, length, get_or, leb, ltb, eqb, T, Option, Some, None, Result, Ok, Err}
 use Rattle.std.proofs.Common.{sym, ap, ap₂, ◌∙◌, arith, not-suc-le-zero, leb-true, ltb-true}
 use Rattle.record.specs.Number.{u16_at, u32_at, numbers_at}
 use Rattle.record.specs.Names.{distinct}
@@ -8,69 +8,50 @@ use Rattle.record.specs.Store.{given}
 use Rattle.record.specs.Decode.{list_of, list_width}
 use Rattle.record.specs.Codec.{Bytes, length-numbers_at, number_at}
 use Rattle.record.specs.Cases.{and_left, and_right}
+use Rattle.record.specs.declared.span.Span.{Span}
 use Rattle.reader.specs.Tables.{second_least_of, second_most_of}
 use Rattle.reader.specs.declared.Refusal.{Refusal}
 use Rattle.reader.specs.declared.Refusal.TheVariants.{PastEnd, Value, Reference}
 use Rattle.reader.specs.declared.Cursor.{Cursor}
-use Rattle.reader.specs.declared.ReadNumber.{ReadNumber}
-use Rattle.reader.specs.declared.ReadNumber.TheVariants.{Number, NoNumber}
-use Rattle.reader.specs.declared.ReadList.{ReadList}
-use Rattle.reader.specs.declared.ReadList.TheVariants.{List as Found, NoList}
-use Rattle.reader.specs.declared.ReadHead.{ReadHead}
-use Rattle.reader.specs.declared.ReadHead.TheVariants.{Head, NoHead}
-use Rattle.reader.specs.Reader.{demand, by_number, by_list, by_head, place, all_below, pair_sorts_at, read_byte, read_u16, read_u32, read_head, read_name, read_number, read_own, read_list, read_references, read_names, read_second, read_pairs}
-use Rattle.reader.specs.Cases.{byte_inside, ListIs, list-was}
+use Rattle.reader.specs.declared.Head.{Head}
+use Rattle.reader.specs.Reader.{Read, demand, then_read, of_kind, gave, got, span, all_below, pair_sorts_at, read_byte, read_u16, read_u32, read_head, read_name, read_number, read_own, read_list, read_references, read_names, read_second, read_pairs}
 
--- A CHAIN TAKEN APART: the answer v of a step comes from its refusal or from what goes on, and each way gives B
-module _ {A B : Type 0} {v : A} where
-  pub by-need : {fail go : A} (t : Bool) → demand t fail go ≡ v → (fail ≡ v → B) → (t ≡ true → go ≡ v → B) → B
+-- A refusal is no value.
+pub no-value : {V B : Type 0} {e : Refusal} {v : V} → ◌≡◌ {A = Result V Refusal} (Err e) (Ok v) → B
+no-value h = let z : ◌≡◌ {A = ℕ} 0 1 = cc in absurd (omega arith)
+
+-- A CHAIN TAKEN APART: the value v at its end comes from what each step goes on to.
+module _ {V B : Type 0} {v : V} where
+  pub by-need : {fail go : Result V Refusal} (t : Bool) → demand t fail go ≡ Ok v → (fail ≡ Ok v → B) → (t ≡ true → go ≡ Ok v → B) → B
   by-need true h f g = g refl h
   by-need false h f g = f h
 
-  pub by-number : {fail : Refusal → A} (go : ℕ → ℕ → A) (o : ReadNumber) → by_number o fail go ≡ v
-      → ((e : Refusal) → fail e ≡ v → B) → ((a : ℕ) (c : Cursor) → o ≡ Number a c → go a c.at ≡ v → B) → B
-  by-number go (Number a c) h f g = g a c refl h
-  by-number go (NoNumber e) h f g = f e h
+  pub by-read : {A : Type 0} (go : A → ℕ → Result V Refusal) (o : Read A) → then_read o go ≡ Ok v
+      → ((a : A) (c : Cursor) → o ≡ gave a c → go a c.at ≡ Ok v → B) → B
+  by-read go (Ok r) h g = g r.0 r.1 refl h
+  by-read go (Err e) h g = no-value h
 
-  pub by-list : {fail : Refusal → A} (go : ℕ → ℕ → ℕ → A) (o : ReadList) → by_list o fail go ≡ v
-      → ((e : Refusal) → fail e ≡ v → B) → ((a n : ℕ) (c : Cursor) → o ≡ Found a n c → go a n c.at ≡ v → B) → B
-  by-list go (Found a n c) h f g = g a n c refl h
-  by-list go (NoList e) h f g = f e h
-
-  pub by-head : {fail : Refusal → A} (go : ℕ → ℕ → ℕ → A) (o : ReadHead) → by_head o fail go ≡ v
-      → ((e : Refusal) → fail e ≡ v → B) → ((m k : ℕ) (c : Cursor) → o ≡ Head m k c → go m k c.at ≡ v → B) → B
-  by-head go (Head m k c) h f g = g m k c refl h
-  by-head go (NoHead e) h f g = f e h
-
--- a refusal is no answer
-module _ {B : Type 0} {e : Refusal} where
-  pub no_number : {a : ℕ} {c : Cursor} → NoNumber e ≡ Number a c → B
-  no_number r = let z : ◌≡◌ {A = ℕ} 0 1 = cc in absurd (omega arith)
-
-  pub no-list : {a n : ℕ} {c : Cursor} → NoList e ≡ Found a n c → B
-  no-list r = let z : ◌≡◌ {A = ℕ} 0 1 = cc in absurd (omega arith)
-
-  pub no-head : {m k : ℕ} {c : Cursor} → NoHead e ≡ Head m k c → B
-  no-head r = let z : ◌≡◌ {A = ℕ} 0 1 = cc in absurd (omega arith)
+  pub by-kind : {K : Type 0} (go : K → Result V Refusal) (o : Option K) → of_kind o go ≡ Ok v
+      → ((k : K) → o ≡ Some k → go k ≡ Ok v → B) → B
+  by-kind go (Some k) h g = g k refl h
+  by-kind go None h g = no-value h
 
 pub false-true : {B : Type 0} → false ≡ true → B
 false-true e = let z : ◌≡◌ {A = ℕ} 0 1 = cc in absurd (omega arith)
 
--- the parts of an answer
-pub number-value : {a b : ℕ} {c d : Cursor} → Number a c ≡ Number b d → a ≡ b
-number-value r = cc
+-- the parts of what was read
+module _ {A : Type 0} {a b : A} {c d : Cursor} (h : gave a c ≡ gave b d) where
+  pairs-same : ◌≡◌ {A = A × Cursor} (a, c) (b, d)
+  pairs-same = cc
 
-pub number-next : {a b : ℕ} {c d : Cursor} → Number a c ≡ Number b d → c.at ≡ d.at
-number-next {a} {b} {c} {d} r = let e : c ≡ d = cc in ap (λ (k : Cursor). k.at) e
+  pub read-value : a ≡ b
+  read-value = ap (λ (r : A × Cursor). r.0) pairs-same
 
-pub list-place : {a n b m : ℕ} {c d : Cursor} → Found a n c ≡ Found b m d → a ≡ b
-list-place r = cc
+  pub read-cursor : c ≡ d
+  read-cursor = ap (λ (r : A × Cursor). r.1) pairs-same
 
-pub list_count : {a n b m : ℕ} {c d : Cursor} → Found a n c ≡ Found b m d → n ≡ m
-list_count r = cc
-
-pub list-next : {a n b m : ℕ} {c d : Cursor} → Found a n c ≡ Found b m d → c.at ≡ d.at
-list-next {a} {n} {b} {m} {c} {d} r = let e : c ≡ d = cc in ap (λ (k : Cursor). k.at) e
+  pub read-next : c.at ≡ d.at
+  read-next = ap (λ (k : Cursor). k.at) read-cursor
 
 -- A NUMBER THAT WAS READ: the value v at x, of w bytes
 pub record NumberWas (s : List ℕ) (x v w a : ℕ) (c : Cursor) : Type 0 where
@@ -78,26 +59,31 @@ pub record NumberWas (s : List ℕ) (x v w a : ℕ) (c : Cursor) : Type 0 where
   pub next : c.at ≡ x + w
   pub inside : x ≤ length s → c.at ≤ length s
 
-need-number : (s : List ℕ) (x v w : ℕ) {a : ℕ} {c : Cursor} → demand (leb (x + w) (length s)) (NoNumber PastEnd) (Number v (place (x + w))) ≡ Number a c → NumberWas s x v w a c
+need-number : (s : List ℕ) (x v w : ℕ) {a : ℕ} {c : Cursor} → demand (leb (x + w) (length s)) (Err PastEnd) (got v (x + w)) ≡ gave a c → NumberWas s x v w a c
 need-number s x v w {a} {c} r =
-    by-need (leb (x + w) (length s)) r no_number
-    (λ e q. record { value = sym (number-value q); next = sym (number-next q); inside = λ h. omega (arith, number-next q, leb-true (x + w) (length s) e) })
+    by-need (leb (x + w) (length s)) r no-value
+    (λ e q. record { value = sym (read-value q); next = sym (read-next q); inside = λ h. omega (arith, read-next q, leb-true (x + w) (length s) e) })
 
-none-was : (s : List ℕ) (x : ℕ) {a : ℕ} {c : Cursor} → Number 0 (place x) ≡ Number a c → NumberWas s x 0 0 a c
-none-was s x r = record { value = sym (number-value r); next = omega (arith, number-next r); inside = λ h. omega (arith, number-next r) }
+none-was : (s : List ℕ) (x : ℕ) {a : ℕ} {c : Cursor} → got 0 x ≡ gave a c → NumberWas s x 0 0 a c
+none-was s x r = record { value = sym (read-value r); next = omega (arith, read-next r); inside = λ h. omega (arith, read-next r) }
 
 module _ (s : List ℕ) (x : ℕ) {a : ℕ} {c : Cursor} where
-  pub byte-was : read_byte s x ≡ Number a c → NumberWas s x (get_or s x 0) 1 a c
+  pub byte-was : read_byte s x ≡ gave a c → NumberWas s x (get_or s x 0) 1 a c
   unfolding read_byte
   byte-was r = need-number s x (get_or s x 0) 1 r
 
-  pub u16-was : read_u16 s x ≡ Number a c → NumberWas s x (u16_at s x) 2 a c
+  pub u16-was : read_u16 s x ≡ gave a c → NumberWas s x (u16_at s x) 2 a c
   unfolding read_u16
   u16-was r = need-number s x (u16_at s x) 2 r
 
-  pub u32-was : read_u32 s x ≡ Number a c → NumberWas s x (u32_at s x) 4 a c
+  pub u32-was : read_u32 s x ≡ gave a c → NumberWas s x (u32_at s x) 4 a c
   unfolding read_u32
   u32-was r = need-number s x (u32_at s x) 4 r
+
+-- a byte that was read stands in the slice
+pub byte_inside : (s : List ℕ) (x : ℕ) {a : ℕ} {c : Cursor} → read_byte s x ≡ gave a c → c.at ≤ length s
+unfolding read_byte
+byte_inside s x r = by-need (leb (x + 1) (length s)) r no-value (λ e q. omega (arith, read-next q, leb-true (x + 1) (length s) e))
 
 -- THE BIT MAP AND THE KIND
 pub record HeadWas (s : List ℕ) (x m k : ℕ) (c : Cursor) : Type 0 where
@@ -107,7 +93,7 @@ pub record HeadWas (s : List ℕ) (x m k : ℕ) (c : Cursor) : Type 0 where
   pub next : c.at ≡ x + 2
   pub inside : x + 2 ≤ length s
 
-head_read : (s : List ℕ) (x m k : ℕ) (c1 c2 c : Cursor) → read_byte s x ≡ Number m c1 → read_byte s c1.at ≡ Number k c2 → bit 1 m ≡ true → c2.at ≡ c.at → HeadWas s x m k c
+head_read : (s : List ℕ) (x m k : ℕ) (c1 c2 c : Cursor) → read_byte s x ≡ gave m c1 → read_byte s c1.at ≡ gave k c2 → bit 1 m ≡ true → c2.at ≡ c.at → HeadWas s x m k c
 head_read s x m k c1 c2 c p q odd e =
     let v = byte-was s x p in
     let w = byte-was s c1.at q in
@@ -116,65 +102,101 @@ head_read s x m k c1 c2 c p q odd e =
       kind = w.value ∙ ap (λ (i : ℕ). get_or s i 0) v.next;
       odd = odd;
       next = omega (arith, v.next, w.next, e);
-      inside = omega (arith, v.next, w.next, byte_inside s c1.at refl q);
+      inside = omega (arith, v.next, w.next, byte_inside s c1.at q);
     }
 
-pub head-was : (s : List ℕ) (x m k : ℕ) (c : Cursor) → read_head s x ≡ Head m k c → HeadWas s x m k c
+pub head-was : (s : List ℕ) (x : ℕ) (h : Head) (c : Cursor) → read_head s x ≡ gave h c → HeadWas s x h.map h.kind c
 unfolding read_head
-head-was s x m k c r =
-    by-number _ (read_byte s x) r (λ e. no-head)
-    (λ m1 c1 p r1.
-    by-need (bit 1 m1) r1 no-head
+head-was s x h c r =
+    by-read _ (read_byte s x) r
+    (λ m c1 p r1.
+    by-need (bit 1 m) r1 no-value
     (λ odd r2.
-    by-number _ (read_byte s c1.at) r2 (λ e. no-head)
-    (λ k1 c2 q r3.
-    let em : m1 ≡ m = cc in
-    let ek : k1 ≡ k = cc in
-    let ec : c2 ≡ c = cc in
-    head_read s x m k c1 c2 c (rw em at p) (rw ek at q) (rw em at odd) (ap (λ (i : Cursor). i.at) ec))))
+    by-read _ (read_byte s c1.at) r2
+    (λ k c2 q r3.
+    let em : m ≡ h.map = ap (λ (i : Head). i.map) (read-value r3) in
+    let ek : k ≡ h.kind = ap (λ (i : Head). i.kind) (read-value r3) in
+    head_read s x h.map h.kind c1 c2 c (rw em at p) (rw ek at q) (rw em at odd) (read-next r3))))
 
 -- THE NAME, THE NUMBER AND THE RECORD'S OWN SORT, by the bit of the map
-name_by : (s : List ℕ) (x : ℕ) {a : ℕ} {c : Cursor} (t : Bool) → cond t (read_u16 s x) (Number 0 (place x)) ≡ Number a c → NumberWas s x (given t (u16_at s x)) (given t 2) a c
+name_by : (s : List ℕ) (x : ℕ) {a : ℕ} {c : Cursor} (t : Bool) → cond t (read_u16 s x) (got 0 x) ≡ gave a c → NumberWas s x (given t (u16_at s x)) (given t 2) a c
 name_by s x true r = u16-was s x r
 name_by s x false r = none-was s x r
 
-pub name-was : (s : List ℕ) (m x : ℕ) {a : ℕ} {c : Cursor} → read_name s m x ≡ Number a c → NumberWas s x (given (bit 2 m) (u16_at s x)) (given (bit 2 m) 2) a c
+pub name-was : (s : List ℕ) (m x : ℕ) {a : ℕ} {c : Cursor} → read_name s m x ≡ gave a c → NumberWas s x (given (bit 2 m) (u16_at s x)) (given (bit 2 m) 2) a c
 unfolding read_name
 name-was s m x r = name_by s x (bit 2 m) r
 
 -- a number that passed its test
-passed : {s : List ℕ} {x v w a b : ℕ} {c d : Cursor} → NumberWas s x v w b d → Number b d ≡ Number a c → NumberWas s x v w a c
-passed r e = record { value = sym (number-value e) ∙ r.value; next = sym (number-next e) ∙ r.next; inside = λ h. omega (arith, number-next e, r.inside h) }
+passed : {s : List ℕ} {x v w a b : ℕ} {c d : Cursor} → NumberWas s x v w b d → gave b d ≡ gave a c → NumberWas s x v w a c
+passed r e = record { value = sym (read-value e) ∙ r.value; next = sym (read-next e) ∙ r.next; inside = λ h. omega (arith, read-next e, r.inside h) }
 
 number_by : (s : List ℕ) (most x : ℕ) {a : ℕ} {c : Cursor} (t : Bool)
-    → cond t (by_number (read_u32 s x) NoNumber (λ v y. demand (leb v most) (NoNumber Value) (Number v (place y)))) (Number 0 (place x)) ≡ Number a c
+    → cond t (then_read (read_u32 s x) (λ v y. demand (leb v most) (Err Value) (got v y))) (got 0 x) ≡ gave a c
     → NumberWas s x (given t (u32_at s x)) (given t 4) a c × (a ≤ most)
 number_by s most x false r = let w = none-was s x r in (w, omega (arith, w.value))
 number_by s most x true r =
-    by-number _ (read_u32 s x) r (λ e. no_number)
+    by-read _ (read_u32 s x) r
     (λ v d p r1.
-    by-need (leb v most) r1 no_number
-    (λ l q. (passed (u32-was s x p) q, omega (arith, number-value q, leb-true v most l))))
+    by-need (leb v most) r1 no-value
+    (λ l q. (passed (u32-was s x p) q, omega (arith, read-value q, leb-true v most l))))
 
-pub number-was : (s : List ℕ) (m most x : ℕ) {a : ℕ} {c : Cursor} → read_number s m most x ≡ Number a c
+pub number-was : (s : List ℕ) (m most x : ℕ) {a : ℕ} {c : Cursor} → read_number s m most x ≡ gave a c
     → NumberWas s x (given (bit 4 m) (u32_at s x)) (given (bit 4 m) 4) a c × (a ≤ most)
 unfolding read_number
 number-was s m most x r = number_by s most x (bit 4 m) r
 
 own-by : (s : List ℕ) (sorts x : ℕ) {a : ℕ} {c : Cursor} (t : Bool)
-    → cond t (by_number (read_u16 s x) NoNumber (λ v y. demand (ltb v sorts) (NoNumber Reference) (Number v (place y)))) (Number 0 (place x)) ≡ Number a c
+    → cond t (then_read (read_u16 s x) (λ v y. demand (ltb v sorts) (Err Reference) (got v y))) (got 0 x) ≡ gave a c
     → NumberWas s x (given t (u16_at s x)) (given t 2) a c × (t ≡ true → a < sorts)
 own-by s sorts x false r = (none-was s x r, false-true)
 own-by s sorts x true r =
-    by-number _ (read_u16 s x) r (λ e. no_number)
+    by-read _ (read_u16 s x) r
     (λ v d p r1.
-    by-need (ltb v sorts) r1 no_number
-    (λ l q. (passed (u16-was s x p) q, λ e. omega (arith, number-value q, ltb-true v sorts l))))
+    by-need (ltb v sorts) r1 no-value
+    (λ l q. (passed (u16-was s x p) q, λ e. omega (arith, read-value q, ltb-true v sorts l))))
 
-pub own-was : (s : List ℕ) (m sorts x : ℕ) {a : ℕ} {c : Cursor} → read_own s m sorts x ≡ Number a c
+pub own-was : (s : List ℕ) (m sorts x : ℕ) {a : ℕ} {c : Cursor} → read_own s m sorts x ≡ gave a c
     → NumberWas s x (given (bit 8 m) (u16_at s x)) (given (bit 8 m) 2) a c × (bit 8 m ≡ true → a < sorts)
 unfolding read_own
 own-was s m sorts x r = own-by s sorts x (bit 8 m) r
+
+-- what the bytes of a list that was read are
+pub record ListIs (s : List ℕ) (low high x a n : ℕ) (c : Cursor) : Type 0 where
+  pub within : a + 2 * n ≤ length s
+  pub start : a ≡ x + 1
+  pub count : n ≡ get_or s x 0
+  pub next : c.at ≡ a + 2 * n
+  pub least : low ≤ n
+  pub most : n ≤ high
+
+-- the parts of a list that was read
+span-place : {a n : ℕ} {l : Span} {c d : Cursor} → gave (span a n) c ≡ gave l d → a ≡ l.at
+span-place h = ap (λ (i : Span). i.at) (read-value h)
+
+span-count : {a n : ℕ} {l : Span} {c d : Cursor} → gave (span a n) c ≡ gave l d → n ≡ l.count
+span-count h = ap (λ (i : Span). i.count) (read-value h)
+
+pub list-was : (s : List ℕ) (low high x : ℕ) {l : Span} {c : Cursor} → read_list s low high x ≡ gave l c → ListIs s low high x l.at l.count c
+unfolding read_list
+list-was s low high x r =
+    by-read _ (read_byte s x) r
+    (λ n d p r1.
+    by-need (leb (d.at + 2 * n) (length s)) r1 no-value
+    (λ l1 r2.
+    by-need (leb low n) r2 no-value
+    (λ l2 r3.
+    by-need (leb n high) r3 no-value
+    (λ l3 q.
+    let w = byte-was s x p in
+    record {
+      within = omega (arith, span-place q, span-count q, leb-true (d.at + 2 * n) (length s) l1);
+      start = omega (arith, span-place q, w.next);
+      count = omega (arith, span-count q, w.value);
+      next = omega (arith, span-place q, span-count q, read-next q);
+      least = omega (arith, span-count q, leb-true low n l2);
+      most = omega (arith, span-count q, leb-true n high l3);
+    }))))
 
 -- A LIST THAT WAS READ: its numbers stand at a, n of them
 pub record ListWas (s : List ℕ) (t : Bool) (low high x a n : ℕ) (c : Cursor) : Type 0 where
@@ -188,54 +210,54 @@ pub record ListWas (s : List ℕ) (t : Bool) (low high x a n : ℕ) (c : Cursor)
   pub after : x ≤ a
   pub ends : a + 2 * n ≡ c.at
 
-list-gave : {s : List ℕ} {low high x b k a n : ℕ} {d c : Cursor} → ListIs s low high x b k d → Found b k d ≡ Found a n c → ListWas s true low high x a n c
-list-gave {s} l r =
+list-gave : {s : List ℕ} {low high x b k : ℕ} {l : Span} {d c : Cursor} → ListIs s low high x b k d → gave (span b k) d ≡ gave l c → ListWas s true low high x l.at l.count c
+list-gave {s} w r =
     record {
-      values = ap₂ (numbers_at s) (sym (list-place r) ∙ l.start) (sym (list_count r) ∙ l.count);
-      next = omega (arith, list-next r, l.start, l.count, l.next);
-      inside = λ h. omega (arith, list-next r, l.within, l.next);
-      least = λ e. omega (arith, list_count r, l.least);
-      most = λ e. omega (arith, list_count r, l.most);
+      values = ap₂ (numbers_at s) (sym (span-place r) ∙ w.start) (sym (span-count r) ∙ w.count);
+      next = omega (arith, read-next r, w.start, w.count, w.next);
+      inside = λ h. omega (arith, read-next r, w.within, w.next);
+      least = λ e. omega (arith, span-count r, w.least);
+      most = λ e. omega (arith, span-count r, w.most);
       empty = λ e. false-true (sym e);
-      start = λ e. sym (list-place r) ∙ l.start;
-      after = omega (arith, list-place r, l.start);
-      ends = omega (arith, list-place r, list_count r, list-next r, l.next);
+      start = λ e. sym (span-place r) ∙ w.start;
+      after = omega (arith, span-place r, w.start);
+      ends = omega (arith, span-place r, span-count r, read-next r, w.next);
     }
 
-list-none : (s : List ℕ) (low high x : ℕ) {a n : ℕ} {c : Cursor} → Found x 0 (place x) ≡ Found a n c → ListWas s false low high x a n c
+list-none : (s : List ℕ) (low high x : ℕ) {l : Span} {c : Cursor} → got (span x 0) x ≡ gave l c → ListWas s false low high x l.at l.count c
 unfolding numbers_at
-list-none s low high x {a} {n} {c} r =
+list-none s low high x {l} {c} r =
     record {
-      values = ap (numbers_at s a) (sym (list_count r));
-      next = omega (arith, list-next r);
-      inside = λ h. omega (arith, list-next r);
+      values = ap (numbers_at s l.at) (sym (span-count r));
+      next = omega (arith, read-next r);
+      inside = λ h. omega (arith, read-next r);
       least = false-true;
       most = false-true;
-      empty = λ e. sym (list_count r);
+      empty = λ e. sym (span-count r);
       start = false-true;
-      after = omega (arith, list-place r);
-      ends = omega (arith, list-place r, list-next r, list_count r);
+      after = omega (arith, span-place r);
+      ends = omega (arith, span-place r, read-next r, span-count r);
     }
 
 -- a test on the numbers that were read
 module _ (s : List ℕ) (low high x : ℕ) (test : List ℕ → Bool) (why : Refusal) (passes : test [] ≡ true) where
-  tested : {a n : ℕ} {c : Cursor} (t : Bool)
-      → cond t (by_list (read_list s low high x) NoList (λ b k y. demand (test (numbers_at s b k)) (NoList why) (Found b k (place y)))) (Found x 0 (place x)) ≡ Found a n c
-      → ListWas s t low high x a n c × (test (numbers_at s a n) ≡ true)
-  tested false r = let l = list-none s low high x r in (l, ap test l.values ∙ passes)
+  tested : {l : Span} {c : Cursor} (t : Bool)
+      → cond t (then_read (read_list s low high x) (λ k y. demand (test (numbers_at s k.at k.count)) (Err why) (got k y))) (got (span x 0) x) ≡ gave l c
+      → ListWas s t low high x l.at l.count c × (test (numbers_at s l.at l.count) ≡ true)
+  tested false r = let w = list-none s low high x r in (w, ap test w.values ∙ passes)
   tested true r =
-      by-list _ (read_list s low high x) r (λ e. no-list)
-      (λ b k d p r1.
-      by-need (test (numbers_at s b k)) r1 no-list
-      (λ h q. (list-gave (list-was s low high x p) q, ap test (ap₂ (numbers_at s) (sym (list-place q)) (sym (list_count q))) ∙ h)))
+      by-read _ (read_list s low high x) r
+      (λ k d p r1.
+      by-need (test (numbers_at s k.at k.count)) r1 no-value
+      (λ h q. (list-gave (list-was s low high x p) q, ap test (ap₂ (numbers_at s) (sym (span-place q)) (sym (span-count q))) ∙ h)))
 
-pub references-were : (s : List ℕ) (m least most limit x : ℕ) {a n : ℕ} {c : Cursor} → read_references s m least most limit x ≡ Found a n c
-    → ListWas s (bit 16 m) least most x a n c × (all_below limit (numbers_at s a n) ≡ true)
+pub references-were : (s : List ℕ) (m least most limit x : ℕ) {l : Span} {c : Cursor} → read_references s m least most limit x ≡ gave l c
+    → ListWas s (bit 16 m) least most x l.at l.count c × (all_below limit (numbers_at s l.at l.count) ≡ true)
 unfolding read_references all_below
 references-were s m least most limit x r = tested s least most x (all_below limit) Reference refl (bit 16 m) r
 
-pub names-were : (s : List ℕ) (m least most x : ℕ) {a n : ℕ} {c : Cursor} → read_names s m least most x ≡ Found a n c
-    → ListWas s (bit 64 m) least most x a n c × (distinct (numbers_at s a n) ≡ true)
+pub names-were : (s : List ℕ) (m least most x : ℕ) {l : Span} {c : Cursor} → read_names s m least most x ≡ gave l c
+    → ListWas s (bit 64 m) least most x l.at l.count c × (distinct (numbers_at s l.at l.count) ≡ true)
 unfolding read_names distinct
 names-were s m least most x r = tested s least most x distinct Value refl (bit 64 m) r
 
@@ -243,8 +265,8 @@ or-true : (a : Bool) → (a || true) ≡ true
 or-true true = refl
 or-true false = refl
 
-pub second-was : (s : List ℕ) (m k n limit x : ℕ) {a q : ℕ} {c : Cursor} → read_second s m k n limit x ≡ Found a q c
-    → ListWas s (bit 64 m) (second_least_of k n) (second_most_of k n) x a q c × ((eqb k 9 || all_below limit (numbers_at s a q)) ≡ true)
+pub second-was : (s : List ℕ) (m k n limit x : ℕ) {l : Span} {c : Cursor} → read_second s m k n limit x ≡ gave l c
+    → ListWas s (bit 64 m) (second_least_of k n) (second_most_of k n) x l.at l.count c × ((eqb k 9 || all_below limit (numbers_at s l.at l.count)) ≡ true)
 unfolding read_second all_below
 second-was s m k n limit x r = tested s (second_least_of k n) (second_most_of k n) x (λ vs. eqb k 9 || all_below limit vs) Reference (or-true (eqb k 9)) (bit 64 m) r
 
@@ -257,44 +279,44 @@ pub record PairsWere (s : List ℕ) (t : Bool) (sorts x a n : ℕ) (c : Cursor) 
   pub after : x ≤ a
   pub ends : a + 4 * n ≡ c.at
 
-pairs-by : (s : List ℕ) (sorts x : ℕ) {a n : ℕ} {c : Cursor} (t : Bool)
+pairs-by : (s : List ℕ) (sorts x : ℕ) {l : Span} {c : Cursor} (t : Bool)
     → cond t
-    (by_number (read_byte s x) NoList (λ k y.
-    demand (leb (y + 4 * k) (length s)) (NoList PastEnd)
-    (demand (leb k 64) (NoList Value)
-    (demand (all_below sorts (pair_sorts_at s y k)) (NoList Reference)
-    (Found y k (place (y + 4 * k)))))))
-    (Found x 0 (place x)) ≡ Found a n c
-    → PairsWere s t sorts x a n c
+    (then_read (read_byte s x) (λ k y.
+    demand (leb (y + 4 * k) (length s)) (Err PastEnd)
+    (demand (leb k 64) (Err Value)
+    (demand (all_below sorts (pair_sorts_at s y k)) (Err Reference)
+    (got (span y k) (y + 4 * k))))))
+    (got (span x 0) x) ≡ gave l c
+    → PairsWere s t sorts x l.at l.count c
 unfolding all_below pair_sorts_at
-pairs-by s sorts x {a} false r =
+pairs-by s sorts x {l} false r =
     record {
-      below = ap (λ (i : ℕ). all_below sorts (pair_sorts_at s a i)) (sym (list_count r));
-      inside = λ h. omega (arith, list-next r);
-      few = omega (arith, list_count r);
-      empty = λ e. sym (list_count r);
-      after = omega (arith, list-place r);
-      ends = omega (arith, list-place r, list-next r, list_count r);
+      below = ap (λ (i : ℕ). all_below sorts (pair_sorts_at s l.at i)) (sym (span-count r));
+      inside = λ h. omega (arith, read-next r);
+      few = omega (arith, span-count r);
+      empty = λ e. sym (span-count r);
+      after = omega (arith, span-place r);
+      ends = omega (arith, span-place r, read-next r, span-count r);
     }
 pairs-by s sorts x true r =
-    by-number _ (read_byte s x) r (λ e. no-list)
+    by-read _ (read_byte s x) r
     (λ k d p r1.
-    by-need (leb (d.at + 4 * k) (length s)) r1 no-list
+    by-need (leb (d.at + 4 * k) (length s)) r1 no-value
     (λ l1 r2.
-    by-need (leb k 64) r2 no-list
+    by-need (leb k 64) r2 no-value
     (λ l2 r3.
-    by-need (all_below sorts (pair_sorts_at s d.at k)) r3 no-list
+    by-need (all_below sorts (pair_sorts_at s d.at k)) r3 no-value
     (λ l3 q.
     record {
-      below = ap₂ (λ (i j : ℕ). all_below sorts (pair_sorts_at s i j)) (sym (list-place q)) (sym (list_count q)) ∙ l3;
-      inside = λ h. omega (arith, list-next q, leb-true (d.at + 4 * k) (length s) l1);
-      few = omega (arith, list_count q, leb-true k 64 l2);
+      below = ap₂ (λ (i j : ℕ). all_below sorts (pair_sorts_at s i j)) (sym (span-place q)) (sym (span-count q)) ∙ l3;
+      inside = λ h. omega (arith, read-next q, leb-true (d.at + 4 * k) (length s) l1);
+      few = omega (arith, span-count q, leb-true k 64 l2);
       empty = λ e. false-true (sym e);
-      after = omega (arith, list-place q, (byte-was s x p).next);
-      ends = omega (arith, list-place q, list-next q, list_count q);
+      after = omega (arith, span-place q, (byte-was s x p).next);
+      ends = omega (arith, span-place q, read-next q, span-count q);
     }))))
 
-pub pairs-were : (s : List ℕ) (m sorts x : ℕ) {a n : ℕ} {c : Cursor} → read_pairs s m sorts x ≡ Found a n c → PairsWere s (bit 32 m) sorts x a n c
+pub pairs-were : (s : List ℕ) (m sorts x : ℕ) {l : Span} {c : Cursor} → read_pairs s m sorts x ≡ gave l c → PairsWere s (bit 32 m) sorts x l.at l.count c
 unfolding read_pairs
 pairs-were s m sorts x r = pairs-by s sorts x (bit 32 m) r
 

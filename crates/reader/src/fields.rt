@@ -1,254 +1,238 @@
 // The single fields of a record, and the numbers they are made of. A method returns what it read with the next cursor, or
 // the refusal; a field whose bit does not stand in the map is 0 or empty and takes no bytes.
-ghost use Rattle.std.specs.Prelude.{◌≡◌};
-ghost use Rattle.reader.specs.Reader.{read_byte, read_u16, read_u32, read_head, read_name, read_number, read_own, read_list, read_references, read_names, read_second, read_pairs};
+ghost use Rattle.std.specs.Prelude.{◌≡◌, ◌+◌, ◌<◌, ℕ, IfOk, length};
+ghost use Rattle.record.specs.Record.{bit};
+ghost use Rattle.reader.specs.Reader.{skipped, read_byte, read_u16, read_u32, read_head, read_name, read_number, read_own, read_list, read_references, read_names, read_second, read_pairs};
+ghost use Rattle.record.specs.Kinds.{term_number};
 
-use super::scans::{all_below, distinct_at, pairs_below};
-use super::tables::one_less;
-use super::{Cursor, ReadHead, ReadList, ReadNumber, Refusal};
-use record::kinds::TERM_LET;
+use super::scans::{all_below, is_distinct, pairs_below};
+use super::tables::Limits;
+use super::{Cursor, Head, Read, Refusal};
+use record::kinds::TermKind;
+use record::limits::LONGEST_LIST;
+use record::span::Span;
 use record::u16_at;
 
+// The weights of the bits of a map: the kind, the name, the number, the record's own sort, the list, the pairs and the second
+// list or the names.
+const KIND_BIT: usize = 1;
+
+const NAME_BIT: usize = 2;
+
+const NUMBER_BIT: usize = 4;
+
+const SORT_BIT: usize = 8;
+
+const LIST_BIT: usize = 16;
+
+const PAIRS_BIT: usize = 32;
+
+const SECOND_BIT: usize = 64;
+
+// Whether the bit of this weight stands in the map.
+#[tactic(auto, unfolding(record::specs::Record::bit))]
+fn has_bit(weight: usize, map: usize) -> bool
+    requires { 0 < weight }
+    ensures { result ≡ bit weight map }
+{
+    map / weight % 2 == 1
+}
+
 impl Cursor {
-    // One byte, or PastEnd.
-    pub fn byte(self, s: &[u8]) -> ReadNumber
-        ensures { result ≡ read_byte s.now self.at }
+    // The place n bytes further on, or PastEnd where they are not all there.
+    fn skip(self, s: &[u8], n: usize) -> Result<Cursor, Refusal>
+        ensures { result ≡ skipped s.now n self.at }
+    {
+        match s.len().checked_sub(self.at) {
+            Some(left) if n <= left => Ok(Cursor { at: self.at + n }),
+            _ => Err(Refusal::PastEnd),
+        }
+    }
+
+    // The list that is not there: none at this place.
+    fn no_list(self) -> (Span, Cursor)
+        ensures at { result.0.at ≡ self.at }
+        ensures count { result.0.count ≡ 0 }
+        ensures next { result.1 ≡ self }
     {
         let at = self.at;
-        if s.len() <= at {
-            return ReadNumber::NoNumber(Refusal::PastEnd);
-        }
-        let v = s[at] as usize;
-        ReadNumber::Number(v, Cursor { at: at + 1 })
+        (Span { at, count: 0 }, self)
+    }
+
+    // One byte, or PastEnd.
+    #[tactic(auto, unfolding(crate::specs::Reader::read_byte))]
+    pub fn byte(self, s: &[u8]) -> Read<usize>
+        ensures value { result ≡ read_byte s.now self.at }
+        ensures upper_bound { IfOk result (λ r. r.0 < 256) }
+    {
+        let next = self.skip(s, 1)?;
+        Ok((s[self.at] as usize, next))
     }
 
     // Two bytes, or PastEnd.
-    pub fn u16(self, s: &[u8]) -> ReadNumber
+    #[tactic(auto, unfolding(crate::specs::Reader::read_u16))]
+    pub fn u16(self, s: &[u8]) -> Read<usize>
         ensures { result ≡ read_u16 s.now self.at }
     {
-        let at = self.at;
-        let n = s.len();
-        if n <= at {
-            return ReadNumber::NoNumber(Refusal::PastEnd);
-        }
-        if n - at < 2 {
-            return ReadNumber::NoNumber(Refusal::PastEnd);
-        }
-        let v = u16_at(s, at);
-        ReadNumber::Number(v, Cursor { at: at + 2 })
+        let next = self.skip(s, 2)?;
+        Ok((u16_at(s, self.at), next))
     }
 
     // Four bytes, or PastEnd.
-    pub fn u32(self, s: &[u8]) -> ReadNumber
+    #[tactic(auto, unfolding(crate::specs::Reader::read_u32, record::specs::Number::u32_at, record::specs::Number::u16_at))]
+    pub fn u32(self, s: &[u8]) -> Read<usize>
         ensures { result ≡ read_u32 s.now self.at }
     {
+        let next = self.skip(s, 4)?;
         let at = self.at;
-        let n = s.len();
-        if n <= at {
-            return ReadNumber::NoNumber(Refusal::PastEnd);
-        }
-        if n - at < 4 {
-            return ReadNumber::NoNumber(Refusal::PastEnd);
-        }
-        let low = u16_at(s, at);
-        let high = u16_at(s, at + 2);
-        ReadNumber::Number(low + high * 65536, Cursor { at: at + 4 })
+        let value = u32::from_le_bytes([s[at], s[at + 1], s[at + 2], s[at + 3]]);
+        Ok((value as usize, next))
     }
 
     // The bit map and the kind: PastEnd without the map byte, Map without the bit of the kind, PastEnd without the kind byte.
-    pub fn head(self, s: &[u8]) -> ReadHead
+    #[tactic(auto, unfolding(crate::specs::Reader::read_head))]
+    pub fn head(self, s: &[u8]) -> Read<Head>
         ensures { result ≡ read_head s.now self.at }
     {
-        let first = self.byte(s);
-        match first {
-            ReadNumber::Number(map, c1) => {
-                if map % 2 == 0 {
-                    return ReadHead::NoHead(Refusal::Map);
-                }
-                let second = c1.byte(s);
-                match second {
-                    ReadNumber::Number(kind, c2) => ReadHead::Head(map, kind, c2),
-                    ReadNumber::NoNumber(e) => ReadHead::NoHead(e),
-                }
-            }
-            ReadNumber::NoNumber(e) => ReadHead::NoHead(e),
+        let (map, next) = self.byte(s)?;
+        if !has_bit(KIND_BIT, map) {
+            return Err(Refusal::Map);
         }
+        let (kind, next) = next.byte(s)?;
+        Ok((Head { map, kind }, next))
     }
 
     // The name, or PastEnd; 0 and this place where its bit does not stand in the map.
-    pub fn name(self, s: &[u8], map: usize) -> ReadNumber
+    #[tactic(auto, unfolding(crate::specs::Reader::read_name))]
+    pub fn name(self, s: &[u8], map: usize) -> Read<usize>
         ensures { result ≡ read_name s.now map self.at }
     {
-        if map / 2 % 2 == 1 {
+        if has_bit(NAME_BIT, map) {
             return self.u16(s);
         }
-        ReadNumber::Number(0, self)
+        Ok((0, self))
     }
 
     // The number: PastEnd, or Value where it is over `most`; 0 and this place where its bit does not stand in the map.
-    pub fn number(self, s: &[u8], map: usize, most: usize) -> ReadNumber
+    #[tactic(auto, unfolding(crate::specs::Reader::read_number))]
+    pub fn number(self, s: &[u8], map: usize, most: usize) -> Read<usize>
         ensures { result ≡ read_number s.now map most self.at }
     {
-        if map / 4 % 2 != 1 {
-            return ReadNumber::Number(0, self);
+        if !has_bit(NUMBER_BIT, map) {
+            return Ok((0, self));
         }
-        let read = self.u32(s);
-        match read {
-            ReadNumber::Number(v, next) => {
-                if most < v {
-                    return ReadNumber::NoNumber(Refusal::Value);
-                }
-                ReadNumber::Number(v, next)
-            }
-            ReadNumber::NoNumber(e) => ReadNumber::NoNumber(e),
+        let (v, next) = self.u32(s)?;
+        if most < v {
+            return Err(Refusal::Value);
         }
+        Ok((v, next))
     }
 
     // The record's own sort: PastEnd, or Reference where it is none of the `sorts` sorts; 0 and this place where its bit
     // does not stand in the map.
-    pub fn own(self, s: &[u8], map: usize, sorts: usize) -> ReadNumber
+    #[tactic(auto, unfolding(crate::specs::Reader::read_own))]
+    pub fn own(self, s: &[u8], map: usize, sorts: usize) -> Read<usize>
         ensures { result ≡ read_own s.now map sorts self.at }
     {
-        if map / 8 % 2 != 1 {
-            return ReadNumber::Number(0, self);
+        if !has_bit(SORT_BIT, map) {
+            return Ok((0, self));
         }
-        let read = self.u16(s);
-        match read {
-            ReadNumber::Number(v, next) => {
-                if sorts <= v {
-                    return ReadNumber::NoNumber(Refusal::Reference);
-                }
-                ReadNumber::Number(v, next)
-            }
-            ReadNumber::NoNumber(e) => ReadNumber::NoNumber(e),
+        let (v, next) = self.u16(s)?;
+        if sorts <= v {
+            return Err(Refusal::Reference);
         }
+        Ok((v, next))
     }
 
-    // A list: PastEnd where not all its bytes are there, then Value where its length is not from `least` to `most`.
-    pub fn list(self, s: &[u8], least: usize, most: usize) -> ReadList
-        ensures { result ≡ read_list s.now least most self.at }
+    // A list: PastEnd where not all its bytes are there, then Value where its length is not within the limits.
+    #[tactic(auto, unfolding(crate::specs::Reader::read_list))]
+    pub fn list(self, s: &[u8], limits: Limits) -> Read<Span>
+        ensures { result ≡ read_list s.now limits.least limits.most self.at }
     {
-        let read = self.byte(s);
-        match read {
-            ReadNumber::Number(count, next) => {
-                let at = next.at;
-                let n = s.len();
-                if (n - at) / 2 < count {
-                    return ReadList::NoList(Refusal::PastEnd);
-                }
-                if count < least {
-                    return ReadList::NoList(Refusal::Value);
-                }
-                if most < count {
-                    return ReadList::NoList(Refusal::Value);
-                }
-                ReadList::List(at, count, Cursor { at: at + 2 * count })
-            }
-            ReadNumber::NoNumber(e) => ReadList::NoList(e),
+        let (count, first) = self.byte(s)?;
+        let next = first.skip(s, 2 * count)?;
+        if !limits.allows(count) {
+            return Err(Refusal::Value);
         }
+        let at = first.at;
+        Ok((Span { at, count }, next))
     }
 
     // The list of references: as `list`, then Reference where one is not below `limit`; empty where its bit does not
     // stand in the map.
-    pub fn references(
-        self,
-        s: &[u8],
-        map: usize,
-        least: usize,
-        most: usize,
-        limit: usize,
-    ) -> ReadList
-        ensures { result ≡ read_references s.now map least most limit self.at }
+    #[tactic(auto, unfolding(crate::specs::Reader::read_references))]
+    pub fn references(self, s: &[u8], map: usize, limits: Limits, limit: usize) -> Read<Span>
+        ensures { result ≡ read_references s.now map limits.least limits.most limit self.at }
     {
-        if map / 16 % 2 != 1 {
-            let here = self.at;
-            return ReadList::List(here, 0, self);
+        if !has_bit(LIST_BIT, map) {
+            return Ok(self.no_list());
         }
-        let read = self.list(s, least, most);
-        match read {
-            ReadList::List(at, count, next) => {
-                if all_below(s, at, count, limit) {
-                    return ReadList::List(at, count, next);
-                }
-                ReadList::NoList(Refusal::Reference)
-            }
-            ReadList::NoList(e) => ReadList::NoList(e),
+        let (list, next) = self.list(s, limits)?;
+        if !all_below(s, list, limit) {
+            return Err(Refusal::Reference);
         }
+        Ok((list, next))
     }
 
     // The second list of a sort or a question: as `list`, then Value where a name stands twice; empty where its bit does
     // not stand in the map.
-    pub fn names(self, s: &[u8], map: usize, least: usize, most: usize) -> ReadList
-        ensures { result ≡ read_names s.now map least most self.at }
+    #[tactic(auto, unfolding(crate::specs::Reader::read_names))]
+    pub fn names(self, s: &[u8], map: usize, limits: Limits) -> Read<Span>
+        ensures { result ≡ read_names s.now map limits.least limits.most self.at }
     {
-        if map / 64 % 2 != 1 {
-            let here = self.at;
-            return ReadList::List(here, 0, self);
+        if !has_bit(SECOND_BIT, map) {
+            return Ok(self.no_list());
         }
-        let read = self.list(s, least, most);
-        match read {
-            ReadList::List(at, count, next) => {
-                if distinct_at(s, at, count) {
-                    return ReadList::List(at, count, next);
-                }
-                ReadList::NoList(Refusal::Value)
-            }
-            ReadList::NoList(e) => ReadList::NoList(e),
+        let (list, next) = self.list(s, limits)?;
+        if !is_distinct(s, list) {
+            return Err(Refusal::Value);
         }
+        Ok((list, next))
     }
 
     // The second list of a term of this kind with a list of `count`: the names of a Let, which may be any, or the index
     // terms of a ParamOp, Reference where one is not below `limit`; empty where its bit does not stand in the map.
-    pub fn second(self, s: &[u8], map: usize, kind: usize, count: usize, limit: usize) -> ReadList
-        ensures { result ≡ read_second s.now map kind count limit self.at }
+    #[tactic(auto, unfolding(crate::specs::Reader::read_second, crate::specs::Tables::second_least_of, crate::specs::Tables::second_most_of))]
+    pub fn second(
+        self,
+        s: &[u8],
+        map: usize,
+        kind: TermKind,
+        count: usize,
+        limit: usize,
+    ) -> Read<Span>
+        ensures { result ≡ read_second s.now map (term_number kind) count limit self.at }
     {
-        if map / 64 % 2 != 1 {
-            let here = self.at;
-            return ReadList::List(here, 0, self);
+        if !has_bit(SECOND_BIT, map) {
+            return Ok(self.no_list());
         }
-        let least = one_less(kind, TERM_LET, count, 0);
-        let most = one_less(kind, TERM_LET, count, 64);
-        let read = self.list(s, least, most);
-        match read {
-            ReadList::List(at, seconds, next) => {
-                if kind == TERM_LET {
-                    return ReadList::List(at, seconds, next);
-                }
-                if all_below(s, at, seconds, limit) {
-                    return ReadList::List(at, seconds, next);
-                }
-                ReadList::NoList(Refusal::Reference)
-            }
-            ReadList::NoList(e) => ReadList::NoList(e),
+        let named = kind == TermKind::Let;
+        let (list, next) = self.list(s, Limits::beside(count, named))?;
+        if !named && !all_below(s, list, limit) {
+            return Err(Refusal::Reference);
         }
+        Ok((list, next))
     }
 
     // The pairs: PastEnd where not all their bytes are there, Value over 64, Reference where a sort is none of the `sorts`
     // sorts; empty where their bit does not stand in the map.
-    pub fn pairs(self, s: &[u8], map: usize, sorts: usize) -> ReadList
+    #[tactic(auto, unfolding(crate::specs::Reader::read_pairs))]
+    pub fn pairs(self, s: &[u8], map: usize, sorts: usize) -> Read<Span>
         ensures { result ≡ read_pairs s.now map sorts self.at }
     {
-        if map / 32 % 2 != 1 {
-            let here = self.at;
-            return ReadList::List(here, 0, self);
+        if !has_bit(PAIRS_BIT, map) {
+            return Ok(self.no_list());
         }
-        let read = self.byte(s);
-        match read {
-            ReadNumber::Number(count, next) => {
-                let at = next.at;
-                let n = s.len();
-                if (n - at) / 4 < count {
-                    return ReadList::NoList(Refusal::PastEnd);
-                }
-                if 64 < count {
-                    return ReadList::NoList(Refusal::Value);
-                }
-                if pairs_below(s, at, count, sorts) {
-                    return ReadList::List(at, count, Cursor { at: at + 4 * count });
-                }
-                ReadList::NoList(Refusal::Reference)
-            }
-            ReadNumber::NoNumber(e) => ReadList::NoList(e),
+        let (count, first) = self.byte(s)?;
+        let next = first.skip(s, 4 * count)?;
+        if LONGEST_LIST < count {
+            return Err(Refusal::Value);
         }
+        let at = first.at;
+        let pairs = Span { at, count };
+        if !pairs_below(s, pairs, sorts) {
+            return Err(Refusal::Reference);
+        }
+        Ok((pairs, next))
     }
 }

@@ -1,6 +1,6 @@
-// The records of a sheet, read field by field: each method of a cursor reads one field and returns the next cursor with
-// what it read, or the refusal. Here stand the types; fields.rt has the methods for single fields, records.rt those for
-// whole records, tables.rt the limits of each kind and scans.rt the tests of the numbers of a list.
+// The records of a sheet, read field by field: each method of a cursor reads one field and returns what it read with the next
+// cursor, or the refusal. Here stand the types; fields.rt has the methods for single fields, records.rt those for whole records,
+// tables.rt the limits of each kind and scans.rt the tests of the numbers of a list.
 #![tactic(auto)]
 
 mod fields;
@@ -8,10 +8,13 @@ mod records;
 pub mod scans;
 pub mod tables;
 
-use record::SortRecord;
+ghost use Rattle.reader.specs.Reader.{Numbered, RefusedForMap};
 
-// Why a sheet is refused; `refusal_number` of specs/Reader.antt gives document 01's number of each.
-#[derive(Drop)]
+use record::kinds::{QuestionKind, TermKind, UnknownKind};
+use record::span::Span;
+
+// Why a sheet is refused; `u32::from` gives document 01's number of each.
+#[derive(Clone, Copy, Debug, PartialEq, Eq)]
 pub enum Refusal {
     // The sheet is under 6 or over 65,536 bytes.
     Length,
@@ -35,87 +38,56 @@ pub enum Refusal {
     Store,
 }
 
+impl From<UnknownKind> for Refusal {
+    ghost from_gives = { RefusedForMap };
+
+    // A record of an unknown kind is refused for its map.
+    fn from(_unknown: UnknownKind) -> Self {
+        Refusal::Map
+    }
+}
+
+impl From<Refusal> for u32 {
+    ghost from_gives = { Numbered };
+
+    // The number of the refusal, 1 to 10.
+    fn from(refusal: Refusal) -> Self {
+        refusal as u32 + 1
+    }
+}
+
 // A place in a sheet.
-#[derive(Drop)]
+#[derive(Clone, Copy, Debug, PartialEq, Eq)]
 pub struct Cursor {
     pub at: usize,
 }
 
-// A number and the place behind it.
-#[derive(Drop)]
-pub enum ReadNumber {
-    Number(usize, Cursor),
-    NoNumber(Refusal),
-}
+// What was read and the place behind it, or the refusal.
+pub type Read<T> = Result<(T, Cursor), Refusal>;
 
-// Where a list starts, how many entries it has, and the place behind it.
-#[derive(Drop)]
-pub enum ReadList {
-    List(usize, usize, Cursor),
-    NoList(Refusal),
-}
-
-// The bit map and the kind that open a record, and the place behind them.
-#[derive(Drop)]
-pub enum ReadHead {
-    Head(usize, usize, Cursor),
-    NoHead(Refusal),
-}
-
-// The fields of a record that are no lists; a sort record has no `sort`, which is 0 then.
-#[derive(Drop)]
-pub struct Scalars {
+// The bit map and the number of the kind that open a record.
+#[derive(Clone, Copy, Debug, PartialEq, Eq)]
+pub struct Head {
+    pub map: usize,
     pub kind: usize,
-    pub name: usize,
-    pub number: usize,
-    pub sort: usize,
 }
 
-// A sort record and the place behind it.
-#[derive(Drop)]
-pub enum ReadSort {
-    Sort(SortRecord, Cursor),
-    NoSort(Refusal),
-}
-
-// The fields of a term record: of each of its three lists the place where it starts, then how many entries it has.
-#[derive(Clone, Copy)]
+// The fields of a term record: its list, its pairs and its second list come last.
+#[derive(Clone, Copy, Debug, PartialEq, Eq)]
 pub struct TermRecord {
-    pub kind: usize,
+    pub kind: TermKind,
     pub name: usize,
     pub number: usize,
     pub sort: usize,
-    // The place of the list, and its count.
-    pub list_at: usize,
-    pub list_count: usize,
-    // The place of the pairs, and their count.
-    pub pairs_at: usize,
-    pub pairs_count: usize,
-    // The place of the second list, and its count.
-    pub second_at: usize,
-    pub second_count: usize,
+    pub list: Span,
+    pub pairs: Span,
+    pub second: Span,
 }
 
-// A term record and the place behind it.
-#[derive(Drop)]
-pub enum ReadTerm {
-    Term(TermRecord, Cursor),
-    NoTerm(Refusal),
-}
-
-// The fields of a question record; of its two lists the place where it starts, then how many entries it has.
-#[derive(Drop)]
+// The fields of a question record: its list of sorts and its list of names come last.
+#[derive(Clone, Copy, Debug, PartialEq, Eq)]
 pub struct QuestionRecord {
-    pub kind: usize,
-    pub list_at: usize,
-    pub list_count: usize,
-    pub names_at: usize,
-    pub names_count: usize,
-}
-
-// A question record and the place behind it.
-#[derive(Drop)]
-pub enum ReadQuestion {
-    Question(QuestionRecord, Cursor),
-    NoQuestion(Refusal),
+    pub kind: QuestionKind,
+    pub list: Span,
+    pub names: Span,
 }

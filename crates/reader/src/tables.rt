@@ -1,138 +1,168 @@
-// The bit maps and limits of the three parts' records, by kind; the bit maps of sorts stand in the crate record. Each is 0 for an
-// unknown kind, and 0 is no map. Those of terms are arms of a match: a constant table is written to the stack anew at each call.
-ghost use Rattle.std.specs.Prelude.{◌≡◌, cond, ◌-◌, eqb};
+// The bit maps and limits of the three parts' records, by kind; the bit maps of sorts stand in the crate record.
+ghost use Rattle.std.specs.Prelude.{◌≡◌, cond, ◌-◌, ◌&&◌, leb};
+ghost use Rattle.record.specs.Kinds.{sort_number, term_number, question_number};
 ghost use Rattle.record.specs.Record.{least_of, most_of};
 ghost use Rattle.reader.specs.Tables.{term_map_of, term_number_of, term_least_of, term_most_of, question_map_of, question_least_of, question_most_of};
 
-use record::kinds::{
-    TERM_APP, TERM_AS_OP, TERM_BINDER, TERM_BIT_VECTOR, TERM_INTEGER, TERM_LET, TERM_MATCH,
-    TERM_OP, TERM_PARAM_OP, TERM_REAL, TERM_REG_LAN, TERM_STRING, TERM_VAR,
-};
-use record::limits::LONGEST_LIST;
-use record::tables::in_table;
+use record::kinds::{AsOp, Binder, ParamOp, QuestionKind, SortKind, TermKind};
+use record::limits::{LARGEST_WIDTH, LONGEST_LIST};
+use record::operators::Operator;
 
-const LEASTS: [usize; 16] = [0, 0, 0, 0, 0, 0, 0, 0, 2, 0, 0, 0, 1, 0, 1, 0];
-
-const MOSTS: [usize; 16] = [64, 64, 0, 0, 0, 0, 0, 0, 2, 0, 0, 64, 1, 0, 1, 64];
-
-const QUESTION_MAPS: [usize; 3] = [17, 81, 81];
-
-const QUESTION_LEASTS: [usize; 3] = [2, 3, 1];
-
-const QUESTION_MOSTS: [usize; 3] = [2, 3, 64];
-
-// How many sorts the list of a kind of sort has at least.
-pub fn least_of(kind: usize) -> usize
-    ensures { result ≡ least_of kind }
-{
-    in_table(&LEASTS, kind)
+// How long a list may be.
+#[derive(Clone, Copy, Debug, PartialEq, Eq)]
+pub struct Limits {
+    pub least: usize,
+    pub most: usize,
 }
 
-// How many it has at most.
-pub fn most_of(kind: usize) -> usize
-    ensures { result ≡ most_of kind }
+impl Limits {
+    // Up to the longest list.
+    pub const ANY: Limits = Limits {
+        least: 0,
+        most: LONGEST_LIST,
+    };
+
+    // No entry.
+    pub const NONE: Limits = Limits { least: 0, most: 0 };
+
+    // At least one entry.
+    pub const SOME: Limits = Limits {
+        least: 1,
+        most: LONGEST_LIST,
+    };
+
+    // Just `count` entries.
+    pub fn exactly(count: usize) -> Limits
+        ensures least { result.least ≡ count }
+        ensures most { result.most ≡ count }
+    {
+        Limits {
+            least: count,
+            most: count,
+        }
+    }
+
+    // How long a list beside one of `count` may be: one entry less where it is `tied` to it, 0 beside an empty one; else any.
+    pub fn beside(count: usize, tied: bool) -> Limits
+        ensures least { result.least ≡ cond tied (count - 1) 0 }
+        ensures most { result.most ≡ cond tied (count - 1) 64 }
+    {
+        if tied {
+            return Limits::exactly(count.saturating_sub(1));
+        }
+        Limits::ANY
+    }
+
+    // Whether a list may have `count` entries.
+    pub fn allows(self, count: usize) -> bool
+        ensures { result ≡ (leb self.least count && leb count self.most) }
+    {
+        self.least <= count && count <= self.most
+    }
+}
+
+// How many sorts the list of a kind of sort has.
+#[tactic(auto, unfolding(record::specs::Record::least_of, record::specs::Record::leasts, record::specs::Record::most_of, record::specs::Record::mosts))]
+pub fn sort_limits(kind: SortKind) -> Limits
+    ensures least { result.least ≡ least_of (sort_number kind) }
+    ensures most { result.most ≡ most_of (sort_number kind) }
 {
-    in_table(&MOSTS, kind)
+    match kind {
+        SortKind::Function | SortKind::Atom | SortKind::Datatype | SortKind::Tuple => Limits::ANY,
+        SortKind::Array => Limits::exactly(2),
+        SortKind::Par | SortKind::Set => Limits::exactly(1),
+        SortKind::Var
+        | SortKind::Bool
+        | SortKind::Int
+        | SortKind::Real
+        | SortKind::String
+        | SortKind::RegLan
+        | SortKind::BitVec
+        | SortKind::ParamBitVec
+        | SortKind::Type => Limits::NONE,
+    }
 }
 
 // The bit map of a kind of term.
-pub fn term_map_of(kind: usize) -> usize
-    ensures { result ≡ term_map_of kind }
+#[tactic(auto, unfolding(crate::specs::Tables::term_map_of, crate::specs::Tables::term_maps))]
+pub fn term_map_of(kind: TermKind) -> usize
+    ensures { result ≡ term_map_of (term_number kind) }
 {
     match kind {
-        TERM_INTEGER => 5,
-        TERM_REAL => 1,
-        TERM_STRING => 1,
-        TERM_REG_LAN => 1,
-        TERM_BIT_VECTOR => 5,
-        TERM_VAR => 11,
-        TERM_APP => 17,
-        TERM_OP => 21,
-        TERM_BINDER => 53,
-        TERM_LET => 81,
-        TERM_MATCH => 17,
-        TERM_PARAM_OP => 85,
-        TERM_AS_OP => 29,
-        _ => 0,
+        TermKind::Integer | TermKind::BitVector => 5,
+        TermKind::Real | TermKind::String | TermKind::RegLan => 1,
+        TermKind::Var => 11,
+        TermKind::App | TermKind::Match => 17,
+        TermKind::Op => 21,
+        TermKind::Binder => 53,
+        TermKind::Let => 81,
+        TermKind::ParamOp => 85,
+        TermKind::AsOp => 29,
     }
 }
 
 // The greatest number of a kind of term: every u32 of an integer constant, every width of a bit-vector constant, else the last
 // operator or binder of the kind.
-pub fn term_number_of(kind: usize) -> usize
-    ensures { result ≡ term_number_of kind }
+#[tactic(auto, unfolding(crate::specs::Tables::term_number_of, crate::specs::Tables::term_numbers))]
+pub fn term_number_of(kind: TermKind) -> usize
+    ensures { result ≡ term_number_of (term_number kind) }
 {
     match kind {
-        TERM_INTEGER => 4294967295,
-        TERM_BIT_VECTOR => 65535,
-        TERM_OP => 134,
-        TERM_BINDER => 3,
-        TERM_PARAM_OP => 11,
-        TERM_AS_OP => 2,
-        _ => 0,
+        TermKind::Integer => u32::MAX as usize,
+        TermKind::BitVector => LARGEST_WIDTH,
+        TermKind::Op => Operator::RelProduct as usize,
+        TermKind::Binder => Binder::Lambda as usize,
+        TermKind::ParamOp => ParamOp::ReLoop as usize,
+        TermKind::AsOp => AsOp::SetUniverse as usize,
+        TermKind::Real
+        | TermKind::String
+        | TermKind::RegLan
+        | TermKind::Var
+        | TermKind::App
+        | TermKind::Let
+        | TermKind::Match => 0,
     }
 }
 
-// How many terms the list of a kind of term has at least.
-pub fn term_least_of(kind: usize) -> usize
-    ensures { result ≡ term_least_of kind }
+// How many terms the list of a kind of term has.
+#[tactic(auto, unfolding(crate::specs::Tables::term_least_of, crate::specs::Tables::term_leasts, crate::specs::Tables::term_most_of, crate::specs::Tables::term_mosts))]
+pub fn term_limits(kind: TermKind) -> Limits
+    ensures least { result.least ≡ term_least_of (term_number kind) }
+    ensures most { result.most ≡ term_most_of (term_number kind) }
 {
     match kind {
-        TERM_APP => 1,
-        TERM_BINDER => 1,
-        TERM_LET => 1,
-        TERM_MATCH => 1,
-        _ => 0,
-    }
-}
-
-// How many it has at most.
-pub fn term_most_of(kind: usize) -> usize
-    ensures { result ≡ term_most_of kind }
-{
-    match kind {
-        TERM_APP => LONGEST_LIST,
-        TERM_OP => LONGEST_LIST,
-        TERM_BINDER => 1,
-        TERM_LET => LONGEST_LIST,
-        TERM_MATCH => LONGEST_LIST,
-        TERM_PARAM_OP => LONGEST_LIST,
-        TERM_AS_OP => LONGEST_LIST,
-        _ => 0,
+        TermKind::App | TermKind::Let | TermKind::Match => Limits::SOME,
+        TermKind::Binder => Limits::exactly(1),
+        TermKind::Op | TermKind::ParamOp | TermKind::AsOp => Limits::ANY,
+        TermKind::Integer
+        | TermKind::Real
+        | TermKind::String
+        | TermKind::RegLan
+        | TermKind::BitVector
+        | TermKind::Var => Limits::NONE,
     }
 }
 
 // The bit map of a kind of question.
-pub fn question_map_of(kind: usize) -> usize
-    ensures { result ≡ question_map_of kind }
+#[tactic(auto, unfolding(crate::specs::Tables::question_map_of, crate::specs::Tables::question_maps))]
+pub fn question_map_of(kind: QuestionKind) -> usize
+    ensures { result ≡ question_map_of (question_number kind) }
 {
-    in_table(&QUESTION_MAPS, kind)
-}
-
-// How many sorts the list of a kind of question has at least.
-pub fn question_least_of(kind: usize) -> usize
-    ensures { result ≡ question_least_of kind }
-{
-    in_table(&QUESTION_LEASTS, kind)
-}
-
-// How many it has at most.
-pub fn question_most_of(kind: usize) -> usize
-    ensures { result ≡ question_most_of kind }
-{
-    in_table(&QUESTION_MOSTS, kind)
-}
-
-// The length of a list beside one of `count`: for the kind `asked` one less than `count`, 0 beside an empty one; for any other
-// kind `other`.
-pub fn one_less(kind: usize, asked: usize, count: usize, other: usize) -> usize
-    ensures { result ≡ cond (eqb kind asked) (count - 1) other }
-{
-    if kind != asked {
-        return other;
+    match kind {
+        QuestionKind::Compatible => 17,
+        QuestionKind::Match | QuestionKind::Apply => 81,
     }
-    if 0 < count {
-        return count - 1;
+}
+
+// How many sorts the list of a kind of question has.
+#[tactic(auto, unfolding(crate::specs::Tables::question_least_of, crate::specs::Tables::question_leasts, crate::specs::Tables::question_most_of, crate::specs::Tables::question_mosts))]
+pub fn question_limits(kind: QuestionKind) -> Limits
+    ensures least { result.least ≡ question_least_of (question_number kind) }
+    ensures most { result.most ≡ question_most_of (question_number kind) }
+{
+    match kind {
+        QuestionKind::Compatible => Limits::exactly(2),
+        QuestionKind::Match => Limits::exactly(3),
+        QuestionKind::Apply => Limits::SOME,
     }
-    0
 }

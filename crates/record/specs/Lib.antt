@@ -19,3 +19,8 @@ pub mod Entries
 pub mod Append
 pub mod Whole
 pub mod Back
+pub mod Kinds
+pub mod Operators
+pub mod KindLaws
+pub mod Numbers
+pub mod NameLaws

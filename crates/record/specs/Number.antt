@@ -27,3 +27,9 @@ u32_bytes v = v % 256 ∷ v / 256 % 256 ∷ v / 65536 % 256 ∷ v / 16777216 ∷
 unfoldable pub numbers_bytes : List ℕ → List ℕ
 numbers_bytes [] = []
 numbers_bytes (v ∷ vs) = v % 256 ∷ v / 256 ∷ numbers_bytes vs
+
+-- n pairs of such numbers, four bytes each, from a place on.
+unfoldable pub pairs_at : List ℕ → ℕ → ℕ → List (ℕ × ℕ)
+unfolding u16_at
+pairs_at s at zero = []
+pairs_at s at (suc n) = (u16_at s at, u16_at s (at + 2)) ∷ pairs_at s (at + 4) n

@@ -1,5 +1,5 @@
 -- A sort record (document 01, "Sort records and the store"): its fields, its bytes, and the sort it stands for.
-use Rattle.std.specs.Prelude.{ℕ, ◌+◌, ◌/◌, ◌%◌, Bool, true, false, cond, List, [], ◌∷◌, ◌++◌, length, get_or, eqb}
+use Rattle.std.specs.Prelude.{ℕ, ◌/◌, ◌%◌, Bool, true, false, cond, List, [], ◌∷◌, ◌++◌, length, get_or, eqb}
 use Rattle.record.specs.Number.{u16_bytes, u32_bytes, numbers_bytes}
 use Rattle.record.specs.Sort.{Sort, Sorts, var, par, node, end, ◌then◌}
 

@@ -1,142 +1,218 @@
-// The kinds of records by name (document 01, "Sort records and the store", "Term records" and "Questions"), and the numbers of
-// the term records that name an operation. operators.rt has the numbers of an Op.
+// The kinds of records by name (document 01, "Sort records and the store", "Term records" and "Questions"), and the operations that
+// a term record's number names; operators.rt has the operators of an Op. `kind as usize` is the number that stands in a record,
+// and `try_from` goes back.
+ghost use Rattle.record.specs.Kinds.{SortDecodes, TermDecodes, BinderDecodes, AsDecodes, ParamDecodes, QuestionDecodes};
+
+// A number that none of a kind's names has.
+#[derive(Clone, Copy, Debug, PartialEq, Eq)]
+pub struct UnknownKind(pub usize);
 
 // The kinds of sorts, in the order of the reference's enum Sort.
-pub const SORT_FUNCTION: usize = 0;
+#[derive(Clone, Copy, Debug, PartialEq, Eq)]
+pub enum SortKind {
+    Function,
+    Atom,
+    Var,
+    Bool,
+    Int,
+    Real,
+    String,
+    RegLan,
+    Array,
+    BitVec,
+    ParamBitVec,
+    Datatype,
+    Par,
+    Type,
+    Set,
+    Tuple,
+}
 
-pub const SORT_ATOM: usize = 1;
+impl TryFrom<usize> for SortKind {
+    type Error = UnknownKind;
 
-pub const SORT_VAR: usize = 2;
+    ghost try_from_gives = { SortDecodes };
 
-pub const SORT_BOOL: usize = 3;
-
-pub const SORT_INT: usize = 4;
-
-pub const SORT_REAL: usize = 5;
-
-pub const SORT_STRING: usize = 6;
-
-pub const SORT_REG_LAN: usize = 7;
-
-pub const SORT_ARRAY: usize = 8;
-
-pub const SORT_BIT_VEC: usize = 9;
-
-pub const SORT_PARAM_BIT_VEC: usize = 10;
-
-pub const SORT_DATATYPE: usize = 11;
-
-pub const SORT_PAR: usize = 12;
-
-pub const SORT_TYPE: usize = 13;
-
-pub const SORT_SET: usize = 14;
-
-pub const SORT_TUPLE: usize = 15;
-
-// The kinds of sorts that answers are made of, as they stand in a record.
-pub const BYTE_FUNCTION: u8 = SORT_FUNCTION as u8;
-
-pub const BYTE_VAR: u8 = SORT_VAR as u8;
-
-pub const BYTE_BOOL: u8 = SORT_BOOL as u8;
-
-pub const BYTE_INT: u8 = SORT_INT as u8;
-
-pub const BYTE_REAL: u8 = SORT_REAL as u8;
-
-pub const BYTE_STRING: u8 = SORT_STRING as u8;
-
-pub const BYTE_REG_LAN: u8 = SORT_REG_LAN as u8;
-
-pub const BYTE_BIT_VEC: u8 = SORT_BIT_VEC as u8;
-
-pub const BYTE_PARAM_BIT_VEC: u8 = SORT_PARAM_BIT_VEC as u8;
-
-pub const BYTE_SET: u8 = SORT_SET as u8;
-
-pub const BYTE_TUPLE: u8 = SORT_TUPLE as u8;
-
-// The bit maps of their records: the kind alone, or with a name, a number or a list.
-pub const MAP_KIND: u8 = 1;
-
-pub const MAP_NAME: u8 = 3;
-
-pub const MAP_NUMBER: u8 = 5;
-
-pub const MAP_LIST: u8 = 17;
+    // The kind with this number, or UnknownKind where there is none.
+    fn try_from(number: usize) -> Result<Self, UnknownKind> {
+        match number {
+            0 => Ok(SortKind::Function),
+            1 => Ok(SortKind::Atom),
+            2 => Ok(SortKind::Var),
+            3 => Ok(SortKind::Bool),
+            4 => Ok(SortKind::Int),
+            5 => Ok(SortKind::Real),
+            6 => Ok(SortKind::String),
+            7 => Ok(SortKind::RegLan),
+            8 => Ok(SortKind::Array),
+            9 => Ok(SortKind::BitVec),
+            10 => Ok(SortKind::ParamBitVec),
+            11 => Ok(SortKind::Datatype),
+            12 => Ok(SortKind::Par),
+            13 => Ok(SortKind::Type),
+            14 => Ok(SortKind::Set),
+            15 => Ok(SortKind::Tuple),
+            _ => Err(UnknownKind(number)),
+        }
+    }
+}
 
 // The kinds of terms: five of constants, then the others.
-pub const TERM_INTEGER: usize = 0;
+#[derive(Clone, Copy, Debug, PartialEq, Eq)]
+pub enum TermKind {
+    Integer,
+    Real,
+    String,
+    RegLan,
+    BitVector,
+    Var,
+    App,
+    Op,
+    Binder,
+    Let,
+    Match,
+    ParamOp,
+    AsOp,
+}
 
-pub const TERM_REAL: usize = 1;
+impl TryFrom<usize> for TermKind {
+    type Error = UnknownKind;
 
-pub const TERM_STRING: usize = 2;
+    ghost try_from_gives = { TermDecodes };
 
-pub const TERM_REG_LAN: usize = 3;
+    // The kind with this number, or UnknownKind where there is none.
+    fn try_from(number: usize) -> Result<Self, UnknownKind> {
+        match number {
+            0 => Ok(TermKind::Integer),
+            1 => Ok(TermKind::Real),
+            2 => Ok(TermKind::String),
+            3 => Ok(TermKind::RegLan),
+            4 => Ok(TermKind::BitVector),
+            5 => Ok(TermKind::Var),
+            6 => Ok(TermKind::App),
+            7 => Ok(TermKind::Op),
+            8 => Ok(TermKind::Binder),
+            9 => Ok(TermKind::Let),
+            10 => Ok(TermKind::Match),
+            11 => Ok(TermKind::ParamOp),
+            12 => Ok(TermKind::AsOp),
+            _ => Err(UnknownKind(number)),
+        }
+    }
+}
 
-pub const TERM_BIT_VECTOR: usize = 4;
+// The binders.
+#[derive(Clone, Copy, Debug, PartialEq, Eq)]
+pub enum Binder {
+    Forall,
+    Exists,
+    Choice,
+    Lambda,
+}
 
-pub const TERM_VAR: usize = 5;
+impl TryFrom<usize> for Binder {
+    type Error = UnknownKind;
 
-pub const TERM_APP: usize = 6;
+    ghost try_from_gives = { BinderDecodes };
 
-pub const TERM_OP: usize = 7;
+    // The one with this number, or UnknownKind where there is none.
+    fn try_from(number: usize) -> Result<Self, UnknownKind> {
+        match number {
+            0 => Ok(Binder::Forall),
+            1 => Ok(Binder::Exists),
+            2 => Ok(Binder::Choice),
+            3 => Ok(Binder::Lambda),
+            _ => Err(UnknownKind(number)),
+        }
+    }
+}
 
-pub const TERM_BINDER: usize = 8;
+// The operators that a sort is written beside.
+#[derive(Clone, Copy, Debug, PartialEq, Eq)]
+pub enum AsOp {
+    Const,
+    SetEmpty,
+    SetUniverse,
+}
 
-pub const TERM_LET: usize = 9;
+impl TryFrom<usize> for AsOp {
+    type Error = UnknownKind;
 
-pub const TERM_MATCH: usize = 10;
+    ghost try_from_gives = { AsDecodes };
 
-pub const TERM_PARAM_OP: usize = 11;
+    // The one with this number, or UnknownKind where there is none.
+    fn try_from(number: usize) -> Result<Self, UnknownKind> {
+        match number {
+            0 => Ok(AsOp::Const),
+            1 => Ok(AsOp::SetEmpty),
+            2 => Ok(AsOp::SetUniverse),
+            _ => Err(UnknownKind(number)),
+        }
+    }
+}
 
-pub const TERM_AS_OP: usize = 12;
+// The operators with indices, in the order of the reference's enum ParamOperator.
+#[derive(Clone, Copy, Debug, PartialEq, Eq)]
+pub enum ParamOp {
+    Extract,
+    BitOf,
+    IntOf,
+    ZeroExtend,
+    SignExtend,
+    RotateLeft,
+    RotateRight,
+    Repeat,
+    BvConst,
+    IntToBv,
+    RePower,
+    ReLoop,
+}
 
-// The numbers of a Binder.
-pub const BINDER_FORALL: usize = 0;
+impl TryFrom<usize> for ParamOp {
+    type Error = UnknownKind;
 
-pub const BINDER_EXISTS: usize = 1;
+    ghost try_from_gives = { ParamDecodes };
 
-pub const BINDER_CHOICE: usize = 2;
-
-pub const BINDER_LAMBDA: usize = 3;
-
-// The numbers of an AsOp.
-pub const AS_CONST: usize = 0;
-
-pub const AS_SET_EMPTY: usize = 1;
-
-pub const AS_SET_UNIVERSE: usize = 2;
-
-// The numbers of a ParamOp, in the order of the reference's enum.
-pub const PARAM_EXTRACT: usize = 0;
-
-pub const PARAM_BIT_OF: usize = 1;
-
-pub const PARAM_INT_OF: usize = 2;
-
-pub const PARAM_ZERO_EXTEND: usize = 3;
-
-pub const PARAM_SIGN_EXTEND: usize = 4;
-
-pub const PARAM_ROTATE_LEFT: usize = 5;
-
-pub const PARAM_ROTATE_RIGHT: usize = 6;
-
-pub const PARAM_REPEAT: usize = 7;
-
-pub const PARAM_BV_CONST: usize = 8;
-
-pub const PARAM_INT_TO_BV: usize = 9;
-
-pub const PARAM_RE_POWER: usize = 10;
-
-pub const PARAM_RE_LOOP: usize = 11;
+    // The one with this number, or UnknownKind where there is none.
+    fn try_from(number: usize) -> Result<Self, UnknownKind> {
+        match number {
+            0 => Ok(ParamOp::Extract),
+            1 => Ok(ParamOp::BitOf),
+            2 => Ok(ParamOp::IntOf),
+            3 => Ok(ParamOp::ZeroExtend),
+            4 => Ok(ParamOp::SignExtend),
+            5 => Ok(ParamOp::RotateLeft),
+            6 => Ok(ParamOp::RotateRight),
+            7 => Ok(ParamOp::Repeat),
+            8 => Ok(ParamOp::BvConst),
+            9 => Ok(ParamOp::IntToBv),
+            10 => Ok(ParamOp::RePower),
+            11 => Ok(ParamOp::ReLoop),
+            _ => Err(UnknownKind(number)),
+        }
+    }
+}
 
 // The kinds of questions.
-pub const QUESTION_COMPATIBLE: usize = 0;
+#[derive(Clone, Copy, Debug, PartialEq, Eq)]
+pub enum QuestionKind {
+    Compatible,
+    Match,
+    Apply,
+}
 
-pub const QUESTION_MATCH: usize = 1;
+impl TryFrom<usize> for QuestionKind {
+    type Error = UnknownKind;
 
-pub const QUESTION_APPLY: usize = 2;
+    ghost try_from_gives = { QuestionDecodes };
+
+    // The kind with this number, or UnknownKind where there is none.
+    fn try_from(number: usize) -> Result<Self, UnknownKind> {
+        match number {
+            0 => Ok(QuestionKind::Compatible),
+            1 => Ok(QuestionKind::Match),
+            2 => Ok(QuestionKind::Apply),
+            _ => Err(UnknownKind(number)),
+        }
+    }
+}

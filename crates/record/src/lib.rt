@@ -1,34 +1,36 @@
 // Numbers in bytes, and the fields of a sort record. kinds.rt has the names of the kinds, operators.rt those of the operators,
-// limits.rt the limits, tables.rt the bit map of each kind of sort.
+// span.rt and numbers.rt the lists of a record, limits.rt the limits, tables.rt the bit map of each kind of sort.
 #![tactic(auto)]
 
 pub mod kinds;
 pub mod limits;
+pub mod numbers;
 pub mod operators;
+pub mod span;
 pub mod tables;
 
 ghost use Rattle.std.specs.Prelude.{◌≡◌, ◌+◌, ◌≤◌, ◌<◌, length};
 ghost use Rattle.record.specs.Number.{u16_at};
 
-// The fields of a sort record; of its two lists where they start and how long they are.
-#[derive(Clone, Copy)]
+use kinds::SortKind;
+use span::Span;
+
+// The fields of a sort record: its list of sorts and its list of names come last.
+#[derive(Clone, Copy, Debug, PartialEq, Eq)]
 pub struct SortRecord {
-    pub kind: usize,
+    pub kind: SortKind,
     pub name: usize,
     pub number: usize,
-    pub list: usize,
-    pub count: usize,
-    pub names: usize,
-    pub named: usize,
+    pub parts: Span,
+    pub names: Span,
 }
 
 // The u16 at `at`, low byte first.
+#[tactic(auto, unfolding(crate::specs::Number::u16_at))]
 pub fn u16_at(s: &[u8], at: usize) -> usize
     requires { at + 2 ≤ length s.now }
     ensures value { result ≡ u16_at s.now at }
     ensures upper_bound { result < 65536 }
 {
-    let low = s[at] as usize;
-    let high = s[at + 1] as usize;
-    low + high * 256
+    usize::from(u16::from_le_bytes([s[at], s[at + 1]]))
 }

@@ -1,201 +1,293 @@
-// The operators of document 01's Op record by name: their numbers are their places in the reference's enum Operator. Only those
-// that the code names stand here; the others lie between two of these, in a range.
-pub const OP_TRUE: usize = 0;
-
-pub const OP_FALSE: usize = 1;
-
-pub const OP_NOT: usize = 2;
-
-pub const OP_IMPLIES: usize = 3;
-
-pub const OP_XOR: usize = 6;
-
-pub const OP_EQUALS: usize = 7;
-
-pub const OP_DISTINCT: usize = 8;
-
-pub const OP_ITE: usize = 9;
-
-pub const OP_ADD: usize = 10;
-
-pub const OP_SUB: usize = 11;
-
-pub const OP_MULT: usize = 12;
-
-pub const OP_INT_DIV: usize = 13;
-
-pub const OP_REAL_DIV: usize = 14;
-
-pub const OP_MOD: usize = 15;
-
-pub const OP_ABS: usize = 16;
-
-pub const OP_LESS_THAN: usize = 17;
-
-pub const OP_GREATER_EQ: usize = 20;
-
-pub const OP_TO_REAL: usize = 21;
-
-pub const OP_TO_INT: usize = 22;
-
-pub const OP_IS_INT: usize = 23;
-
-pub const OP_POW2: usize = 24;
-
-pub const OP_IS_POW2: usize = 25;
-
-pub const OP_LOG2: usize = 26;
-
-pub const OP_REAL_PI: usize = 27;
-
-pub const OP_ARCCOT: usize = 41;
-
-pub const OP_SELECT: usize = 42;
-
-pub const OP_STORE: usize = 43;
-
-pub const OP_STR_CONCAT: usize = 44;
-
-pub const OP_STR_LEN: usize = 45;
-
-pub const OP_STR_LESS_THAN: usize = 46;
-
-pub const OP_STR_LESS_EQ: usize = 47;
-
-pub const OP_CHAR_AT: usize = 48;
-
-pub const OP_SUBSTRING: usize = 49;
-
-pub const OP_PREFIX_OF: usize = 50;
-
-pub const OP_CONTAINS: usize = 52;
-
-pub const OP_INDEX_OF: usize = 53;
-
-pub const OP_INDEX_OF_RE: usize = 54;
-
-pub const OP_REPLACE: usize = 55;
-
-pub const OP_REPLACE_ALL: usize = 56;
-
-pub const OP_REPLACE_RE: usize = 57;
-
-pub const OP_REPLACE_RE_ALL: usize = 58;
-
-pub const OP_STR_IS_DIGIT: usize = 59;
-
-pub const OP_STR_TO_CODE: usize = 60;
-
-pub const OP_STR_FROM_CODE: usize = 61;
-
-pub const OP_STR_TO_INT: usize = 62;
-
-pub const OP_STR_FROM_INT: usize = 63;
-
-pub const OP_STR_TO_RE: usize = 64;
-
-pub const OP_STR_IN_RE: usize = 65;
-
-pub const OP_RE_NONE: usize = 66;
-
-pub const OP_RE_ALL_CHAR: usize = 68;
-
-pub const OP_RE_CONCAT: usize = 69;
-
-pub const OP_RE_INTERSECTION: usize = 71;
-
-pub const OP_RE_KLEENE_CLOSURE: usize = 72;
-
-pub const OP_RE_COMPLEMENT: usize = 73;
-
-pub const OP_RE_DIFF: usize = 74;
-
-pub const OP_RE_KLEENE_CROSS: usize = 75;
-
-pub const OP_RE_OPTION: usize = 76;
-
-pub const OP_RE_RANGE: usize = 77;
-
-pub const OP_RE_FROM_AUTOMATON: usize = 78;
-
-pub const OP_BV_NOT: usize = 79;
-
-pub const OP_BV_NEG: usize = 80;
-
-pub const OP_BV_AND: usize = 81;
-
-pub const OP_BV_MUL: usize = 84;
-
-pub const OP_BV_UDIV: usize = 85;
-
-pub const OP_BV_LSHR: usize = 88;
-
-pub const OP_BV_ULT: usize = 89;
-
-pub const OP_BV_CONCAT: usize = 90;
-
-pub const OP_BV_NAND: usize = 91;
-
-pub const OP_BV_XNOR: usize = 94;
-
-pub const OP_BV_COMP: usize = 95;
-
-pub const OP_BV_SUB: usize = 96;
-
-pub const OP_BV_ASHR: usize = 100;
-
-pub const OP_BV_ULE: usize = 101;
-
-pub const OP_BV_SGE: usize = 107;
-
-pub const OP_UBV_TO_INT: usize = 108;
-
-pub const OP_SBV_TO_INT: usize = 109;
-
-pub const OP_BV_PBB_TERM: usize = 110;
-
-pub const OP_BV_BB_TERM: usize = 111;
-
-pub const OP_BV_CONST: usize = 112;
-
-pub const OP_BV_SIZE: usize = 113;
-
-pub const OP_BV_ITE: usize = 114;
-
-pub const OP_RARE_LIST: usize = 115;
-
-pub const OP_CL: usize = 116;
-
-pub const OP_DELETE: usize = 117;
-
-pub const OP_SET_UNION: usize = 118;
-
-pub const OP_SET_MINUS: usize = 120;
-
-pub const OP_SET_MEMBER: usize = 121;
-
-pub const OP_SET_SUBSET: usize = 122;
-
-pub const OP_SET_SINGLETON: usize = 123;
-
-pub const OP_SET_IS_EMPTY: usize = 124;
-
-pub const OP_SET_IS_SINGLETON: usize = 125;
-
-pub const OP_SET_CARD: usize = 126;
-
-pub const OP_SET_INSERT: usize = 127;
-
-pub const OP_SET_COMPLEMENT: usize = 128;
-
-pub const OP_TUPLE: usize = 129;
-
-pub const OP_TUPLE_UNIT: usize = 130;
-
-pub const OP_REL_TRANSPOSE: usize = 131;
-
-pub const OP_REL_TCLOSURE: usize = 132;
-
-pub const OP_REL_JOIN: usize = 133;
-
-pub const OP_REL_PRODUCT: usize = 134;
+// The operators of document 01's Op record by name: `operator as usize` is the number that stands in the record, the place in the
+// reference's enum Operator.
+ghost use Rattle.record.specs.Operators.{OperatorDecodes};
+
+use super::kinds::UnknownKind;
+
+// The operators, in the order of the reference's enum Operator.
+#[derive(Clone, Copy, Debug, PartialEq, Eq)]
+pub enum Operator {
+    True,
+    False,
+    Not,
+    Implies,
+    And,
+    Or,
+    Xor,
+    Equals,
+    Distinct,
+    Ite,
+    Add,
+    Sub,
+    Mult,
+    IntDiv,
+    RealDiv,
+    Mod,
+    Abs,
+    LessThan,
+    GreaterThan,
+    LessEq,
+    GreaterEq,
+    ToReal,
+    ToInt,
+    IsInt,
+    Pow2,
+    IsPow2,
+    Log2,
+    RealPi,
+    Sqrt,
+    Exp,
+    Sin,
+    Cos,
+    Tan,
+    Csc,
+    Sec,
+    Cot,
+    Arcsin,
+    Arccos,
+    Arctan,
+    Arccsc,
+    Arcsec,
+    Arccot,
+    Select,
+    Store,
+    StrConcat,
+    StrLen,
+    StrLessThan,
+    StrLessEq,
+    CharAt,
+    Substring,
+    PrefixOf,
+    SuffixOf,
+    Contains,
+    IndexOf,
+    IndexOfRe,
+    Replace,
+    ReplaceAll,
+    ReplaceRe,
+    ReplaceReAll,
+    StrIsDigit,
+    StrToCode,
+    StrFromCode,
+    StrToInt,
+    StrFromInt,
+    StrToRe,
+    StrInRe,
+    ReNone,
+    ReAll,
+    ReAllChar,
+    ReConcat,
+    ReUnion,
+    ReIntersection,
+    ReKleeneClosure,
+    ReComplement,
+    ReDiff,
+    ReKleeneCross,
+    ReOption,
+    ReRange,
+    ReFromAutomaton,
+    BvNot,
+    BvNeg,
+    BvAnd,
+    BvOr,
+    BvAdd,
+    BvMul,
+    BvUDiv,
+    BvURem,
+    BvShl,
+    BvLShr,
+    BvULt,
+    BvConcat,
+    BvNAnd,
+    BvNOr,
+    BvXor,
+    BvXNor,
+    BvComp,
+    BvSub,
+    BvSDiv,
+    BvSRem,
+    BvSMod,
+    BvAShr,
+    BvULe,
+    BvUGt,
+    BvUGe,
+    BvSLt,
+    BvSLe,
+    BvSGt,
+    BvSGe,
+    UBvToInt,
+    SBvToInt,
+    BvPBbTerm,
+    BvBbTerm,
+    BvConst,
+    BvSize,
+    BvIte,
+    RareList,
+    Cl,
+    Delete,
+    SetUnion,
+    SetInter,
+    SetMinus,
+    SetMember,
+    SetSubset,
+    SetSingleton,
+    SetIsEmpty,
+    SetIsSingleton,
+    SetCard,
+    SetInsert,
+    SetComplement,
+    Tuple,
+    TupleUnit,
+    RelTranspose,
+    RelTclosure,
+    RelJoin,
+    RelProduct,
+}
+
+impl TryFrom<usize> for Operator {
+    type Error = UnknownKind;
+
+    ghost try_from_gives = { OperatorDecodes };
+
+    // The one with this number, or UnknownKind where there is none.
+    fn try_from(number: usize) -> Result<Self, UnknownKind> {
+        match number {
+            0 => Ok(Operator::True),
+            1 => Ok(Operator::False),
+            2 => Ok(Operator::Not),
+            3 => Ok(Operator::Implies),
+            4 => Ok(Operator::And),
+            5 => Ok(Operator::Or),
+            6 => Ok(Operator::Xor),
+            7 => Ok(Operator::Equals),
+            8 => Ok(Operator::Distinct),
+            9 => Ok(Operator::Ite),
+            10 => Ok(Operator::Add),
+            11 => Ok(Operator::Sub),
+            12 => Ok(Operator::Mult),
+            13 => Ok(Operator::IntDiv),
+            14 => Ok(Operator::RealDiv),
+            15 => Ok(Operator::Mod),
+            16 => Ok(Operator::Abs),
+            17 => Ok(Operator::LessThan),
+            18 => Ok(Operator::GreaterThan),
+            19 => Ok(Operator::LessEq),
+            20 => Ok(Operator::GreaterEq),
+            21 => Ok(Operator::ToReal),
+            22 => Ok(Operator::ToInt),
+            23 => Ok(Operator::IsInt),
+            24 => Ok(Operator::Pow2),
+            25 => Ok(Operator::IsPow2),
+            26 => Ok(Operator::Log2),
+            27 => Ok(Operator::RealPi),
+            28 => Ok(Operator::Sqrt),
+            29 => Ok(Operator::Exp),
+            30 => Ok(Operator::Sin),
+            31 => Ok(Operator::Cos),
+            32 => Ok(Operator::Tan),
+            33 => Ok(Operator::Csc),
+            34 => Ok(Operator::Sec),
+            35 => Ok(Operator::Cot),
+            36 => Ok(Operator::Arcsin),
+            37 => Ok(Operator::Arccos),
+            38 => Ok(Operator::Arctan),
+            39 => Ok(Operator::Arccsc),
+            40 => Ok(Operator::Arcsec),
+            41 => Ok(Operator::Arccot),
+            42 => Ok(Operator::Select),
+            43 => Ok(Operator::Store),
+            44 => Ok(Operator::StrConcat),
+            45 => Ok(Operator::StrLen),
+            46 => Ok(Operator::StrLessThan),
+            47 => Ok(Operator::StrLessEq),
+            48 => Ok(Operator::CharAt),
+            49 => Ok(Operator::Substring),
+            50 => Ok(Operator::PrefixOf),
+            51 => Ok(Operator::SuffixOf),
+            52 => Ok(Operator::Contains),
+            53 => Ok(Operator::IndexOf),
+            54 => Ok(Operator::IndexOfRe),
+            55 => Ok(Operator::Replace),
+            56 => Ok(Operator::ReplaceAll),
+            57 => Ok(Operator::ReplaceRe),
+            58 => Ok(Operator::ReplaceReAll),
+            59 => Ok(Operator::StrIsDigit),
+            60 => Ok(Operator::StrToCode),
+            61 => Ok(Operator::StrFromCode),
+            62 => Ok(Operator::StrToInt),
+            63 => Ok(Operator::StrFromInt),
+            64 => Ok(Operator::StrToRe),
+            65 => Ok(Operator::StrInRe),
+            66 => Ok(Operator::ReNone),
+            67 => Ok(Operator::ReAll),
+            68 => Ok(Operator::ReAllChar),
+            69 => Ok(Operator::ReConcat),
+            70 => Ok(Operator::ReUnion),
+            71 => Ok(Operator::ReIntersection),
+            72 => Ok(Operator::ReKleeneClosure),
+            73 => Ok(Operator::ReComplement),
+            74 => Ok(Operator::ReDiff),
+            75 => Ok(Operator::ReKleeneCross),
+            76 => Ok(Operator::ReOption),
+            77 => Ok(Operator::ReRange),
+            78 => Ok(Operator::ReFromAutomaton),
+            79 => Ok(Operator::BvNot),
+            80 => Ok(Operator::BvNeg),
+            81 => Ok(Operator::BvAnd),
+            82 => Ok(Operator::BvOr),
+            83 => Ok(Operator::BvAdd),
+            84 => Ok(Operator::BvMul),
+            85 => Ok(Operator::BvUDiv),
+            86 => Ok(Operator::BvURem),
+            87 => Ok(Operator::BvShl),
+            88 => Ok(Operator::BvLShr),
+            89 => Ok(Operator::BvULt),
+            90 => Ok(Operator::BvConcat),
+            91 => Ok(Operator::BvNAnd),
+            92 => Ok(Operator::BvNOr),
+            93 => Ok(Operator::BvXor),
+            94 => Ok(Operator::BvXNor),
+            95 => Ok(Operator::BvComp),
+            96 => Ok(Operator::BvSub),
+            97 => Ok(Operator::BvSDiv),
+            98 => Ok(Operator::BvSRem),
+            99 => Ok(Operator::BvSMod),
+            100 => Ok(Operator::BvAShr),
+            101 => Ok(Operator::BvULe),
+            102 => Ok(Operator::BvUGt),
+            103 => Ok(Operator::BvUGe),
+            104 => Ok(Operator::BvSLt),
+            105 => Ok(Operator::BvSLe),
+            106 => Ok(Operator::BvSGt),
+            107 => Ok(Operator::BvSGe),
+            108 => Ok(Operator::UBvToInt),
+            109 => Ok(Operator::SBvToInt),
+            110 => Ok(Operator::BvPBbTerm),
+            111 => Ok(Operator::BvBbTerm),
+            112 => Ok(Operator::BvConst),
+            113 => Ok(Operator::BvSize),
+            114 => Ok(Operator::BvIte),
+            115 => Ok(Operator::RareList),
+            116 => Ok(Operator::Cl),
+            117 => Ok(Operator::Delete),
+            118 => Ok(Operator::SetUnion),
+            119 => Ok(Operator::SetInter),
+            120 => Ok(Operator::SetMinus),
+            121 => Ok(Operator::SetMember),
+            122 => Ok(Operator::SetSubset),
+            123 => Ok(Operator::SetSingleton),
+            124 => Ok(Operator::SetIsEmpty),
+            125 => Ok(Operator::SetIsSingleton),
+            126 => Ok(Operator::SetCard),
+            127 => Ok(Operator::SetInsert),
+            128 => Ok(Operator::SetComplement),
+            129 => Ok(Operator::Tuple),
+            130 => Ok(Operator::TupleUnit),
+            131 => Ok(Operator::RelTranspose),
+            132 => Ok(Operator::RelTclosure),
+            133 => Ok(Operator::RelJoin),
+            134 => Ok(Operator::RelProduct),
+            _ => Err(UnknownKind(number)),
+        }
+    }
+}

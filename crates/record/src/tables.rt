@@ -1,23 +1,27 @@
-// Numbers looked up in a table.
-ghost use Rattle.std.specs.Prelude.{◌≡◌, get_or};
-ghost use Rattle.record.specs.Record.{map_of};
-
 // The bit map of each kind of sort record.
-const MAPS: [usize; 16] = [17, 19, 3, 1, 1, 1, 1, 1, 17, 5, 1, 19, 81, 1, 17, 17];
+ghost use Rattle.std.specs.Prelude.{◌≡◌};
+ghost use Rattle.record.specs.Record.{map_of};
+ghost use Rattle.record.specs.Kinds.{sort_number};
 
-// The number at the place k of a table, 0 past its end.
-pub fn in_table(table: &[usize], k: usize) -> usize
-    ensures { result ≡ get_or table.now k 0 }
+use super::kinds::SortKind;
+
+// The bit map of a kind of sort.
+#[tactic(auto, unfolding(crate::specs::Record::map_of, crate::specs::Record::maps))]
+pub fn map_of(kind: SortKind) -> usize
+    ensures { result ≡ map_of (sort_number kind) }
 {
-    if k < table.len() {
-        return table[k];
+    match kind {
+        SortKind::Function | SortKind::Array | SortKind::Set | SortKind::Tuple => 17,
+        SortKind::Atom | SortKind::Datatype => 19,
+        SortKind::Var => 3,
+        SortKind::BitVec => 5,
+        SortKind::Par => 81,
+        SortKind::Bool
+        | SortKind::Int
+        | SortKind::Real
+        | SortKind::String
+        | SortKind::RegLan
+        | SortKind::ParamBitVec
+        | SortKind::Type => 1,
     }
-    0
-}
-
-// The bit map of a kind of sort, 0 for an unknown one.
-pub fn map_of(kind: usize) -> usize
-    ensures { result ≡ map_of kind }
-{
-    in_table(&MAPS, kind)
 }

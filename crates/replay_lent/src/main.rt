@@ -3,49 +3,47 @@
 // two bytes: the four lengths and its own.
 #![tactic(auto)]
 
+use record::limits::{LONGEST_SHEET, MOST_QUESTIONS, MOST_SORTS, MOST_TERMS};
 use record::u16_at;
-use std::fs;
-use std::io::{Read, Write};
+use std::io::{ErrorKind, Read, Write};
+use std::{fs, io};
 use verdicts::napsilo_judge;
 
-// Writes each byte in hexadecimal.
-fn print_hexes<W: Write>(output: &mut W, buf: &[u8]) {
-    let mut i = 0;
-    while i < buf.len() {
-        let b = buf[i];
-        let _ = write!(output, "{b:02x}");
-        i += 1;
-    }
+// The most sheets of the file.
+const SHEETS: usize = 100000;
+
+// What stands in the buffers before a sheet is judged.
+const DIRT: u8 = 170;
+
+const DIRTY_NUMBER: u32 = 2863311530;
+
+// The lengths of the lent buffers.
+#[derive(Clone, Copy)]
+struct Lengths {
+    records: usize,
+    places: usize,
+    rows: usize,
+    answers: usize,
 }
 
-// Writes a line: the name of the buffer of records, and its bytes behind a blank, where there are any.
-fn print_bytes<W: Write>(output: &mut W, buf: &[u8]) {
+// Writes a line: the name of the buffer of records, and its bytes in hexadecimal behind a blank, where there are any.
+fn print_bytes<W: Write>(output: &mut W, buffer: &[u8]) {
     let _ = output.write_all(b"records");
-    if buf.len() != 0 {
+    if !buffer.is_empty() {
         let _ = output.write_all(b" ");
     }
-    print_hexes(output, buf);
+    for b in buffer {
+        let _ = write!(output, "{b:02x}");
+    }
     let _ = output.write_all(b"\n");
 }
 
-// Writes a number behind a blank.
-fn print_number<W: Write>(output: &mut W, v: u32) {
-    let _ = write!(output, " {v}");
-}
-
-// Writes each number behind a blank.
-fn print_numbers<W: Write>(output: &mut W, buf: &[u32]) {
-    let mut i = 0;
-    while i < buf.len() {
-        print_number(output, buf[i]);
-        i += 1;
+// Writes a line: the name of a buffer of numbers, and each of its numbers behind a blank.
+fn print_numbers<W: Write>(output: &mut W, name: &str, buffer: &[u32]) {
+    let _ = write!(output, "{name}");
+    for v in buffer {
+        let _ = write!(output, " {v}");
     }
-}
-
-// Writes a line: the name of a buffer of numbers, and its numbers.
-fn print_words<W: Write>(output: &mut W, name: &[u8], buf: &[u32]) {
-    let _ = output.write_all(name);
-    print_numbers(output, buf);
     let _ = output.write_all(b"\n");
 }
 
@@ -61,95 +59,66 @@ fn judge_over<W: Write>(
     let number = napsilo_judge(sheet, records, places, rows, answers);
     let _ = writeln!(output, "outcome {number}");
     print_bytes(output, records);
-    print_words(output, b"places", places);
-    print_words(output, b"rows", rows);
-    print_words(output, b"answers", answers);
+    print_numbers(output, "places", places);
+    print_numbers(output, "rows", rows);
+    print_numbers(output, "answers", answers);
 }
 
-// Judges a sheet over buffers of these lengths, at most 65,536 bytes, 4,096 places, 8,192 rows and 1,024 answers.
-fn run<W: Write>(output: &mut W, sheet: &[u8], r: usize, p: usize, w: usize, a: usize) {
-    let mut records = [170u8; 65536];
-    let mut places = [2863311530u32; 4096];
-    let mut rows = [2863311530u32; 8192];
-    let mut answers = [2863311530u32; 1024];
-    if 65536 < r {
+// Judges a sheet over buffers of these lengths and prints what it gives; nothing where one is above the program's.
+fn run<W: Write>(output: &mut W, sheet: &[u8], lent: Lengths) {
+    let mut records = [DIRT; LONGEST_SHEET];
+    let mut places = [DIRTY_NUMBER; MOST_SORTS];
+    let mut rows = [DIRTY_NUMBER; 2 * MOST_TERMS];
+    let mut answers = [DIRTY_NUMBER; MOST_QUESTIONS];
+    let Some(records) = records.get_mut(..lent.records) else {
         return;
-    }
-    if 4096 < p {
+    };
+    let Some(places) = places.get_mut(..lent.places) else {
         return;
-    }
-    if 8192 < w {
+    };
+    let Some(rows) = rows.get_mut(..lent.rows) else {
         return;
-    }
-    if 1024 < a {
+    };
+    let Some(answers) = answers.get_mut(..lent.answers) else {
         return;
-    }
-    judge_over(
-        output,
-        sheet,
-        &mut records[..r],
-        &mut places[..p],
-        &mut rows[..w],
-        &mut answers[..a],
-    );
+    };
+    judge_over(output, sheet, records, places, rows, answers);
 }
 
-// Reads a sheet that fills the slice and judges it, the one with the number k, over buffers of these lengths; false where the file
-// ends before it.
-fn show<F: Read, W: Write>(
-    file: &mut F,
-    output: &mut W,
-    k: usize,
-    sheet: &mut [u8],
-    r: usize,
-    p: usize,
-    w: usize,
-    a: usize,
-) -> bool {
-    if file.read_exact(sheet).is_err() {
-        return false;
-    }
-    let _ = writeln!(output, "# {k}");
-    run(output, sheet, r, p, w, a);
-    true
-}
-
-// Judges the next sheet of the file, the one with the number k; false where there is none.
-fn next<F: Read, W: Write>(file: &mut F, output: &mut W, k: usize) -> bool {
+// Judges the next sheet of the file, the one with the number k, over buffers of its recorded lengths; or the failure of a read, at the end
+// of the file too.
+fn judge_next<F: Read, W: Write>(file: &mut F, output: &mut W, k: usize) -> io::Result<()> {
     let mut head = [0u8; 10];
-    if file.read_exact(&mut head).is_err() {
-        return false;
-    }
-    let r = u16_at(&head, 0);
-    let p = u16_at(&head, 2);
-    let w = u16_at(&head, 4);
-    let a = u16_at(&head, 6);
-    let length = u16_at(&head, 8);
-    if 65535 < length {
-        return false;
-    }
-    let mut sheet = [0u8; 65536];
-    show(file, output, k, &mut sheet[..length], r, p, w, a)
+    file.read_exact(&mut head)?;
+    let lent = Lengths {
+        records: u16_at(&head, 0),
+        places: u16_at(&head, 2),
+        rows: u16_at(&head, 4),
+        answers: u16_at(&head, 6),
+    };
+    let mut buffer = [0u8; LONGEST_SHEET];
+    let sheet = buffer
+        .get_mut(..u16_at(&head, 8))
+        .ok_or(ErrorKind::InvalidData)?;
+    file.read_exact(sheet)?;
+    let _ = writeln!(output, "# {k}");
+    run(output, sheet, lent);
+    Ok(())
 }
 
-// Judges at most 100,000 sheets of the file.
+// Judges at most 100,000 sheets of the file, up to the first that cannot be read.
 fn judge_all<F: Read, W: Write>(file: &mut F, output: &mut W) {
-    let mut k = 0;
-    while k < 100000 {
-        if !next(file, output, k) {
+    for k in 0..SHEETS {
+        if judge_next(file, output, k).is_err() {
             return;
         }
-        k += 1;
     }
 }
 
 // Judges the sheets of the file beside the program; a file that cannot be opened is told on standard error.
 fn main(rt: HostRuntime) {
     match fs::open(&rt, "sheets.bin") {
-        Ok(file) => {
-            let mut file = file;
-            judge_all(&mut file, &mut rt.stdout());
-        }
+        Ok(mut file) => judge_all(&mut file, &mut rt.stdout()),
         Err(e) => failure::tell(&rt, "sheets.bin", Some(e)),
     }
 }

@@ -3,17 +3,18 @@ use Prim.Native.Nat.{ℕ, zero, suc, ◌+◌, ◌*◌, ◌≤◌, ◌<◌}
 use mathlib.Core.Path.{◌≡◌, refl, sym, ap, ap₂, subst, ◌∙◌}
 use mathlib.Core.Bool.{false, cond}
 use mathlib.Core.Option.{none, some}
-use mathlib.Core.List.{List, ◌∷◌}
+use mathlib.Core.List.{List, [], ◌∷◌}
 use native.Mathlib.Omega.{arith}
 use native.Mathlib.Numerals.{add-one}
-use lib.ListN.{length, get_or, take, drop, length-take, length-drop}
-use lib.Seq.{get_or-take, get_or-drop}
+use lib.ListN.{length, get_or, set, take, drop, length-take, length-drop}
+use lib.Seq.{get_or-take, get_or-drop, length-take-le, take_all}
 use lib.Dec.{eqb}
 use borrow.Author.Tests.{eq-eqb, ne_eqb}
 use Rattle.record.specs.Number.{u16_at, u32_at, numbers_at}
-use Rattle.record.specs.Sort.{Sort, node, function, count, tuple, set}
+use Rattle.record.specs.Sort.{Sort, node, function, count, tuple}
+use Rattle.record.specs.Sort.{set as set_of}
 use Rattle.record.specs.Record.{maps, map_of, leasts, least_of, mosts, most_of, leaf, sorts_of, sort_of}
-use Rattle.record.specs.Decode.{fields_at, store_of, sort_at, written}
+use Rattle.record.specs.Decode.{fields_at, Fresh, store_of, sort_at, written}
 use Rattle.record.specs.Codec.{Bytes, length-numbers_at, number_at}
 use Rattle.record.specs.Sizes.{count-sorts}
 use Rattle.record.specs.Cases.{eqb-self}
@@ -34,34 +35,10 @@ module _ (st : List Sort) (a : List ℕ) (x m : ℕ) (h : 64 < m) where
   pub listed-over : (k : ℕ) → within (node k 0 0 (sorts_of st (numbers_at a x m))) ≡ false
   listed-over k = over-list k 0 0 (sorts_of st (numbers_at a x m)) long-list
 
-  pub relation-over : within (set (tuple (sorts_of st (numbers_at a x m)))) ≡ false
+  pub relation-over : within (set_of (tuple (sorts_of st (numbers_at a x m)))) ≡ false
   relation-over = over-inner 15 0 0 (sorts_of st (numbers_at a x m)) long-list
 
--- The record of a list of at most 64.
-module _ {b p ix : List ℕ} {n u k : ℕ} {a : List ℕ} {m : ℕ} (asks : ListedAsks b p ix n u k a m) (bytes : Bytes a) (few : m ≤ 64) where
-  pub listed-asks : MakeAsks b p ix n u (listed_record a k m)
-  listed-asks =
-      record {
-        good = asks.list.good;
-        fresh =
-            list-fresh a k m asks.map (omega (arith, asks.least)) (omega (arith, asks.most)) bytes (omega (arith, asks.list.room)) n
-            asks.list.below;
-      }
-
-  pub listed-tree : node k 0 0 (sorts_of (store_of b p n) (numbers_at a 3 m)) ≡ sort_of (store_of b p n) (fields_at (listed_record a k m) 0)
-  listed-tree =
-      sym (list-sort a k m asks.map (omega (arith, asks.least)) (omega (arith, asks.most)) bytes (omega (arith, asks.list.room)) (store_of b p n))
-
--- Function and Tuple are kinds of a list alone.
-pub function-asks : {b p ix : List ℕ} {n u : ℕ} {a : List ℕ} {m : ℕ} → StoredListAsks b p ix n u a m → ListedAsks b p ix n u 0 a m
-unfolding map_of maps least_of leasts most_of mosts
-function-asks {b} {p} {ix} {n} {u} {a} {m} h = record { list = h; map = refl; least = refl; most = refl }
-
-pub tuple-asks : {b p ix : List ℕ} {n u : ℕ} {a : List ℕ} {m : ℕ} → StoredListAsks b p ix n u a m → ListedAsks b p ix n u 15 a m
-unfolding map_of maps least_of leasts most_of mosts
-tuple-asks {b} {p} {ix} {n} {u} {a} {m} h = record { list = h; map = refl; least = refl; most = refl }
-
----------------------------------------------------------------- what remains of a Function's list
+-- Numbers whose bytes agree.
 numbers-same : (a : List ℕ) (x : ℕ) (b : List ℕ) (y m : ℕ) → ((i : ℕ) → i < 2 * m → get_or a (x + i) 0 ≡ get_or b (y + i) 0) → numbers_at a x m ≡ numbers_at b y m
 unfolding numbers_at u16_at
 numbers-same a x b y zero h = refl
@@ -76,6 +53,69 @@ numbers-same a x b y (suc m) h =
     let fy : y + (2 + i) ≡ y + 2 + i = omega arith in
     ap (λ (z : ℕ). get_or a z 0) fx ∙ h (2 + i) (omega arith) ∙ ap (λ (z : ℕ). get_or b z 0) fy))
 
+-- The record r of a list put together in a: it is its own record, and has the bytes of a behind its head.
+record Listed (a : List ℕ) (k m : ℕ) (r : List ℕ) : Type 0 where
+  own : listed_record r k m ≡ r
+  long : length r ≡ 3 + 2 * m
+  same : (i : ℕ) → i < 2 * m → get_or r (3 + i) 0 ≡ get_or a (3 + i) 0
+
+listed-front : (x y z : ℕ) (t : List ℕ) (k m : ℕ) → listed_record (x ∷ y ∷ z ∷ t) k m ≡ 17 ∷ k ∷ m ∷ take (2 * m) t
+listed-front x y z t k m = let e : 3 + 2 * m ≡ suc (suc (suc (2 * m))) = omega arith in ap (λ (i : ℕ). take i (17 ∷ k ∷ m ∷ t)) e
+
+listed-by : (a : List ℕ) (k m : ℕ) → 3 + 2 * m ≤ length a → Listed a k m (listed_record a k m)
+listed-by [] k m l = absurd (omega arith)
+listed-by (x ∷ []) k m l = absurd (omega arith)
+listed-by (x ∷ y ∷ []) k m l = absurd (omega arith)
+listed-by (x ∷ y ∷ z ∷ t) k m l =
+    let w = take (2 * m) t in
+    let long : length w ≡ 2 * m = length-take-le (2 * m) t (omega arith) in
+    subst (Listed (x ∷ y ∷ z ∷ t) k m) (sym (listed-front x y z t k m))
+    (record {
+      own = listed-front 17 k m w k m ∙ ap (λ (s : List ℕ). 17 ∷ k ∷ m ∷ s) (take_all (2 * m) w (omega arith));
+      long = omega arith;
+      same = λ i o.
+          sym (get_or-drop 3 (17 ∷ k ∷ m ∷ w) i 0) ∙ get_or-take (2 * m) t i 0 o ∙ get_or-drop 3 (x ∷ y ∷ z ∷ t) i 0;
+    })
+
+-- The record of a list of at most 64: r is the array c, which has its head, up to the end of its j numbers.
+module _ {b p ix : List ℕ} {n u k : ℕ} {a : List ℕ} {m : ℕ} (asks : ListedAsks b p ix n u k a m) (few : m ≤ 64) {r c : List ℕ} {j : ℕ} (er : r ≡ take (3 + 2 * j) c) (bytes : Bytes r) (ej : j ≡ m)
+    (ec : c ≡ set (set (set a 0 17) 1 k) 2 m) where
+  listed : Listed a k m r
+  listed =
+      subst (Listed a k m) (sym (er ∙ ap₂ (λ (i : ℕ) (l : List ℕ). take (3 + 2 * i) l) ej ec)) (listed-by a k m (omega (arith, asks.list.room)))
+
+  same-list : numbers_at r 3 m ≡ numbers_at a 3 m
+  same-list = numbers-same r 3 a 3 m (λ i l. listed.same i l)
+
+  known-list : (i : ℕ) → i < m → u16_at r (3 + 2 * i) < n
+  known-list i l = omega (arith, number_at r 3 m i l, ap (λ (is : List ℕ). get_or is i 0) same-list, number_at a 3 m i l, asks.list.below i l)
+
+  pub listed-asks : MakeAsks b p ix n u r
+  listed-asks =
+      record {
+        good = asks.list.good;
+        fresh =
+            subst (λ (l : List ℕ). Fresh l n) listed.own
+            (list-fresh r k m asks.map (omega (arith, asks.least)) (omega (arith, asks.most)) bytes (omega (arith, listed.long)) n known-list);
+      }
+
+  pub listed-tree : node k 0 0 (sorts_of (store_of b p n) (numbers_at a 3 m)) ≡ sort_of (store_of b p n) (fields_at r 0)
+  listed-tree =
+      let st = store_of b p n in
+      sym (ap (λ (l : List ℕ). sort_of st (fields_at l 0)) (sym listed.own)
+      ∙ list-sort r k m asks.map (omega (arith, asks.least)) (omega (arith, asks.most)) bytes (omega (arith, listed.long)) st
+      ∙ ap (λ (is : List ℕ). node k 0 0 (sorts_of st is)) same-list)
+
+-- Function and Tuple are kinds of a list alone.
+pub function-asks : {b p ix : List ℕ} {n u : ℕ} {a : List ℕ} {m : ℕ} → StoredListAsks b p ix n u a m → ListedAsks b p ix n u 0 a m
+unfolding map_of maps least_of leasts most_of mosts
+function-asks {b} {p} {ix} {n} {u} {a} {m} h = record { list = h; map = refl; least = refl; most = refl }
+
+pub tuple-asks : {b p ix : List ℕ} {n u : ℕ} {a : List ℕ} {m : ℕ} → StoredListAsks b p ix n u a m → ListedAsks b p ix n u 15 a m
+unfolding map_of maps least_of leasts most_of mosts
+tuple-asks {b} {p} {ix} {n} {u} {a} {m} h = record { list = h; map = refl; least = refl; most = refl }
+
+---------------------------------------------------------------- what remains of a Function's list
 -- The list copied into the array.
 module _ {b p ix : List ℕ} {n u : ℕ} {a : List ℕ} {x m : ℕ} (asks : RemainingAsks b p ix n u a x m) where
   part-long : length (take (2 * m) (drop x b)) ≡ 2 * m

@@ -1,31 +1,34 @@
 -- A record's sort made an answer, by what `tree_size` and `intern` gave; and the Set of it, made behind it or undone.
-use Prim.Native.Nat.{ℕ, ◌≤◌, ◌<◌}
-use mathlib.Core.Path.{◌≡◌, sym, ap, subst, ◌∙◌}
-use mathlib.Core.Bool.{false}
-use mathlib.Core.List.{List}
+use Prim.Native.Nat.{ℕ, ◌/◌, ◌%◌, ◌≤◌, ◌<◌}
+use Rattle.std.specs.Prelude.{Result, Ok, Err, is_err, true}
+use mathlib.Core.Path.{◌≡◌, refl, sym, ap, subst, ◌∙◌}
+use mathlib.Core.Bool.{false, false≢true}
+use mathlib.Core.List.{List, [], ◌∷◌}
 use native.Mathlib.Omega.{arith}
-use lib.ListN.{length}
+use lib.ListN.{get_or}
 use Rattle.record.specs.Sort.{Sort, set, size}
 use Rattle.record.specs.Record.{leaf, sort_of}
-use Rattle.record.specs.Store.{add_once, intern, room}
+use Rattle.record.specs.Store.{add_once, intern}
 use Rattle.record.specs.Decode.{fields_at, store_of, sort_at}
 use Rattle.record.specs.StoreLaws.{store_of-length}
 use Rattle.record.specs.SortLists.{Starts, starts-self, starts-intern, memb-at, intern-known}
 use Rattle.record.specs.Entries.{store-ordered}
-use Rattle.store.specs.Good.{Good}
 use Rattle.store.specs.Entry.{TreeAsks, TreeHas}
-use Rattle.store.specs.Contract.{InternAsks, Holds, Untouched, UndoIs}
+use Rattle.store.specs.Contract.{InternAsks, InternedIs, Holds, UndoIs}
+use Rattle.store.specs.declared.Full.{Full as NoRoom}
 use Rattle.store.specs.Walk.{tree-asks}
 use Rattle.store.specs.Grown.{holds-intern}
 use Rattle.row_rules.specs.declared.Cause.{Cause}
 use Rattle.row_rules.specs.declared.Cause.TheVariants.{Limit, Full}
-use Rattle.row_rules.specs.declared.RowVerdict.TheVariants.{Sort as Number, Refused}
 use Rattle.row_rules.specs.Verdict.{sort}
-use Rattle.row_answer.specs.declared.Answer.{Answer}
-use Rattle.row_answer.specs.Answer.{AnswerIs, accepting, refusing}
+use Rattle.row_answer.specs.Answer.{Answer, AnswerIs, accepting, refusing}
 use Rattle.row_answer.specs.Within.{within-fresh, within-set, over-size, over-set}
-use Rattle.row_answer.specs.AnswerLaws.{judged-as, untouched-as, made-limit, record-made, record-full, intern-set, starts-set, Back, answer_back, grown-accepted, grown-refused, undone}
+use Rattle.row_answer.specs.AnswerLaws.{judged-as, answered-as, answer-same, untouched-as, made-limit, record-made, record-full, intern-set, starts-set, Back, answer_back, grown-accepted, grown-refused, undone, undone-used}
 use Rattle.row_answer.specs.Asks.{MakeAsks, SetOverAsks, MadeFrom}
+
+-- The two bytes that a number is written in.
+pub two-bytes : (v : ℕ) → v < 65536 → {bytes : List ℕ} → bytes ≡ v % 256 ∷ v / 256 % 256 ∷ [] → (get_or bytes 0 0 ≡ v % 256) × (get_or bytes 1 0 ≡ v / 256)
+two-bytes v h {bytes} e = (ap (λ (l : List ℕ). get_or l 0 0) e, omega (arith, ap (λ (l : List ℕ). get_or l 1 0) e))
 
 -- MAKE: w is what `tree_size` gave.
 module _ {b p ix : List ℕ} {n u : ℕ} {r : List ℕ} (asks : MakeAsks b p ix n u r) where
@@ -50,14 +53,14 @@ module _ {b p ix : List ℕ} {n u : ℕ} {r : List ℕ} (asks : MakeAsks b p ix 
         record-made b p ix n u asks.good r asks.fresh b' p' ix' k n' u'
         (within-fresh b p n asks.good.stored r asks.fresh (omega (arith, weight))) holds
 
-    pub make-full : (b' p' ix' : List ℕ) → w ≤ 4096
-        → (room (length b) (length p) (add_once (store_of b p n) (sort_of (store_of b p n) (fields_at r 0))) ≡ false) × Untouched b p ix b' p' ix'
-        → AnswerIs b p n (sort (sort_of (store_of b p n) (fields_at r 0))) b' p' ix' (refusing Full n u)
-    make-full b' p' ix' h q =
+    pub make-full : {b' p' ix' : List ℕ} {n' u' : ℕ} {e : NoRoom} → w ≤ 4096 → InternedIs b p ix n u r b' p' ix' n' u' (Err e) → {q : Result ℕ Cause} → q ≡ Err Full
+        → AnswerIs b p n (sort (sort_of (store_of b p n) (fields_at r 0))) b' p' ix' (record { verdict = q; count = n'; used = u' })
+    make-full h o eq =
         let t = sort_of (store_of b p n) (fields_at r 0) in
-        untouched-as q.1
+        answered-as (answer-same eq o.2 o.3)
+        (untouched-as o.1
         (record-full b p ix n u asks.good r asks.fresh t (starts-self (intern t (store_of b p n)))
-        (within-fresh b p n asks.good.stored r asks.fresh (omega (arith, weight))) q.0)
+        (within-fresh b p n asks.good.stored r asks.fresh (omega (arith, weight))) o.0))
 
     -- The Set of the record's sort.
     pub set-large : 4095 < w → AnswerIs b p n (sort (set (sort_of (store_of b p n) (fields_at r 0)))) b p ix (refusing Limit n u)
@@ -65,14 +68,14 @@ module _ {b p ix : List ℕ} {n u : ℕ} {r : List ℕ} (asks : MakeAsks b p ix 
         let t = sort_of (store_of b p n) (fields_at r 0) in
         made-limit b p ix n u asks.good (set t) (over-set t (omega (arith, weight)))
 
-    pub set_full : (b' p' ix' : List ℕ) → w ≤ 4095
-        → (room (length b) (length p) (add_once (store_of b p n) (sort_of (store_of b p n) (fields_at r 0))) ≡ false) × Untouched b p ix b' p' ix'
-        → AnswerIs b p n (sort (set (sort_of (store_of b p n) (fields_at r 0)))) b' p' ix' (refusing Full n u)
-    set_full b' p' ix' h q =
+    pub set_full : {b' p' ix' : List ℕ} {n' u' : ℕ} {e : NoRoom} → w ≤ 4095 → InternedIs b p ix n u r b' p' ix' n' u' (Err e) → {q : Result ℕ Cause} → q ≡ Err Full
+        → AnswerIs b p n (sort (set (sort_of (store_of b p n) (fields_at r 0)))) b' p' ix' (record { verdict = q; count = n'; used = u' })
+    set_full h o eq =
         let t = sort_of (store_of b p n) (fields_at r 0) in
-        untouched-as q.1
+        answered-as (answer-same eq o.2 o.3)
+        (untouched-as o.1
         (record-full b p ix n u asks.good r asks.fresh (set t) (starts-set t (store_of b p n))
-        (within-set b p n asks.good.stored r asks.fresh (omega (arith, weight))) q.0)
+        (within-set b p n asks.good.stored r asks.fresh (omega (arith, weight))) o.0))
 
   -- The store with the record's sort was made from the one before.
   module _ (c q ic : List ℕ) (k m v : ℕ) (h : Holds b p n u r c q ic k m v) where
@@ -97,13 +100,8 @@ module _ {b p ix : List ℕ} {n u : ℕ} {r : List ℕ} (asks : MakeAsks b p ix 
 -- SET OVER: a is the answer of the Set over the store c q that has its part, made last.
 module _ {c q ic : List ℕ} {m v k n : ℕ} (asks : SetOverAsks c q ic m v k n) {d e id : List ℕ} {x : Answer} (a : AnswerIs c q m (sort (set (sort_at c q m k))) d e id x) where
   -- Refused, it left the store c q.
-  left_back : (w : Cause) → x.verdict ≡ Refused w → Back c q ic m v d e id x
+  left_back : (w : Cause) → x.verdict ≡ Err w → Back c q ic m v d e id x
   left_back w h = answer_back c q m (sort (set (sort_at c q m k))) d e id x a ic v asks.good w h
-
-  pub left-good : (w : Cause) → x.verdict ≡ Refused w → Good d e id m v
-  left-good w h =
-      let o = left_back w h in
-      subst (λ (j : ℕ). Good d e id m j) o.used (subst (λ (j : ℕ). Good d e id j x.used) o.count a.good)
 
   module _ {b p ix : List ℕ} {u : ℕ} (from : MadeFrom b p ix n u c q m k) where
     from-starts : Starts (store_of b p n) (store_of c q m)
@@ -119,16 +117,33 @@ module _ {c q ic : List ℕ} {m v k n : ℕ} (asks : SetOverAsks c q ic m v k n)
         (sym from.made ∙ sym (intern-known t st (store-ordered c q m asks.good.stored) (memb-at st leaf k (omega (arith, asks.known, store_of-length c q m)))))
         ∙ sym (intern-set t st)
 
-    pub over-accepted : (i : ℕ) → x.verdict ≡ Number i → AnswerIs b p n (sort (set (sort_at c q m k))) d e id x
+    pub over-accepted : (i : ℕ) → x.verdict ≡ Ok i → AnswerIs b p n (sort (set (sort_at c q m k))) d e id x
     over-accepted i h =
         grown-accepted b p n c q m (set (sort_at c q m k)) from-same from-starts from.long from.wide d e id x a i h
 
-    pub over-undone : (w : Cause) → x.verdict ≡ Refused w → {b' p' ix' : List ℕ} {u' : ℕ} → UndoIs d e m b' p' ix' n u'
-        → AnswerIs b p n (sort (set (sort_at c q m k))) b' p' ix' (refusing w n u)
-    over-undone w h {b'} {p'} {ix'} {u'} undo =
-        let o = left_back w h in
-        untouched-as
-        (undone b p ix n u from.good d e m
-        (subst (Starts (store_of b p n)) (sym (ap (λ (y : List ℕ). store_of y e m) o.same.0 ∙ ap (λ (y : List ℕ). store_of c y m) o.same.1)) from-starts)
-        (a.long ∙ from.long) (a.wide ∙ from.wide) b' p' ix' u' undo)
-        (grown-refused b p n c q m (set (sort_at c q m k)) from-same from-starts from.long from.wide d e id x a w h ix u from.good)
+    -- the store after the call that was undone is the one before
+    module _ (w : Cause) (h : x.verdict ≡ Err w) {b' p' ix' : List ℕ} {u' : ℕ} (undid : UndoIs d e x.count b' p' ix' n u') where
+      undo : UndoIs d e m b' p' ix' n u'
+      undo = subst (λ (i : ℕ). UndoIs d e i b' p' ix' n u') (left_back w h).count undid
+
+      back-starts : Starts (store_of b p n) (store_of d e m)
+      back-starts =
+          let o = left_back w h in
+          subst (Starts (store_of b p n)) (sym (ap (λ (y : List ℕ). store_of y e m) o.same.0 ∙ ap (λ (y : List ℕ). store_of c y m) o.same.1)) from-starts
+
+      pub over-undone : {k' : ℕ} → k' ≡ n → AnswerIs b p n (sort (set (sort_at c q m k))) b' p' ix' (record { verdict = x.verdict; count = k'; used = u' })
+      over-undone ek =
+          let long = a.long ∙ from.long in
+          let wide = a.wide ∙ from.wide in
+          answered-as (answer-same h ek (undone-used b p ix n u from.good d e m back-starts long wide b' p' ix' u' undo))
+          (untouched-as (undone b p ix n u from.good d e m back-starts long wide b' p' ix' u' undo)
+          (grown-refused b p n c q m (set (sort_at c q m k)) from-same from-starts from.long from.wide d e id x a w h ix u from.good))
+
+-- A row that is an error has a cause, and one that is none a number.
+pub by-error : {C : Type 0} (r : Result ℕ Cause) → is_err r ≡ true → ((w : Cause) → r ≡ Err w → C) → C
+by-error (Ok k) e f = absurd (false≢true e)
+by-error (Err w) e f = f w refl
+
+pub by-number : {C : Type 0} (r : Result ℕ Cause) → is_err r ≡ false → ((k : ℕ) → r ≡ Ok k → C) → C
+by-number (Ok k) e f = f k refl
+by-number (Err w) e f = absurd (false≢true (sym e))

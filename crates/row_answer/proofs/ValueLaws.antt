@@ -22,6 +22,10 @@ pub record ValueScan (b p s : List ℕ) (x m y j : ℕ) : Type 0 where
 pub values-start : {b p s : List ℕ} {x m : ℕ} → ValuesAsk b p s x m → ValueScan b p s x m x m
 values-start {b} {p} {s} {x} {m} a = record { asks = a; refs = λ n h r. r; rest = λ n h r. refl }
 
+-- At an equal place with as many left.
+pub values-moved : {b p s : List ℕ} {x m y j z i : ℕ} → ValueScan b p s x m y j → y ≡ z → j ≡ i → ValueScan b p s x m z i
+values-moved {b} {p} {s} {x} {m} {y} {j} {z} {i} w ey ej = subst (λ (k : ℕ). ValueScan b p s x m k i) ey (subst (ValueScan b p s x m y) ej w)
+
 module _ {b p s : List ℕ} {x m y j : ℕ} (w : ValueScan b p s x m y j) where
   pub values-end : j ≤ 0 → ValuesHave b p s x m true
   unfolding values

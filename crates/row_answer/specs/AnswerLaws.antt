@@ -1,6 +1,6 @@
 -- THE WAYS TO AN ANSWER: refused, a sort that the store has, over a limit, made, and without room; the same over a store
 -- that was grown on the way; and what an answer tells.
-use Rattle.std.specs.Prelude.{ℕ, ◌*◌, ◌≤◌, ◌<◌, ◌≡◌, Bool, false, ◌&&◌, take, leb}
+use Rattle.std.specs.Prelude.{ℕ, ◌*◌, ◌≤◌, ◌<◌, ◌≡◌, Bool, false, ◌&&◌, take, leb, Result, Ok, Err}
 use Rattle.std.proofs.Math.Path.{refl, sym, ap, ap₂, subst}
 use Rattle.std.proofs.Common.{◌∙◌, arith, take_at, leb-true}
 use Rattle.std.proofs.Math.Bool.{true}
@@ -20,14 +20,11 @@ use Rattle.store.specs.Contract.{Holds, UndoIs, Untouched}
 use Rattle.store.specs.Grown.{holds-intern}
 use Rattle.row_rules.specs.declared.Cause.{Cause}
 use Rattle.row_rules.specs.declared.Cause.TheVariants.{Limit, Full}
-use Rattle.row_rules.specs.declared.RowVerdict.{RowVerdict}
-use Rattle.row_rules.specs.declared.RowVerdict.TheVariants.{Sort as Number, Refused}
 use Rattle.row_rules.specs.Verdict.{Verdict, sort, refused, number_of, code_of}
 use Rattle.row_rules.specs.Outcome.{CodedStore, refusal, within, outcome}
 use Rattle.row_rules.specs.Outcomes.{answered}
 use Rattle.row_rules.proofs.OutcomeLaws.{refusal-large}
-use Rattle.row_answer.specs.declared.Answer.{Answer}
-use Rattle.row_answer.specs.Answer.{AnswerLeft, AnswerIs, accepting, refusing}
+use Rattle.row_answer.specs.Answer.{Answer, AnswerLeft, AnswerIs, accepting, refusing}
 use Rattle.row_answer.specs.Within.{within-at}
 
 -- An equal verdict, an equal answer, equal buffers.
@@ -36,6 +33,14 @@ judged-as {b} {p} {n} {v} {w} {b'} {p'} {ix'} {r} e h = subst (λ (x : Verdict).
 
 pub answered-as : {b p : List ℕ} {n : ℕ} {v : Verdict} {b' p' ix' : List ℕ} {r q : Answer} → r ≡ q → AnswerIs b p n v b' p' ix' q → AnswerIs b p n v b' p' ix' r
 answered-as {b} {p} {n} {v} {b'} {p'} {ix'} {r} {q} e h = subst (λ (x : Answer). AnswerIs b p n v b' p' ix' x) (sym e) h
+
+-- Equal parts, an equal answer.
+pub answer-same : {r q : Result ℕ Cause} {n m u v : ℕ} → r ≡ q → n ≡ m → u ≡ v
+    → ◌≡◌ {A = Answer} (record { verdict = r; count = n; used = u }) (record { verdict = q; count = m; used = v })
+answer-same {r} {q} {n} {m} {u} {v} er en eu =
+    let with-row : Result ℕ Cause → Answer = λ x. record { verdict = x; count = n; used = u } in
+    let with-counts : ℕ → ℕ → Answer = λ x y. record { verdict = q; count = x; used = y } in
+    ap with-row er ∙ ap₂ with-counts en eu
 
 pub untouched-as : {b p : List ℕ} {n : ℕ} {v : Verdict} {r : Answer} {c q ix b' p' ix' : List ℕ} → Untouched c q ix b' p' ix'
     → AnswerIs b p n v c q ix r → AnswerIs b p n v b' p' ix' r
@@ -169,7 +174,7 @@ pub record Back (b p ix : List ℕ) (n u : ℕ) (b' p' ix' : List ℕ) (r : Answ
   pub used : r.used ≡ u
 
 module _ (b p : List ℕ) (n : ℕ) (v : Verdict) (b' p' ix' : List ℕ) (r : Answer) (a : AnswerIs b p n v b' p' ix' r) where
-  pub answer_back : (ix : List ℕ) (u : ℕ) → Good b p ix n u → (c : Cause) → r.verdict ≡ Refused c → Back b p ix n u b' p' ix' r
+  pub answer_back : (ix : List ℕ) (u : ℕ) → Good b p ix n u → (c : Cause) → r.verdict ≡ Err c → Back b p ix n u b' p' ix' r
   answer_back ix u g c e =
       let st = store_of b p n in
       let kept : store_of b' p' r.count ≡ st = subst (AnswerLeft st (store_of b' p' r.count)) e a.left in
@@ -184,7 +189,7 @@ module _ (b p : List ℕ) (n : ℕ) (v : Verdict) (b' p' ix' : List ℕ) (r : An
   answer-more = omega (arith, starts-count (store_of b p n) (store_of b' p' r.count) a.starts, store_of-length b p n, store_of-length b' p' r.count)
 
   -- AN ACCEPTED ANSWER is a number of the store, below 4,096.
-  pub answer-number : (k : ℕ) → r.verdict ≡ Number k → (k < r.count) × (k < 4096)
+  pub answer-number : (k : ℕ) → r.verdict ≡ Ok k → (k < r.count) × (k < 4096)
   answer-number k e =
       let l : k < length (store_of b' p' r.count) = subst (AnswerLeft (store_of b p n) (store_of b' p' r.count)) e a.left in
       (omega (arith, store_of-length b' p' r.count), omega (arith, store_of-length b' p' r.count, a.good.indexed.count))
@@ -205,26 +210,26 @@ module _ (b p : List ℕ) (n : ℕ) (v : Verdict) (b' p' ix' : List ℕ) (r : An
       small Cause.Barred = omega arith
       small Cause.NoAssignment = omega arith
 
-      go : (w : RowVerdict) → r.verdict ≡ w → code_of w < 4294967296
-      go (Number k) e = omega (arith, (answer-number k e).1)
-      go (Refused c) e = small c
+      go : (w : Result ℕ Cause) → r.verdict ≡ w → code_of w < 4294967296
+      go (Ok k) e = omega (arith, (answer-number k e).1)
+      go (Err c) e = small c
 
 -- AN ACCEPTED ANSWER passed both tests.
 module _ (b p : List ℕ) (n : ℕ) (s : Sort) (b' p' ix' : List ℕ) (r : Answer) (a : AnswerIs b p n (sort s) b' p' ix' r) where
-  passed : (k : ℕ) → r.verdict ≡ Number k
+  passed : (k : ℕ) → r.verdict ≡ Ok k
       → Passed (within s) (room (length b) (length p) (intern s (store_of b p n))) (intern s (store_of b p n)) (store_of b' p' r.count) (index_of s (intern s (store_of b p n))) k
   unfolding outcome
   passed k e =
       let st = store_of b p n in
       by-accepted (lent b p) st s (within s) (room (length b) (length p) (intern s st)) (store_of b' p' r.count) k
-      (a.is (lent b p) refl refl ∙ ap (λ (v : RowVerdict). record { store = store_of b' p' r.count; code = code_of v }) e)
+      (a.is (lent b p) refl refl ∙ ap (λ (v : Result ℕ Cause). record { store = store_of b' p' r.count; code = code_of v }) e)
       (omega (arith, (answer-number b p n (sort s) b' p' ix' r a k e).1))
 
 ---------------------------------------------------------------- over a store that was grown on the way to the answer
 module _ (b p : List ℕ) (n : ℕ) (c q : List ℕ) (m : ℕ) (s : Sort) (same : intern s (store_of b p n) ≡ intern s (store_of c q m)) (starts : Starts (store_of b p n) (store_of c q m))
     (long : length c ≡ length b) (wide : length q ≡ length p) (b' p' ix' : List ℕ) (r : Answer) (a : AnswerIs c q m (sort s) b' p' ix' r) where
   -- Accepted there, it is accepted from the first store on.
-  pub grown-accepted : (k : ℕ) → r.verdict ≡ Number k → AnswerIs b p n (sort s) b' p' ix' r
+  pub grown-accepted : (k : ℕ) → r.verdict ≡ Ok k → AnswerIs b p n (sort s) b' p' ix' r
   unfolding outcome
   grown-accepted k e =
       let t = passed c q m s b' p' ix' r a k e in
@@ -245,19 +250,26 @@ module _ (b p : List ℕ) (n : ℕ) (c q : List ℕ) (m : ℕ) (s : Sort) (same 
       }
 
   -- Refused there, it is refused from the first store on.
-  pub grown-refused : (x : Cause) → r.verdict ≡ Refused x → (ix : List ℕ) (u : ℕ) → Good b p ix n u → AnswerIs b p n (sort s) b p ix (refusing x n u)
+  pub grown-refused : (x : Cause) → r.verdict ≡ Err x → (ix : List ℕ) (u : ℕ) → Good b p ix n u → AnswerIs b p n (sort s) b p ix (refusing x n u)
   unfolding outcome
   grown-refused x e ix u g =
       same_answer b p ix n u g (sort s) x (λ l y z.
       ap (λ (st : List Sort). answered l (store_of b p n) s (within s) (room l.records l.places st)) same
       ∙ by-refused l (store_of c q m) s (within s) (room l.records l.places (intern s (store_of c q m))) (store_of b' p' r.count) x
-      (a.is l (y ∙ sym long) (z ∙ sym wide) ∙ ap (λ (v : RowVerdict). record { store = store_of b' p' r.count; code = code_of v }) e)
+      (a.is l (y ∙ sym long) (z ∙ sym wide) ∙ ap (λ (v : Result ℕ Cause). record { store = store_of b' p' r.count; code = code_of v }) e)
       (index-small l.records l.places s (store_of c q m)) (store_of b p n))
 
--- UNDOING gives back the store that the present one was grown from, whole.
+-- UNDOING gives back the store that the present one was grown from, whole, with its bytes in use.
+undone-all : (b p ix : List ℕ) (n u : ℕ) → Good b p ix n u → (c q : List ℕ) (m : ℕ) → Starts (store_of b p n) (store_of c q m) → length c ≡ length b → length q ≡ length p
+    → (b' p' ix' : List ℕ) (u' : ℕ) → UndoIs c q m b' p' ix' n u' → (b' ≡ b) × (p' ≡ p) × (ix' ≡ ix) × (u' ≡ u)
+undone-all b p ix n u g c q m starts long wide b' p' ix' u' h =
+    h.same b p ix u g (sym (ap (take n) starts.1 ∙ take_at (store_of b p n) starts.0 n (store_of-length b p n))) (sym long) (sym wide)
+
 pub undone : (b p ix : List ℕ) (n u : ℕ) → Good b p ix n u → (c q : List ℕ) (m : ℕ) → Starts (store_of b p n) (store_of c q m) → length c ≡ length b → length q ≡ length p
     → (b' p' ix' : List ℕ) (u' : ℕ) → UndoIs c q m b' p' ix' n u' → Untouched b p ix b' p' ix'
 undone b p ix n u g c q m starts long wide b' p' ix' u' h =
-    let e =
-    h.same b p ix u g (sym (ap (take n) starts.1 ∙ take_at (store_of b p n) starts.0 n (store_of-length b p n))) (sym long) (sym wide) in
-    (e.0, e.1, e.2)
+    let e = undone-all b p ix n u g c q m starts long wide b' p' ix' u' h in (e.0, e.1, e.2)
+
+pub undone-used : (b p ix : List ℕ) (n u : ℕ) → Good b p ix n u → (c q : List ℕ) (m : ℕ) → Starts (store_of b p n) (store_of c q m) → length c ≡ length b → length q ≡ length p
+    → (b' p' ix' : List ℕ) (u' : ℕ) → UndoIs c q m b' p' ix' n u' → u' ≡ u
+undone-used b p ix n u g c q m starts long wide b' p' ix' u' h = (undone-all b p ix n u g c q m starts long wide b' p' ix' u' h).3

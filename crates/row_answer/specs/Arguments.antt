@@ -1,7 +1,7 @@
 -- The arguments of a term in a lent array: the numbers of their sorts by the rows before it, the numbers of the sorts of
 -- bindings, and integer constants; with the laws that tie them to the definitions on trees.
 use Prim.Native.Nat.{ℕ, zero, suc, ◌+◌, ◌*◌, ◌/◌, ◌%◌, ◌≤◌, ◌<◌}
-use Rattle.std.specs.Prelude.{◌≡◌, Bool, true, false, cond, length, get_or, set, eqb}
+use Rattle.std.specs.Prelude.{Option as Found, Some, None, ◌≡◌, Bool, true, false, cond, length, get_or, set, eqb}
 use Rattle.std.proofs.Math.Path.{refl, ap, ap₂}
 use Rattle.std.proofs.Common.{sym, subst, ◌∙◌, true≢false, arith, add-one, not-suc-le-zero, length-set, get_or-set_same, get_or-set_other, lt-ltb, le-ltb}
 use Rattle.std.proofs.lemmas.Bool.{false≢true}
@@ -17,8 +17,8 @@ use Rattle.store.specs.Good.{Good}
 use Rattle.row_rules.specs.Lists.{joined}
 use Rattle.row_rules.specs.Term.{consed, sorts_given}
 use Rattle.row_rules.specs.Outcome.{row_sort}
-use Rattle.row_answer.specs.declared.arguments.Constant.{Constant}
-use Rattle.row_answer.specs.declared.arguments.Constant.TheVariants.{Integer, Other}
+use Rattle.row_answer.specs.declared.arguments.Column.{Column}
+use Rattle.row_answer.specs.declared.arguments.Column.TheVariants.{Inferred, Checked}
 
 ---------------------------------------------------------------- numbers in the array
 pub record PutNumberAsks (l : List ℕ) (at v : ℕ) : Type 0 where
@@ -77,6 +77,11 @@ numbers-looked g a x s y (suc m) h =
     ap (u16_at a) fx ∙ h (suc j) (omega arith) ∙ ap (λ (z : ℕ). g (u16_at s z)) fy))
 
 ---------------------------------------------------------------- rows
+-- The numbers of the columns.
+abbrev pub column_number : Column → ℕ
+column_number Inferred = 0
+column_number Checked = 1
+
 -- The row in a column of the term that the sheet names in the place j from `at` on.
 
 abbrev pub row_at : List ℕ → ℕ → List ℕ → ℕ → ℕ → ℕ
@@ -235,9 +240,9 @@ pub record ConstantAsks (sheet : List ℕ) (at : ℕ) : Type 0 where
   pub number : get_or sheet (at + 1) 0 ≡ 0 → at + 6 ≤ length sheet
 
 -- The number that was found.
-abbrev pub integer_of : Constant → Option ℕ
-integer_of (Integer v) = some v
-integer_of Other = none
+abbrev pub integer_of : Found ℕ → Option ℕ
+integer_of (Some v) = some v
+integer_of None = none
 
 -- The number of the term whose record starts at a place: an integer constant has the kind 0, and its number behind it.
 abbrev pub integer_at : List ℕ → ℕ → Option ℕ
@@ -268,9 +273,9 @@ pub record IndexAsks (sheet starts : List ℕ) (x : ℕ) : Type 0 where
 abbrev pub index_at : List ℕ → List ℕ → ℕ → Option ℕ
 index_at sheet starts x = integer_at sheet (get_or starts (u16_at sheet x) 0)
 
-pub record IndexIs (sheet starts : List ℕ) (x : ℕ) (r : Constant) : Type 0 where
+pub record IndexIs (sheet starts : List ℕ) (x : ℕ) (r : Found ℕ) : Type 0 where
   pub is : integer_of r ≡ index_at sheet starts x
-  pub small : (v : ℕ) → r ≡ Integer v → v < 4294967296
+  pub small : (v : ℕ) → r ≡ Some v → v < 4294967296
 
 -- The first and the second of several.
 module _ (sheet starts : List ℕ) (x m : ℕ) (h : ConstantsAsk sheet starts x m) where

@@ -7,8 +7,7 @@ use Rattle.record.specs.Store.{intern}
 use Rattle.record.specs.Decode.{Fresh, store_of, sort_at}
 use Rattle.store.specs.Good.{Good}
 use Rattle.row_rules.specs.Verdict.{sort}
-use Rattle.row_answer.specs.declared.Answer.{Answer}
-use Rattle.row_answer.specs.Answer.{AnswerIs}
+use Rattle.row_answer.specs.Answer.{Answer, AnswerIs}
 
 -- A good store and a whole record over it.
 pub record MakeAsks (b p ix : List ℕ) (n u : ℕ) (r : List ℕ) : Type 0 where

@@ -11,8 +11,7 @@ use Rattle.row_rules.specs.Verdict.{Verdict}
 use Rattle.row_rules.specs.Outcome.{CodedStore}
 use Rattle.row_rules.specs.Parless.{ParlessVerdict, parless_each}
 use Rattle.row_rules.proofs.ParlessLaws.{parless-at, parless-outcome}
-use Rattle.row_answer.specs.declared.Answer.{Answer}
-use Rattle.row_answer.specs.Answer.{AnswerIs}
+use Rattle.row_answer.specs.Answer.{Answer, AnswerIs}
 use Rattle.row_answer.specs.Heads.{plain_head, par_head, other, head_in}
 
 -- TABLES LENT OVER THE STORE of n sorts in b p: of all names and blank; or, as no sort of it has a Par, of any length and unused.

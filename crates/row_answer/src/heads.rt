@@ -1,55 +1,39 @@
 // The head of an application.
 ghost use Rattle.row_answer.specs.Heads.{HeadAsks, HeadHas};
 
-use record::kinds::{SORT_FUNCTION, SORT_PAR};
-use record::u16_at;
-use store::entries::entry;
+use record::kinds::SortKind;
+use record::span::Span;
+use store::entries::Entries;
 
-// A Function at the head of an App: where the list of its sorts starts and how many they are, and where the names of the Par over
-// it stand and how many these are, 0 without a Par.
-#[derive(Clone, Copy)]
+// A Function at the head of an App: the list of its sorts, and the names of the Par over it, none without a Par.
+#[derive(Clone, Copy, Debug, PartialEq, Eq)]
 pub struct Callee {
-    pub list: usize,
-    pub count: usize,
-    pub names: usize,
-    pub named: usize,
+    pub list: Span,
+    pub names: Span,
 }
 
-// What a head is: a Function, or one under a Par; or neither.
-#[derive(Drop)]
-pub enum Head {
-    Function(Callee),
-    NoFunction,
-}
-
-// The list of the Function that the sort k is, or of the one directly under the Par that it is.
-pub fn head_of(records: &[u8], places: &[u32], k: usize) -> Head
-    requires { HeadAsks records.now places.now k }
-    ensures { HeadHas records.now places.now k result }
+// The Function that the sort k is, or the one directly under the Par that it is; None where it is neither.
+pub fn head_of(entries: Entries<'_>, k: usize) -> Option<Callee>
+    requires { HeadAsks entries.records.now entries.places.now k }
+    ensures { HeadHas entries.entry.records.now entries.entry.places.now k result }
 {
-    let a = entry(records, places, k);
-    let kind = a.kind;
-    let list = a.list;
-    if kind == SORT_FUNCTION {
-        return Head::Function(Callee {
-            list,
-            count: a.count,
-            names: 0,
-            named: 0,
+    let a = entries.entry(k);
+    if a.kind == SortKind::Function {
+        let names = Span { at: 0, count: 0 };
+        return Some(Callee {
+            list: a.parts,
+            names,
         });
     }
-    if kind != SORT_PAR {
-        return Head::NoFunction;
+    if a.kind != SortKind::Par {
+        return None;
     }
-    let body = u16_at(records, list);
-    let b = entry(records, places, body);
-    if b.kind == SORT_FUNCTION {
-        return Head::Function(Callee {
-            list: b.list,
-            count: b.count,
-            names: a.names,
-            named: a.named,
-        });
+    let b = entries.entry(entries.number(a.parts.at));
+    if b.kind != SortKind::Function {
+        return None;
     }
-    Head::NoFunction
+    Some(Callee {
+        list: b.parts,
+        names: a.names,
+    })
 }

@@ -1,4 +1,4 @@
-// A row or an answer made in the store: coded, refused, found there, or made of a record.
+// A row or an answer made in the store: found there, made of a record, or refused; and the code of a row.
 #![tactic(auto)]
 
 pub mod arguments;
@@ -7,156 +7,92 @@ pub mod lists;
 pub mod values;
 
 ghost use Rattle.std.specs.Prelude.{◌≡◌, ◌<◌};
+ghost use Rattle.record.specs.Kinds.{sort_number};
 ghost use Rattle.record.specs.Sort.{var, node, end, bitvec};
 ghost use Rattle.record.specs.Record.{sort_of};
 ghost use Rattle.record.specs.Decode.{fields_at, store_of};
-ghost use Rattle.store.specs.Good.{Good};
-ghost use Rattle.row_rules.specs.Verdict.{sort, number_of, code_of};
-ghost use Rattle.row_answer.specs.Answer.{AnswerIs, accepting, refusing};
+ghost use Rattle.store.specs.Changes.{Same};
+ghost use Rattle.row_rules.specs.Verdict.{sort, code_of};
+ghost use Rattle.row_answer.specs.Answer.{Answered};
 ghost use Rattle.row_answer.specs.Asks.{MakeAsks, LeafAsks, VariableAsks};
 
-use record::kinds::{BYTE_BIT_VEC, BYTE_VAR, MAP_KIND, MAP_NAME, MAP_NUMBER};
+use arguments::REFUSED;
+use record::kinds::SortKind;
 use record::limits::{LARGEST_TREE, LARGEST_WIDTH};
-use row_rules::{Cause, RowVerdict};
-use store::entries::tree_size;
-use store::{Interned, intern};
+use row_rules::{Cause, Row};
+use store::Store;
 
-// A row or an answer, and the store's count and bytes in use after it.
-#[derive(Drop)]
-pub struct Answer {
-    pub verdict: RowVerdict,
-    pub count: usize,
-    pub used: usize,
-}
+// The bit maps of the records of answers: the kind alone, or with a name, a number or a list.
+const MAP_KIND: u8 = 1;
 
-// The number of a cause.
-pub fn number(c: Cause) -> u32
-    ensures { result ≡ number_of c }
-{
-    match c {
-        Cause::Below => 20,
-        Cause::Panics => 21,
-        Cause::Limit => 22,
-        Cause::Full => 23,
-        Cause::NoRank => 24,
-        Cause::Count => 25,
-        Cause::Misfit => 26,
-        Cause::Unassigned => 27,
-        Cause::Barred => 28,
-        Cause::NoAssignment => 29,
-    }
-}
+const MAP_NAME: u8 = 3;
+
+const MAP_NUMBER: u8 = 5;
+
+const MAP_LIST: u8 = 17;
 
 // A row as it is written: the store number, or the number of the cause times 65,536.
-pub fn code(v: RowVerdict) -> u32
-    requires { code_of v < 4294967296 }
-    ensures { result ≡ code_of v }
+pub fn code(row: Row) -> u32
+    requires { code_of row < 4294967296 }
+    ensures { result ≡ code_of row }
 {
-    match v {
-        RowVerdict::Sort(k) => k as u32,
-        RowVerdict::Refused(c) => number(c) * 65536,
-    }
-}
-
-// The answer that is the sort k, which the store has.
-pub fn found(k: usize, count: usize, used: usize) -> Answer
-    ensures { result ≡ accepting k count used }
-{
-    Answer {
-        verdict: RowVerdict::Sort(k),
-        count,
-        used,
-    }
-}
-
-// The refusal for this cause, over a store that is as it was.
-pub fn refuse(c: Cause, count: usize, used: usize) -> Answer
-    ensures { result ≡ refusing c count used }
-{
-    Answer {
-        verdict: RowVerdict::Refused(c),
-        count,
-        used,
+    match row {
+        Ok(k) => k as u32,
+        Err(cause) => u32::from(cause) * REFUSED as u32,
     }
 }
 
 // The sort of a record: found or added; Limit where its tree is over 4,096; Full where the store cannot hold it.
-pub fn make(
-    records: &mut [u8],
-    places: &mut [u32],
-    index: &mut [u16],
-    count: usize,
-    used: usize,
-    rec: &[u8],
-) -> Answer
-    requires { MakeAsks records.old places.old index.old count used rec.now }
-    ensures { AnswerIs records.old places.old count (sort (sort_of (store_of records.old places.old count) (fields_at rec.now 0))) records.new places.new index.new result }
+pub fn make(store: &mut Store<'_>, rec: &[u8]) -> Row
+    requires { MakeAsks store.old.records.now store.old.places.now store.old.index.now store.old.count store.old.used rec.now }
+    ensures same { Same store.old store.new }
+    ensures answer { Answered store.old (sort (sort_of (store_of store.old.records.now store.old.places.now store.old.count) (fields_at rec.now 0))) store.new result }
 {
-    let weight = tree_size(index, rec);
+    let weight = store.tree_size(rec);
     if LARGEST_TREE < weight {
-        return refuse(Cause::Limit, count, used);
+        return Err(Cause::Limit);
     }
-    let made = intern(records, places, index, count, used, rec, weight);
-    match made {
-        Interned::Is(k, n, u) => found(k, n, u),
-        Interned::NoRoom => refuse(Cause::Full, count, used),
-    }
+    Ok(store.intern(rec, weight)?)
+}
+
+// The byte that stands for a kind in a record.
+fn byte_of(kind: SortKind) -> u8
+    ensures { result ≡ sort_number kind }
+{
+    kind as u8
 }
 
 // The sort of a kind without name, number and parts, as Bool; or Full.
-pub fn leaf(
-    records: &mut [u8],
-    places: &mut [u32],
-    index: &mut [u16],
-    count: usize,
-    used: usize,
-    kind: u8,
-) -> Answer
-    requires { LeafAsks records.old places.old index.old count used kind }
-    ensures { AnswerIs records.old places.old count (sort (node kind 0 0 end)) records.new places.new index.new result }
+pub fn leaf(store: &mut Store<'_>, kind: SortKind) -> Row
+    requires { LeafAsks store.old.records.now store.old.places.now store.old.index.now store.old.count store.old.used (sort_number kind) }
+    ensures same { Same store.old store.new }
+    ensures answer { Answered store.old (sort (node (sort_number kind) 0 0 end)) store.new result }
 {
-    let rec = [MAP_KIND, kind];
-    make(records, places, index, count, used, &rec)
+    let rec = [MAP_KIND, byte_of(kind)];
+    make(store, &rec)
 }
 
 // The variable with this name; or Full.
-pub fn variable(
-    records: &mut [u8],
-    places: &mut [u32],
-    index: &mut [u16],
-    count: usize,
-    used: usize,
-    name: usize,
-) -> Answer
-    requires { VariableAsks records.old places.old index.old count used name }
-    ensures { AnswerIs records.old places.old count (sort (var name)) records.new places.new index.new result }
+pub fn variable(store: &mut Store<'_>, name: usize) -> Row
+    requires { VariableAsks store.old.records.now store.old.places.now store.old.index.now store.old.count store.old.used name }
+    ensures same { Same store.old store.new }
+    ensures answer { Answered store.old (sort (var name)) store.new result }
 {
-    let rec = [MAP_NAME, BYTE_VAR, (name % 256) as u8, (name / 256) as u8];
-    make(records, places, index, count, used, &rec)
+    let [low, high] = (name as u16).to_le_bytes();
+    make(store, &[MAP_NAME, SortKind::Var as u8, low, high])
 }
 
 // The vector of this width; Limit where it is over 65,535; or Full.
-pub fn bit_vector(
-    records: &mut [u8],
-    places: &mut [u32],
-    index: &mut [u16],
-    count: usize,
-    used: usize,
-    width: usize,
-) -> Answer
-    requires { Good records.old places.old index.old count used }
-    ensures { AnswerIs records.old places.old count (sort (bitvec width)) records.new places.new index.new result }
+pub fn bit_vector(store: &mut Store<'_>, width: usize) -> Row
+    ensures same { Same store.old store.new }
+    ensures answer { Answered store.old (sort (bitvec width)) store.new result }
 {
     if LARGEST_WIDTH < width {
-        return refuse(Cause::Limit, count, used);
+        return Err(Cause::Limit);
     }
-    let rec = [
-        MAP_NUMBER,
-        BYTE_BIT_VEC,
-        (width % 256) as u8,
-        (width / 256) as u8,
-        0,
-        0,
-    ];
-    make(records, places, index, count, used, &rec)
+    let [low, high] = (width as u16).to_le_bytes();
+    make(
+        store,
+        &[MAP_NUMBER, SortKind::BitVec as u8, low, high, 0, 0],
+    )
 }

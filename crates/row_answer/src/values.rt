@@ -1,24 +1,19 @@
 // Which arguments are values.
 ghost use Rattle.row_answer.specs.Values.{ValuesAsk, ValuesHave};
 
-use record::kinds::SORT_PAR;
-use record::u16_at;
-use store::entries::kind_at;
+use record::kinds::SortKind;
+use record::span::Span;
+use store::entries::Entries;
 
-// Whether none of the `count` sorts whose numbers stand in `list` from `at` on is a Par.
-pub fn all_values(records: &[u8], places: &[u32], list: &[u8], at: usize, count: usize) -> bool
-    requires { ValuesAsk records.now places.now list.now at count }
-    ensures { ValuesHave records.now places.now list.now at count result }
+// Whether none of the sorts whose numbers stand in `bytes` at `list` is a Par.
+pub fn all_values(entries: Entries<'_>, bytes: &[u8], list: Span) -> bool
+    requires { ValuesAsk entries.records.now entries.places.now bytes.now list.at list.count }
+    ensures { ValuesHave entries.entry.records.now entries.entry.places.now bytes.now list.at list.count result }
 {
-    let mut next = at;
-    let mut left = count;
-    while 0 < left {
-        let k = u16_at(list, next);
-        if kind_at(records, places, k) == SORT_PAR {
+    for k in list.numbers(bytes) {
+        if entries.kind(k) == SortKind::Par {
             return false;
         }
-        next += 2;
-        left -= 1;
     }
     true
 }

@@ -5,7 +5,7 @@ use mathlib.Core.List.{List}
 use Rattle.store.specs.Good.{Good}
 use Rattle.row_rules.specs.declared.Cause.{Cause}
 use Rattle.row_rules.specs.Verdict.{Verdict, refused}
-use Rattle.row_answer.specs.declared.Answer.{Answer}
+use Rattle.row_answer.specs.Answer.{Answer}
 use Rattle.row_answer.specs.Answer.{refusing}
 use Rattle.row_answer.specs.AnswerLaws.{judged-as, answered-as, made-refused}
 use Rattle.row_application.specs.Contract.{AppIs}

@@ -13,8 +13,8 @@ use Rattle.record.specs.Sort.{Sorts}
 use Rattle.record.specs.Decode.{store_of}
 use Rattle.substitution.specs.Substitution.{Map, empty, apply}
 use Rattle.substitution.specs.Matching.{matches_all, listed_in}
-use Rattle.matching_tables.specs.declared.Matched.{Matched}
-use Rattle.matching_tables.specs.declared.Matched.TheVariants.{Fits, Misfits}
+use Rattle.matching_tables.specs.Matched.{Matched, Fits, Misfits, found}
+use Rattle.matching_tables.specs.MapLaws.{found-fits, found-misfits}
 use Rattle.matching_tables.specs.Tables.{Told, listed, Lists, Added, table_map}
 use Rattle.matching_tables.specs.TableLaws.{listed-is, added-back, cleared-mapped, cleared-map, cleared-images, cleared-bound}
 use Rattle.matching_tables.specs.Usable.{sorts_at}
@@ -25,16 +25,17 @@ use Rattle.row_rules.specs.declared.Cause.TheVariants.{Count, Misfit, Unassigned
 use Rattle.row_rules.specs.Verdict.{Verdict, sort, refused, need}
 use Rattle.row_rules.specs.Lists.{firsts, others, remaining}
 use Rattle.check_rules.specs.Checked.{values, delivered, called}
-use Rattle.row_answer.specs.declared.Answer.{Answer}
+use Rattle.row_answer.specs.Answer.{Answer}
 use Rattle.row_answer.specs.declared.heads.Callee.{Callee}
 use Rattle.row_answer.specs.Answer.{refusing}
 use Rattle.row_answer.specs.AnswerLaws.{judged-as}
 use Rattle.row_answer.specs.Heads.{callee_names, callee_sorts}
 use Rattle.row_answer.specs.Values.{ValuesAsk, ValuesHave}
 use Rattle.row_instance.specs.Mapped.{mapped-images}
-use Rattle.row_application.specs.declared.delivered.Call.{Call}
-use Rattle.row_application.specs.declared.delivered.Call.TheVariants.{Settled, Fails}
-use Rattle.row_application.specs.Contract.{AppIs, SettledAllAsks, SettledAllIs, AppFitAsks, AppFitIs, FittedAsks, FittedIs, CallIs, rest_at, delivered_at, CalledAsks, DeliverAsks, DeliverIs, NoNames, PlainAppAsks, PlainAppIs}
+use Rattle.row_application.specs.Contract.{Call, Settled, Fails, AppIs, SettledAllAsks, SettledAllIs, AppFitAsks, AppFitIs, FittedAsks, FittedIs, CallIs, rest_at, delivered_at, CalledAsks, DeliverAsks, DeliverIs, NoNames, PlainAppAsks, PlainAppIs}
+use Rattle.std.specs.Prelude.{Result, ⊤}
+use Rattle.row_rules.specs.declared.Cause.{Cause}
+use Rattle.row_application.specs.Words.{call_in}
 use Rattle.row_application.proofs.AppLaws.{app-refused}
 use Rattle.row_application.proofs.ListLaws.{count_at, firsts_at, others-at, refs-part, refs-behind}
 use Rattle.row_application.proofs.SettledLaws.{settled-remaining}
@@ -135,16 +136,47 @@ module _ {b p : List ℕ} {n : ℕ} {prm imgs bnd : List ℕ} {x m : ℕ} {a : L
           verdict = λ f q. ap (delivered f (rest_at b p n x m k)) (sym (found_as (Misfits c) e f q).result);
         }
 
+---------------------------------------------------------------- the same, over what is known of the spans
+module _ {b p : List ℕ} {n : ℕ} {prm imgs bnd : List ℕ} {x m : ℕ} {a : List ℕ} {k : ℕ} (h : AppFitAsks b p n prm imgs bnd x m a k) {z y j : ℕ} (ez : z ≡ 0) (ey : y ≡ 5) (ej : j ≡ k)
+    {l d : List ℕ} (q : ℕ) (t : Bool) (w : MatchAllIs b p n prm imgs bnd z b x a y j l d (found q t)) where
+  match-is : MatchAllIs b p n prm imgs bnd 0 b x a 5 k l d (found q t)
+  match-is =
+      subst (λ (i : ℕ). MatchAllIs b p n prm imgs bnd i b x a 5 k l d (found q t)) ez
+      (subst (λ (i : ℕ). MatchAllIs b p n prm imgs bnd z b x a i k l d (found q t)) ey
+      (subst (λ (i : ℕ). MatchAllIs b p n prm imgs bnd z b x a y i l d (found q t)) ej w))
+
+  pub fit-misfits : t ≡ false → AppFitIs b p n prm x m a k l d (Fails Misfit q)
+  fit-misfits e = fit-fails h l d (found q t) match-is q (found-misfits q e)
+
+  module _ (e : t ≡ true) {prm' : List ℕ} (ep : prm' ≡ prm) {x' m' : ℕ} (ex : x' ≡ x + 2 * k) (em : m' ≡ m - k) where
+    pub settled-asked : SettledAllAsks b p n prm' l x' m'
+    settled-asked =
+        subst (λ (r : List ℕ). SettledAllAsks b p n r l x' m') (sym ep)
+        (subst (λ (i : ℕ). SettledAllAsks b p n prm l i m') (sym ex)
+        (subst (λ (i : ℕ). SettledAllAsks b p n prm l (x + 2 * k) i) (sym em) (settled-asks h l d (found q t) match-is q (found-fits q e))))
+
+    module _ {r : Bool} (g : SettledAllIs b p n prm' l x' m' r) where
+      settled-is : SettledAllIs b p n prm l (x + 2 * k) (m - k) r
+      settled-is =
+          subst (λ (s : List ℕ). SettledAllIs b p n s l (x + 2 * k) (m - k) r) ep
+          (subst (λ (i : ℕ). SettledAllIs b p n prm' l i (m - k) r) ex (subst (λ (i : ℕ). SettledAllIs b p n prm' l x' i r) em g))
+
+      pub fit-open : r ≡ false → AppFitIs b p n prm x m a k l d (Fails Unassigned q)
+      fit-open o = fit-unsettled h l d (found q t) match-is q (found-fits q e) r settled-is o
+
+      pub fit-done : r ≡ true → AppFitIs b p n prm x m a k l d (Settled q)
+      fit-done o = fit-settled h l d (found q t) match-is q (found-fits q e) r settled-is o
+
 ---------------------------------------------------------------- listing the names and taking them off
 module _ {b p : List ℕ} {n : ℕ} {prm imgs bnd : List ℕ} {f : Callee} {a : List ℕ} {k : ℕ} (h : FittedAsks b p n prm imgs bnd f a k) where
   abbrev vs : List ℕ
   vs = callee_names b f
 
-  pub fitted-add : AddAsks prm b f.names f.named
-  fitted-add = add-asks prm h.fit.table h.zeros b f.names f.named h.names h.named
+  pub fitted-add : AddAsks prm b f.names.at f.names.count
+  fitted-add = add-asks prm h.fit.table h.zeros b f.names.at f.names.count h.names h.named
 
   module _ {o : List ℕ} (t : Added prm vs o) where
-    pub fit-asks : AppFitAsks b p n o imgs bnd f.list f.count a k
+    pub fit-asks : AppFitAsks b p n o imgs bnd f.list.at f.list.count a k
     fit-asks =
         record {
           usable = h.fit.usable;
@@ -155,19 +187,34 @@ module _ {b p : List ℕ} {n : ℕ} {prm imgs bnd : List ℕ} {f : Callee} {a : 
           fewer = h.fit.fewer;
         }
 
-    pub fitted-take : TakeAsks o b f.names f.named
-    fitted-take = take-asks prm h.fit.table h.zeros b f.names f.named h.names h.named t
+    pub fitted-take : TakeAsks o b f.names.at f.names.count
+    fitted-take = take-asks prm h.fit.table h.zeros b f.names.at f.names.count h.names h.named t
 
     pub fitted-lists : Lists o vs
-    fitted-lists = listed-names prm h.fit.table h.zeros b f.names f.named h.names h.named t
+    fitted-lists = listed-names prm h.fit.table h.zeros b f.names.at f.names.count h.names h.named t
 
-    pub fitted-is : {l d : List ℕ} {r : Call} → AppFitIs b p n o f.list f.count a k l d r → {prm' : List ℕ} → Added prm' vs o
+    pub fitted-is : {l d : List ℕ} {r : Call} → AppFitIs b p n o f.list.at f.list.count a k l d r → {prm' : List ℕ} → Added prm' vs o
         → FittedIs b p n prm f a k prm' l d r
     fitted-is w {prm'} z =
         record {
           call = record { params = added-back prm vs o prm' t z; mapped = w.mapped; verdict = w.verdict (listed_in vs) (listed-is o vs fitted-lists) };
           found = w.found (listed_in vs) (listed-is o vs fitted-lists);
         }
+
+-- The same tables, the same call.
+pub call-moved : {v : Verdict} {b p : List ℕ} {n : ℕ} {prm : List ℕ} {f : Callee} {k : ℕ} {prm' l d : List ℕ} {q : ℕ} (r : Result ⊤ Cause) → CallIs v b p n prm f k prm' l d (call_in q r)
+    → {l' d' : List ℕ} {q' : ℕ} → l' ≡ l → d' ≡ d → q' ≡ q → CallIs v b p n prm f k prm' l' d' (call_in q' r)
+call-moved {v} {b} {p} {n} {prm} {f} {k} {prm'} {l} {d} {q} r h {l'} {d'} {q'} el ed eq =
+    subst (λ (x : List ℕ). CallIs v b p n prm f k prm' x d' (call_in q' r)) (sym el)
+    (subst (λ (x : List ℕ). CallIs v b p n prm f k prm' l x (call_in q' r)) (sym ed)
+    (subst (λ (i : ℕ). CallIs v b p n prm f k prm' l d (call_in i r)) (sym eq) h))
+
+pub fitted-moved : {b p : List ℕ} {n : ℕ} {prm : List ℕ} {f : Callee} {a : List ℕ} {k : ℕ} {prm' l d : List ℕ} {q : ℕ} (r : Result ⊤ Cause) → FittedIs b p n prm f a k prm' l d (call_in q r)
+    → {l' d' : List ℕ} {q' : ℕ} → l' ≡ l → d' ≡ d → q' ≡ q → FittedIs b p n prm f a k prm' l' d' (call_in q' r)
+fitted-moved {b} {p} {n} {prm} {f} {a} {k} {prm'} {l} {d} {q} r h {l'} {d'} {q'} el ed eq =
+    subst (λ (x : List ℕ). FittedIs b p n prm f a k prm' x d' (call_in q' r)) (sym el)
+    (subst (λ (x : List ℕ). FittedIs b p n prm f a k prm' l x (call_in q' r)) (sym ed)
+    (subst (λ (i : ℕ). FittedIs b p n prm f a k prm' l d (call_in i r)) (sym eq) h))
 
 ---------------------------------------------------------------- a head at its arguments
 module _ {b p ix : List ℕ} {n u : ℕ} {prm imgs bnd : List ℕ} {f : Callee} {a : List ℕ} {k : ℕ} (h : CalledAsks b p ix n u prm imgs bnd f a k) where
@@ -180,11 +227,11 @@ module _ {b p ix : List ℕ} {n u : ℕ} {prm imgs bnd : List ℕ} {f : Callee} 
   abbrev verdict_of : Verdict
   verdict_of = called names (some (callee_sorts b p n f)) (sorts_at b p n a 5 k)
 
-  pub called-count : f.count ≤ k → {r : Answer} → r ≡ refusing Count n u → AppIs verdict_of b p n prm imgs bnd b p ix prm imgs bnd r
-  called-count l = app-refused h.good Count (called-over b p n f.list f.count a k names l)
+  pub called-count : f.list.count ≤ k → {r : Answer} → r ≡ refusing Count n u → AppIs verdict_of b p n prm imgs bnd b p ix prm imgs bnd r
+  called-count l = app-refused h.good Count (called-over b p n f.list.at f.list.count a k names l)
 
   -- With parameters, at no more arguments than the list has sorts.
-  module _ (l : k ≤ f.count) (q : f.named ≡ 0 → ⊥) where
+  module _ (l : k ≤ f.list.count) (q : f.names.count ≡ 0 → ⊥) where
     pub fitted-asks : FittedAsks b p n prm imgs bnd f a k
     fitted-asks =
         let blank = h.blank q in
@@ -219,30 +266,30 @@ module _ {b p ix : List ℕ} {n u : ℕ} {prm imgs bnd : List ℕ} {f : Callee} 
             bound = cleared-bound imgs bnd l'' d'' blank.cleared i.cleared;
           }
 
-  module _ (l : k < f.count) where
+  module _ (l : k < f.list.count) where
     -- Without parameters.
-    pub plain-asks : PlainAppAsks b p ix n u f.list f.count a k
+    pub plain-asks : PlainAppAsks b p ix n u f.list.at f.list.count a k
     plain-asks = record { good = h.good; list = h.list; few = h.few; args = h.args; fewer = l }
 
-    plain-names : (i : ℕ) → i ≡ 0 → NoNames (listed_in (numbers_at b f.names i))
+    plain-names : (i : ℕ) → i ≡ 0 → NoNames (listed_in (numbers_at b f.names.at i))
     unfolding numbers_at member
     plain-names zero e v = refl
     plain-names (suc i) e v = absurd (omega arith)
 
-    pub called-plain : f.named ≡ 0 → {b' p' ix' : List ℕ} {r : Answer} → PlainAppIs b p n f.list f.count a k b' p' ix' r
+    pub called-plain : f.names.count ≡ 0 → {b' p' ix' : List ℕ} {r : Answer} → PlainAppIs b p n f.list.at f.list.count a k b' p' ix' r
         → AppIs verdict_of b p n prm imgs bnd b' p' ix' prm imgs bnd r
-    called-plain e g = record { answer = g names (plain-names f.named e); params = refl; images = refl; bound = refl }
+    called-plain e g = record { answer = g names (plain-names f.names.count e); params = refl; images = refl; bound = refl }
 
     -- With parameters, by whether an argument is a Par.
     module _ {t : Bool} (v : ValuesHave b p a 5 k t) where
-      by_values : verdict_of ≡ need t Misfit (delivered_at names b p n f.list f.count a k)
+      by_values : verdict_of ≡ need t Misfit (delivered_at names b p n f.list.at f.list.count a k)
       by_values =
-          called-under b p n f.list f.count a k names l
-          ∙ ap (λ (z : Bool). need z Misfit (delivered_at names b p n f.list f.count a k)) (sym (v n h.good.stored h.args))
+          called-under b p n f.list.at f.list.count a k names l
+          ∙ ap (λ (z : Bool). need z Misfit (delivered_at names b p n f.list.at f.list.count a k)) (sym (v n h.good.stored h.args))
 
       pub called-misfit : t ≡ false → {r : Answer} → r ≡ refusing Misfit n u → AppIs verdict_of b p n prm imgs bnd b p ix prm imgs bnd r
       called-misfit e =
-          app-refused h.good Misfit (by_values ∙ ap (λ (z : Bool). need z Misfit (delivered_at names b p n f.list f.count a k)) e)
+          app-refused h.good Misfit (by_values ∙ ap (λ (z : Bool). need z Misfit (delivered_at names b p n f.list.at f.list.count a k)) e)
 
-      pub called-values : t ≡ true → verdict_of ≡ delivered_at names b p n f.list f.count a k
-      called-values e = by_values ∙ ap (λ (z : Bool). need z Misfit (delivered_at names b p n f.list f.count a k)) e
+      pub called-values : t ≡ true → verdict_of ≡ delivered_at names b p n f.list.at f.list.count a k
+      called-values e = by_values ∙ ap (λ (z : Bool). need z Misfit (delivered_at names b p n f.list.at f.list.count a k)) e

@@ -1,27 +1,27 @@
 -- What remains of a head's Function at a call: what it asks, and the answer by whether the arguments fit.
 use Prim.Native.Nat.{ℕ, ◌+◌, ◌*◌, ◌-◌}
-use mathlib.Core.Path.{◌≡◌, ap, subst}
+use mathlib.Core.Path.{◌≡◌, refl, sym, ap, subst}
+use Rattle.std.specs.Prelude.{Result, Ok, Err, ⊤}
 use mathlib.Core.List.{List}
 use native.Mathlib.Omega.{arith}
 use Rattle.record.specs.Decode.{store_of}
-use Rattle.matching_tables.specs.Tables.{table_map, Mapped, Cleared}
+use Rattle.matching_tables.specs.Tables.{table_map, Tabled, Mapped}
 use Rattle.row_rules.specs.declared.Cause.{Cause}
-use Rattle.row_answer.specs.declared.Answer.{Answer}
+use Rattle.row_answer.specs.Answer.{Answer}
 use Rattle.row_answer.specs.declared.heads.Callee.{Callee}
-use Rattle.row_answer.specs.Answer.{refusing}
-use Rattle.row_answer.specs.AnswerLaws.{judged-as, answered-as, made-refused}
+use Rattle.row_answer.specs.Answer.{AnswerIs, refusing}
+use Rattle.row_answer.specs.AnswerLaws.{judged-as, made-refused}
 use Rattle.row_instance.specs.Rest.{RestAsks, RestIs}
 use Rattle.row_instance.specs.Mapped.{mapped-images}
-use Rattle.row_application.specs.declared.delivered.Call.{Call}
-use Rattle.row_application.specs.declared.delivered.Call.TheVariants.{Settled, Fails}
-use Rattle.row_application.specs.Contract.{rest_at, bound_in, call_of, DeliverAsks, DeliverIs}
+use Rattle.row_application.specs.Contract.{Call, Settled, Fails, rest_at, bound_in, call_of, DeliverAsks}
+use Rattle.row_application.specs.Words.{call_in}
 use Rattle.row_application.proofs.ListLaws.{refs-behind}
 
 module _ {b p ix : List ℕ} {n u : ℕ} {l d : List ℕ} {f : Callee} {k : ℕ} {c : Call} (h : DeliverAsks b p ix n u l d f k c) where
   pub bound_by : (e : Call) → c ≡ e → Mapped b p n l d (bound_in e)
   bound_by e g = subst (λ (z : Call). Mapped b p n l d (bound_in z)) g h.mapped
 
-  pub rest-asks : RestAsks b p ix n u l (f.list + 2 * k) (f.count - k)
+  pub rest-asks : RestAsks b p ix n u l (f.list.at + 2 * k) (f.list.count - k)
   rest-asks =
       let r = refs-behind k h.list h.fewer in
       record {
@@ -31,22 +31,25 @@ module _ {b p ix : List ℕ} {n u : ℕ} {l d : List ℕ} {f : Callee} {k : ℕ}
         few = omega (arith, h.few);
       }
 
-  module _ {l' d' : List ℕ} (z : Cleared l' d') where
-    pub deliver-made : (j : ℕ) → c ≡ Settled j → {b' p' ix' : List ℕ} {r : Answer} → RestIs b p n l (f.list + 2 * k) (f.count - k) b' p' ix' r
-        → DeliverIs b p n l d f k c b' p' ix' l' d' r
-    deliver-made j e g =
-        record {
-          answer =
-              judged-as (ap (call_of (store_of b p n) l d (rest_at b p n f.list f.count k)) e)
-              (g (table_map (store_of b p n) l d j) (mapped-images b p n l d j (bound_by (Settled j) e)));
-          cleared = z;
-        }
+  pub rest-asked : {y j : ℕ} → y ≡ f.list.at + 2 * k → j ≡ f.list.count - k → RestAsks b p ix n u l y j
+  rest-asked {y} {j} ey ej =
+      subst (λ (i : ℕ). RestAsks b p ix n u l i j) (sym ey) (subst (λ (i : ℕ). RestAsks b p ix n u l (f.list.at + 2 * k) i) (sym ej) rest-asks)
 
-    pub deliver-fails : (o : Cause) (j : ℕ) → c ≡ Fails o j → {r : Answer} → r ≡ refusing o n u → DeliverIs b p n l d f k c b p ix l' d' r
-    deliver-fails o j e g =
-        record {
-          answer =
-              judged-as (ap (call_of (store_of b p n) l d (rest_at b p n f.list f.count k)) e)
-              (answered-as g (made-refused b p ix n u h.good o));
-          cleared = z;
-        }
+  pub rest-answer : {y j : ℕ} → y ≡ f.list.at + 2 * k → j ≡ f.list.count - k → (q : ℕ) → c ≡ Settled q → {b' p' ix' : List ℕ} {r : Answer} → RestIs b p n l y j b' p' ix' r
+      → AnswerIs b p n (call_of (store_of b p n) l d (rest_at b p n f.list.at f.list.count k) c) b' p' ix' r
+  rest-answer {y} {j} ey ej q e {b'} {p'} {ix'} {r} g =
+      let g' : RestIs b p n l (f.list.at + 2 * k) (f.list.count - k) b' p' ix' r =
+      subst (λ (i : ℕ). RestIs b p n l i (f.list.count - k) b' p' ix' r) ey (subst (λ (i : ℕ). RestIs b p n l y i b' p' ix' r) ej g) in
+      judged-as (ap (call_of (store_of b p n) l d (rest_at b p n f.list.at f.list.count k)) e)
+      (g' (table_map (store_of b p n) l d q) (mapped-images b p n l d q (bound_by (Settled q) e)))
+
+  pub fails-answer : (o : Cause) (q : ℕ) → c ≡ Fails o q → AnswerIs b p n (call_of (store_of b p n) l d (rest_at b p n f.list.at f.list.count k) c) b p ix (refusing o n u)
+  fails-answer o q e = judged-as (ap (call_of (store_of b p n) l d (rest_at b p n f.list.at f.list.count k)) e) (made-refused b p ix n u h.good o)
+
+-- As many names are bound as the table has.
+pub call-bound : (m : ℕ) (r : Result ⊤ Cause) → bound_in (call_in m r) ≡ m
+call-bound m (Ok u) = refl
+call-bound m (Err c) = refl
+
+pub call-tabled : {b p ix : List ℕ} {n u : ℕ} {l d : List ℕ} {f : Callee} {k m : ℕ} (r : Result ⊤ Cause) → DeliverAsks b p ix n u l d f k (call_in m r) → Tabled l d m
+call-tabled {l = l} {d = d} {m = m} r h = subst (Tabled l d) (call-bound m r) h.mapped.tabled

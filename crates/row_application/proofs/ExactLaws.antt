@@ -3,6 +3,7 @@ use Prim.Native.Nat.{ℕ, zero, suc, ◌+◌, ◌*◌, ◌-◌, ◌≤◌, ◌<�
 use mathlib.Core.Path.{◌≡◌, refl, sym, ap, ap₂, subst, ◌∙◌}
 use mathlib.Core.Bool.{Bool, true, false, ◌&&◌}
 use mathlib.Core.List.{List, [], ◌∷◌}
+use Rattle.std.proofs.Common.{◌⊎◌, inl, inr}
 use mathlib.Core.Option.{Option, none, some}
 use native.Mathlib.Omega.{arith}
 use native.Mathlib.Nat.{not-suc-le-zero}
@@ -21,13 +22,13 @@ use Rattle.substitution.specs.Substitution.{Map, empty}
 use Rattle.substitution.proofs.SubstitutionLaws.{apply-empty}
 use Rattle.substitution.specs.Premises.{parless, any_name, named, named_all}
 use Rattle.substitution.specs.Matching.{and_then, matches, matches_all}
-use Rattle.matching_tables.specs.Usable.{sorts_at, PairsAsk}
-use Rattle.matching_tables.specs.Entered.{good-usable, refs-first, refs-rest, sorts-end, sorts-more}
+use Rattle.matching_tables.specs.Usable.{Usable, Refs, sorts_at}
+use Rattle.matching_tables.specs.Entered.{good-usable}
 use Rattle.row_rules.specs.declared.Cause.TheVariants.{Misfit, Unassigned}
 use Rattle.row_rules.specs.Verdict.{Verdict, sort, refused, need}
 use Rattle.row_rules.specs.Lists.{remaining}
 use Rattle.check_rules.specs.Checked.{values, delivered, called}
-use Rattle.row_answer.specs.declared.Answer.{Answer}
+use Rattle.row_answer.specs.Answer.{Answer}
 use Rattle.row_answer.specs.Answer.{AnswerIs, refusing}
 use Rattle.row_answer.specs.AnswerLaws.{judged-as, answered-as, made-refused}
 use Rattle.row_answer.specs.Asks.{RemainingAsks}
@@ -49,58 +50,76 @@ pub leaf-parless : {b p ix : List ℕ} {n k : ℕ} → ParlessAsks b p ix n k �
 leaf-parless {b} {p} {ix} {n} {k} a h e = small-parless (sort_at b p n k) (sym (h b p n a.sized a.one.known) ∙ e)
 
 ---------------------------------------------------------------- the arguments, one after another
--- What is left decides the whole.
-pub record ExactScan (b p : List ℕ) (n x : ℕ) (a : List ℕ) (k y w j : ℕ) : Type 0 where
-  pub pairs : PairsAsk b p n b y a w j
+-- What is left, the numbers xs and ys, decides the whole.
+pub record ExactRun (b p : List ℕ) (n x : ℕ) (a : List ℕ) (k : ℕ) (xs ys : List ℕ) : Type 0 where
+  pub usable : Usable b p n
+  pub even : length xs ≡ length ys
+  pub sorts : (j : ℕ) → j < length xs → get_or xs j 0 < n
+  pub arguments : (j : ℕ) → j < length ys → get_or ys j 0 < n
   pub rest : (f : ℕ → Bool) → NoNames f
-      → matches_all f (sorts_at b p n b y j) (sorts_at b p n a w j) empty ≡ matches_all f (sorts_at b p n b x k) (sorts_at b p n a 5 k) empty
+      → matches_all f (sorts_of (store_of b p n) xs) (sorts_of (store_of b p n) ys) empty ≡ matches_all f (sorts_at b p n b x k) (sorts_at b p n a 5 k) empty
 
-pub exact-start : {b p ix : List ℕ} {n x : ℕ} {a : List ℕ} {k : ℕ} → ExactAsks b p ix n x a k → ExactScan b p n x a k x 5 k
-exact-start {b} {p} {ix} {n} {x} {a} {k} h = record { pairs = h.pairs; rest = λ f q. refl }
+no_numbers : (xs : List ℕ) → length xs ≡ 0 → xs ≡ []
+no_numbers [] e = refl
+no_numbers (v ∷ xs) e = absurd (omega arith)
 
-module _ {b p : List ℕ} {n x : ℕ} {a : List ℕ} {k y w j : ℕ} (h : ExactScan b p n x a k y w j) where
-  pub exact-end : j ≤ 0 → ExactIs b p n x a k true
-  unfolding matches
-  exact-end l f q =
-      let z : j ≡ 0 = omega arith in
-      sym (h.rest f q) ∙ ap₂ (λ (ss ts : Sorts). matches_all f ss ts empty) (sorts-end b p n b y j z) (sorts-end b p n a w j z)
+refs-all : (b : List ℕ) (x k n : ℕ) → Refs b x k n → (j : ℕ) → j < length (numbers_at b x k) → get_or (numbers_at b x k) j 0 < n
+refs-all b x k n r j l =
+    let o : j < k = omega (arith, length-numbers_at b x k) in
+    omega (arith, number_at b x k j o, r.below j o)
 
-  module _ (more : 0 < j) {i o : ℕ} (e : i ≡ u16_at b y) (g : o ≡ u16_at a w) where
+pub exact-start : {b p ix : List ℕ} {n x : ℕ} {a : List ℕ} {k : ℕ} → ExactAsks b p ix n x a k → ExactRun b p n x a k (numbers_at b x k) (numbers_at a 5 k)
+exact-start {b} {p} {ix} {n} {x} {a} {k} h =
+    record {
+      usable = h.pairs.usable;
+      even = length-numbers_at b x k ∙ sym (length-numbers_at a 5 k);
+      sorts = refs-all b x k n h.pairs.left;
+      arguments = refs-all a 5 k n h.pairs.right;
+      rest = λ f q. refl;
+    }
+
+module _ {b p : List ℕ} {n x : ℕ} {a : List ℕ} {k : ℕ} {xs ys : List ℕ} (h : ExactRun b p n x a k xs ys) where
+  exact-ended : (xs ≡ []) → (ys ≡ []) → ExactIs b p n x a k true
+  unfolding matches sorts_of
+  exact-ended ex ey f q = sym (h.rest f q) ∙ ap₂ (λ (r s : List ℕ). matches_all f (sorts_of (store_of b p n) r) (sorts_of (store_of b p n) s) empty) ex ey
+
+  pub exact-end : (xs ≡ []) ⊎ (ys ≡ []) → ExactIs b p n x a k true
+  exact-end (inl e) = exact-ended e (no_numbers ys (sym h.even ∙ ap length e))
+  exact-end (inr e) = exact-ended (no_numbers xs (h.even ∙ ap length e)) e
+
+  module _ {i o : ℕ} {xs' ys' : List ℕ} (e : xs ≡ i ∷ xs') (g : ys ≡ o ∷ ys') where
     pub known-first : i < n
-    known-first = subst (◌< n) (sym e) (refs-first b y j n more h.pairs.left)
+    known-first = let z = h.sorts 0 (omega (arith, ap length e)) in omega (arith, z, ap (λ (r : List ℕ). get_or r 0 0) e)
 
     known-second : o < n
-    known-second = subst (◌< n) (sym g) (refs-first a w j n more h.pairs.right)
+    known-second = let z = h.arguments 0 (omega (arith, ap length g)) in omega (arith, z, ap (λ (r : List ℕ). get_or r 0 0) g)
 
     -- By what the first argument gives.
     by_first : (f : ℕ → Bool) → NoNames f → (v : Option Map) → matches f (sort_at b p n i) (sort_at b p n o) empty ≡ v
-        → and_then v (λ m. matches_all f (sorts_at b p n b (y + 2) (j - 1)) (sorts_at b p n a (w + 2) (j - 1)) m)
+        → and_then v (λ m. matches_all f (sorts_of (store_of b p n) xs') (sorts_of (store_of b p n) ys') m)
         ≡ matches_all f (sorts_at b p n b x k) (sorts_at b p n a 5 k) empty
-    unfolding matches
+    unfolding matches sorts_of sort_at
     by_first f q v c =
-        ap (λ (u : Option Map). and_then u (λ m. matches_all f (sorts_at b p n b (y + 2) (j - 1)) (sorts_at b p n a (w + 2) (j - 1)) m)) (sym c)
-        ∙ ap₂ (λ (s t : ℕ). matches_all f (sort_at b p n s then sorts_at b p n b (y + 2) (j - 1)) (sort_at b p n t then sorts_at b p n a (w + 2) (j - 1)) empty) e g
-        ∙ ap₂ (λ (ss ts : Sorts). matches_all f ss ts empty) (sym (sorts-more b p n b y j more)) (sym (sorts-more b p n a w j more))
+        ap (λ (u : Option Map). and_then u (λ m. matches_all f (sorts_of (store_of b p n) xs') (sorts_of (store_of b p n) ys') m)) (sym c)
+        ∙ ap₂ (λ (r s : List ℕ). matches_all f (sorts_of (store_of b p n) r) (sorts_of (store_of b p n) s) empty) (sym e) (sym g)
         ∙ h.rest f q
 
     pub exact-differ : (i ≡ o → ⊥) → ExactIs b p n x a k false
     exact-differ d f q =
         sym (by_first f q none (fits-other f q (sort_at b p n i) (sort_at b p n o)
-        (λ z. d (sorts-one b p n h.pairs.usable.stored h.pairs.usable.distinct i o known-first known-second z))))
+        (λ z. d (sorts-one b p n h.usable.stored h.usable.distinct i o known-first known-second z))))
 
     module _ {s : Bool} (t : s ≡ parless (sort_at b p n i)) where
       pub exact-par : s ≡ false → ExactIs b p n x a k false
       exact-par z f q = sym (by_first f q none (fits-par f q (sort_at b p n i) (sort_at b p n o) (sym t ∙ z)))
 
-      pub exact-step : i ≡ o → s ≡ true → ExactScan b p n x a k (y + 2) (w + 2) (j - 1)
+      pub exact-step : i ≡ o → s ≡ true → ExactRun b p n x a k xs' ys'
       exact-step d z =
           record {
-            pairs =
-                record {
-                  usable = h.pairs.usable;
-                  left = refs-rest b y j n more h.pairs.left;
-                  right = refs-rest a w j n more h.pairs.right;
-                };
+            usable = h.usable;
+            even = omega (arith, h.even, ap length e, ap length g);
+            sorts = λ j l. let y = h.sorts (suc j) (omega (arith, ap length e)) in omega (arith, y, ap (λ (r : List ℕ). get_or r (suc j) 0) e);
+            arguments = λ j l. let y = h.arguments (suc j) (omega (arith, ap length g)) in omega (arith, y, ap (λ (r : List ℕ). get_or r (suc j) 0) g);
             rest = λ f q.
                 by_first f q (some empty)
                 (ap (λ (c : ℕ). matches f (sort_at b p n i) (sort_at b p n c) empty) (sym d) ∙ fits-itself f q (sort_at b p n i) (sym t ∙ z));

@@ -24,8 +24,7 @@ use Rattle.row_rules.specs.Outcome.{outcome}
 use Rattle.infer_rules.specs.Inferred.{substituted, plain_app, parametric_app, head_app, inferred_app}
 use Rattle.check_rules.specs.Checked.{parameters, function_list, called, checked_app}
 use Rattle.row_answer.specs.declared.heads.Callee.{Callee}
-use Rattle.row_answer.specs.declared.heads.Head.{Head}
-use Rattle.row_answer.specs.declared.heads.Head.TheVariants.{Function, NoFunction}
+use Rattle.std.specs.Prelude.{Option, Some, None}
 use Rattle.row_answer.specs.Heads.{Headed, plain_head, par_head, other, head_in, head_over, callee_names, callee_sorts, HeadAsks, FunctionIs, HeadIs, HeadHas}
 use Rattle.row_answer.specs.Asks.{RemainingAsks}
 use Rattle.row_answer.specs.Lent.{lent-under}
@@ -157,37 +156,37 @@ module _ {b p ix : List ℕ} {n u : ℕ} {prm imgs bnd a : List ℕ} {m : ℕ} (
         ap checked_app (sorts-head ∙ ap (sort_at b p n i then◌) next)
         ∙ ap (called (λ v. parameters (sort_at b p n i) v) (function_list (sort_at b p n i))) (sym next) ∙ called-head (sort_at b p n i) ts
 
-    module _ (r : Head) (w : HeadHas b p i r) where
+    module _ (r : Option Callee) (w : HeadHas b p i r) where
       is : HeadIs b p n i r
       is = w n h.good.stored known
 
-      pub app-other : 2 ≤ m → r ≡ NoFunction → checked_app (sorts_at b p n a 3 m) ≡ refused Misfit
+      pub app-other : 2 ≤ m → r ≡ None → checked_app (sorts_at b p n a 3 m) ≡ refused Misfit
       app-other l g = by-called l ∙ ap (λ (z : Headed). called_of z ts) (subst (HeadIs b p n i) g is)
 
-      pub applied-other : r ≡ NoFunction → inferred_app (sorts_at b p n a 3 m) ≡ refused Panics
+      pub applied-other : r ≡ None → inferred_app (sorts_at b p n a 3 m) ≡ refused Panics
       applied-other g = by-applied ∙ ap (λ (z : Headed). applied_of z ts) (subst (HeadIs b p n i) g is)
 
-      module _ (f : Callee) (g : r ≡ Function f) where
+      module _ (f : Callee) (g : r ≡ Some f) where
         function : FunctionIs b p n i f
         function = subst (HeadIs b p n i) g is
 
         abbrev ss : Sorts
         ss = callee_sorts b p n f
 
-        refs : Refs b f.list f.count n
+        refs : Refs b f.list.at f.list.count n
         refs = record { within = function.list; below = λ j l. omega (arith, function.below j l, known) }
 
         -- A head with parameters is a Par of the store, so the tables have all names.
-        named_blank : (q : ℕ) → head_in (sort_at b p n i) ≡ head_over (numbers_at b f.names q) ss → (q ≡ 0 → ⊥) → Blank prm imgs bnd
+        named_blank : (q : ℕ) → head_in (sort_at b p n i) ≡ head_over (numbers_at b f.names.at q) ss → (q ≡ 0 → ⊥) → Blank prm imgs bnd
         unfolding numbers_at
         named_blank zero e d = absurd (d refl)
-        named_blank (suc q) e d = lent-under h.tables i (numbers_at b f.names (suc q)) ss e
+        named_blank (suc q) e d = lent-under h.tables i (numbers_at b f.names.at (suc q)) ss e
 
         pub called-asks : CalledAsks b p ix n u prm imgs bnd f a (m - 1)
         called-asks =
             record {
               good = h.good;
-              blank = named_blank f.named function.head;
+              blank = named_blank f.names.count function.head;
               list = refs;
               few = function.few;
               names = function.names;
@@ -199,27 +198,27 @@ module _ {b p ix : List ℕ} {n u : ℕ} {prm imgs bnd a : List ℕ} {m : ℕ} (
         app-called l = by-called l ∙ ap (λ (z : Headed). called_of z ts) function.head ∙ called-over (callee_names b f) ss ts
 
         -- More arguments than sorts, a plain head, a head under a Par.
-        counted : (v : Verdict) → need (leb (count ts) (count ss)) Panics v ≡ need (leb (m - 1) f.count) Panics v
+        counted : (v : Verdict) → need (leb (count ts) (count ss)) Panics v ≡ need (leb (m - 1) f.list.count) Panics v
         counted v =
-            ap₂ (λ (i j : ℕ). need (leb i j) Panics v) (count_at (store_of b p n) a 5 (m - 1)) (count_at (store_of b p n) b f.list f.count)
+            ap₂ (λ (i j : ℕ). need (leb i j) Panics v) (count_at (store_of b p n) a 5 (m - 1)) (count_at (store_of b p n) b f.list.at f.list.count)
 
         by-head : inferred_app (sorts_at b p n a 3 m) ≡ applied_of (head_over (callee_names b f) ss) ts
         by-head = by-applied ∙ ap (λ (z : Headed). applied_of z ts) function.head
 
-        over-many : (vs : List ℕ) → f.count < m - 1 → applied_of (head_over vs ss) ts ≡ refused Panics
+        over-many : (vs : List ℕ) → f.list.count < m - 1 → applied_of (head_over vs ss) ts ≡ refused Panics
         unfolding plain_app parametric_app
         over-many [] l =
             counted (sort (remaining (others ss ts)))
-            ∙ ap (λ (t : Bool). need t Panics (sort (remaining (others ss ts)))) (lt-leb (m - 1) f.count l)
+            ∙ ap (λ (t : Bool). need t Panics (sort (remaining (others ss ts)))) (lt-leb (m - 1) f.list.count l)
         over-many (v ∷ vs) l =
             let s = substituted (remaining (others ss ts)) (match_all_with (v ∷ vs) (firsts ss ts) ts empty) in
-            counted s ∙ ap (λ (t : Bool). need t Panics s) (lt-leb (m - 1) f.count l)
+            counted s ∙ ap (λ (t : Bool). need t Panics s) (lt-leb (m - 1) f.list.count l)
 
-        pub applied-many : f.count < m - 1 → inferred_app (sorts_at b p n a 3 m) ≡ refused Panics
+        pub applied-many : f.list.count < m - 1 → inferred_app (sorts_at b p n a 3 m) ≡ refused Panics
         applied-many l = by-head ∙ over-many (callee_names b f) l
 
-        module _ (l : m - 1 ≤ f.count) where
-          pub remaining-asks : RemainingAsks b p ix n u a (f.list + 2 * (m - 1)) (f.count - (m - 1))
+        module _ (l : m - 1 ≤ f.list.count) where
+          pub remaining-asks : RemainingAsks b p ix n u a (f.list.at + 2 * (m - 1)) (f.list.count - (m - 1))
           remaining-asks =
               let behind = refs-behind (m - 1) refs l in
               record {
@@ -230,14 +229,14 @@ module _ {b p ix : List ℕ} {n u : ℕ} {prm imgs bnd a : List ℕ} {m : ℕ} (
                 few = omega (arith, function.few);
               }
 
-          pub applied-rest : f.named ≡ 0 → inferred_app (sorts_at b p n a 3 m) ≡ sort (rest_at b p n f.list f.count (m - 1))
+          pub applied-rest : f.names.count ≡ 0 → inferred_app (sorts_at b p n a 3 m) ≡ sort (rest_at b p n f.list.at f.list.count (m - 1))
           unfolding plain_app
           applied-rest z =
-              by-head ∙ applied_plain b f.names f.named ss ts z ∙ counted (sort (remaining (others ss ts)))
-              ∙ ap (λ (t : Bool). need t Panics (sort (remaining (others ss ts)))) (le-leb (m - 1) f.count l)
-              ∙ ap (λ (o : Sorts). sort (remaining o)) (others-at (store_of b p n) b f.list f.count a 5 (m - 1) l)
+              by-head ∙ applied_plain b f.names.at f.names.count ss ts z ∙ counted (sort (remaining (others ss ts)))
+              ∙ ap (λ (t : Bool). need t Panics (sort (remaining (others ss ts)))) (le-leb (m - 1) f.list.count l)
+              ∙ ap (λ (o : Sorts). sort (remaining o)) (others-at (store_of b p n) b f.list.at f.list.count a 5 (m - 1) l)
 
-          pub parametric-asks : (f.named ≡ 0 → ⊥) → ParametricAsks b p ix n u prm imgs bnd f a (m - 1)
+          pub parametric-asks : (f.names.count ≡ 0 → ⊥) → ParametricAsks b p ix n u prm imgs bnd f a (m - 1)
           parametric-asks d =
               record {
                 called = called-asks;
@@ -253,15 +252,15 @@ module _ {b p ix : List ℕ} {n u : ℕ} {prm imgs bnd a : List ℕ} {m : ℕ} (
                     );
               }
 
-          pub applied-parametric : (f.named ≡ 0 → ⊥) → inferred_app (sorts_at b p n a 3 m) ≡ substituted_at b p n f a (m - 1)
+          pub applied-parametric : (f.names.count ≡ 0 → ⊥) → inferred_app (sorts_at b p n a 3 m) ≡ substituted_at b p n f a (m - 1)
           unfolding parametric_app
           applied-parametric z =
               let vs = callee_names b f in
               let s = substituted (remaining (others ss ts)) (match_all_with vs (firsts ss ts) ts empty) in
-              by-head ∙ applied-under b f.names f.named ss ts z ∙ counted s ∙ ap (λ (t : Bool). need t Panics s) (le-leb (m - 1) f.count l)
+              by-head ∙ applied-under b f.names.at f.names.count ss ts z ∙ counted s ∙ ap (λ (t : Bool). need t Panics s) (le-leb (m - 1) f.list.count l)
               ∙ ap₂ (λ (o e : Sorts). substituted (remaining o) (match_all_with vs e ts empty))
-              (others-at (store_of b p n) b f.list f.count a 5 (m - 1) l)
-              (firsts_at (store_of b p n) b f.list f.count a 5 (m - 1) l)
+              (others-at (store_of b p n) b f.list.at f.list.count a 5 (m - 1) l)
+              (firsts_at (store_of b p n) b f.list.at f.list.count a 5 (m - 1) l)
 
         -- No room for the inferred verdict is none for the head's.
         pub app-crowded : (t : Bool) → AppCrowded t b p n a m → CalledCrowded t b p n f a (m - 1)

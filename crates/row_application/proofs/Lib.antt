@@ -1,3 +1,4 @@
+pub mod AnyLaws
 pub mod AppLaws
 pub mod BothLaws
 pub mod CalledLaws

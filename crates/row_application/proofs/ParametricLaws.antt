@@ -9,8 +9,9 @@ use Rattle.record.specs.Sort.{sizes}
 use Rattle.record.specs.Decode.{store_of}
 use Rattle.substitution.specs.Substitution.{Map}
 use Rattle.substitution.specs.MatchWith.{match_all_with}
-use Rattle.matching_tables.specs.declared.Matched.{Matched}
-use Rattle.matching_tables.specs.declared.Matched.TheVariants.{Fits, Misfits}
+use Rattle.std.specs.Prelude.{Bool, true, false, Ok, Err}
+use Rattle.matching_tables.specs.Matched.{Matched, Fits, Misfits, found}
+use Rattle.matching_tables.specs.MapLaws.{found-fits, found-misfits}
 use Rattle.matching_tables.specs.Tables.{Lists, Added, Mapped}
 use Rattle.matching_tables.specs.TableLaws.{lists-roomy, added-back, cleared-mapped, cleared-map}
 use Rattle.matching_tables.specs.Usable.{sorts_at}
@@ -22,11 +23,9 @@ use Rattle.row_rules.specs.Verdict.{Verdict}
 use Rattle.infer_rules.specs.Inferred.{substituted}
 use Rattle.row_answer.specs.declared.heads.Callee.{Callee}
 use Rattle.row_answer.specs.Heads.{callee_names}
-use Rattle.row_application.specs.declared.delivered.Call.{Call}
-use Rattle.row_application.specs.declared.delivered.Call.TheVariants.{Settled, Fails}
-use Rattle.row_application.specs.Contract.{rest_at, bound_in, call_of, CallIs, PatternsAsk, ParametricAsks, substituted_at}
+use Rattle.row_application.specs.Contract.{Call, Settled, Fails, rest_at, bound_in, call_of, CallIs, PatternsAsk, ParametricAsks, substituted_at}
 use Rattle.row_application.proofs.ListLaws.{refs-part, sizes-first}
-use Rattle.row_application.proofs.CalledLaws.{fitted-take, fitted-lists, fitted-asks}
+use Rattle.row_application.proofs.CalledLaws.{fitted-take, fitted-lists, fitted-asks, call-moved}
 
 ---------------------------------------------------------------- matching the arguments
 module _ {b p : List ℕ} {n : ℕ} {prm imgs bnd : List ℕ} {f : Callee} {a : List ℕ} {k : ℕ} (h : PatternsAsk b p n prm imgs bnd f a k) where
@@ -37,35 +36,35 @@ module _ {b p : List ℕ} {n : ℕ} {prm imgs bnd : List ℕ} {f : Callee} {a : 
     lists : Lists o vs
     lists = fitted-lists h.fitted t
 
-    pub with-asks : WithAllAsks b p n o imgs bnd 0 b f.list a 5 k
+    pub with-asks : WithAllAsks b p n o imgs bnd 0 b f.list.at a 5 k
     with-asks =
         let g = h.fitted.fit in
         record {
           pairs = record { usable = g.usable; left = refs-part k g.list g.fewer; right = g.args };
           table = lists.table;
           room =
-              lists-roomy o vs (sizes (sorts_at b p n b f.list k)) lists
-              (omega (arith, length-numbers_at b f.names f.named, h.small, h.fitted.named));
+              lists-roomy o vs (sizes (sorts_at b p n b f.list.at k)) lists
+              (omega (arith, length-numbers_at b f.names.at f.names.count, h.small, h.fitted.named));
           mapped = cleared-mapped b p n imgs bnd g.cleared;
         }
 
-    module _ {o' l d : List ℕ} {r : Matched} (w : WithIs b p n o o' l d r (PairsWith b p n imgs bnd 0 b f.list a 5 k)) where
-      pub patterns-take : TakeAsks o' b f.names f.named
-      patterns-take = subst (λ (z : List ℕ). TakeAsks z b f.names f.named) (sym w.params) (fitted-take h.fitted t)
+    module _ {o' l d : List ℕ} {r : Matched} (w : WithIs b p n o o' l d r (PairsWith b p n imgs bnd 0 b f.list.at a 5 k)) where
+      pub patterns-take : TakeAsks o' b f.names.at f.names.count
+      patterns-take = subst (λ (z : List ℕ). TakeAsks z b f.names.at f.names.count) (sym w.params) (fitted-take h.fitted t)
 
       -- The call for what was found, once no name is listed.
       module _ {prm' : List ℕ} (z : Added prm' vs o') where
-        abbrev found : Matched → Verdict
-        found m = substituted (rest_at b p n f.list f.count k) (found_by (store_of b p n) l d m)
+        abbrev verdict_by : Matched → Verdict
+        verdict_by m = substituted (rest_at b p n f.list.at f.list.count k) (found_by (store_of b p n) l d m)
 
-        by-found : substituted_at b p n f a k ≡ found r
+        by-found : substituted_at b p n f a k ≡ verdict_by r
         by-found =
             sym
-            (ap (λ (m : Option Map). substituted (rest_at b p n f.list f.count k) m)
+            (ap (λ (m : Option Map). substituted (rest_at b p n f.list.at f.list.count k) m)
             (w.result vs lists
-            ∙ ap (λ (m : Map). match_all_with vs (sorts_at b p n b f.list k) (sorts_at b p n a 5 k) m) (cleared-map (store_of b p n) imgs bnd)))
+            ∙ ap (λ (m : Map). match_all_with vs (sorts_at b p n b f.list.at k) (sorts_at b p n a 5 k) m) (cleared-map (store_of b p n) imgs bnd)))
 
-        pub patterns-are : (c : Call) → bound_in c ≡ count_of r → found r ≡ call_of (store_of b p n) l d (rest_at b p n f.list f.count k) c
+        pub patterns-are : (c : Call) → bound_in c ≡ count_of r → verdict_by r ≡ call_of (store_of b p n) l d (rest_at b p n f.list.at f.list.count k) c
             → CallIs (substituted_at b p n f a k) b p n prm f k prm' l d c
         patterns-are c e g =
             record {
@@ -75,15 +74,45 @@ module _ {b p : List ℕ} {n : ℕ} {prm imgs bnd : List ℕ} {f : Callee} {a : 
             }
 
         pub patterns-fit : (j : ℕ) → r ≡ Fits j → CallIs (substituted_at b p n f a k) b p n prm f k prm' l d (Settled j)
-        patterns-fit j e = patterns-are (Settled j) (sym (ap count_of e)) (ap found e)
+        patterns-fit j e = patterns-are (Settled j) (sym (ap count_of e)) (ap verdict_by e)
 
         pub patterns-fail : (j : ℕ) → r ≡ Misfits j → CallIs (substituted_at b p n f a k) b p n prm f k prm' l d (Fails Panics j)
-        patterns-fail j e = patterns-are (Fails Panics j) (sym (ap count_of e)) (ap found e)
+        patterns-fail j e = patterns-are (Fails Panics j) (sym (ap count_of e)) (ap verdict_by e)
+
+---------------------------------------------------------------- the same, over what is known of the tables and the spans
+module _ {b p : List ℕ} {n : ℕ} {prm imgs bnd : List ℕ} {f : Callee} {a : List ℕ} {k : ℕ} (h : PatternsAsk b p n prm imgs bnd f a k) {o : List ℕ} (t : Added prm (callee_names b f) o)
+    {imgs₁ bnd₁ : List ℕ} {z y j : ℕ} (ei : imgs₁ ≡ imgs) (eb : bnd₁ ≡ bnd) (ez : z ≡ 0) (ey : y ≡ 5) (ej : j ≡ k) where
+  pub with-asked : WithAllAsks b p n o imgs₁ bnd₁ z b f.list.at a y j
+  with-asked =
+      subst (λ (r : List ℕ). WithAllAsks b p n o r bnd₁ z b f.list.at a y j) (sym ei)
+      (subst (λ (r : List ℕ). WithAllAsks b p n o imgs r z b f.list.at a y j) (sym eb)
+      (subst (λ (i : ℕ). WithAllAsks b p n o imgs bnd i b f.list.at a y j) (sym ez)
+      (subst (λ (i : ℕ). WithAllAsks b p n o imgs bnd 0 b f.list.at a i j) (sym ey)
+      (subst (λ (i : ℕ). WithAllAsks b p n o imgs bnd 0 b f.list.at a 5 i) (sym ej) (with-asks h t)))))
+
+  module _ {o' l d : List ℕ} (q : ℕ) (g : Bool) (w : WithIs b p n o o' l d (found q g) (PairsWith b p n imgs₁ bnd₁ z b f.list.at a y j)) where
+    with-is : WithIs b p n o o' l d (found q g) (PairsWith b p n imgs bnd 0 b f.list.at a 5 k)
+    with-is =
+        subst (λ (r : List ℕ). WithIs b p n o o' l d (found q g) (PairsWith b p n r bnd 0 b f.list.at a 5 k)) ei
+        (subst (λ (r : List ℕ). WithIs b p n o o' l d (found q g) (PairsWith b p n imgs₁ r 0 b f.list.at a 5 k)) eb
+        (subst (λ (i : ℕ). WithIs b p n o o' l d (found q g) (PairsWith b p n imgs₁ bnd₁ i b f.list.at a 5 k)) ez
+        (subst (λ (i : ℕ). WithIs b p n o o' l d (found q g) (PairsWith b p n imgs₁ bnd₁ z b f.list.at a i k)) ey
+        (subst (λ (i : ℕ). WithIs b p n o o' l d (found q g) (PairsWith b p n imgs₁ bnd₁ z b f.list.at a y i)) ej w))))
+
+    pub taken-asked : TakeAsks o' b f.names.at f.names.count
+    taken-asked = patterns-take h t with-is
+
+    module _ {prm' : List ℕ} (v : Added prm' (callee_names b f) o') {l' d' : List ℕ} {q' : ℕ} (el : l' ≡ l) (ed : d' ≡ d) (eq : q' ≡ q) where
+      pub pattern-fits : g ≡ true → CallIs (substituted_at b p n f a k) b p n prm f k prm' l' d' (Settled q')
+      pattern-fits e = call-moved (Ok tt) (patterns-fit h t with-is v q (found-fits q e)) el ed eq
+
+      pub pattern-fails : g ≡ false → CallIs (substituted_at b p n f a k) b p n prm f k prm' l' d' (Fails Panics q')
+      pattern-fails e = call-moved (Err Panics) (patterns-fail h t with-is v q (found-misfits q e)) el ed eq
 
 ---------------------------------------------------------------- what remains, with the map applied
 pub patterns-ask : {b p ix : List ℕ} {n u : ℕ} {prm imgs bnd : List ℕ} {f : Callee} {a : List ℕ} {k : ℕ} → ParametricAsks b p ix n u prm imgs bnd f a k → PatternsAsk b p n prm imgs bnd f a k
 patterns-ask {b} {p} {n = n} {f = f} {k = k} h =
     record {
       fitted = fitted-asks h.called h.fewer h.parameters;
-      small = omega (arith, sizes-first (store_of b p n) b f.list f.count k h.fewer, h.small);
+      small = omega (arith, sizes-first (store_of b p n) b f.list.at f.list.count k h.fewer, h.small);
     }

@@ -10,9 +10,8 @@ use borrow.Author.Tests.{ne_eqb}
 use Rattle.record.specs.Sort.{Sort, Sorts, end, ◌then◌}
 use Rattle.substitution.specs.Substitution.{Map, is_some, bound}
 use Rattle.matching_tables.specs.Tables.{Told}
-use Rattle.matching_each.specs.Every.{passing}
+use Rattle.matching_each.specs.Every.{Settled, passing}
 use Rattle.matching_each.specs.EveryLaws.{Tests}
-use Rattle.matching_each.specs.declared.each.Test.TheVariants.{Settled}
 use Rattle.apply_walk.specs.Images.{image_at, Images}
 use Rattle.row_rules.specs.Lists.{remaining}
 use Rattle.check_rules.specs.Checked.{settled, settled_all}

@@ -13,22 +13,20 @@ use Rattle.substitution.specs.MatchWith.{match_all_with}
 use Rattle.substitution.specs.Premises.{parless, parless_all}
 use Rattle.matching_tables.specs.Tables.{Told, table_map, Mapped, Cleared, Blank}
 use Rattle.matching_tables.specs.Usable.{Usable, Refs, sorts_at, OneAsks, ListAsks, PairsAsk}
-use Rattle.matching_each.specs.Every.{every, passing}
-use Rattle.matching_each.specs.declared.each.Test.TheVariants.{Settled as Settles}
+use Rattle.matching_each.specs.Every.{Settled as Settles, every, passing}
 use Rattle.apply_walk.specs.Images.{Images}
+use Rattle.row_rules.specs.declared.Cause.{Cause}
 use Rattle.row_rules.specs.declared.Cause.TheVariants.{Full}
 use Rattle.row_rules.specs.Verdict.{Verdict, sort, refused}
 use Rattle.row_rules.specs.Outcome.{refusal, outcome}
 use Rattle.row_rules.specs.Lists.{remaining}
 use Rattle.check_rules.specs.Checked.{settled_all, delivered, called}
 use Rattle.infer_rules.specs.Inferred.{substituted, inferred_app}
-use Rattle.row_answer.specs.declared.Answer.{Answer}
+use Rattle.row_answer.specs.Answer.{Answer}
 use Rattle.row_answer.specs.declared.heads.Callee.{Callee}
 use Rattle.row_answer.specs.Answer.{AnswerIs}
 use Rattle.row_answer.specs.Heads.{callee_names, callee_sorts}
 use Rattle.row_answer.specs.Lent.{Lent}
-use Rattle.row_application.specs.declared.delivered.Call.{Call}
-use Rattle.row_application.specs.declared.delivered.Call.TheVariants.{Settled, Fails}
 
 ---------------------------------------------------------------- an App
 -- A good store, tables of names lent over it, and m numbers of its sorts in a from byte 3 on.
@@ -81,10 +79,10 @@ pub record AppFitAsks (b p : List ℕ) (n : ℕ) (prm imgs bnd : List ℕ) (x m 
 
 -- The same of a head whose names lie in the store; no name is listed.
 pub record FittedAsks (b p : List ℕ) (n : ℕ) (prm imgs bnd : List ℕ) (f : Callee) (a : List ℕ) (k : ℕ) : Type 0 where
-  pub fit : AppFitAsks b p n prm imgs bnd f.list f.count a k
+  pub fit : AppFitAsks b p n prm imgs bnd f.list.at f.list.count a k
   pub zeros : Zeros prm 0
-  pub names : f.names + 2 * f.named ≤ length b
-  pub named : f.named ≤ 64
+  pub names : f.names.at + 2 * f.names.count ≤ length b
+  pub named : f.names.count ≤ 64
 
 -- What remains of the list behind the arguments.
 abbrev pub rest_at : List ℕ → List ℕ → ℕ → ℕ → ℕ → ℕ → Sort
@@ -93,14 +91,20 @@ rest_at b p n x m k = remaining (sorts_at b p n b (x + 2 * k) (m - k))
 -- A head at k arguments. With parameters it asks for tables of all names.
 pub record CalledAsks (b p ix : List ℕ) (n u : ℕ) (prm imgs bnd : List ℕ) (f : Callee) (a : List ℕ) (k : ℕ) : Type 0 where
   pub good : Good b p ix n u
-  pub blank : (f.named ≡ 0 → ⊥) → Blank prm imgs bnd
-  pub list : Refs b f.list f.count n
-  pub few : f.count ≤ 64
-  pub names : f.names + 2 * f.named ≤ length b
-  pub named : f.named ≤ 64
+  pub blank : (f.names.count ≡ 0 → ⊥) → Blank prm imgs bnd
+  pub list : Refs b f.list.at f.list.count n
+  pub few : f.list.count ≤ 64
+  pub names : f.names.at + 2 * f.names.count ≤ length b
+  pub named : f.names.count ≤ 64
   pub args : Refs a 5 k n
 
 ---------------------------------------------------------------- what remains, delivered
+-- How the arguments fit a head, and how many names are bound: they fit, and no parameter is left open in what remains; or they do not, or
+-- one is, with the cause.
+pub data Call : Type 0 where
+  Settled : ℕ → Call
+  Fails : Cause → ℕ → Call
+
 -- How many names are bound, and the verdict on what remains.
 abbrev pub bound_in : Call → ℕ
 bound_in (Settled c) = c
@@ -114,19 +118,19 @@ call_of st l d s (Fails o c) = refused o
 pub record CallIs (v : Verdict) (b p : List ℕ) (n : ℕ) (prm : List ℕ) (f : Callee) (k : ℕ) (prm' l d : List ℕ) (c : Call) : Type 0 where
   pub params : prm' ≡ prm
   pub mapped : Mapped b p n l d (bound_in c)
-  pub verdict : v ≡ call_of (store_of b p n) l d (rest_at b p n f.list f.count k) c
+  pub verdict : v ≡ call_of (store_of b p n) l d (rest_at b p n f.list.at f.list.count k) c
 
 -- At most as many arguments as the list has sorts, and the names bound by the call.
 pub record DeliverAsks (b p ix : List ℕ) (n u : ℕ) (l d : List ℕ) (f : Callee) (k : ℕ) (c : Call) : Type 0 where
   pub good : Good b p ix n u
-  pub list : Refs b f.list f.count n
-  pub few : f.count ≤ 64
-  pub fewer : k ≤ f.count
+  pub list : Refs b f.list.at f.list.count n
+  pub few : f.list.count ≤ 64
+  pub fewer : k ≤ f.list.count
   pub mapped : Mapped b p n l d (bound_in c)
 
 -- THE ANSWER TO THE CALL; no name is bound.
 pub record DeliverIs (b p : List ℕ) (n : ℕ) (l d : List ℕ) (f : Callee) (k : ℕ) (c : Call) (b' p' ix' l' d' : List ℕ) (r : Answer) : Type 0 where
-  pub answer : AnswerIs b p n (call_of (store_of b p n) l d (rest_at b p n f.list f.count k) c) b' p' ix' r
+  pub answer : AnswerIs b p n (call_of (store_of b p n) l d (rest_at b p n f.list.at f.list.count k) c) b' p' ix' r
   pub cleared : Cleared l' d'
 
 ---------------------------------------------------------------- the checked App
@@ -150,8 +154,8 @@ pub record AppFitIs (b p : List ℕ) (n : ℕ) (prm : List ℕ) (x m : ℕ) (a :
 
 -- The same by the names of the head f.
 pub record FittedIs (b p : List ℕ) (n : ℕ) (prm : List ℕ) (f : Callee) (a : List ℕ) (k : ℕ) (prm' l d : List ℕ) (c : Call) : Type 0 where
-  pub call : CallIs (delivered_at (listed_in (callee_names b f)) b p n f.list f.count a k) b p n prm f k prm' l d c
-  pub found : FoundBy (store_of b p n) l d (fitted (listed_in (callee_names b f)) b p n f.list a k) c
+  pub call : CallIs (delivered_at (listed_in (callee_names b f)) b p n f.list.at f.list.count a k) b p n prm f k prm' l d c
+  pub found : FoundBy (store_of b p n) l d (fitted (listed_in (callee_names b f)) b p n f.list.at a k) c
 
 ---------------------------------------------------------------- a head without parameters
 -- No name is one.
@@ -195,24 +199,24 @@ PlainAppIs b p n x m a k b' p' ix' r =
 -- The sorts that are matched are together no larger than a sort of the store.
 pub record PatternsAsk (b p : List ℕ) (n : ℕ) (prm imgs bnd : List ℕ) (f : Callee) (a : List ℕ) (k : ℕ) : Type 0 where
   pub fitted : FittedAsks b p n prm imgs bnd f a k
-  pub small : sizes (sorts_at b p n b f.list k) ≤ 4096
+  pub small : sizes (sorts_at b p n b f.list.at k) ≤ 4096
 
 -- A head with parameters at no more arguments than it has sorts, which are together no larger than a sort of the store.
 pub record ParametricAsks (b p ix : List ℕ) (n u : ℕ) (prm imgs bnd : List ℕ) (f : Callee) (a : List ℕ) (k : ℕ) : Type 0 where
   pub called : CalledAsks b p ix n u prm imgs bnd f a k
-  pub parameters : f.named ≡ 0 → ⊥
-  pub fewer : k ≤ f.count
+  pub parameters : f.names.count ≡ 0 → ⊥
+  pub fewer : k ≤ f.list.count
   pub small : sizes (callee_sorts b p n f) ≤ 4096
 
 -- THE VERDICT on what remains, by the map found.
 abbrev pub substituted_at : List ℕ → List ℕ → ℕ → Callee → List ℕ → ℕ → Verdict
 substituted_at b p n f a k =
-    substituted (rest_at b p n f.list f.count k) (match_all_with (callee_names b f) (sorts_at b p n b f.list k) (sorts_at b p n a 5 k) empty)
+    substituted (rest_at b p n f.list.at f.list.count k) (match_all_with (callee_names b f) (sorts_at b p n b f.list.at k) (sorts_at b p n a 5 k) empty)
 
 ---------------------------------------------------------------- without room
 -- Where t says so, the inferred verdict on the head f at k arguments, no more than its sorts, has no room.
 abbrev pub CalledCrowded : Bool → List ℕ → List ℕ → ℕ → Callee → List ℕ → ℕ → Type 0
-CalledCrowded t b p n f a k = t ≡ true → (f.named ≡ 0 → ⊥) → k ≤ f.count → Crowded b p n (substituted_at b p n f a k)
+CalledCrowded t b p n f a k = t ≡ true → (f.names.count ≡ 0 → ⊥) → k ≤ f.list.count → Crowded b p n (substituted_at b p n f a k)
 
 -- A name is bound to the variable of that name.
 unfoldable pub owned : Map → Bool

@@ -1,75 +1,55 @@
 // The inferred sort of an App whose head is a Par of a Function.
-ghost use Rattle.row_application.specs.Contract.{AppIs, CallIs, PatternsAsk, ParametricAsks, substituted_at};
+ghost use Rattle.store.specs.Changes.{Same};
+ghost use Rattle.matching_tables.specs.Names.{SameNames};
+ghost use Rattle.row_application.specs.Words.{PatternsAsked, PatternsFound, ParametricAsked, substituted_in, AppAnswered};
 
-use super::delivered::{Call, deliver};
-use matching_tables::Matched;
-use matching_tables::tables::{list_names, unlist_names};
+use super::delivered::deliver;
+use matching_tables::names::Names;
 use matching_with::match_all_with;
-use row_answer::Answer;
-use row_answer::arguments::SECOND_AT;
+use record::span::Span;
+use row_answer::arguments::Args;
 use row_answer::heads::Callee;
-use row_rules::Cause;
+use row_rules::{Cause, Row};
+use store::Store;
+use store::entries::Sorts;
 
-// The n arguments in `args` from byte 5 on matched by match_with with the first n sorts of the head, with its names listed
-// meanwhile, or Panics: `params` is zeros before and after.
+// The arguments matched by match_with with as many of the head's sorts, with its names listed meanwhile, or Panics: no name is listed
+// before and after.
 pub fn match_arguments(
-    records: &[u8],
-    places: &[u32],
-    count: usize,
-    params: &mut [u16],
-    images: &mut [u16],
-    bound: &mut [u16],
+    sorts: &Sorts<'_>,
+    names: &mut Names<'_>,
     callee: Callee,
-    args: &[u8],
-    n: usize,
-) -> Call
-    requires { PatternsAsk records.now places.now count params.old images.old bound.old callee args.now n }
-    ensures { CallIs (substituted_at records.now places.now count callee args.now n) records.now places.now count params.old callee n params.new images.new bound.new result }
+    args: &Args<'_>,
+) -> Result<(), Cause>
+    requires { PatternsAsked sorts.now names.old callee args.now }
+    ensures names { SameNames names.old names.new }
+    ensures call { PatternsFound sorts.now names.old callee args.now names.new result }
 {
-    list_names(params, records, callee.names, callee.named);
-    let found = match_all_with(
-        records,
-        places,
-        count,
-        params,
-        images,
-        bound,
-        0,
-        records,
-        callee.list,
-        args,
-        SECOND_AT,
-        n,
-    );
-    unlist_names(params, records, callee.names, callee.named);
-    match found {
-        Matched::Fits(k) => Call::Settled(k),
-        Matched::Misfits(k) => Call::Fails(Cause::Panics, k),
-    }
+    let arguments = args.rest();
+    let patterns = Span {
+        count: arguments.count,
+        ..callee.list
+    };
+    names.many = 0;
+    names.list(sorts.records, callee.names);
+    let fits = match_all_with(sorts, names, sorts.records, patterns, args.bytes, arguments);
+    names.unlist(sorts.records, callee.names);
+    if fits { Ok(()) } else { Err(Cause::Panics) }
 }
 
-// What remains of the head's sorts at n arguments, with the map of match_with applied: the last one by itself, or the Function of
-// them, found or added, Limit or Full; Panics where an argument does not match. The tables of names are zeros before and after.
+// What remains of the head's sorts at these arguments, with the map of match_with applied: the last one by itself, or the Function of
+// them, found or added, Limit or Full; Panics where an argument does not match. No name is listed or bound before and after.
 pub fn parametric(
-    records: &mut [u8],
-    places: &mut [u32],
-    index: &mut [u16],
-    count: usize,
-    used: usize,
-    params: &mut [u16],
-    images: &mut [u16],
-    bound: &mut [u16],
+    store: &mut Store<'_>,
+    names: &mut Names<'_>,
     callee: Callee,
-    args: &[u8],
-    n: usize,
-) -> Answer
-    requires { ParametricAsks records.old places.old index.old count used params.old images.old bound.old callee args.now n }
-    ensures { AppIs (substituted_at records.old places.old count callee args.now n) records.old places.old count params.old images.old bound.old records.new places.new index.new params.new images.new bound.new result }
+    args: &Args<'_>,
+) -> Row
+    requires { ParametricAsked store.old names.old callee args.now }
+    ensures same { Same store.old store.new }
+    ensures names { SameNames names.old names.new }
+    ensures answer { AppAnswered (substituted_in store.old callee args.now) store.old names.old store.new names.new result }
 {
-    let call = match_arguments(
-        records, places, count, params, images, bound, callee, args, n,
-    );
-    deliver(
-        records, places, index, count, used, images, bound, callee, n, call,
-    )
+    let call = match_arguments(&store.sorts(), names, callee, args);
+    deliver(store, names, callee, args.count - 1, call)
 }

@@ -1,104 +1,63 @@
 // The checked sort of an App whose head is a Function without parameters: an argument fits a sort of the head's list exactly
 // if it is that sort and no Par stands in it. The test for a Par notes in `seen` the sorts that it found free of one, and goes
 // down no sort that is noted there.
+ghost use Rattle.store.specs.Changes.{Same};
 ghost use Rattle.std.specs.Prelude.{◌≡◌};
 ghost use Rattle.record.specs.Decode.{sort_at};
 ghost use Rattle.substitution.specs.Premises.{parless};
-ghost use Rattle.matching_tables.specs.Notes.{NoteTable};
-ghost use Rattle.row_application.specs.Contract.{ParlessAt, ParlessAsks, ExactAsks, ExactIs, PlainAppAsks, PlainAppIs};
+ghost use Rattle.row_application.specs.Words.{ParlessAsked, ParlessNotes, ExactAsked, ExactFound, PlainAsked, PlainAnswered};
 
-use matching_each::each::{Test, each};
-use matching_tables::notes::NOTES;
+use matching_each::each::each;
+use matching_each::nodes::parless;
+use matching_tables::notes::Seen;
 use record::limits::LONGEST_LISTED;
-use record::u16_at;
-use row_answer::arguments::SECOND_AT;
+use record::span::Span;
+use row_answer::arguments::Args;
 use row_answer::lists::remaining;
-use row_answer::{Answer, refuse};
-use row_rules::Cause;
-use store::entries::size_at;
+use row_rules::{Cause, Row};
+use store::Store;
 
 // Whether no Par stands in the sort `k`. One of tree size 1 has no parts and is no Par, and needs no walk.
-pub fn is_parless(
-    records: &[u8],
-    places: &[u32],
-    index: &[u16],
-    count: usize,
-    seen: &mut [u16],
-    k: usize,
-) -> bool
-    requires { ParlessAsks records.now places.now index.now count k × NoteTable (ParlessAt records.now places.now count) seen.old }
-    ensures { (result ≡ parless (sort_at records.now places.now count k)) × NoteTable (ParlessAt records.now places.now count) seen.new }
+pub fn is_parless(store: &Store<'_>, seen: &mut Seen, k: usize) -> bool
+    requires asked { ParlessAsked store.now k }
+    requires noted { ParlessNotes store.now seen.old.slots }
+    ensures answer { result ≡ parless (sort_at store.now.records.now store.now.places.now store.now.count k) }
+    ensures noted { ParlessNotes store.now seen.new.slots }
 {
-    if size_at(index, k) == 1 {
-        return true;
-    }
-    let names = [0u16; 1];
-    each(
-        records,
-        places,
-        count,
-        Test::Parless,
-        &names,
-        &names,
-        seen,
-        k,
-    )
+    store.size(k) == 1 || each(&store.sorts(), &parless, seen, k)
 }
 
-// Whether the n arguments in `args` from byte 5 on are the sorts that the store names from `list` on, and no Par stands in
-// them.
-pub fn all_exact(
-    records: &[u8],
-    places: &[u32],
-    index: &[u16],
-    count: usize,
-    list: usize,
-    args: &[u8],
-    n: usize,
-) -> bool
-    requires { ExactAsks records.now places.now index.now count list args.now n }
-    ensures { ExactIs records.now places.now count list args.now n result }
+// Whether the arguments are the first sorts that the store names in `list`, and no Par stands in them.
+pub fn all_exact(store: &Store<'_>, list: Span, args: &Args<'_>) -> bool
+    requires { ExactAsked store.now list args.now }
+    ensures { ExactFound store.now list args.now result }
 {
-    let mut at = list;
-    let mut to = SECOND_AT;
-    let mut left = n;
-    let mut seen = [0u16; NOTES];
-    while 0 < left {
-        let k = u16_at(records, at);
-        let t = u16_at(args, to);
-        if k != t {
+    let mut seen = Seen::new();
+    let sorts = list.numbers(store.sorts().records);
+    let arguments = args.rest().numbers(args.bytes);
+    for (sort, argument) in sorts.zip(arguments) {
+        if sort != argument || !is_parless(store, &mut seen, sort) {
             return false;
         }
-        if !is_parless(records, places, index, count, &mut seen, k) {
-            return false;
-        }
-        at += 2;
-        to += 2;
-        left -= 1;
     }
     true
 }
 
-// What remains of a head's m sorts from `list` on at n arguments, fewer than m: the last one by itself, or the Function of
+// What remains of a head's sorts, those that the store names in `list`, at fewer arguments: the last one by itself, or the Function of
 // them, found or added, Limit or Full; Misfit where an argument is not the sort in its place, or a Par stands in it.
-pub fn checked_plain(
-    records: &mut [u8],
-    places: &mut [u32],
-    index: &mut [u16],
-    count: usize,
-    used: usize,
-    list: usize,
-    m: usize,
-    args: &[u8],
-    n: usize,
-) -> Answer
-    requires { PlainAppAsks records.old places.old index.old count used list m args.now n }
-    ensures { PlainAppIs records.old places.old count list m args.now n records.new places.new index.new result }
+pub fn checked_plain(store: &mut Store<'_>, list: Span, args: &Args<'_>) -> Row
+    requires { PlainAsked store.old list args.now }
+    ensures same { Same store.old store.new }
+    ensures answer { PlainAnswered store.old list args.now store.new result }
 {
-    if all_exact(records, places, index, count, list, args, n) {
-        let at = list + 2 * n;
-        let mut rec = [0u8; LONGEST_LISTED];
-        return remaining(records, places, index, count, used, &mut rec, at, m - n);
+    let n = args.count - 1;
+    if !all_exact(store, Span { count: n, ..list }, args) {
+        return Err(Cause::Misfit);
     }
-    refuse(Cause::Misfit, count, used)
+    let mut bytes = [0u8; LONGEST_LISTED];
+    let mut rec = Args {
+        bytes: &mut bytes,
+        count: 0,
+    };
+    remaining(store, &mut rec, list.skip(n))
 }

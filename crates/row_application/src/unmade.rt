@@ -3,113 +3,63 @@
 // have the same sort, and it is not made in vain.
 ghost use Rattle.std.specs.Prelude.{◌≡◌, not, ◌&&◌};
 ghost use Rattle.record.specs.Sort.{var, same};
-ghost use Rattle.record.specs.Decode.{store_of, sort_at};
+ghost use Rattle.record.specs.Decode.{sort_at};
 ghost use Rattle.substitution.specs.Premises.{parless_all};
-ghost use Rattle.matching_tables.specs.Tables.{table_map};
-ghost use Rattle.matching_tables.specs.Usable.{OneAsks, ListAsks, sorts_at};
-ghost use Rattle.row_application.specs.Contract.{OwnAsks, bound_in, owned, unmade_of};
+ghost use Rattle.matching_tables.specs.Usable.{OneAsks};
+ghost use Rattle.row_application.specs.Words.{OwnAsked, RestAsked, owned_in, rest_sorts, call_in, unmade_in};
 
-use super::delivered::Call;
-use matching_each::each::{Test, all_each};
-use matching_tables::notes::NOTES;
-use record::kinds::SORT_VAR;
+use matching_each::each::all_each;
+use matching_each::nodes::parless;
+use matching_tables::names::Names;
+use matching_tables::notes::Seen;
+use record::kinds::SortKind;
+use record::span::Span;
 use row_rules::Cause;
-use store::entries::entry;
+use store::entries::Sorts;
 
 // Whether the sort `k` is the variable of this name.
-pub fn is_var(records: &[u8], places: &[u32], count: usize, k: usize, name: usize) -> bool
-    requires { OneAsks records.now places.now count k }
-    ensures { result ≡ same (sort_at records.now places.now count k) (var name) }
+pub fn is_var(sorts: &Sorts<'_>, k: usize, name: usize) -> bool
+    requires { OneAsks sorts.now.records.now sorts.now.places.now sorts.now.count k }
+    ensures { result ≡ same (sort_at sorts.now.records.now sorts.now.places.now sorts.now.count k) (var name) }
 {
-    let e = entry(records, places, k);
-    if e.kind == SORT_VAR {
-        return e.name == name;
-    }
-    false
+    let entry = sorts.entry(k);
+    entry.kind == SortKind::Var && entry.name == name
 }
 
-// Whether one of the `m` bound names is bound to the variable of that name.
-pub fn any_own(
-    records: &[u8],
-    places: &[u32],
-    count: usize,
-    images: &[u16],
-    bound: &[u16],
-    m: usize,
-) -> bool
-    requires { OwnAsks records.now places.now count images.now bound.now m }
-    ensures { result ≡ owned (table_map (store_of records.now places.now count) images.now bound.now m) }
+// Whether one of the bound names is bound to the variable of that name.
+pub fn any_own(sorts: &Sorts<'_>, names: &Names<'_>) -> bool
+    requires { OwnAsked sorts.now names.now }
+    ensures { result ≡ owned_in sorts.now names.now }
 {
-    let mut left = m;
-    while 0 < left {
-        let name = bound[left - 1] as usize;
-        let image = images[name] as usize;
-        if is_var(records, places, count, image - 1, name) {
-            return true;
-        }
-        left -= 1;
-    }
-    false
+    (0..names.many).any(|i| {
+        let name = names.bound[i] as usize;
+        is_var(sorts, names.images[name] as usize - 1, name)
+    })
 }
 
-// Whether one of the `m` bound names is bound to the variable of that name and a Par stands in one of the `left` sorts that the store
-// names from `at` on.
-pub fn own_counts(
-    records: &[u8],
-    places: &[u32],
-    count: usize,
-    images: &[u16],
-    bound: &[u16],
-    m: usize,
-    at: usize,
-    left: usize,
-) -> bool
-    requires { OwnAsks records.now places.now count images.now bound.now m × ListAsks records.now places.now count records.now at left }
-    ensures { result ≡ (owned (table_map (store_of records.now places.now count) images.now bound.now m) && not (parless_all (sorts_at records.now places.now count records.now at left))) }
+// Whether one of the bound names is bound to the variable of that name and a Par stands in one of the sorts that the store names in
+// `rest`.
+pub fn own_counts(sorts: &Sorts<'_>, names: &Names<'_>, rest: Span) -> bool
+    requires { OwnAsked sorts.now names.now × RestAsked sorts.now rest }
+    ensures { result ≡ (owned_in sorts.now names.now && not (parless_all (rest_sorts sorts.now rest))) }
 {
-    if !any_own(records, places, count, images, bound, m) {
-        return false;
-    }
-    let mut seen = [0u16; NOTES];
-    !all_each(
-        records,
-        places,
-        count,
-        Test::Parless,
-        images,
-        images,
-        &mut seen,
-        at,
-        left,
-    )
+    any_own(sorts, names) && !all_each(sorts, &parless, &mut Seen::new(), rest)
 }
 
 // The call as it is; but where the inferred sort of the same App has no room, one that is settled fails with Full, unless a name is
-// bound to the variable of that name and a Par stands in what remains: the `left` sorts that the store names from `at` on.
+// bound to the variable of that name and a Par stands in what remains: the sorts that the store names in `rest`.
 pub fn unmade(
-    records: &[u8],
-    places: &[u32],
-    count: usize,
-    images: &[u16],
-    bound: &[u16],
-    at: usize,
-    left: usize,
+    sorts: &Sorts<'_>,
+    names: &Names<'_>,
+    rest: Span,
     crowded: bool,
-    call: Call,
-) -> Call
-    requires { OwnAsks records.now places.now count images.now bound.now (bound_in call) × ListAsks records.now places.now count records.now at left }
-    ensures { result ≡ unmade_of crowded (store_of records.now places.now count) images.now bound.now (sorts_at records.now places.now count records.now at left) call }
+    call: Result<(), Cause>,
+) -> Result<(), Cause>
+    requires { OwnAsked sorts.now names.now × RestAsked sorts.now rest }
+    ensures { call_in names.now.many result ≡ unmade_in crowded sorts.now names.now rest call }
 {
-    if !crowded {
-        return call;
+    if crowded && call.is_ok() && !own_counts(sorts, names, rest) {
+        return Err(Cause::Full);
     }
-    match call {
-        Call::Settled(k) => {
-            if own_counts(records, places, count, images, bound, k, at, left) {
-                return call;
-            }
-            Call::Fails(Cause::Full, k)
-        }
-        Call::Fails(_, _) => call,
-    }
+    call
 }

@@ -3,7 +3,7 @@
 use Prim.Native.Nat.{ℕ, zero, suc, ◌≤◌, ◌<◌}
 use Rattle.std.proofs.Math.Path.{◌≡◌, refl, ap, ap₂}
 use Rattle.std.proofs.Common.{sym, subst, ◌∙◌, arith, le-leb, leb-true}
-use Rattle.std.specs.Prelude.{true, List, [], ◌∷◌, length, leb}
+use Rattle.std.specs.Prelude.{true, List, [], ◌∷◌, length, leb, Result, Ok, Err}
 use Rattle.std.proofs.Math.Bool.{◌&&◌}
 use Rattle.std.proofs.Math.Option.{Option, none, some}
 use Rattle.std.proofs.Math.ListN.{get_or}
@@ -17,14 +17,14 @@ use Rattle.substitution.specs.Substitution.{Map, find, or_else, left, under, app
 use Rattle.substitution.proofs.SubstitutionLaws.{count-applied, left-few}
 use Rattle.apply_walk.specs.Images.{image_at, Images, images-apply}
 use Rattle.apply_walk.specs.Contract.{answer_at}
-use Rattle.apply.specs.declared.Applied.{Applied}
-use Rattle.apply.specs.declared.Applied.TheVariants.{Is, TooLarge, NoRoom}
+use Rattle.apply.specs.declared.ApplyError.{ApplyError}
+use Rattle.apply.specs.declared.ApplyError.TheVariants.{TooLarge, NoRoom}
 use Rattle.apply.specs.Contract.{ApplyAsks, AppliedIs}
+use Rattle.row_rules.specs.declared.Cause.{Cause}
 use Rattle.row_rules.specs.declared.Cause.TheVariants.{Limit, Full}
-use Rattle.row_rules.specs.Verdict.{sort}
+use Rattle.row_rules.specs.Verdict.{Verdict, sort}
 use Rattle.row_rules.specs.Outcome.{shallow, shallow_all, within}
-use Rattle.row_answer.specs.declared.Answer.{Answer}
-use Rattle.row_answer.specs.Answer.{AnswerIs, accepting, refusing}
+use Rattle.row_answer.specs.Answer.{Answer, AnswerIs, refusing}
 use Rattle.row_answer.specs.AnswerLaws.{untouched-as, made-limit, made-full, answer-made}
 use Rattle.row_answer.specs.Within.{over-size, shallow-at}
 
@@ -33,11 +33,19 @@ abbrev pub InstanceIs : List ℕ → List ℕ → ℕ → List ℕ → ℕ → L
 InstanceIs b p n l k b' p' ix' r =
     (θ : Map) → Images (store_of b p n) l θ → AnswerIs b p n (sort (apply θ (sort_at b p n k))) b' p' ix' r
 
--- The answer as it is made of what substitution gives.
-abbrev pub instance_answer : ℕ → ℕ → Applied → Answer
-instance_answer n u (Is i n' u') = accepting i n' u'
-instance_answer n u TooLarge = refusing Limit n u
-instance_answer n u NoRoom = refusing Full n u
+-- Why substitution gives no answer, as the cause of a row.
+abbrev pub apply_cause : ApplyError → Cause
+apply_cause TooLarge = Limit
+apply_cause NoRoom = Full
+
+-- The row as it is made of what substitution gives.
+abbrev pub instance_row : Result ℕ ApplyError → Result ℕ Cause
+instance_row (Ok i) = Ok i
+instance_row (Err e) = Err (apply_cause e)
+
+-- The answer as it is made of what substitution gives, and of the store's count and bytes in use after it.
+abbrev pub instance_answer : ℕ → ℕ → Result ℕ ApplyError → Answer
+instance_answer n u r = record { verdict = instance_row r; count = n; used = u }
 
 ---------------------------------------------------------------- replacing keeps widths and lists
 shallow-under : (ns : List ℕ) (s : Sort) → length ns ≤ 64 → shallow s ≡ true → shallow (under ns s) ≡ true
@@ -91,18 +99,24 @@ module _ (b p ix : List ℕ) (n u : ℕ) (g : Good b p ix n u) (l : List ℕ) (�
 
 -- WHAT SUBSTITUTION GIVES is the answer, where the tree size alone decides.
 module _ (b p ix : List ℕ) (n u : ℕ) (g : Good b p ix n u) where
-  pub applied-answer : (s : Sort) → (size s ≤ 4096 → within s ≡ true) → (b' p' ix' : List ℕ) (r : Applied) → AppliedIs b p ix n u s b' p' ix' r
-      → AnswerIs b p n (sort s) b' p' ix' (instance_answer n u r)
-  applied-answer s fits b' p' ix' (Is i n' u') a =
+  -- The same count and bytes in use.
+  counted-as : {v : Verdict} {c : Cause} {b' p' ix' : List ℕ} {n' u' : ℕ} → n' ≡ n → u' ≡ u → AnswerIs b p n v b' p' ix' (refusing c n u) → AnswerIs b p n v b' p' ix' (refusing c n' u')
+  counted-as {v} {c} {b'} {p'} {ix'} {n'} {u'} e f h =
+      subst (λ (m : ℕ). AnswerIs b p n v b' p' ix' (refusing c m u')) (sym e)
+      (subst (λ (w : ℕ). AnswerIs b p n v b' p' ix' (refusing c n w)) (sym f) h)
+
+  pub applied-answer : (s : Sort) → (size s ≤ 4096 → within s ≡ true) → (b' p' ix' : List ℕ) (n' u' : ℕ) (r : Result ℕ ApplyError) → AppliedIs b p ix n u s b' p' ix' n' u' r
+      → AnswerIs b p n (sort s) b' p' ix' (instance_answer n' u' r)
+  applied-answer s fits b' p' ix' n' u' (Ok i) a =
       answer-made b p ix n u g s b' p' ix' i n' u' (fits a.small) a.made.good a.made.kept.long a.made.kept.wide
       a.made.added a.made.number
-  applied-answer s fits b' p' ix' TooLarge a = untouched-as a.1 (made-limit b p ix n u g s (over-size s a.0))
-  applied-answer s fits b' p' ix' NoRoom a = untouched-as a.2 (made-full b p ix n u g s (fits a.0) a.1)
+  applied-answer s fits b' p' ix' n' u' (Err TooLarge) a = untouched-as a.1 (counted-as a.2 a.3 (made-limit b p ix n u g s (over-size s a.0)))
+  applied-answer s fits b' p' ix' n' u' (Err NoRoom) a = untouched-as a.2 (counted-as a.3 a.4 (made-full b p ix n u g s (fits a.0) a.1))
 
 -- THE SORT k REPLACED, for every map of the table.
-pub instance-of : (b p ix : List ℕ) (n u k : ℕ) (l : List ℕ) → ApplyAsks b p ix n u k l → (b' p' ix' : List ℕ) (r : Applied)
-    → AppliedIs b p ix n u (answer_at b p n l k) b' p' ix' r → InstanceIs b p n l k b' p' ix' (instance_answer n u r)
-instance-of b p ix n u k l h b' p' ix' r a θ m =
+pub instance-of : (b p ix : List ℕ) (n u k : ℕ) (l : List ℕ) → ApplyAsks b p ix n u k l → (b' p' ix' : List ℕ) (n' u' : ℕ) (r : Result ℕ ApplyError)
+    → AppliedIs b p ix n u (answer_at b p n l k) b' p' ix' n' u' r → InstanceIs b p n l k b' p' ix' (instance_answer n' u' r)
+instance-of b p ix n u k l h b' p' ix' n' u' r a θ m =
     applied-answer b p ix n u h.ready.good (apply θ (sort_at b p n k))
-    (instance-within b p ix n u h.ready.good l θ m k h.known) b' p' ix' r
-    (subst (λ (s : Sort). AppliedIs b p ix n u s b' p' ix' r) (images-apply (store_of b p n) l θ m (sort_at b p n k)) a)
+    (instance-within b p ix n u h.ready.good l θ m k h.known) b' p' ix' n' u' r
+    (subst (λ (s : Sort). AppliedIs b p ix n u s b' p' ix' n' u' r) (images-apply (store_of b p n) l θ m (sort_at b p n k)) a)

@@ -1,7 +1,7 @@
 -- What remains of the list of a Function, with its names replaced, as an answer: what is asked and promised, that what
 -- remains is one sort or a Function, and that the tree size alone decides whether that is over a limit.
 use Prim.Native.Nat.{ℕ, zero, suc, ◌+◌, ◌*◌, ◌≤◌, ◌<◌}
-use Rattle.std.specs.Prelude.{◌≡◌, true, List}
+use Rattle.std.specs.Prelude.{◌≡◌, true, List, Result}
 use Rattle.std.proofs.Math.Path.{refl, ap, ap₂}
 use Rattle.std.proofs.Common.{sym, subst, ◌∙◌, le-leb}
 use Rattle.std.proofs.Math.Bool.{◌&&◌}
@@ -16,13 +16,12 @@ use Rattle.store.specs.Good.{Good}
 use Rattle.substitution.specs.Substitution.{Map, apply, apply_all}
 use Rattle.substitution.proofs.SubstitutionLaws.{count-applied}
 use Rattle.apply_walk.specs.Images.{Images, images-apply_all}
-use Rattle.apply.specs.declared.Applied.{Applied}
+use Rattle.apply.specs.declared.ApplyError.{ApplyError}
 use Rattle.apply.specs.Contract.{function_at, ApplyAsks, FunctionAsks, AppliedIs}
 use Rattle.row_rules.specs.Verdict.{sort}
 use Rattle.row_rules.specs.Outcome.{shallow, shallow_all, within}
 use Rattle.row_rules.specs.Lists.{remaining}
-use Rattle.row_answer.specs.declared.Answer.{Answer}
-use Rattle.row_answer.specs.Answer.{AnswerIs}
+use Rattle.row_answer.specs.Answer.{Answer, AnswerIs}
 use Rattle.row_answer.specs.AnswerLaws.{judged-as}
 use Rattle.row_answer.specs.Within.{shallow-at}
 use Rattle.row_answer.specs.Records.{remaining-many, remaining-one}
@@ -86,11 +85,11 @@ module _ (b p ix : List ℕ) (n u : ℕ) (g : Good b p ix n u) (l : List ℕ) (�
 
 -- ANY OTHER NUMBER LEFT: what substitution gives is the answer, for every map of the table.
 pub rest_of : (b p ix : List ℕ) (n u : ℕ) (l : List ℕ) (x m : ℕ) → RestAsks b p ix n u l x m → (m ≡ 1 → ⊥)
-    → (b' p' ix' : List ℕ) (r : Applied) → AppliedIs b p ix n u (function_at b p n l x m) b' p' ix' r
-    → RestIs b p n l x m b' p' ix' (instance_answer n u r)
-rest_of b p ix n u l x m a other b' p' ix' r w θ t =
+    → (b' p' ix' : List ℕ) (n' u' : ℕ) (r : Result ℕ ApplyError) → AppliedIs b p ix n u (function_at b p n l x m) b' p' ix' n' u' r
+    → RestIs b p n l x m b' p' ix' (instance_answer n' u' r)
+rest_of b p ix n u l x m a other b' p' ix' n' u' r w θ t =
     let ss = sorts_of (store_of b p n) (numbers_at b x m) in
     judged-as (ap sort (ap (apply θ) (remaining-many (store_of b p n) b x m other) ∙ apply-function θ ss))
     (applied-answer b p ix n u a.ready.good (function (apply_all θ ss))
-    (rest-within b p ix n u a.ready.good l θ t x m a.below a.few) b' p' ix' r
-    (subst (λ (qs : Sorts). AppliedIs b p ix n u (function qs) b' p' ix' r) (images-apply_all (store_of b p n) l θ t ss) w))
+    (rest-within b p ix n u a.ready.good l θ t x m a.below a.few) b' p' ix' n' u' r
+    (subst (λ (qs : Sorts). AppliedIs b p ix n u (function qs) b' p' ix' n' u' r) (images-apply_all (store_of b p n) l θ t ss) w))

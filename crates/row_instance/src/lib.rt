@@ -2,65 +2,48 @@
 #![tactic(auto)]
 
 ghost use Rattle.std.specs.Prelude.{◌≡◌};
-ghost use Rattle.apply.specs.Contract.{ApplyAsks};
-ghost use Rattle.row_instance.specs.Instance.{instance_answer, InstanceIs};
-ghost use Rattle.row_instance.specs.Rest.{RestAsks, RestIs};
+ghost use Rattle.store.specs.Changes.{Same};
+ghost use Rattle.apply.specs.Stores.{ApplyAsksOf};
+ghost use Rattle.row_instance.specs.Instance.{apply_cause};
+ghost use Rattle.row_instance.specs.Stores.{InstanceIn, RestAsksOf, RestIn};
 
 use apply::function::apply_function;
-use apply::{Applied, apply};
-use record::u16_at;
-use row_answer::{Answer, found, refuse};
-use row_rules::Cause;
+use apply::{ApplyError, apply};
+use record::span::Span;
+use row_rules::{Cause, Row};
+use store::Store;
 
-// The answer of what substitution gives: the sort found or added; Limit where its tree is over 4,096; Full where the store
+// Why substitution gives no answer, as the cause of a row: Limit where the answer's tree is over 4,096; Full where the store
 // cannot hold its sorts.
-pub fn answer_of(made: Applied, count: usize, used: usize) -> Answer
-    ensures { result ≡ instance_answer count used made }
+pub fn cause_of(error: ApplyError) -> Cause
+    ensures { result ≡ apply_cause error }
 {
-    match made {
-        Applied::Is(i, n, u) => found(i, n, u),
-        Applied::TooLarge => refuse(Cause::Limit, count, used),
-        Applied::NoRoom => refuse(Cause::Full, count, used),
+    match error {
+        ApplyError::TooLarge => Cause::Limit,
+        ApplyError::NoRoom => Cause::Full,
     }
 }
 
 // The sort k with its names replaced by the table of images: found or added; Limit where its tree is over 4,096; Full where
 // the store cannot hold its sorts.
-pub fn instance(
-    records: &mut [u8],
-    places: &mut [u32],
-    index: &mut [u16],
-    count: usize,
-    used: usize,
-    images: &[u16],
-    k: usize,
-) -> Answer
-    requires { ApplyAsks records.old places.old index.old count used k images.now }
-    ensures { InstanceIs records.old places.old count images.now k records.new places.new index.new result }
+pub fn instance(store: &mut Store<'_>, images: &[u16], k: usize) -> Row
+    requires { ApplyAsksOf store.old k images.now }
+    ensures same { Same store.old store.new }
+    ensures answer { InstanceIn store.old images.now k store.new result }
 {
-    let made = apply(records, places, index, count, used, k, images);
-    answer_of(made, count, used)
+    apply(store, images, k).map_err(cause_of)
 }
 
-// The `left` sorts whose numbers stand from `at` on with their names replaced, one by itself, else the Function of them:
-// found or added; Limit where the tree is over 4,096; Full where the store cannot hold its sorts.
-pub fn rest(
-    records: &mut [u8],
-    places: &mut [u32],
-    index: &mut [u16],
-    count: usize,
-    used: usize,
-    images: &[u16],
-    at: usize,
-    left: usize,
-) -> Answer
-    requires { RestAsks records.old places.old index.old count used images.now at left }
-    ensures { RestIs records.old places.old count images.now at left records.new places.new index.new result }
+// The sorts of the list `span` with their names replaced, one by itself, else the Function of them: found or added; Limit where
+// the tree is over 4,096; Full where the store cannot hold its sorts.
+pub fn rest(store: &mut Store<'_>, images: &[u16], span: Span) -> Row
+    requires { RestAsksOf store.old images.now span.at span.count }
+    ensures same { Same store.old store.new }
+    ensures answer { RestIn store.old images.now span.at span.count store.new result }
 {
-    if left == 1 {
-        let k = u16_at(records, at);
-        return instance(records, places, index, count, used, images, k);
+    if span.count == 1 {
+        let k = store.number(span.at);
+        return instance(store, images, k);
     }
-    let made = apply_function(records, places, index, count, used, at, left, images);
-    answer_of(made, count, used)
+    apply_function(store, images, span).map_err(cause_of)
 }

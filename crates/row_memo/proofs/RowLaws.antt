@@ -8,6 +8,7 @@ use mathlib.Core.Logic.{⊎_elim}
 use native.Mathlib.Omega.{arith}
 use native.Mathlib.Nat.{mul-div_cancel}
 use lib.ListN.{length, get_or}
+use Rattle.record.specs.Kinds.{term_number}
 use Rattle.record.specs.Number.{numbers_at}
 use Rattle.record.specs.Codec.{length-numbers_at, number_at}
 use Rattle.record.specs.Sort.{Sort, Sorts}
@@ -22,8 +23,7 @@ use Rattle.sheet.specs.Sheet.{Lengths}
 use Rattle.store.specs.Good.{Good}
 use Rattle.row_rules.specs.declared.Cause.{Cause}
 use Rattle.row_rules.specs.declared.Cause.TheVariants.{Below}
-use Rattle.row_rules.specs.declared.RowVerdict.{RowVerdict}
-use Rattle.row_rules.specs.declared.RowVerdict.TheVariants.{Sort as Number, Refused}
+use Rattle.std.specs.Prelude.{Result, Ok, Err}
 use Rattle.row_rules.specs.Verdict.{Verdict, sort, refused, number_of, code_of}
 use Rattle.row_rules.specs.Term.{Site}
 use Rattle.row_rules.specs.Outcome.{within, CodedStore, outcome}
@@ -32,8 +32,10 @@ use Rattle.row_rules.proofs.OutcomeLaws.{any-accepted, interned-at, room-few}
 use Rattle.infer_rules.specs.Inferred.{inferred, inferred_app}
 use Rattle.check_rules.specs.Ranks.{smt_lib}
 use Rattle.check_rules.specs.Checked.{checked, checked_app}
-use Rattle.row_answer.specs.declared.Answer.{Answer}
+use Rattle.row_answer.specs.Answer.{Answer}
 use Rattle.row_answer.specs.Answer.{AnswerIs, AnswerLeft, refusing}
+use Rattle.row_answer.specs.declared.arguments.Column.{Column}
+use Rattle.row_answer.specs.Arguments.{column_number}
 use Rattle.row_answer.specs.AnswerLaws.{judged-as, answered-as, answer-number}
 use Rattle.row_application.specs.Contract.{AppAsks, AppIs, Crowded, AppCrowded}
 use Rattle.row_parts.specs.Site.{site_over, term_verdict, TermIs, SiteAsks, SiteIs, PartsJudgedIs}
@@ -72,14 +74,30 @@ module _ {b p : List ℕ} {n : ℕ} {prm imgs bnd s tbl xs : List ℕ} {r : Term
 
 -- An App in the place of the checked row: what it asks, and that it is the row.
 module _ {b p ix : List ℕ} {n u : ℕ} {prm imgs bnd s tbl xs : List ℕ} {r : TermRecord} {a : List ℕ} (h : SiteAsks b p ix n u prm imgs bnd s tbl xs r a) where
-  pub app-asks : AppAsks b p ix n u prm imgs bnd a r.list_count
+  pub app-asks : AppAsks b p ix n u prm imgs bnd a r.list.count
   app-asks = record { good = h.asks.good; tables = h.asks.tables; few = count-few h.asks.standing; room = h.asks.room; below = h.below }
 
-  pub app-row : r.kind ≡ 6 → {b' p' ix' prm' imgs' bnd' : List ℕ} {w : Answer}
-      → AppIs (checked_app (sorts_of (store_of b p n) (numbers_at a 3 r.list_count))) b p n prm imgs bnd b' p' ix' prm' imgs' bnd' w
+  pub app-row : term_number r.kind ≡ 6 → {b' p' ix' prm' imgs' bnd' : List ℕ} {w : Answer}
+      → AppIs (checked_app (sorts_of (store_of b p n) (numbers_at a 3 r.list.count))) b p n prm imgs bnd b' p' ix' prm' imgs' bnd' w
       → SiteIs (checked smt_lib) b p n prm imgs bnd s tbl xs r a b' p' ix' prm' imgs' bnd' w
   app-row k e =
       record { answer = judged-as (checked-app (site_over (store_of b p n) s tbl xs a r) k) e.answer; params = e.params; images = e.images; bound = e.bound }
+
+---------------------------------------------------------------- the columns
+pub column-few : (c : Column) → column_number c ≤ 1
+column-few Column.Inferred = omega arith
+column-few Column.Checked = omega arith
+
+-- A column by its number.
+module _ {i j : ℕ} (e : i ≡ j) where
+  pub parts-in : {s rows : List ℕ} {r : TermRecord} {key : List ℕ} {t : Bool} → PartsJudgedIs s rows i r key t → PartsJudgedIs s rows j r key t
+  parts-in {s} {rows} {r} {key} {t} d = subst (λ (k : ℕ). PartsJudgedIs s rows k r key t) e d
+
+  pub looked-in : {r : TermRecord} {key ws ws' : List ℕ} {q : Look} → LookedIs r key i ws ws' q → LookedIs r key j ws ws' q
+  looked-in {r} {key} {ws} {ws'} {q} l = subst (λ (k : ℕ). LookedIs r key k ws ws' q) e l
+
+  pub asks-in : {b p : List ℕ} {r : TermRecord} {key : List ℕ} → LookAsks b p r key j → LookAsks b p r key i
+  asks-in {b} {p} {r} {key} h = subst (LookAsks b p r key) (sym e) h
 
 ---------------------------------------------------------------- codes
 -- The numbers of the causes.
@@ -128,12 +146,12 @@ module _ {b p ix : List ℕ} {n u : ℕ} (g : Good b p ix n u) (v : Verdict) whe
   abbrev here : List Sort
   here = store_of b p n
 
-  again-left : (w : RowVerdict) → ((k : ℕ) → w ≡ Number k → k < 65536) → outcome (lent b p) here v ≡ record { store = here; code = code_of w } → AnswerLeft here here w
-  again-left (Number k) small e =
+  again-left : (w : Result ℕ Cause) → ((k : ℕ) → w ≡ Ok k → k < 65536) → outcome (lent b p) here v ≡ record { store = here; code = code_of w } → AnswerLeft here here w
+  again-left (Ok k) small e =
       let o : (outcome (lent b p) here v).code ≡ k = ap (λ (x : CodedStore). x.code) e in
       let (s, ev, at) = any-accepted (lent b p) here v (omega (arith, o, small k refl)) in
       omega (arith, o, at.below, ap (λ (x : CodedStore). length x.store) e)
-  again-left (Refused c) small e = refl
+  again-left (Err c) small e = refl
 
   -- AN OUTCOME THAT ADDS NOTHING is the answer, over the store as it was.
   pub answer-again : {c : ℕ} {w : Answer} → AgainIs c n u w
@@ -167,7 +185,7 @@ module _ {column : ℕ} {b p ix : List ℕ} {n u : ℕ} {prm imgs bnd s tbl xs r
   -- The parts are gathered: their numbers stand in key.
   module _ {key : List ℕ} (long : length key ≡ length a) {t : Bool} (on : t ≡ true) (d : PartsJudgedIs s rows column r key t) where
     abbrev numbers : List ℕ
-    numbers = numbers_at key 3 r.list_count
+    numbers = numbers_at key 3 r.list.count
 
     pub site-asks : SiteAsks b p ix n u prm imgs bnd s tbl xs r key
     site-asks = parts-site h.asks long on d
@@ -177,7 +195,7 @@ module _ {column : ℕ} {b p ix : List ℕ} {n u : ℕ} {prm imgs bnd s tbl xs r
         let few = count-few h.asks.standing in
         record { side = side; count = n; stored = h.asks.good.stored; below = d.below on n tbl xs h.asks.standing; few = few; within = omega (arith, long, h.asks.room, few) }
 
-    verdict-is : r.kind ≡ 6 → term_verdict (column_verdict column) st s tbl xs rows column r ≡ judging_app column (sorts_of st numbers)
+    verdict-is : term_number r.kind ≡ 6 → term_verdict (column_verdict column) st s tbl xs rows column r ≡ judging_app column (sorts_of st numbers)
     verdict-is k = d.judged on (column_verdict column) st tbl xs ∙ app-verdict column (site_over st s tbl xs key r) k
 
     module _ {ws' : List ℕ} {q : Look} (l : LookedIs r key column ws ws' q) where
@@ -185,29 +203,29 @@ module _ {column : ℕ} {b p ix : List ℕ} {n u : ℕ} {prm imgs bnd s tbl xs r
       past-less = record { each = λ slot k c x. h.past.each slot k c (l.less slot k c x) }
 
       -- No room for the inferred sort of an App: what is asked for the note, and what it says.
-      lack-by : (v : Look) → LookFound ws ws' column numbers r.list_count v → LackAsks key r.list_count v
+      lack-by : (v : Look) → LookFound ws ws' column numbers r.list.count v → LackAsks key r.list.count v
       lack-by Apart f = tt
       lack-by (Noted c) f = tt
       lack-by (Open at) f = record { some = f.ready.some; few = f.ready.few; within = omega (arith, long, h.asks.room, f.ready.few) }
 
-      pub lack-asks : LackAsks key r.list_count q
+      pub lack-asks : LackAsks key r.list.count q
       lack-asks = lack-by q l.found
 
-      crowded-by : (v : Look) → Lacks ws' key r.list_count v → Crowded b p n (inferred_app (sorts_of st numbers))
+      crowded-by : (v : Look) → Lacks ws' key r.list.count v → Crowded b p n (inferred_app (sorts_of st numbers))
       unfolding judging_app
       crowded-by Apart x = absurd x
       crowded-by (Noted c) x = absurd x
       crowded-by (Open at) x =
           (subst (λ (i : ℕ). AppTold (judging_app i) (length b) (length p) st numbers no_room) x.side (past-less.each x.slot numbers no_room x.says)).is
 
-      pub row-crowded : {t : Bool} → LackIs ws' key r.list_count q t → AppCrowded t b p n key r.list_count
+      pub row-crowded : {t : Bool} → LackIs ws' key r.list.count q t → AppCrowded t b p n key r.list.count
       row-crowded i e = crowded-by q (i e)
 
       -- A noted row: its code, and the row of that code.
       module _ (c : ℕ) (e : q ≡ Noted c) where
         told_here : AppTold (judging_app column) (length b) (length p) st numbers c
         told_here =
-            let f : Tells ws column numbers c = subst (LookFound ws ws' column numbers r.list_count) e l.found in
+            let f : Tells ws column numbers c = subst (LookFound ws ws' column numbers r.list.count) e l.found in
             subst (λ (k : ℕ). AppTold (judging_app k) (length b) (length p) st numbers c) f.side (h.past.each f.slot numbers c f.says)
 
         pub row-coded : Coded c
@@ -241,16 +259,16 @@ module _ {column : ℕ} {b p ix : List ℕ} {n u : ℕ} {prm imgs bnd s tbl xs r
         row_is : TermIs (column_verdict column) column b p n prm imgs bnd s tbl xs rows r b' p' ix' prm' imgs' bnd' w
         row_is = site-row on d i
 
-        code-small : (v : RowVerdict) → w.verdict ≡ v → code_of v < code_end
-        code-small (Number k) e = omega (arith, (answer-number b p n verdict b' p' ix' w row_is.answer k e).1)
-        code-small (Refused c) e = cause-small c
+        code-small : (v : Result ℕ Cause) → w.verdict ≡ v → code_of v < code_end
+        code-small (Ok k) e = omega (arith, (answer-number b p n verdict b' p' ix' w row_is.answer k e).1)
+        code-small (Err c) e = cause-small c
 
         numbers-below : (j : ℕ) → j < length numbers → get_or numbers j 0 < length st
         numbers-below j o =
-            let m : j < r.list_count = omega (arith, length-numbers_at key 3 r.list_count) in
-            omega (arith, number_at key 3 r.list_count j m, d.below on n tbl xs h.asks.standing j m, store_of-length b p n)
+            let m : j < r.list.count = omega (arith, length-numbers_at key 3 r.list.count) in
+            omega (arith, number_at key 3 r.list.count j m, d.below on n tbl xs h.asks.standing j m, store_of-length b p n)
 
-        new_told : r.kind ≡ 6 → AppTold (judging_app column) (length b') (length p') st' numbers (code_of w.verdict)
+        new_told : term_number r.kind ≡ 6 → AppTold (judging_app column) (length b') (length p') st' numbers (code_of w.verdict)
         new_told k =
             let z = row_is.answer in
             record {
@@ -267,15 +285,15 @@ module _ {column : ℕ} {b p ix : List ℕ} {n u : ℕ} {prm imgs bnd s tbl xs r
             let z = row_is.answer in
             past-grown b p n b' p' ix' w.count w.used ws' z.good z.long z.wide z.starts past-less
 
-        note-by : (v : Look) → LookFound ws ws' column numbers r.list_count v → RowNoteAsks ws' r.list_count v w.verdict
+        note-by : (v : Look) → LookFound ws ws' column numbers r.list.count v → RowNoteAsks ws' r.list.count v w.verdict
         note-by Apart f = tt
         note-by (Noted c) f = tt
         note-by (Open at) f = record { here = f.ready.here; some = f.ready.some; few = f.ready.few; small = code-small w.verdict refl }
 
-        pub note-asks : RowNoteAsks ws' r.list_count q w.verdict
+        pub note-asks : RowNoteAsks ws' r.list.count q w.verdict
         note-asks = note-by q l.found
 
-        noted-past : {ws'' : List ℕ} (v : Look) → Looked r v → LookFound ws ws' column numbers r.list_count v → RowNotedIs ws' r.list_count v w.verdict ws'' → PastOf b' p' w.count ws''
+        noted-past : {ws'' : List ℕ} (v : Look) → Looked r v → LookFound ws ws' column numbers r.list.count v → RowNotedIs ws' r.list.count v w.verdict ws'' → PastOf b' p' w.count ws''
         noted-past Apart k f e = subst (PastOf b' p' w.count) (sym e) grown-past
         noted-past (Noted c) k f e = subst (PastOf b' p' w.count) (sym e) grown-past
         noted-past (Open at) k f e =
@@ -289,5 +307,5 @@ module _ {column : ℕ} {b p ix : List ℕ} {n u : ℕ} {prm imgs bnd s tbl xs r
                   (e slot m c x);
             }
 
-        pub row_made : {ws'' : List ℕ} → RowNotedIs ws' r.list_count q w.verdict ws'' → PastIs column b p n prm imgs bnd s tbl xs rows r b' p' ix' prm' imgs' bnd' w ws''
+        pub row_made : {ws'' : List ℕ} → RowNotedIs ws' r.list.count q w.verdict ws'' → PastIs column b p n prm imgs bnd s tbl xs rows r b' p' ix' prm' imgs' bnd' w ws''
         row_made e = record { row = row_is; past = noted-past q l.looked l.found e }

@@ -1,3 +1,4 @@
 pub mod Past
 pub mod Again
 pub mod PastLaws
+pub mod Words

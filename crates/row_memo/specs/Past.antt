@@ -11,7 +11,7 @@ use Rattle.row_rules.specs.Outcome.{outcome}
 use Rattle.infer_rules.specs.Inferred.{inferred, inferred_app}
 use Rattle.check_rules.specs.Ranks.{smt_lib}
 use Rattle.check_rules.specs.Checked.{checked, checked_app}
-use Rattle.row_answer.specs.declared.Answer.{Answer}
+use Rattle.row_answer.specs.Answer.{Answer}
 use Rattle.row_parts.specs.Site.{TermAsks, TermIs}
 use Rattle.row_slots.specs.Slots.{column_of, PastSays}
 

@@ -3,142 +3,132 @@
 // So its row, a sort or a refusal, is what an App of the same sorts was found to be. The table of those Apps is that of crate row_slots.
 #![tactic(auto)]
 
-ghost use Rattle.check_rules.specs.Ranks.{smt_lib};
-ghost use Rattle.check_rules.specs.Checked.{checked};
-ghost use Rattle.row_parts.specs.Site.{SiteAsks, SiteIs};
-ghost use Rattle.row_application.specs.Contract.{AppCrowded};
-ghost use Rattle.row_memo.specs.Past.{PastAsks, PastIs};
+ghost use Rattle.std.specs.Prelude.{◌≡◌, ℕ};
+ghost use Rattle.row_answer.specs.Arguments.{column_number};
+ghost use Rattle.row_answer.specs.Args.{SameArgs};
+ghost use Rattle.row_slots.specs.Slots.{SamePast};
+ghost use Rattle.store.specs.Changes.{Same};
+ghost use Rattle.matching_tables.specs.Names.{SameNames};
+ghost use Rattle.row_memo.specs.Words.{JudgeAsked, Judged, RowAsked, RowIs};
 
 use check_row::check;
 use infer_row::infer;
+use matching_tables::names::Names;
 use reader::TermRecord;
-use record::kinds::TERM_APP;
-use row_answer::arguments::{CHECKED, INFERRED};
-use row_answer::{Answer, refuse};
+use record::kinds::TermKind;
+use row_answer::arguments::{Args, Column};
 use row_application::checked_app;
 use row_parts::parts_judged;
-use row_rules::Cause;
-use row_slots::{Look, lacks_room, looked_up, row_again, row_noted};
+use row_rules::{Cause, Row};
+use row_slots::{Look, Past, row_again};
+use sheet::ReadSheet;
+use store::Store;
 
-// A record whose row is asked, over the store of `count` sorts with `used` bytes. These two stand apart: side by side they are copied at
-// once, which waits for the stores of both.
+// A column of the rows, and who judges a term anew for it.
+pub trait Judge {
+    // 0 the inferred one, 1 the checked one.
+    ghost column: { ℕ };
+
+    fn column() -> Column
+        ensures { column_number result ≡ column };
+
+    // The row of a record whose parts are gathered in `args`. `look` is what the look-up in `past` gave of it.
+    fn judge(
+        store: &mut Store<'_>,
+        names: &mut Names<'_>,
+        sheet: &ReadSheet<'_>,
+        term: TermRecord,
+        args: &mut Args<'_>,
+        past: &Past<'_>,
+        look: Look,
+    ) -> Row
+        requires { JudgeAsked store.old names.old sheet.now term args.old past.now look }
+        ensures same { Same store.old store.new }
+        ensures names { SameNames names.old names.new }
+        ensures args { SameArgs args.old args.new }
+        ensures row { Judged column store.old names.old sheet.now term args.old store.new names.new result };
+}
+
+// The inferred rows, which `infer` gives.
 #[derive(Drop)]
-pub struct Task {
-    pub count: usize,
-    pub term: TermRecord,
-    pub used: usize,
+pub struct Inferred;
+
+impl Judge for Inferred {
+    ghost column = { 0 };
+
+    fn column() -> Column {
+        Column::Inferred
+    }
+
+    fn judge(
+        store: &mut Store<'_>,
+        names: &mut Names<'_>,
+        sheet: &ReadSheet<'_>,
+        term: TermRecord,
+        args: &mut Args<'_>,
+        _past: &Past<'_>,
+        _look: Look,
+    ) -> Row {
+        infer(store, names, sheet, term, args)
+    }
 }
 
-// The inferred row of the task's record: Below where a term that it names has a refused one; what `past` has noted of it; or what `infer`
-// answers, and then `past` has it. `args` is used up; the tables of names come back as they were.
-pub fn inferred_row(
-    records: &mut [u8],
-    places: &mut [u32],
-    index: &mut [u16],
-    task: Task,
-    params: &mut [u16],
-    images: &mut [u16],
-    bound: &mut [u16],
-    sheet: &[u8],
-    table: &[u16],
-    starts: &[u16],
+// The checked rows, which `checked_app` gives of an App and `check` of any other record. Where the inferred sort of the App is noted to
+// have no room, its own is not made where it is the same.
+#[derive(Drop)]
+pub struct Checked;
+
+impl Judge for Checked {
+    ghost column = { 1 };
+
+    fn column() -> Column {
+        Column::Checked
+    }
+
+    fn judge(
+        store: &mut Store<'_>,
+        names: &mut Names<'_>,
+        sheet: &ReadSheet<'_>,
+        term: TermRecord,
+        args: &mut Args<'_>,
+        past: &Past<'_>,
+        look: Look,
+    ) -> Row {
+        if term.kind == TermKind::App {
+            let crowded = past.lacks_room(look, args);
+            return checked_app(store, names, args, crowded);
+        }
+        check(store, names, sheet, term, args)
+    }
+}
+
+// The record's row in a column: Below where a term that it names has a refused one; what `past` has noted of it; or what is judged, and
+// then `past` has it. `args` is used up; no name is listed or bound before and after.
+pub fn row<J: Judge>(
+    store: &mut Store<'_>,
+    names: &mut Names<'_>,
+    sheet: &ReadSheet<'_>,
     rows: &[u32],
-    args: &mut [u8],
-    past: &mut [u8],
-) -> Answer
-    requires { PastAsks 0 records.old places.old index.old task.count task.used params.old images.old bound.old sheet.now table.now starts.now rows.now task.term args.old past.old }
-    ensures { PastIs 0 records.old places.old task.count params.old images.old bound.old sheet.now table.now starts.now rows.now task.term records.new places.new index.new params.new images.new bound.new result past.new }
+    term: TermRecord,
+    args: &mut Args<'_>,
+    past: &mut Past<'_>,
+) -> Row
+    requires { RowAsked J.column store.old names.old sheet.now rows.now term args.old past.old }
+    ensures same { Same store.old store.new }
+    ensures names { SameNames names.old names.new }
+    ensures args { SameArgs args.old args.new }
+    ensures past { SamePast past.old past.new }
+    ensures row { RowIs J.column store.old names.old sheet.now rows.now term store.new names.new result past.new }
 {
-    let term = task.term;
-    let count = task.count;
-    let used = task.used;
-    if !parts_judged(sheet, rows, INFERRED, term, args) {
-        return refuse(Cause::Below, count, used);
+    let column = J::column();
+    if !parts_judged(sheet.bytes, rows, column, term, args) {
+        return Err(Cause::Below);
     }
-    let n = term.list_count;
-    let look = looked_up(records, places, term, args, INFERRED, past);
+    let look = past.looked_up(store.entries(), term, args, column);
     if let Look::Noted(code) = look {
-        return row_again(code, count, used);
+        return row_again(code);
     }
-    let made = infer(
-        records, places, index, count, used, params, images, bound, sheet, table, starts, term,
-        args,
-    );
-    let v = made.verdict;
-    row_noted(past, n, look, v);
-    made
-}
-
-// The checked row of the task's record, whose parts are gathered in `args`: an App by `checked_app`, any other by `check`. `crowded` says
-// that the inferred sort of the App has no room: its own is then not made where it is the same.
-pub fn checked_anew(
-    records: &mut [u8],
-    places: &mut [u32],
-    index: &mut [u16],
-    task: Task,
-    params: &mut [u16],
-    images: &mut [u16],
-    bound: &mut [u16],
-    sheet: &[u8],
-    table: &[u16],
-    starts: &[u16],
-    args: &mut [u8],
-    crowded: bool,
-) -> Answer
-    requires { SiteAsks records.old places.old index.old task.count task.used params.old images.old bound.old sheet.now table.now starts.now task.term args.old × AppCrowded crowded records.old places.old task.count args.old task.term.list_count }
-    ensures { SiteIs (checked smt_lib) records.old places.old task.count params.old images.old bound.old sheet.now table.now starts.now task.term args.old records.new places.new index.new params.new images.new bound.new result }
-{
-    let term = task.term;
-    let count = task.count;
-    let used = task.used;
-    let kind = term.kind;
-    if kind == TERM_APP {
-        let n = term.list_count;
-        return checked_app(
-            records, places, index, count, used, params, images, bound, args, n, crowded,
-        );
-    }
-    check(
-        records, places, index, count, used, params, images, bound, sheet, table, starts, term,
-        args,
-    )
-}
-
-// The same of the checked row, which `checked_anew` answers.
-pub fn checked_row(
-    records: &mut [u8],
-    places: &mut [u32],
-    index: &mut [u16],
-    task: Task,
-    params: &mut [u16],
-    images: &mut [u16],
-    bound: &mut [u16],
-    sheet: &[u8],
-    table: &[u16],
-    starts: &[u16],
-    rows: &[u32],
-    args: &mut [u8],
-    past: &mut [u8],
-) -> Answer
-    requires { PastAsks 1 records.old places.old index.old task.count task.used params.old images.old bound.old sheet.now table.now starts.now rows.now task.term args.old past.old }
-    ensures { PastIs 1 records.old places.old task.count params.old images.old bound.old sheet.now table.now starts.now rows.now task.term records.new places.new index.new params.new images.new bound.new result past.new }
-{
-    let term = task.term;
-    let count = task.count;
-    let used = task.used;
-    if !parts_judged(sheet, rows, CHECKED, term, args) {
-        return refuse(Cause::Below, count, used);
-    }
-    let n = term.list_count;
-    let look = looked_up(records, places, term, args, CHECKED, past);
-    if let Look::Noted(code) = look {
-        return row_again(code, count, used);
-    }
-    let crowded = lacks_room(past, look, args, n);
-    let made = checked_anew(
-        records, places, index, task, params, images, bound, sheet, table, starts, args, crowded,
-    );
-    let v = made.verdict;
-    row_noted(past, n, look, v);
+    let made = J::judge(store, names, sheet, term, args, past, look);
+    past.row_noted(term.list.count, look, made);
     made
 }

@@ -1,15 +1,15 @@
 -- The three ways through the parts of a record: an argument's row is refused, there are no index terms, or their rows decide.
 use Prim.Native.Nat.{ℕ, ◌+◌, ◌*◌, ◌≤◌, ◌<◌}
 use mathlib.Core.Path.{◌≡◌, refl, ap, ap₂, ◌∙◌}
-use mathlib.Core.Bool.{Bool, true, false, not, cond, true≢false, false≢true}
+use mathlib.Core.Bool.{Bool, true, false, cond, true≢false, false≢true}
 use mathlib.Core.List.{List}
 use mathlib.Core.Option.{Option, none, some}
 use lib.Dec.{eqb}
 use borrow.Author.Tests.{ne_eqb}
+use Rattle.record.specs.Kinds.{term_number}
 use Rattle.record.specs.Number.{u16_at, numbers_at}
 use Rattle.record.specs.Sort.{Sort, Sorts, end}
 use Rattle.record.specs.Record.{sorts_of}
-use Rattle.record.specs.Cases.{not-false}
 use Rattle.reader.specs.declared.TermRecord.{TermRecord}
 use Rattle.row_rules.specs.declared.Cause.TheVariants.{Below}
 use Rattle.row_rules.specs.Verdict.{Verdict, refused}
@@ -18,32 +18,28 @@ use Rattle.row_answer.specs.Arguments.{GatherIs, JudgedIs, arguments_of, codes_o
 use Rattle.row_parts.specs.Site.{own_over, bindings_over, constants_over, indices_over, site_over, index_sorts, term_verdict, Standing, PartsJudgedIs}
 
 over_none : (J : Site → Verdict) (st : List Sort) (s tbl xs : List ℕ) (r : TermRecord) (o : Option Sorts)
-    → over_parts J r.kind r.number (own_over st tbl r) (bindings_over st tbl s r) (constants_over s xs r) (indices_over s xs r) o none ≡ refused Below
+    → over_parts J (term_number r.kind) r.number (own_over st tbl r) (bindings_over st tbl s r) (constants_over s xs r) (indices_over s xs r) o none ≡ refused Below
 over_none J st s tbl xs r none = refl
 over_none J st s tbl xs r (some ts) = refl
 
 module _ (s rows : List ℕ) (column : ℕ) (r : TermRecord) (a : List ℕ) where
   abbrev over : (Site → Verdict) → List Sort → List ℕ → List ℕ → Option Sorts → Option Sorts → Verdict
-  over J st tbl xs o i = over_parts J r.kind r.number (own_over st tbl r) (bindings_over st tbl s r) (constants_over s xs r) (indices_over s xs r) o i
+  over J st tbl xs o i = over_parts J (term_number r.kind) r.number (own_over st tbl r) (bindings_over st tbl s r) (constants_over s xs r) (indices_over s xs r) o i
 
   -- A row of the list is refused.
-  pub parts-lacking : (t : Bool) → not t ≡ true → GatherIs s r.list_at r.list_count rows column a t → PartsJudgedIs s rows column r a false
+  pub parts-lacking : (t : Bool) → t ≡ false → GatherIs s r.list.at r.list.count rows column a t → PartsJudgedIs s rows column r a false
   unfolding term_verdict
-  parts-lacking true d g = absurd (false≢true d)
-  parts-lacking false d g =
+  parts-lacking t d g =
       record {
         judged = λ e. absurd (false≢true e);
         below = λ e. absurd (false≢true e);
-        lacking = λ e J st tbl xs. ap (λ (o : Option Sorts). over J st tbl xs o (index_sorts st s r rows column)) (g.lacking refl st);
+        lacking = λ e J st tbl xs. ap (λ (o : Option Sorts). over J st tbl xs o (index_sorts st s r rows column)) (g.lacking d st);
       }
 
   -- None is: t is the test of the list's rows.
-  module _ (t : Bool) (f : not t ≡ false) (g : GatherIs s r.list_at r.list_count rows column a t) (side : column ≤ 1) where
-    on : t ≡ true
-    on = not-false t f
-
-    known : (n : ℕ) (tbl xs : List ℕ) → Standing n s tbl xs rows r → (j : ℕ) → j < r.list_count → u16_at a (3 + 2 * j) < n
-    known n tbl xs h = gathered-known s r.list_at r.list_count rows column a t g on side h.term n h.known h.was.references
+  module _ (t : Bool) (on : t ≡ true) (g : GatherIs s r.list.at r.list.count rows column a t) (side : column ≤ 1) where
+    known : (n : ℕ) (tbl xs : List ℕ) → Standing n s tbl xs rows r → (j : ℕ) → j < r.list.count → u16_at a (3 + 2 * j) < n
+    known n tbl xs h = gathered-known s r.list.at r.list.count rows column a t g on side h.term n h.known h.was.references
 
     -- The list has its numbers, and the index terms some sorts js.
     both : (J : Site → Verdict) (st : List Sort) (tbl xs : List ℕ) (js : Sorts) → index_sorts st s r rows column ≡ some js
@@ -52,25 +48,25 @@ module _ (s rows : List ℕ) (column : ℕ) (r : TermRecord) (a : List ℕ) wher
     both J st tbl xs js e = ap₂ (over J st tbl xs) (g.sorts on st) e
 
     -- No index terms are asked.
-    pub parts-plain : (r.kind ≡ 11 → ⊥) → PartsJudgedIs s rows column r a true
+    pub parts-plain : (term_number r.kind ≡ 11 → ⊥) → PartsJudgedIs s rows column r a true
     unfolding numbers_at sorts_given
     parts-plain d =
         record {
-          judged = λ e J st tbl xs. both J st tbl xs end (ap (λ (b : Bool). arguments_of st s r.second_at (cond b r.second_count 0) rows column) (ne_eqb r.kind 11 d));
+          judged = λ e J st tbl xs. both J st tbl xs end (ap (λ (b : Bool). arguments_of st s r.second.at (cond b r.second.count 0) rows column) (ne_eqb (term_number r.kind) 11 d));
           below = λ e. known;
           lacking = λ e. absurd (true≢false e);
         }
 
     -- The index terms decide.
-    pub parts-indexed : r.kind ≡ 11 → (q : Bool) → JudgedIs s r.second_at r.second_count rows column q → PartsJudgedIs s rows column r a q
+    pub parts-indexed : term_number r.kind ≡ 11 → (q : Bool) → JudgedIs s r.second.at r.second.count rows column q → PartsJudgedIs s rows column r a q
     unfolding term_verdict
     parts-indexed k q i =
-        let on11 : (st : List Sort) → index_sorts st s r rows column ≡ arguments_of st s r.second_at r.second_count rows column =
-        λ st. ap (λ (j : ℕ). arguments_of st s r.second_at (cond (eqb j 11) r.second_count 0) rows column) k in
+        let on11 : (st : List Sort) → index_sorts st s r rows column ≡ arguments_of st s r.second.at r.second.count rows column =
+        λ st. ap (λ (j : ℕ). arguments_of st s r.second.at (cond (eqb j 11) r.second.count 0) rows column) k in
         record {
-          judged = λ e J st tbl xs. both J st tbl xs (sorts_of st (codes_of rows column (numbers_at s r.second_at r.second_count))) (on11 st ∙ i.sorts e st);
+          judged = λ e J st tbl xs. both J st tbl xs (sorts_of st (codes_of rows column (numbers_at s r.second.at r.second.count))) (on11 st ∙ i.sorts e st);
           below = λ e. known;
           lacking = λ e J st tbl xs.
-              ap (over J st tbl xs (arguments_of st s r.list_at r.list_count rows column)) (on11 st ∙ i.lacking e st)
-              ∙ over_none J st s tbl xs r (arguments_of st s r.list_at r.list_count rows column);
+              ap (over J st tbl xs (arguments_of st s r.list.at r.list.count rows column)) (on11 st ∙ i.lacking e st)
+              ∙ over_none J st s tbl xs r (arguments_of st s r.list.at r.list.count rows column);
         }

@@ -1,9 +1,12 @@
 -- Integer constants by the places of their records: what the bytes there say is what the reader read.
 use Rattle.std.specs.Prelude.{ℕ, zero, suc, ◌+◌, ◌≤◌, ◌<◌, ◌≡◌, refl, Bool, List, [], ◌∷◌, length, get_or, eqb}
-use Rattle.std.proofs.Math.Path.{sym, ap}
+use Rattle.std.proofs.Math.Path.{sym, ap, subst}
 use Rattle.std.proofs.Common.{ap₂, ◌∙◌, ⊎_elim, arith, not-suc-le-zero, eq-or-lt_of_le, le_of_suc-le-suc, eqb-true, eq-eqb, ne_eqb}
 use Rattle.std.proofs.Math.Bool.{true, false, cond}
 use Rattle.std.proofs.Math.Option.{Option, none, some}
+use Rattle.record.specs.Kinds.{term_number, term_kind}
+use Rattle.record.specs.KindLaws.{term_kind-found}
+use Rattle.record.specs.declared.kinds.TermKind.{TermKind}
 use Rattle.record.specs.Number.{u16_at, u32_at}
 use Rattle.record.specs.Sort.{Sort}
 use Rattle.record.specs.Record.{bit}
@@ -11,10 +14,8 @@ use Rattle.record.specs.Store.{given}
 use Rattle.reader.specs.Tables.{term_maps, term_map_of, term_number_of, term_least_of, term_most_of}
 use Rattle.reader.specs.declared.Cursor.{Cursor}
 use Rattle.reader.specs.declared.TermRecord.{TermRecord}
-use Rattle.reader.specs.declared.ReadTerm.TheVariants.{Term}
-use Rattle.reader.specs.Reader.{read_head, read_name, read_number, read_own, read_references, read_pairs, read_second, read_term_fields, read_term}
-use Rattle.reader.specs.Was.{by-need, by-number, by-list, by-head, NumberWas, HeadWas, head-was, name-was, number-was}
-use Rattle.reader.specs.TermWas.{no-term, term_of}
+use Rattle.reader.specs.Reader.{gave, read_head, read_name, read_number, read_own, read_references, read_pairs, read_second, read_term_fields, read_term}
+use Rattle.reader.specs.Was.{no-value, by-need, by-read, by-kind, read-value, NumberWas, HeadWas, head-was, name-was, number-was}
 use Rattle.sheet.specs.Sheet.{TermFields, term_fields}
 use Rattle.sheet.specs.Contract.{each_at, term_read_at, terms_at, TermStands}
 use Rattle.sheet.specs.Stands.{each-length, term_is}
@@ -26,7 +27,7 @@ pub record IntegerWas (s : List ℕ) (x : ℕ) (r : TermRecord) : Type 0 where
   pub inside : x + 6 ≤ length s
   pub value : r.number ≡ u32_at s (x + 2)
 
-module _ (s : List ℕ) (sorts t x : ℕ) (r : TermRecord) (c : Cursor) (integer : r.kind ≡ 0) where
+module _ (s : List ℕ) (sorts t x : ℕ) (r : TermRecord) (c : Cursor) (integer : term_number r.kind ≡ 0) where
   -- A record of kind 0 has no name, and its number comes first.
   number-first : (m k a w : ℕ) (c2 c3 c4 : Cursor) → HeadWas s x m k c2 → m ≡ term_map_of k → k ≡ 0 → w ≡ r.number
       → NumberWas s c2.at (given (bit 2 m) (u16_at s c2.at)) (given (bit 2 m) 2) a c3
@@ -44,32 +45,40 @@ module _ (s : List ℕ) (sorts t x : ℕ) (r : TermRecord) (c : Cursor) (integer
         value = sym ew ∙ r4.value ∙ ap (λ (b : Bool). given b (u32_at s c3.at)) b4 ∙ ap (u32_at s) e3;
       }
 
-  fields-gave : (m k : ℕ) (c2 : Cursor) → HeadWas s x m k c2 → m ≡ term_map_of k → read_term_fields s m k sorts t c2.at ≡ Term r c → IntegerWas s x r
+  fields-gave : (m : ℕ) (kind : TermKind) (c2 : Cursor) → HeadWas s x m (term_number kind) c2 → m ≡ term_map_of (term_number kind)
+      → read_term_fields s m kind sorts t c2.at ≡ gave r c → IntegerWas s x r
   unfolding read_term_fields
-  fields-gave m k c2 head mk h =
-      by-number _ (read_name s m c2.at) h (λ e. no-term)
+  fields-gave m kind c2 head mk h =
+      let k = term_number kind in
+      by-read _ (read_name s m c2.at) h
       (λ a c3 p3 h3.
-      by-number _ (read_number s m (term_number_of k) c3.at) h3 (λ e. no-term)
+      by-read _ (read_number s m (term_number_of k) c3.at) h3
       (λ w c4 p4 h4.
-      by-number _ (read_own s m sorts c4.at) h4 (λ e. no-term)
+      by-read _ (read_own s m sorts c4.at) h4
       (λ o c5 p5 h5.
-      by-list _ (read_references s m (term_least_of k) (term_most_of k) t c5.at) h5 (λ e. no-term)
-      (λ l n c6 p6 h6.
-      by-list _ (read_pairs s m sorts c6.at) h6 (λ e. no-term)
-      (λ ps p c7 p7 h7.
-      by-list _ (read_second s m k n t c7.at) h7 (λ e. no-term)
-      (λ z q c8 p8 h8.
-      let er = term_of h8 in
-      let ek : k ≡ 0 = ap (λ (j : TermRecord). j.kind) er ∙ integer in
+      by-read _ (read_references s m (term_least_of k) (term_most_of k) t c5.at) h5
+      (λ l c6 p6 h6.
+      by-read _ (read_pairs s m sorts c6.at) h6
+      (λ ps c7 p7 h7.
+      by-read _ (read_second s m k l.count t c7.at) h7
+      (λ z c8 p8 h8.
+      let er = read-value h8 in
+      let ek : k ≡ 0 = ap (λ (j : TermRecord). term_number j.kind) er ∙ integer in
       let ew : w ≡ r.number = ap (λ (j : TermRecord). j.number) er in
       number-first m k a w c2 c3 c4 head mk ek ew (name-was s m c2.at p3) (number-was s m (term_number_of k) c3.at p4).0))))))
 
   -- Every record of kind 0 that was read is such a one.
-  pub integer-was : read_term s sorts t x ≡ Term r c → IntegerWas s x r
+  pub integer-was : read_term s sorts t x ≡ gave r c → IntegerWas s x r
   unfolding read_term
   integer-was h =
-      by-head _ (read_head s x) h (λ e. no-term)
-      (λ m k c2 p h1. by-need (eqb m (term_map_of k)) h1 no-term (λ e h2. fields-gave m k c2 (head-was s x m k c2 p) (eqb-true m (term_map_of k) e) h2))
+      by-read _ (read_head s x) h
+      (λ d c2 p h1.
+      by-kind _ (term_kind d.kind) h1
+      (λ kind q h2.
+      let is : d.kind ≡ term_number kind = term_kind-found d.kind kind q in
+      by-need (eqb d.map (term_map_of (term_number kind))) h2 no-value
+      (λ e h3.
+      fields-gave d.map kind c2 (subst (λ (j : ℕ). HeadWas s x d.map j c2) is (head-was s x d c2 p)) (eqb-true d.map (term_map_of (term_number kind)) e) h3)))
 
 some_same : (b : Bool) (v w : ℕ) → (b ≡ true → v ≡ w) → cond b (some v) none ≡ cond b (some w) none
 some_same true v w h = ap some (h refl)
@@ -89,8 +98,8 @@ module _ (s : List ℕ) (m t x : ℕ) (o : TermStands s m t x) where
   unfolding term_fields
   constant_by ts e =
       ap constant_in (term_is s m t x o o.fields o.next o.read ts e)
-      ∙ some_same (eqb o.fields.kind 0) o.fields.number (u32_at s (x + 2))
-      (λ k. (integer-was s m t x o.fields o.next (eqb-true o.fields.kind 0 k) o.read).value)
+      ∙ some_same (eqb (term_number o.fields.kind) 0) o.fields.number (u32_at s (x + 2))
+      (λ k. (integer-was s m t x o.fields o.next (eqb-true (term_number o.fields.kind) 0 k) o.read).value)
       ∙ ap (λ (k : ℕ). cond (eqb k 0) (some (u32_at s (x + 2))) none) (sym o.was.tag)
 
 -- The record with the number i among the first n.

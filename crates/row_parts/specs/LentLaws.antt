@@ -1,5 +1,6 @@
 -- A row makes no Par where the store has none, so the tables of names lent before it are lent over the store after it.
 use Rattle.std.specs.Prelude.{ℕ, ◌≡◌, refl, Bool, true, false, cond, List, get_or, eqb}
+use Rattle.record.specs.Kinds.{term_number}
 use Rattle.record.specs.Number.{numbers_at}
 use Rattle.record.specs.Sort.{Sort, bool}
 use Rattle.record.specs.Record.{leaf}
@@ -11,7 +12,7 @@ use Rattle.row_rules.specs.Verdict.{Verdict}
 use Rattle.row_rules.specs.Term.{Site}
 use Rattle.row_rules.specs.Parless.{ParlessVerdict, ParlessSite, parless_each}
 use Rattle.row_rules.proofs.ParlessLaws.{parless-at, parless-bindings, parless-rows, parless-over}
-use Rattle.row_answer.specs.declared.Answer.{Answer}
+use Rattle.row_answer.specs.Answer.{Answer}
 use Rattle.row_answer.specs.Arguments.{arguments_of, bound_numbers}
 use Rattle.row_answer.specs.Lent.{Lent, lent-after}
 use Rattle.row_parts.specs.Site.{own_over, bindings_over, constants_over, indices_over, index_sorts, term_verdict, TermIs}
@@ -30,12 +31,12 @@ term-parless : (J : Site → Verdict) → Parless J → (st : List Sort) (s tbl 
 unfolding term_verdict parless
 term-parless J f st s tbl xs rows column r h =
     let own = get_or st (get_or tbl r.sort 0) leaf in
-    parless-over J f r.kind r.number (own_over st tbl r) (bindings_over st tbl s r) (constants_over s xs r) (indices_over s xs r)
-    (arguments_of st s r.list_at r.list_count rows column) (index_sorts st s r rows column)
-    (parless-one (eqb r.kind 5) own (cond (eqb r.kind 12) own bool) (parless-at st (get_or tbl r.sort 0) h)
-    (parless-one (eqb r.kind 12) own bool (parless-at st (get_or tbl r.sort 0) h) refl))
-    (parless-bindings st (pair_names_at s r.pairs_at r.pairs_count) (bound_numbers tbl s r.pairs_at r.pairs_count) h)
-    (λ ts e. parless-rows st rows column (numbers_at s r.list_at r.list_count) h ts e)
+    parless-over J f (term_number r.kind) r.number (own_over st tbl r) (bindings_over st tbl s r) (constants_over s xs r) (indices_over s xs r)
+    (arguments_of st s r.list.at r.list.count rows column) (index_sorts st s r rows column)
+    (parless-one (eqb (term_number r.kind) 5) own (cond (eqb (term_number r.kind) 12) own bool) (parless-at st (get_or tbl r.sort 0) h)
+    (parless-one (eqb (term_number r.kind) 12) own bool (parless-at st (get_or tbl r.sort 0) h) refl))
+    (parless-bindings st (pair_names_at s r.pairs.at r.pairs.count) (bound_numbers tbl s r.pairs.at r.pairs.count) h)
+    (λ ts e. parless-rows st rows column (numbers_at s r.list.at r.list.count) h ts e)
 
 -- THE TABLES LENT BEFORE A ROW ARE LENT AFTER IT.
 pub row-lent : {J : Site → Verdict} {column : ℕ} {b p : List ℕ} {n : ℕ} {prm imgs bnd s tbl xs rows : List ℕ} {r : TermRecord} {b' p' ix' prm' imgs' bnd' : List ℕ} {q : Answer} → Parless J → Lent b p n prm imgs bnd

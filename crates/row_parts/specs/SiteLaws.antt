@@ -6,6 +6,7 @@ use Rattle.std.proofs.Common.{sym, ap, ap₂, subst, ◌∙◌, arith}
 use Rattle.std.proofs.Math.Option.{Option}
 use Rattle.std.proofs.Math.ListN.{get_or}
 use borrow.Author.Tests.{eqb-true}
+use Rattle.record.specs.Kinds.{term_number}
 use Rattle.record.specs.Number.{u16_at, numbers_at}
 use Rattle.record.specs.Sort.{Sort, Sorts, ◌then◌, bool}
 use Rattle.record.specs.Record.{bit, leaf, sorts_of}
@@ -23,8 +24,7 @@ use Rattle.row_rules.specs.Verdict.{Verdict}
 use Rattle.row_rules.specs.Lists.{binding_sorts}
 use Rattle.row_rules.specs.Term.{Site, over_parts, constants_at, sorts_given, verdict_at}
 use Rattle.row_rules.specs.Outcome.{row_sort}
-use Rattle.row_answer.specs.declared.Answer.{Answer}
-use Rattle.row_answer.specs.Answer.{refusing}
+use Rattle.row_answer.specs.Answer.{Answer, refusing}
 use Rattle.row_answer.specs.AnswerLaws.{judged-as, answered-as, made-refused}
 use Rattle.row_answer.specs.Arguments.{arguments_of, looked, bound_numbers, binding_at, constants_in, ConstantsAsk}
 use Rattle.row_parts.specs.Site.{own_over, bindings_over, term_verdict, Standing, TermAsks, TermIs, SiteAsks, SiteIs, PartsJudgedAsk, PartsJudgedIs}
@@ -70,13 +70,13 @@ pair-sorts st tbl s x zero = refl
 pair-sorts st tbl s x (suc n) = ap (λ ss. get_or st (get_or tbl (u16_at s (x + 2)) 0) leaf then ss) (pair-sorts st tbl s (x + 4) n)
 
 -- The sorts of the bindings are those of their store numbers.
-pub bindings-sorts : (st : List Sort) (tbl s : List ℕ) (r : TermRecord) → binding_sorts (bindings_over st tbl s r) ≡ sorts_of st (bound_numbers tbl s r.pairs_at r.pairs_count)
-bindings-sorts st tbl s r = pair-sorts st tbl s r.pairs_at r.pairs_count
+pub bindings-sorts : (st : List Sort) (tbl s : List ℕ) (r : TermRecord) → binding_sorts (bindings_over st tbl s r) ≡ sorts_of st (bound_numbers tbl s r.pairs.at r.pairs.count)
+bindings-sorts st tbl s r = pair-sorts st tbl s r.pairs.at r.pairs.count
 
 -- Without pairs there is no binding.
-pub bindings-none : (st : List Sort) (tbl s : List ℕ) (r : TermRecord) → r.pairs_count ≡ 0 → bindings_over st tbl s r ≡ []
+pub bindings-none : (st : List Sort) (tbl s : List ℕ) (r : TermRecord) → r.pairs.count ≡ 0 → bindings_over st tbl s r ≡ []
 unfolding bindings_of pair_names_at
-bindings-none st tbl s r e = ap (λ (n : ℕ). bindings_of st (pair_names_at s r.pairs_at n) (bound_numbers tbl s r.pairs_at n)) e
+bindings-none st tbl s r e = ap (λ (n : ℕ). bindings_of st (pair_names_at s r.pairs.at n) (bound_numbers tbl s r.pairs.at n)) e
 
 first-binding : (st : List Sort) (tbl s : List ℕ) (x n : ℕ) → 0 < n
     → bindings_of st (pair_names_at s x n) (bound_numbers tbl s x n)
@@ -90,11 +90,11 @@ first-binding st tbl s x (suc n) l =
     (λ (y m : ℕ). record { name = u16_at s x; sort = get_or st (get_or tbl (u16_at s y) 0) leaf } ∷ bindings_of st (pair_names_at s (x + 4) m) (bound_numbers tbl s (x + 4) m)) e f
 
 -- The first binding.
-pub bindings-first : (st : List Sort) (tbl s : List ℕ) (r : TermRecord) → 0 < r.pairs_count
+pub bindings-first : (st : List Sort) (tbl s : List ℕ) (r : TermRecord) → 0 < r.pairs.count
     → bindings_over st tbl s r
-    ≡ record { name = u16_at s r.pairs_at; sort = get_or st (binding_at s r.pairs_at tbl 0) leaf }
-    ∷ bindings_of st (pair_names_at s (r.pairs_at + 4) (r.pairs_count - 1)) (bound_numbers tbl s (r.pairs_at + 4) (r.pairs_count - 1))
-bindings-first st tbl s r l = first-binding st tbl s r.pairs_at r.pairs_count l
+    ≡ record { name = u16_at s r.pairs.at; sort = get_or st (binding_at s r.pairs.at tbl 0) leaf }
+    ∷ bindings_of st (pair_names_at s (r.pairs.at + 4) (r.pairs.count - 1)) (bound_numbers tbl s (r.pairs.at + 4) (r.pairs.count - 1))
+bindings-first st tbl s r l = first-binding st tbl s r.pairs.at r.pairs.count l
 
 ---------------------------------------------------------------- what a record that stands tells
 -- The own sort of the record over the store: a number of the sheet's table, one of the store, and its sort.
@@ -105,10 +105,10 @@ pub record OwnIs (b p : List ℕ) (n : ℕ) (tbl : List ℕ) (r : TermRecord) : 
 
 -- At most 64 pairs that lie in the sheet, their sorts numbers of the sheet's table and of the store.
 pub record Bound (n : ℕ) (s tbl : List ℕ) (r : TermRecord) : Type 0 where
-  pub few : r.pairs_count ≤ 64
-  pub within : r.pairs_at + 4 * r.pairs_count ≤ length s
-  pub each : (j : ℕ) → j < r.pairs_count → u16_at s (r.pairs_at + 4 * j + 2) < length tbl
-  pub below : (j : ℕ) → j < r.pairs_count → binding_at s r.pairs_at tbl j < n
+  pub few : r.pairs.count ≤ 64
+  pub within : r.pairs.at + 4 * r.pairs.count ≤ length s
+  pub each : (j : ℕ) → j < r.pairs.count → u16_at s (r.pairs.at + 4 * j + 2) < length tbl
+  pub below : (j : ℕ) → j < r.pairs.count → binding_at s r.pairs.at tbl j < n
 
 module _ {n : ℕ} {s tbl xs rows : List ℕ} {r : TermRecord} (h : Standing n s tbl xs rows r) where
   -- Its parts can be gathered in either column.
@@ -125,27 +125,27 @@ module _ {n : ℕ} {s tbl xs rows : List ℕ} {r : TermRecord} (h : Standing n s
       }
 
   -- A sort number of a record that has one.
-  sort-listed : bit 8 (term_map_of r.kind) ≡ true → (r.sort < length tbl) × (get_or tbl r.sort 0 < n)
+  sort-listed : bit 8 (term_map_of (term_number r.kind)) ≡ true → (r.sort < length tbl) × (get_or tbl r.sort 0 < n)
   sort-listed e = let l = h.was.sort e in (omega (arith, h.numbered.inside), h.numbered.known r.sort l)
 
   -- The own sort of a Var (5).
-  pub var-owns : (b p : List ℕ) → r.kind ≡ 5 → OwnIs b p n tbl r
+  pub var-owns : (b p : List ℕ) → term_number r.kind ≡ 5 → OwnIs b p n tbl r
   unfolding bit term_map_of term_maps sort_at
   var-owns b p e =
       let l = sort-listed (ap (λ (k : ℕ). bit 8 (term_map_of k)) e) in
       record { inside = l.0; known = l.1; is = own_at e }
     where
-      own_at : r.kind ≡ 5 → own_over (store_of b p n) tbl r ≡ get_or (store_of b p n) (get_or tbl r.sort 0) leaf
+      own_at : term_number r.kind ≡ 5 → own_over (store_of b p n) tbl r ≡ get_or (store_of b p n) (get_or tbl r.sort 0) leaf
       own_at d = rw d refl
 
   -- The own sort of an AsOp (12).
-  pub as_own : (b p : List ℕ) → r.kind ≡ 12 → OwnIs b p n tbl r
+  pub as_own : (b p : List ℕ) → term_number r.kind ≡ 12 → OwnIs b p n tbl r
   unfolding bit term_map_of term_maps sort_at
   as_own b p e =
       let l = sort-listed (ap (λ (k : ℕ). bit 8 (term_map_of k)) e) in
       record { inside = l.0; known = l.1; is = own_at e }
     where
-      own_at : r.kind ≡ 12 → own_over (store_of b p n) tbl r ≡ get_or (store_of b p n) (get_or tbl r.sort 0) leaf
+      own_at : term_number r.kind ≡ 12 → own_over (store_of b p n) tbl r ≡ get_or (store_of b p n) (get_or tbl r.sort 0) leaf
       own_at d = rw d refl
 
   -- The bindings of a Binder; another record has none.
@@ -155,61 +155,61 @@ module _ {n : ℕ} {s tbl xs rows : List ℕ} {r : TermRecord} (h : Standing n s
         few = h.was.paired;
         within = h.was.pairs;
         each = λ j l. omega (arith, h.was.bindings j l, h.numbered.inside);
-        below = λ j l. h.numbered.known (u16_at s (r.pairs_at + 4 * j + 2)) (h.was.bindings j l);
+        below = λ j l. h.numbered.known (u16_at s (r.pairs.at + 4 * j + 2)) (h.was.bindings j l);
       }
 
   -- The terms of its list can be asked for their constants.
-  pub list-constants : ConstantsAsk s xs r.list_at r.list_count
+  pub list-constants : ConstantsAsk s xs r.list.at r.list.count
   list-constants =
       record {
         within = h.was.list;
         term = λ j l. omega (arith, h.was.references j l, h.starts);
-        start = λ j l. let i = u16_at s (r.list_at + 2 * j) in constant-asks s h.sorts i (get_or xs i 0) (h.before i (h.was.references j l));
+        start = λ j l. let i = u16_at s (r.list.at + 2 * j) in constant-asks s h.sorts i (get_or xs i 0) (h.before i (h.was.references j l));
       }
 
   -- The index terms of a ParamOp (11) can be asked for their constants.
-  pub index-constants : r.kind ≡ 11 → ConstantsAsk s xs r.second_at r.second_count
+  pub index-constants : term_number r.kind ≡ 11 → ConstantsAsk s xs r.second.at r.second.count
   index-constants e =
-      let other : (j : ℕ) → j < r.second_count → u16_at s (r.second_at + 2 * j) < h.term = h.was.indices (λ d. absurd (omega arith)) in
+      let other : (j : ℕ) → j < r.second.count → u16_at s (r.second.at + 2 * j) < h.term = h.was.indices (λ d. absurd (omega arith)) in
       record {
         within = h.was.second;
         term = λ j l. omega (arith, other j l, h.starts);
-        start = λ j l. let i = u16_at s (r.second_at + 2 * j) in constant-asks s h.sorts i (get_or xs i 0) (h.before i (other j l));
+        start = λ j l. let i = u16_at s (r.second.at + 2 * j) in constant-asks s h.sorts i (get_or xs i 0) (h.before i (other j l));
       }
 
   -- At most 64 terms in its list.
-  pub count-few : r.list_count ≤ 64
+  pub count-few : r.list.count ≤ 64
   count-few = h.was.few
 
   -- A known kind.
-  pub kind-known : r.kind < 13
+  pub kind-known : term_number r.kind < 13
   kind-known = h.was.known
 
   -- The number and the count by the tables of the reader.
-  number-most : (k : ℕ) → r.kind ≡ k → r.number ≤ term_number_of k
+  number-most : (k : ℕ) → term_number r.kind ≡ k → r.number ≤ term_number_of k
   number-most k e = subst (λ (j : ℕ). r.number ≤ term_number_of j) e h.was.number
 
-  count-least : (k : ℕ) → r.kind ≡ k → term_least_of k ≤ r.list_count
-  count-least k e = subst (λ (j : ℕ). term_least_of j ≤ r.list_count) e h.was.least
+  count-least : (k : ℕ) → term_number r.kind ≡ k → term_least_of k ≤ r.list.count
+  count-least k e = subst (λ (j : ℕ). term_least_of j ≤ r.list.count) e h.was.least
 
-  count_most : (k : ℕ) → r.kind ≡ k → r.list_count ≤ term_most_of k
-  count_most k e = subst (λ (j : ℕ). r.list_count ≤ term_most_of j) e h.was.most
+  count_most : (k : ℕ) → term_number r.kind ≡ k → r.list.count ≤ term_most_of k
+  count_most k e = subst (λ (j : ℕ). r.list.count ≤ term_most_of j) e h.was.most
 
   -- The operator of an Op (7).
-  pub op-number : r.kind ≡ 7 → r.number ≤ 134
+  pub op-number : term_number r.kind ≡ 7 → r.number ≤ 134
   unfolding term_number_of term_numbers
   op-number e = number-most 7 e
 
-  binder-least : r.kind ≡ 8 → 1 ≤ r.list_count
+  binder-least : term_number r.kind ≡ 8 → 1 ≤ r.list.count
   unfolding term_least_of term_leasts
   binder-least e = count-least 8 e
 
-  binder-most : r.kind ≡ 8 → r.list_count ≤ 1
+  binder-most : term_number r.kind ≡ 8 → r.list.count ≤ 1
   unfolding term_most_of term_mosts
   binder-most e = count_most 8 e
 
   -- A Binder (8) has just its body.
-  pub binder-one : r.kind ≡ 8 → r.list_count ≡ 1
+  pub binder-one : term_number r.kind ≡ 8 → r.list.count ≡ 1
   binder-one e = omega (arith, binder-least e, binder-most e)
 
 ---------------------------------------------------------------- the verdict on the sheet's record
@@ -265,15 +265,15 @@ module _ {n : ℕ} {s tbl xs rows : List ℕ} {r : TermRecord} (h : Standing n s
       constants-by s h.sorts xs h.term h.before trees (trees-length st tbl h.sorts) (numbers_at s x m)
       (λ j k. let o : j < m = omega (arith, length-numbers_at s x m) in omega (arith, number_at s x m j o, l j o))
 
-  own-there : (k : ℕ) → bit 8 (term_map_of k) ≡ true → eqb r.kind k ≡ true → r.sort < h.sorts
-  own-there k b e = h.was.sort (ap (λ (j : ℕ). bit 8 (term_map_of j)) (eqb-true r.kind k e) ∙ b)
+  own-there : (k : ℕ) → bit 8 (term_map_of k) ≡ true → eqb (term_number r.kind) k ≡ true → r.sort < h.sorts
+  own-there k b e = h.was.sort (ap (λ (j : ℕ). bit 8 (term_map_of j)) (eqb-true (term_number r.kind) k e) ∙ b)
 
-  own-by : own_over st tbl r ≡ cond (eqb r.kind 5) (get_or trees r.sort leaf) (cond (eqb r.kind 12) (get_or trees r.sort leaf) bool)
+  own-by : own_over st tbl r ≡ cond (eqb (term_number r.kind) 5) (get_or trees r.sort leaf) (cond (eqb (term_number r.kind) 12) (get_or trees r.sort leaf) bool)
   unfolding bit term_map_of term_maps
   own-by =
-      tree-by st tbl h.sorts r.sort (eqb r.kind 5) (cond (eqb r.kind 12) (get_or st (get_or tbl r.sort 0) leaf) bool)
-      (cond (eqb r.kind 12) (get_or trees r.sort leaf) bool) (own-there 5 refl)
-      (tree-by st tbl h.sorts r.sort (eqb r.kind 12) bool bool (own-there 12 refl) refl)
+      tree-by st tbl h.sorts r.sort (eqb (term_number r.kind) 5) (cond (eqb (term_number r.kind) 12) (get_or st (get_or tbl r.sort 0) leaf) bool)
+      (cond (eqb (term_number r.kind) 12) (get_or trees r.sort leaf) bool) (own-there 5 refl)
+      (tree-by st tbl h.sorts r.sort (eqb (term_number r.kind) 12) bool bool (own-there 12 refl) refl)
 
   -- THE VERDICT ON THE RECORD over the store is the definition's on the sheet's record, behind the records before it.
   pub verdict-at : (J : Site → Verdict) (column : ℕ)
@@ -281,9 +281,9 @@ module _ {n : ℕ} {s tbl xs rows : List ℕ} {r : TermRecord} (h : Standing n s
       ≡ verdict_at J (λ i. row_sort st rows column i) (terms_at s (trees_of st tbl h.sorts) xs h.term) (term_fields s (trees_of st tbl h.sorts) r)
   unfolding term_verdict verdict_at term_fields
   verdict-at J column =
-      over-same J r.kind r.number (arguments_of st s r.list_at r.list_count rows column) own-by
-      (bindings-by st tbl s h.sorts r.pairs_at r.pairs_count h.was.bindings)
-      (constants-at r.list_at r.list_count h.was.references)
-      (indices-by s xs r.second_at r.second_count records (eqb r.kind 11)
-      (λ e. let k = eqb-true r.kind 11 e in constants-at r.second_at r.second_count (h.was.indices (λ d. absurd (omega arith)))))
-      (ap (sorts_given (λ i. row_sort st rows column i)) (numbers-by s r.second_at r.second_count (eqb r.kind 11)))
+      over-same J (term_number r.kind) r.number (arguments_of st s r.list.at r.list.count rows column) own-by
+      (bindings-by st tbl s h.sorts r.pairs.at r.pairs.count h.was.bindings)
+      (constants-at r.list.at r.list.count h.was.references)
+      (indices-by s xs r.second.at r.second.count records (eqb (term_number r.kind) 11)
+      (λ e. let k = eqb-true (term_number r.kind) 11 e in constants-at r.second.at r.second.count (h.was.indices (λ d. absurd (omega arith)))))
+      (ap (sorts_given (λ i. row_sort st rows column i)) (numbers-by s r.second.at r.second.count (eqb (term_number r.kind) 11)))

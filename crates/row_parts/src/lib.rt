@@ -1,34 +1,34 @@
 // The parts of a term record, as both rows take them.
 #![tactic(auto)]
 
+ghost use Rattle.std.specs.Prelude.{◌≡◌, true};
+ghost use Rattle.row_answer.specs.Arguments.{column_number};
+ghost use Rattle.row_answer.specs.Args.{SameArgs};
 ghost use Rattle.row_parts.specs.Site.{PartsJudgedAsk, PartsJudgedIs};
 
 use reader::TermRecord;
-use record::kinds::TERM_PARAM_OP;
-use row_answer::arguments::{all_judged, gather};
+use record::kinds::TermKind;
+use row_answer::arguments::{Args, Column, all_judged};
 
-// Writes the store numbers of the sorts of the record's arguments into `args` from byte 3 on, by their rows in a column; false
-// where one of these rows is refused, or for a ParamOp (11) that of an index term.
+// Writes the store numbers of the sorts of the record's arguments into `args`, by their rows in a column; false where one of
+// these rows is refused, or for a ParamOp (11) that of an index term.
 pub fn parts_judged(
     sheet: &[u8],
     rows: &[u32],
-    column: usize,
+    column: Column,
     term: TermRecord,
-    args: &mut [u8],
+    args: &mut Args<'_>,
 ) -> bool
-    requires { PartsJudgedAsk sheet.now rows.now column term args.old }
-    ensures { PartsJudgedIs sheet.now rows.now column term args.new result }
+    requires { PartsJudgedAsk sheet.now rows.now (column_number column) term args.old.bytes.now }
+    ensures same { SameArgs args.old args.new }
+    ensures count { result ≡ true → args.new.count ≡ term.list.count }
+    ensures parts { PartsJudgedIs sheet.now rows.now (column_number column) term args.new.bytes.now result }
 {
-    let kind = term.kind;
-    let list = term.list_at;
-    let count = term.list_count;
-    if !gather(sheet, list, count, rows, column, args) {
+    if !args.gather(sheet, term.list, rows, column) {
         return false;
     }
-    if kind != TERM_PARAM_OP {
+    if term.kind != TermKind::ParamOp {
         return true;
     }
-    let second = term.second_at;
-    let seconds = term.second_count;
-    all_judged(sheet, second, seconds, rows, column)
+    all_judged(sheet, term.second, rows, column)
 }

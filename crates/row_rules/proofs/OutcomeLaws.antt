@@ -1,19 +1,19 @@
 -- What the outcome of a verdict leaves: a refusal the store as it was, an answer the store with the sorts inside it and its
 -- number there; and when a limit is met, 22 or 23. A coded row keeps its meaning while the store grows.
-use Rattle.std.specs.Prelude.{ℕ, ◌*◌, ◌≤◌, ◌<◌, ◌≡◌, refl, Bool, true, false, not, ◌&&◌, ◌||◌, List, ◌↔◌, length, get_or, eqb, leb}
+use Rattle.std.specs.Prelude.{ℕ, ◌*◌, ◌≤◌, ◌<◌, ◌≡◌, refl, Bool, true, false, ◌&&◌, List, ◌↔◌, length, get_or, eqb, leb}
 use Rattle.std.proofs.Common.{sym, ap, subst, ◌∙◌, true≢false, arith, leb-true, eq-eqb, ne_eqb}
 use Rattle.std.proofs.lemmas.Bool.{false≢true}
 use Rattle.record.specs.Sort.{Sort}
 use Rattle.record.specs.Record.{leaf}
-use Rattle.record.specs.Store.{memb, intern, index_of, bytes_of, room}
+use Rattle.record.specs.Store.{intern, index_of, bytes_of, room}
 use Rattle.record.specs.Cases.{and_right, or-first, or-second, not-true, by_test, clash}
-use Rattle.record.specs.SortLists.{Once, Ordered, Starts, starts-self, starts-trans, starts-intern, starts-at, starts-count, once-intern, ordered-intern, index-found, memb-intern}
-use Rattle.record.specs.StoreTheorems.{inside, intern-holds}
+use Rattle.record.specs.SortLists.{Starts, starts-self, starts-trans, starts-intern, starts-at, starts-count, once-intern, ordered-intern, index-found, memb-intern}
+use Rattle.record.specs.StoreTheorems.{intern-holds}
 use Rattle.sheet.specs.Sheet.{Lengths}
 use Rattle.row_rules.specs.declared.Cause.{Cause}
 use Rattle.row_rules.specs.declared.Cause.TheVariants.{Below, Panics, Limit, Full, NoRank, Count, Misfit, Unassigned, Barred, NoAssignment}
-use Rattle.row_rules.specs.Verdict.{Verdict, sort, refused, need, number_of}
-use Rattle.row_rules.specs.Outcome.{within, CodedStore, numbered, outcome}
+use Rattle.row_rules.specs.Verdict.{Verdict, sort, refused, number_of}
+use Rattle.row_rules.specs.Outcome.{within, outcome}
 use Rattle.row_rules.specs.Outcomes.{answered, Accepted, no_limit, Passes, Overflows, Grown}
 use Rattle.row_rules.specs.Meaning.{Means, limited}
 

@@ -1,6 +1,6 @@
 -- NO PAR: verdicts, records and stores in which none stands, what keeps it so in lists of sorts, and that a row leaves a store
 -- without a Par as it found it in this.
-use Rattle.std.specs.Prelude.{ℕ, zero, suc, ◌+◌, ◌*◌, ◌≡◌, refl, Bool, true, false, cond, ◌&&◌, List, [], ◌∷◌, ◌++◌, get_or, ltb}
+use Rattle.std.specs.Prelude.{ℕ, zero, suc, ◌+◌, ◌*◌, ◌≡◌, refl, Bool, true, false, cond, List, [], ◌∷◌, ◌++◌, get_or, ltb}
 use Rattle.std.proofs.lemmas.Bool.{false≢true}
 use Rattle.std.proofs.Math.Option.{Option, none, some}
 use Rattle.record.specs.Sort.{Sort, Sorts, var, par, node, end, ◌then◌}

@@ -1,4 +1,5 @@
 pub mod Verdict
+pub mod Number
 pub mod Lists
 pub mod Term
 pub mod Outcome

@@ -1,5 +1,5 @@
 -- What the outcome of a verdict may be, in words that the theorems on outcomes (proofs/OutcomeLaws.antt) and the contracts use.
-use Rattle.std.specs.Prelude.{ℕ, ◌*◌, ◌<◌, ◌≡◌, Bool, true, false, not, ◌||◌, List, length, get_or}
+use Rattle.std.specs.Prelude.{◌*◌, ◌<◌, ◌≡◌, Bool, true, false, not, ◌||◌, List, length, get_or}
 use Rattle.record.specs.Sort.{Sort}
 use Rattle.record.specs.Record.{leaf}
 use Rattle.record.specs.Store.{memb, intern, index_of, room}

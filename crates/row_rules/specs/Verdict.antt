@@ -1,11 +1,9 @@
 -- A verdict on one term or question: a sort, or the cause of its refusal, with document 01's numbers.
-use Rattle.std.specs.Prelude.{ℕ, ◌*◌, Bool, true, false}
+use Rattle.std.specs.Prelude.{ℕ, ◌*◌, Bool, true, false, Result, Ok, Err}
 use Rattle.std.proofs.Math.Option.{Option, none, some}
 use Rattle.record.specs.Sort.{Sort}
 use Rattle.row_rules.specs.declared.Cause.{Cause}
 use Rattle.row_rules.specs.declared.Cause.TheVariants.{Below, Panics, Limit, Full, NoRank, Count, Misfit, Unassigned, Barred, NoAssignment}
-use Rattle.row_rules.specs.declared.RowVerdict.{RowVerdict}
-use Rattle.row_rules.specs.declared.RowVerdict.TheVariants.{Sort as Number, Refused}
 
 -- Document 01, "Causes and numbers".
 abbrev pub number_of : Cause → ℕ
@@ -21,9 +19,9 @@ number_of Barred = 28
 number_of NoAssignment = 29
 
 -- "refusal × 65,536 + store number, 0 in a refused row".
-abbrev pub code_of : RowVerdict → ℕ
-code_of (Number k) = k
-code_of (Refused c) = number_of c * 65536
+abbrev pub code_of : Result ℕ Cause → ℕ
+code_of (Ok k) = k
+code_of (Err c) = number_of c * 65536
 
 -- A verdict on trees, free of any store.
 pub data Verdict : Type 0 where

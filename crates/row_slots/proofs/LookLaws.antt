@@ -1,31 +1,21 @@
 -- The row of a code: a small one is a number of the store, any other a cause. And what the look-up of a record asks and found.
-use Prim.Native.Nat.{ℕ, suc, ◌*◌, ◌/◌, ◌≤◌, ◌<◌}
+use Prim.Native.Nat.{ℕ, ◌*◌, ◌/◌, ◌≤◌, ◌<◌}
 use mathlib.Core.Path.{◌≡◌, refl, sym, ap, subst, ◌∙◌}
 use mathlib.Core.List.{List}
 use native.Mathlib.Omega.{arith}
+use Rattle.record.specs.Kinds.{term_number}
 use Rattle.record.specs.Number.{u16_at}
 use Rattle.reader.specs.declared.TermRecord.{TermRecord}
 use Rattle.store.specs.Entry.{EntryAsks}
 use Rattle.store.specs.Walk.{entry-asks}
 use Rattle.row_rules.specs.declared.Cause.{Cause}
 use Rattle.row_rules.specs.Verdict.{number_of}
-use Rattle.row_answer.specs.declared.Answer.{Answer}
-use Rattle.row_answer.specs.Answer.{refusing, accepting}
+use Rattle.row_answer.specs.Answer.{Answer, refusing, accepting}
 use Rattle.row_slots.specs.declared.Look.{Look}
 use Rattle.row_slots.specs.declared.Look.TheVariants.{Apart, Noted, Open}
 use Rattle.row_slots.specs.Slots.{SeekAsks, SeekIs, Coded, AgainIs, LookAsks, Looked, LookedIs}
 
 ---------------------------------------------------------------- codes
--- The last cause is the one left.
-step : (k n : ℕ) → k ≤ n → (n ≡ k → ⊥) → suc k ≤ n
-step k n l d = omega (arith, l, d)
-
-pub last-cause : (n : ℕ) → 20 ≤ n → n ≤ 29 → (n ≡ 20 → ⊥) → (n ≡ 21 → ⊥) → (n ≡ 22 → ⊥) → (n ≡ 23 → ⊥) → (n ≡ 24 → ⊥) → (n ≡ 25 → ⊥) → (n ≡ 26 → ⊥) → (n ≡ 27 → ⊥)
-    → (n ≡ 28 → ⊥) → 29 ≡ n
-last-cause n l h d₀ d₁ d₂ d₃ d₄ d₅ d₆ d₇ d₈ =
-    let z : 29 ≤ n = step 28 n (step 27 n (step 26 n (step 25 n (step 24 n (step 23 n (step 22 n (step 21 n (step 20 n l d₀) d₁) d₂) d₃) d₄) d₅) d₆) d₇) d₈ in
-    omega (arith, z, h)
-
 -- The row of a code.
 pub again-sort : (c n u : ℕ) {w : Answer} → c < 65536 → w ≡ accepting c n u → AgainIs c n u w
 again-sort c n u {w} l e =
@@ -38,12 +28,12 @@ again-refused {c} n u x {w} h l ex e =
     (record { code = ap (λ (i : ℕ). i * 65536) ex ∙ h.whole l; small = λ k q. let z : ◌≡◌ {A = ℕ} 0 1 = cc in absurd (omega arith); count = refl; used = refl })
 
 ---------------------------------------------------------------- the look-up
-module _ {b p : List ℕ} {r : TermRecord} {a : List ℕ} {column : ℕ} (h : LookAsks b p r a column) (two : 2 ≤ r.list_count) where
+module _ {b p : List ℕ} {r : TermRecord} {a : List ℕ} {column : ℕ} (h : LookAsks b p r a column) (two : 2 ≤ r.list.count) where
   -- The head is a sort of the store.
   pub head-asks : {k : ℕ} → k ≡ u16_at a 3 → EntryAsks b p k
   head-asks {k} e = let z : u16_at a 3 < h.count = h.below 0 (omega arith) in entry-asks b p h.count k h.stored (omega (arith, e, z))
 
-  pub seek-asks : SeekAsks a r.list_count column
+  pub seek-asks : SeekAsks a r.list.count column
   seek-asks = record { key = record { some = two; few = h.few; within = h.within }; side = h.side }
 
 -- Any other record says nothing.
@@ -51,10 +41,10 @@ pub look-apart : {r : TermRecord} {a : List ℕ} {column : ℕ} {ws : List ℕ} 
 look-apart = record { looked = tt; found = tt; less = λ slot key c x. x }
 
 -- What was found of an App.
-looked-by : (r : TermRecord) (q : Look) → r.kind ≡ 6 → Looked r q
+looked-by : (r : TermRecord) (q : Look) → term_number r.kind ≡ 6 → Looked r q
 looked-by r Apart e = tt
 looked-by r (Noted c) e = e
 looked-by r (Open at) e = e
 
-pub look_is : {r : TermRecord} {a : List ℕ} {column : ℕ} {ws ws' : List ℕ} {q : Look} → r.kind ≡ 6 → SeekIs ws a r.list_count column ws' q → LookedIs r a column ws ws' q
+pub look_is : {r : TermRecord} {a : List ℕ} {column : ℕ} {ws ws' : List ℕ} {q : Look} → term_number r.kind ≡ 6 → SeekIs ws a r.list.count column ws' q → LookedIs r a column ws ws' q
 look_is {r} {q = q} e i = record { looked = looked-by r q e; found = i.found; less = i.less }

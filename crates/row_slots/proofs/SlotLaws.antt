@@ -2,7 +2,7 @@
 use Prim.Native.Nat.{ℕ, zero, suc, ◌+◌, ◌*◌, ◌-◌, ◌/◌, ◌%◌, ◌≤◌, ◌<◌}
 use mathlib.Core.Path.{◌≡◌, refl, sym, ap, ap₂, subst, ◌∙◌}
 use mathlib.Core.Bool.{Bool, true}
-use mathlib.Core.List.{List, ◌∷◌}
+use mathlib.Core.List.{List, [], ◌∷◌}
 use mathlib.Core.Logic.{inl, inr}
 use native.Mathlib.Omega.{arith}
 use native.Mathlib.Nat.{div-add-mod'}
@@ -10,14 +10,16 @@ use lib.ListN.{length, get_or, set, take, drop, length-set, length-drop}
 use lib.Seq.{get_or-take, get_or-drop, get_or-set_same, get_or-set_other, length-take-le}
 use lib.Dec.{eqb, ltb}
 use borrow.Author.Tests.{eqb-true, eqb-false, ltb-true, ltb-false}
+use Rattle.std.specs.List.{starts_with}
+use Rattle.std.specs.Cmp.Lexicographic.{same_text}
+use Rattle.std.proofs.lemmas.List.{take_rest}
 use Rattle.record.specs.Number.{u16_at, numbers_at}
 use Rattle.record.specs.Decode.{written}
 use Rattle.record.specs.Append.{written-before, written_in, written_after, length-written}
 use Rattle.record.specs.Codec.{u16-read}
 use Rattle.record.specs.Cases.{by_test}
 use Rattle.row_answer.specs.Arguments.{put_at, put-long}
-use Rattle.row_slots.specs.declared.Recall.{Recall}
-use Rattle.row_slots.specs.declared.Recall.TheVariants.{Code}
+use Rattle.std.specs.Prelude.{Option, Some}
 use Rattle.row_slots.specs.declared.Look.{Look}
 use Rattle.row_slots.specs.declared.Look.TheVariants.{Open}
 use Rattle.row_slots.specs.Slots.{code_end, no_room, KeyAsks, Tells, LackAsks, LackIs, slot_size, column_of, slot_number, slot_of, code_at, PastSays, PastSlotAt, PastSlotAsks, RecalledIs, OpenedIs, SlotNoteAsks, SlotNotedIs}
@@ -50,7 +52,7 @@ part-long l x k o = length-take-le k (drop x l) (omega (arith, length-drop x l))
 
 -- WHAT IS RECALLED: a slot with as many terms and their numbers.
 pub recalled-is : {ws a : List ℕ} {n at v : ℕ} → PastSlotAsks ws at a n → get_or ws at 0 ≡ n → take (2 * n) (drop (at + 4) ws) ≡ take (2 * n) (drop 3 a) → v ≡ code_at ws at → v < code_end
-    → RecalledIs ws at a n (Code v)
+    → RecalledIs ws at a n (Some v)
 recalled-is {ws} {a} {n} {at} {v} h en key ev small =
     let same : (y : ℕ) → y < 2 * n → get_or a (3 + y) 0 ≡ get_or ws (at + 4 + y) 0 =
     λ y o. sym (part_at a 3 (2 * n) y o) ∙ ap (λ (l : List ℕ). get_or l y 0) (sym key) ∙ part_at ws (at + 4) (2 * n) y o in (
@@ -65,7 +67,15 @@ recalled-is {ws} {a} {n} {at} {v} h en key ev small =
           },
     )
 
-pub recalled-said : (ws a : List ℕ) (at n : ℕ) {c : ℕ} (q : Recall) → RecalledIs ws at a n q → q ≡ Code c → (slot : ℕ) → at ≡ slot * slot_size → PastSays ws slot (numbers_at a 3 n) c
+-- The bytes behind the slot's head begin with those of the key.
+pub begins : {ws a : List ℕ} {n at : ℕ} → PastSlotAsks ws at a n → {key : List ℕ} {t : Bool} → key ≡ take (2 * n) (drop 3 a) → t ≡ true
+    → t ≡ starts_with eqb (take (length ws - (at + 4)) (drop (at + 4) ws)) key → take (2 * n) (drop (at + 4) ws) ≡ take (2 * n) (drop 3 a)
+begins {ws} {a} {n} {at} h {key} ek et e =
+    let long : length key ≡ 2 * n = ap length ek ∙ part-long a 3 (2 * n) (omega (arith, h.key.within)) in
+    let same : key ≡ take (length key) (take (length ws - (at + 4)) (drop (at + 4) ws)) = same_text _ _ (sym et ∙ e) in
+    sym (sym ek ∙ same ∙ ap (take (length key)) (take_rest ws (at + 4)) ∙ ap (λ (k : ℕ). take k (drop (at + 4) ws)) long)
+
+pub recalled-said : (ws a : List ℕ) (at n : ℕ) {c : ℕ} (q : Option ℕ) → RecalledIs ws at a n q → q ≡ Some c → (slot : ℕ) → at ≡ slot * slot_size → PastSays ws slot (numbers_at a 3 n) c
 recalled-said ws a at n q i e = (subst (RecalledIs ws at a n) e i).1
 
 -- The slots of a column.
@@ -164,22 +174,9 @@ module _ {ws : List ℕ} {at : ℕ} {a : List ℕ} {n : ℕ} (h : PastSlotAsks w
             (λ q. other-said filled h.here filled-early filled-late slot key c s (eqb-false slot h.here.slot q));
       }
 
-  -- The same over what the calls leave, whose bytes to copy are told by an end.
-  ended : 3 + 2 * n - 3 ≡ 2 * n
-  ended = omega arith
-
-  pub open-fits : at + 4 + length (take (3 + 2 * n - 3) (drop 3 a)) ≤ length (set ws at 0)
-  open-fits = omega (arith, ap (λ (m : ℕ). length (take m (drop 3 a))) ended, terms-fit)
-
-  module _ {y : List ℕ} (ey : y ≡ written (set ws at 0) (at + 4) (take (3 + 2 * n - 3) (drop 3 a))) where
-    is-filled : y ≡ filled
-    is-filled = ey ∙ ap (λ (m : ℕ). written emptied (at + 4) (take m (drop 3 a))) ended
-
-    pub open-long : length y ≡ length ws
-    open-long = ap length is-filled ∙ filled-long
-
-    pub open_is : OpenedIs ws at a n y
-    open_is = subst (OpenedIs ws at a n) (sym is-filled) filled_is
+  -- The same over what the calls leave: the bytes to copy, and the table with them.
+  pub open_is : {t y : List ℕ} → t ≡ terms → y ≡ written (set ws at 0) (at + 4) t → OpenedIs ws at a n y
+  open_is e ey = subst (OpenedIs ws at a n) (sym (ey ∙ ap (written emptied (at + 4)) e)) filled_is
 
 ---------------------------------------------------------------- a code noted
 module _ {ws : List ℕ} {at n c : ℕ} (h : SlotNoteAsks ws at n c) where
@@ -246,13 +243,18 @@ module _ {ws : List ℕ} {at n c : ℕ} (h : SlotNoteAsks ws at n c) where
       (λ q.
       inl (other-said coded h.here coded-early (λ y o. coded-far y (λ z. absurd (omega (arith, z))) (omega arith)) slot key d s (eqb-false slot h.here.slot q)))
 
-  -- The same over what the calls leave.
-  module _ {x : List ℕ} (ex : x ≡ put_at (set ws at n) (at + 1) (c % 65536)) where
-    pub note-long : length x ≡ length ws
-    note-long = ap length ex ∙ numbered-long
-
-    pub note-is : SlotNotedIs ws at n c (set x (at + 3) (c / 65536))
-    note-is = subst (λ (y : List ℕ). SlotNotedIs ws at n c (set y (at + 3) (c / 65536))) (sym ex) noted-is
+  -- The same with the first three of the bytes of the code.
+  pub note-is : (bytes : List ℕ) → bytes ≡ c % 256 ∷ c / 256 % 256 ∷ c / 65536 % 256 ∷ c / 16777216 % 256 ∷ []
+      → SlotNotedIs ws at n c (set (set (set (set ws at n) (at + 1) (get_or bytes 0 0)) (at + 2) (get_or bytes 1 0)) (at + 3) (get_or bytes 2 0))
+  note-is bytes e =
+      let low : c % 65536 % 256 ≡ get_or bytes 0 0 = omega (arith, ap (λ (l : List ℕ). get_or l 0 0) e) in
+      let high : c % 65536 / 256 ≡ get_or bytes 1 0 = omega (arith, ap (λ (l : List ℕ). get_or l 1 0) e) in
+      let cause : c / 65536 ≡ get_or bytes 2 0 = omega (arith, ap (λ (l : List ℕ). get_or l 2 0) e, h.small) in
+      let second : at + 1 + 1 ≡ at + 2 = omega arith in
+      subst (λ (i : ℕ). SlotNotedIs ws at n c (set (set (set counted (at + 1) i) (at + 2) (get_or bytes 1 0)) (at + 3) (get_or bytes 2 0))) low
+      (subst (λ (i : ℕ). SlotNotedIs ws at n c (set (set (set counted (at + 1) (c % 65536 % 256)) (at + 2) i) (at + 3) (get_or bytes 2 0))) high
+      (subst (λ (i : ℕ). SlotNotedIs ws at n c (set (set (set counted (at + 1) (c % 65536 % 256)) (at + 2) (c % 65536 / 256)) (at + 3) i)) cause
+      (subst (λ (i : ℕ). SlotNotedIs ws at n c (set (set (set counted (at + 1) (c % 65536 % 256)) i (c % 65536 / 256)) (at + 3) (c / 65536))) second noted-is)))
 
 ---------------------------------------------------------------- no room
 pub lack-open : {a : List ℕ} {n at : ℕ} {q : Look} → LackAsks a n q → q ≡ Open at → KeyAsks a n

@@ -1,18 +1,17 @@
 -- The lent table of Apps that were judged before: what its slots say, and what the functions on it, on the code of a row and on the
 -- look-up of a record ask and promise. Definitions only.
-use Rattle.std.specs.Prelude.{ℕ, ◌+◌, ◌*◌, ◌/◌, ◌%◌, ◌≤◌, ◌<◌, ◌≡◌, Bool, true, List, ◌⊎◌, length, get_or}
+use Rattle.std.specs.Prelude.{ℕ, ◌+◌, ◌*◌, ◌/◌, ◌%◌, ◌≤◌, ◌<◌, ◌≡◌, Bool, true, List, ◌⊎◌, length, get_or, Option, Some, None, Result, Ok}
+use Rattle.record.specs.Kinds.{term_number}
 use Rattle.record.specs.Number.{u16_at, numbers_at}
 use Rattle.record.specs.Decode.{Stored}
 use Rattle.reader.specs.declared.TermRecord.{TermRecord}
-use Rattle.row_rules.specs.declared.RowVerdict.{RowVerdict}
-use Rattle.row_rules.specs.declared.RowVerdict.TheVariants.{Sort as Number}
+use Rattle.row_rules.specs.declared.Cause.{Cause}
 use Rattle.row_rules.specs.declared.Cause.TheVariants.{Full}
 use Rattle.row_rules.specs.Verdict.{number_of, code_of}
-use Rattle.row_answer.specs.declared.Answer.{Answer}
-use Rattle.row_slots.specs.declared.Recall.{Recall}
-use Rattle.row_slots.specs.declared.Recall.TheVariants.{Code, Unnoted}
+use Rattle.row_answer.specs.Answer.{Answer}
 use Rattle.row_slots.specs.declared.Look.{Look}
 use Rattle.row_slots.specs.declared.Look.TheVariants.{Apart, Noted, Open}
+use Rattle.row_slots.specs.declared.Past.{Past}
 
 ---------------------------------------------------------------- the table
 -- The bytes of a slot, how many slots a column has, and how many terms an App has at most.
@@ -80,9 +79,9 @@ pub record PastSlotAsks (ws : List ℕ) (at : ℕ) (a : List ℕ) (n : ℕ) : Ty
   pub here : PastSlotAt ws at
 
 -- What is recalled of the slot at a place is said there.
-abbrev pub RecalledIs : List ℕ → ℕ → List ℕ → ℕ → Recall → Type 0
-RecalledIs ws at a n (Code c) = (c < code_end) × ((slot : ℕ) → at ≡ slot * slot_size → PastSays ws slot (numbers_at a 3 n) c)
-RecalledIs ws at a n Unnoted = Unit {0}
+abbrev pub RecalledIs : List ℕ → ℕ → List ℕ → ℕ → Option ℕ → Type 0
+RecalledIs ws at a n (Some c) = (c < code_end) × ((slot : ℕ) → at ≡ slot * slot_size → PastSays ws slot (numbers_at a 3 n) c)
+RecalledIs ws at a n None = Unit {0}
 
 -- A slot of ws that has the numbers key of n terms.
 pub record OpenAt (ws : List ℕ) (at n : ℕ) (key : List ℕ) : Type 0 where
@@ -146,12 +145,12 @@ abbrev pub SlotNotedIs : List ℕ → ℕ → ℕ → ℕ → List ℕ → Type 
 SlotNotedIs ws at n c ws' = (slot : ℕ) (key : List ℕ) (d : ℕ) → PastSays ws' slot key d → PastSays ws slot key d ⊎ ((slot * slot_size ≡ at) × (key ≡ numbers_at ws (at + 4) n) × (d ≡ c))
 
 -- The same of a row, which is noted where the look-up left a slot for it.
-abbrev pub RowNoteAsks : List ℕ → ℕ → Look → RowVerdict → Type 0
+abbrev pub RowNoteAsks : List ℕ → ℕ → Look → Result ℕ Cause → Type 0
 RowNoteAsks ws n Apart v = Unit {0}
 RowNoteAsks ws n (Noted c) v = Unit {0}
 RowNoteAsks ws n (Open at) v = SlotNoteAsks ws at n (code_of v)
 
-abbrev pub RowNotedIs : List ℕ → ℕ → Look → RowVerdict → List ℕ → Type 0
+abbrev pub RowNotedIs : List ℕ → ℕ → Look → Result ℕ Cause → List ℕ → Type 0
 RowNotedIs ws n Apart v ws' = ws' ≡ ws
 RowNotedIs ws n (Noted c) v ws' = ws' ≡ ws
 RowNotedIs ws n (Open at) v ws' = SlotNotedIs ws at n (code_of v) ws'
@@ -164,9 +163,12 @@ pub record Coded (c : ℕ) : Type 0 where
 
 pub record AgainIs (c n u : ℕ) (r : Answer) : Type 0 where
   pub code : code_of r.verdict ≡ c
-  pub small : (k : ℕ) → r.verdict ≡ Number k → k < 65536
+  pub small : (k : ℕ) → r.verdict ≡ Ok k → k < 65536
   pub count : r.count ≡ n
   pub used : r.used ≡ u
+
+abbrev pub again : Result ℕ Cause → ℕ → ℕ → Answer
+again r n u = record { verdict = r; count = n; used = u }
 
 ---------------------------------------------------------------- the look-up
 -- A column of the rows, and a record with the numbers of its arguments, which are those of a store, in a from byte 3 on.
@@ -174,17 +176,21 @@ pub record LookAsks (b p : List ℕ) (r : TermRecord) (a : List ℕ) (column : �
   pub side : column ≤ 1
   pub count : ℕ
   pub stored : Stored b p count
-  pub below : (j : ℕ) → j < r.list_count → u16_at a (3 + 2 * j) < count
-  pub few : r.list_count ≤ most_terms
-  pub within : 3 + 2 * r.list_count ≤ length a
+  pub below : (j : ℕ) → j < r.list.count → u16_at a (3 + 2 * j) < count
+  pub few : r.list.count ≤ most_terms
+  pub within : 3 + 2 * r.list.count ≤ length a
 
 -- APART SAYS NOTHING; else the record is an App, and its terms were looked up.
 abbrev pub Looked : TermRecord → Look → Type 0
 Looked r Apart = Unit {0}
-Looked r (Noted c) = r.kind ≡ 6
-Looked r (Open at) = r.kind ≡ 6
+Looked r (Noted c) = term_number r.kind ≡ 6
+Looked r (Open at) = term_number r.kind ≡ 6
 
 pub record LookedIs (r : TermRecord) (a : List ℕ) (column : ℕ) (ws ws' : List ℕ) (q : Look) : Type 0 where
   pub looked : Looked r q
-  pub found : LookFound ws ws' column (numbers_at a 3 r.list_count) r.list_count q
+  pub found : LookFound ws ws' column (numbers_at a 3 r.list.count) r.list.count q
   pub less : Less ws ws'
+
+-- The table stays in its bytes.
+abbrev pub SamePast : Past → Past → Type 0
+SamePast s t = (t.bytes.ghost_name ≡ s.bytes.ghost_name) × (length t.bytes.now ≡ length s.bytes.now)

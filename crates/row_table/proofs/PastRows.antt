@@ -8,10 +8,10 @@ use Rattle.row_rules.specs.Verdict.{code_of}
 use Rattle.infer_rules.specs.Inferred.{inferred}
 use Rattle.check_rules.specs.Ranks.{smt_lib}
 use Rattle.check_rules.specs.Checked.{checked}
-use Rattle.row_answer.specs.declared.Answer.{Answer}
+use Rattle.row_answer.specs.Answer.{Answer}
 use Rattle.row_parts.specs.Site.{TermIs}
 use Rattle.row_memo.specs.Past.{column_verdict, PastOf, PastAsks, PastIs}
-use Rattle.store.specs.declared.Counts.{Counts}
+use Rattle.questions.specs.Word.{Counts}
 use Rattle.row_table.specs.Table.{BothAsk, BothAre}
 use Rattle.row_table.proofs.TableLaws.{first-asks, second-asks, both-are}
 

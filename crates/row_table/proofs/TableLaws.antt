@@ -11,6 +11,7 @@ use lib.ListN.{length, get_or, set, take, drop, length-set, take-append-drop}
 use lib.Seq.{take-suc-set, drop-set-lt, drop-drop, get_or-take, get_or-set_same, get_or-set_other, length-take-le}
 use lib.Dec.{eqb}
 use borrow.Author.Tests.{eqb-true, eqb-false}
+use Rattle.record.specs.Kinds.{term_number}
 use Rattle.record.specs.Number.{u16_at, numbers_at}
 use Rattle.record.specs.Codec.{length-numbers_at, number_at}
 use Rattle.record.specs.Sort.{Sort, Sorts}
@@ -22,14 +23,13 @@ use Rattle.reader.specs.Reader.{read_term}
 use Rattle.reader.specs.TermWas.{TermWas}
 use Rattle.reader.specs.declared.Cursor.{Cursor}
 use Rattle.reader.specs.declared.TermRecord.{TermRecord}
-use Rattle.reader.specs.declared.ReadTerm.TheVariants.{Term as TermAt}
 use Rattle.sheet.specs.Sheet.{Lengths, TermFields, term_fields}
 use Rattle.sheet.specs.Trees.{trees_of, trees-length}
 use Rattle.sheet.specs.Contract.{each_at, term_read_at, terms_at, TermStands}
 use Rattle.sheet.specs.Stands.{Numbered, term-again, term_is}
 use Rattle.store.specs.Good.{Good}
-use Rattle.row_rules.specs.declared.RowVerdict.{RowVerdict}
-use Rattle.row_rules.specs.declared.RowVerdict.TheVariants.{Sort as Number, Refused}
+use Rattle.std.specs.Prelude.{Result, Ok, Err}
+use Rattle.row_rules.specs.declared.Cause.{Cause}
 use Rattle.row_rules.specs.Verdict.{Verdict, code_of}
 use Rattle.row_rules.specs.Term.{Site, over_parts, consed, sorts_given}
 use Rattle.row_rules.specs.Outcome.{CodedStore, outcome, row_sort}
@@ -40,7 +40,7 @@ use Rattle.check_rules.specs.Checked.{checked}
 use Rattle.check_rules.specs.Ranks.{smt_lib}
 use Rattle.check_rules.proofs.RankSound.{smt_lib-sound}
 use Rattle.check_rules.proofs.ParlessTheorems.{checked-parless}
-use Rattle.row_answer.specs.declared.Answer.{Answer}
+use Rattle.row_answer.specs.Answer.{Answer}
 use Rattle.row_answer.specs.Answer.{AnswerIs}
 use Rattle.row_answer.specs.AnswerLaws.{answer-more, answer-number}
 use Rattle.row_answer.specs.Arguments.{arguments_of}
@@ -50,7 +50,7 @@ use Rattle.row_parts.specs.SiteLaws.{verdict-at}
 use Rattle.row_parts.specs.LentLaws.{row-lent}
 use Rattle.judge_rules.specs.Rows.{RowsSoFar, row_of, rows_added, checked_after, both_rows, rows_of}
 use Rattle.questions.specs.All.{trees-starts}
-use Rattle.store.specs.declared.Counts.{Counts}
+use Rattle.questions.specs.Word.{Counts}
 use Rattle.row_table.specs.Table.{tabled, RowsKnown, BothAsk, BothAre, TurnAsks, TermRowsAre, RowsAsk, RowsAre}
 
 ---------------------------------------------------------------- rows that are read
@@ -75,10 +75,10 @@ module _ (st : List Sort) (rows rows' : List ℕ) (column t : ℕ) (same : (i : 
 
 -- The references that a record's rows are read by.
 second_below : {s : List ℕ} {m t x : ℕ} {r : TermRecord} {c : Cursor} → TermWas s m t x r c
-    → (j : ℕ) → j < cond (eqb r.kind 11) r.second_count 0 → u16_at s (r.second_at + 2 * j) < t
+    → (j : ℕ) → j < cond (eqb (term_number r.kind) 11) r.second.count 0 → u16_at s (r.second.at + 2 * j) < t
 second_below {s} {m} {t} {x} {r} {c} w j =
-    by_test (eqb r.kind 11)
-    (λ q. rw q (λ o. let e = eqb-true r.kind 11 q in w.indices (λ z. absurd (omega (arith, e, z))) j o))
+    by_test (eqb (term_number r.kind) 11)
+    (λ q. rw q (λ o. let e = eqb-true (term_number r.kind) 11 q in w.indices (λ z. absurd (omega (arith, e, z))) j o))
     (λ q. rw q (λ o. absurd (not-suc-le-zero o)))
 
 -- THE VERDICT ON A STANDING RECORD is read off the rows before its own.
@@ -93,9 +93,9 @@ module _ {n : ℕ} {s tbl xs rows : List ℕ} {r : TermRecord} (h : Standing n s
   unfolding term_verdict
   verdict-taken =
       ap₂
-      (λ (o q : Option Sorts). over_parts J r.kind r.number (own_over st tbl r) (bindings_over st tbl s r) (constants_over s xs r) (indices_over s xs r) o q)
-      (arguments-agree st rows before column h.term taken s r.list_at r.list_count h.was.references)
-      (arguments-agree st rows before column h.term taken s r.second_at (cond (eqb r.kind 11) r.second_count 0)
+      (λ (o q : Option Sorts). over_parts J (term_number r.kind) r.number (own_over st tbl r) (bindings_over st tbl s r) (constants_over s xs r) (indices_over s xs r) o q)
+      (arguments-agree st rows before column h.term taken s r.list.at r.list.count h.was.references)
+      (arguments-agree st rows before column h.term taken s r.second.at (cond (eqb (term_number r.kind) 11) r.second.count 0)
       (second_below h.was))
 
   -- It stands before those rows alone.
@@ -145,9 +145,9 @@ code-known : {b p : List ℕ} {n : ℕ} {v : Verdict} {b' p' ix' : List ℕ} {q 
     → code_of q.verdict < 65536 → code_of q.verdict < q.count
 code-known {b} {p} {n} {v} {b'} {p'} {ix'} {q} a = go q.verdict refl
   where
-    go : (w : RowVerdict) → q.verdict ≡ w → code_of w < 65536 → code_of w < q.count
-    go (Number k) e o = (answer-number b p n v b' p' ix' q a k e).0
-    go (Refused c) e o = absurd (omega (arith, refusal-large c))
+    go : (w : Result ℕ Cause) → q.verdict ≡ w → code_of w < 65536 → code_of w < q.count
+    go (Ok k) e o = (answer-number b p n v b' p' ix' q a k e).0
+    go (Err c) e o = absurd (omega (arith, refusal-large c))
 
 ---------------------------------------------------------------- two rows written
 module _ (rows : List ℕ) (k x y : ℕ) where
@@ -279,7 +279,7 @@ module _ {b p ix : List ℕ} {n u : ℕ} {prm imgs bnd s tbl : List ℕ} {m : �
   pub stands_here : TermStands s m t (get_or xs t 0)
   stands_here = h.stands t (omega arith)
 
-  module _ (r : TermRecord) (c : Cursor) (e : read_term s m t (get_or xs t 0) ≡ TermAt r c) where
+  module _ (r : TermRecord) (c : Cursor) (e : read_term s m t (get_or xs t 0) ≡ Ok (r, c)) where
     abbrev standing : Standing n s tbl xs rows r
     standing =
         record {

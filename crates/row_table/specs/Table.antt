@@ -13,7 +13,7 @@ use Rattle.check_rules.specs.Ranks.{smt_lib}
 use Rattle.row_answer.specs.Lent.{Lent}
 use Rattle.row_parts.specs.Site.{Standing}
 use Rattle.judge_rules.specs.Rows.{RowsSoFar, both_rows, rows_of}
-use Rattle.store.specs.declared.Counts.{Counts}
+use Rattle.questions.specs.Word.{Counts}
 
 -- A store and the coded rows so far.
 abbrev pub tabled : List Sort → List ℕ → RowsSoFar

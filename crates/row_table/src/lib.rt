@@ -1,179 +1,124 @@
 // The rows: each term in order gets its inferred row, then its checked row, both over one store.
 #![tactic(auto)]
 
-ghost use Rattle.row_memo.specs.Past.{PastOf};
-ghost use Rattle.row_table.specs.Table.{BothAsk, BothAre, TurnAsks, TermRowsAre, RowsAsk, RowsAre};
+ghost use Rattle.store.specs.Changes.{Same};
+ghost use Rattle.matching_tables.specs.Names.{SameNames};
+ghost use Rattle.row_table.specs.Words.{BothAsked, BothWritten, TurnAsked, TurnWritten, RowsAsked, RowsWritten};
+ghost use Rattle.row_memo.specs.Words.{PastTrue};
+ghost use Rattle.row_slots.specs.Slots.{SamePast};
 
-use reader::{Cursor, ReadTerm, TermRecord};
+use matching_tables::names::Names;
+use reader::{Cursor, TermRecord};
 use record::limits::{LONGEST_RECORD, NAMES};
+use row_answer::arguments::Args;
 use row_answer::code;
-use row_memo::{Task, checked_row, inferred_row};
-use row_slots::TABLE;
-use sheet::SheetCounts;
-use store::Counts;
+use row_memo::{Checked, Inferred, row};
+use row_slots::{Past, TABLE};
+use sheet::ReadSheet;
+use store::Store;
 
-// A term by its number, and the store's count and bytes in use before its rows; these two apart, as in `Task`.
-#[derive(Drop)]
-pub struct TermTurn {
-    pub count: usize,
-    pub t: usize,
-    pub used: usize,
-}
-
-// Writes both rows of the turn's term, with this record, at 2 t: the inferred one, then the checked one over the store after it; the
-// store's count and bytes in use after them. `past` notes what Apps were found to be, as of each below.
+// Writes both rows of the term `t`, which has this record, at 2 t: the inferred one, then the checked one over the store after it.
+// `past` notes what Apps were found to be, as of each below.
 pub fn rows_of(
-    records: &mut [u8],
-    places: &mut [u32],
-    index: &mut [u16],
-    turn: TermTurn,
-    params: &mut [u16],
-    images: &mut [u16],
-    bound: &mut [u16],
-    sheet: &[u8],
-    table: &[u16],
-    starts: &[u16],
+    store: &mut Store<'_>,
+    names: &mut Names<'_>,
+    sheet: &ReadSheet<'_>,
     rows: &mut [u32],
     term: TermRecord,
-    past: &mut [u8],
-) -> Counts
-    requires { BothAsk records.old places.old index.old turn.count turn.used params.old images.old bound.old sheet.now table.now starts.now rows.old term turn.t × PastOf records.old places.old turn.count past.old }
-    ensures { BothAre records.old places.old turn.count params.old images.old bound.old sheet.now table.now starts.now rows.old term turn.t records.new places.new index.new params.new images.new bound.new rows.new result × PastOf records.new places.new result.count past.new }
+    t: usize,
+    past: &mut Past<'_>,
+)
+    requires asked { BothAsked store.old names.old sheet.now rows.old term t }
+    requires past { PastTrue store.old past.old }
+    ensures same { Same store.old store.new }
+    ensures names { SameNames names.old names.new }
+    ensures rows { BothWritten store.old names.old sheet.now rows.old term t store.new names.new rows.new }
+    ensures past { PastTrue store.new past.new }
+    ensures same_past { SamePast past.old past.new }
 {
-    let mut args = [0u8; LONGEST_RECORD];
-    let first = Task {
-        term,
-        count: turn.count,
-        used: turn.used,
+    let mut buffer = [0u8; LONGEST_RECORD];
+    let mut args = Args {
+        bytes: &mut buffer,
+        count: 0,
     };
-    let one = inferred_row(
-        records, places, index, first, params, images, bound, sheet, table, starts, rows,
-        &mut args, past,
-    );
-    let second = Task {
-        term,
-        count: one.count,
-        used: one.used,
-    };
-    let two = checked_row(
-        records, places, index, second, params, images, bound, sheet, table, starts, rows,
-        &mut args, past,
-    );
-    let t = turn.t;
-    let inferred = one.verdict;
-    let checked = two.verdict;
+    let inferred = row::<Inferred>(store, names, sheet, rows, term, &mut args, past);
+    let checked = row::<Checked>(store, names, sheet, rows, term, &mut args, past);
     rows[2 * t] = code(inferred);
     rows[2 * t + 1] = code(checked);
-    Counts {
-        count: two.count,
-        used: two.used,
-    }
 }
 
-// Both rows of the turn's term, whose record is read again at its place. Where none is read, which what is asked rules out, no row.
+// Both rows of the term `t` of a sheet with this many sorts, whose record is read again at its place. Where none is read, which what is
+// asked rules out, no row.
 pub fn term_rows(
-    records: &mut [u8],
-    places: &mut [u32],
-    index: &mut [u16],
-    turn: TermTurn,
-    params: &mut [u16],
-    images: &mut [u16],
-    bound: &mut [u16],
-    sheet: &[u8],
-    table: &[u16],
+    store: &mut Store<'_>,
+    names: &mut Names<'_>,
+    sheet: &ReadSheet<'_>,
     sorts: usize,
-    starts: &[u16],
     rows: &mut [u32],
-    past: &mut [u8],
-) -> Counts
-    requires { TurnAsks records.old places.old index.old turn.count turn.used params.old images.old bound.old sheet.now table.now sorts starts.now rows.old turn.t × PastOf records.old places.old turn.count past.old }
-    ensures { TermRowsAre records.old places.old turn.count params.old images.old bound.old sheet.now table.now sorts starts.now rows.old turn.t records.new places.new index.new params.new images.new bound.new rows.new result × PastOf records.new places.new result.count past.new }
+    t: usize,
+    past: &mut Past<'_>,
+)
+    requires asked { TurnAsked store.old names.old sheet.now sorts rows.old t }
+    requires past { PastTrue store.old past.old }
+    ensures same { Same store.old store.new }
+    ensures names { SameNames names.old names.new }
+    ensures rows { TurnWritten store.old names.old sheet.now sorts rows.old t store.new names.new rows.new }
+    ensures past { PastTrue store.new past.new }
+    ensures same_past { SamePast past.old past.new }
 {
-    let t = turn.t;
-    let at = starts[t] as usize;
-    let cursor = Cursor { at };
-    let read = cursor.term(sheet, sorts, t);
-    match read {
-        ReadTerm::Term(term, _) => rows_of(
-            records, places, index, turn, params, images, bound, sheet, table, starts, rows, term,
-            past,
-        ),
-        ReadTerm::NoTerm(_) => Counts {
-            count: turn.count,
-            used: turn.used,
-        },
+    let cursor = Cursor {
+        at: sheet.starts[t] as usize,
+    };
+    if let Ok((term, _)) = cursor.term(sheet.bytes, sorts, t) {
+        rows_of(store, names, sheet, rows, term, t, past);
     }
 }
 
-// Writes both rows of each term of a sheet that was read, whose places are `starts`, into `rows`; the store's count and bytes in use
-// after them.
+// Writes both rows of each of the first `terms` terms of a sheet with this many sorts into `rows`.
 pub fn rows_past(
-    records: &mut [u8],
-    places: &mut [u32],
-    index: &mut [u16],
-    counts: SheetCounts,
-    params: &mut [u16],
-    images: &mut [u16],
-    bound: &mut [u16],
-    sheet: &[u8],
-    table: &[u16],
-    starts: &[u16],
+    store: &mut Store<'_>,
+    names: &mut Names<'_>,
+    sheet: &ReadSheet<'_>,
+    sorts: usize,
+    terms: usize,
     rows: &mut [u32],
-    past: &mut [u8],
-) -> Counts
-    requires { RowsAsk records.old places.old index.old counts.count counts.used params.old images.old bound.old sheet.now table.now counts.sorts starts.now counts.terms rows.old × PastOf records.old places.old counts.count past.old }
-    ensures { RowsAre records.old places.old counts.count params.old images.old bound.old sheet.now table.now counts.sorts starts.now counts.terms rows.old records.new places.new index.new params.new images.new bound.new rows.new result × PastOf records.new places.new result.count past.new }
+    past: &mut Past<'_>,
+)
+    requires asked { RowsAsked store.old names.old sheet.now sorts terms rows.old }
+    requires past { PastTrue store.old past.old }
+    ensures same { Same store.old store.new }
+    ensures names { SameNames names.old names.new }
+    ensures rows { RowsWritten store.old names.old sheet.now sorts terms rows.old store.new names.new rows.new }
+    ensures past { PastTrue store.new past.new }
+    ensures same_past { SamePast past.old past.new }
 {
-    let sorts = counts.sorts;
-    let terms = counts.terms;
-    let mut n = counts.count;
-    let mut u = counts.used;
-    let mut t = 0;
-    while t < terms {
-        let turn = TermTurn {
-            t,
-            count: n,
-            used: u,
-        };
-        let done = term_rows(
-            records, places, index, turn, params, images, bound, sheet, table, sorts, starts, rows,
-            past,
-        );
-        n = done.count;
-        u = done.used;
-        t += 1;
+    for t in 0..terms {
+        term_rows(store, names, sheet, sorts, rows, t, past);
     }
-    Counts { count: n, used: u }
 }
 
 // The same over a table of its own for what Apps were found to be: it is long only where the tables of names are, since else no head
 // is known to be a Par.
 pub fn rows_all(
-    records: &mut [u8],
-    places: &mut [u32],
-    index: &mut [u16],
-    counts: SheetCounts,
-    params: &mut [u16],
-    images: &mut [u16],
-    bound: &mut [u16],
-    sheet: &[u8],
-    table: &[u16],
-    starts: &[u16],
+    store: &mut Store<'_>,
+    names: &mut Names<'_>,
+    sheet: &ReadSheet<'_>,
+    sorts: usize,
+    terms: usize,
     rows: &mut [u32],
-) -> Counts
-    requires { RowsAsk records.old places.old index.old counts.count counts.used params.old images.old bound.old sheet.now table.now counts.sorts starts.now counts.terms rows.old }
-    ensures { RowsAre records.old places.old counts.count params.old images.old bound.old sheet.now table.now counts.sorts starts.now counts.terms rows.old records.new places.new index.new params.new images.new bound.new rows.new result }
+)
+    requires { RowsAsked store.old names.old sheet.now sorts terms rows.old }
+    ensures same { Same store.old store.new }
+    ensures names { SameNames names.old names.new }
+    ensures rows { RowsWritten store.old names.old sheet.now sorts terms rows.old store.new names.new rows.new }
 {
-    if params.len() < NAMES {
-        let mut none = [0u8; 1];
-        return rows_past(
-            records, places, index, counts, params, images, bound, sheet, table, starts, rows,
-            &mut none,
-        );
+    if names.params.len() < NAMES {
+        let mut bytes = [0u8; 1];
+        let mut past = Past { bytes: &mut bytes };
+        rows_past(store, names, sheet, sorts, terms, rows, &mut past);
+    } else {
+        let mut bytes = [0u8; TABLE];
+        let mut past = Past { bytes: &mut bytes };
+        rows_past(store, names, sheet, sorts, terms, rows, &mut past);
     }
-    let mut past = [0u8; TABLE];
-    rows_past(
-        records, places, index, counts, params, images, bound, sheet, table, starts, rows,
-        &mut past,
-    )
 }

@@ -1,11 +1,11 @@
 -- The judgement of a sheet that was read: its rows and answers are those that were written, with the zeros that stood behind
 -- them, and its store is the one that is left. A refused sheet leaves zeros.
-use Prim.Native.Nat.{ℕ, ◌+◌, ◌*◌, ◌-◌, ◌≤◌, ◌<◌}
+use Prim.Native.Nat.{ℕ, zero, suc, ◌+◌, ◌*◌, ◌-◌, ◌≤◌, ◌<◌}
 use mathlib.Core.Path.{◌≡◌, refl, sym, ap, ap₂, subst, ◌∙◌}
-use mathlib.Core.List.{List, ◌++◌}
+use mathlib.Core.List.{List, ◌∷◌, ◌++◌}
 use native.Mathlib.Omega.{arith}
-use lib.ListN.{length, drop, replicate, length-drop, length-replicate}
-use lib.Seq.{ext_get_or, get_or-drop}
+use lib.ListN.{length, take, drop, replicate, length-drop, length-replicate}
+use lib.Seq.{ext_get_or, get_or-drop, get_or-take, length-take-le}
 use Rattle.record.specs.Sort.{Sort, size}
 use Rattle.record.specs.Store.{padded, store_bytes, store_places}
 use Rattle.record.specs.Decode.{store_of, sort_at, Stored, Zeros}
@@ -14,7 +14,7 @@ use Rattle.reader.specs.declared.Refusal.{Refusal}
 use Rattle.sheet.specs.Sheet.{Lengths, Sheet, Reading, TermFields, QuestionFields, read_sheet}
 use Rattle.sheet.specs.Sheet.Reading.{read_refused as unread, got}
 use Rattle.sheet.specs.Trees.{trees_of}
-use Rattle.sheet.specs.Contract.{term_read_at, terms_at, question_read_at, questions_at, sheet_in, SheetStands, SheetAccepted, ReadSheetAsks}
+use Rattle.sheet.specs.Contract.{term_read_at, terms_at, question_read_at, questions_at, sheet_in, each_at, QuestionStands, SheetStands, SheetAccepted, ReadSheetAsks}
 use Rattle.sheet.specs.Stands.{each-length, zeros-all}
 use Rattle.sheet.specs.declared.SheetCounts.{SheetCounts}
 use Rattle.store.specs.Good.{Good, good-bytes, good-places}
@@ -27,11 +27,9 @@ use Rattle.judge_rules.specs.Questions.{AnswersSoFar, answers_of}
 use Rattle.judge_rules.specs.QuestionLaws.{answers-count}
 use Rattle.judge_rules.specs.Judged.{Judgement, sheet_refused, accepted, judged_sheet, judged_by, judged, records_after, places_after, rows_after, answers_after}
 use Rattle.questions.specs.All.{AllAsks, AllIs, stands-asks, trees-starts, answering-start, answering-end}
-use Rattle.store.specs.declared.Counts.{Counts}
-use Rattle.verdicts.specs.declared.Outcome.{Outcome}
-use Rattle.verdicts.specs.declared.Outcome.TheVariants.{Accepted, Refused}
+use Rattle.questions.specs.Word.{Counts}
 use Rattle.row_table.specs.Table.{RowsAsk, RowsAre}
-use Rattle.verdicts.specs.Judge.{lengths_of, outcome_of, number_of_outcome, Reads, ReadsBack, JudgeIs, NumberIs, ClearedAsks, AcceptedAsks, judge-number}
+use Rattle.verdicts.specs.Judge.{Outcome, Accepted, Refused, lengths_of, outcome_of, number_of_outcome, Reads, ReadsBack, JudgeIs, NumberIs, ClearedAsks, AcceptedAsks, judge-number}
 
 ---------------------------------------------------------------- zeros
 -- Zeros with their first entries taken off.
@@ -104,6 +102,47 @@ judge-as s l j {b} {p} {rw} {an} e eb ep er ea back =
             reads = subst (λ (x : Judgement). ReadsBack x b p) f back;
           };
     }
+
+---------------------------------------------------------------- the places of the questions alone
+each-taken : {A : Type 0} (f : ℕ → ℕ → A) (ys : List ℕ) (c i : ℕ) → i ≤ c → each_at f (take c ys) i ≡ each_at f ys i
+unfolding each_at
+each-taken f ys c zero o = refl
+each-taken {A} f ys c (suc i) o = ap₂ (λ (k : ℕ) (r : List A). f i k ∷ r) (get_or-take c ys i 0 (omega arith)) (each-taken f ys c i (omega arith))
+
+same-questions : (s : List ℕ) (ts : List Sort) (ys : List ℕ) (c : ℕ) → c ≤ length ys → questions_at s ts (take c ys) (length (take c ys)) ≡ questions_at s ts ys c
+same-questions s ts ys c inside = ap (questions_at s ts (take c ys)) (length-take-le c ys inside) ∙ each-taken (question_read_at s ts) ys c c (omega arith)
+
+module _ {b p : List ℕ} {n : ℕ} {prm imgs bnd s tbl : List ℕ} {m : ℕ} {ys : List ℕ} {c : ℕ} {an : List ℕ} (inside : c ≤ length ys) where
+  pub asks-taken : {ix : List ℕ} {u : ℕ} → AllAsks b p ix n u prm imgs bnd s tbl m ys c an → AllAsks b p ix n u prm imgs bnd s tbl m (take c ys) (length (take c ys)) an
+  asks-taken h =
+      let e : length (take c ys) ≡ c = length-take-le c ys inside in
+      record {
+        good = h.good;
+        blank = h.blank;
+        numbered = h.numbered;
+        stands = λ i o. subst (QuestionStands s m) (sym (get_or-take c ys i 0 (omega arith))) (h.stands i (omega arith));
+        asked = omega arith;
+        room = omega (arith, h.room);
+        few = omega (arith, h.few);
+      }
+
+  pub answers-taken : {b' p' ix' prm' imgs' bnd' an' : List ℕ} {r : Counts} → AllIs b p n prm imgs bnd s tbl m (take c ys) (length (take c ys)) an b' p' ix' prm' imgs' bnd' an' r
+      → AllIs b p n prm imgs bnd s tbl m ys c an b' p' ix' prm' imgs' bnd' an' r
+  answers-taken o =
+      let q = same-questions s (trees_of (store_of b p n) tbl m) ys c inside in
+      record {
+        good = o.good;
+        long = o.long;
+        wide = o.wide;
+        after = λ l f g. o.after l f g ∙ ap (λ (z : List QuestionFields). (answers_of l (store_of b p n) z).store) q;
+        written = λ l f g.
+            o.written l f g
+            ∙ ap₂ (λ (z : List QuestionFields) (k : ℕ). (answers_of l (store_of b p n) z).answers ++ drop k an) q (length-take-le c ys inside);
+        starts = o.starts;
+        params = o.params;
+        images = o.images;
+        bound = o.bound;
+      }
 
 ---------------------------------------------------------------- the rows and answers of a sheet that was read
 module _ {s b p ix tbl xs ys : List ℕ} {c : SheetCounts} {rw an : List ℕ} (a : AcceptedAsks s b p ix tbl xs ys c rw an) where
@@ -246,6 +285,11 @@ pub judge-over : {s : List ℕ} (b p rw an b₁ p₁ rw₁ an₁ : List ℕ) {b�
     → JudgeIs s (lengths_of b₁ p₁ rw₁ an₁) b₂ p₂ rw₂ an₂ o → JudgeIs s (lengths_of b p rw an) b₂ p₂ rw₂ an₂ o
 judge-over {s} b p rw an b₁ p₁ rw₁ an₁ {b₂} {p₂} {rw₂} {an₂} {o} eb ep er ea j =
     subst (λ (l : Lengths). JudgeIs s l b₂ p₂ rw₂ an₂ o) (lengths-same b p rw an b₁ p₁ rw₁ an₁ eb ep er ea) j
+
+-- The same bytes and places.
+pub judge-moved : {s : List ℕ} {l : Lengths} {b p rw an : List ℕ} {o : Outcome} → JudgeIs s l b p rw an o → {b' p' : List ℕ} → b ≡ b' → p ≡ p' → JudgeIs s l b' p' rw an o
+judge-moved {s} {l} {b} {p} {rw} {an} {o} j {b'} {p'} eb ep =
+    subst (λ (x : List ℕ). JudgeIs s l b' x rw an o) ep (subst (λ (x : List ℕ). JudgeIs s l x p rw an o) eb j)
 
 -- Rows and answers that were zeroed.
 pub cleared-asks : (rw an : List ℕ) {rw₁ an₁ : List ℕ} → length rw₁ ≡ length rw → length an₁ ≡ length an → rw₁ ≡ replicate (length rw) 0 → an₁ ≡ replicate (length an) 0

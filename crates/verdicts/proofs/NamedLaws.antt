@@ -1,5 +1,6 @@
 -- The scan of a store for a Par, and what its answer tells of a sheet without questions.
-use Prim.Native.Nat.{ℕ, zero, suc, ◌+◌, ◌≤◌, ◌<◌}
+use Rattle.std.proofs.Common.{MatchBool}
+use Prim.Native.Nat.{ℕ, zero, suc, ◌<◌}
 use mathlib.Core.Path.{◌≡◌, refl, sym, ap, subst, ◌∙◌}
 use mathlib.Core.Bool.{Bool, true, false}
 use mathlib.Core.List.{List}
@@ -8,31 +9,19 @@ use lib.ListN.{get_or}
 use Rattle.record.specs.Sort.{Sort, kind_of}
 use Rattle.record.specs.Record.{Fields, sort_of}
 use Rattle.record.specs.Forms.{Which, is_var, is_par, is_node, which, sort-var, sort-par, sort-other}
-use Rattle.record.specs.SortLists.{below_suc}
-use Rattle.record.specs.Decode.{fields_at, store_of, sort_at, Stored}
+use Rattle.record.specs.Decode.{fields_at, store_of, sort_at}
 use Rattle.record.specs.StoreLaws.{sort-made}
-use Rattle.store.specs.Entry.{KindHas}
 use Rattle.substitution.specs.Premises.{parless}
 use Rattle.row_rules.specs.Parless.{parless_each}
 use Rattle.row_rules.proofs.ParlessLaws.{parless-sorts, parless-append}
 use Rattle.verdicts.specs.Named.{ParIn, UsesNames}
 
--- None of the first k sorts is a Par.
-abbrev pub NoPar : List ℕ → List ℕ → ℕ → ℕ → Type 0
-NoPar b p n k = (i : ℕ) → i < k → kind_of (sort_at b p n i) ≡ 12 → ⊥
+abbrev pub IsPar : List ℕ → List ℕ → ℕ → ℕ → Type 0
+IsPar b p n k = kind_of (sort_at b p n k) ≡ 12
 
-pub par-none : (b p : List ℕ) (n : ℕ) → NoPar b p n 0
-par-none b p n i l e = omega arith
-
-module _ {b p : List ℕ} {n : ℕ} (s : Stored b p n) (k : ℕ) (l : k < n) (q : ℕ) (h : KindHas b p k q) where
-  pub par-here : q ≡ 12 → ParIn b p n true
-  par-here e = (k, l, sym (h n s l) ∙ e)
-
-  pub par-next : NoPar b p n k → (q ≡ 12 → ⊥) → NoPar b p n (k + 1)
-  par-next w d i o = below_suc (λ (j : ℕ). kind_of (sort_at b p n j) ≡ 12 → ⊥) k w (λ e. d (h n s l ∙ e)) i (omega arith)
-
-pub par-end : (b p : List ℕ) (n k : ℕ) → n ≤ k → NoPar b p n k → ParIn b p n false
-par-end b p n k l w i o = w i (omega arith)
+pub par-in : (b p : List ℕ) (n : ℕ) (r : Bool) → MatchBool r ((k : ℕ) × (k < n) × (k < n → IsPar b p n k)) ((k : ℕ) → k < n → k < n → IsPar b p n k → ⊥) → ParIn b p n r
+par-in b p n true h = (h.0, h.1, h.2 h.1)
+par-in b p n false h = λ k l. h k l l
 
 ---------------------------------------------------------------- with the questions
 pub uses-asked : (b p : List ℕ) (n q : ℕ) → (q ≡ 0 → ⊥) → UsesNames b p n q true

@@ -35,8 +35,7 @@ use Rattle.judge_rules.proofs.KnownLaws.{judged-rows-known}
 use Rattle.judge_rules.specs.Given.{checked_row}
 use Rattle.judge_rules.proofs.RowExactly.{row_has, row-exactly, row-infers, row-infers-exactly, row-refused-for, row-refused-exactly, row-panics-for, row-panics-exactly}
 use Rattle.judge_rules.proofs.TwoRoutes.{two-routes}
-use Rattle.verdicts.specs.declared.Outcome.{Outcome}
-use Rattle.verdicts.specs.Judge.{ReadsBack, JudgeIs}
+use Rattle.verdicts.specs.Judge.{Outcome, ReadsBack, JudgeIs}
 
 -- IN THE BUFFERS b p rw AT EXIT THE CHECKED ROW OF THE TERM t GIVES THE SORT s: it is no refusal, and the record of its number, read
 -- from the bytes at its place, is s.

@@ -1,19 +1,28 @@
 -- What the entry point promises: its outcome, and the four lent buffers at exit over their whole length, are those of `judged`.
-use Rattle.std.specs.Prelude.{ℕ, ◌≤◌, ◌<◌, ◌≡◌, refl, List, length, replicate}
+use Rattle.std.specs.Prelude.{ℕ, ◌≤◌, ◌<◌, ◌≡◌, refl, List, length, replicate, Result, Ok, Err, ⊤}
 use Rattle.std.proofs.Common.{ap, ◌∙◌}
 use Rattle.record.specs.Sort.{Sort, size}
 use Rattle.record.specs.Decode.{store_of, sort_at, Stored}
 use Rattle.reader.specs.Reader.{refusal_number}
+use Rattle.reader.specs.declared.Refusal.{Refusal}
 use Rattle.sheet.specs.Sheet.{Lengths}
 use Rattle.sheet.specs.Contract.{SheetAccepted}
 use Rattle.sheet.specs.declared.SheetCounts.{SheetCounts}
 use Rattle.judge_rules.specs.Judged.{Judgement, sheet_refused, accepted, judged, outcome_number, records_after, places_after, rows_after, answers_after}
-use Rattle.verdicts.specs.declared.Outcome.{Outcome}
-use Rattle.verdicts.specs.declared.Outcome.TheVariants.{Accepted, Refused}
 
 -- The lengths of the four lent buffers.
 abbrev pub lengths_of : List ℕ → List ℕ → List ℕ → List ℕ → Lengths
 lengths_of b p rw an = record { records = length b; places = length p; rows = length rw; answers = length an }
+
+-- A sheet is accepted, or refused for a reason.
+abbrev pub Outcome : Type 0
+Outcome = Result ⊤ Refusal
+
+abbrev pub Accepted : Outcome
+Accepted = Ok tt
+
+abbrev pub Refused : Refusal → Outcome
+Refused e = Err e
 
 -- The outcome of a judgement.
 abbrev pub outcome_of : Judgement → Outcome
@@ -22,8 +31,8 @@ outcome_of (accepted h st rows answers) = Accepted
 
 -- The number of an outcome: 0 where the sheet is accepted, else that of the refusal.
 abbrev pub number_of_outcome : Outcome → ℕ
-number_of_outcome Accepted = 0
-number_of_outcome (Refused e) = refusal_number e
+number_of_outcome (Ok u) = 0
+number_of_outcome (Err e) = refusal_number e
 
 -- THE STORE IS READ BACK: the records at the places are well formed, they are the sorts st, and no tree passes 4,096.
 pub record Reads (b p : List ℕ) (st : List Sort) : Type 0 where

@@ -1,3 +1,4 @@
+pub mod Demands
 pub mod Judge
 pub mod Named
-pub mod Demands
+pub mod Words

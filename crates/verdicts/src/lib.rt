@@ -1,88 +1,47 @@
-// THE ENTRY POINT: a sheet judged into four lent buffers, by the definition `judged`. Here stand the outcome, the judgement of a
-// sheet over buffers that the caller lends, and the same for callers in other languages; named.rt has the judgement over tables
-// of all names.
+// THE ENTRY POINT: a sheet judged into four lent buffers, by the definition `judged`. Here stand the judgement of a sheet over buffers
+// that the caller lends, and the same for callers in other languages; named.rt has the judgement over tables of all names.
 #![tactic(auto)]
 
 pub mod named;
 
-ghost use Rattle.std.specs.Prelude.{◌≡◌};
-ghost use Rattle.reader.specs.Reader.{refusal_number};
-ghost use Rattle.verdicts.specs.declared.Outcome.TheVariants.{Accepted};
-ghost use Rattle.verdicts.specs.Judge.{lengths_of, JudgeIs, NumberIs, ClearedAsks, AcceptedAsks};
+ghost use Rattle.store.specs.Changes.{Same};
+ghost use Rattle.verdicts.specs.Judge.{lengths_of, JudgeIs, NumberIs, ClearedAsks};
+ghost use Rattle.verdicts.specs.Words.{AcceptedAsked, JudgedIn};
 
+use matching_tables::names::Names;
 use named::{judge_named, uses_names};
 use reader::Refusal;
 use record::limits::{LONGEST_RECORD, MOST_QUESTIONS, MOST_SORT_RECORDS, MOST_TERMS};
 use row_table::rows_all;
-use sheet::{SheetCounts, SheetRead, read_sheet};
-use store::buffers::{zero_bytes, zero_words};
+use sheet::{ReadSheet, SheetCounts, read_sheet};
+use store::Store;
 use store::slots::INDEX_LENGTH;
-
-// A sheet is accepted, or refused for a reason.
-#[derive(Drop)]
-pub enum Outcome {
-    Accepted,
-    Refused(Refusal),
-}
-
-// Document 01's number of a refusal, from 1 to 10.
-pub fn refusal_number(e: Refusal) -> u32
-    ensures { result ≡ refusal_number e }
-{
-    match e {
-        Refusal::Length => 1,
-        Refusal::Header => 2,
-        Refusal::PastEnd => 3,
-        Refusal::Map => 4,
-        Refusal::Value => 5,
-        Refusal::Reference => 6,
-        Refusal::Trailing => 7,
-        Refusal::Lent => 8,
-        Refusal::TreeSize => 9,
-        Refusal::Store => 10,
-    }
-}
 
 // The rows of all terms of a sheet that was read, then the answers to its questions, over its store: at exit the four buffers
 // are those of the judgement, which accepts the sheet. Where no name can be looked up, there are no questions either, and the
 // rows are written over tables of one entry.
 pub fn judge_accepted(
-    sheet: &[u8],
-    records: &mut [u8],
-    places: &mut [u32],
-    index: &mut [u16],
-    table: &[u16],
-    starts: &[u16],
-    asked: &[u16],
+    store: &mut Store<'_>,
+    sheet: &ReadSheet<'_>,
     counts: SheetCounts,
+    asked: &[u16],
     rows: &mut [u32],
     answers: &mut [u32],
 )
-    requires { AcceptedAsks sheet.now records.old places.old index.old table.now starts.now asked.now counts rows.old answers.old }
-    ensures { JudgeIs sheet.now (lengths_of records.old places.old rows.old answers.old) records.new places.new rows.new answers.new Accepted }
+    requires { AcceptedAsked store.old sheet.now counts asked.now rows.old answers.old }
+    ensures same { Same store.old store.new }
+    ensures judged { JudgedIn store.old sheet.now rows.old answers.old store.new rows.new answers.new }
 {
-    let count = counts.count;
-    if uses_names(records, places, count, counts.questions) {
-        return judge_named(
-            sheet, records, places, index, table, starts, asked, counts, rows, answers,
-        );
+    if uses_names(&store.sorts(), counts.questions) {
+        return judge_named(store, sheet, counts, asked, rows, answers);
     }
-    let mut params = [0u16; 1];
-    let mut images = [0u16; 1];
-    let mut bound = [0u16; 1];
-    rows_all(
-        records,
-        places,
-        index,
-        counts,
-        &mut params,
-        &mut images,
-        &mut bound,
-        sheet,
-        table,
-        starts,
-        rows,
-    );
+    let mut names = Names {
+        params: &mut [0u16; 1],
+        images: &mut [0u16; 1],
+        bound: &mut [0u16; 1],
+        many: 0,
+    };
+    rows_all(store, &mut names, sheet, counts.sorts, counts.terms, rows);
 }
 
 // Judges a sheet over rows and answers that are all zeros; `records` and `places` may hold anything. The outcome and the four
@@ -93,7 +52,7 @@ pub fn judge_cleared(
     places: &mut [u32],
     rows: &mut [u32],
     answers: &mut [u32],
-) -> Outcome
+) -> Result<(), Refusal>
     requires { ClearedAsks rows.old answers.old }
     ensures { JudgeIs sheet.now (lengths_of records.old places.old rows.old answers.old) records.new places.new rows.new answers.new result }
 {
@@ -115,16 +74,26 @@ pub fn judge_cleared(
         &mut scratch,
     );
     match read {
-        SheetRead::Accepted(counts) => {
-            judge_accepted(
-                sheet, records, places, &mut index, &table, &starts, &asked, counts, rows, answers,
-            );
-            Outcome::Accepted
+        Ok(counts) => {
+            let mut store = Store {
+                records,
+                places,
+                index: &mut index,
+                count: counts.count,
+                used: counts.used,
+            };
+            let sheet = ReadSheet {
+                bytes: sheet,
+                table: &table,
+                starts: &starts,
+            };
+            judge_accepted(&mut store, &sheet, counts, &asked, rows, answers);
+            Ok(())
         }
-        SheetRead::Refused(e) => {
-            zero_bytes(records);
-            zero_words(places);
-            Outcome::Refused(e)
+        Err(refusal) => {
+            records.fill(0);
+            places.fill(0);
+            Err(refusal)
         }
     }
 }
@@ -137,11 +106,11 @@ pub fn judge(
     places: &mut [u32],
     rows: &mut [u32],
     answers: &mut [u32],
-) -> Outcome
+) -> Result<(), Refusal>
     ensures { JudgeIs sheet.now (lengths_of records.old places.old rows.old answers.old) records.new places.new rows.new answers.new result }
 {
-    zero_words(rows);
-    zero_words(answers);
+    rows.fill(0);
+    answers.fill(0);
     judge_cleared(sheet, records, places, rows, answers)
 }
 
@@ -156,9 +125,5 @@ pub extern "C" fn napsilo_judge(
 ) -> u32
     ensures { NumberIs sheet.now (lengths_of records.old places.old rows.old answers.old) records.new places.new rows.new answers.new result }
 {
-    let outcome = judge(sheet, records, places, rows, answers);
-    match outcome {
-        Outcome::Accepted => 0,
-        Outcome::Refused(e) => refusal_number(e),
-    }
+    judge(sheet, records, places, rows, answers).map_or_else(u32::from, |()| 0)
 }

@@ -1,88 +1,61 @@
 // Sheets whose judgement may look up a name: those with a Par among their sorts, or with questions. Only these are judged over
 // tables of all names.
-ghost use Rattle.record.specs.Decode.{Stored};
-ghost use Rattle.verdicts.specs.declared.Outcome.TheVariants.{Accepted};
-ghost use Rattle.verdicts.specs.Judge.{lengths_of, JudgeIs, AcceptedAsks};
+ghost use Rattle.store.specs.Changes.{Same};
 ghost use Rattle.verdicts.specs.Named.{ParIn, UsesNames};
+ghost use Rattle.verdicts.specs.Words.{AcceptedAsked, JudgedIn};
 
+use matching_tables::names::Names;
 use questions::all::answer_all;
-use record::kinds::SORT_PAR;
+use record::kinds::SortKind;
 use record::limits::{MOST_BOUND, NAMES};
 use row_table::rows_all;
-use sheet::SheetCounts;
-use store::entries::kind_at;
+use sheet::{ReadSheet, SheetCounts};
+use store::Store;
+use store::entries::Sorts;
 
-// Whether one of the store's `count` sorts is a Par.
-pub fn has_par(records: &[u8], places: &[u32], count: usize) -> bool
-    requires { Stored records.now places.now count }
-    ensures { ParIn records.now places.now count result }
+// Whether one of the store's sorts is a Par.
+pub fn has_par(sorts: &Sorts<'_>) -> bool
+    ensures { ParIn sorts.now.records.now sorts.now.places.now sorts.now.count result }
 {
-    let mut k = 0;
-    while k < count {
-        if kind_at(records, places, k) == SORT_PAR {
-            return true;
-        }
-        k += 1;
-    }
-    false
+    (0..sorts.count).any(|k| sorts.kind(k) == SortKind::Par)
 }
 
-// Whether there are questions, or one of the store's `count` sorts is a Par.
-pub fn uses_names(records: &[u8], places: &[u32], count: usize, questions: usize) -> bool
-    requires { Stored records.now places.now count }
-    ensures { UsesNames records.now places.now count questions result }
+// Whether there are questions, or one of the store's sorts is a Par.
+pub fn uses_names(sorts: &Sorts<'_>, questions: usize) -> bool
+    ensures { UsesNames sorts.now.records.now sorts.now.places.now sorts.now.count questions result }
 {
-    if questions != 0 {
-        return true;
-    }
-    has_par(records, places, count)
+    questions != 0 || has_par(sorts)
 }
 
 // As `judge_accepted`, over tables of all names.
 pub fn judge_named(
-    sheet: &[u8],
-    records: &mut [u8],
-    places: &mut [u32],
-    index: &mut [u16],
-    table: &[u16],
-    starts: &[u16],
-    asked: &[u16],
+    store: &mut Store<'_>,
+    sheet: &ReadSheet<'_>,
     counts: SheetCounts,
+    asked: &[u16],
     rows: &mut [u32],
     answers: &mut [u32],
 )
-    requires { AcceptedAsks sheet.now records.old places.old index.old table.now starts.now asked.now counts rows.old answers.old }
-    ensures { JudgeIs sheet.now (lengths_of records.old places.old rows.old answers.old) records.new places.new rows.new answers.new Accepted }
+    requires { AcceptedAsked store.old sheet.now counts asked.now rows.old answers.old }
+    ensures same { Same store.old store.new }
+    ensures judged { JudgedIn store.old sheet.now rows.old answers.old store.new rows.new answers.new }
 {
     let mut params = [0u16; NAMES];
     let mut images = [0u16; NAMES];
     let mut bound = [0u16; MOST_BOUND];
-    let done = rows_all(
-        records,
-        places,
-        index,
-        counts,
-        &mut params,
-        &mut images,
-        &mut bound,
-        sheet,
-        table,
-        starts,
-        rows,
-    );
+    let mut names = Names {
+        params: &mut params,
+        images: &mut images,
+        bound: &mut bound,
+        many: 0,
+    };
+    rows_all(store, &mut names, sheet, counts.sorts, counts.terms, rows);
     answer_all(
-        records,
-        places,
-        index,
-        done,
-        &mut params,
-        &mut images,
-        &mut bound,
+        store,
+        &mut names,
         sheet,
-        table,
         counts.sorts,
-        asked,
-        counts.questions,
+        &asked[..counts.questions],
         answers,
     );
 }

@@ -2,9 +2,10 @@
 -- the line of each number.
 use Rattle.std.specs.Prelude.{ℕ, ◌-◌, ◌≤◌, ◌<◌, ◌≡◌, true, false, List}
 use Rattle.judge_rules.specs.Judged.{Judgement}
+use Rattle.printout.specs.Lines.{line_room}
 use Rattle.printout.specs.Whole.{lines_from}
-use Rattle.printout_text.specs.Text.{line_count}
-use Rattle.page.specs.Numbered.{page_count}
+use Rattle.printout_text.specs.Text.{line_count, line_of}
+use Rattle.page.specs.Numbered.{page_count, page_line_of}
 use Rattle.written.specs.declared.Written.{Written}
 
 -- Nothing is written yet.
@@ -37,6 +38,28 @@ pub record WentOn (w : Written) (next : ℕ) (r : Written) : Type 0 where
 pub record WrittenAll (count : ℕ) (r : Written) : Type 0 where
   pub whole : r.failed ≡ false → r.lines ≡ count
   pub part : r.failed ≡ true → r.lines < count
+
+-- THE TWO TEXTS OF A JUDGEMENT: the lines of its printout, and its pages.
+pub data Layout : Type 0 where
+  in_lines : Layout
+  on_pages : Layout
+
+-- How many lines each has, the line of each number, and the bytes that any of its lines fits.
+abbrev pub count_in : Layout → Judgement → ℕ
+count_in in_lines j = line_count j
+count_in on_pages j = page_count j
+
+abbrev pub line_in : Layout → Judgement → ℕ → List ℕ
+line_in in_lines j = line_of j
+line_in on_pages j = page_line_of j
+
+abbrev pub room_in : Layout → ℕ
+room_in in_lines = line_room
+room_in on_pages = 81
+
+-- THE PROMISE OF WRITING either,
+abbrev pub WrittenIn : Layout → Judgement → Written → Type 0
+WrittenIn t j r = WrittenAll (count_in t j) r
 
 -- THE PROMISE OF PRINTING a judgement, and of printing its pages.
 abbrev pub PrintedIs : Judgement → Written → Type 0

@@ -1,13 +1,17 @@
 -- What a write of lines gives, case by case; and what the count of written lines says of the bytes that were handed over: they grow by
 -- the text of each write.
-use Rattle.std.specs.Prelude.{ℕ, ◌+◌, ◌-◌, ◌<◌, ◌≡◌, refl, Bool, true, false, List, [], ◌++◌, length}
-use Rattle.std.proofs.Common.{sym, ap, ◌∙◌, append-nil, arith}
+use Rattle.std.specs.Prelude.{ℕ, ◌+◌, ◌-◌, ◌<◌, ◌≤◌, ◌≡◌, refl, Bool, true, false, List, [], ◌++◌, length, take, ltb}
+use Rattle.std.proofs.Common.{sym, ap, ◌∙◌, append-nil, arith, ltb-true, ltb-false}
+use Rattle.record.specs.Cases.{by_test}
 use Rattle.reader.specs.declared.Refusal.{Refusal}
 use Rattle.reader.specs.Reader.{refusal_number}
 use Rattle.printout_sort.specs.TextLaws.{decimal-short}
+use Rattle.printout.specs.declared.whole.Piece.{Piece}
 use Rattle.printout.specs.Lines.{refusal_line}
 use Rattle.printout.specs.LineLaws.{refusal-line-length}
 use Rattle.printout.specs.Whole.{lines_from}
+use Rattle.printout_text.specs.Text.{LinesBy, RefusedLines}
+use Rattle.printout_text.specs.NewlineLaws.{wrote-first}
 use Rattle.printout_text.specs.PrintedLaws.{piece_then}
 use Rattle.printout_text.specs.TextLaws.{refusal-small}
 use Rattle.written.specs.declared.Written.{Written}
@@ -32,6 +36,39 @@ pub refusal-fits : (e : Refusal) → 16 < 0 + length (refusal_line (refusal_numb
 refusal-fits e h =
     let o = refusal-small e in
     omega (arith, decimal-short (refusal_number e) (omega arith), refusal-line-length (refusal_number e))
+
+---------------------------------------------------------------- a piece of lines
+-- A piece that goes on goes on behind its first line, and not behind the last one.
+pub goes-on : {count : ℕ} {line : ℕ → List ℕ} {room from : ℕ} {o o' : List ℕ} {r : Piece} → LinesBy count line room from o o' r → (r.next ≡ from → ⊥)
+    → (from < r.next) × (r.next ≤ count)
+goes-on {from = from} {r = r} a some = let u : from < r.next = omega (arith, a.lines, some) in (u, a.last u)
+
+-- Where just the lines before it are written, it is the next lines.
+pub next-lines : {count : ℕ} {line : ℕ → List ℕ} {room from : ℕ} {o o' : List ℕ} {r : Piece} → LinesBy count line room from o o' r → (r.next ≡ from → ⊥)
+    → (d : Written) → d.failed ≡ false → from ≡ d.lines → NextLines count line d r.next (take r.end o')
+next-lines {line = line} {from = from} {o} {o'} {r} a some d good e =
+    let u = goes-on a some in
+    record {
+      good = good;
+      on = omega (arith, u.0, e);
+      last = u.1;
+      is = wrote-first o (lines_from line from (r.next - from)) o' r.end a.text ∙ ap (λ (i : ℕ). lines_from line i (r.next - i)) e;
+    }
+
+pub hand-asks : {count : ℕ} {line : ℕ → List ℕ} {w : Written} {next : ℕ} {text : List ℕ} → NextLines count line w next text → HandAsks w next text
+hand-asks {count} {line} a = record { count = count; line = line; lines = a }
+
+-- In a buffer that holds any line, one that does not go on says that no line is left.
+pub none-left : {count : ℕ} {line : ℕ → List ℕ} {room from : ℕ} {o o' : List ℕ} {r : Piece} → LinesBy count line room from o o' r → room ≤ length o → r.next ≡ from
+    → count ≤ from
+none-left {count} {from = from} a long e = by_test (ltb from count) (λ x. absurd (omega (arith, a.goes long (ltb-true from count x)))) (λ x. ltb-false from count x)
+
+-- The line of a refused sheet is a piece that goes on to the number 1.
+pub refused-next : (e : Refusal) (o o' : List ℕ) (r : Piece) → RefusedLines e 0 o o' r → 7 ≤ length o → r.next ≡ 1
+refused-next e o o' r a long =
+    let w = a 7 (omega arith) in
+    let u : 0 < r.next = w.goes long (omega arith) in
+    omega (arith, u, w.last u)
 
 ---------------------------------------------------------------- what is promised
 -- A write took all,

@@ -1,25 +1,22 @@
-// How much of a printout or of the pages was written to an output. The one call of `write_all` of it stands here, in `hand`, and so does
+// How much of a printout or of the pages was written to an output, and what writes either. The one call of `write_all` of it stands here, in `hand`, and so does
 // all that makes a `Written`: its fields are private, so that elsewhere a line counts as written only where its bytes were handed over.
 #![tactic(auto)]
 
-ghost use Rattle.std.specs.Prelude.{◌≡◌};
-ghost use Rattle.reader.specs.Reader.{refusal_number};
+ghost use Rattle.std.specs.Prelude.{◌≡◌, ◌≤◌, ℕ, List, length};
 ghost use Rattle.judge_rules.specs.Judged.{judged};
-ghost use Rattle.printout.specs.Lines.{refusal_line};
 ghost use Rattle.printout.specs.Printed.{program_lengths};
-ghost use Rattle.printout_text.specs.Text.{line_count, line_of};
-ghost use Rattle.page.specs.Numbered.{page_count, page_line_of};
-ghost use Rattle.written.specs.Written.{NextLines, HandAsks, WentOn, WrittenAll, none_written};
+ghost use Rattle.printout_text.specs.Text.{LinesBy, PrintAsks};
+ghost use Rattle.written.specs.Written.{Layout, count_in, line_in, room_in, HandAsks, WentOn, WrittenAll, WrittenIn, none_written};
 
-use printout::Shown;
-use printout::lines::refusal_line;
+use printout::whole::Piece;
+use printout_text::judged::JudgedSheet;
+use printout_text::refused_line;
 use reader::Refusal;
 use std::io::Write;
-use verdicts::refusal_number;
 
 // How many lines of a printout, from the first on, were handed to writes that took them whole; and whether a write of the lines
 // behind them failed.
-#[derive(Clone, Copy)]
+#[derive(Clone, Copy, Debug, PartialEq, Eq)]
 pub struct Written {
     lines: usize,
     failed: bool,
@@ -44,6 +41,46 @@ pub fn nothing_written() -> Written
     }
 }
 
+// Lines of a judged sheet's printout, or of its pages, that are still to be shown.
+pub trait Lines {
+    // Whether the lines are those of the printout or of the pages, and the bytes of the sheet.
+    ghost layout: { Layout };
+
+    ghost sheet: { Self → List ℕ };
+
+    // The number of the next line, and what showing it asks.
+    ghost next: { Self → ℕ };
+
+    ghost can_show: { Self → Type 0 };
+
+    // Writes the next lines into `out`, from its start on, as many as fit: the number of the line behind them, which is then the next
+    // one, and the place behind what was written.
+    fn show(&mut self, out: &mut [u8]) -> Piece
+        requires { can_show self.old }
+        ensures lines { LinesBy (count_in layout (judged (sheet self.old) program_lengths)) (line_in layout (judged (sheet self.old) program_lengths)) (room_in layout) (next self.old) out.old out.new result }
+        ensures next { next self.new ≡ result.next }
+        ensures same { sheet self.new ≡ sheet self.old }
+        ensures can { can_show self.new };
+}
+
+// What prints a judged sheet: its printout, or its pages.
+pub trait Printer {
+    // Which of them.
+    ghost layout: { Layout };
+
+    // Writes what it prints of a sheet that was judged with this outcome. All lines are written, the one of a refused sheet too; or a
+    // write failed, nothing was handed over after it, and the lines before it are written.
+    fn print_judged<W: Write>(
+        &self,
+        output: &mut W,
+        sheet: &JudgedSheet<'_>,
+        outcome: Result<(), Refusal>,
+    ) -> Written
+        requires left { PrintAsks sheet.now.bytes.now sheet.now.entries.records.now sheet.now.entries.places.now sheet.now.rows.now sheet.now.answers.now outcome }
+        requires short { length sheet.now.entries.records.now ≤ 65536 }
+        ensures { WrittenIn layout (judged sheet.now.bytes.now program_lengths) result };
+}
+
 // Hands this text, that of the lines from the first unwritten one up to the line `next`, to the output. Where the write took
 // all, these lines are written too; else it failed, and the lines written are those of before.
 fn hand<W: Write>(output: &mut W, done: Written, next: usize, text: &[u8]) -> Written
@@ -63,61 +100,25 @@ fn hand<W: Write>(output: &mut W, done: Written, next: usize, text: &[u8]) -> Wr
     }
 }
 
-// Writes the lines of the printout of this sheet from the first unwritten one up to the line `next`; this is their text. Where the
-// write took all, these lines are written too; else it failed, and the lines written are those of before. Only the contract reads
-// the sheet.
-pub fn write_lines<W: Write>(
-    output: &mut W,
-    done: Written,
-    sheet: &[u8],
-    next: usize,
-    text: &[u8],
-) -> Written
-    requires { NextLines (line_count (judged sheet.now program_lengths)) (line_of (judged sheet.now program_lengths)) done next text.now }
-    ensures { WentOn done next result }
+// Writes all these lines, of which none was shown yet, piece by piece, by way of a buffer that holds any of them. All are written; or a
+// write failed, nothing was handed over after it, and the lines before it are written.
+pub fn write_lines<W: Write, L: Lines>(output: &mut W, lines: &mut L, out: &mut [u8]) -> Written
+    requires can { L.can_show lines.old }
+    requires first { L.next lines.old ≡ 0 }
+    requires room { room_in L.layout ≤ length out.old }
+    ensures { WrittenIn L.layout (judged (L.sheet lines.old) program_lengths) result }
 {
-    hand(output, done, next, text)
-}
-
-// The same of the lines of the pages of this sheet.
-pub fn write_page_lines<W: Write>(
-    output: &mut W,
-    done: Written,
-    sheet: &[u8],
-    next: usize,
-    text: &[u8],
-) -> Written
-    requires { NextLines (page_count (judged sheet.now program_lengths)) (page_line_of (judged sheet.now program_lengths)) done next text.now }
-    ensures { WentOn done next result }
-{
-    hand(output, done, next, text)
-}
-
-// The same reason once more.
-fn same_reason(e: &Refusal) -> Refusal
-    ensures { result ≡ e.now }
-{
-    match e {
-        Refusal::Length => Refusal::Length,
-        Refusal::Header => Refusal::Header,
-        Refusal::PastEnd => Refusal::PastEnd,
-        Refusal::Map => Refusal::Map,
-        Refusal::Value => Refusal::Value,
-        Refusal::Reference => Refusal::Reference,
-        Refusal::Trailing => Refusal::Trailing,
-        Refusal::Lent => Refusal::Lent,
-        Refusal::TreeSize => Refusal::TreeSize,
-        Refusal::Store => Refusal::Store,
+    let mut done = nothing_written();
+    loop {
+        let piece = lines.show(out);
+        if piece.next == done.lines {
+            return done;
+        }
+        done = hand(output, done, piece.next, &out[..piece.end]);
+        if done.failed {
+            return done;
+        }
     }
-}
-
-// Writes the line of a sheet that is refused for this reason; this is its text. Where the write took all, that line is written; else it
-// failed, and none is. Only the contract reads the reason.
-fn write_refusal<W: Write>(output: &mut W, e: Refusal, text: &[u8]) -> Written
-    requires { text.now ≡ refusal_line (refusal_number e) }
-    ensures { WrittenAll 1 result }
-{
-    hand(output, nothing_written(), 1, text)
 }
 
 // Writes the line of a sheet that is refused for this reason, the only one of its printout and of its pages. That line is written; or
@@ -126,11 +127,6 @@ pub fn print_refusal<W: Write>(output: &mut W, e: Refusal) -> Written
     ensures { WrittenAll 1 result }
 {
     let mut line = [0u8; 16];
-    let number = refusal_number(same_reason(&e)) as usize;
-    let shown = refusal_line(number, &mut line, 0);
-    match shown {
-        Shown::To(end) => write_refusal(output, e, &line[..end]),
-        // The line fits: this is never come to.
-        Shown::Full => nothing_written(),
-    }
+    let piece = refused_line(e, 0, &mut line);
+    hand(output, nothing_written(), piece.next, &line[..piece.end])
 }

@@ -1,25 +1,24 @@
 -- 22 by the capped size, with nothing touched; where there was no room, undoing gives back the store that it was grown from.
 use Rattle.std.proofs.Common.{refl}
-use Rattle.apply.proofs.ApplyLaws.{apply-size, apply-over, apply-small, apply-asks}
-use Rattle.apply.proofs.UndoLaws.{undo-asks, undo-back}
+use Rattle.apply_walk.specs.Contract.{answer_at}
+use Rattle.apply.proofs.ApplyLaws.{apply-over, apply-small, apply-asks}
+use Rattle.apply.proofs.UndoLaws.{undo-asks, undo-back, without-room}
 use Rattle.apply.proofs.apply.Goals as goal
 
-pub answer_size-size-requires : goal.answer_size-size-requires
-answer_size-size-requires c = apply-size c.requires
+pub returns-then-answer_size-gt-LARGEST_TREE-clause-applied : goal.returns-then-answer_size-gt-LARGEST_TREE-clause-applied
+returns-then-answer_size-gt-LARGEST_TREE-clause-applied c = (apply-over c.requires c.answer_size.result c.answer_size.ensures c.if-answer_size-gt-LARGEST_TREE.true, (refl, refl, refl), refl, refl)
 
-pub returns-then-size-gt-LARGEST_TREE : goal.returns-then-size-gt-LARGEST_TREE
-returns-then-size-gt-LARGEST_TREE c = (apply-over c.requires c.answer_size-size.result c.answer_size-size.ensures c.if-size-gt-LARGEST_TREE.true, (refl, refl, refl))
-
-pub make_answer-made-requires : goal.make_answer-made-requires
-make_answer-made-requires c = apply-asks c.requires c.answer_size-size.result c.answer_size-size.ensures c.if-size-gt-LARGEST_TREE.false
+pub make_answer-requires : goal.make_answer-requires
+make_answer-requires c = apply-asks c.requires c.answer_size.result c.answer_size.ensures c.if-answer_size-gt-LARGEST_TREE.false
 
 pub undo-requires : goal.undo-requires
-undo-requires c = undo-asks c.requires.ready.good c.in-Stuck.ensures
+undo-requires c = undo-asks c.requires.ready.good c.in-Err.ensures.made
 
-pub returns-in-Is : goal.returns-in-Is
-returns-in-Is c = record { small = apply-small c.requires c.answer_size-size.result c.answer_size-size.ensures c.if-size-gt-LARGEST_TREE.false; made = c.in-Is.ensures }
+pub returns-in-Ok-clause-applied : goal.returns-in-Ok-clause-applied
+returns-in-Ok-clause-applied c = record { small = apply-small c.requires c.answer_size.result c.answer_size.ensures c.if-answer_size-gt-LARGEST_TREE.false; made = c.in-Ok.ensures.made }
 
-pub returns-in-Stuck : goal.returns-in-Stuck
-returns-in-Stuck c =
-    let w = c.in-Stuck.ensures in
-    (apply-small c.requires c.answer_size-size.result c.answer_size-size.ensures c.if-size-gt-LARGEST_TREE.false, w.full, undo-back c.requires.ready.good w c.undo.ensures)
+pub returns-in-Err-clause-applied : goal.returns-in-Err-clause-applied
+returns-in-Err-clause-applied c =
+    let s = c.args.store.now in
+    let w = c.in-Err.ensures.made in
+    without-room (answer_at s.records.now s.places.now s.count c.args.images.now c.args.k) c.into.result c.into.ensures (apply-small c.requires c.answer_size.result c.answer_size.ensures c.if-answer_size-gt-LARGEST_TREE.false) w.full (undo-back c.requires.ready.good w c.undo.ensures.undone)

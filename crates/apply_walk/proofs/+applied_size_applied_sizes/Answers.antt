@@ -1,25 +1,29 @@
-use Rattle.std.proofs.Common.{arith, refl, sym, subst, ◌∙◌}
+use Rattle.std.proofs.Common.{arith, rules, refl, sym, ap, subst, ◌∙◌}
 use Rattle.record.specs.Number.{numbers_at}
+use Rattle.record.specs.Numbers.{numbers_left}
+use Rattle.record.specs.Kinds.{sort_number}
 use Rattle.record.specs.Sort.{size, sizes}
 use Rattle.apply_walk.specs.CapLaws.{capped-most}
 use Rattle.apply_walk.specs.Contract.{goes, answer_at, answers_at}
 use Rattle.apply_walk.specs.Known.{Weighed}
 use Rattle.apply_walk.specs.KnownLaws.{weighed-is, weighed-set}
-use Rattle.apply_walk.proofs.SizeLaws.{sum-asks, sum_more, sum-end, size-image, size-leaf, sizes-asks, size-falls, size-whole}
+use Rattle.apply_walk.proofs.SizeLaws.{sum-start, sum-asks, sum_more, sum-end, size-image, size-leaf, sizes-asks, size-falls, size-whole}
 use Rattle.apply_walk.proofs.+applied_size_applied_sizes.Goals as goal
 
-pub applied_size-returns-then-seen-ne0 : goal.applied_size-returns-then-seen-ne0
-applied_size-returns-then-seen-ne0 t c =
+pub applied_size-returns-in-Some : goal.applied_size-returns-in-Some
+applied_size-returns-in-Some t c =
     let a = c.args in
-    record { is = weighed-is a.records.now a.places.now a.count a.k a.images.now a.weighed.now c.requires.weighed c.recall-seen.result c.recall-seen.ensures c.if-seen-ne0.true; weighed = c.requires.weighed }
+    let s = a.store.now in
+    let v = c.in-Some in
+    record { is = weighed-is s.records.now s.places.now s.count a.k a.images.now a.weighed.now c.requires.weighed v.seen v.ensures.0 v.ensures.1; weighed = c.requires.weighed }
 
-pub applied_size-returns-then-e-eq-SORT_VAR : goal.applied_size-returns-then-e-eq-SORT_VAR
-applied_size-returns-then-e-eq-SORT_VAR t c =
-    record { is = size-image c.requires.asks c.entry-e.result c.entry-e.ensures c.if-e-eq-SORT_VAR.true c.image_of-i.ensures c.size_at.result c.size_at.ensures; weighed = c.requires.weighed }
+pub applied_size-returns-then-eq : goal.applied_size-returns-then-eq
+applied_size-returns-then-eq t c =
+    record { is = size-image c.requires.asks c.entry-e.result c.entry-e.ensures (search rules) c.image_of-i.ensures c.size.result c.size.ensures; weighed = c.requires.weighed }
 
 pub applied_size-returns-then-e-eq0 : goal.applied_size-returns-then-e-eq0
 applied_size-returns-then-e-eq0 t c =
-    record { is = size-leaf c.requires.asks c.entry-e.result c.entry-e.ensures c.if-e-eq-SORT_VAR.false c.if-e-eq0.true; weighed = c.requires.weighed }
+    record { is = size-leaf c.requires.asks c.entry-e.result c.entry-e.ensures (search rules) c.if-e-eq0.true; weighed = c.requires.weighed }
 
 pub applied_size-applied_sizes-sum-requires : goal.applied_size-applied_sizes-sum-requires
 applied_size-applied_sizes-sum-requires t c =
@@ -28,45 +32,46 @@ applied_size-applied_sizes-sum-requires t c =
 
 pub applied_size-whole_size-size-requires : goal.applied_size-whole_size-size-requires
 applied_size-whole_size-size-requires t c =
-    let a = c.args in
+    let s = c.args.store.now in
     let e = c.entry-e.result in
-    omega (arith, c.applied_sizes-sum.ensures.are, capped-most (sizes (answers_at a.records.now a.places.now a.count a.images.now (numbers_at a.records.now e.list e.count))))
+    omega (arith, c.applied_sizes-sum.ensures.are, capped-most (sizes (answers_at s.records.now s.places.now s.count c.args.images.now (numbers_at s.records.now e.parts.at e.parts.count))))
 
 pub applied_size-remember-requires : goal.applied_size-remember-requires
 applied_size-remember-requires t c =
-    let a = c.args in
+    let s = c.args.store.now in
     let e = c.entry-e.result in
-    let is = size-whole c.requires.asks e c.entry-e.ensures c.if-e-eq-SORT_VAR.false c.names_kept-kept.ensures c.applied_sizes-sum.result c.applied_sizes-sum.ensures.are (goes e.kind c.names_kept-kept.result) refl c.whole_size-size.ensures in
-    omega (arith, is, capped-most (size (answer_at a.records.now a.places.now a.count a.images.now a.k)))
+    let is = size-whole c.requires.asks e c.entry-e.ensures (search rules) c.names_kept-kept.ensures c.applied_sizes-sum.result c.applied_sizes-sum.ensures.are (goes (sort_number e.kind) c.names_kept-kept.result) refl c.whole_size-size.ensures in
+    omega (arith, is, capped-most (size (answer_at s.records.now s.places.now s.count c.args.images.now c.args.k)))
 
 pub applied_size-returns : goal.applied_size-returns
 applied_size-returns t c =
     let a = c.args in
-    let b = a.records.now in
-    let p = a.places.now in
-    let n = a.count in
-    let l = a.images.now in
+    let s = a.store.now in
     let e = c.entry-e.result in
-    let is = size-whole c.requires.asks e c.entry-e.ensures c.if-e-eq-SORT_VAR.false c.names_kept-kept.ensures c.applied_sizes-sum.result c.applied_sizes-sum.ensures.are (goes e.kind c.names_kept-kept.result) refl c.whole_size-size.ensures in
-    record { is = is; weighed = subst (Weighed b p n l) (sym c.remember.ensures) (weighed-set b p n l c.applied_sizes-sum.new.weighed a.k c.whole_size-size.result c.applied_sizes-sum.ensures.weighed is) }
+    let is = size-whole c.requires.asks e c.entry-e.ensures (search rules) c.names_kept-kept.ensures c.applied_sizes-sum.result c.applied_sizes-sum.ensures.are (goes (sort_number e.kind) c.names_kept-kept.result) refl c.whole_size-size.ensures in
+    record { is = is; weighed = subst (Weighed s.records.now s.places.now s.count a.images.now) (sym c.remember.ensures) (weighed-set s.records.now s.places.now s.count a.images.now c.applied_sizes-sum.new.weighed a.k c.whole_size-size.result c.applied_sizes-sum.ensures.weighed is) }
+
+pub applied_sizes-loop-k-init : goal.applied_sizes-loop-k-init
+applied_sizes-loop-k-init t c =
+    record { sums = sum-start c.requires.asks (numbers_left c.into_iter-k-iterator.result) (ap numbers_left c.into_iter-k-iterator.ensures.into_iter_gives ∙ c.numbers-k-items.ensures); weighed = c.requires.weighed }
 
 pub applied_sizes-applied_size-one-requires : goal.applied_sizes-applied_size-one-requires
 applied_sizes-applied_size-one-requires t c =
-    let i = c.loop-left in
-    let q = sum-asks i.invariant.sums c.loop-left-test.true c.u16_at-k.ensures.value in
+    let i = c.loop-k in
+    let q = sum-asks i.invariant.sums c.in-Some.ensures.steps in
     (omega (arith, c.decreases, q.0), record { asks = q.1; weighed = i.invariant.weighed })
 
 pub applied_sizes-overflow_add-sum : goal.applied_sizes-overflow_add-sum
 applied_sizes-overflow_add-sum t c =
-    let a = c.args in
-    omega (arith, c.loop-left.invariant.sums.most, c.applied_size-one.ensures.is, capped-most (size (answer_at a.records.now a.places.now a.count a.images.now c.u16_at-k.result)))
+    let s = c.args.store.now in
+    omega (arith, c.loop-k.invariant.sums.most, c.applied_size-one.ensures.is, capped-most (size (answer_at s.records.now s.places.now s.count c.args.images.now c.in-Some.k)))
 
-pub applied_sizes-loop-left-preserved : goal.applied_sizes-loop-left-preserved
-applied_sizes-loop-left-preserved t c =
-    let i = c.loop-left in
-    record { sums = sum_more i.invariant.sums c.loop-left-test.true c.u16_at-k.ensures.value c.applied_size-one.result c.applied_size-one.ensures.is c.capped_at-sum.ensures; weighed = c.applied_size-one.ensures.weighed; long = c.applied_size-one.auto.weighed ∙ i.invariant.long }
+pub applied_sizes-loop-k-preserved : goal.applied_sizes-loop-k-preserved
+applied_sizes-loop-k-preserved t c =
+    let i = c.loop-k in
+    record { sums = sum_more i.invariant.sums c.in-Some.ensures.steps c.applied_size-one.result c.applied_size-one.ensures.is c.capped_at-sum.ensures; weighed = c.applied_size-one.ensures.weighed }
 
 pub applied_sizes-returns : goal.applied_sizes-returns
 applied_sizes-returns t c =
-    let i = c.loop-left in
-    record { are = sum-end i.invariant.sums c.loop-left-test.false; weighed = i.invariant.weighed }
+    let i = c.loop-k in
+    record { are = sum-end c.args.parts.at c.args.parts.count i.invariant.sums c.in-None.ensures.steps.0; weighed = i.invariant.weighed }

@@ -2,6 +2,7 @@
 -- the whole, and the table of sizes says the truth.
 use Rattle.std.proofs.Common.{◌+◌, ◌*◌}
 use Rattle.record.specs.Number.{numbers_at}
+use Rattle.record.specs.Numbers.{numbers_left}
 use Rattle.record.specs.Sort.{size, sizes}
 use Rattle.record.specs.Record.{sorts_of}
 use Rattle.record.specs.Decode.{store_of, sort_at}
@@ -9,13 +10,10 @@ use Rattle.apply_walk.proofs.SizeLaws.{WeighInv}
 use Rattle.apply_walk.proofs.+applied_size_applied_sizes.Given as goal
 
 abbrev pub decreases-applied_size : goal.decreases-applied_size
-decreases-applied_size l = 2 * size (sort_at l.records.now l.places.now l.count l.k)
+decreases-applied_size l = 2 * size (sort_at l.store.now.records.now l.store.now.places.now l.store.now.count l.k)
 
 abbrev pub decreases-applied_sizes : goal.decreases-applied_sizes
-decreases-applied_sizes l = 2 * sizes (sorts_of (store_of l.records.now l.places.now l.count) (numbers_at l.records.now l.at l.n)) + 1
+decreases-applied_sizes l = 2 * sizes (sorts_of (store_of l.store.now.records.now l.store.now.places.now l.store.now.count) (numbers_at l.store.now.records.now l.parts.at l.parts.count)) + 1
 
-abbrev pub invariant-applied_sizes-loop-left : goal.invariant-applied_sizes-loop-left
-invariant-applied_sizes-loop-left l = WeighInv l.records l.places l.index l.count l.at l.n l.images l.initial.weighed l.weighed l.sum l.next l.left
-
-abbrev pub decreases-applied_sizes-loop-left : goal.decreases-applied_sizes-loop-left
-decreases-applied_sizes-loop-left l = l.left
+abbrev pub invariant-applied_sizes-loop-k : goal.invariant-applied_sizes-loop-k
+invariant-applied_sizes-loop-k l = WeighInv l.store.records.now l.store.places.now l.store.index.now l.store.count l.images (numbers_at l.store.records.now l.fn.parts.at l.fn.parts.count) (numbers_left l.k-iterator) l.weighed l.sum

@@ -1,134 +1,156 @@
-use Rattle.std.proofs.Common.{arith, sym, subst, ◌-◌, ◌∙◌, get_or}
-use Rattle.apply_walk.specs.Lists.{held}
+use Rattle.std.proofs.Common.{◌≡◌, ◌+◌, ◌-◌, ℕ, List, set, arith, rules, sym, ap, subst, ◌∙◌}
+use Rattle.record.specs.Number.{numbers_at}
+use Rattle.store.specs.declared.Store.{Store}
+use Rattle.store.specs.Changes.{Same}
 use Rattle.apply_walk.specs.Made.{made-known}
 use Rattle.apply_walk.specs.Contract.{answer_at}
 use Rattle.apply_walk.specs.Known.{Known}
-use Rattle.apply_walk.specs.KnownLaws.{known-made, known-added}
-use Rattle.apply_walk.specs.PartLaws.{parts-asks, parts-number, parts-halted, parts-inv-more, parts-done}
+use Rattle.apply_walk.specs.KnownLaws.{known-made, known-added, known-halted, known-parts-halted}
+use Rattle.apply_walk.specs.PartLaws.{KnownInv, parts-asks, parts-number, parts-halted, parts-inv-more, parts-done}
 use Rattle.apply_walk.proofs.SortLaws.{sort-image, sort-leaf, sort-falls, sort-parts-ask, sort-stuck, sort-rebuild, sort-made, sort-known, sort-full}
 use Rattle.apply_walk.proofs.+apply_parts_apply_sort.Goals as goal
+use Rattle.apply_walk.proofs.+apply_parts_apply_sort.Goals.{apply_parts-in-Some, apply_parts-in-None+in_ok-i-in-None}
 
-pub apply_parts-overflow_cast-parts : goal.apply_parts-overflow_cast-parts
-apply_parts-overflow_cast-parts t c =
+pub apply_parts-apply_sort-requires : goal.apply_parts-apply_sort-requires
+apply_parts-apply_sort-requires t c =
+    let s = c.args.store.now in
+    let p = c.loop-part in
+    let d = p.store in
+    let q = parts-asks s.records.now s.places.now s.index.now s.count s.used c.args.parts.now c.args.images.now c.requires.asks d.records.now d.places.now d.index.now p.parts d.count d.used p.part-index p.invariant.along.inv c.loop-part-test.true c.from-k.result c.from-k.ensures in
+    (omega (arith, c.decreases, q.0), record { asks = q.1; known = p.invariant.along.known })
+
+pub apply_parts-returns-in_err-i-in-None-clause-made : goal.apply_parts-returns-in_err-i-in-None-clause-made
+apply_parts-returns-in_err-i-in-None-clause-made t c =
+    let s = c.args.store.now in
+    let p = c.loop-part in
+    let d = p.store in
+    let e = c.apply_sort.new.store in
+    known-parts-halted s.records.now s.places.now s.count s.used c.args.parts.now c.args.images.now e.records.now e.places.now e.index.now c.apply_sort.new.known _ e.count e.used c.from_residual.result c.from_residual.ensures.0
+    (parts-halted s.records.now s.places.now s.index.now s.count s.used c.args.parts.now c.args.images.now c.requires.asks d.records.now d.places.now d.index.now p.parts d.count d.used p.part-index p.invariant.along.inv c.loop-part-test.true c.from-k.result c.from-k.ensures e.records.now e.places.now e.index.now e.count e.used c.in_err-i-in-None.ensures.made)
+
+pub apply_parts-overflow_cast-part : goal.apply_parts-overflow_cast-part
+apply_parts-overflow_cast-part t c =
+    let s = c.args.store.now in
+    let p = c.loop-part in
+    let d = p.store in
+    let i = p.invariant.along in
+    elim c.match-recall.branch [
+      | apply_parts-in-Some w ↦
+          omega (arith, w.i-is, parts-number s.records.now s.places.now s.index.now s.count s.used c.args.parts.now c.args.images.now c.requires.asks d.records.now d.places.now d.index.now p.parts d.count d.used p.part-index i.inv c.loop-part-test.true c.from-k.result c.from-k.ensures d.records.now d.places.now d.index.now (w.in-Some.seen - 1) d.count d.used (known-made d.records.now d.places.now d.index.now d.count d.used i.inv.good c.from-k.result c.args.images.now p.known i.known w.in-Some.seen w.in-Some.ensures.0 w.in-Some.ensures.1))
+      | apply_parts-in-None+in_ok-i-in-None w ↦
+          let e = w.apply_sort.new.store in
+          let v = w.in_ok-i-in-None in
+          omega (arith, w.i-is, parts-number s.records.now s.places.now s.index.now s.count s.used c.args.parts.now c.args.images.now c.requires.asks d.records.now d.places.now d.index.now p.parts d.count d.used p.part-index i.inv c.loop-part-test.true c.from-k.result c.from-k.ensures e.records.now e.places.now e.index.now v.i e.count e.used v.ensures.made.made)
+    ]
+
+-- What holds of a store, a table and a number holds of those that equal them.
+moved : (Q : Store → List ℕ → ℕ → Type 0) {x y : Store} {ws vs : List ℕ} {i j : ℕ} → x ≡ y → ws ≡ vs → i ≡ j → Q y vs j → Q x ws i
+moved Q {x} {y} {ws} {vs} {i} {j} e f g h = subst (λ (s : Store). Q s ws i) (sym e) (subst (λ (l : List ℕ). Q y l i) (sym f) (subst (Q y vs) (sym g) h))
+
+pub apply_parts-loop-part-preserved : goal.apply_parts-loop-part-preserved
+apply_parts-loop-part-preserved t c =
+    let s = c.args.store.now in
+    let p = c.loop-part in
+    let d = p.store in
+    let i = p.invariant.along in
+    let kept : Store → List ℕ → ℕ → Type 0 = λ (x : Store) (ws : List ℕ) (k : ℕ). Same s x × KnownInv s.records.now s.places.now s.count s.used c.args.parts.now c.args.images.now x.records.now x.places.now x.index.now ws (set p.parts p.part-index k) x.count x.used (p.part-index + 1) in
+    elim c.match-recall.branch [
+      | apply_parts-in-Some w ↦
+          let h = moved kept w.store-is w.known-is w.i-is
+          (p.invariant.same, record { inv = parts-inv-more s.records.now s.places.now s.index.now s.count s.used c.args.parts.now c.args.images.now c.requires.asks d.records.now d.places.now d.index.now p.parts d.count d.used p.part-index i.inv c.loop-part-test.true c.from-k.result c.from-k.ensures d.records.now d.places.now d.index.now (w.in-Some.seen - 1) d.count d.used (known-made d.records.now d.places.now d.index.now d.count d.used i.inv.good c.from-k.result c.args.images.now p.known i.known w.in-Some.seen w.in-Some.ensures.0 w.in-Some.ensures.1); known = i.known }) in
+          record { same = h.0; along = h.1 }
+      | apply_parts-in-None+in_ok-i-in-None w ↦
+          let e = w.apply_sort.new.store in
+          let v = w.in_ok-i-in-None in
+          let h = moved kept w.store-is w.known-is w.i-is
+          (search rules, record { inv = parts-inv-more s.records.now s.places.now s.index.now s.count s.used c.args.parts.now c.args.images.now c.requires.asks d.records.now d.places.now d.index.now p.parts d.count d.used p.part-index i.inv c.loop-part-test.true c.from-k.result c.from-k.ensures e.records.now e.places.now e.index.now v.i e.count e.used v.ensures.made.made; known = v.ensures.made.known }) in
+          record { same = h.0; along = h.1 }
+    ]
+
+pub apply_parts-returns-clause-made : goal.apply_parts-returns-clause-made
+apply_parts-returns-clause-made t c =
+    let s = c.args.store.now in
+    let p = c.loop-part in
+    let d = p.store in
+    record { made = parts-done s.records.now s.places.now s.index.now s.count s.used c.args.parts.now c.args.images.now c.requires.asks d.records.now d.places.now d.index.now p.parts d.count d.used p.part-index p.invariant.along.inv c.loop-part-test.false; known = p.invariant.along.known }
+
+pub apply_sort-returns-in-Some-clause-made : goal.apply_sort-returns-in-Some-clause-made
+apply_sort-returns-in-Some-clause-made t c =
     let a = c.args in
-    let l = a.images.now in
-    let i = c.loop-j in
-    let w = known-made i.records i.places i.index i.n i.u i.invariant.inv.good (get_or i.parts i.j 0) l i.known i.invariant.known c.recall-seen.result c.recall-seen.ensures c.if-seen-ne0.true in
-    omega (arith, parts-number a.records.now a.places.now a.index.now a.count a.used (held a.parts.now a.many) l c.requires.asks i.records i.places i.index i.parts i.n i.u i.j i.invariant.inv c.loop-j-test.true i.records i.places i.index (c.recall-seen.result - 1) i.n i.u w)
+    let s = a.store.now in
+    record { made = known-made s.records.now s.places.now s.index.now s.count s.used c.requires.asks.ready.good a.k a.images.now a.known.now c.requires.known c.in-Some.seen c.in-Some.ensures.0 c.in-Some.ensures.1; known = c.requires.known }
 
-pub apply_parts-loop-j-preserved-then-seen-ne0 : goal.apply_parts-loop-j-preserved-then-seen-ne0
-apply_parts-loop-j-preserved-then-seen-ne0 t c =
+pub apply_sort-returns-then-eq-clause-made : goal.apply_sort-returns-then-eq-clause-made
+apply_sort-returns-then-eq-clause-made t c =
     let a = c.args in
-    let l = a.images.now in
-    let i = c.loop-j in
-    let w = known-made i.records i.places i.index i.n i.u i.invariant.inv.good (get_or i.parts i.j 0) l i.known i.invariant.known c.recall-seen.result c.recall-seen.ensures c.if-seen-ne0.true in
-    record { inv = parts-inv-more a.records.now a.places.now a.index.now a.count a.used (held a.parts.now a.many) l c.requires.asks i.records i.places i.index i.parts i.n i.u i.j i.invariant.inv c.loop-j-test.true i.records i.places i.index (c.recall-seen.result - 1) i.n i.u w; known = i.invariant.known; lasts = i.invariant.lasts }
+    let s = a.store.now in
+    let is = c.entry-e.ensures s.count c.requires.asks.ready.good.stored c.requires.asks.known in
+    let w = sort-image c.requires.asks is (search rules) c.image_of-image.ensures in
+    record { made = w; known = subst (Known s.records.now s.places.now s.count a.images.now) (sym c.remember.ensures) (known-added s.records.now s.places.now s.count s.used a.k a.images.now s.records.now s.places.now s.index.now c.image_of-image.result s.count s.used w c.requires.asks.ready.table c.requires.asks.known a.known.now c.requires.known) }
 
-pub apply_parts-apply_sort-made-requires : goal.apply_parts-apply_sort-made-requires
-apply_parts-apply_sort-made-requires t c =
+pub apply_sort-returns-then-e-eq0-clause-made : goal.apply_sort-returns-then-e-eq0-clause-made
+apply_sort-returns-then-e-eq0-clause-made t c =
     let a = c.args in
-    let i = c.loop-j in
-    let q = parts-asks a.records.now a.places.now a.index.now a.count a.used (held a.parts.now a.many) a.images.now c.requires.asks i.records i.places i.index i.parts i.n i.u i.j i.invariant.inv c.loop-j-test.true in
-    (omega (arith, c.decreases, q.0), record { asks = q.1; known = i.invariant.known })
+    let s = a.store.now in
+    let is = c.entry-e.ensures s.count c.requires.asks.ready.good.stored c.requires.asks.known in
+    let w = sort-leaf c.requires.asks is (search rules) c.if-e-eq0.true in
+    record { made = w; known = subst (Known s.records.now s.places.now s.count a.images.now) (sym c.remember-then-e-eq0.ensures) (known-added s.records.now s.places.now s.count s.used a.k a.images.now s.records.now s.places.now s.index.now a.k s.count s.used w c.requires.asks.ready.table c.requires.asks.known a.known.now c.requires.known) }
 
-pub apply_parts-overflow_cast-parts-in-Is : goal.apply_parts-overflow_cast-parts-in-Is
-apply_parts-overflow_cast-parts-in-Is t c =
-    let a = c.args in
-    let i = c.loop-j in
-    let d = c.apply_sort-made.new in
-    let v = c.in-Is in
-    omega (arith, parts-number a.records.now a.places.now a.index.now a.count a.used (held a.parts.now a.many) a.images.now c.requires.asks i.records i.places i.index i.parts i.n i.u i.j i.invariant.inv c.loop-j-test.true d.records d.places d.index v.i v.m v.v v.ensures.made)
+pub apply_sort-apply_parts-requires : goal.apply_sort-apply_parts-requires
+apply_sort-apply_parts-requires t c =
+    let s = c.args.store.now in
+    let e = c.entry-e.result in
+    let is = c.entry-e.ensures s.count c.requires.asks.ready.good.stored c.requires.asks.known in
+    let read = c.read_numbers.ensures ∙ ap (λ (bs : List ℕ). numbers_at bs e.parts.at e.parts.count) c.entries.ensures.records in
+    (omega (arith, c.decreases, sort-falls c.requires.asks is (search rules) read), record { asks = sort-parts-ask c.requires.asks is (search rules) read; known = c.requires.known })
 
-pub apply_parts-returns-in-Stuck : goal.apply_parts-returns-in-Stuck
-apply_parts-returns-in-Stuck t c =
-    let a = c.args in
-    let i = c.loop-j in
-    let d = c.apply_sort-made.new in
-    let v = c.in-Stuck in
-    parts-halted a.records.now a.places.now a.index.now a.count a.used (held a.parts.now a.many) a.images.now c.requires.asks i.records i.places i.index i.parts i.n i.u i.j i.invariant.inv c.loop-j-test.true d.records d.places d.index v.m v.v v.ensures
+pub apply_sort-returns-in_err-apply_parts-clause-made : goal.apply_sort-returns-in_err-apply_parts-clause-made
+apply_sort-returns-in_err-apply_parts-clause-made t c =
+    let s = c.args.store.now in
+    let e = c.entry-e.result in
+    let d = c.apply_parts.new.store in
+    let is = c.entry-e.ensures s.count c.requires.asks.ready.good.stored c.requires.asks.known in
+    let read = c.read_numbers.ensures ∙ ap (λ (bs : List ℕ). numbers_at bs e.parts.at e.parts.count) c.entries.ensures.records in
+    known-halted s.records.now s.places.now s.count s.used c.args.k c.args.images.now d.records.now d.places.now d.index.now c.apply_parts.new.known d.count d.used c.from_residual.result c.from_residual.ensures.0
+    (sort-stuck c.requires.asks is (search rules) read c.in_err-apply_parts.ensures.made)
 
-pub apply_parts-loop-j-preserved : goal.apply_parts-loop-j-preserved
-apply_parts-loop-j-preserved t c =
-    let a = c.args in
-    let i = c.loop-j in
-    let d = c.apply_sort-made.new in
-    let v = c.in-Is in
-    record { inv = parts-inv-more a.records.now a.places.now a.index.now a.count a.used (held a.parts.now a.many) a.images.now c.requires.asks i.records i.places i.index i.parts i.n i.u i.j i.invariant.inv c.loop-j-test.true d.records d.places d.index v.i v.m v.v v.ensures.made; known = v.ensures.known; lasts = c.apply_sort-made.auto.known ∙ i.invariant.lasts }
+pub apply_sort-rebuild-requires : goal.apply_sort-rebuild-requires
+apply_sort-rebuild-requires t c =
+    let s = c.args.store.now in
+    let e = c.entry-e.result in
+    let is = c.entry-e.ensures s.count c.requires.asks.ready.good.stored c.requires.asks.known in
+    let read = c.read_numbers.ensures ∙ ap (λ (bs : List ℕ). numbers_at bs e.parts.at e.parts.count) c.entries.ensures.records in
+    sort-rebuild c.requires.asks is (search rules) read c.in_ok-apply_parts.ensures.made.made
 
-pub apply_parts-returns : goal.apply_parts-returns
-apply_parts-returns t c =
-    let a = c.args in
-    let i = c.loop-j in
-    record { made = parts-done a.records.now a.places.now a.index.now a.count a.used (held a.parts.now a.many) a.images.now c.requires.asks i.records i.places i.index i.parts i.n i.u i.j i.invariant.inv c.loop-j-test.false; known = i.invariant.known }
+pub apply_sort-returns-in_err-i-clause-made : goal.apply_sort-returns-in_err-i-clause-made
+apply_sort-returns-in_err-i-clause-made t c =
+    let s = c.args.store.now in
+    let e = c.entry-e.result in
+    let d = c.rebuild.new.store in
+    let is = c.entry-e.ensures s.count c.requires.asks.ready.good.stored c.requires.asks.known in
+    let read = c.read_numbers.ensures ∙ ap (λ (bs : List ℕ). numbers_at bs e.parts.at e.parts.count) c.entries.ensures.records in
+    known-halted s.records.now s.places.now s.count s.used c.args.k c.args.images.now d.records.now d.places.now d.index.now c.apply_parts.new.known d.count d.used c.from_residual-in_err-i.result c.from_residual-in_err-i.ensures.0
+    (sort-full c.requires.asks is (search rules) read c.in_ok-apply_parts.ensures.made.made d.records.now d.places.now d.index.now d.count d.used c.in_err-i.ensures.made)
 
-pub apply_sort-returns-then-seen-ne0 : goal.apply_sort-returns-then-seen-ne0
-apply_sort-returns-then-seen-ne0 t c =
-    let a = c.args in
-    record { made = known-made a.records.now a.places.now a.index.now a.count a.used c.requires.asks.ready.good a.k a.images.now a.known.now c.requires.known c.recall-seen.result c.recall-seen.ensures c.if-seen-ne0.true; known = c.requires.known }
+pub apply_sort-overflow_add-i : goal.apply_sort-overflow_add-i
+apply_sort-overflow_add-i t c =
+    let f = c.apply_parts.new.store in
+    let d = c.rebuild.new.store in
+    omega (arith, made-known f.records.now f.places.now f.count f.used (answer_at f.records.now f.places.now f.count c.args.images.now c.args.k) d.records.now d.places.now d.index.now c.in_ok-i.i d.count d.used c.in_ok-i.ensures.made, c.in_ok-i.ensures.made.good.indexed.count)
 
-pub apply_sort-returns-then-e-eq-SORT_VAR : goal.apply_sort-returns-then-e-eq-SORT_VAR
-apply_sort-returns-then-e-eq-SORT_VAR t c =
-    let a = c.args in
-    let b = a.records.now in
-    let p = a.places.now in
-    let n = a.count in
-    let l = a.images.now in
-    let is = c.entry-e.ensures n c.requires.asks.ready.good.stored c.requires.asks.known in
-    let w = sort-image c.requires.asks is c.if-e-eq-SORT_VAR.true c.image_of-i.ensures in
-    record { made = w; known = subst (Known b p n l) (sym c.remember.ensures) (known-added b p n a.used a.k l b p a.index.now c.image_of-i.result n a.used w c.requires.asks.ready.table c.requires.asks.known a.known.now c.requires.known) }
+pub apply_sort-remember-requires-2 : goal.apply_sort-remember-requires-2
+apply_sort-remember-requires-2 t c =
+    let f = c.apply_parts.new.store in
+    let d = c.rebuild.new.store in
+    omega (arith, made-known f.records.now f.places.now f.count f.used (answer_at f.records.now f.places.now f.count c.args.images.now c.args.k) d.records.now d.places.now d.index.now c.in_ok-i.i d.count d.used c.in_ok-i.ensures.made, c.in_ok-i.ensures.made.good.indexed.count)
 
-pub apply_sort-returns-then-e-eq0 : goal.apply_sort-returns-then-e-eq0
-apply_sort-returns-then-e-eq0 t c =
-    let a = c.args in
-    let b = a.records.now in
-    let p = a.places.now in
-    let n = a.count in
-    let l = a.images.now in
-    let is = c.entry-e.ensures n c.requires.asks.ready.good.stored c.requires.asks.known in
-    let w = sort-leaf c.requires.asks is c.if-e-eq-SORT_VAR.false c.if-e-eq0.true in
-    record { made = w; known = subst (Known b p n l) (sym c.remember-then-e-eq0.ensures) (known-added b p n a.used a.k l b p a.index.now a.k n a.used w c.requires.asks.ready.table c.requires.asks.known a.known.now c.requires.known) }
-
-pub apply_sort-apply_parts-done-requires : goal.apply_sort-apply_parts-done-requires
-apply_sort-apply_parts-done-requires t c =
-    let is = c.entry-e.ensures c.args.count c.requires.asks.ready.good.stored c.requires.asks.known in
-    (omega (arith, c.decreases, sort-falls c.requires.asks is c.if-e-eq-SORT_VAR.false c.read_numbers.ensures), record { asks = sort-parts-ask c.requires.asks is c.if-e-eq-SORT_VAR.false c.read_numbers.ensures; known = c.requires.known })
-
-pub apply_sort-rebuild-made-requires : goal.apply_sort-rebuild-made-requires
-apply_sort-rebuild-made-requires t c =
-    let is = c.entry-e.ensures c.args.count c.requires.asks.ready.good.stored c.requires.asks.known in
-    sort-rebuild c.requires.asks is c.if-e-eq-SORT_VAR.false c.read_numbers.ensures c.in-Are.ensures.made
-
-pub apply_sort-overflow_add-i-in-Is : goal.apply_sort-overflow_add-i-in-Is
-apply_sort-overflow_add-i-in-Is t c =
-    let d = c.apply_parts-done.new in
-    let f = c.in-Are in
-    let y = c.rebuild-made.new in
-    let v = c.in-Is in
-    omega (arith, made-known d.records d.places f.n f.u (answer_at d.records d.places f.n c.args.images.now c.args.k) y.records y.places y.index v.i v.m v.v v.ensures, v.ensures.good.indexed.count)
-
-pub apply_sort-remember-requires-in-Is : goal.apply_sort-remember-requires-in-Is
-apply_sort-remember-requires-in-Is t c =
-    let d = c.apply_parts-done.new in
-    let f = c.in-Are in
-    let y = c.rebuild-made.new in
-    let v = c.in-Is in
-    omega (arith, made-known d.records d.places f.n f.u (answer_at d.records d.places f.n c.args.images.now c.args.k) y.records y.places y.index v.i v.m v.v v.ensures, v.ensures.good.indexed.count)
-
-pub apply_sort-returns-in-Is : goal.apply_sort-returns-in-Is
-apply_sort-returns-in-Is t c =
-    let is = c.entry-e.ensures c.args.count c.requires.asks.ready.good.stored c.requires.asks.known in
-    let w = c.in-Are.ensures in
-    let y = c.rebuild-made.new in
-    let v = c.in-Is in
-    record { made = sort-made c.requires.asks is c.if-e-eq-SORT_VAR.false c.read_numbers.ensures w.made v.ensures; known = subst (Known y.records y.places v.m c.args.images.now) (sym c.remember-in-Is.ensures) (sort-known c.requires.asks is c.if-e-eq-SORT_VAR.false c.read_numbers.ensures w.made v.ensures c.apply_parts-done.new.known w.known) }
-
-pub apply_sort-returns-in-NoRoom : goal.apply_sort-returns-in-NoRoom
-apply_sort-returns-in-NoRoom t c =
-    let is = c.entry-e.ensures c.args.count c.requires.asks.ready.good.stored c.requires.asks.known in
-    let y = c.rebuild-made.new in
-    sort-full c.requires.asks is c.if-e-eq-SORT_VAR.false c.read_numbers.ensures c.in-Are.ensures.made y.records y.places y.index c.in-NoRoom.ensures
-
-pub apply_sort-returns-in-Stuck : goal.apply_sort-returns-in-Stuck
-apply_sort-returns-in-Stuck t c =
-    let is = c.entry-e.ensures c.args.count c.requires.asks.ready.good.stored c.requires.asks.known in
-    sort-stuck c.requires.asks is c.if-e-eq-SORT_VAR.false c.read_numbers.ensures c.in-Stuck.ensures
+pub apply_sort-returns-clause-made : goal.apply_sort-returns-clause-made
+apply_sort-returns-clause-made t c =
+    let s = c.args.store.now in
+    let e = c.entry-e.result in
+    let d = c.rebuild.new.store in
+    let is = c.entry-e.ensures s.count c.requires.asks.ready.good.stored c.requires.asks.known in
+    let read = c.read_numbers.ensures ∙ ap (λ (bs : List ℕ). numbers_at bs e.parts.at e.parts.count) c.entries.ensures.records in
+    let w = c.in_ok-apply_parts.ensures.made in
+    let v = c.in_ok-i in
+    record { made = sort-made c.requires.asks is (search rules) read w.made v.ensures.made; known = subst (Known d.records.now d.places.now d.count c.args.images.now) (sym c.remember-2.ensures) (sort-known c.requires.asks is (search rules) read w.made v.ensures.made c.apply_parts.new.known w.known) }

@@ -4,6 +4,4 @@ use Rattle.exports.specs.ExportLaws.{page-end-is}
 use Rattle.exports.proofs.napsilo_page_text.Goals as goal
 
 pub returns : goal.returns
-returns c =
-    let a = c.args in
-    page-end-is a.sheet.now a.from a.out.now c.pages-shown.new.out c.pages-shown.result c.pages-shown.ensures
+returns c = page-end-is c.args.sheet.now c.args.from c.args.out.now c.pages.new.out c.pages.result c.pages.ensures

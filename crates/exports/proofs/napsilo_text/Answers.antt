@@ -4,6 +4,4 @@ use Rattle.exports.specs.ExportLaws.{end_is}
 use Rattle.exports.proofs.napsilo_text.Goals as goal
 
 pub returns : goal.returns
-returns c =
-    let a = c.args in
-    end_is a.sheet.now a.from a.out.now c.text-piece.new.out c.text-piece.result c.text-piece.ensures
+returns c = end_is c.args.sheet.now c.args.from c.args.out.now c.text.new.out c.text.result c.text.ensures

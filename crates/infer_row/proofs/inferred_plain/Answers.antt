@@ -1,91 +1,58 @@
--- The answer of each kind without arguments.
--- What single numbers leave has an own sort.
-use mathlib.Core.Path.{refl}
-use lib.ListN.{get_or}
+-- The answer of each kind without arguments; the kinds that are left have a sort of their own.
+use Rattle.std.proofs.Common.{refl, ap, get_or}
 use Rattle.record.specs.Record.{map_of, maps}
 use Rattle.record.specs.Decode.{store_of}
-use Rattle.row_answer.specs.AnswerLaws.{judged-as, answered-as, answer-known}
-use Rattle.infer_row.proofs.TermLaws.{site-integer, site-real, site-string, site-reglan, site-vector, from-five, plain-own, plain-is}
+use Rattle.record.specs.Kinds.{term_number}
+use Rattle.row_answer.specs.AnswerLaws.{judged-as}
 use Rattle.row_parts.specs.Site.{site_over}
+use Rattle.infer_operator.proofs.AnswerWays.{answer-sort, leaf-asks}
+use Rattle.infer_row.proofs.TermLaws.{site-integer, site-real, site-string, site-reglan, site-vector, from-five, plain-own, plain-is}
 use Rattle.infer_row.proofs.inferred_plain.Goals as goal
 
--- The answer of each kind without arguments.
--- What single numbers leave has an own sort.
 pub leaf-requires : goal.leaf-requires
 unfolding map_of maps
-leaf-requires c = record { good = c.requires.good; map = refl }
+leaf-requires c = leaf-asks c.args.store.now 4 refl
 
-pub leaf-requires-in-1 : goal.leaf-requires-in-1
+pub leaf-requires-in-Real : goal.leaf-requires-in-Real
 unfolding map_of maps
-leaf-requires-in-1 c = record { good = c.requires.good; map = refl }
+leaf-requires-in-Real c = leaf-asks c.args.store.now 5 refl
 
-pub leaf-requires-in-2 : goal.leaf-requires-in-2
+pub leaf-requires-in-String : goal.leaf-requires-in-String
 unfolding map_of maps
-leaf-requires-in-2 c = record { good = c.requires.good; map = refl }
+leaf-requires-in-String c = leaf-asks c.args.store.now 6 refl
 
-pub leaf-requires-in-3 : goal.leaf-requires-in-3
+pub leaf-requires-in-RegLan : goal.leaf-requires-in-RegLan
 unfolding map_of maps
-leaf-requires-in-3 c = record { good = c.requires.good; map = refl }
+leaf-requires-in-RegLan c = leaf-asks c.args.store.now 7 refl
 
-pub returns-in-0 : goal.returns-in-0
-returns-in-0 c = let a = c.args in
-    let b = a.records.now in
-    let p = a.places.now in
-    let n = a.count in
-    let t = a.table.now in
-    let r = a.term in
-    λ y v w.
-    judged-as (site-integer (site_over (store_of b p n) y t v w r) c.in-0.is) c.leaf.ensures
+pub returns-in-Integer-clause-answer : goal.returns-in-Integer-clause-answer
+returns-in-Integer-clause-answer c =
+    let s = c.args.store.now in
+    λ y v w. judged-as (site-integer (site_over (store_of s.records.now s.places.now s.count) y c.args.sheet.now.table.now v w c.args.term) (ap term_number c.in-Integer.is)) c.leaf.ensures.answer
 
-pub returns-in-1 : goal.returns-in-1
-returns-in-1 c = let a = c.args in
-    let b = a.records.now in
-    let p = a.places.now in
-    let n = a.count in
-    let t = a.table.now in
-    let r = a.term in
-    λ y v w.
-    judged-as (site-real (site_over (store_of b p n) y t v w r) c.in-1.is) c.leaf-in-1.ensures
+pub returns-in-Real-clause-answer : goal.returns-in-Real-clause-answer
+returns-in-Real-clause-answer c =
+    let s = c.args.store.now in
+    λ y v w. judged-as (site-real (site_over (store_of s.records.now s.places.now s.count) y c.args.sheet.now.table.now v w c.args.term) (ap term_number c.in-Real.is)) c.leaf-in-Real.ensures.answer
 
-pub returns-in-2 : goal.returns-in-2
-returns-in-2 c = let a = c.args in
-    let b = a.records.now in
-    let p = a.places.now in
-    let n = a.count in
-    let t = a.table.now in
-    let r = a.term in
-    λ y v w.
-    judged-as (site-string (site_over (store_of b p n) y t v w r) c.in-2.is) c.leaf-in-2.ensures
+pub returns-in-String-clause-answer : goal.returns-in-String-clause-answer
+returns-in-String-clause-answer c =
+    let s = c.args.store.now in
+    λ y v w. judged-as (site-string (site_over (store_of s.records.now s.places.now s.count) y c.args.sheet.now.table.now v w c.args.term) (ap term_number c.in-String.is)) c.leaf-in-String.ensures.answer
 
-pub returns-in-3 : goal.returns-in-3
-returns-in-3 c = let a = c.args in
-    let b = a.records.now in
-    let p = a.places.now in
-    let n = a.count in
-    let t = a.table.now in
-    let r = a.term in
-    λ y v w.
-    judged-as (site-reglan (site_over (store_of b p n) y t v w r) c.in-3.is) c.leaf-in-3.ensures
+pub returns-in-RegLan-clause-answer : goal.returns-in-RegLan-clause-answer
+returns-in-RegLan-clause-answer c =
+    let s = c.args.store.now in
+    λ y v w. judged-as (site-reglan (site_over (store_of s.records.now s.places.now s.count) y c.args.sheet.now.table.now v w c.args.term) (ap term_number c.in-RegLan.is)) c.leaf-in-RegLan.ensures.answer
 
-pub returns-in-4 : goal.returns-in-4
-returns-in-4 c = let a = c.args in
-    let b = a.records.now in
-    let p = a.places.now in
-    let n = a.count in
-    let t = a.table.now in
-    let r = a.term in
-    λ y v w.
-    judged-as (site-vector (site_over (store_of b p n) y t v w r) c.in-4.is) c.bit_vector.ensures
+pub returns-in-BitVector-clause-answer : goal.returns-in-BitVector-clause-answer
+returns-in-BitVector-clause-answer c =
+    let s = c.args.store.now in
+    λ y v w. judged-as (site-vector (site_over (store_of s.records.now s.places.now s.count) y c.args.sheet.now.table.now v w c.args.term) (ap term_number c.in-BitVector.is)) c.bit_vector.ensures.answer
 
-pub returns-in_default : goal.returns-in_default
-returns-in_default c = let a = c.args in
-    let b = a.records.now in
-    let p = a.places.now in
-    let ix = a.index.now in
-    let n = a.count in
-    let u = a.used in
-    let t = a.table.now in
-    let r = a.term in
-    λ y v w.
-    judged-as (plain-is (from-five r.kind c.in_default.in_default-own.rest.0.0.0.0.1 c.in_default.in_default-own.rest.0.0.0.1 c.in_default.in_default-own.rest.0.0.1 c.in_default.in_default-own.rest.0.1 c.in_default.in_default-own.rest.1) c.requires.plain y v w)
-    (answered-as c.found.ensures (answer-known b p ix n u c.requires.good (get_or t r.sort 0) (plain-own (from-five r.kind c.in_default.in_default-own.rest.0.0.0.0.1 c.in_default.in_default-own.rest.0.0.0.1 c.in_default.in_default-own.rest.0.0.1 c.in_default.in_default-own.rest.0.1 c.in_default.in_default-own.rest.1) c.requires.plain).known))
+pub returns-in_default-clause-answer : goal.returns-in_default-clause-answer
+returns-in_default-clause-answer c =
+    let t = c.args.sheet.now.table.now in
+    let d = c.in_default in
+    let l = from-five c.args.term.kind d.not-Integer d.not-Real d.not-String d.not-RegLan d.not-BitVector in
+    λ y v w. answer-sort c.args.store.now (get_or t c.args.term.sort 0) (plain-own l c.requires).known (plain-is l c.requires y v w)

@@ -1,34 +1,38 @@
-use Rattle.std.proofs.Common.{arith}
-use Prim.Native.Nat.{ℕ}
-use mathlib.Core.Path.{sym, subst}
-use native.Mathlib.Numerals.{add-one}
-use Rattle.matching_with.proofs.WayLaws.{Closing, closing-start, closing-some, closing-last, closing-asks, closing-step}
+use Rattle.std.proofs.Common.{ℕ, ◌<◌, arith, refl, sym, subst, ◌∙◌, add-one}
+use Rattle.matching_with.proofs.WayLaws.{Closing, closing-start, closing-some, closing-last, closing-asks, closing-step, closing_end}
 use Rattle.matching_with.proofs.close_pars.Goals as goal
 
 pub loop-i-init : goal.loop-i-init
-loop-i-init c = closing-start c.requires
+loop-i-init c = (closing-start c.requires, (refl, refl, refl), (refl, refl, refl))
 
-pub overflow_sub-last : goal.overflow_sub-last
-overflow_sub-last c =
-    let some = closing-some c.requires c.loop-i.invariant c.loop-i-test.true c.entry-e.result c.entry-e.ensures in
-    omega (arith, some)
+pub entry-e-requires : goal.entry-e-requires
+entry-e-requires c = c.loop-i.invariant.0.known
 
-pub unlist_names-requires : goal.unlist_names-requires
-unlist_names-requires c =
-    let i = c.loop-i in
-    closing-asks c.requires i.invariant c.loop-i-test.true c.entry-e.result c.entry-e.ensures
+pub unlist-requires : goal.unlist-requires
+unlist-requires c =
+    let l : c.loop-i._i < c.args.steps = omega arith in
+    closing-asks c.requires c.loop-i.invariant.0 l c.entry-e.result c.entry-e.ensures
 
-pub u16_at-k-requires : goal.u16_at-k-requires
-u16_at-k-requires c =
-    let i = c.loop-i in
-    closing-last c.requires i.invariant c.loop-i-test.true c.entry-e.result c.entry-e.ensures
+pub last-k-requires : goal.last-k-requires
+last-k-requires c =
+    let l : c.loop-i._i < c.args.steps = omega arith in
+    let v = c.loop-i.invariant.0 in
+    let some = closing-some c.requires v l c.entry-e.result c.entry-e.ensures in
+    record { some = some; within = omega (arith, some, closing-last c.requires v l c.entry-e.result c.entry-e.ensures) }
 
 pub loop-i-preserved : goal.loop-i-preserved
 loop-i-preserved c =
-    let a = c.args in
-    let b = a.records.now in
-    let p = a.places.now in
-    let n = a.count in
+    let s = c.args.sorts.now in
     let i = c.loop-i in
-    subst (λ (z : ℕ). Closing b p n a.params.now a.p a.steps c.unlist_names.new.params c.u16_at-k.result z) (sym (add-one i.i))
-    (closing-step c.requires i.invariant c.loop-i-test.true c.entry-e.result c.entry-e.ensures c.unlist_names.ensures c.u16_at-k.ensures.value)
+    let l : i._i < c.args.steps = omega arith in
+    let m = c.unlist.ensures.map in
+    let n = c.unlist.ensures.same in
+    let v = i.invariant in (
+      subst (λ (z : ℕ). Closing s.records.now s.places.now s.count c.args.names.now.params.now c.args.p c.args.steps c.unlist.new.self.params.now c.last-k.result z) (sym (add-one i._i))
+          (closing-step c.requires v.0 l c.entry-e.result c.entry-e.ensures c.unlist.ensures.unlisted c.last-k.ensures),
+      (m.0 ∙ v.1.0, m.1 ∙ v.1.1, m.2 ∙ v.1.2),
+      (n.0 ∙ v.2.0, n.1 ∙ v.2.1, n.2 ∙ v.2.2),
+    )
+
+pub returns-clause-closed : goal.returns-clause-closed
+returns-clause-closed c = closing_end c.loop-i.invariant.0 (omega arith)

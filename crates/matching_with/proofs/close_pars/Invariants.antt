@@ -1,10 +1,8 @@
 -- Down the way from p: the names of the sorts behind are taken off, and those before are still listed.
-use Prim.Native.Nat.{◌-◌}
+use Rattle.matching_tables.specs.Names.{SameMap, SameNames}
 use Rattle.matching_with.proofs.WayLaws.{Closing}
 use Rattle.matching_with.proofs.close_pars.Given as goal
 
 abbrev pub invariant-loop-i : goal.invariant-loop-i
-invariant-loop-i l = Closing l.records l.places l.count l.initial.params l.p l.steps l.params l.k l.i
-
-abbrev pub decreases-loop-i : goal.decreases-loop-i
-decreases-loop-i l = l.steps - l.i
+invariant-loop-i l = let s = l.sorts in let o = l.initial.names in
+    Closing s.records.now s.places.now s.count o.params.now l.p l.steps l.names.params.now l.k l._i × SameMap o l.names × SameNames o l.names

@@ -1,99 +1,57 @@
 -- The arms of match_with by the entry of the target.
-use Rattle.std.proofs.Common.{arith}
-use mathlib.Core.Path.{sym, ◌∙◌}
+use Rattle.std.proofs.Common.{arith, sym, ◌∙◌}
+use Rattle.record.specs.declared.kinds.SortKind.TheVariants.{Par as SortPar}
+use Rattle.matching_tables.specs.KindTests.{kind-is, kind-not, kinds-differ, kinds-same}
 use Rattle.matching_tables.specs.Entered.{entry-names, entry-one, entry-refs}
-use Rattle.matching_with.proofs.TurnLaws.{turn-shut, turn-through, turn-param, turn-kinds, turn-other, turn-parts}
+use Rattle.matching_with.proofs.CompatibleLaws.{at-start}
+use Rattle.matching_with.proofs.TurnLaws.{turn-shut, turn-through, turn-param, turn-kinds, turn-other, turn-both}
 use Rattle.matching_with.proofs.node_turn.Goals as goal
 
 pub all_listed-requires : goal.all_listed-requires
 all_listed-requires c =
-    let a = c.args in
-    let b = a.records.now in
-    let p = a.places.now in
-    let n = a.count in
-    let j = a.t in
-    let asks = c.requires.turn in
-    let u = asks.pair.usable in
-    let q = c.entry-c.result in
-    let f = c.entry-c.ensures in
-    record { table = asks.table; within = entry-names b p n j u asks.pair.right q f }
+    let s = c.args.sorts.now in
+    let u = c.requires.turn.pair in
+    record { table = c.requires.turn.table; within = entry-names s.records.now s.places.now s.count c.args.t u.usable u.right c.entry-c.result c.entry-c.ensures }
 
-pub u16_at-body-requires : goal.u16_at-body-requires
-u16_at-body-requires c =
-    let a = c.args in
-    let b = a.records.now in
-    let p = a.places.now in
-    let n = a.count in
-    let j = a.t in
-    let asks = c.requires.turn in
-    let u = asks.pair.usable in
+pub get-requires : goal.get-requires
+get-requires c =
+    let s = c.args.sorts.now in
+    let u = c.requires.turn.pair in
     let q = c.entry-c.result in
-    let f = c.entry-c.ensures in
-    let refs = entry-refs b p n j u asks.pair.right q f in
-    omega (arith, refs.within, entry-one b p n j u asks.pair.right q f c.if-c-eq-SORT_PAR.true)
+    omega (arith, (entry-refs s.records.now s.places.now s.count c.args.t u.usable u.right q c.entry-c.ensures).within, entry-one s.records.now s.places.now s.count c.args.t u.usable u.right q c.entry-c.ensures (kind-is q.kind SortPar c.eq.ensures c.if-eq.true))
 
 pub returns-then-all_listed : goal.returns-then-all_listed
 returns-then-all_listed c =
-    let a = c.args in
-    let prm = a.params.now in
-    let asks = c.requires.turn in
-    let r = a.a in
-    let e = c.requires.entry in
+    let z = c.requires in
     let q = c.entry-c.result in
-    let f = c.entry-c.ensures in
-    turn-through prm asks.pair c.requires.differ r e c.requires.no_var c.requires.no_par q f c.if-c-eq-SORT_PAR.true c.all_listed.result c.all_listed.ensures c.if-all_listed.true c.u16_at-body.ensures.value
+    turn-through c.args.names.now.params.now z.turn.pair z.differ c.args.a z.entry z.no_var z.no_par q c.entry-c.ensures (kind-is q.kind SortPar c.eq.ensures c.if-eq.true) c.all_listed.result c.all_listed.ensures c.if-all_listed.true (at-start c.args.sorts.now.records.now q.parts.at c.get.ensures.value)
 
-pub returns-then-c-eq-SORT_PAR : goal.returns-then-c-eq-SORT_PAR
-returns-then-c-eq-SORT_PAR c =
-    let a = c.args in
-    let prm = a.params.now in
-    let asks = c.requires.turn in
-    let r = a.a in
-    let e = c.requires.entry in
+pub returns-then-eq : goal.returns-then-eq
+returns-then-eq c =
+    let z = c.requires in
     let q = c.entry-c.result in
-    let f = c.entry-c.ensures in
-    turn-shut prm asks.pair c.requires.differ r e c.requires.no_var c.requires.no_par q f c.if-c-eq-SORT_PAR.true c.all_listed.result c.all_listed.ensures c.if-all_listed.false
+    turn-shut c.args.names.now.params.now z.turn.pair z.differ c.args.a z.entry z.no_var z.no_par q c.entry-c.ensures (kind-is q.kind SortPar c.eq.ensures c.if-eq.true) c.all_listed.result c.all_listed.ensures c.if-all_listed.false
 
 pub returns-then-param_eq : goal.returns-then-param_eq
 returns-then-param_eq c =
-    let a = c.args in
-    let prm = a.params.now in
-    let asks = c.requires.turn in
-    let r = a.a in
-    let e = c.requires.entry in
+    let z = c.requires in
     let q = c.entry-c.result in
-    let f = c.entry-c.ensures in
-    turn-param prm asks.pair c.requires.differ r e c.requires.no_var c.requires.no_par q f c.if-c-eq-SORT_PAR.false c.if-a-c.true c.param_eq.ensures c.if-param_eq.true
+    turn-param c.args.names.now.params.now z.turn.pair z.differ c.args.a z.entry z.no_var z.no_par q c.entry-c.ensures (kind-not q.kind SortPar c.eq.ensures c.if-eq.false) (kinds-differ c.args.a.kind q.kind c.ne.ensures c.if-ne.true) c.param_eq.ensures c.if-param_eq.true
 
-pub returns-then-a-c : goal.returns-then-a-c
-returns-then-a-c c =
-    let a = c.args in
-    let prm = a.params.now in
-    let asks = c.requires.turn in
-    let r = a.a in
-    let e = c.requires.entry in
+pub returns-then-ne : goal.returns-then-ne
+returns-then-ne c =
+    let z = c.requires in
     let q = c.entry-c.result in
-    let f = c.entry-c.ensures in
-    turn-kinds prm asks.pair c.requires.differ r e c.requires.no_var c.requires.no_par q f c.if-c-eq-SORT_PAR.false c.if-a-c.true c.param_eq.ensures c.if-param_eq.false
+    turn-kinds c.args.names.now.params.now z.turn.pair z.differ c.args.a z.entry z.no_var z.no_par q c.entry-c.ensures (kind-not q.kind SortPar c.eq.ensures c.if-eq.false) (kinds-differ c.args.a.kind q.kind c.ne.ensures c.if-ne.true) c.param_eq.ensures c.if-param_eq.false
 
 pub returns-then-same_head : goal.returns-then-same_head
 returns-then-same_head c =
-    let a = c.args in
-    let prm = a.params.now in
-    let asks = c.requires.turn in
-    let r = a.a in
-    let e = c.requires.entry in
+    let z = c.requires in
     let q = c.entry-c.result in
-    let f = c.entry-c.ensures in
-    turn-parts prm asks.pair c.requires.differ r e c.requires.no_var c.requires.no_par q f c.if-a-c.false (sym c.same_head.ensures ∙ c.if-same_head.true)
+    turn-both c.args.names.now.params.now z.turn.pair z.differ c.args.a z.entry z.no_var z.no_par q c.entry-c.ensures (kinds-same c.args.a.kind q.kind c.ne.ensures c.if-ne.false) (sym c.same_head.ensures ∙ c.if-same_head.true)
 
 pub returns : goal.returns
 returns c =
-    let a = c.args in
-    let prm = a.params.now in
-    let asks = c.requires.turn in
-    let r = a.a in
-    let e = c.requires.entry in
+    let z = c.requires in
     let q = c.entry-c.result in
-    let f = c.entry-c.ensures in
-    turn-other prm asks.pair c.requires.differ r e c.requires.no_var c.requires.no_par q f c.if-a-c.false (sym c.same_head.ensures ∙ c.if-same_head.false)
+    turn-other c.args.names.now.params.now z.turn.pair z.differ c.args.a z.entry z.no_var z.no_par q c.entry-c.ensures (kinds-same c.args.a.kind q.kind c.ne.ensures c.if-ne.false) (sym c.same_head.ensures ∙ c.if-same_head.false)

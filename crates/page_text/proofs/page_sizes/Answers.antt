@@ -1,42 +1,23 @@
 -- What judging left has the rows that are known; the table gets the sizes of the sorts that they name.
 -- These are sorts of the store, so their records are well formed.
 use Rattle.std.proofs.Common.{arith}
-use lib.ListN.{replicate}
+use Rattle.std.specs.Prelude.{replicate}
 use Rattle.page_text.specs.PageLeftLaws.{page-store, fewer-judged, sizes-ask}
 use Rattle.page_text.proofs.page_sizes.Goals as goal
 
 pub known_sorts-many-requires : goal.known_sorts-many-requires
 known_sorts-many-requires c =
-    let a = c.args in
-    let x = a.sheet.now in
-    let b = a.records.now in
-    let p = a.places.now in
-    let w = a.rows.now in
-    let g = a.answers.now in
-    let st = page-store x b p w g c.requires.buffers.left (replicate 1024 0) c.question_kinds-totals.new.kinds c.question_kinds-totals.result c.question_kinds-totals.ensures in
+    let st = page-store _ _ _ _ _ c.requires.buffers.left (replicate 1024 0) _ _ c.question_kinds-terms.ensures in
     record { terms = st.good.terms; few = st.good.few }
 
 pub sort_sizes-requires : goal.sort_sizes-requires
 sort_sizes-requires c =
-    let a = c.args in
-    let x = a.sheet.now in
-    let b = a.records.now in
-    let p = a.places.now in
-    let w = a.rows.now in
-    let g = a.answers.now in
-    let st = page-store x b p w g c.requires.buffers.left (replicate 1024 0) c.question_kinds-totals.new.kinds c.question_kinds-totals.result c.question_kinds-totals.ensures in
+    let st = page-store _ _ _ _ _ c.requires.buffers.left (replicate 1024 0) _ _ c.question_kinds-terms.ensures in
     let k = c.known_sorts-many.ensures in
     sizes-ask _ (fewer-judged st.good k) (omega (arith, k.least st.many st.good.row, st.few, c.requires.room))
 
 pub returns : goal.returns
 returns c =
-    let a = c.args in
-    let x = a.sheet.now in
-    let b = a.records.now in
-    let p = a.places.now in
-    let w = a.rows.now in
-    let g = a.answers.now in
-    let st = page-store x b p w g c.requires.buffers.left (replicate 1024 0) c.question_kinds-totals.new.kinds
-    c.question_kinds-totals.result c.question_kinds-totals.ensures in
+    let st = page-store _ _ _ _ _ c.requires.buffers.left (replicate 1024 0) _ _ c.question_kinds-terms.ensures in
     let k = c.known_sorts-many.ensures in
     record { known = c.known_sorts-many.result; judged = fewer-judged st.good k; table = c.sort_sizes.ensures; short = c.requires.buffers.short; store = st }

@@ -1,11 +1,8 @@
 -- The sizes of the sorts before stand in the table, so the next one can be found and goes behind them.
 -- A size is below 456 times 4,096, so it fits 32 bits.
-use Rattle.std.proofs.Common.{◌≡◌, ◌≤◌, ◌-◌, length}
+use Rattle.std.proofs.Common.{◌≡◌, length}
 use Rattle.page_window.specs.Sizes.{Measured}
 use Rattle.page_window.proofs.sort_sizes.Given as goal
 
 abbrev pub invariant-loop-k : goal.invariant-loop-k
-invariant-loop-k l = (l.k ≤ l.many) × (length l.sizes ≡ length l.initial.sizes) × Measured l.records l.places l.k l.sizes
-
-abbrev pub decreases-loop-k : goal.decreases-loop-k
-decreases-loop-k l = l.many - l.k
+invariant-loop-k l = (length l.sizes ≡ length l.initial.sizes) × Measured l.entries.records.now l.entries.places.now l.k l.sizes

@@ -7,8 +7,8 @@ use Rattle.page_window.specs.Walk.{weight}
 use Rattle.page_window.specs.WalkLaws.{Walking}
 use Rattle.page_window.proofs.sort_window.Given as goal
 
-abbrev pub invariant-loop-stack : goal.invariant-loop-stack
-invariant-loop-stack l = (length l.stack ≡ length l.initial.stack) × (length l.out ≡ length l.initial.out) × Walking l.records l.places l.sizes (text (tree_at l.records l.places l.k)) l.skip l.want l.stack l.out l.walk
+abbrev pub invariant-loop-entries : goal.invariant-loop-entries
+invariant-loop-entries l = (length l.stack ≡ length l.initial.stack) × (length l.out ≡ length l.initial.out) × Walking l.entries.records.now l.entries.places.now l.sizes (text (tree_at l.entries.records.now l.entries.places.now l.k)) l.skip l.want l.stack l.out l.walk
 
-abbrev pub decreases-loop-stack : goal.decreases-loop-stack
-decreases-loop-stack l = 2 * weight l.records l.places l.stack l.walk.depth - l.walk.depth
+abbrev pub decreases-loop-entries : goal.decreases-loop-entries
+decreases-loop-entries l = 2 * weight l.entries.records.now l.entries.places.now l.stack l.walk.depth - l.walk.depth

@@ -1,36 +1,37 @@
 -- Each kind is one case of the definition.
 -- The tables of names are those that were lent.
-use mathlib.Core.Path.{refl}
+use mathlib.Core.Path.{ap, refl}
+use Rattle.record.specs.Kinds.{question_number}
+use Rattle.row_answer.specs.Answer.{answer}
 use Rattle.row_answer.specs.AnswerLaws.{answer-code}
-use Rattle.questions.proofs.WordLaws.{answered-0, answered-1, answered-2}
+use Rattle.questions.proofs.WordLaws.{pair-asked, answered-0, answered-1, answered-2}
 use Rattle.questions.proofs.answer_question.Goals as goal
 
-pub returns-then-kind-eq-QUESTION_COMPATIBLE : goal.returns-then-kind-eq-QUESTION_COMPATIBLE
-returns-then-kind-eq-QUESTION_COMPATIBLE c = answered-0 c.requires c.if-kind-eq-QUESTION_COMPATIBLE.true c.sort_at-p.ensures c.sort_at-t.ensures c.answer_compatible-word.ensures
+pub answer_compatible-requires : goal.answer_compatible-requires
+answer_compatible-requires c =
+    let e = c.sorts.ensures in
+    rw (e.records, e.places, e.count) (pair-asked c.requires (ap question_number c.in-Compatible.is) c.sort_at-p.ensures c.sort_at-t.ensures)
 
-pub word_of-requires : goal.word_of-requires
-word_of-requires c = let a = c.args in
-    let b = a.records.now in
-    let p = a.places.now in
-    let n = a.count in
-    let r = c.answer_match-found.new in
-    record { small = answer-code b p n _ r.records r.places r.index c.answer_match-found.result c.answer_match-found.ensures.answer }
+pub returns-in-Compatible-clause-answer : goal.returns-in-Compatible-clause-answer
+returns-in-Compatible-clause-answer c =
+    let e = c.sorts.ensures in
+    answered-0 c.requires (ap question_number c.in-Compatible.is) c.sort_at-p.ensures c.sort_at-t.ensures (rw (e.records, e.places, e.count) at c.answer_compatible.ensures)
 
-pub returns-then-kind-eq-QUESTION_MATCH : goal.returns-then-kind-eq-QUESTION_MATCH
-returns-then-kind-eq-QUESTION_MATCH c = let r = c.answer_match-found.new in
-    answered-1 c.requires r.records r.places r.index r.params r.images r.bound c.word_of.ensures c.if-kind-eq-QUESTION_MATCH.true c.answer_match-found.ensures
+pub code-requires : goal.code-requires
+code-requires c = answer-code _ _ _ _ _ _ _ (answer c.answer_match.new.store c.answer_match.result) c.answer_match.ensures.answer.answer
 
-pub word_of-requires-2 : goal.word_of-requires-2
-word_of-requires-2 c = let a = c.args in
-    let b = a.records.now in
-    let p = a.places.now in
-    let n = a.count in
-    let r = c.answer_apply-made.new in
-    record { small = answer-code b p n _ r.records r.places r.index c.answer_apply-made.result c.answer_apply-made.ensures.answer }
+pub returns-in-Match-clause-answer : goal.returns-in-Match-clause-answer
+returns-in-Match-clause-answer c =
+    let t = c.answer_match.new.store in
+    let y = c.answer_match.new.names in
+    answered-1 c.requires t.records.now t.places.now t.index.now y.params.now y.images.now y.bound.now (record { code = c.code.ensures; count = refl; used = refl }) (ap question_number c.in-Match.is) c.answer_match.ensures.answer
 
-pub returns : goal.returns
-returns c = let a = c.args in
-    let m = a.params.now in
-    let o = a.bound.now in
-    let r = c.answer_apply-made.new in
-    answered-2 c.requires r.records r.places r.index m r.images o c.word_of-2.ensures c.if-kind-eq-QUESTION_COMPATIBLE.false c.if-kind-eq-QUESTION_MATCH.false c.answer_apply-made.ensures refl refl
+pub code-requires-in-Apply : goal.code-requires-in-Apply
+code-requires-in-Apply c = answer-code _ _ _ _ _ _ _ (answer c.answer_apply.new.store c.answer_apply.result) c.answer_apply.ensures.answer.0.answer
+
+pub returns-in-Apply-clause-answer : goal.returns-in-Apply-clause-answer
+returns-in-Apply-clause-answer c =
+    let t = c.answer_apply.new.store in
+    let y = c.answer_apply.new.names in
+    let a = c.answer_apply.ensures.answer in
+    answered-2 c.requires t.records.now t.places.now t.index.now y.params.now y.images.now y.bound.now (record { code = c.code-in-Apply.ensures; count = refl; used = refl }) (ap question_number c.in-Apply.is) a.0 a.1 a.2

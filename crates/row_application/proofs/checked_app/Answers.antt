@@ -1,19 +1,42 @@
 -- The verdict by the head, which stands first among the sorts.
 -- A Function or a Par of one is called with the others.
 use Rattle.std.proofs.Common.{arith}
+use mathlib.Core.Path.{refl}
 use Rattle.row_rules.specs.declared.Cause.TheVariants.{Count, Misfit}
 use Rattle.row_application.proofs.AppLaws.{app-refused, app-as}
 use Rattle.row_application.proofs.HeadLaws.{app-count, app-other, called-asks, app-called, app-crowded}
 use Rattle.row_application.proofs.checked_app.Goals as goal
 
-pub returns-then-total-lt2 : goal.returns-then-total-lt2
-returns-then-total-lt2 c = app-refused c.requires.0.good Count (app-count c.requires.0 c.if-total-lt2.true) c.refuse.ensures
+pub returns-then-args-lt2-clause-answer : goal.returns-then-args-lt2-clause-answer
+returns-then-args-lt2-clause-answer c =
+    let h = c.requires.asked in
+    app-refused h.good Count (app-count h c.if-args-lt2.true) refl
 
-pub called-requires : goal.called-requires
-called-requires c = (called-asks c.requires.0 (omega (arith, c.if-total-lt2.false)) c.u16_at-h.ensures.value c.head_of-head.result c.head_of-head.ensures c.in-Function.callee c.in-Function.is, app-crowded c.requires.0 (omega (arith, c.if-total-lt2.false)) c.u16_at-h.ensures.value c.head_of-head.result c.head_of-head.ensures c.in-Function.callee c.in-Function.is c.args.crowded c.requires.1)
+pub returns-in_default-clause-answer : goal.returns-in_default-clause-answer
+returns-in_default-clause-answer c =
+    let h = c.requires.asked in
+    let e = c.entries.ensures in
+    let w = rw (e.records, e.places) at c.head_of.ensures in
+    app-refused h.good Misfit (app-other h (omega (arith, c.if-args-lt2.false)) c.number.ensures.value c.head_of.result w c.if-args-lt2.false c.in_default.is) refl
 
-pub returns-in-Function : goal.returns-in-Function
-returns-in-Function c = app-as (app-called c.requires.0 (omega (arith, c.if-total-lt2.false)) c.u16_at-h.ensures.value c.head_of-head.result c.head_of-head.ensures c.in-Function.callee c.in-Function.is c.if-total-lt2.false) c.called.ensures
+pub called-requires-clause-asked : goal.called-requires-clause-asked
+called-requires-clause-asked c =
+    let h = c.requires.asked in
+    let e = c.entries.ensures in
+    let w = rw (e.records, e.places) at c.head_of.ensures in
+    (called-asks h (omega (arith, c.if-args-lt2.false)) c.number.ensures.value c.head_of.result w c.in-Some.callee c.in-Some.is, omega (arith, c.if-args-lt2.false))
 
-pub returns-in-NoFunction : goal.returns-in-NoFunction
-returns-in-NoFunction c = app-refused c.requires.0.good Misfit (app-other c.requires.0 (omega (arith, c.if-total-lt2.false)) c.u16_at-h.ensures.value c.head_of-head.result c.head_of-head.ensures c.if-total-lt2.false c.in-NoFunction.is) c.refuse-in-NoFunction.ensures
+pub called-requires-clause-crowded : goal.called-requires-clause-crowded
+called-requires-clause-crowded c =
+    let h = c.requires.asked in
+    let e = c.entries.ensures in
+    let w = rw (e.records, e.places) at c.head_of.ensures in
+    app-crowded h (omega (arith, c.if-args-lt2.false)) c.number.ensures.value c.head_of.result w c.in-Some.callee c.in-Some.is c.args.crowded c.requires.crowded
+
+pub returns-clause-answer : goal.returns-clause-answer
+returns-clause-answer c =
+    let h = c.requires.asked in
+    let e = c.entries.ensures in
+    let w = rw (e.records, e.places) at c.head_of.ensures in
+    let a = c.called.ensures.answer in
+    app-as (app-called h (omega (arith, c.if-args-lt2.false)) c.number.ensures.value c.head_of.result w c.in-Some.callee c.in-Some.is c.if-args-lt2.false) a

@@ -8,23 +8,54 @@ use Rattle.row_application.proofs.AppLaws.{app-refused, app-as}
 use Rattle.row_application.proofs.HeadLaws.{applied-none, applied-other, applied-many, remaining-asks, applied-rest, parametric-asks, applied-parametric}
 use Rattle.row_application.proofs.inferred_app.Goals as goal
 
-pub returns-then-total-eq0 : goal.returns-then-total-eq0
-returns-then-total-eq0 c = app-refused c.requires.good Panics (applied-none c.requires c.if-total-eq0.true) c.refuse.ensures
+pub returns-then-args-eq0-clause-answer : goal.returns-then-args-eq0-clause-answer
+returns-then-args-eq0-clause-answer c =
+    let h = c.requires in
+    app-refused h.good Panics (applied-none h c.if-args-eq0.true) refl
 
-pub returns-then-m-n : goal.returns-then-m-n
-returns-then-m-n c = app-refused c.requires.good Panics (applied-many c.requires (positive c.args.total c.if-total-eq0.false) c.u16_at-h.ensures.value c.head_of-head.result c.head_of-head.ensures c.in-Function.callee c.in-Function.is c.if-m-n.true) c.refuse-then-m-n.ensures
+pub returns-in_default-clause-answer : goal.returns-in_default-clause-answer
+returns-in_default-clause-answer c =
+    let h = c.requires in
+    let e = c.entries.ensures in
+    let w = rw (e.records, e.places) at c.head_of.ensures in
+    app-refused h.good Panics (applied-other h (positive c.args.args.now.count c.if-args-eq0.false) c.number.ensures.value c.head_of.result w c.in_default.is) refl
+
+pub returns-then-callee-n-clause-answer : goal.returns-then-callee-n-clause-answer
+returns-then-callee-n-clause-answer c =
+    let h = c.requires in
+    let e = c.entries.ensures in
+    let w = rw (e.records, e.places) at c.head_of.ensures in
+    app-refused h.good Panics (applied-many h (positive c.args.args.now.count c.if-args-eq0.false) c.number.ensures.value c.head_of.result w c.in-Some.callee c.in-Some.is c.if-callee-n.true) refl
 
 pub remaining-requires : goal.remaining-requires
-remaining-requires c = remaining-asks c.requires (positive c.args.total c.if-total-eq0.false) c.u16_at-h.ensures.value c.head_of-head.result c.head_of-head.ensures c.in-Function.callee c.in-Function.is c.if-m-n.false
+remaining-requires c =
+    let h = c.requires in
+    let e = c.entries.ensures in
+    let w = rw (e.records, e.places) at c.head_of.ensures in
+    rw (c.skip.ensures.at, c.skip.ensures.count)
+    (remaining-asks h (positive c.args.args.now.count c.if-args-eq0.false) c.number.ensures.value c.head_of.result w c.in-Some.callee c.in-Some.is c.if-callee-n.false)
 
-pub returns-then-callee-eq0 : goal.returns-then-callee-eq0
-returns-then-callee-eq0 c = record { answer = judged-as (applied-rest c.requires (positive c.args.total c.if-total-eq0.false) c.u16_at-h.ensures.value c.head_of-head.result c.head_of-head.ensures c.in-Function.callee c.in-Function.is c.if-m-n.false c.if-callee-eq0.true) c.remaining.ensures; params = refl; images = refl; bound = refl }
+pub returns-then-callee-eq0-clause-answer : goal.returns-then-callee-eq0-clause-answer
+returns-then-callee-eq0-clause-answer c =
+    let h = c.requires in
+    let e = c.entries.ensures in
+    let w = rw (e.records, e.places) at c.head_of.ensures in
+    let a = rw (c.skip.ensures.at, c.skip.ensures.count) at c.remaining.ensures.answer in
+    let v = applied-rest h (positive c.args.args.now.count c.if-args-eq0.false) c.number.ensures.value c.head_of.result w c.in-Some.callee c.in-Some.is c.if-callee-n.false c.if-callee-eq0.true in
+    record { answer = judged-as v a; params = refl; images = refl; bound = refl }
 
 pub parametric-requires : goal.parametric-requires
-parametric-requires c = parametric-asks c.requires (positive c.args.total c.if-total-eq0.false) c.u16_at-h.ensures.value c.head_of-head.result c.head_of-head.ensures c.in-Function.callee c.in-Function.is c.if-m-n.false c.if-callee-eq0.false
+parametric-requires c =
+    let h = c.requires in
+    let e = c.entries.ensures in
+    let w = rw (e.records, e.places) at c.head_of.ensures in
+    let o = positive c.args.args.now.count c.if-args-eq0.false in
+    (parametric-asks h o c.number.ensures.value c.head_of.result w c.in-Some.callee c.in-Some.is c.if-callee-n.false c.if-callee-eq0.false, o)
 
-pub returns-else-callee-eq0 : goal.returns-else-callee-eq0
-returns-else-callee-eq0 c = app-as (applied-parametric c.requires (positive c.args.total c.if-total-eq0.false) c.u16_at-h.ensures.value c.head_of-head.result c.head_of-head.ensures c.in-Function.callee c.in-Function.is c.if-m-n.false c.if-callee-eq0.false) c.parametric.ensures
-
-pub returns-in-NoFunction : goal.returns-in-NoFunction
-returns-in-NoFunction c = app-refused c.requires.good Panics (applied-other c.requires (positive c.args.total c.if-total-eq0.false) c.u16_at-h.ensures.value c.head_of-head.result c.head_of-head.ensures c.in-NoFunction.is) c.refuse-in-NoFunction.ensures
+pub returns-clause-answer : goal.returns-clause-answer
+returns-clause-answer c =
+    let h = c.requires in
+    let e = c.entries.ensures in
+    let w = rw (e.records, e.places) at c.head_of.ensures in
+    let a = c.parametric.ensures.answer in
+    app-as (applied-parametric h (positive c.args.args.now.count c.if-args-eq0.false) c.number.ensures.value c.head_of.result w c.in-Some.callee c.in-Some.is c.if-callee-n.false c.if-callee-eq0.false) a

@@ -1,32 +1,24 @@
 -- Each way through the parts of a record is one case of its verdict.
 -- What the two callees promise is passed on by one law a case.
-use Rattle.std.proofs.Common.{ap, not}
+use Rattle.std.proofs.Common.{◌≡◌, rules}
+use Rattle.record.specs.Kinds.{term_number}
 use Rattle.row_parts.proofs.PartsLaws.{parts-lacking, parts-plain, parts-indexed}
 use Rattle.row_parts.proofs.parts_judged.Goals as goal
 
-pub returns-then-not-gather : goal.returns-then-not-gather
-returns-then-not-gather c =
+pub returns-then-not-gather-clause-parts : goal.returns-then-not-gather-clause-parts
+returns-then-not-gather-clause-parts c =
     let a = c.args in
-    let z = a.sheet.now in
-    let w = a.rows.now in
-    let k = a.column in
-    let r = a.term in
-    parts-lacking z w k r _ c.gather.result (ap not c.if-not-gather.true) c.gather.ensures
+    parts-lacking a.sheet.now a.rows.now _ a.term _ c.gather.result c.if-not-gather.true c.gather.ensures.gathered
 
-pub returns-then-kind-ne-TERM_PARAM_OP : goal.returns-then-kind-ne-TERM_PARAM_OP
-returns-then-kind-ne-TERM_PARAM_OP c =
+pub returns-then-ne-clause-parts : goal.returns-then-ne-clause-parts
+returns-then-ne-clause-parts c =
     let a = c.args in
-    let z = a.sheet.now in
-    let w = a.rows.now in
-    let k = a.column in
-    let r = a.term in
-    parts-plain z w k r _ c.gather.result (ap not c.if-not-gather.false) c.gather.ensures c.requires.list.judged.side c.if-kind-ne-TERM_PARAM_OP.true
+    let other : term_number a.term.kind ≡ 11 → ⊥ = search rules in
+    parts-plain a.sheet.now a.rows.now _ a.term _ c.gather.result c.if-not-gather.false c.gather.ensures.gathered c.requires.list.judged.side other
 
-pub returns : goal.returns
-returns c =
+pub returns-clause-parts : goal.returns-clause-parts
+returns-clause-parts c =
     let a = c.args in
-    let z = a.sheet.now in
-    let w = a.rows.now in
-    let k = a.column in
-    let r = a.term in
-    parts-indexed z w k r _ c.gather.result (ap not c.if-not-gather.false) c.gather.ensures c.requires.list.judged.side c.if-kind-ne-TERM_PARAM_OP.false c.all_judged.result c.all_judged.ensures
+    let it : term_number a.term.kind ≡ 11 = search rules in
+    parts-indexed a.sheet.now a.rows.now _ a.term _ c.gather.result c.if-not-gather.false c.gather.ensures.gathered c.requires.list.judged.side it c.all_judged.result
+    c.all_judged.ensures

@@ -1,16 +1,17 @@
 -- The loop keeps: the first terms have their rows, and what was noted of Apps is true.
 -- A turn adds the rows of one term more.
-use Prim.Native.Nat.{◌-◌, ◌≤◌}
-use mathlib.Core.Path.{◌≡◌}
-use lib.ListN.{length}
-use Rattle.row_memo.specs.Past.{PastOf}
+use Rattle.store.specs.Changes.{Same}
+use Rattle.matching_tables.specs.Names.{SameNames}
+use Rattle.row_slots.specs.Slots.{SamePast}
+use Rattle.row_memo.specs.Words.{PastTrue}
 use Rattle.row_table.proofs.TableLaws.{Tabling}
 use Rattle.row_table.proofs.rows_past.Given as goal
 
--- The loop keeps: the first terms have their rows, and what was noted of Apps is true.
--- A turn adds the rows of one term more.
 abbrev pub invariant-loop-t : goal.invariant-loop-t
-invariant-loop-t l = (l.t ≤ l.terms) × Tabling l.initial.records l.initial.places l.initial.n l.initial.params l.initial.images l.initial.bound l.sheet l.table l.sorts l.starts l.initial.rows l.records l.places l.index l.params l.images l.bound l.rows l.n l.u l.t × PastOf l.records l.places l.n l.past × (length l.past ≡ length l.initial.past)
-
-abbrev pub decreases-loop-t : goal.decreases-loop-t
-decreases-loop-t l = l.terms - l.t
+invariant-loop-t l =
+    Same l.initial.store l.store × SameNames l.initial.names l.names
+    × Tabling l.initial.store.records.now l.initial.store.places.now l.initial.store.count l.initial.names.params.now l.initial.names.images.now l.initial.names.bound.now
+    l.sheet.bytes.now l.sheet.table.now l.sorts l.sheet.starts.now l.initial.rows
+    l.store.records.now l.store.places.now l.store.index.now l.names.params.now l.names.images.now l.names.bound.now l.rows l.store.count l.store.used l.t
+    × PastTrue l.store l.past
+    × SamePast l.initial.past l.past

@@ -1,44 +1,19 @@
 -- The sorts, then the rest: the result is that of `read_records`.
 -- The table gives as many trees as there are sorts, so the rest's promise fits them.
-use Rattle.sheet.specs.Contract.{SortsLoaded}
+use Rattle.std.proofs.lemmas.Result.{err_from_is_err_and}
 use Rattle.sheet.proofs.HeaderLaws.{records-stop, records-refused, records-read}
 use Rattle.sheet.proofs.read_records.Goals as goal
 
-pub returns-in-To : goal.returns-in-To
-returns-in-To c = let a = c.args in
-    let s = a.s.now in
-    let b = a.records.now in
-    let p = a.places.now in
-    let m = a.m in
-    let t = a.t in
-    let q = a.q in
-    let d = c.read_sorts-loaded.new in
-    let g : SortsLoaded s b p m d.records d.places d.index d.table d.scratch c.in-Sorts.at c.in-Sorts.count c.in-Sorts.used = c.in-Sorts.ensures in
-    let xs = c.read_rest-rest.new.terms in
-    let ys = c.read_rest-rest.new.questions in
-    records-read g t q (c.in-To.ensures)
+pub returns-in_err-start-clause-read : goal.returns-in_err-start-clause-read
+returns-in_err-start-clause-read c = let h = c.args.header in
+    let p = err_from_is_err_and c.from_residual.result c.from_residual.ensures.1 in
+    rw (p.1, p.2) (λ l k. records-stop c.args.s.now l h.sorts h.terms h.questions c.in_err-start.field-0.0 (c.in_err-start.ensures.read l k))
 
-pub returns-in-Stop : goal.returns-in-Stop
-returns-in-Stop c = let a = c.args in
-    let s = a.s.now in
-    let b = a.records.now in
-    let p = a.places.now in
-    let m = a.m in
-    let t = a.t in
-    let q = a.q in
-    let d = c.read_sorts-loaded.new in
-    let g : SortsLoaded s b p m d.records d.places d.index d.table d.scratch c.in-Sorts.at c.in-Sorts.count c.in-Sorts.used = c.in-Sorts.ensures in
-    let xs = c.read_rest-rest.new.terms in
-    let ys = c.read_rest-rest.new.questions in
-    records-refused g t q c.in-Stop.e (c.in-Stop.ensures)
+pub returns-in_err-read_rest-clause-read : goal.returns-in_err-read_rest-clause-read
+returns-in_err-read_rest-clause-read c = let h = c.args.header in
+    let p = err_from_is_err_and c.from_residual-in_err-read_rest.result c.from_residual-in_err-read_rest.ensures.1 in
+    rw (p.1, p.2) (records-refused c.in_ok-start.ensures.read h.terms h.questions c.in_err-read_rest.field-0.0 c.in_err-read_rest.ensures)
 
-pub returns-in-NoSorts : goal.returns-in-NoSorts
-returns-in-NoSorts c = let a = c.args in
-    let s = a.s.now in
-    let b = a.records.now in
-    let p = a.places.now in
-    let m = a.m in
-    let t = a.t in
-    let q = a.q in
-    let d = c.read_sorts-loaded.new in
-    λ l k. records-stop s l m t q c.in-NoSorts.e (c.in-NoSorts.ensures l k)
+pub returns-clause-read : goal.returns-clause-read
+returns-clause-read c = let h = c.args.header in
+    records-read c.in_ok-start.ensures.read h.terms h.questions c.in_ok-read_rest.ensures

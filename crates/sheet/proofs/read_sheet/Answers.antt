@@ -1,15 +1,12 @@
 -- Zeroed buffers hold the empty store, so the records are read over it; the header comes first.
 -- The lent lengths are those at entry, since no call changes a length.
-use Rattle.sheet.specs.Contract.{HeaderFound}
 use Rattle.sheet.proofs.HeaderLaws.{records-ask}
 use Rattle.sheet.proofs.read_sheet.Goals as goal
 
+pub invariant_of-store : goal.invariant_of-store
+invariant_of-store c =
+    record { good = (records-ask c.args.records.now c.args.places.now c.requires c.in_ok-header.ensures (c.fill.ensures.after (λ y e. e)) (c.fill-2.ensures.after (λ y e. e))).sorts.state.good }
+
 pub read_records-requires : goal.read_records-requires
-read_records-requires c = let a = c.args in
-    let s = a.s.now in
-    let b = a.records.now in
-    let p = a.places.now in
-    let rows = a.rows in
-    let answers = a.answers in
-    let f : HeaderFound s rows answers c.in-Found.m c.in-Found.t c.in-Found.q = c.in-Found.ensures in
-    records-ask b p c.requires f c.zero_bytes.ensures c.zero_words.ensures
+read_records-requires c =
+    records-ask c.args.records.now c.args.places.now c.requires c.in_ok-header.ensures (c.fill.ensures.after (λ y e. e)) (c.fill-2.ensures.after (λ y e. e))

@@ -6,15 +6,18 @@ use Rattle.verdicts.proofs.JudgeLaws.{rows-ask, judge-unasked}
 use Rattle.verdicts.proofs.judge_accepted.Goals as goal
 
 pub rows_all-requires : goal.rows_all-requires
-rows_all-requires c = let a = c.args in
-    let b = a.records.now in
-    let p = a.places.now in
-    let k = a.counts in
-    rows-ask c.requires (unused (none-parless b p k.count k.questions c.uses_names.ensures c.if-uses_names.false))
+rows_all-requires c =
+    let h = c.requires in
+    let e = c.sorts.ensures in
+    let k = c.args.counts in
+    let w = rw (e.records, e.places, e.count, h.count) at c.uses_names.ensures in
+    rw (h.count, h.used) (rows-ask h.accepted (unused (none-parless c.args.store.now.records.now c.args.store.now.places.now k.count k.questions w c.if-uses_names.false)))
 
-pub returns : goal.returns
-returns c = let a = c.args in
-    let b = a.records.now in
-    let p = a.places.now in
-    let k = a.counts in
-    judge-unasked c.requires c.rows_all.ensures (none-asked b p k.count k.questions c.uses_names.ensures c.if-uses_names.false)
+pub returns-clause-judged : goal.returns-clause-judged
+returns-clause-judged c =
+    let h = c.requires in
+    let e = c.sorts.ensures in
+    let k = c.args.counts in
+    let w = rw (e.records, e.places, e.count, h.count) at c.uses_names.ensures in
+    let t = rw h.count at c.rows_all.ensures.rows in
+    judge-unasked h.accepted t (none-asked c.args.store.now.records.now c.args.store.now.places.now k.count k.questions w c.if-uses_names.false)

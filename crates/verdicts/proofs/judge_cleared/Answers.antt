@@ -1,20 +1,27 @@
 -- A sheet that was read is judged over the store that the reader left; a refused one leaves zeros.
 -- The lengths are those at entry, since no call changes one.
-use Rattle.verdicts.proofs.JudgeLaws.{own-tables, refused-is}
+use Rattle.std.proofs.Common.{rules, refl}
+use Rattle.verdicts.proofs.JudgeLaws.{own-tables, accepted-ask, refused-is, judge-over, judge-moved}
 use Rattle.verdicts.proofs.judge_cleared.Goals as goal
 
--- A sheet that was read is judged over the store that the reader left; a refused one leaves zeros.
--- The lengths are those at entry, since no call changes one.
 pub read_sheet-read-requires : goal.read_sheet-read-requires
 read_sheet-read-requires c = own-tables
 
-pub returns-in-Refused : goal.returns-in-Refused
-returns-in-Refused c = let a = c.args in
-    let s = a.sheet.now in
-    let b = a.records.now in
-    let p = a.places.now in
-    let rw₀ = a.rows.now in
-    let an₀ = a.answers.now in
+pub judge_accepted-requires : goal.judge_accepted-requires
+judge_accepted-requires c =
+    let a = c.args in
+    let l = c.read_sheet-read.auto in
+    record { accepted = accepted-ask a.records.now a.places.now c.requires c.in-Ok.ensures l.table l.terms l.questions; count = refl; used = refl }
+
+pub returns-in-Ok : goal.returns-in-Ok
+returns-in-Ok c =
+    let a = c.args in
     let d = c.read_sheet-read.new in
-    let f = c.in-Refused.ensures in
-    refused-is s b p c.requires c.in-Refused.e d.records d.places f c.zero_bytes.ensures c.zero_words.ensures
+    let l = c.read_sheet-read.auto in
+    judge-moved (judge-over a.records.now a.places.now a.rows.now a.answers.now d.records d.places a.rows.now a.answers.now l.records l.places refl refl c.judge_accepted.ensures.judged) (search rules) (search rules)
+
+pub returns-in-Err : goal.returns-in-Err
+returns-in-Err c =
+    let a = c.args in
+    let d = c.read_sheet-read.new in
+    refused-is a.sheet.now a.records.now a.places.now c.requires c.in-Err.refusal d.records d.places c.in-Err.ensures (search rules) (search rules)

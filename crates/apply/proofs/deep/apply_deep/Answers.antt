@@ -1,20 +1,31 @@
--- The answers of the sorts listed make the answer of the sort, so that making it again adds nothing.
-use Rattle.apply.proofs.OrderLaws.{deep-order, deep-asks, deep-stuck, deep-last, deep_is}
+-- The order of the sort, then the answers of its sorts, then its own.
+use Rattle.apply_walk.specs.KnownLaws.{known-halted}
+use Rattle.apply.proofs.OrderLaws.{order-asks-through, order-is-through, deep-order, deep-asks, deep-stuck, deep-last, deep_is}
 use Rattle.apply.proofs.deep.apply_deep.Goals as goal
 
-pub order_of-many-requires : goal.order_of-many-requires
-order_of-many-requires c = deep-order c.requires.asks
+pub add-requires : goal.add-requires
+add-requires c = order-asks-through c.sorts.ensures.records c.sorts.ensures.places c.sorts.ensures.count (deep-order c.requires.asks)
 
-pub apply_order-done-requires : goal.apply_order-done-requires
-apply_order-done-requires c = deep-asks c.requires.asks c.order_of-many.ensures c.args.known.now c.requires.known
+pub apply_order-requires : goal.apply_order-requires
+apply_order-requires c =
+    deep-asks c.requires.asks (order-is-through c.sorts.ensures.records c.sorts.ensures.places c.sorts.ensures.count c.as_slice.ensures c.add.ensures)
+    c.args.known.now c.requires.known
 
-pub apply_sort-requires-in-Are : goal.apply_sort-requires-in-Are
-apply_sort-requires-in-Are c = deep-last c.requires.asks c.order_of-many.ensures c.in-Are.ensures
+pub returns-in_err-apply_order-clause-made : goal.returns-in_err-apply_order-clause-made
+returns-in_err-apply_order-clause-made c =
+    let s = c.args.store.now in
+    let d = c.apply_order.new.store in
+    known-halted s.records.now s.places.now s.count s.used c.args.k c.args.images.now d.records.now d.places.now d.index.now c.apply_order.new.known d.count d.used c.from_residual.result c.from_residual.ensures.0
+    (deep-stuck c.requires.asks (order-is-through c.sorts.ensures.records c.sorts.ensures.places c.sorts.ensures.count c.as_slice.ensures c.add.ensures)
+    c.in_err-apply_order.ensures.made)
 
-pub returns-in-Are : goal.returns-in-Are
-returns-in-Are c =
-    let e = c.apply_sort-in-Are.new in
-    deep_is c.requires.asks c.order_of-many.ensures c.in-Are.ensures e.records e.places e.index e.known c.apply_sort-in-Are.result c.apply_sort-in-Are.ensures
+pub apply_sort-requires-2 : goal.apply_sort-requires-2
+apply_sort-requires-2 c =
+    deep-last c.requires.asks (order-is-through c.sorts.ensures.records c.sorts.ensures.places c.sorts.ensures.count c.as_slice.ensures c.add.ensures)
+    c.in_ok-apply_order.ensures.made
 
-pub returns-in-Stuck : goal.returns-in-Stuck
-returns-in-Stuck c = deep-stuck c.requires.asks c.order_of-many.ensures c.in-Stuck.ensures
+pub returns-clause-made : goal.returns-clause-made
+returns-clause-made c =
+    let d = c.apply_sort-2.new.store in
+    deep_is c.requires.asks (order-is-through c.sorts.ensures.records c.sorts.ensures.places c.sorts.ensures.count c.as_slice.ensures c.add.ensures)
+    c.in_ok-apply_order.ensures.made d.records.now d.places.now d.index.now c.apply_sort-2.new.known d.count d.used c.apply_sort-2.result c.apply_sort-2.ensures.made

@@ -1,40 +1,45 @@
-use Rattle.std.proofs.Common.{arith, ◌∙◌}
-use Rattle.apply_walk.specs.Lists.{held}
+use Rattle.std.proofs.Common.{arith, rules}
+use Rattle.apply_walk.specs.KnownLaws.{known-parts-halted}
 use Rattle.apply_walk.specs.PartLaws.{parts-asks, parts-number, parts-halted, parts-inv-more, parts-done}
 use Rattle.apply.proofs.deep.apply_list.Goals as goal
 
-pub apply_deep-made-requires : goal.apply_deep-made-requires
-apply_deep-made-requires c =
-    let a = c.args in
-    let i = c.loop-j in
-    record { asks = (parts-asks a.records.now a.places.now a.index.now a.count a.used (held a.parts.now a.many) a.images.now c.requires.asks i.records i.places i.index i.parts i.n i.u i.j i.invariant.inv c.loop-j-test.true).1; known = i.invariant.known }
+pub apply_deep-requires : goal.apply_deep-requires
+apply_deep-requires c =
+    let s = c.args.store.now in
+    let p = c.loop-part in
+    let d = p.store in
+    record { asks = (parts-asks s.records.now s.places.now s.index.now s.count s.used c.args.parts.now c.args.images.now c.requires.asks d.records.now d.places.now d.index.now p.parts d.count d.used p.part-index p.invariant.along.inv c.loop-part-test.true c.from-k.result c.from-k.ensures).1; known = p.invariant.along.known }
 
-pub overflow_cast-parts : goal.overflow_cast-parts
-overflow_cast-parts c =
-    let a = c.args in
-    let i = c.loop-j in
-    let d = c.apply_deep-made.new in
-    let v = c.in-Is in
-    omega (arith, parts-number a.records.now a.places.now a.index.now a.count a.used (held a.parts.now a.many) a.images.now c.requires.asks i.records i.places i.index i.parts i.n i.u i.j i.invariant.inv c.loop-j-test.true d.records d.places d.index v.i v.m v.v v.ensures.made)
+pub returns-in_err-i-clause-made : goal.returns-in_err-i-clause-made
+returns-in_err-i-clause-made c =
+    let s = c.args.store.now in
+    let p = c.loop-part in
+    let d = p.store in
+    let e = c.apply_deep.new.store in
+    known-parts-halted s.records.now s.places.now s.count s.used c.args.parts.now c.args.images.now e.records.now e.places.now e.index.now c.apply_deep.new.known _ e.count e.used c.from_residual.result c.from_residual.ensures.0
+    (parts-halted s.records.now s.places.now s.index.now s.count s.used c.args.parts.now c.args.images.now c.requires.asks d.records.now d.places.now d.index.now p.parts d.count d.used p.part-index p.invariant.along.inv c.loop-part-test.true c.from-k.result c.from-k.ensures e.records.now e.places.now e.index.now e.count e.used c.in_err-i.ensures.made)
 
-pub returns-in-Stuck : goal.returns-in-Stuck
-returns-in-Stuck c =
-    let a = c.args in
-    let i = c.loop-j in
-    let d = c.apply_deep-made.new in
-    let v = c.in-Stuck in
-    parts-halted a.records.now a.places.now a.index.now a.count a.used (held a.parts.now a.many) a.images.now c.requires.asks i.records i.places i.index i.parts i.n i.u i.j i.invariant.inv c.loop-j-test.true d.records d.places d.index v.m v.v v.ensures
+pub overflow_cast-part : goal.overflow_cast-part
+overflow_cast-part c =
+    let s = c.args.store.now in
+    let p = c.loop-part in
+    let d = p.store in
+    let e = c.apply_deep.new.store in
+    let v = c.in_ok-i in
+    omega (arith, parts-number s.records.now s.places.now s.index.now s.count s.used c.args.parts.now c.args.images.now c.requires.asks d.records.now d.places.now d.index.now p.parts d.count d.used p.part-index p.invariant.along.inv c.loop-part-test.true c.from-k.result c.from-k.ensures e.records.now e.places.now e.index.now v.i e.count e.used v.ensures.made.made)
 
-pub loop-j-preserved : goal.loop-j-preserved
-loop-j-preserved c =
-    let a = c.args in
-    let i = c.loop-j in
-    let d = c.apply_deep-made.new in
-    let v = c.in-Is in
-    record { inv = parts-inv-more a.records.now a.places.now a.index.now a.count a.used (held a.parts.now a.many) a.images.now c.requires.asks i.records i.places i.index i.parts i.n i.u i.j i.invariant.inv c.loop-j-test.true d.records d.places d.index v.i v.m v.v v.ensures.made; known = v.ensures.known; lasts = c.apply_deep-made.auto.known ∙ i.invariant.lasts }
+pub loop-part-preserved : goal.loop-part-preserved
+loop-part-preserved c =
+    let s = c.args.store.now in
+    let p = c.loop-part in
+    let d = p.store in
+    let e = c.apply_deep.new.store in
+    let v = c.in_ok-i in
+    record { same = search rules; along = record { inv = parts-inv-more s.records.now s.places.now s.index.now s.count s.used c.args.parts.now c.args.images.now c.requires.asks d.records.now d.places.now d.index.now p.parts d.count d.used p.part-index p.invariant.along.inv c.loop-part-test.true c.from-k.result c.from-k.ensures e.records.now e.places.now e.index.now v.i e.count e.used v.ensures.made.made; known = v.ensures.made.known } }
 
-pub returns : goal.returns
-returns c =
-    let a = c.args in
-    let i = c.loop-j in
-    record { made = parts-done a.records.now a.places.now a.index.now a.count a.used (held a.parts.now a.many) a.images.now c.requires.asks i.records i.places i.index i.parts i.n i.u i.j i.invariant.inv c.loop-j-test.false; known = i.invariant.known }
+pub returns-clause-made : goal.returns-clause-made
+returns-clause-made c =
+    let s = c.args.store.now in
+    let p = c.loop-part in
+    let d = p.store in
+    record { made = parts-done s.records.now s.places.now s.index.now s.count s.used c.args.parts.now c.args.images.now c.requires.asks d.records.now d.places.now d.index.now p.parts d.count d.used p.part-index p.invariant.along.inv c.loop-part-test.false; known = p.invariant.along.known }

@@ -1,26 +1,25 @@
 -- 22 by the capped sizes of the list, with nothing touched.
 -- Where there was no room, undoing gives back the store that it was grown from.
 use Rattle.std.proofs.Common.{refl}
-use Rattle.apply.proofs.UndoLaws.{undo-asks, undo-back}
-use Rattle.apply.proofs.FunctionLaws.{function-sizes, function-over, function-fits}
+use Rattle.apply.specs.Contract.{function_at}
+use Rattle.apply.proofs.UndoLaws.{undo-asks, undo-back, without-room}
+use Rattle.apply.proofs.FunctionLaws.{function-over, function-fits}
 use Rattle.apply.proofs.function.apply_function.Goals as goal
 
-pub answer_sizes-sum-requires : goal.answer_sizes-sum-requires
-answer_sizes-sum-requires c = function-sizes c.requires
+pub returns-then-answer_sizes-gt-LARGEST_PARTS-clause-applied : goal.returns-then-answer_sizes-gt-LARGEST_PARTS-clause-applied
+returns-then-answer_sizes-gt-LARGEST_PARTS-clause-applied c = (function-over c.requires c.answer_sizes.result c.answer_sizes.ensures c.if-answer_sizes-gt-LARGEST_PARTS.true, (refl, refl, refl), refl, refl)
 
-pub returns-then-sum-gt-LARGEST_PARTS : goal.returns-then-sum-gt-LARGEST_PARTS
-returns-then-sum-gt-LARGEST_PARTS c = (function-over c.requires c.answer_sizes-sum.result c.answer_sizes-sum.ensures c.if-sum-gt-LARGEST_PARTS.true, (refl, refl, refl))
-
-pub make_function-made-requires : goal.make_function-made-requires
-make_function-made-requires c = function-fits c.requires c.answer_sizes-sum.result c.answer_sizes-sum.ensures c.if-sum-gt-LARGEST_PARTS.false
+pub make_function-requires : goal.make_function-requires
+make_function-requires c = function-fits c.requires c.answer_sizes.result c.answer_sizes.ensures c.if-answer_sizes-gt-LARGEST_PARTS.false
 
 pub undo-requires : goal.undo-requires
-undo-requires c = undo-asks c.requires.ready.good c.in-Stuck.ensures
+undo-requires c = undo-asks c.requires.ready.good c.in-Err.ensures.made
 
-pub returns-in-Is : goal.returns-in-Is
-returns-in-Is c = record { small = (function-fits c.requires c.answer_sizes-sum.result c.answer_sizes-sum.ensures c.if-sum-gt-LARGEST_PARTS.false).small; made = c.in-Is.ensures }
+pub returns-in-Ok-clause-applied : goal.returns-in-Ok-clause-applied
+returns-in-Ok-clause-applied c = record { small = (function-fits c.requires c.answer_sizes.result c.answer_sizes.ensures c.if-answer_sizes-gt-LARGEST_PARTS.false).small; made = c.in-Ok.ensures.made }
 
-pub returns-in-Stuck : goal.returns-in-Stuck
-returns-in-Stuck c =
-    let w = c.in-Stuck.ensures in
-    ((function-fits c.requires c.answer_sizes-sum.result c.answer_sizes-sum.ensures c.if-sum-gt-LARGEST_PARTS.false).small, w.full, undo-back c.requires.ready.good w c.undo.ensures)
+pub returns-in-Err-clause-applied : goal.returns-in-Err-clause-applied
+returns-in-Err-clause-applied c =
+    let s = c.args.store.now in
+    let w = c.in-Err.ensures.made in
+    without-room (function_at s.records.now s.places.now s.count c.args.images.now c.args.span.at c.args.span.count) c.into.result c.into.ensures (function-fits c.requires c.answer_sizes.result c.answer_sizes.ensures c.if-answer_sizes-gt-LARGEST_PARTS.false).small w.full (undo-back c.requires.ready.good w c.undo.ensures.undone)

@@ -1,27 +1,25 @@
 -- The Function is made over its list, which stands in the store by then: it interns its list first.
 -- Where room runs out on the way, there is none for the whole.
-use Rattle.std.proofs.Common.{ℕ}
-use Rattle.std.proofs.Math.ListN.{replicate, length-replicate}
-use Rattle.apply_walk.specs.HeldLaws.{none_has}
-use Rattle.apply.proofs.FunctionLaws.{function-read, function-parts, function-stuck, function-make, function-made, function-full}
+use Rattle.std.proofs.Common.{List, ℕ, ap, ◌∙◌}
+use Rattle.record.specs.Number.{numbers_at}
+use Rattle.apply.specs.Contract.{function_at}
+use Rattle.apply.proofs.FunctionLaws.{function-parts, function-stuck, function-make, function-is-made, function-stopped}
 use Rattle.apply.proofs.function.make_function.Goals as goal
 
-pub read_numbers-requires : goal.read_numbers-requires
-read_numbers-requires c = (function-read c.requires.asks, length-replicate {A = ℕ} 64 0)
+pub make_answers-requires : goal.make_answers-requires
+make_answers-requires c = function-parts c.requires (c.read_numbers.ensures ∙ ap (λ (bs : List ℕ). numbers_at bs c.args.span.at c.args.span.count) c.entries.ensures.records)
 
-pub make_answers-done-requires : goal.make_answers-done-requires
-make_answers-done-requires c = function-parts c.requires c.read_numbers.ensures
+pub returns-in_err-make_answers-clause-made : goal.returns-in_err-make_answers-clause-made
+returns-in_err-make_answers-clause-made c =
+    let s = c.args.store.now in
+    let d = c.make_answers.new.store in
+    function-stopped (function_at s.records.now s.places.now s.count c.args.images.now c.args.span.at c.args.span.count) d.records.now d.places.now d.index.now d.count d.used c.from_residual.result c.from_residual.ensures.0
+    (function-stuck c.requires (c.read_numbers.ensures ∙ ap (λ (bs : List ℕ). numbers_at bs c.args.span.at c.args.span.count) c.entries.ensures.records) c.in_err-make_answers.ensures.made)
 
-pub make_fields-made-requires : goal.make_fields-made-requires
-make_fields-made-requires c = function-make c.requires c.read_numbers.ensures c.in-Are.ensures (none_has (replicate 64 0) (length-replicate {A = ℕ} 64 0))
+pub make_fields-requires : goal.make_fields-requires
+make_fields-requires c = function-make c.requires (c.read_numbers.ensures ∙ ap (λ (bs : List ℕ). numbers_at bs c.args.span.at c.args.span.count) c.entries.ensures.records) c.in_ok-make_answers.ensures.made
 
-pub returns-in-Is : goal.returns-in-Is
-returns-in-Is c = function-made c.requires c.read_numbers.ensures c.in-Are.ensures (none_has (replicate 64 0) (length-replicate {A = ℕ} 64 0)) c.in-Is.ensures
-
-pub returns-in-NoRoom : goal.returns-in-NoRoom
-returns-in-NoRoom c =
-    let y = c.make_fields-made.new in
-    function-full c.requires c.read_numbers.ensures c.in-Are.ensures (none_has (replicate 64 0) (length-replicate {A = ℕ} 64 0)) y.records y.places y.index c.in-NoRoom.ensures
-
-pub returns-in-Stuck : goal.returns-in-Stuck
-returns-in-Stuck c = function-stuck c.requires c.read_numbers.ensures c.in-Stuck.ensures
+pub returns-clause-made : goal.returns-clause-made
+returns-clause-made c =
+    let d = c.make_fields.new.store in
+    function-is-made c.requires (c.read_numbers.ensures ∙ ap (λ (bs : List ℕ). numbers_at bs c.args.span.at c.args.span.count) c.entries.ensures.records) c.in_ok-make_answers.ensures.made d.records.now d.places.now d.index.now d.count d.used c.make_fields.result c.make_fields.ensures.made

@@ -4,5 +4,5 @@ use Rattle.apply.proofs.whole.answer_sizes.Goals as goal
 
 pub applied_sizes-requires : goal.applied_sizes-requires
 applied_sizes-requires c =
-    let a = c.args in
-    record { asks = c.requires; weighed = weighed-none a.records.now a.places.now a.count a.images.now 4096 }
+    let s = c.args.store.now in
+    record { asks = c.requires; weighed = weighed-none s.records.now s.places.now s.count c.args.images.now 4096 }

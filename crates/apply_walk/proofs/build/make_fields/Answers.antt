@@ -1,13 +1,17 @@
--- The drafted record is the one of these fields, and interning it interns their sort.
-use Rattle.apply_walk.proofs.MakeLaws.{make-tree, make-intern, make-made}
+-- The record is the one of these fields, and interning it interns their sort.
+use Rattle.std.proofs.Common.{◌∙◌}
+use Rattle.apply_walk.proofs.MakeLaws.{make-fit, make-tree, make-intern, make-made}
 use Rattle.apply_walk.proofs.build.make_fields.Goals as goal
 
+pub put_fields-requires-clause-fit : goal.put_fields-requires-clause-fit
+put_fields-requires-clause-fit c = make-fit c.requires
+
 pub tree_size-weight-requires : goal.tree_size-weight-requires
-tree_size-weight-requires c = make-tree c.requires c.draft_of-len.ensures.is
+tree_size-weight-requires c = make-tree c.requires (c.as_slice-record.ensures ∙ c.put_fields.ensures)
 
 pub intern-requires : goal.intern-requires
-intern-requires c = make-intern c.requires c.draft_of-len.ensures.is c.tree_size-weight.result c.tree_size-weight.ensures
+intern-requires c = make-intern c.requires (c.as_slice-record.ensures ∙ c.put_fields.ensures) c.tree_size-weight.result c.tree_size-weight.ensures
 
-pub returns : goal.returns
-returns c = let d = c.intern.new in
-    make-made c.requires c.draft_of-len.ensures.is d.records d.places d.index c.intern.result c.intern.ensures
+pub returns-clause-made : goal.returns-clause-made
+returns-clause-made c = let d = c.intern.new.self in
+    make-made c.requires (c.as_slice-record.ensures ∙ c.put_fields.ensures) d.records.now d.places.now d.index.now d.count d.used c.intern.result c.intern.ensures.interned

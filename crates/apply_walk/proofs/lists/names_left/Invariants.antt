@@ -1,10 +1,8 @@
 -- The loop keeps: the names kept so far and those kept of what is left make the whole.
-use Rattle.apply_walk.specs.Lists.{held}
+use Rattle.record.specs.Number.{numbers_at}
+use Rattle.record.specs.Numbers.{numbers_left}
 use Rattle.apply_walk.proofs.ListLaws.{NamesInv}
 use Rattle.apply_walk.proofs.lists.names_left.Given as goal
 
-abbrev pub invariant-loop-left : goal.invariant-loop-left
-invariant-loop-left l = NamesInv l.records l.at l.n l.images (held l.out l.kept) l.next l.left
-
-abbrev pub decreases-loop-left : goal.decreases-loop-left
-decreases-loop-left l = l.left
+abbrev pub invariant-loop-v : goal.invariant-loop-v
+invariant-loop-v l = NamesInv l.images (numbers_at l.bytes l.fn.span.at l.fn.span.count) (numbers_left l.v-iterator) l.initial.out l.out

@@ -1,10 +1,7 @@
--- The loop keeps: the numbers so far and those left make the whole.
-use Rattle.apply_walk.specs.Lists.{held}
-use Rattle.apply_walk.proofs.ListLaws.{ReadInv}
+-- The loop keeps: the numbers so far are those of the list.
+use Rattle.std.proofs.Common.{◌≡◌, ℕ, ◌+◌, ◌*◌, ◌<◌, get_or}
+use Rattle.record.specs.Number.{u16_at}
 use Rattle.apply_walk.proofs.lists.read_numbers.Given as goal
 
-abbrev pub invariant-loop-left : goal.invariant-loop-left
-invariant-loop-left l = ReadInv l.records l.at l.n (held l.out l.j) l.next l.left
-
-abbrev pub decreases-loop-left : goal.decreases-loop-left
-decreases-loop-left l = l.left
+abbrev pub invariant-loop-i : goal.invariant-loop-i
+invariant-loop-i l = (k : ℕ) → k < l.i → get_or l.out k 0 ≡ u16_at l.bytes (l.span.at + 2 * k)

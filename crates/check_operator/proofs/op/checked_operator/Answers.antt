@@ -1,41 +1,64 @@
--- The answer to an operator.
--- Its rule has ranks, their count, no Par among the arguments, and fits, in this order.
+-- The answer of an operator.
+use Rattle.std.proofs.Common.{◌≡◌, rules, refl}
 use Rattle.row_rules.specs.declared.Cause.TheVariants.{NoRank, Count, Misfit}
-use Rattle.row_answer.specs.AnswerLaws.{judged-as, answered-as, made-refused}
-use Rattle.check_operator.proofs.OperatedLaws.{no-rank, no-count, no_value, rule-asks, fit-verdict}
+use Rattle.row_answer.specs.AnswerLaws.{judged-as}
+use Rattle.row_answer.specs.Values.{ValuesHave}
+use Rattle.check_operator.specs.Numbered.{rule_numbers}
+use Rattle.check_operator.specs.Rule.{rule_of}
+use Rattle.check_operator.specs.Contract.{FitHas}
+use Rattle.check_operator.proofs.RowLaws.{refused_row}
+use Rattle.check_operator.proofs.OperatedLaws.{no-rank, no-count, no_value, rule-asks, misfit, fit_is}
 use Rattle.check_operator.proofs.op.checked_operator.Goals as goal
 
-pub returns-then-not-is_ranked : goal.returns-then-not-is_ranked
-returns-then-not-is_ranked c = let q = c.args in
-    let b = q.records.now in
-    let p = q.places.now in
-    let ix = q.index.now in
-    let n = q.count in
-    let u = q.used in
-    judged-as (no-rank c.requires c.rule_of-rule.ensures c.is_ranked.ensures c.if-not-is_ranked.true) (answered-as c.refuse.ensures (made-refused b p ix n u c.requires.good NoRank))
+pub returns-in_err-rule-clause-answer : goal.returns-in_err-rule-clause-answer
+returns-in_err-rule-clause-answer c = refused_row c.args.store.now NoRank (no-rank c.requires c.args.op (search rules)) (search rules)
 
-pub returns-then-not-counts : goal.returns-then-not-counts
-returns-then-not-counts c = let q = c.args in
-    let b = q.records.now in
-    let p = q.places.now in
-    let ix = q.index.now in
-    let n = q.count in
-    let u = q.used in
-    judged-as (no-count c.requires c.rule_of-rule.ensures c.is_ranked.ensures c.if-not-is_ranked.false c.counts.ensures c.if-not-counts.true) (answered-as c.refuse-then-not-counts.ensures (made-refused b p ix n u c.requires.good Count))
+pub returns-then-not-counts-clause-answer : goal.returns-then-not-counts-clause-answer
+returns-then-not-counts-clause-answer c =
+    let r = c.in_ok-rule.rule in
+    let e : rule_numbers r ≡ rule_of c.args.op = search rules in
+    refused_row c.args.store.now Count (no-count c.requires c.args.op r e c.counts.ensures c.if-not-counts.true) refl
 
-pub returns-then-not-all_values : goal.returns-then-not-all_values
-returns-then-not-all_values c = let q = c.args in
-    let b = q.records.now in
-    let p = q.places.now in
-    let ix = q.index.now in
-    let n = q.count in
-    let u = q.used in
-    judged-as (no_value c.requires c.rule_of-rule.ensures c.is_ranked.ensures c.if-not-is_ranked.false c.counts.ensures c.if-not-counts.false c.all_values.result c.all_values.ensures c.if-not-all_values.true)
-    (answered-as c.refuse-then-not-all_values.ensures (made-refused b p ix n u c.requires.good Misfit))
+pub returns-then-not-all_values-clause-answer : goal.returns-then-not-all_values-clause-answer
+returns-then-not-all_values-clause-answer c =
+    let s = c.args.store.now in
+    let a = c.args.args.now in
+    let r = c.in_ok-rule.rule in
+    let e : rule_numbers r ≡ rule_of c.args.op = search rules in
+    let v : ValuesHave s.records.now s.places.now a.bytes.now 3 a.count c.all_values.result =
+    rw (c.entries.ensures.records, c.entries.ensures.places, c.sorts-sorts.ensures.records, c.sorts-sorts.ensures.places, c.span.ensures.at, c.span.ensures.count) at c.all_values.ensures in
+    refused_row s Misfit (no_value c.requires c.args.op r e c.counts.ensures c.if-not-counts.false c.all_values.result v c.if-not-all_values.true) refl
 
-pub fit_rule-made-requires : goal.fit_rule-made-requires
-fit_rule-made-requires c = rule-asks c.requires c.rule_of-rule.ensures c.is_ranked.ensures c.if-not-is_ranked.false c.counts.ensures c.if-not-counts.false c.all_values.result c.all_values.ensures
+pub fit_rule-requires : goal.fit_rule-requires
+fit_rule-requires c =
+    let r = c.in_ok-rule.rule in
+    let e : rule_numbers r ≡ rule_of c.args.op = search rules in
+    rw (c.sorts-sorts.ensures.records, c.sorts-sorts.ensures.places, c.sorts-sorts.ensures.count) (rule-asks c.requires c.args.op r e c.counts.ensures c.if-not-counts.false)
 
-pub returns : goal.returns
-returns c = judged-as (fit-verdict c.requires c.rule_of-rule.ensures c.is_ranked.ensures c.if-not-is_ranked.false c.counts.ensures c.if-not-counts.false c.all_values.result c.all_values.ensures c.if-not-all_values.false c.fit_rule-made.result c.fit_rule-made.ensures)
-    c.delivered_fit.ensures
+pub returns-in_err-made-clause-answer : goal.returns-in_err-made-clause-answer
+returns-in_err-made-clause-answer c =
+    let s = c.args.store.now in
+    let a = c.args.args.now in
+    let r = c.in_ok-rule.rule in
+    let e : rule_numbers r ≡ rule_of c.args.op = search rules in
+    let v : ValuesHave s.records.now s.places.now a.bytes.now 3 a.count c.all_values.result =
+    rw (c.entries.ensures.records, c.entries.ensures.places, c.sorts-sorts.ensures.records, c.sorts-sorts.ensures.places, c.span.ensures.at, c.span.ensures.count) at c.all_values.ensures in
+    let h : FitHas s.records.now s.places.now s.count a.bytes.now a.count (rule_numbers r) c.fit_rule.result =
+    rw (c.sorts-sorts.ensures.records, c.sorts-sorts.ensures.places, c.sorts-sorts.ensures.count) at c.fit_rule.ensures in
+    refused_row s Misfit
+    (misfit c.requires c.args.op r e c.counts.ensures c.if-not-counts.false c.all_values.result v c.if-not-all_values.false c.fit_rule.result h (search rules))
+    (search rules)
+
+pub returns-clause-answer : goal.returns-clause-answer
+returns-clause-answer c =
+    let s = c.args.store.now in
+    let a = c.args.args.now in
+    let r = c.in_ok-rule.rule in
+    let e : rule_numbers r ≡ rule_of c.args.op = search rules in
+    let v : ValuesHave s.records.now s.places.now a.bytes.now 3 a.count c.all_values.result =
+    rw (c.entries.ensures.records, c.entries.ensures.places, c.sorts-sorts.ensures.records, c.sorts-sorts.ensures.places, c.span.ensures.at, c.span.ensures.count) at c.all_values.ensures in
+    let h : FitHas s.records.now s.places.now s.count a.bytes.now a.count (rule_numbers r) c.fit_rule.result =
+    rw (c.sorts-sorts.ensures.records, c.sorts-sorts.ensures.places, c.sorts-sorts.ensures.count) at c.fit_rule.ensures in
+    judged-as
+    (fit_is c.requires c.args.op r e c.counts.ensures c.if-not-counts.false c.all_values.result v c.if-not-all_values.false c.fit_rule.result h c.in_ok-made.made (search rules))
+    c.delivered_fit.ensures.answer

@@ -1,29 +1,31 @@
--- The fit of an array, an index and an element.
--- The first is an array, and the others have the numbers of its parts.
-use Rattle.std.proofs.Common.{arith}
-use Rattle.check_operator.proofs.OperatedLaws.{array-rest, array-place, array-other, array-differs, array-selects, array-element, array-stores}
+-- The fit of an array.
+use Rattle.std.proofs.Common.{arith, refl}
+use Rattle.check_operator.proofs.OperatedLaws.{array-rest, array-other, array_place, array-differs, array-selects, array-stores}
 use Rattle.check_operator.proofs.op.fit_array.Goals as goal
 
-pub returns-then-a-ne-SORT_ARRAY : goal.returns-then-a-ne-SORT_ARRAY
-returns-then-a-ne-SORT_ARRAY c = array-other c.requires c.u16_at-k.ensures.value c.entry-a.result c.entry-a.ensures c.if-a-ne-SORT_ARRAY.true
+pub returns-then-not-is_kind : goal.returns-then-not-is_kind
+returns-then-not-is_kind c = array-other c.requires c.number-array.ensures.value c.is_kind.ensures c.if-not-is_kind.true
 
-pub u16_at-index-requires : goal.u16_at-index-requires
-u16_at-index-requires c = omega (arith, array-place c.requires c.u16_at-k.ensures.value c.entry-a.result c.entry-a.ensures c.if-a-ne-SORT_ARRAY.false)
+pub get-index-requires : goal.get-index-requires
+get-index-requires c =
+    omega (arith, array_place c.requires c.number-array.ensures.value c.is_kind.ensures c.if-not-is_kind.false c.entry.result c.entry.ensures)
 
-pub overflow_add-list : goal.overflow_add-list
-overflow_add-list c = omega (arith, array-place c.requires c.u16_at-k.ensures.value c.entry-a.result c.entry-a.ensures c.if-a-ne-SORT_ARRAY.false)
+pub get-element-requires : goal.get-element-requires
+get-element-requires c =
+    omega (arith, array_place c.requires c.number-array.ensures.value c.is_kind.ensures c.if-not-is_kind.false c.entry.result c.entry.ensures)
 
-pub u16_at-element-requires : goal.u16_at-element-requires
-u16_at-element-requires c = omega (arith, array-place c.requires c.u16_at-k.ensures.value c.entry-a.result c.entry-a.ensures c.if-a-ne-SORT_ARRAY.false)
+pub returns-then-number-index : goal.returns-then-number-index
+returns-then-number-index c =
+    array-differs c.requires c.number-array.ensures.value c.is_kind.ensures c.if-not-is_kind.false c.entry.result c.entry.ensures
+    c.get-index.ensures.value c.get-element.ensures.value c.number.ensures.value c.if-number-index.true
 
-pub returns-then-u16_at-index : goal.returns-then-u16_at-index
-returns-then-u16_at-index c = array-differs c.requires c.u16_at-k.ensures.value c.entry-a.result c.entry-a.ensures c.if-a-ne-SORT_ARRAY.false c.u16_at-index.ensures.value c.u16_at-element.ensures.value c.u16_at.ensures.value c.if-u16_at-index.true
-
-pub returns-then-n-eq2 : goal.returns-then-n-eq2
-returns-then-n-eq2 c = array-selects c.requires c.u16_at-k.ensures.value c.entry-a.result c.entry-a.ensures c.if-a-ne-SORT_ARRAY.false c.u16_at-index.ensures.value c.u16_at-element.ensures.value c.u16_at.ensures.value c.if-u16_at-index.false c.if-n-eq2.true
-
-pub returns-then-u16_at-element : goal.returns-then-u16_at-element
-returns-then-u16_at-element c = array-element c.requires c.u16_at-k.ensures.value c.entry-a.result c.entry-a.ensures c.if-a-ne-SORT_ARRAY.false c.u16_at-index.ensures.value c.u16_at-element.ensures.value c.u16_at.ensures.value c.u16_at-2.ensures.value c.if-u16_at-index.false (array-rest c.requires c.if-n-eq2.false) c.if-u16_at-element.true
+pub returns-then-args-eq2 : goal.returns-then-args-eq2
+returns-then-args-eq2 c =
+    array-selects c.requires c.number-array.ensures.value c.is_kind.ensures c.if-not-is_kind.false c.entry.result c.entry.ensures
+    c.get-index.ensures.value c.get-element.ensures.value c.number.ensures.value c.if-number-index.false c.if-args-eq2.true
 
 pub returns : goal.returns
-returns c = array-stores c.requires c.u16_at-k.ensures.value c.entry-a.result c.entry-a.ensures c.if-a-ne-SORT_ARRAY.false c.u16_at-index.ensures.value c.u16_at-element.ensures.value c.u16_at.ensures.value c.u16_at-2.ensures.value c.if-u16_at-index.false (array-rest c.requires c.if-n-eq2.false) c.if-u16_at-element.false
+returns c =
+    array-stores c.requires c.number-array.ensures.value c.is_kind.ensures c.if-not-is_kind.false c.entry.result c.entry.ensures
+    c.get-index.ensures.value c.get-element.ensures.value c.number.ensures.value c.if-number-index.false (array-rest c.requires c.if-args-eq2.false)
+    c.number-2.ensures.value _ refl c.then_some.result c.then_some.ensures

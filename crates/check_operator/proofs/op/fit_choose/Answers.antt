@@ -1,26 +1,15 @@
 -- The fit of Bool A A.
--- The first is Bool, and the other two have one number.
-use borrow.Author.Tests.{eqb-true}
-use Rattle.check_operator.proofs.FitLaws.{choose_no, choose-no-2, choose_yes}
+use Rattle.std.proofs.Common.{◌≡◌, ◌&&◌, eqb, eqb-true}
+use Rattle.check_operator.proofs.FitLaws.{and_then, and_else, choose-fits}
 use Rattle.check_operator.proofs.op.fit_choose.Goals as goal
-
-pub returns-then-not-is_kind : goal.returns-then-not-is_kind
-returns-then-not-is_kind c = let q = c.args in
-    let b = q.records.now in
-    let p = q.places.now in
-    let a = q.args.now in
-    choose_no b p a q.n (eqb-true q.n 3 c.requires.counted) c.is_kind.result c.is_kind.ensures c.if-not-is_kind.true
-
-pub returns-then-a-b : goal.returns-then-a-b
-returns-then-a-b c = let q = c.args in
-    let b = q.records.now in
-    let p = q.places.now in
-    let a = q.args.now in
-    choose-no-2 b p a q.n (eqb-true q.n 3 c.requires.counted) c.is_kind.result c.is_kind.ensures c.u16_at-a.ensures.value c.u16_at-b.ensures.value c.if-not-is_kind.false c.if-a-b.true
+use Rattle.check_operator.proofs.op.fit_choose.Goals.{then-is_kind, else-is_kind}
+use Rattle.std.proofs.Common.{ap, ◌∙◌}
 
 pub returns : goal.returns
-returns c = let q = c.args in
-    let b = q.records.now in
-    let p = q.places.now in
-    let a = q.args.now in
-    choose_yes b p a q.n (eqb-true q.n 3 c.requires.counted) c.is_kind.result c.is_kind.ensures c.u16_at-a.ensures.value c.u16_at-b.ensures.value c.if-not-is_kind.false c.if-a-b.false
+returns c =
+    let t = c.is_kind.result in
+    let x = eqb c.number-other.result c.number-chosen.result in
+    let h : c.if-is_kind.fits ≡ (t && x) =
+    elim c.if-is_kind.branch [ then-is_kind w ↦ and_then t x w.if-is_kind.true w.fits-is | else-is_kind w ↦ and_else t x w.if-is_kind.false w.fits-is ] in
+    choose-fits c.requires.args.over (eqb-true c.args.args.now.count 3 c.requires.counted) c.number-chosen.result c.number-chosen.ensures.value
+    c.number-test.ensures.value c.number-other.ensures.value c.if-is_kind.fits (h ∙ ap (◌&& x) c.is_kind.ensures) c.then_some.result c.then_some.ensures

@@ -1,18 +1,8 @@
--- The fit of one sort.
--- The scan of the numbers decides.
-use Rattle.check_operator.proofs.FitLaws.{equal-yes, equal-no}
+-- The fit of arguments of one sort.
+use Rattle.check_operator.proofs.FitLaws.{equal-fits}
 use Rattle.check_operator.proofs.op.fit_equal.Goals as goal
 
-pub returns-then-all_same : goal.returns-then-all_same
-returns-then-all_same c = let q = c.args in
-    let b = q.records.now in
-    let p = q.places.now in
-    let a = q.args.now in
-    equal-yes b p a q.n c.all_same.ensures c.if-all_same.true
-
 pub returns : goal.returns
-returns c = let q = c.args in
-    let b = q.records.now in
-    let p = q.places.now in
-    let a = q.args.now in
-    equal-no b p a q.n c.all_same.ensures c.if-all_same.false
+returns c =
+    let s = c.args.sorts.now in
+    equal-fits c.requires.args.over c.all_same.result (c.all_same.ensures s.records.now s.places.now s.count) c.then_some.ensures

@@ -1,33 +1,27 @@
--- The fit of fixed kinds.
--- Each argument that is there is of its kind.
-use Rattle.check_operator.proofs.FitLaws.{fixed_no, fixed-no-2, fixed-no-3, fixed-yes}
+-- The fit of a list of kinds.
+use Rattle.std.proofs.Common.{rules, tests, ◌≡◌, ◌<◌, ap, ◌∙◌, true, false}
+use Rattle.std.proofs.lemmas.Iterator.{YieldsList-from_slice, YieldsList-from_zip, cases_from_all}
+use Rattle.std.proofs.lemmas.Iterator.Adapters.{serves_from_places}
+use Rattle.record.specs.Numbers.{numbers_left, numbers-yield}
+use Rattle.check_operator.proofs.ArgumentLaws.{of_kind, zip_known, fixed_by}
+use Rattle.check_operator.proofs.FitLaws.{fixed-many, fixed-kinds, fixed-fits}
 use Rattle.check_operator.proofs.op.fit_fixed.Goals as goal
 
-pub returns-then-not-is_kind : goal.returns-then-not-is_kind
-returns-then-not-is_kind c = let q = c.args in
-    let b = q.records.now in
-    let p = q.places.now in
-    let a = q.args.now in
-    fixed_no b p a q.n q.a q.b q.c q.res c.requires c.is_kind.result c.is_kind.ensures c.if-not-is_kind.true
-
-pub returns-then-not-is_kind-2 : goal.returns-then-not-is_kind-2
-returns-then-not-is_kind-2 c = let q = c.args in
-    let b = q.records.now in
-    let p = q.places.now in
-    let a = q.args.now in
-    fixed-no-2 b p a q.n q.a q.b q.c q.res c.requires c.is_kind.result c.is_kind.ensures c.is_kind-2.result c.is_kind-2.ensures c.if-not-is_kind-2.true
-
-pub returns-then-not-is_kind-3 : goal.returns-then-not-is_kind-3
-returns-then-not-is_kind-3 c = let q = c.args in
-    let b = q.records.now in
-    let p = q.places.now in
-    let a = q.args.now in
-    fixed-no-3 b p a q.n q.a q.b q.c q.res c.requires c.is_kind.result c.is_kind.ensures c.is_kind-2.result c.is_kind-2.ensures c.is_kind-3.result c.is_kind-3.ensures c.if-not-is_kind-3.true
+pub all-fits-requires-clause-callable : goal.all-fits-requires-clause-callable
+all-fits-requires-clause-callable c =
+    let road = YieldsList-from_zip (numbers-yield {n = c.zip-pairs.result.a} _ (ap numbers_left c.zip-pairs.ensures.first ∙ c.numbers.ensures)) (YieldsList-from_slice {s = c.zip-pairs.result.b} c.args.kinds.now c.zip-pairs.ensures.second.0) in
+    serves_from_places road (λ x q k. search rules)
+    (λ x k l e. let h : x.0 < c.args.sorts.now.count = zip_known c.requires.args c.args.kinds.now (fixed-many c.args.kinds.now c.args.res c.requires) (x.0, x.1.now) k l e in search rules)
 
 pub returns : goal.returns
-returns c = let q = c.args in
-    let b = q.records.now in
-    let p = q.places.now in
-    let a = q.args.now in
-    fixed-yes b p a q.n q.a q.b q.c q.res c.requires c.is_kind.result c.is_kind.ensures c.is_kind-2.result c.is_kind-2.ensures c.is_kind-3.result c.is_kind-3.ensures c.if-not-is_kind.false
-    c.if-not-is_kind-2.false c.if-not-is_kind-3.false
+returns c =
+    let b = c.args.sorts.now.records.now in
+    let p = c.args.sorts.now.places.now in
+    let n = c.args.sorts.now.count in
+    let ks = c.args.kinds.now in
+    let r = c.args.res in
+    let road = YieldsList-from_zip (numbers-yield {n = c.zip-pairs.result.a} _ (ap numbers_left c.zip-pairs.ensures.first ∙ c.numbers.ensures)) (YieldsList-from_slice {s = c.zip-pairs.result.b} ks c.zip-pairs.ensures.second.0) in
+    fixed-fits ks r c.requires c.all-fits.result
+    (fixed_by c.requires.args ks (fixed-many ks r c.requires) (fixed-kinds ks r c.requires) c.all-fits.result
+    (cases_from_all c.all-fits.new.self _ _ (λ x. of_kind b p n x ≡ true) (λ x. of_kind b p n x ≡ false) c.all-fits.ensures.ran road (λ x q k. search (rules, tests)) (λ x q k. search (rules, tests))))
+    c.then_some.ensures

@@ -1,24 +1,33 @@
 -- The fit of vectors of one width.
--- The first is a vector, and the others have its number.
+use Rattle.std.proofs.Common.{rules}
 use Rattle.check_operator.proofs.FitLaws.{vectors-other, vectors-differ, vectors-same, vectors-bit, vectors-kind}
 use Rattle.check_operator.proofs.op.fit_vectors.Goals as goal
+use Rattle.check_operator.proofs.op.fit_vectors.Goals.{then-not-is_kind-via-then-not-is_kind, then-not-is_kind-via-else-not-is_kind+then-not-all_same}
 
-pub returns-then-kind_at-ne-SORT_BIT_VEC : goal.returns-then-kind_at-ne-SORT_BIT_VEC
-returns-then-kind_at-ne-SORT_BIT_VEC c = let q = c.args in
-    vectors-other q.res c.requires c.kind_at.result c.u16_at-k.ensures.value c.kind_at.ensures c.if-kind_at-ne-SORT_BIT_VEC.true
+pub returns-then-not-is_kind : goal.returns-then-not-is_kind
+returns-then-not-is_kind c =
+    let s = c.args.sorts.now in
+    elim c.then-not-is_kind.branch [
+      | then-not-is_kind-via-then-not-is_kind w ↦ vectors-other c.args.res c.requires c.number-k.ensures.value c.is_kind.result c.is_kind.ensures w.if-not-is_kind.true
+      | then-not-is_kind-via-else-not-is_kind+then-not-all_same w ↦
+          vectors-differ c.args.res c.requires c.number-k.ensures.value c.is_kind.result c.is_kind.ensures
+          w.all_same.result (w.all_same.ensures s.records.now s.places.now s.count) w.if-not-all_same.true
+    ]
 
-pub returns-then-not-all_same : goal.returns-then-not-all_same
-returns-then-not-all_same c = let q = c.args in
-    vectors-differ q.res c.requires c.kind_at.result c.u16_at-k.ensures.value c.kind_at.ensures c.all_same.result c.all_same.ensures c.if-not-all_same.true
+pub returns-in-None : goal.returns-in-None
+returns-in-None c =
+    let s = c.args.sorts.now in
+    vectors-same c.args.res c.requires c.number-k.ensures.value c.is_kind.result c.is_kind.ensures c.all_same.result
+    (c.all_same.ensures s.records.now s.places.now s.count) c.if-not-is_kind.false c.if-not-all_same.false c.in-None.is
 
-pub returns-then-res-eq-THEIRS : goal.returns-then-res-eq-THEIRS
-returns-then-res-eq-THEIRS c = let q = c.args in
-    vectors-same q.res c.requires c.kind_at.result c.u16_at-k.ensures.value c.kind_at.ensures c.all_same.result c.all_same.ensures c.if-kind_at-ne-SORT_BIT_VEC.false c.if-not-all_same.false c.if-res-eq-THEIRS.true
+pub returns-in-Some-BitVec : goal.returns-in-Some-BitVec
+returns-in-Some-BitVec c =
+    let s = c.args.sorts.now in
+    vectors-bit c.args.res c.requires c.number-k.ensures.value c.is_kind.result c.is_kind.ensures c.all_same.result
+    (c.all_same.ensures s.records.now s.places.now s.count) c.if-not-is_kind.false c.if-not-all_same.false (search rules)
 
-pub returns-then-res-eq-SORT_BIT_VEC : goal.returns-then-res-eq-SORT_BIT_VEC
-returns-then-res-eq-SORT_BIT_VEC c = let q = c.args in
-    vectors-bit q.res c.requires c.kind_at.result c.u16_at-k.ensures.value c.kind_at.ensures c.all_same.result c.all_same.ensures c.if-kind_at-ne-SORT_BIT_VEC.false c.if-not-all_same.false c.if-res-eq-SORT_BIT_VEC.true
-
-pub returns : goal.returns
-returns c = let q = c.args in
-    vectors-kind q.res c.requires c.kind_at.result c.u16_at-k.ensures.value c.kind_at.ensures c.all_same.result c.all_same.ensures c.if-kind_at-ne-SORT_BIT_VEC.false c.if-not-all_same.false c.if-res-eq-THEIRS.false c.if-res-eq-SORT_BIT_VEC.false
+pub returns-in-Some : goal.returns-in-Some
+returns-in-Some c =
+    let s = c.args.sorts.now in
+    vectors-kind c.args.res c.requires c.number-k.ensures.value c.is_kind.result c.is_kind.ensures c.all_same.result
+    (c.all_same.ensures s.records.now s.places.now s.count) c.if-not-is_kind.false c.if-not-all_same.false c.in-Some.kind c.in-Some.is (search rules)

@@ -1,61 +1,56 @@
--- The answer to an indexed operator.
--- The unranked ones first, then one argument, then the indices.
+-- The answer to an indexed operator: its ranks first, then one argument, then the indices.
+use Rattle.std.proofs.Common.{◌≡◌, ℕ, rules, refl, sym, ap, ap₂, ◌∙◌, Option, Some, None}
+use Rattle.record.specs.Number.{u16_at}
+use Rattle.check_row.specs.declared.indexed.Indices.{Indices}
+use Rattle.record.specs.Decode.{sort_at}
 use Rattle.row_rules.specs.declared.Cause.TheVariants.{NoRank, Count}
-use Rattle.row_answer.specs.AnswerLaws.{judged-as, answered-as, made-refused}
-use Rattle.check_row.proofs.IndexedLaws.{unranked-first, unranked-second, unranked-third, indexing-count, indexed-asks, indexing-is}
+use Rattle.row_answer.specs.AnswerLaws.{judged-as}
 use Rattle.row_answer.specs.Arguments.{constants_in}
 use Rattle.check_operator.specs.Contract.{args_of}
+use Rattle.check_operator.proofs.RowLaws.{refused_row}
+use Rattle.check_row.specs.Indexed.{indexed_within}
+use Rattle.check_row.proofs.IndexedLaws.{ranked_param, unranked_param, indexing-past, indexing-count, indexing-is}
 use Rattle.check_row.proofs.indexed.checked_indexed.Goals as goal
 
--- The answer to an indexed operator.
--- The unranked ones first, then one argument, then the indices.
-pub returns-then-op-eq-PARAM_BIT_OF : goal.returns-then-op-eq-PARAM_BIT_OF
-returns-then-op-eq-PARAM_BIT_OF c = let q = c.args in
-    let b = q.records.now in
-    let p = q.places.now in
-    let ix = q.index.now in
-    let n = q.count in
-    let u = q.used in
-    let z = q.sheet.now in
-    let xs = q.starts.now in
-    let a = q.args.now in
-    judged-as (unranked-first q.op (constants_in z xs q.second q.seconds) (args_of b p n a q.n) c.if-op-eq-PARAM_BIT_OF.true) (answered-as c.refuse.ensures (made-refused b p ix n u c.requires.good NoRank))
+pub returns-in_default-clause-answer : goal.returns-in_default-clause-answer
+returns-in_default-clause-answer c =
+    let s = c.args.store.now in
+    let z = c.args.sheet.now in
+    let a = c.args.args.now in
+    refused_row s Count
+    (indexing-past c.args.op (constants_in z.bytes.now z.starts.now c.args.second.at c.args.second.count) (args_of s.records.now s.places.now s.count a.bytes.now a.count)
+    c.in_default.ensures.1) refl
 
-pub returns-then-op-eq-PARAM_INT_OF : goal.returns-then-op-eq-PARAM_INT_OF
-returns-then-op-eq-PARAM_INT_OF c = let q = c.args in
-    let b = q.records.now in
-    let p = q.places.now in
-    let ix = q.index.now in
-    let n = q.count in
-    let u = q.used in
-    let z = q.sheet.now in
-    let xs = q.starts.now in
-    let a = q.args.now in
-    judged-as (unranked-second q.op (constants_in z xs q.second q.seconds) (args_of b p n a q.n) c.if-op-eq-PARAM_BIT_OF.false c.if-op-eq-PARAM_INT_OF.true) (answered-as c.refuse-then-op-eq-PARAM_INT_OF.ensures (made-refused b p ix n u c.requires.good NoRank))
+pub returns-then-not-has_ranks-clause-answer : goal.returns-then-not-has_ranks-clause-answer
+returns-then-not-has_ranks-clause-answer c =
+    let s = c.args.store.now in
+    let z = c.args.sheet.now in
+    let a = c.args.args.now in
+    refused_row s NoRank
+    (unranked_param c.args.op (constants_in z.bytes.now z.starts.now c.args.second.at c.args.second.count) (args_of s.records.now s.places.now s.count a.bytes.now a.count)
+    (c.has_ranks.ensures ∙ ap ranked_param c.in-Ok.ensures) c.if-not-has_ranks.true) refl
 
-pub returns-then-op-eq-PARAM_BV_CONST : goal.returns-then-op-eq-PARAM_BV_CONST
-returns-then-op-eq-PARAM_BV_CONST c = let q = c.args in
-    let b = q.records.now in
-    let p = q.places.now in
-    let ix = q.index.now in
-    let n = q.count in
-    let u = q.used in
-    let z = q.sheet.now in
-    let xs = q.starts.now in
-    let a = q.args.now in
-    judged-as (unranked-third q.op (constants_in z xs q.second q.seconds) (args_of b p n a q.n) c.if-op-eq-PARAM_BIT_OF.false c.if-op-eq-PARAM_INT_OF.false c.if-op-eq-PARAM_BV_CONST.true) (answered-as c.refuse-then-op-eq-PARAM_BV_CONST.ensures (made-refused b p ix n u c.requires.good NoRank))
+pub returns-then-args-ne1-clause-answer : goal.returns-then-args-ne1-clause-answer
+returns-then-args-ne1-clause-answer c =
+    refused_row c.args.store.now Count
+    (indexing-count c.requires c.args.op (c.has_ranks.ensures ∙ ap ranked_param c.in-Ok.ensures) c.if-not-has_ranks.false c.if-args-ne1.true) refl
 
-pub returns-then-n-ne1 : goal.returns-then-n-ne1
-returns-then-n-ne1 c = let q = c.args in
-    let b = q.records.now in
-    let p = q.places.now in
-    let ix = q.index.now in
-    let n = q.count in
-    let u = q.used in
-    judged-as (indexing-count c.requires c.if-op-eq-PARAM_BIT_OF.false c.if-op-eq-PARAM_INT_OF.false c.if-op-eq-PARAM_BV_CONST.false c.if-n-ne1.true) (answered-as c.refuse-then-n-ne1.ensures (made-refused b p ix n u c.requires.good Count))
+pub returns-in_err-indices-clause-answer : goal.returns-in_err-indices-clause-answer
+returns-in_err-indices-clause-answer c =
+    let s = c.args.store.now in
+    let a = c.args.args.now in
+    let e : c.indices_of.result ≡ None = search rules in
+    refused_row s Count
+    (indexing-is c.requires c.args.op (c.has_ranks.ensures ∙ ap ranked_param c.in-Ok.ensures) c.if-not-has_ranks.false c.if-args-ne1.false c.indices_of.ensures refl
+    ∙ ap (λ (r : Option Indices). indexed_within c.args.op r (sort_at s.records.now s.places.now s.count (u16_at a.bytes.now 3))) e)
+    (search rules)
 
-pub indexed_by-requires : goal.indexed_by-requires
-indexed_by-requires c = indexed-asks c.requires c.if-op-eq-PARAM_BIT_OF.false c.if-op-eq-PARAM_INT_OF.false c.if-op-eq-PARAM_BV_CONST.false c.if-n-ne1.false c.indices_of-indices.ensures c.u16_at-a.ensures.value
-
-pub returns : goal.returns
-returns c = judged-as (indexing-is c.requires c.if-op-eq-PARAM_BIT_OF.false c.if-op-eq-PARAM_INT_OF.false c.if-op-eq-PARAM_BV_CONST.false c.if-n-ne1.false c.indices_of-indices.ensures c.u16_at-a.ensures.value) c.indexed_by.ensures
+pub returns-clause-answer : goal.returns-clause-answer
+returns-clause-answer c =
+    let s = c.args.store.now in
+    let a = c.args.args.now in
+    let e : c.indices_of.result ≡ Some c.in_ok-indices.indices = search rules in
+    judged-as
+    (indexing-is c.requires c.args.op (c.has_ranks.ensures ∙ ap ranked_param c.in-Ok.ensures) c.if-not-has_ranks.false c.if-args-ne1.false c.indices_of.ensures c.number.ensures.value
+    ∙ ap₂ (λ (o : ℕ) (r : Option Indices). indexed_within o r (sort_at s.records.now s.places.now s.count c.number.result)) (sym c.in-Ok.ensures) e)
+    c.indexed_by.ensures.answer

@@ -1,43 +1,34 @@
 -- One or two integer constants.
--- The list of constants is as long as the index terms are many, and is read from the front.
-use Rattle.std.proofs.Common.{arith}
-use Rattle.check_row.proofs.IndexedLaws.{indices-zero, indices-many, indices-other, indices-one, indices-two, indices-wrong}
+use Rattle.std.proofs.Common.{rules, arith}
+use Rattle.row_answer.specs.Arguments.{index-second}
+use Rattle.check_row.proofs.IndexedLaws.{indices-other, indices-first, indices-one, indices-wrong, indices-second, indices-two}
 use Rattle.check_row.proofs.indexed.indices_of.Goals as goal
 
--- One or two integer constants.
--- The list of constants is as long as the index terms are many, and is read from the front.
-pub returns-then-seconds-eq0 : goal.returns-then-seconds-eq0
-returns-then-seconds-eq0 c = let q = c.args in
-    let z = q.sheet.now in
-    let xs = q.starts.now in
-    indices-zero z xs q.second c.if-seconds-eq0.true
+pub returns-in_default : goal.returns-in_default
+returns-in_default c =
+    indices-other c.args.sheet.now.bytes.now c.args.sheet.now.starts.now c.args.second.at c.args.second.count (search rules) (search rules)
 
-pub returns-then-seconds-gt2 : goal.returns-then-seconds-gt2
-returns-then-seconds-gt2 c = let q = c.args in
-    let z = q.sheet.now in
-    let xs = q.starts.now in
-    indices-many z xs q.second q.seconds c.if-seconds-gt2.true
+pub returns-in_err-index_at-in-1 : goal.returns-in_err-index_at-in-1
+returns-in_err-index_at-in-1 c =
+    indices-first c.args.sheet.now.bytes.now c.args.sheet.now.starts.now c.args.second.at c.index_at.ensures c.args.second.count c.in-1.is c.in_err-index_at-in-1.was (search rules)
 
-pub returns-then-seconds-eq1 : goal.returns-then-seconds-eq1
-returns-then-seconds-eq1 c = let q = c.args in
-    let z = q.sheet.now in
-    let xs = q.starts.now in
-    indices-one z xs q.second c.index_at-first.ensures q.seconds c.in-Integer.i c.in-Integer.is c.if-seconds-eq1.true
+pub returns-in_ok-index_at-in-1 : goal.returns-in_ok-index_at-in-1
+returns-in_ok-index_at-in-1 c =
+    indices-one c.args.sheet.now.bytes.now c.args.sheet.now.starts.now c.args.second.at c.index_at.ensures c.args.second.count c.in-1.is _ c.in_ok-index_at-in-1.was
 
-pub returns-in-Integer-last : goal.returns-in-Integer-last
-returns-in-Integer-last c = let q = c.args in
-    let z = q.sheet.now in
-    let xs = q.starts.now in
-    indices-two z xs q.second c.index_at-first.ensures q.seconds c.in-Integer.i c.in-Integer.is c.if-seconds-gt2.false (omega (arith, c.if-seconds-eq0.false, c.if-seconds-eq1.false)) c.index_at-last.ensures c.in-Integer-last.j c.in-Integer-last.is
+pub returns-in_err-first-in-2 : goal.returns-in_err-first-in-2
+returns-in_err-first-in-2 c =
+    indices-wrong c.args.sheet.now.bytes.now c.args.sheet.now.starts.now c.args.second.at c.index_at-in-2.ensures c.args.second.count c.in-2.is c.in_err-first-in-2.was (search rules)
 
-pub returns-in-Other-last : goal.returns-in-Other-last
-returns-in-Other-last c = let q = c.args in
-    let z = q.sheet.now in
-    let xs = q.starts.now in
-    indices-wrong z xs q.second c.index_at-first.ensures q.seconds c.in-Integer.i c.in-Integer.is c.if-seconds-gt2.false (omega (arith, c.if-seconds-eq0.false, c.if-seconds-eq1.false)) c.index_at-last.ensures c.in-Other-last.is
+pub index_at-requires-in-2-2 : goal.index_at-requires-in-2-2
+index_at-requires-in-2-2 c = index-second c.args.sheet.now.bytes.now c.args.sheet.now.starts.now c.args.second.at c.args.second.count c.requires (omega arith)
 
-pub returns-in-Other : goal.returns-in-Other
-returns-in-Other c = let q = c.args in
-    let z = q.sheet.now in
-    let xs = q.starts.now in
-    indices-other z xs q.second c.index_at-first.ensures q.seconds c.if-seconds-eq0.false c.in-Other.is
+pub returns-in_err-last-in-2 : goal.returns-in_err-last-in-2
+returns-in_err-last-in-2 c =
+    indices-second c.args.sheet.now.bytes.now c.args.sheet.now.starts.now c.args.second.at c.index_at-in-2.ensures c.args.second.count c.in-2.is
+    c.in_ok-first-in-2.first c.in_ok-first-in-2.was c.index_at-in-2-2.ensures c.in_err-last-in-2.was (search rules)
+
+pub returns-in_ok-last-in-2 : goal.returns-in_ok-last-in-2
+returns-in_ok-last-in-2 c =
+    indices-two c.args.sheet.now.bytes.now c.args.sheet.now.starts.now c.args.second.at c.index_at-in-2.ensures c.args.second.count c.in-2.is
+    c.in_ok-first-in-2.first c.in_ok-first-in-2.was c.index_at-in-2-2.ensures c.in_ok-last-in-2.last c.in_ok-last-in-2.was

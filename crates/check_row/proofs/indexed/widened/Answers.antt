@@ -1,19 +1,13 @@
 -- The vector of a new width, by the kind of the argument.
--- Both ways are the two sides of one test.
-use mathlib.Core.Path.{ap}
-use mathlib.Core.Bool.{Bool}
-use borrow.Author.Tests.{ne_eqb}
+use Rattle.std.proofs.Common.{◌≡◌, Bool, eqb, false, ap, rules, refl}
+use Rattle.record.specs.Kinds.{sort_number}
+use Rattle.record.specs.Sort.{bitvec}
 use Rattle.row_rules.specs.declared.Cause.TheVariants.{Misfit}
 use Rattle.row_rules.specs.Verdict.{sort, need}
-use Rattle.row_answer.specs.AnswerLaws.{judged-as, answered-as, made-refused}
-use Rattle.record.specs.Sort.{bitvec}
+use Rattle.check_operator.proofs.RowLaws.{refused_row}
 use Rattle.check_row.proofs.indexed.widened.Goals as goal
 
-pub returns : goal.returns
-returns c = let q = c.args in
-    let b = q.records.now in
-    let p = q.places.now in
-    let ix = q.index.now in
-    let n = q.count in
-    let u = q.used in
-    judged-as (ap (λ (t : Bool). need t Misfit (sort (bitvec q.width))) (ne_eqb q.kind q.wanted c.if-kind-wanted.false)) (answered-as c.refuse.ensures (made-refused b p ix n u c.requires Misfit))
+pub returns-then-ne-clause-answer : goal.returns-then-ne-clause-answer
+returns-then-ne-clause-answer c =
+    let e : eqb (sort_number c.args.kind) (sort_number c.args.wanted) ≡ false = search rules in
+    refused_row c.args.store.now Misfit (ap (λ (t : Bool). need t Misfit (sort (bitvec c.args.width))) e) refl

@@ -1,66 +1,47 @@
--- The answer to an operator with one index.
--- Each arm is its operator's line of the definition; the kind that was read decides what the sort is.
-use Rattle.std.proofs.Common.{arith}
-use mathlib.Core.Logic.{◌⊎◌, inl, inr}
-use Prim.Native.Nat.{◌<◌, ◌≤◌}
+-- The answer of an operator with one index.
+use Rattle.std.proofs.Common.{ap, refl}
 use Rattle.record.specs.Decode.{sort_at}
+use Rattle.record.specs.Kinds.{param_number}
 use Rattle.row_rules.specs.declared.Cause.TheVariants.{Count}
-use Rattle.row_answer.specs.AnswerLaws.{judged-as, answered-as, made-refused}
-use Rattle.check_row.specs.Indexed.{kept_as}
-use Rattle.check_row.proofs.IndexedLaws.{extend-is, rotate-is, repeat-none, repeat-is, int-none, int_is, power-is, one-other}
+use Rattle.row_answer.specs.AnswerLaws.{judged-as}
+use Rattle.check_operator.proofs.RowLaws.{refused_row}
+use Rattle.check_row.proofs.IndexedLaws.{extend_op, rotate_op, one_default, known-one, extend-is, rotate-is, repeat-none, repeat-is, int-none, int_is, power-is, kept_row}
 use Rattle.check_row.proofs.indexed.with_one.Goals as goal
-use Rattle.check_row.proofs.indexed.with_one.Goals.{in_default-via-then-op-lt3, in_default-via-else-op-lt3+else-op-lt5+else-op-lt7}
 
-pub returns-then-i-eq0 : goal.returns-then-i-eq0
-returns-then-i-eq0 c = let q = c.args in
-    let b = q.records.now in
-    let p = q.places.now in
-    let ix = q.index.now in
-    let n = q.count in
-    let u = q.used in
-    judged-as (repeat-none (record { good = c.requires.good; known = c.requires.known }) c.entry-e.result c.entry-e.ensures c.in-7.is c.if-i-eq0.true) (answered-as c.refuse.ensures (made-refused b p ix n u c.requires.good Count))
+pub returns-in-RotateLeft-clause-answer : goal.returns-in-RotateLeft-clause-answer
+returns-in-RotateLeft-clause-answer c =
+    let o = rotate_op c.args.op c.in-RotateLeft.is in
+    kept_row c.kept.ensures (rotate-is (known-one c.requires) c.entry-e.result c.entry-e.ensures (param_number c.args.op) c.args.i o.0 o.1)
 
-pub returns-then-i-eq0-2 : goal.returns-then-i-eq0-2
-returns-then-i-eq0-2 c = let q = c.args in
-    let b = q.records.now in
-    let p = q.places.now in
-    let ix = q.index.now in
-    let n = q.count in
-    let u = q.used in
-    judged-as (int-none (record { good = c.requires.good; known = c.requires.known }) c.entry-e.result c.entry-e.ensures c.in-9.is c.if-i-eq0-2.true) (answered-as c.refuse-then-i-eq0-2.ensures (made-refused b p ix n u c.requires.good Count))
+pub returns-in-ZeroExtend-clause-answer : goal.returns-in-ZeroExtend-clause-answer
+returns-in-ZeroExtend-clause-answer c =
+    let o = extend_op c.args.op c.in-ZeroExtend.is in
+    judged-as (extend-is (known-one c.requires) c.entry-e.result c.entry-e.ensures (param_number c.args.op) c.args.i o.0 o.1) c.widened.ensures.answer
 
-pub returns-else-i-eq0 : goal.returns-else-i-eq0
-returns-else-i-eq0 c = let q = c.args in
-    judged-as (repeat-is (record { good = c.requires.good; known = c.requires.known }) c.entry-e.result c.entry-e.ensures q.i c.in-7.is c.if-i-eq0.false) c.widened.ensures
+pub returns-then-i-eq0-clause-answer : goal.returns-then-i-eq0-clause-answer
+returns-then-i-eq0-clause-answer c =
+    refused_row c.args.store.now Count (repeat-none (known-one c.requires) c.entry-e.result c.entry-e.ensures (ap param_number c.in-Repeat.is) c.if-i-eq0.true) refl
 
-pub returns-else-i-eq0-2 : goal.returns-else-i-eq0-2
-returns-else-i-eq0-2 c = let q = c.args in
-    judged-as (int_is (record { good = c.requires.good; known = c.requires.known }) c.entry-e.result c.entry-e.ensures q.i c.in-9.is c.if-i-eq0-2.false) c.widened-in-9.ensures
+pub returns-then-i-eq0-2-clause-answer : goal.returns-then-i-eq0-2-clause-answer
+returns-then-i-eq0-2-clause-answer c =
+    refused_row c.args.store.now Count (int-none (known-one c.requires) c.entry-e.result c.entry-e.ensures (ap param_number c.in-IntToBv.is) c.if-i-eq0-2.true) refl
 
-pub returns-in-10 : goal.returns-in-10
-returns-in-10 c = let q = c.args in
-    let n = q.count in
-    let u = q.used in
-    answered-as {q = kept_as n u q.a c.entry-e.result.kind 7} c.kept.ensures (power-is (record { good = c.requires.good; known = c.requires.known }) c.entry-e.result c.entry-e.ensures q.i c.in-10.is)
+pub returns-else-i-eq0-clause-answer : goal.returns-else-i-eq0-clause-answer
+returns-else-i-eq0-clause-answer c =
+    judged-as (repeat-is (known-one c.requires) c.entry-e.result c.entry-e.ensures c.args.i (ap param_number c.in-Repeat.is) c.if-i-eq0.false) c.widened-in-Repeat.ensures.answer
 
-pub returns-in-3 : goal.returns-in-3
-returns-in-3 c = let q = c.args in
-    judged-as (extend-is (record { good = c.requires.good; known = c.requires.known }) c.entry-e.result c.entry-e.ensures q.op q.i (omega arith) (omega arith)) c.widened-in-3.ensures
+pub returns-else-i-eq0-2-clause-answer : goal.returns-else-i-eq0-2-clause-answer
+returns-else-i-eq0-2-clause-answer c =
+    judged-as (int_is (known-one c.requires) c.entry-e.result c.entry-e.ensures c.args.i (ap param_number c.in-IntToBv.is) c.if-i-eq0-2.false) c.widened-in-IntToBv.ensures.answer
 
-pub returns-in-5 : goal.returns-in-5
-returns-in-5 c = let q = c.args in
-    let n = q.count in
-    let u = q.used in
-    answered-as {q = kept_as n u q.a c.entry-e.result.kind 9} c.kept-in-5.ensures (rotate-is (record { good = c.requires.good; known = c.requires.known }) c.entry-e.result c.entry-e.ensures q.op q.i (omega arith) (omega arith))
+pub returns-in-RePower-clause-answer : goal.returns-in-RePower-clause-answer
+returns-in-RePower-clause-answer c =
+    kept_row c.kept-in-RePower.ensures (power-is (known-one c.requires) c.entry-e.result c.entry-e.ensures c.args.i (ap param_number c.in-RePower.is))
 
-pub returns-in_default : goal.returns-in_default
-returns-in_default c =
-    let q = c.args in
-    let b = q.records.now in
-    let p = q.places.now in
-    let ix = q.index.now in
-    let n = q.count in
-    let u = q.used in
-    let side : (q.op < 3) ⊎ (7 ≤ q.op) = elim c.in_default.branch [ in_default-via-then-op-lt3 w ↦ inl (omega arith) | in_default-via-else-op-lt3+else-op-lt5+else-op-lt7 w ↦ inr (omega arith) ] in
-    judged-as (one-other q.op q.i (sort_at b p n q.a) side (λ e. omega arith) (λ e. omega arith) (λ e. omega arith))
-    (answered-as c.refuse-in_default.ensures (made-refused b p ix n u c.requires.good Count))
+pub returns-in_default-clause-answer : goal.returns-in_default-clause-answer
+returns-in_default-clause-answer c =
+    let s = c.args.store.now in
+    let d = c.in_default in
+    refused_row s Count
+    (one_default c.args.op c.args.i (sort_at s.records.now s.places.now s.count c.args.a) d.not-ZeroExtend d.not-SignExtend d.not-RotateLeft d.not-RotateRight d.not-Repeat d.not-IntToBv d.not-RePower)
+    refl

@@ -1,23 +1,25 @@
--- The answer to an operator with two indices.
--- Extract has its own function; ReLoop keeps RegLan.
+-- The answer of an operator with two indices.
+use Rattle.std.proofs.Common.{ap, refl}
 use Rattle.record.specs.Decode.{sort_at}
+use Rattle.record.specs.Kinds.{param_number}
+use Rattle.record.specs.KindLaws.{param_number-same}
+use Rattle.record.specs.declared.kinds.ParamOp.TheVariants.{Extract, ReLoop}
 use Rattle.row_rules.specs.declared.Cause.TheVariants.{Count}
-use Rattle.row_answer.specs.AnswerLaws.{judged-as, answered-as, made-refused}
-use Rattle.check_row.specs.Indexed.{kept_as}
-use Rattle.check_row.proofs.IndexedLaws.{loop-is, two-other}
+use Rattle.check_operator.proofs.RowLaws.{refused_row}
+use Rattle.check_row.proofs.IndexedLaws.{loop-is, two-other, kept_row}
 use Rattle.check_row.proofs.indexed.with_two.Goals as goal
 
-pub returns-then-op-eq-PARAM_RE_LOOP : goal.returns-then-op-eq-PARAM_RE_LOOP
-returns-then-op-eq-PARAM_RE_LOOP c = let q = c.args in
-    let n = q.count in
-    let u = q.used in
-    answered-as {q = kept_as n u q.a c.entry-e.result.kind 7} c.kept.ensures (loop-is c.requires c.entry-e.result c.entry-e.ensures q.i q.j c.if-op-eq-PARAM_RE_LOOP.true)
+pub returns-in-ReLoop-clause-answer : goal.returns-in-ReLoop-clause-answer
+returns-in-ReLoop-clause-answer c =
+    kept_row c.kept.ensures (loop-is c.requires c.entry.result c.entry.ensures c.args.i c.args.j (ap param_number c.in-ReLoop.is))
 
-pub returns : goal.returns
-returns c = let q = c.args in
-    let b = q.records.now in
-    let p = q.places.now in
-    let ix = q.index.now in
-    let n = q.count in
-    let u = q.used in
-    judged-as (two-other q.op q.i q.j (sort_at b p n q.a) c.if-op-eq-PARAM_EXTRACT.false c.if-op-eq-PARAM_RE_LOOP.false) (answered-as c.refuse.ensures (made-refused b p ix n u c.requires.good Count))
+pub returns-in_default : goal.returns-in_default
+returns-in_default c =
+    let s = c.args.store.now in
+    let d = c.in_default in
+    record {
+      same = (refl, refl, refl);
+      answer = refused_row s Count
+          (two-other (param_number c.args.op) c.args.i c.args.j (sort_at s.records.now s.places.now s.count c.args.a)
+          (λ e. d.not-Extract (param_number-same c.args.op Extract e)) (λ e. d.not-ReLoop (param_number-same c.args.op ReLoop e))) refl;
+    }

@@ -1,94 +1,49 @@
--- The answer of each family of the group.
--- What the last arm passes on is of the families that make sets, tuples and relations.
-use mathlib.Core.Path.{ap, ◌∙◌}
-use Rattle.infer_rules.specs.declared.Family.{Family}
-use Rattle.infer_rules.specs.Inferred.{operated_by}
+-- The answer of each family of the group; what the last arm passes on is of the families that make sets, tuples and relations.
 use Rattle.row_answer.specs.AnswerLaws.{judged-as}
-use Rattle.infer_operator.specs.Asks.{sorts_in}
+use Rattle.infer_rules.specs.Inferred.{operated_by}
+use Rattle.infer_operator.specs.Asks.{arguments}
 use Rattle.infer_operator.specs.Single.{nth-first, nth-second, last-all}
 use Rattle.infer_operator.specs.Operators.{no_constants}
+use Rattle.infer_operator.proofs.OperatorLaws.{family-answer}
 use Rattle.infer_operator.proofs.op.looked.Goals as goal
 
-pub returns-in-Vector : goal.returns-in-Vector
+pub returns-in-Vector-clause-answer : goal.returns-in-Vector-clause-answer
 unfolding operated_by
-returns-in-Vector c = let a = c.args in
-    let b = a.records.now in
-    let p = a.places.now in
-    let n = a.count in
-    let x = a.args.now in
-    let m = a.n in
-    judged-as (ap (λ (f : Family). operated_by f (sorts_in b p n x 3 m) no_constants) c.in-Vector.is) c.first_vector.ensures
+returns-in-Vector-clause-answer c = family-answer (arguments c.args.store.now c.args.args.now) no_constants c.in-Vector.is c.first_vector.ensures.answer
 
-pub returns-in-Concat : goal.returns-in-Concat
+pub returns-in-Concat-clause-answer : goal.returns-in-Concat-clause-answer
 unfolding operated_by
-returns-in-Concat c = let a = c.args in
-    let b = a.records.now in
-    let p = a.places.now in
-    let n = a.count in
-    let x = a.args.now in
-    let m = a.n in
-    judged-as (ap (λ (f : Family). operated_by f (sorts_in b p n x 3 m) no_constants) c.in-Concat.is) c.concat.ensures
+returns-in-Concat-clause-answer c = family-answer (arguments c.args.store.now c.args.args.now) no_constants c.in-Concat.is c.concat.ensures.answer
 
-pub returns-in-First : goal.returns-in-First
+pub returns-in-Sum-clause-answer : goal.returns-in-Sum-clause-answer
 unfolding operated_by
-returns-in-First c = let a = c.args in
-    let b = a.records.now in
-    let p = a.places.now in
-    let ix = a.index.now in
-    let n = a.count in
-    let x = a.args.now in
-    let m = a.n in
-    judged-as (ap (λ (f : Family). operated_by f (sorts_in b p n x 3 m) no_constants) c.in-First.is ∙ nth-first (sorts_in b p n x 3 m)) (c.argument.ensures b p ix c.requires.args)
+returns-in-Sum-clause-answer c = family-answer (arguments c.args.store.now c.args.args.now) no_constants c.in-Sum.is c.sum.ensures.answer
 
-pub returns-in-Second : goal.returns-in-Second
+pub returns-in-RareList-clause-answer : goal.returns-in-RareList-clause-answer
 unfolding operated_by
-returns-in-Second c = let a = c.args in
-    let b = a.records.now in
-    let p = a.places.now in
-    let ix = a.index.now in
-    let n = a.count in
-    let x = a.args.now in
-    let m = a.n in
-    judged-as (ap (λ (f : Family). operated_by f (sorts_in b p n x 3 m) no_constants) c.in-Second.is ∙ nth-second (sorts_in b p n x 3 m)) (c.argument-in-Second.ensures b p ix c.requires.args)
+returns-in-RareList-clause-answer c = family-answer (arguments c.args.store.now c.args.args.now) no_constants c.in-RareList.is c.rare_list.ensures.answer
 
-pub returns-in-Last : goal.returns-in-Last
+pub returns-in-Element-clause-answer : goal.returns-in-Element-clause-answer
 unfolding operated_by
-returns-in-Last c = let a = c.args in
-    let b = a.records.now in
-    let p = a.places.now in
-    let ix = a.index.now in
-    let n = a.count in
-    let x = a.args.now in
-    let m = a.n in
-    judged-as (ap (λ (f : Family). operated_by f (sorts_in b p n x 3 m) no_constants) c.in-Last.is ∙ last-all (sorts_in b p n x 3 m)) (c.last_of.ensures b p ix c.requires.args)
+returns-in-Element-clause-answer c = family-answer (arguments c.args.store.now c.args.args.now) no_constants c.in-Element.is c.element.ensures
 
-pub returns-in-Sum : goal.returns-in-Sum
+pub returns-in-First-clause-answer : goal.returns-in-First-clause-answer
 unfolding operated_by
-returns-in-Sum c = let a = c.args in
-    let b = a.records.now in
-    let p = a.places.now in
-    let n = a.count in
-    let x = a.args.now in
-    let m = a.n in
-    judged-as (ap (λ (f : Family). operated_by f (sorts_in b p n x 3 m) no_constants) c.in-Sum.is) c.sum.ensures
+returns-in-First-clause-answer c =
+    let s = c.args.store.now in
+    family-answer (arguments c.args.store.now c.args.args.now) no_constants c.in-First.is
+    (judged-as (nth-first (arguments s c.args.args.now)) (c.argument.ensures s.records.now s.places.now s.index.now s.count s.used c.requires.args))
 
-pub returns-in-Element : goal.returns-in-Element
+pub returns-in-Second-clause-answer : goal.returns-in-Second-clause-answer
 unfolding operated_by
-returns-in-Element c = let a = c.args in
-    let b = a.records.now in
-    let p = a.places.now in
-    let ix = a.index.now in
-    let n = a.count in
-    let x = a.args.now in
-    let m = a.n in
-    judged-as (ap (λ (f : Family). operated_by f (sorts_in b p n x 3 m) no_constants) c.in-Element.is) (c.element.ensures ix c.requires.args)
+returns-in-Second-clause-answer c =
+    let s = c.args.store.now in
+    family-answer (arguments c.args.store.now c.args.args.now) no_constants c.in-Second.is
+    (judged-as (nth-second (arguments s c.args.args.now)) (c.argument-in-Second.ensures s.records.now s.places.now s.index.now s.count s.used c.requires.args))
 
-pub returns-in-RareList : goal.returns-in-RareList
+pub returns-in-Last-clause-answer : goal.returns-in-Last-clause-answer
 unfolding operated_by
-returns-in-RareList c = let a = c.args in
-    let b = a.records.now in
-    let p = a.places.now in
-    let n = a.count in
-    let x = a.args.now in
-    let m = a.n in
-    judged-as (ap (λ (f : Family). operated_by f (sorts_in b p n x 3 m) no_constants) c.in-RareList.is) c.rare_list.ensures
+returns-in-Last-clause-answer c =
+    let s = c.args.store.now in
+    family-answer (arguments c.args.store.now c.args.args.now) no_constants c.in-Last.is
+    (judged-as (last-all (arguments s c.args.args.now)) (c.last_of.ensures s.records.now s.places.now s.index.now s.count s.used c.requires.args))

@@ -1,46 +1,25 @@
--- The columns of both, for whatever is made of them; or one lacks them.
--- The first two numbers of the array are sorts of the store.
-use Rattle.infer_operator.proofs.RelationLaws.{both-few, left-none, right-asks, right-none, both-have}
+-- The columns of both arguments, or none.
+use Rattle.std.proofs.Common.{refl, sym, subst}
+use Rattle.record.specs.Number.{u16_at}
+use Rattle.infer_operator.specs.Asks.{read_arguments}
+use Rattle.infer_operator.specs.Relations.{BothIs}
+use Rattle.infer_operator.proofs.RelationLaws.{both-few, left-none, right-none, both-have}
 use Rattle.infer_operator.proofs.relations.both_columns.Goals as goal
 
-pub returns-then-n-lt2 : goal.returns-then-n-lt2
-returns-then-n-lt2 c = let a = c.args in
-    let b = a.records.now in
-    let p = a.places.now in
-    let x = a.args.now in
-    let m = a.n in
-    both-few b p x m c.if-n-lt2.true
+pub returns-then-args-lt2 : goal.returns-then-args-lt2
+returns-then-args-lt2 c = both-few c.requires c.if-args-lt2.true
 
-pub columns_of-right-requires : goal.columns_of-right-requires
-columns_of-right-requires c = let a = c.args in
-    let b = a.records.now in
-    let p = a.places.now in
-    let x = a.args.now in
-    let m = a.n in
-    right-asks b p x m c.if-n-lt2.false c.u16_at-a.ensures.value c.u16_at-b.ensures.value c.requires
+pub returns-in_err-left : goal.returns-in_err-left
+returns-in_err-left c =
+    let s = c.args.sorts.now in
+    subst (BothIs s.records.now s.places.now s.count (read_arguments s c.args.args.now)) (sym c.from_residual.ensures)
+    (left-none c.requires c.if-args-lt2.false {v = u16_at c.args.args.now.bytes.now 5} c.number.ensures.value refl c.in_err-left.ensures)
 
-pub returns-in-Are-right : goal.returns-in-Are-right
-returns-in-Are-right c = let a = c.args in
-    let b = a.records.now in
-    let p = a.places.now in
-    let x = a.args.now in
-    let m = a.n in
-    both-have b p x m c.if-n-lt2.false c.u16_at-a.ensures.value c.u16_at-b.ensures.value c.in-Are.at c.in-Are.m (c.in-Are.ensures) c.in-Are-right.to c.in-Are-right.q
-    (c.in-Are-right.ensures)
+pub returns-in_err-right : goal.returns-in_err-right
+returns-in_err-right c =
+    let s = c.args.sorts.now in
+    subst (BothIs s.records.now s.places.now s.count (read_arguments s c.args.args.now)) (sym c.from_residual-in_err-right.ensures)
+    (right-none c.requires c.if-args-lt2.false c.number.ensures.value c.number-2.ensures.value c.in_ok-left.left c.in_ok-left.ensures c.in_err-right.ensures)
 
-pub returns-in-NoColumns-right : goal.returns-in-NoColumns-right
-returns-in-NoColumns-right c = let a = c.args in
-    let b = a.records.now in
-    let p = a.places.now in
-    let x = a.args.now in
-    let m = a.n in
-    right-none b p x m c.if-n-lt2.false c.u16_at-a.ensures.value c.u16_at-b.ensures.value c.in-Are.at c.in-Are.m (c.in-Are.ensures)
-    (c.in-NoColumns-right.ensures)
-
-pub returns-in-NoColumns : goal.returns-in-NoColumns
-returns-in-NoColumns c = let a = c.args in
-    let b = a.records.now in
-    let p = a.places.now in
-    let x = a.args.now in
-    let m = a.n in
-    left-none b p x m c.if-n-lt2.false c.u16_at-a.ensures.value (c.in-NoColumns.ensures)
+pub returns : goal.returns
+returns c = both-have c.requires c.if-args-lt2.false c.number.ensures.value c.number-2.ensures.value c.in_ok-left.left c.in_ok-right.right c.in_ok-left.ensures c.in_ok-right.ensures

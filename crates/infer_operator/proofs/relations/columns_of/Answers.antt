@@ -1,28 +1,26 @@
--- The columns of the sort, or none.
--- A Set has one part, and the columns are the list of the Tuple there.
-use Rattle.infer_operator.proofs.RelationLaws.{inner-place, inner-entry, tuple-none, columns-list}
+-- The columns of the sort, or none: a Set has one part, and the columns are the list of the Tuple there.
+use Rattle.std.proofs.Common.{sym, subst, arith}
+use Rattle.record.specs.Decode.{sort_at}
+use Rattle.record.specs.declared.kinds.SortKind.TheVariants.{Set}
+use Rattle.infer_operator.specs.Relations.{ColumnsIs}
+use Rattle.infer_operator.proofs.SingleLaws.{same-kind}
+use Rattle.infer_operator.proofs.RelationLaws.{inner-place, inner-below, columns-by}
 use Rattle.infer_operator.proofs.relations.columns_of.Goals as goal
 
-pub u16_at-inner-requires : goal.u16_at-inner-requires
-u16_at-inner-requires c = let a = c.args in
-    let b = a.records.now in
-    let p = a.places.now in
-    inner-place b p a.k c.entry-a.result c.entry-a.ensures c.if-kind-ne-SORT_SET.false c.requires
+pub get-requires : goal.get-requires
+get-requires c =
+    let s = c.args.sorts.now in
+    omega (arith, inner-place s.usable.stored c.requires c.entry-set.result c.entry-set.ensures (same-kind c.entry-set.result.kind Set c.if-ne.ensures))
 
-pub entry-b-requires : goal.entry-b-requires
-entry-b-requires c = let a = c.args in
-    let b = a.records.now in
-    let p = a.places.now in
-    inner-entry b p a.k c.entry-a.result c.entry-a.ensures c.if-kind-ne-SORT_SET.false c.u16_at-inner.ensures.value c.requires
-
-pub returns-then-b-ne-SORT_TUPLE : goal.returns-then-b-ne-SORT_TUPLE
-returns-then-b-ne-SORT_TUPLE c = let a = c.args in
-    let b = a.records.now in
-    let p = a.places.now in
-    tuple-none b p a.k c.entry-a.result c.entry-a.ensures c.if-kind-ne-SORT_SET.false c.u16_at-inner.ensures.value c.entry-b.result c.entry-b.ensures c.if-b-ne-SORT_TUPLE.true
+pub entry-inner-requires : goal.entry-inner-requires
+entry-inner-requires c =
+    let s = c.args.sorts.now in
+    inner-below s.usable.stored c.requires c.entry-set.result c.entry-set.ensures (same-kind c.entry-set.result.kind Set c.if-ne.ensures) c.get.ensures.value
 
 pub returns : goal.returns
-returns c = let a = c.args in
-    let b = a.records.now in
-    let p = a.places.now in
-    columns-list b p a.k c.entry-a.result c.entry-a.ensures c.if-kind-ne-SORT_SET.false c.u16_at-inner.ensures.value c.entry-b.result c.entry-b.ensures c.if-b-ne-SORT_TUPLE.false
+returns c =
+    let s = c.args.sorts.now in
+    let found =
+    columns-by s.usable.stored c.requires c.entry-set.result c.entry-set.ensures (same-kind c.entry-set.result.kind Set c.if-ne.ensures) c.get.ensures.value
+    c.entry-inner.result c.entry-inner.ensures c.eq.result c.eq.ensures in
+    subst (ColumnsIs s.records.now s.places.now s.count (sort_at s.records.now s.places.now s.count c.args.k)) (sym c.then_some.ensures) found

@@ -1,43 +1,12 @@
--- The answer to the product of both relations.
--- What is made of two lists of columns is made of these.
+-- The columns of both arguments; Panics where one has none.
+use Rattle.std.proofs.Common.{◌≡◌, Err, rules, sym, ◌∙◌}
 use Rattle.row_rules.specs.declared.Cause.TheVariants.{Panics}
 use Rattle.infer_rules.specs.Inferred.{product_of}
-use Rattle.row_answer.specs.AnswerLaws.{judged-as, answered-as, made-refused}
-use Rattle.infer_operator.specs.Asks.{sorts_in, args-refer}
-use Rattle.infer_operator.specs.Relations.{Having}
-use Rattle.infer_operator.proofs.RelationLaws.{side-of}
+use Rattle.infer_operator.proofs.AnswerWays.{answer-passed}
+use Rattle.infer_operator.proofs.RelationLaws.{both-missing}
 use Rattle.infer_operator.proofs.relations.product.Goals as goal
 
-pub side_by_side-requires : goal.side_by_side-requires
-side_by_side-requires c = let a = c.args in
-    let b = a.records.now in
-    let p = a.places.now in
-    let ix = a.index.now in
-    let n = a.count in
-    let u = a.used in
-    let x = a.args.now in
-    let m = a.n in
-    side-of c.requires (c.in-Have.ensures n (args-refer b p ix n u x m c.requires))
-
-pub returns-in-Have : goal.returns-in-Have
-returns-in-Have c = let a = c.args in
-    let b = a.records.now in
-    let p = a.places.now in
-    let ix = a.index.now in
-    let n = a.count in
-    let u = a.used in
-    let x = a.args.now in
-    let m = a.n in
-    let is : Having b p n (sorts_in b p n x 3 m) c.in-Have.at c.in-Have.m c.in-Have.to c.in-Have.q = c.in-Have.ensures n (args-refer b p ix n u x m c.requires) in
-    judged-as {b = b} {p = p} (is.is product_of) c.side_by_side.ensures
-
-pub returns-in-Lack : goal.returns-in-Lack
-returns-in-Lack c = let a = c.args in
-    let b = a.records.now in
-    let p = a.places.now in
-    let ix = a.index.now in
-    let n = a.count in
-    let u = a.used in
-    let x = a.args.now in
-    let m = a.n in
-    judged-as (c.in-Lack.ensures n (args-refer b p ix n u x m c.requires) product_of) (answered-as c.refuse.ensures (made-refused b p ix n u c.requires.good Panics))
+pub returns-in_err-left-clause-answer : goal.returns-in_err-left-clause-answer
+returns-in_err-left-clause-answer c =
+    let e : c.from_residual.result ≡ Err Panics = search rules in
+    answer-passed c.args.store.now e (both-missing c.sorts.result c.args.store.now c.sorts.ensures.records c.sorts.ensures.places c.sorts.ensures.count c.args.args.now c.both_columns.result c.both_columns.ensures (sym c.ok_or.ensures.value ∙ c.in_err-left.was) product_of)

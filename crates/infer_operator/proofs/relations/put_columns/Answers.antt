@@ -1,27 +1,28 @@
-use Rattle.std.proofs.Common.{arith}
-use Prim.Native.Nat.{ℕ, ◌+◌, ◌*◌, ◌≤◌}
-use mathlib.Core.Path.{◌≡◌, sym, subst, ◌∙◌}
-use lib.ListN.{length}
+use Rattle.std.proofs.Common.{◌≡◌, ◌+◌, ◌*◌, ◌≤◌, ℕ, length, sym, ap, subst, ◌∙◌, arith}
+use Rattle.row_answer.specs.Arguments.{put_at}
 use Rattle.infer_operator.specs.Relations.{PutHas}
 use Rattle.infer_operator.proofs.RelationLaws.{put-more}
 use Rattle.infer_operator.proofs.relations.put_columns.Goals as goal
 
 pub loop-i-preserved : goal.loop-i-preserved
-loop-i-preserved c = let a = c.args in
-    let b = a.records.now in
-    let x = a.args.now in
+loop-i-preserved c =
+    let a = c.args.args.now in
+    let b = c.args.records.now in
+    let x = c.args.columns.at in
     let l = c.loop-i in
     let w = l.invariant in
-    let c1 = l.args in
-    let room : 3 + 2 * (a.from + l.i) + 2 ≤ length c1 = omega (arith, c.requires.room, c.loop-i-test.true, w.2) in
-    (omega (arith, c.loop-i-test.true), subst (PutHas b a.at (l.i + 1) x a.from) (sym c.put_u16.ensures) (put-more b a.at l.i x a.from c1 room c.u16_at-k.ensures.value w.1), c.put_u16.auto.buf ∙ w.2)
+    let room : 3 + 2 * (a.count + l.i) + 2 ≤ length l.args.bytes.now = omega (arith, c.requires.room, c.loop-i-test.true, w.long) in
+    record {
+      name = c.push.ensures.same.0 ∙ w.name;
+      long = c.push.ensures.same.1 ∙ w.long;
+      count = omega (arith, c.push.ensures.count, w.count);
+      put = subst (PutHas b x (l.i + 1) a.bytes.now a.count) (sym (c.push.ensures.bytes ∙ ap (λ (n : ℕ). put_at l.args.bytes.now (3 + 2 * n) c.get.result) w.count))
+          (put-more b x l.i a.bytes.now a.count l.args.bytes.now room c.get.ensures.value w.put);
+    }
 
-pub returns : goal.returns
-returns c = let a = c.args in
-    let b = a.records.now in
-    let x = a.args.now in
-    let m = a.n in
+pub returns-clause-put : goal.returns-clause-put
+returns-clause-put c =
+    let a = c.args.args.now in
     let l = c.loop-i in
-    let w = l.invariant in
-    let e : l.i ≡ m = omega (arith, c.loop-i-test.false, w.0) in
-    subst (λ (j : ℕ). PutHas b a.at j x a.from l.args) e w.1
+    let e : l.i ≡ c.args.columns.count = omega (arith, c.loop-i-test.false) in
+    subst (λ (j : ℕ). PutHas c.args.records.now c.args.columns.at j a.bytes.now a.count l.args.bytes.now) e l.invariant.put

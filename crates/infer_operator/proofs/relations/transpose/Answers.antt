@@ -1,62 +1,36 @@
--- The answer to the columns backwards.
--- They are put together in the array, and the relation is made of them.
-use Rattle.std.proofs.Common.{arith}
-use Prim.Native.Nat.{◌-◌}
-use mathlib.Core.Path.{ap}
-use Rattle.record.specs.Decode.{sort_at}
-use Rattle.record.specs.Cases.{positive}
+-- The columns of the first argument, the last first; Panics where it has none.
+use Rattle.std.proofs.Common.{◌≡◌, ◌<◌, Err, rules, sym, ap, subst, ◌∙◌, arith}
+use Rattle.record.specs.Sort.{Sorts, end, set, tuple}
+use Rattle.row_rules.specs.Verdict.{sort}
 use Rattle.row_rules.specs.declared.Cause.TheVariants.{Panics}
-use Rattle.infer_rules.specs.Inferred.{transpose_of}
-use Rattle.row_answer.specs.AnswerLaws.{judged-as, answered-as, made-refused}
-use Rattle.infer_operator.specs.Asks.{sorts_in, args-refer}
-use Rattle.infer_operator.proofs.SingleLaws.{sorts-none, first-known, first_then}
-use Rattle.infer_operator.proofs.RelationLaws.{backwards-asks, backwards-is, trans-none, trans-is}
+use Rattle.row_answer.specs.AnswerLaws.{judged-as}
+use Rattle.infer_rules.specs.Inferred.{transpose_of, over_columns, relation, backwards}
+use Rattle.infer_operator.proofs.AnswerWays.{answer-passed, first-known, first-then, first-missing}
+use Rattle.infer_operator.proofs.RelationLaws.{back-put, columns-missing, columns-read}
 use Rattle.infer_operator.proofs.relations.transpose.Goals as goal
 
-pub returns-then-n-eq0 : goal.returns-then-n-eq0
-returns-then-n-eq0 c = let a = c.args in
-    let b = a.records.now in
-    let p = a.places.now in
-    let ix = a.index.now in
-    let n = a.count in
-    let u = a.used in
-    let x = a.args.now in
-    let m = a.n in
-    judged-as (ap transpose_of (sorts-none b p n x m c.if-n-eq0.true)) (answered-as c.refuse.ensures (made-refused b p ix n u c.requires.good Panics))
+pub returns-in_err-k-clause-answer : goal.returns-in_err-k-clause-answer
+returns-in_err-k-clause-answer c =
+    let e : c.from_residual.result ≡ Err Panics = search rules in
+    answer-passed c.args.store.now e (first-missing c.args.store.now c.args.args.now c.numbers.result c.next.result c.next.new.self c.numbers.ensures c.next.ensures.steps (sym c.ok_or.ensures.value ∙ c.in_err-k.was) transpose_of)
 
-pub relation-requires : goal.relation-requires
-relation-requires c = let a = c.args in
-    let b = a.records.now in
-    let p = a.places.now in
-    let ix = a.index.now in
-    let n = a.count in
-    let u = a.used in
-    let x = a.args.now in
-    let m = a.n in
-    let is = c.in-Are.ensures n c.requires.good.stored (first-known (args-refer b p ix n u x m c.requires) (positive m c.if-n-eq0.false) c.u16_at-k.ensures.value) in
-    backwards-asks p ix u is.1 c.put_backwards.new.args c.put_backwards.ensures c.requires.good (omega (arith, c.requires.room, c.put_backwards.auto.args))
+pub columns_of-requires : goal.columns_of-requires
+columns_of-requires c =
+    subst (λ n. c.in_ok-k.k < n) (sym c.sorts-sorts.ensures.count)
+    (first-known c.args.store.now c.args.args.now c.numbers.result c.next.result c.next.new.self c.numbers.ensures c.next.ensures.steps (sym c.ok_or.ensures.value ∙ c.in_ok-k.was) c.requires)
 
-pub returns-in-Are : goal.returns-in-Are
-returns-in-Are c = let a = c.args in
-    let b = a.records.now in
-    let p = a.places.now in
-    let ix = a.index.now in
-    let n = a.count in
-    let u = a.used in
-    let x = a.args.now in
-    let m = a.n in
-    let is = c.in-Are.ensures n c.requires.good.stored (first-known (args-refer b p ix n u x m c.requires) (positive m c.if-n-eq0.false) c.u16_at-k.ensures.value) in
-    judged-as (trans-is (sort_at b p n c.u16_at-k.result) (sorts_in b p n x 5 (m - 1)) (first_then (args-refer b p ix n u x m c.requires) (positive m c.if-n-eq0.false) c.u16_at-k.ensures.value) (sorts_in b p n b c.in-Are.at c.in-Are.m) is.0 (backwards-is p ix u is.1 c.put_backwards.new.args c.put_backwards.ensures))
-    c.relation.ensures
+pub returns-in_err-columns-clause-answer : goal.returns-in_err-columns-clause-answer
+returns-in_err-columns-clause-answer c =
+    let e : c.from_residual-in_err-columns.result ≡ Err Panics = search rules in
+    answer-passed c.args.store.now e
+    (first-then c.args.store.now c.args.args.now c.numbers.result c.next.result c.next.new.self c.numbers.ensures c.next.ensures.steps (sym c.ok_or.ensures.value ∙ c.in_ok-k.was) transpose_of
+    ∙ ap (over_columns (λ xs. relation (backwards xs end))) (columns-missing c.sorts-sorts.result c.args.store.now c.sorts-sorts.ensures.records c.sorts-sorts.ensures.places c.sorts-sorts.ensures.count c.in_ok-k.k c.columns_of.result c.columns_of.ensures (sym c.ok_or-2.ensures.value ∙ c.in_err-columns.was)))
 
-pub returns-in-NoColumns : goal.returns-in-NoColumns
-returns-in-NoColumns c = let a = c.args in
-    let b = a.records.now in
-    let p = a.places.now in
-    let ix = a.index.now in
-    let n = a.count in
-    let u = a.used in
-    let x = a.args.now in
-    let m = a.n in
-    judged-as (trans-none (sort_at b p n c.u16_at-k.result) (sorts_in b p n x 5 (m - 1)) (first_then (args-refer b p ix n u x m c.requires) (positive m c.if-n-eq0.false) c.u16_at-k.ensures.value)
-    (c.in-NoColumns.ensures n c.requires.good.stored (first-known (args-refer b p ix n u x m c.requires) (positive m c.if-n-eq0.false) c.u16_at-k.ensures.value))) (answered-as c.refuse-in-NoColumns.ensures (made-refused b p ix n u c.requires.good Panics))
+pub returns-clause-answer : goal.returns-clause-answer
+returns-clause-answer c =
+    let read = columns-read c.sorts-sorts.result c.args.store.now c.sorts-sorts.ensures.records c.sorts-sorts.ensures.places c.sorts-sorts.ensures.count c.in_ok-k.k c.columns_of.result c.columns_of.ensures (sym c.ok_or-2.ensures.value ∙ c.in_ok-columns.was) in
+    judged-as
+    (first-then c.args.store.now c.args.args.now c.numbers.result c.next.result c.next.new.self c.numbers.ensures c.next.ensures.steps (sym c.ok_or.ensures.value ∙ c.in_ok-k.was) transpose_of
+    ∙ ap (over_columns (λ xs. relation (backwards xs end))) read.0
+    ∙ ap (λ (ss : Sorts). sort (set (tuple ss))) (sym (back-put c.args.store.now.good read.1 _ _ c.sorts-sorts.ensures.records c.put_backwards.ensures.put c.put_backwards.ensures.count (omega (arith, c.requires.room, c.put_backwards.ensures.same.1))).1))
+    c.relation.ensures.answer

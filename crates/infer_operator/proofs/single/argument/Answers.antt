@@ -1,29 +1,15 @@
--- The answer to one argument, whatever good store it is of.
--- The number read there is one of the store.
-use Prim.Native.Nat.{ℕ, ◌<◌}
-use mathlib.Core.Path.{sym, ap, subst, ◌∙◌}
-use Rattle.record.specs.Decode.{sort_at}
+-- The argument that `nth` found.
+use Rattle.std.proofs.Common.{ℕ, List, refl, sym, ap, ◌∙◌, Option, slice_get}
+use Rattle.std.proofs.lemmas.Iterator.Adapters.{option_map_id}
+use Rattle.std.proofs.lemmas.Iterator.Consumers.{nth_from_yields_List}
+use Rattle.record.specs.Numbers.{numbers_left, numbers-yield}
+use Rattle.infer_operator.proofs.SingleLaws.{argument-has}
+use Rattle.std.specs.Prelude.{ok_or}
 use Rattle.row_rules.specs.declared.Cause.TheVariants.{Panics}
-use Rattle.row_rules.specs.Verdict.{sort}
-use Rattle.row_answer.specs.AnswerLaws.{judged-as, answered-as, answer-known, made-refused}
-use Rattle.infer_operator.proofs.SingleLaws.{nth-none, nth-some}
 use Rattle.infer_operator.proofs.single.argument.Goals as goal
 
-pub returns-then-n-i : goal.returns-then-n-i
-returns-then-n-i c = let a = c.args in
-    let n = a.count in
-    let u = a.used in
-    let x = a.args.now in
-    let m = a.n in
-    λ b p ix h.
-    judged-as (nth-none b p n x 3 m a.i c.if-n-i.true) (answered-as c.refuse.ensures (made-refused b p ix n u h.good Panics))
-
 pub returns : goal.returns
-returns c = let a = c.args in
-    let n = a.count in
-    let u = a.used in
-    let x = a.args.now in
-    let m = a.n in
-    λ b p ix h.
-    judged-as (nth-some b p n x 3 m a.i c.if-n-i.false ∙ ap (λ (k : ℕ). sort (sort_at b p n k)) (sym c.u16_at-k.ensures.value))
-    (answered-as c.found.ensures (answer-known b p ix n u h.good c.u16_at-k.result (subst (λ (k : ℕ). k < n) (sym c.u16_at-k.ensures.value) (h.below a.i c.if-n-i.false))))
+returns c =
+    let a = c.args.args.now in
+    let taken = nth_from_yields_List c.nth.result c.nth.new.self c.args.i c.nth.ensures.ran (numbers-yield {n = c.numbers.result} (numbers_left c.numbers.result) refl) in
+    argument-has a.bytes.now a.count c.args.i (c.ok_or.ensures.value ∙ ap (λ (o : Option ℕ). ok_or o Panics) (sym (option_map_id c.nth.result) ∙ taken ∙ ap (λ (ks : List ℕ). slice_get ks c.args.i) c.numbers.ensures))

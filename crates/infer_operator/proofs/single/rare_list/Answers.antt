@@ -1,29 +1,19 @@
--- The answer to the first argument, or to the variable without a name.
--- The number read there is one of the store.
-use mathlib.Core.Path.{ap}
-use Rattle.record.specs.Cases.{positive}
+-- The first argument; or none.
+use Rattle.std.proofs.Common.{ap}
+use Rattle.std.specs.Prelude.{ok_or}
+use Rattle.row_rules.specs.declared.Cause.TheVariants.{Panics}
 use Rattle.infer_rules.specs.Inferred.{rare_of}
-use Rattle.row_answer.specs.AnswerLaws.{judged-as, answered-as, answer-known}
-use Rattle.infer_operator.specs.Asks.{args-refer}
-use Rattle.infer_operator.proofs.SingleLaws.{sorts-none, first-known, first_then}
+use Rattle.row_answer.specs.AnswerLaws.{judged-as}
+use Rattle.infer_operator.proofs.AnswerWays.{answer-sort, first-known, first-then, first-missing}
 use Rattle.infer_operator.proofs.single.rare_list.Goals as goal
 
-pub returns-then-n-eq0 : goal.returns-then-n-eq0
-returns-then-n-eq0 c = let a = c.args in
-    let b = a.records.now in
-    let p = a.places.now in
-    let n = a.count in
-    let x = a.args.now in
-    let m = a.n in
-    judged-as (ap rare_of (sorts-none b p n x m c.if-n-eq0.true)) c.variable.ensures
+pub returns-in-Some-clause-answer : goal.returns-in-Some-clause-answer
+returns-in-Some-clause-answer c =
+    let taken = ap (λ o. ok_or o Panics) c.in-Some.is in
+    answer-sort c.args.store.now c.in-Some.k (first-known c.args.store.now c.args.args.now c.numbers.result c.next.result c.next.new.self c.numbers.ensures c.next.ensures.steps taken c.requires)
+    (first-then c.args.store.now c.args.args.now c.numbers.result c.next.result c.next.new.self c.numbers.ensures c.next.ensures.steps taken rare_of)
 
-pub returns : goal.returns
-returns c = let a = c.args in
-    let b = a.records.now in
-    let p = a.places.now in
-    let ix = a.index.now in
-    let n = a.count in
-    let u = a.used in
-    let x = a.args.now in
-    let m = a.n in
-    judged-as (ap rare_of (first_then (args-refer b p ix n u x m c.requires) (positive m c.if-n-eq0.false) c.u16_at-k.ensures.value)) (answered-as c.found.ensures (answer-known b p ix n u c.requires.good c.u16_at-k.result (first-known (args-refer b p ix n u x m c.requires) (positive m c.if-n-eq0.false) c.u16_at-k.ensures.value)))
+pub returns-in-None-clause-answer : goal.returns-in-None-clause-answer
+returns-in-None-clause-answer c =
+    let missing = ap (λ o. ok_or o Panics) c.in-None.is in
+    judged-as (first-missing c.args.store.now c.args.args.now c.numbers.result c.next.result c.next.new.self c.numbers.ensures c.next.ensures.steps missing rare_of) c.variable.ensures.answer

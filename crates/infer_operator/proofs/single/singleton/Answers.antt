@@ -1,32 +1,22 @@
--- The answer to the Set of the first argument.
--- The number read there is one of the store.
-use mathlib.Core.Path.{ap}
-use Rattle.record.specs.Cases.{positive}
+-- The first argument, whose Set is made; or none.
+use Rattle.std.proofs.Common.{◌≡◌, rules, Err, sym, ◌∙◌}
 use Rattle.row_rules.specs.declared.Cause.TheVariants.{Panics}
 use Rattle.infer_rules.specs.Inferred.{singleton_of}
-use Rattle.row_answer.specs.AnswerLaws.{judged-as, answered-as, made-refused}
-use Rattle.infer_operator.specs.Asks.{args-refer}
-use Rattle.infer_operator.proofs.SingleLaws.{sorts-none, first_then}
+use Rattle.row_answer.specs.AnswerLaws.{judged-as}
+use Rattle.infer_operator.proofs.AnswerWays.{answer-passed, known-asks, first-known, first-then, first-missing}
 use Rattle.infer_operator.proofs.single.singleton.Goals as goal
 
-pub returns-then-n-eq0 : goal.returns-then-n-eq0
-returns-then-n-eq0 c = let a = c.args in
-    let b = a.records.now in
-    let p = a.places.now in
-    let ix = a.index.now in
-    let n = a.count in
-    let u = a.used in
-    let x = a.args.now in
-    let m = a.n in
-    judged-as (ap singleton_of (sorts-none b p n x m c.if-n-eq0.true)) (answered-as c.refuse.ensures (made-refused b p ix n u c.requires.good Panics))
+pub returns-in_err-k-clause-answer : goal.returns-in_err-k-clause-answer
+returns-in_err-k-clause-answer c =
+    let e : c.from_residual.result ≡ Err Panics = search rules in
+    answer-passed c.args.store.now e
+    (first-missing c.args.store.now c.args.args.now c.numbers.result c.next.result c.next.new.self c.numbers.ensures c.next.ensures.steps (sym c.ok_or.ensures.value ∙ c.in_err-k.was) singleton_of)
 
-pub returns : goal.returns
-returns c = let a = c.args in
-    let b = a.records.now in
-    let p = a.places.now in
-    let ix = a.index.now in
-    let n = a.count in
-    let u = a.used in
-    let x = a.args.now in
-    let m = a.n in
-    judged-as (ap singleton_of (first_then (args-refer b p ix n u x m c.requires) (positive m c.if-n-eq0.false) c.u16_at-k.ensures.value)) c.set_of.ensures
+pub set_of-requires : goal.set_of-requires
+set_of-requires c =
+    known-asks c.args.store.now c.in_ok-k.k
+    (first-known c.args.store.now c.args.args.now c.numbers.result c.next.result c.next.new.self c.numbers.ensures c.next.ensures.steps (sym c.ok_or.ensures.value ∙ c.in_ok-k.was) c.requires)
+
+pub returns-clause-answer : goal.returns-clause-answer
+returns-clause-answer c =
+    judged-as (first-then c.args.store.now c.args.args.now c.numbers.result c.next.result c.next.new.self c.numbers.ensures c.next.ensures.steps (sym c.ok_or.ensures.value ∙ c.in_ok-k.was) singleton_of) c.set_of.ensures.answer

@@ -1,35 +1,15 @@
-use Rattle.std.proofs.Common.{arith}
-use Rattle.infer_operator.proofs.WalkLaws.{walk-in, walk-entry, none_left}
-use Rattle.infer_operator.proofs.SingleLaws.{real-none, real-found, real-more}
+-- Whether one of the sorts is Real: what the chain says of their numbers.
+use Rattle.std.proofs.Common.{refl, sym, ◌∙◌, rules, tests}
+use Rattle.std.proofs.lemmas.Iterator.Search.{any_from_yields_List}
+use Rattle.record.specs.Numbers.{numbers_left, numbers-yield}
+use Rattle.record.specs.Sort.{same, real}
+use Rattle.record.specs.Decode.{sort_at}
+use Rattle.infer_operator.proofs.SingleLaws.{some-any}
 use Rattle.infer_operator.proofs.single.some_real.Goals as goal
 
-pub u16_at-k-requires : goal.u16_at-k-requires
-u16_at-k-requires c = let l = c.loop-left in
-    let w = l.invariant in
-    walk-in w c.loop-left-test.true c.requires
-
-pub kind_at-kind-requires : goal.kind_at-kind-requires
-kind_at-kind-requires c = let l = c.loop-left in
-    let w = l.invariant in
-    walk-entry w c.loop-left-test.true c.u16_at-k.ensures.value c.requires
-
-pub returns-then-kind-eq-SORT_REAL : goal.returns-then-kind-eq-SORT_REAL
-returns-then-kind-eq-SORT_REAL c = let l = c.loop-left in
-    let w = l.invariant in
-    real-found w c.loop-left-test.true c.u16_at-k.ensures.value c.kind_at-kind.result c.kind_at-kind.ensures c.if-kind-eq-SORT_REAL.true
-
-pub overflow_add-at : goal.overflow_add-at
-overflow_add-at c =
-    let l = c.loop-left in
-    let w = l.invariant in
-    omega (arith, walk-in w c.loop-left-test.true c.requires)
-
-pub loop-left-preserved : goal.loop-left-preserved
-loop-left-preserved c = let l = c.loop-left in
-    let w = l.invariant in
-    real-more w c.loop-left-test.true c.u16_at-k.ensures.value c.kind_at-kind.result c.kind_at-kind.ensures c.if-kind-eq-SORT_REAL.false
-
 pub returns : goal.returns
-returns c = let l = c.loop-left in
-    let w = l.invariant in
-    real-none w (none_left l.left c.loop-left-test.false)
+returns c =
+    let s = c.args.sorts.now in
+    let ks = numbers_left c.args.numbers in
+    some-any s.records.now s.places.now s.count ks
+    ∙ sym (any_from_yields_List (λ k. same (sort_at s.records.now s.places.now s.count k) real) c.any.new.self _ _ c.any.ensures.ran (numbers-yield {n = c.args.numbers} ks refl) (λ x b q k. search (rules, tests)))

@@ -1,72 +1,57 @@
-use Rattle.std.proofs.Common.{arith}
-use Prim.Native.Nat.{◌+◌, ◌-◌}
-use mathlib.Core.Path.{subst}
-use Rattle.infer_operator.specs.Vectors.{VectorsHas}
-use Rattle.infer_operator.proofs.WalkLaws.{walk-in, walk-entry, widths-all, widths-other, rest-asks, widths-unknown, widths-none, width_small, widths-more, none_left, read-few, few-of}
+use Rattle.std.proofs.Common.{arith, sym, ap, ◌∙◌, ℕ, Option}
+use Rattle.std.specs.Prelude.{ok_or}
+use Rattle.record.specs.declared.kinds.SortKind.TheVariants.{BitVec, ParamBitVec}
+use Rattle.row_rules.specs.declared.Cause.TheVariants.{Panics}
+use Rattle.infer_rules.specs.Inferred.{concat_from}
+use Rattle.infer_operator.specs.Vectors.{widths_of}
+use Rattle.infer_operator.proofs.WalkLaws.{sorts-step, sorts-stop, known-first, known-rest, width-small, entry-is, entry-not, cat-added, cat-unknown, cat-other, list-rest, unknown-answer}
 use Rattle.infer_operator.proofs.vectors.add_widths.Goals as goal
-
-pub u16_at-k-requires : goal.u16_at-k-requires
-u16_at-k-requires c = let l = c.loop-left in
-    let w = l.invariant in
-    walk-in w.walk c.loop-left-test.true (read-few c.requires)
-
-pub entry-a-requires : goal.entry-a-requires
-entry-a-requires c = let l = c.loop-left in
-    let w = l.invariant in
-    walk-entry w.walk c.loop-left-test.true c.u16_at-k.ensures.value (read-few c.requires)
-
-pub overflow_add-at : goal.overflow_add-at
-overflow_add-at c =
-    let l = c.loop-left in
-    let w = l.invariant in
-    omega (arith, walk-in w.walk c.loop-left-test.true (read-few c.requires))
-
-pub all_vectors-requires : goal.all_vectors-requires
-all_vectors-requires c = let l = c.loop-left in
-    let w = l.invariant in
-    rest-asks w c.loop-left-test.true c.u16_at-k.ensures.value c.entry-a.result c.entry-a.ensures c.if-kind-eq-SORT_PARAM_BIT_VEC.true c.requires
-
-pub returns-then-all_vectors : goal.returns-then-all_vectors
-returns-then-all_vectors c = let a = c.args in
-    let b = a.records.now in
-    let p = a.places.now in
-    let x = a.args.now in
-    let l = c.loop-left in
-    let w = l.invariant in
-    widths-unknown w c.loop-left-test.true c.u16_at-k.ensures.value c.entry-a.result c.entry-a.ensures c.if-kind-eq-SORT_PARAM_BIT_VEC.true (subst (VectorsHas b p x (l.at + 2) (l.left - 1)) c.if-all_vectors.true c.all_vectors.ensures)
-
-pub returns-then-kind-eq-SORT_PARAM_BIT_VEC : goal.returns-then-kind-eq-SORT_PARAM_BIT_VEC
-returns-then-kind-eq-SORT_PARAM_BIT_VEC c = let a = c.args in
-    let b = a.records.now in
-    let p = a.places.now in
-    let x = a.args.now in
-    let l = c.loop-left in
-    let w = l.invariant in
-    widths-none w c.loop-left-test.true c.u16_at-k.ensures.value c.entry-a.result c.entry-a.ensures c.if-kind-eq-SORT_PARAM_BIT_VEC.true (subst (VectorsHas b p x (l.at + 2) (l.left - 1)) c.if-all_vectors.false c.all_vectors.ensures)
-
-pub returns-then-kind-ne-SORT_BIT_VEC : goal.returns-then-kind-ne-SORT_BIT_VEC
-returns-then-kind-ne-SORT_BIT_VEC c = let l = c.loop-left in
-    let w = l.invariant in
-    widths-other w c.loop-left-test.true c.u16_at-k.ensures.value c.entry-a.result c.entry-a.ensures c.if-kind-ne-SORT_BIT_VEC.true c.if-kind-eq-SORT_PARAM_BIT_VEC.false
 
 pub overflow_add-sum : goal.overflow_add-sum
 overflow_add-sum c =
-    let l = c.loop-left in
-    let w = l.invariant in
-    omega (arith, width_small w c.loop-left-test.true c.u16_at-k.ensures.value c.entry-a.result c.entry-a.ensures c.requires, w.low, few-of c.requires, c.loop-left-test.true)
+    let s = c.args.sorts.now in
+    let w = c.loop-k.invariant in
+    omega (arith, w.low, width-small s.usable.stored (known-first c.in-Some.ensures.steps w.known) c.entry-sort.result c.entry-sort.ensures)
 
-pub overflow_add-at-in-loop-left : goal.overflow_add-at-in-loop-left
-overflow_add-at-in-loop-left c =
-    let l = c.loop-left in
-    let w = l.invariant in
-    omega (arith, walk-in w.walk c.loop-left-test.true (read-few c.requires))
+pub loop-k-preserved : goal.loop-k-preserved
+loop-k-preserved c =
+    let s = c.args.sorts.now in
+    let w = c.loop-k.invariant in
+    let steps = c.in-Some.ensures.steps in
+    let known = known-first steps w.known in
+    let read = c.entry-sort.ensures s.count s.usable.stored known in
+    record {
+      known = known-rest steps w.known;
+      low = omega (arith, w.low, list-rest steps, width-small s.usable.stored known c.entry-sort.result c.entry-sort.ensures);
+      sum = w.sum ∙ sorts-step (concat_from c.loop-k.sum) s.records.now s.places.now s.count steps
+          ∙ cat-added c.loop-k.sum _ _ c.entry-sort.result.number (entry-is read BitVec c.in-BitVec.is) read.number;
+    }
 
-pub loop-left-preserved : goal.loop-left-preserved
-loop-left-preserved c = let l = c.loop-left in
-    let w = l.invariant in
-    widths-more w c.loop-left-test.true c.u16_at-k.ensures.value c.entry-a.result c.entry-a.ensures c.requires c.if-kind-ne-SORT_BIT_VEC.false
+pub all_vectors-vectors-requires : goal.all_vectors-vectors-requires
+all_vectors-vectors-requires c = known-rest c.in-Some.ensures.steps c.loop-k.invariant.known
+
+pub returns-in-ParamBitVec : goal.returns-in-ParamBitVec
+returns-in-ParamBitVec c =
+    let s = c.args.sorts.now in
+    let w = c.loop-k.invariant in
+    let steps = c.in-Some.ensures.steps in
+    let read = c.entry-sort.ensures s.count s.usable.stored (known-first steps w.known) in
+    w.sum ∙ sorts-step (concat_from c.loop-k.sum) s.records.now s.places.now s.count steps
+    ∙ cat-unknown c.loop-k.sum _ _ (entry-is read ParamBitVec c.in-ParamBitVec.is)
+    ∙ c.all_vectors-vectors.ensures ∙ unknown-answer c.all_vectors-vectors.result
+    ∙ ap widths_of (sym (c.ok_or.ensures.value ∙ ap (λ (o : Option (Option ℕ)). ok_or o Panics) c.then_some.ensures))
+
+pub returns-in_default-kind : goal.returns-in_default-kind
+returns-in_default-kind c =
+    let s = c.args.sorts.now in
+    let w = c.loop-k.invariant in
+    let steps = c.in-Some.ensures.steps in
+    let read = c.entry-sort.ensures s.count s.usable.stored (known-first steps w.known) in
+    w.sum ∙ sorts-step (concat_from c.loop-k.sum) s.records.now s.places.now s.count steps
+    ∙ cat-other c.loop-k.sum _ _ (entry-not read BitVec c.in_default-kind.not-BitVec) (entry-not read ParamBitVec c.in_default-kind.not-ParamBitVec)
 
 pub returns : goal.returns
-returns c = let l = c.loop-left in
-    let w = l.invariant in
-    widths-all w (none_left l.left c.loop-left-test.false)
+unfolding concat_from
+returns c =
+    let s = c.args.sorts.now in
+    c.loop-k.invariant.sum ∙ sorts-stop (concat_from c.loop-k.sum) s.records.now s.places.now s.count c.in_default.ensures.steps.0

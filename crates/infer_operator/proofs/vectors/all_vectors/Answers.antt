@@ -1,39 +1,17 @@
-use Rattle.std.proofs.Common.{arith}
-use Rattle.infer_operator.proofs.WalkLaws.{walk-in, walk-entry, vectors-all, vectors-other, vectors-more, none_left}
+-- Whether all of the sorts are vectors: what the chain says of their numbers.
+use Rattle.std.proofs.Common.{refl, sym, ap, ◌∙◌, rules, tests}
+use Rattle.std.proofs.lemmas.Iterator.Search.{all_from_yields_List}
+use Rattle.record.specs.Numbers.{numbers_left, numbers-yield}
+use Rattle.record.specs.Decode.{sort_at}
+use Rattle.substitution.specs.MatchWith.{is_bit_vec}
+use Rattle.infer_operator.specs.Vectors.{unknown_by}
+use Rattle.infer_operator.proofs.WalkLaws.{unknown-all}
 use Rattle.infer_operator.proofs.vectors.all_vectors.Goals as goal
 
-pub u16_at-k-requires : goal.u16_at-k-requires
-u16_at-k-requires c = let l = c.loop-left in
-    let w = l.invariant in
-    walk-in w c.loop-left-test.true c.requires
-
-pub kind_at-kind-requires : goal.kind_at-kind-requires
-kind_at-kind-requires c = let l = c.loop-left in
-    let w = l.invariant in
-    walk-entry w c.loop-left-test.true c.u16_at-k.ensures.value c.requires
-
-pub returns-then-kind-lt-SORT_BIT_VEC : goal.returns-then-kind-lt-SORT_BIT_VEC
-returns-then-kind-lt-SORT_BIT_VEC c = let l = c.loop-left in
-    let w = l.invariant in
-    vectors-other w c.loop-left-test.true c.u16_at-k.ensures.value c.kind_at-kind.result c.kind_at-kind.ensures (λ z. absurd (omega (arith, c.if-kind-lt-SORT_BIT_VEC.true))) (λ z. absurd (omega (arith, c.if-kind-lt-SORT_BIT_VEC.true)))
-
-pub returns-then-kind-gt-SORT_PARAM_BIT_VEC : goal.returns-then-kind-gt-SORT_PARAM_BIT_VEC
-returns-then-kind-gt-SORT_PARAM_BIT_VEC c = let l = c.loop-left in
-    let w = l.invariant in
-    vectors-other w c.loop-left-test.true c.u16_at-k.ensures.value c.kind_at-kind.result c.kind_at-kind.ensures (λ z. absurd (omega (arith, c.if-kind-gt-SORT_PARAM_BIT_VEC.true))) (λ z. absurd (omega (arith, c.if-kind-gt-SORT_PARAM_BIT_VEC.true)))
-
-pub overflow_add-at : goal.overflow_add-at
-overflow_add-at c =
-    let l = c.loop-left in
-    let w = l.invariant in
-    omega (arith, walk-in w c.loop-left-test.true c.requires)
-
-pub loop-left-preserved : goal.loop-left-preserved
-loop-left-preserved c = let l = c.loop-left in
-    let w = l.invariant in
-    vectors-more w c.loop-left-test.true c.u16_at-k.ensures.value c.kind_at-kind.result c.kind_at-kind.ensures c.if-kind-lt-SORT_BIT_VEC.false c.if-kind-gt-SORT_PARAM_BIT_VEC.false
-
 pub returns : goal.returns
-returns c = let l = c.loop-left in
-    let w = l.invariant in
-    vectors-all w (none_left l.left c.loop-left-test.false)
+returns c =
+    let s = c.args.sorts.now in
+    let ks = numbers_left c.args.numbers in
+    unknown-all s.records.now s.places.now s.count ks
+    ∙ ap unknown_by
+    (sym (all_from_yields_List (λ k. is_bit_vec (sort_at s.records.now s.places.now s.count k)) c.all.new.self _ _ c.all.ensures.ran (numbers-yield {n = c.args.numbers} ks refl) (λ x b q k. search (rules, tests))))

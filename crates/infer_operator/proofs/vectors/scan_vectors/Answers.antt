@@ -1,40 +1,35 @@
-use Rattle.std.proofs.Common.{arith}
-use Rattle.record.specs.Cases.{positive}
-use Rattle.infer_operator.proofs.WalkLaws.{walk-in, walk-entry, scan-none, scan-found, scan-other, scan-more}
+use Rattle.std.proofs.Common.{◌∙◌}
+use Rattle.record.specs.declared.kinds.SortKind.TheVariants.{BitVec, ParamBitVec}
+use Rattle.infer_rules.specs.Inferred.{first_vector}
+use Rattle.infer_operator.proofs.WalkLaws.{sorts-step, sorts-stop, known-first, known-rest, kind-is, kind-not, first-known, first-unknown, first-other}
 use Rattle.infer_operator.proofs.vectors.scan_vectors.Goals as goal
 
-pub u16_at-k-requires : goal.u16_at-k-requires
-u16_at-k-requires c = let l = c.scan in
-    let w = l.invariant in
-    walk-in w (positive l.left c.if-left-eq0.false) c.requires
+pub returns-in-BitVec : goal.returns-in-BitVec
+returns-in-BitVec c =
+    let s = c.args.sorts.now in
+    let steps = c.in-Some.ensures.steps in
+    let known = known-first steps c.loop-k.invariant.2 in
+    (known, c.loop-k.invariant.3 ∙ sorts-step first_vector s.records.now s.places.now s.count steps ∙ first-known _ _ (kind-is s.usable.stored known c.kind.ensures BitVec c.in-BitVec.is))
 
-pub kind_at-kind-requires : goal.kind_at-kind-requires
-kind_at-kind-requires c = let l = c.scan in
-    let w = l.invariant in
-    walk-entry w (positive l.left c.if-left-eq0.false) c.u16_at-k.ensures.value c.requires
+pub loop-k-preserved : goal.loop-k-preserved
+loop-k-preserved c =
+    let s = c.args.sorts.now in
+    let steps = c.in-Some.ensures.steps in
+    let known = known-first steps c.loop-k.invariant.2 in (
+      tt,
+      tt,
+      known-rest steps c.loop-k.invariant.2,
+      c.loop-k.invariant.3 ∙ sorts-step first_vector s.records.now s.places.now s.count steps ∙ first-unknown _ _ (kind-is s.usable.stored known c.kind.ensures ParamBitVec c.in-ParamBitVec.is),
+    )
 
-pub overflow_add-at : goal.overflow_add-at
-overflow_add-at c =
-    let l = c.scan in
-    let w = l.invariant in
-    omega (arith, walk-in w (positive l.left c.if-left-eq0.false) c.requires)
+pub returns-in_default : goal.returns-in_default
+returns-in_default c =
+    let s = c.args.sorts.now in
+    let steps = c.in-Some.ensures.steps in
+    let known = known-first steps c.loop-k.invariant.2 in
+    c.loop-k.invariant.3 ∙ sorts-step first_vector s.records.now s.places.now s.count steps
+    ∙ first-other _ _ (kind-not s.usable.stored known c.kind.ensures BitVec c.in_default.not-BitVec) (kind-not s.usable.stored known c.kind.ensures ParamBitVec c.in_default.not-ParamBitVec)
 
-pub scan-preserved : goal.scan-preserved
-scan-preserved c = let l = c.scan in
-    let w = l.invariant in
-    scan-more w (positive l.left c.if-left-eq0.false) c.u16_at-k.ensures.value c.kind_at-kind.result c.kind_at-kind.ensures c.if-kind-ne-SORT_PARAM_BIT_VEC.false
-
-pub returns-then-left-eq0 : goal.returns-then-left-eq0
-returns-then-left-eq0 c = let l = c.scan in
-    let w = l.invariant in
-    scan-none w c.if-left-eq0.true
-
-pub returns-then-kind-eq-SORT_BIT_VEC : goal.returns-then-kind-eq-SORT_BIT_VEC
-returns-then-kind-eq-SORT_BIT_VEC c = let l = c.scan in
-    let w = l.invariant in
-    scan-found w (positive l.left c.if-left-eq0.false) c.u16_at-k.ensures.value c.kind_at-kind.result c.kind_at-kind.ensures c.if-kind-eq-SORT_BIT_VEC.true
-
-pub returns-then-kind-ne-SORT_PARAM_BIT_VEC : goal.returns-then-kind-ne-SORT_PARAM_BIT_VEC
-returns-then-kind-ne-SORT_PARAM_BIT_VEC c = let l = c.scan in
-    let w = l.invariant in
-    scan-other w (positive l.left c.if-left-eq0.false) c.u16_at-k.ensures.value c.kind_at-kind.result c.kind_at-kind.ensures c.if-kind-eq-SORT_BIT_VEC.false c.if-kind-ne-SORT_PARAM_BIT_VEC.true
+pub returns : goal.returns
+unfolding first_vector
+returns c = let s = c.args.sorts.now in c.loop-k.invariant.3 ∙ sorts-stop first_vector s.records.now s.places.now s.count c.in-None.ensures.steps.0

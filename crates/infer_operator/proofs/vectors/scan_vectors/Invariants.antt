@@ -1,12 +1,12 @@
--- The first vector of known width, or why there is none.
--- The loop keeps: the first vector of the arguments that are left is the first of all.
-use Rattle.row_rules.specs.Verdict.{Verdict}
+-- The first vector of known width, or why there is none: the one among the numbers that are left is the first of all.
+use Rattle.std.proofs.Common.{◌≡◌}
+use Rattle.record.specs.Numbers.{numbers_left}
 use Rattle.infer_rules.specs.Inferred.{first_vector}
-use Rattle.infer_operator.proofs.WalkLaws.{Walking}
+use Rattle.infer_operator.specs.Asks.{Known, sorts_with}
 use Rattle.infer_operator.proofs.vectors.scan_vectors.Given as goal
 
-abbrev pub invariant-scan : goal.invariant-scan
-invariant-scan l = Walking Verdict first_vector first_vector l.records l.places l.args 3 l.n l.at l.left
-
-abbrev pub decreases-scan : goal.decreases-scan
-decreases-scan l = l.left
+abbrev pub invariant-loop-k : goal.invariant-loop-k
+invariant-loop-k l =
+    (goal.iterator-loop-k).can_next l.k-iterator × (goal.iterator-loop-k).is_finite l.k-iterator
+    × Known l.sorts.count (numbers_left l.k-iterator)
+    × (first_vector (sorts_with l.sorts (numbers_left l.fn.numbers)) ≡ first_vector (sorts_with l.sorts (numbers_left l.k-iterator)))

@@ -1,101 +1,58 @@
 -- The answer to a new width, by the first argument.
--- A width is of two bytes and the index of four, so that their product is of six.
-use Rattle.std.proofs.Common.{arith}
-use mathlib.Core.Path.{refl, ap, ◌∙◌}
-use mathlib.Core.Bool.{Bool}
-use Rattle.record.specs.Sort.{bitvec}
+use Rattle.std.proofs.Common.{◌≡◌, Err, rules, refl, sym, ap, ◌∙◌}
 use Rattle.record.specs.Record.{map_of, maps}
-use Rattle.record.specs.Cases.{positive}
+use Rattle.record.specs.Sort.{bitvec}
+use Rattle.record.specs.Numbers.{numbers_left}
+use Rattle.record.specs.Record.{sorts_of}
+use Rattle.record.specs.Decode.{store_of, sort_at}
+use Rattle.record.specs.declared.kinds.SortKind.TheVariants.{BitVec, ParamBitVec}
 use Rattle.row_rules.specs.declared.Cause.TheVariants.{Panics}
 use Rattle.row_rules.specs.Verdict.{sort}
+use Rattle.row_answer.specs.AnswerLaws.{judged-as}
 use Rattle.infer_rules.specs.Inferred.{resized_of}
-use Rattle.row_answer.specs.AnswerLaws.{judged-as, answered-as, made-refused}
-use Rattle.infer_operator.specs.Asks.{args-refer}
-use Rattle.infer_operator.proofs.SingleLaws.{sorts-none, first_entry}
-use Rattle.infer_row.specs.Indexed.{resizing}
-use Rattle.infer_row.proofs.IndexedLaws.{resized-known, resized-unknown, resized-other, width_small, times-small}
+use Rattle.infer_operator.proofs.AnswerWays.{answer-panics, answer-passed, leaf-asks, first-known, first-then, first-missing}
+use Rattle.infer_operator.proofs.WalkLaws.{width-small, entry-is, entry-not}
+use Rattle.infer_row.proofs.IndexedLaws.{resize-known, resize-unknown, resize-other}
 use Rattle.infer_row.proofs.indexed.resized.Goals as goal
 
--- The answer to a new width, by the first argument.
--- A width is of two bytes and the index of four, so that their product is of six.
-pub returns-then-n-eq0 : goal.returns-then-n-eq0
-returns-then-n-eq0 c = let a = c.args in
-    let b = a.records.now in
-    let p = a.places.now in
-    let ix = a.index.now in
-    let n = a.count in
-    let u = a.used in
-    let x = a.args.now in
-    let m = a.n in
-    judged-as (ap (resized_of (resizing a.adds a.i)) (sorts-none b p n x m c.if-n-eq0.true)) (answered-as c.refuse.ensures (made-refused b p ix n u c.requires.args.good Panics))
+pub returns-in_err-k-clause-answer : goal.returns-in_err-k-clause-answer
+returns-in_err-k-clause-answer g c =
+    let e : c.from_residual.result ≡ Err Panics = search rules in
+    λ f h. answer-passed c.args.store.now e (first-missing c.args.store.now c.args.args.now c.numbers.result c.next.result c.next.new.self c.numbers.ensures c.next.ensures.steps (sym c.ok_or.ensures.value ∙ c.in_err-k.was) (resized_of f))
 
-pub entry-a-requires : goal.entry-a-requires
-entry-a-requires c = let a = c.args in
-    let b = a.records.now in
-    let p = a.places.now in
-    let ix = a.index.now in
-    let n = a.count in
-    let u = a.used in
-    let x = a.args.now in
-    let m = a.n in
-    first_entry (args-refer b p ix n u x m c.requires.args) (positive m c.if-n-eq0.false) c.u16_at-k.ensures.value
+pub entry-vector-requires : goal.entry-vector-requires
+entry-vector-requires g c = first-known c.args.store.now c.args.args.now c.numbers.result c.next.result c.next.new.self c.numbers.ensures c.next.ensures.steps (sym c.ok_or.ensures.value ∙ c.in_ok-k.was) c.requires.asked
+
+pub resize-requires : goal.resize-requires
+resize-requires g c =
+    c.requires.callable c.entry-vector.result.number
+    (width-small c.args.store.now.good.stored (first-known c.args.store.now c.args.args.now c.numbers.result c.next.result c.next.new.self c.numbers.ensures c.next.ensures.steps (sym c.ok_or.ensures.value ∙ c.in_ok-k.was) c.requires.asked) c.entry-vector.result c.entry-vector.ensures)
 
 pub leaf-requires : goal.leaf-requires
 unfolding map_of maps
-leaf-requires c = record { good = c.requires.args.good; map = refl }
+leaf-requires g c = leaf-asks c.args.store.now 10 refl
 
-pub returns-then-kind-eq-SORT_PARAM_BIT_VEC : goal.returns-then-kind-eq-SORT_PARAM_BIT_VEC
-returns-then-kind-eq-SORT_PARAM_BIT_VEC c = let a = c.args in
-    let b = a.records.now in
-    let p = a.places.now in
-    let ix = a.index.now in
-    let n = a.count in
-    let u = a.used in
-    let x = a.args.now in
-    let m = a.n in
-    judged-as (resized-unknown (args-refer b p ix n u x m c.requires.args) (positive m c.if-n-eq0.false) c.u16_at-k.ensures.value c.entry-a.result c.entry-a.ensures (resizing a.adds a.i) c.if-kind-eq-SORT_PARAM_BIT_VEC.true) c.leaf.ensures
+pub returns-in-BitVec-clause-answer : goal.returns-in-BitVec-clause-answer
+returns-in-BitVec-clause-answer g c =
+    let s = c.args.store.now in
+    let read = c.entry-vector.ensures s.count s.good.stored (first-known c.args.store.now c.args.args.now c.numbers.result c.next.result c.next.new.self c.numbers.ensures c.next.ensures.steps (sym c.ok_or.ensures.value ∙ c.in_ok-k.was) c.requires.asked) in
+    λ f h.
+    judged-as
+    (first-then c.args.store.now c.args.args.now c.numbers.result c.next.result c.next.new.self c.numbers.ensures c.next.ensures.steps (sym c.ok_or.ensures.value ∙ c.in_ok-k.was) (resized_of f)
+    ∙ resize-known f (sort_at s.records.now s.places.now s.count c.in_ok-k.k) (sorts_of (store_of s.records.now s.places.now s.count) (numbers_left c.next.new.self)) (entry-is read BitVec c.in-BitVec.is)
+    ∙ ap (λ w. sort (bitvec (f w))) (sym read.number) ∙ ap (λ w. sort (bitvec w)) (sym (h _ _ c.resize.ensures)))
+    c.bit_vector.ensures.answer
 
-pub returns-then-kind-ne-SORT_BIT_VEC : goal.returns-then-kind-ne-SORT_BIT_VEC
-returns-then-kind-ne-SORT_BIT_VEC c = let a = c.args in
-    let b = a.records.now in
-    let p = a.places.now in
-    let ix = a.index.now in
-    let n = a.count in
-    let u = a.used in
-    let x = a.args.now in
-    let m = a.n in
-    judged-as (resized-other (args-refer b p ix n u x m c.requires.args) (positive m c.if-n-eq0.false) c.u16_at-k.ensures.value c.entry-a.result c.entry-a.ensures (resizing a.adds a.i) c.if-kind-ne-SORT_BIT_VEC.true c.if-kind-eq-SORT_PARAM_BIT_VEC.false) (answered-as c.refuse-then-kind-ne-SORT_BIT_VEC.ensures (made-refused b p ix n u c.requires.args.good Panics))
+pub returns-in-ParamBitVec-clause-answer : goal.returns-in-ParamBitVec-clause-answer
+returns-in-ParamBitVec-clause-answer g c =
+    let s = c.args.store.now in
+    let read = c.entry-vector.ensures s.count s.good.stored (first-known c.args.store.now c.args.args.now c.numbers.result c.next.result c.next.new.self c.numbers.ensures c.next.ensures.steps (sym c.ok_or.ensures.value ∙ c.in_ok-k.was) c.requires.asked) in
+    λ f h.
+    judged-as (first-then c.args.store.now c.args.args.now c.numbers.result c.next.result c.next.new.self c.numbers.ensures c.next.ensures.steps (sym c.ok_or.ensures.value ∙ c.in_ok-k.was) (resized_of f) ∙ resize-unknown f (sort_at s.records.now s.places.now s.count c.in_ok-k.k) (sorts_of (store_of s.records.now s.places.now s.count) (numbers_left c.next.new.self)) (entry-is read ParamBitVec c.in-ParamBitVec.is)) c.leaf.ensures.answer
 
-pub returns-then-adds : goal.returns-then-adds
-returns-then-adds c = let a = c.args in
-    let b = a.records.now in
-    let p = a.places.now in
-    let ix = a.index.now in
-    let n = a.count in
-    let u = a.used in
-    let x = a.args.now in
-    let m = a.n in
-    judged-as (resized-known (args-refer b p ix n u x m c.requires.args) (positive m c.if-n-eq0.false) c.u16_at-k.ensures.value c.entry-a.result c.entry-a.ensures (resizing a.adds a.i) c.if-kind-ne-SORT_BIT_VEC.false ∙ ap (λ (d : Bool). sort (bitvec (resizing d a.i c.entry-a.result.number))) c.if-adds.true) c.bit_vector.ensures
-
-pub overflow_mul-i : goal.overflow_mul-i
-overflow_mul-i c =
-    let a = c.args in
-    let b = a.records.now in
-    let p = a.places.now in
-    let ix = a.index.now in
-    let n = a.count in
-    let u = a.used in
-    let x = a.args.now in
-    let m = a.n in
-    omega (arith, times-small a.i c.entry-a.result.number c.requires.small (width_small (args-refer b p ix n u x m c.requires.args) (positive m c.if-n-eq0.false) c.u16_at-k.ensures.value c.entry-a.result c.entry-a.ensures))
-
-pub returns : goal.returns
-returns c = let a = c.args in
-    let b = a.records.now in
-    let p = a.places.now in
-    let ix = a.index.now in
-    let n = a.count in
-    let u = a.used in
-    let x = a.args.now in
-    let m = a.n in
-    judged-as (resized-known (args-refer b p ix n u x m c.requires.args) (positive m c.if-n-eq0.false) c.u16_at-k.ensures.value c.entry-a.result c.entry-a.ensures (resizing a.adds a.i) c.if-kind-ne-SORT_BIT_VEC.false ∙ ap (λ (d : Bool). sort (bitvec (resizing d a.i c.entry-a.result.number))) c.if-adds.false) c.bit_vector-2.ensures
+pub returns-in_default-clause-answer : goal.returns-in_default-clause-answer
+returns-in_default-clause-answer g c =
+    let s = c.args.store.now in
+    let read = c.entry-vector.ensures s.count s.good.stored (first-known c.args.store.now c.args.args.now c.numbers.result c.next.result c.next.new.self c.numbers.ensures c.next.ensures.steps (sym c.ok_or.ensures.value ∙ c.in_ok-k.was) c.requires.asked) in
+    λ f h.
+    answer-panics s (first-then c.args.store.now c.args.args.now c.numbers.result c.next.result c.next.new.self c.numbers.ensures c.next.ensures.steps (sym c.ok_or.ensures.value ∙ c.in_ok-k.was) (resized_of f) ∙ resize-other f (sort_at s.records.now s.places.now s.count c.in_ok-k.k) (sorts_of (store_of s.records.now s.places.now s.count) (numbers_left c.next.new.self)) (entry-not read BitVec c.in_default.not-BitVec) (entry-not read ParamBitVec c.in_default.not-ParamBitVec))

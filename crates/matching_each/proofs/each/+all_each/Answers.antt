@@ -1,142 +1,80 @@
 use Rattle.std.proofs.Common.{arith}
-use Prim.Native.Nat.{ℕ, ◌%◌}
-use mathlib.Core.Path.{◌≡◌, sym, ◌∙◌}
-use mathlib.Core.Bool.{true}
-use Rattle.record.specs.Decode.{sort_at}
-use Rattle.matching_each.specs.Every.{every, passing}
-use Rattle.matching_tables.specs.NoteLaws.{table-put}
-use Rattle.matching_tables.specs.WalkLaws.{parts-ask}
-use Rattle.matching_each.proofs.EachLaws.{node-fails, node-passes, node-alone, each-asks, each-less, each-down, each-stop, each_step, each_last, each-end}
+use Rattle.matching_each.proofs.EachLaws.{each-go, each-so, each-asks, go-rest, go-parts, each-less, each-down, each-turn, emptied, parts-list, so-end, so-fails, so-alone, so-last, so-stop, so-more, so-noted}
 use Rattle.matching_each.proofs.each.+all_each.Goals as goal
+use Rattle.matching_each.proofs.each.+all_each.Goals.{then-a-eq0-via-then-a-eq0, then-a-eq0-via-else-a-eq0+then-is_noted}
+
+pub loop-k-init : goal.loop-k-init
+loop-k-init g t c = (each-go c.requires.list c.numbers-left.ensures, each-so _ _ c.numbers-left.ensures)
+
+pub passes-requires : goal.passes-requires
+passes-requires g t c =
+    let one = each-asks c.loop-k.invariant.0 c.in-Some.ensures.steps in
+    c.requires.asked c.entry-a.result c.in-Some.k one c.entry-a.ensures
 
 pub returns-then-not-passes : goal.returns-then-not-passes
-returns-then-not-passes t c =
-    let a = c.args in
-    let v = c.loop-more.invariant in
-    let some = c.loop-more-test.true in
-    let i = c.u16_at-k.ensures.value in
-    let one = each-asks v some i in
-    let r = c.entry-a.result in
-    let e = c.entry-a.ensures in
-    let f = passing a.test a.params.now a.images.now in
-    let h = c.passes.ensures a.places.now a.count c.u16_at-k.result one e in
-    each-stop v some i (node-fails one r e f h c.if-not-passes.true) v.noted
+returns-then-not-passes g t c =
+    let v = c.loop-k.invariant in
+    let e = c.in-Some.ensures.steps in
+    so-fails v.1 e (each-asks v.0 e) c.entry-a.result c.entry-a.ensures c.passes.ensures c.if-not-passes.true
 
-pub loop-more-smaller-then-a-eq0 : goal.loop-more-smaller-then-a-eq0
-loop-more-smaller-then-a-eq0 t c =
-    let v = c.loop-more.invariant in
-    let some = c.loop-more-test.true in
-    let i = c.u16_at-k.ensures.value in
-    let r = c.entry-a.result in
-    let e = c.entry-a.ensures in
-    each-less v some i r e
+pub is_noted-requires : goal.is_noted-requires
+is_noted-requires g t c =
+    let one = each-asks c.loop-k.invariant.0 c.in-Some.ensures.steps in
+    omega (arith, one.known, one.usable.count)
 
-pub loop-more-preserved-then-a-eq0 : goal.loop-more-preserved-then-a-eq0
-loop-more-preserved-then-a-eq0 t c =
-    let a = c.args in
-    let v = c.loop-more.invariant in
-    let some = c.loop-more-test.true in
-    let i = c.u16_at-k.ensures.value in
-    let one = each-asks v some i in
-    let r = c.entry-a.result in
-    let e = c.entry-a.ensures in
-    let f = passing a.test a.params.now a.images.now in
-    let h = c.passes.ensures a.places.now a.count c.u16_at-k.result one e in
-    let z = c.if-not-passes.false in
-    each_step v some i (node-alone one r e f h z c.if-a-eq0.true) v.noted
+pub loop-k-smaller-then-a-eq0 : goal.loop-k-smaller-then-a-eq0
+loop-k-smaller-then-a-eq0 g t c = each-less c.loop-k.invariant.0 c.in-Some.ensures.steps c.entry-a.result c.entry-a.ensures
 
-pub loop-more-smaller-then-is_noted : goal.loop-more-smaller-then-is_noted
-loop-more-smaller-then-is_noted t c =
-    let v = c.loop-more.invariant in
-    let some = c.loop-more-test.true in
-    let i = c.u16_at-k.ensures.value in
-    let r = c.entry-a.result in
-    let e = c.entry-a.ensures in
-    each-less v some i r e
+pub loop-k-preserved-then-a-eq0 : goal.loop-k-preserved-then-a-eq0
+loop-k-preserved-then-a-eq0 g t c =
+    let v = c.loop-k.invariant in
+    let e = c.in-Some.ensures.steps in
+    let one = each-asks v.0 e in (
+      go-rest v.0 e,
+      elim c.then-a-eq0.branch [
+        | then-a-eq0-via-then-a-eq0 w ↦ so-alone v.1 e one c.entry-a.result c.entry-a.ensures c.passes.ensures c.if-not-passes.false w.if-a-eq0.true
+        | then-a-eq0-via-else-a-eq0+then-is_noted w ↦ so-noted v.1 e _ (w.is_noted.ensures w.if-is_noted.true)
+      ],
+    )
 
-pub loop-more-preserved-then-is_noted : goal.loop-more-preserved-then-is_noted
-loop-more-preserved-then-is_noted t c =
-    let v = c.loop-more.invariant in
-    let some = c.loop-more-test.true in
-    let i = c.u16_at-k.ensures.value in
-    let k = c.u16_at-k.result in
-    each_step v some i (sym (v.noted.each (k % 64) k (c.is_noted.ensures c.if-is_noted.true))) v.noted
+pub loop-k-smaller-then-is_empty : goal.loop-k-smaller-then-is_empty
+loop-k-smaller-then-is_empty g t c =
+    each-turn c.loop-k.invariant.0 c.in-Some.ensures.steps c.entry-a.result c.entry-a.ensures c.numbers-left-then-is_empty.ensures
 
-pub loop-more-smaller-then-more-eq0 : goal.loop-more-smaller-then-more-eq0
-loop-more-smaller-then-more-eq0 t c =
-    let v = c.loop-more.invariant in
-    let some = c.loop-more-test.true in
-    let i = c.u16_at-k.ensures.value in
-    let r = c.entry-a.result in
-    let e = c.entry-a.ensures in
-    each-down v some i r e
-
-pub loop-more-preserved-then-more-eq0 : goal.loop-more-preserved-then-more-eq0
-loop-more-preserved-then-more-eq0 t c =
-    let a = c.args in
-    let v = c.loop-more.invariant in
-    let some = c.loop-more-test.true in
-    let i = c.u16_at-k.ensures.value in
-    let one = each-asks v some i in
-    let r = c.entry-a.result in
-    let e = c.entry-a.ensures in
-    let f = passing a.test a.params.now a.images.now in
-    let h = c.passes.ensures a.places.now a.count c.u16_at-k.result one e in
-    let z = c.if-not-passes.false in
-    each_last v some i r e h z c.if-more-eq0.true
+pub loop-k-preserved-then-is_empty : goal.loop-k-preserved-then-is_empty
+loop-k-preserved-then-is_empty g t c =
+    let v = c.loop-k.invariant in
+    let e = c.in-Some.ensures.steps in (
+      go-parts v.0 e c.entry-a.result c.entry-a.ensures c.numbers-left-then-is_empty.ensures,
+      so-last v.1 e (each-asks v.0 e) c.entry-a.result c.entry-a.ensures c.passes.ensures c.if-not-passes.false (emptied c.next.new.self c.is_empty.ensures c.if-is_empty.true) c.numbers-left-then-is_empty.ensures,
+    )
 
 pub all_each-requires : goal.all_each-requires
-all_each-requires t c =
-    let q = c.requires in
-    let v = c.loop-more.invariant in
-    let some = c.loop-more-test.true in
-    let i = c.u16_at-k.ensures.value in
-    let one = each-asks v some i in
-    let r = c.entry-a.result in
-    let e = c.entry-a.ensures in
-    (omega (arith, v.less, each-down v some i r e), record { list = parts-ask r one e; lent = q.lent; noted = v.noted })
+all_each-requires g t c κs l =
+    let v = c.loop-k.invariant.0 in
+    let e = c.in-Some.ensures.steps in
+    let h = each-down v e c.entry-a.result c.entry-a.ensures in
+    (omega (arith, h, v.less), (l, record { list = parts-list v e c.entry-a.result c.entry-a.ensures; asked = c.requires.asked }))
 
 pub returns-then-not-all_each : goal.returns-then-not-all_each
-returns-then-not-all_each t c =
-    let a = c.args in
-    let v = c.loop-more.invariant in
-    let some = c.loop-more-test.true in
-    let i = c.u16_at-k.ensures.value in
-    let one = each-asks v some i in
-    let r = c.entry-a.result in
-    let e = c.entry-a.ensures in
-    let f = passing a.test a.params.now a.images.now in
-    let h = c.passes.ensures a.places.now a.count c.u16_at-k.result one e in
-    let z = c.if-not-passes.false in
-    let all = c.all_each in
-    each-stop v some i (node-passes one r e f h z (sym c.if-not-all_each.true ∙ all.ensures.answer)) all.ensures.noted
+returns-then-not-all_each g t c =
+    let v = c.loop-k.invariant in
+    let e = c.in-Some.ensures.steps in
+    so-stop v.1 e (each-asks v.0 e) c.entry-a.result c.entry-a.ensures c.passes.ensures c.if-not-passes.false c.all_each.ensures c.if-not-all_each.true
 
-pub loop-more-smaller : goal.loop-more-smaller
-loop-more-smaller t c =
-    let v = c.loop-more.invariant in
-    let some = c.loop-more-test.true in
-    let i = c.u16_at-k.ensures.value in
-    let r = c.entry-a.result in
-    let e = c.entry-a.ensures in
-    each-less v some i r e
+pub note-requires : goal.note-requires
+note-requires g t c =
+    let one = each-asks c.loop-k.invariant.0 c.in-Some.ensures.steps in
+    omega (arith, one.known, one.usable.count)
 
-pub loop-more-preserved : goal.loop-more-preserved
-loop-more-preserved t c =
-    let a = c.args in
-    let v = c.loop-more.invariant in
-    let some = c.loop-more-test.true in
-    let i = c.u16_at-k.ensures.value in
-    let one = each-asks v some i in
-    let r = c.entry-a.result in
-    let e = c.entry-a.ensures in
-    let f = passing a.test a.params.now a.images.now in
-    let h = c.passes.ensures a.places.now a.count c.u16_at-k.result one e in
-    let z = c.if-not-passes.false in
-    let all = c.all_each in
-    let no = c.note in
-    let found = node-passes one r e f h z (sym c.if-not-all_each.false ∙ all.ensures.answer) in
-    let P : ℕ → Type 0 = λ j. every f (sort_at a.records.now a.places.now a.count j) ≡ true in
-    each_step v some i found (table-put P all.new.seen c.u16_at-k.result no.new.seen all.ensures.noted (sym found) no.ensures)
+pub loop-k-smaller : goal.loop-k-smaller
+loop-k-smaller g t c = each-less c.loop-k.invariant.0 c.in-Some.ensures.steps c.entry-a.result c.entry-a.ensures
+
+pub loop-k-preserved : goal.loop-k-preserved
+loop-k-preserved g t c =
+    let v = c.loop-k.invariant in
+    let e = c.in-Some.ensures.steps in
+    (go-rest v.0 e, so-more v.1 e (each-asks v.0 e) c.entry-a.result c.entry-a.ensures c.passes.ensures c.if-not-passes.false c.all_each.ensures c.if-not-all_each.false c.note.ensures)
 
 pub returns : goal.returns
-returns t c = each-end c.loop-more.invariant c.loop-more-test.false
+returns g t c = so-end c.loop-k.invariant.1 c.in_default.ensures.steps.0

@@ -1,28 +1,22 @@
 -- A sort without parts by its entry; any other by the walk from an empty table, by the law of its test.
-use Rattle.std.proofs.Common.{[]}
-use mathlib.Core.Path.{◌≡◌, ◌∙◌}
-use mathlib.Core.Bool.{true}
+use Rattle.std.proofs.Common.{rules, [], ℕ, ◌≡◌, ◌∙◌, sym, subst, true}
+use Rattle.matching_tables.specs.Notes.{NoteTable}
 use Rattle.record.specs.Decode.{sort_at}
 use Rattle.substitution.specs.Premises.{proper}
-use Rattle.matching_each.specs.declared.each.Test.TheVariants.{Proper}
-use Rattle.matching_each.specs.Every.{passing}
 use Rattle.matching_tables.specs.NoteLaws.{table_none}
-use Rattle.matching_each.specs.EveryLaws.{proper-tests, every-is, each-by, found-by}
+use Rattle.matching_each.specs.Every.{Proper, passing}
+use Rattle.matching_each.specs.EveryLaws.{proper-tests, every-is, found-by}
 use Rattle.matching_each.proofs.EachLaws.{node-only}
 use Rattle.matching_each.proofs.premises.is_proper.Goals as goal
 
 pub returns-then-a-eq0 : goal.returns-then-a-eq0
 returns-then-a-eq0 c =
-    let a = c.args in
-    let r = c.entry-a.result in
-    let e = c.entry-a.ensures in
-    let h = c.passes.ensures a.places.now a.count a.k c.requires e in
-    node-only c.requires r e (passing Proper [] []) h c.if-a-eq0.true ∙ every-is (proper-tests [] []) (sort_at a.records.now a.places.now a.count a.k)
-
-pub each-requires : goal.each-requires
-each-requires c =
-    let a = c.args in
-    each-by (proper-tests [] []) c.requires (record { listed = tt; bound = tt }) (table_none (λ i. proper (sort_at a.records.now a.places.now a.count i) ≡ true))
+    let s = c.args.sorts.now in
+    let h = c.proper.ensures s.records.now s.places.now s.count c.args.k c.requires c.entry-a.ensures in
+    node-only c.requires c.entry-a.result c.entry-a.ensures (passing Proper [] []) h c.if-a-eq0.true ∙ every-is (proper-tests [] []) (sort_at s.records.now s.places.now s.count c.args.k)
 
 pub returns : goal.returns
-returns c = (found-by (proper-tests [] []) c.each.ensures).0
+returns c =
+    let s = c.args.sorts.now in
+    let P : ℕ → Type 0 = λ i. proper (sort_at s.records.now s.places.now s.count i) ≡ true in
+    (found-by (proper-tests [] []) (λ r k q one h s. search rules) (subst (NoteTable P) (sym c.new-seen.ensures) (table_none P)) c.args.k c.each.ensures).0

@@ -1,100 +1,72 @@
 -- Each return is a case of the definition: by the entries of the two sorts, or by a pair that was noted.
-use Rattle.std.proofs.Common.{arith}
-use mathlib.Core.Path.{sym, ◌∙◌}
+use Rattle.std.proofs.Common.{arith, sym, ◌∙◌}
+use Rattle.record.specs.declared.kinds.SortKind.TheVariants.{Var as SortVar, Par as SortPar}
+use Rattle.matching_tables.specs.KindTests.{kind-is, kind-not}
 use Rattle.matching_tables.specs.Entered.{entry-one, entry-refs}
-use Rattle.matching_with.proofs.CompatibleLaws.{fit-var, fit-par, fit-to-var, fit-to-par, fit-param, fit-other, fit-bare, fit-node}
+use Rattle.matching_with.proofs.CompatibleLaws.{fit-var, fit-par, fit-to-var, fit-to-par, fit-param, fit-other, fit-bare, fit-both, at-start}
 use Rattle.matching_with.proofs.compatible.next_fit.Goals as goal
 
-pub returns-then-a-eq-SORT_VAR : goal.returns-then-a-eq-SORT_VAR
-returns-then-a-eq-SORT_VAR c =
-    let asks = c.requires.0 in
-    let r = c.entry-a.result in
-    let e = c.entry-a.ensures in
-    fit-var asks r e c.if-a-eq-SORT_VAR.true
+pub returns-then-eq : goal.returns-then-eq
+returns-then-eq c = fit-var c.requires.0 c.entry-a.result c.entry-a.ensures (kind-is c.entry-a.result.kind SortVar c.eq.ensures c.if-eq.true)
 
-pub u16_at-requires : goal.u16_at-requires
-u16_at-requires c =
-    let a = c.args in
-    let b = a.records.now in
-    let p = a.places.now in
-    let n = a.count in
-    let asks = c.requires.0 in
-    let k = a.p in
-    let u = asks.usable in
+pub get-requires : goal.get-requires
+get-requires c =
+    let s = c.args.sorts.now in
     let r = c.entry-a.result in
-    let e = c.entry-a.ensures in
-    omega (arith, entry-one b p n k u asks.left r e c.if-a-eq-SORT_PAR.true, (entry-refs b p n k u asks.left r e).within)
+    let h = kind-is r.kind SortPar c.eq-2.ensures c.if-eq-2.true in
+    let u = c.requires.0 in
+    omega (arith, entry-one s.records.now s.places.now s.count c.args.p u.usable u.left r c.entry-a.ensures h, (entry-refs s.records.now s.places.now s.count c.args.p u.usable u.left r c.entry-a.ensures).within)
 
-pub returns-then-a-eq-SORT_PAR : goal.returns-then-a-eq-SORT_PAR
-returns-then-a-eq-SORT_PAR c =
-    let asks = c.requires.0 in
+pub returns-then-eq-2 : goal.returns-then-eq-2
+returns-then-eq-2 c =
     let r = c.entry-a.result in
-    let e = c.entry-a.ensures in
-    fit-par asks r e c.if-a-eq-SORT_PAR.true c.u16_at.ensures.value
+    fit-par c.requires.0 r c.entry-a.ensures (kind-is r.kind SortPar c.eq-2.ensures c.if-eq-2.true) (at-start c.args.sorts.now.records.now r.parts.at c.get.ensures.value)
 
-pub returns-then-b-eq-SORT_VAR : goal.returns-then-b-eq-SORT_VAR
-returns-then-b-eq-SORT_VAR c =
-    let asks = c.requires.0 in
-    let r = c.entry-a.result in
-    let e = c.entry-a.ensures in
+pub is_met-requires : goal.is_met-requires
+is_met-requires c = let u = c.requires.0 in record { small = omega (arith, u.left, u.usable.count); target = omega (arith, u.right, u.usable.count) }
+
+pub returns-then-eq-3 : goal.returns-then-eq-3
+returns-then-eq-3 c =
     let q = c.entry-b.result in
-    let g = c.entry-b.ensures in
-    fit-to-var asks r e q g c.if-b-eq-SORT_VAR.true
+    fit-to-var c.requires.0 c.entry-a.result c.entry-a.ensures q c.entry-b.ensures (kind-is q.kind SortVar c.eq-3.ensures c.if-eq-3.true)
 
-pub u16_at-requires-then-b-eq-SORT_PAR : goal.u16_at-requires-then-b-eq-SORT_PAR
-u16_at-requires-then-b-eq-SORT_PAR c =
-    let a = c.args in
-    let b = a.records.now in
-    let p = a.places.now in
-    let n = a.count in
-    let asks = c.requires.0 in
-    let j = a.t in
-    let u = asks.usable in
+pub get-requires-then-eq-4 : goal.get-requires-then-eq-4
+get-requires-then-eq-4 c =
+    let s = c.args.sorts.now in
     let q = c.entry-b.result in
-    let g = c.entry-b.ensures in
-    omega (arith, entry-one b p n j u asks.right q g c.if-b-eq-SORT_PAR.true, (entry-refs b p n j u asks.right q g).within)
+    let h = kind-is q.kind SortPar c.eq-4.ensures c.if-eq-4.true in
+    let u = c.requires.0 in
+    omega (arith, entry-one s.records.now s.places.now s.count c.args.t u.usable u.right q c.entry-b.ensures h, (entry-refs s.records.now s.places.now s.count c.args.t u.usable u.right q c.entry-b.ensures).within)
 
-pub returns-then-b-eq-SORT_PAR : goal.returns-then-b-eq-SORT_PAR
-returns-then-b-eq-SORT_PAR c =
-    let asks = c.requires.0 in
-    let r = c.entry-a.result in
-    let e = c.entry-a.ensures in
+pub returns-then-eq-4 : goal.returns-then-eq-4
+returns-then-eq-4 c =
     let q = c.entry-b.result in
-    let g = c.entry-b.ensures in
-    fit-to-par asks r e q g c.if-b-eq-SORT_PAR.true c.u16_at-then-b-eq-SORT_PAR.ensures.value
+    fit-to-par c.requires.0 c.entry-a.result c.entry-a.ensures q c.entry-b.ensures (kind-is q.kind SortPar c.eq-4.ensures c.if-eq-4.true) (at-start c.args.sorts.now.records.now q.parts.at c.get-then-eq-4.ensures.value)
 
 pub returns-then-param_eq : goal.returns-then-param_eq
 returns-then-param_eq c =
-    let asks = c.requires.0 in
     let r = c.entry-a.result in
-    let e = c.entry-a.ensures in
     let q = c.entry-b.result in
-    let g = c.entry-b.ensures in
-    fit-param asks r e q g c.if-a-eq-SORT_VAR.false c.if-a-eq-SORT_PAR.false c.if-b-eq-SORT_VAR.false c.if-b-eq-SORT_PAR.false c.param_eq.ensures c.if-param_eq.true
+    fit-param c.requires.0 r c.entry-a.ensures q c.entry-b.ensures (kind-not r.kind SortVar c.eq.ensures c.if-eq.false) (kind-not r.kind SortPar c.eq-2.ensures c.if-eq-2.false)
+    (kind-not q.kind SortVar c.eq-3.ensures c.if-eq-3.false) (kind-not q.kind SortPar c.eq-4.ensures c.if-eq-4.false) c.param_eq.ensures c.if-param_eq.true
 
 pub returns-then-not-same_head : goal.returns-then-not-same_head
 returns-then-not-same_head c =
-    let asks = c.requires.0 in
     let r = c.entry-a.result in
-    let e = c.entry-a.ensures in
     let q = c.entry-b.result in
-    let g = c.entry-b.ensures in
-    fit-other asks r e q g c.if-a-eq-SORT_VAR.false c.if-a-eq-SORT_PAR.false c.if-b-eq-SORT_VAR.false c.if-b-eq-SORT_PAR.false c.param_eq.ensures c.if-param_eq.false (sym c.same_head.ensures ∙ c.if-not-same_head.true)
+    fit-other c.requires.0 r c.entry-a.ensures q c.entry-b.ensures (kind-not r.kind SortVar c.eq.ensures c.if-eq.false) (kind-not r.kind SortPar c.eq-2.ensures c.if-eq-2.false)
+    (kind-not q.kind SortVar c.eq-3.ensures c.if-eq-3.false) (kind-not q.kind SortPar c.eq-4.ensures c.if-eq-4.false) c.param_eq.ensures c.if-param_eq.false (sym c.same_head.ensures ∙ c.if-not-same_head.true)
 
 pub returns-then-a-eq0 : goal.returns-then-a-eq0
 returns-then-a-eq0 c =
-    let asks = c.requires.0 in
     let r = c.entry-a.result in
-    let e = c.entry-a.ensures in
     let q = c.entry-b.result in
-    let g = c.entry-b.ensures in
-    fit-bare asks r e q g c.if-a-eq-SORT_VAR.false c.if-a-eq-SORT_PAR.false c.if-b-eq-SORT_VAR.false c.if-b-eq-SORT_PAR.false c.param_eq.ensures c.if-param_eq.false (sym c.same_head.ensures ∙ c.if-not-same_head.false) c.if-a-eq0.true
+    fit-bare c.requires.0 r c.entry-a.ensures q c.entry-b.ensures (kind-not r.kind SortVar c.eq.ensures c.if-eq.false) (kind-not r.kind SortPar c.eq-2.ensures c.if-eq-2.false)
+    (kind-not q.kind SortVar c.eq-3.ensures c.if-eq-3.false) (kind-not q.kind SortPar c.eq-4.ensures c.if-eq-4.false) c.param_eq.ensures c.if-param_eq.false (sym c.same_head.ensures ∙ c.if-not-same_head.false) c.if-a-eq0.true
 
 pub returns : goal.returns
 returns c =
-    let asks = c.requires.0 in
     let r = c.entry-a.result in
-    let e = c.entry-a.ensures in
     let q = c.entry-b.result in
-    let g = c.entry-b.ensures in
-    fit-node asks r e q g c.if-a-eq-SORT_VAR.false c.if-a-eq-SORT_PAR.false c.if-b-eq-SORT_VAR.false c.if-b-eq-SORT_PAR.false c.param_eq.ensures c.if-param_eq.false (sym c.same_head.ensures ∙ c.if-not-same_head.false) c.if-a-eq0.false
+    fit-both c.requires.0 r c.entry-a.ensures q c.entry-b.ensures (kind-not r.kind SortVar c.eq.ensures c.if-eq.false) (kind-not r.kind SortPar c.eq-2.ensures c.if-eq-2.false)
+    (kind-not q.kind SortVar c.eq-3.ensures c.if-eq-3.false) (kind-not q.kind SortPar c.eq-4.ensures c.if-eq-4.false) c.param_eq.ensures c.if-param_eq.false (sym c.same_head.ensures ∙ c.if-not-same_head.false) c.if-a-eq0.false

@@ -7,5 +7,5 @@ use Rattle.page_lines.proofs.line.piece_end.Goals as goal
 pub returns-then-end-from-lt-COLUMN : goal.returns-then-end-from-lt-COLUMN
 returns-then-end-from-lt-COLUMN c = piece-last _ _ (omega arith) (omega arith)
 
-pub returns : goal.returns
-returns c = piece-full _ _ (omega arith)
+pub returns-else-end-from-lt-COLUMN : goal.returns-else-end-from-lt-COLUMN
+returns-else-end-from-lt-COLUMN c = piece-full _ _ (omega arith)

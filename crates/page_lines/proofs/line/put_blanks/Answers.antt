@@ -1,9 +1,15 @@
-use Rattle.std.proofs.Common.{arith}
-use Rattle.page_lines.specs.LineRoomLaws.{blanks-start, blanks-more}
+use Rattle.std.proofs.Common.{arith, refl, ◌∙◌}
+use Rattle.printout_sort.specs.Wrote.{wrote_none, wrote-long}
+use Rattle.page_lines.specs.LineRoomLaws.{blanks-more, blanks-long}
 use Rattle.page_lines.proofs.line.put_blanks.Goals as goal
 
-pub loop-end-init : goal.loop-end-init
-loop-end-init c = (blanks-start _ _ (omega arith), omega arith, omega arith)
+pub loop-i-init : goal.loop-i-init
+loop-i-init c = (refl, wrote_none _ _ (omega (arith, c.requires)))
 
-pub loop-end-preserved : goal.loop-end-preserved
-loop-end-preserved c = (blanks-more c.loop-end.invariant.1 (omega arith) c.loop-end.invariant.0, omega arith, omega arith)
+pub put_byte-requires : goal.put_byte-requires
+put_byte-requires c =
+    let w = c.loop-i.invariant.1 in
+    omega (arith, c.requires, w.next, wrote-long w, blanks-long c.loop-i._i, c.loop-i-test.true)
+
+pub loop-i-preserved : goal.loop-i-preserved
+loop-i-preserved c = (c.put_byte.ensures.same ∙ c.loop-i.invariant.0, blanks-more c.loop-i._i c.loop-i.invariant.1 c.put_byte.ensures.put)

@@ -1,12 +1,8 @@
--- The blanks are written one by one, up to the place behind the last.
--- The loop keeps: the blanks from `to` up to `end` are written.
-use Prim.Native.Nat.{◌-◌, ◌≤◌}
-use Rattle.printout_sort.specs.Wrote.{Wrote}
+-- The blanks are written one by one.
+-- The loop keeps: so many of them are written.
+use Rattle.printout_sort.specs.Buffer.{Same, Puts}
 use Rattle.page.specs.Page.{blanks}
 use Rattle.page_lines.proofs.line.put_blanks.Given as goal
 
-abbrev pub invariant-loop-end : goal.invariant-loop-end
-invariant-loop-end l = Wrote l.initial.out l.to (blanks (l.end - l.to)) l.out l.end × (l.to ≤ l.end) × (l.end ≤ l.stop)
-
-abbrev pub decreases-loop-end : goal.decreases-loop-end
-decreases-loop-end l = l.stop - l.end
+abbrev pub invariant-loop-i : goal.invariant-loop-i
+invariant-loop-i l = Same l.initial.out l.out × Puts l.initial.out (blanks l._i) l.out

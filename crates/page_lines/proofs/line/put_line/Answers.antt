@@ -5,51 +5,38 @@ use Rattle.printout_sort.specs.Wrote.{room-now, room-then}
 use Rattle.page_lines.specs.LineRoomLaws.{column-long, line-room, line_wrote}
 use Rattle.page_lines.proofs.line.put_line.Goals as goal
 
-pub put-first-requires : goal.put-first-requires
-put-first-requires c =
+pub put_byte-requires : goal.put_byte-requires
+put_byte-requires c =
     let a = c.args in
-    let r₁ = line-room a.i a.a a.b c.requires in
-    let r₂ = room-then r₁ c.put_number-number_end.ensures in
-    room-now r₂
+    room-now (room-then (line-room a.i a.one.now.from a.two.now.from c.requires) c.put_number.ensures.put)
 
-pub put_column-first_end-requires : goal.put_column-first_end-requires
-put_column-first_end-requires c =
+pub put_column-requires : goal.put_column-requires
+put_column-requires c =
     let a = c.args in
-    let r₁ = line-room a.i a.a a.b c.requires in
-    let r₂ = room-then r₁ c.put_number-number_end.ensures in
-    let r₃ = room-then r₂ c.put-first.ensures in
-    (c.requires.first, omega (arith, room-now r₃, column-long a.one.now a.a a.a_end))
+    let r = room-then (room-then (line-room a.i a.one.now.from a.two.now.from c.requires) c.put_number.ensures.put) c.put_byte.ensures.put in
+    (c.requires.first, omega (arith, room-now r, column-long a.one.now.text.now a.one.now.from a.one.now.end))
 
-pub put-second-requires : goal.put-second-requires
-put-second-requires c =
+pub put_byte-requires-2 : goal.put_byte-requires-2
+put_byte-requires-2 c =
     let a = c.args in
-    let r₁ = line-room a.i a.a a.b c.requires in
-    let r₂ = room-then r₁ c.put_number-number_end.ensures in
-    let r₃ = room-then r₂ c.put-first.ensures in
-    let r₄ = room-then r₃ c.put_column-first_end.ensures in
-    room-now r₄
+    let r = room-then (room-then (line-room a.i a.one.now.from a.two.now.from c.requires) c.put_number.ensures.put) c.put_byte.ensures.put in
+    room-now (room-then r c.put_column.ensures.put)
 
-pub put_column-second_end-requires : goal.put_column-second_end-requires
-put_column-second_end-requires c =
+pub put_column-requires-2 : goal.put_column-requires-2
+put_column-requires-2 c =
     let a = c.args in
-    let r₁ = line-room a.i a.a a.b c.requires in
-    let r₂ = room-then r₁ c.put_number-number_end.ensures in
-    let r₃ = room-then r₂ c.put-first.ensures in
-    let r₄ = room-then r₃ c.put_column-first_end.ensures in
-    let r₅ = room-then r₄ c.put-second.ensures in
-    (c.requires.second, omega (arith, room-now r₅, column-long a.two.now a.b a.b_end))
+    let r = room-then (room-then (line-room a.i a.one.now.from a.two.now.from c.requires) c.put_number.ensures.put) c.put_byte.ensures.put in
+    let s = room-then (room-then r c.put_column.ensures.put) c.put_byte-2.ensures.put in
+    (c.requires.second, omega (arith, room-now s, column-long a.two.now.text.now a.two.now.from a.two.now.end))
 
-pub put-requires : goal.put-requires
-put-requires c =
+pub put_byte-requires-3 : goal.put_byte-requires-3
+put_byte-requires-3 c =
     let a = c.args in
-    let r₁ = line-room a.i a.a a.b c.requires in
-    let r₂ = room-then r₁ c.put_number-number_end.ensures in
-    let r₃ = room-then r₂ c.put-first.ensures in
-    let r₄ = room-then r₃ c.put_column-first_end.ensures in
-    let r₅ = room-then r₄ c.put-second.ensures in
-    let r₆ = room-then r₅ c.put_column-second_end.ensures in
-    room-now r₆
+    let r = room-then (room-then (line-room a.i a.one.now.from a.two.now.from c.requires) c.put_number.ensures.put) c.put_byte.ensures.put in
+    let s = room-then (room-then r c.put_column.ensures.put) c.put_byte-2.ensures.put in
+    room-now (room-then s c.put_column-2.ensures.put)
 
-pub returns : goal.returns
-returns c = line_wrote _ _ c.put_number-number_end.ensures c.put-first.ensures c.put_column-first_end.ensures c.put-second.ensures c.put_column-second_end.ensures
-    c.put.ensures
+pub returns-clause-put : goal.returns-clause-put
+returns-clause-put c =
+    line_wrote _ _ c.put_number.ensures.put c.put_byte.ensures.put c.put_column.ensures.put c.put_byte-2.ensures.put c.put_column-2.ensures.put
+    c.put_byte-3.ensures.put

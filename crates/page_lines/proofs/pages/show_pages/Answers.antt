@@ -1,34 +1,37 @@
 -- The lines of the rows are written from the line asked for on, as far as they fit; behind the last row lines of blanks.
 -- A line has 81 bytes, so the bytes written tell how many lines they are.
-use Rattle.std.proofs.Common.{arith}
+use Rattle.std.proofs.Common.{rules, arith, subst, List, ℕ, ◌+◌, ◌/◌}
+use Rattle.printout.specs.declared.whole.Piece.{Piece}
 use Rattle.page_lines.specs.PageLaws.{next_fits, rows_left, last_fits, rows-done}
+use Rattle.page_lines.specs.Pages.{PageHas}
 use Rattle.page_lines.proofs.pages.show_pages.Goals as goal
 
 pub overflow_add-next : goal.overflow_add-next
 overflow_add-next c =
-    let f = c.find_row-start.ensures in
-    let g = c.put_rows-reached.ensures in
-    omega (arith, next_fits c.requires f g (λ i. omega (arith, c.type_inv.sizes i)) (λ i. omega (arith, c.type_inv.rows i)) (omega arith))
+    let s = c.args.page.now in
+    omega (arith, next_fits c.requires c.find_row-start.ensures c.put_rows-reached.ensures.reached s.sizes32 s.rows32 (omega arith))
 
-pub returns-then-row-terms : goal.returns-then-row-terms
-returns-then-row-terms c =
-    let p = c.requires in
-    let f = c.find_row-start.ensures in
-    let g = c.put_rows-reached.ensures in
-    rows_left p f g c.if-row-terms.true
+pub returns-then-reached-page : goal.returns-then-reached-page
+returns-then-reached-page c =
+    let s = c.args.page.now in
+    let o = c.put_rows-reached.new.out in
+    let r : Piece = record { next = c.args.from + o.end / 81; end = o.end } in
+    subst (λ (v : List ℕ). PageHas s.entries.records.now s.entries.places.now s.rows.now s.terms c.args.from c.args.out.now v r) (search rules)
+    (rows_left c.requires c.find_row-start.ensures c.put_rows-reached.ensures.reached c.if-reached-page.true)
 
 pub overflow_add-result : goal.overflow_add-result
 overflow_add-result c =
-    let f = c.find_row-start.ensures in
-    let g = c.put_rows-reached.ensures in
+    let s = c.args.page.now in
     omega (
       arith,
-      last_fits c.requires f g c.if-row-terms.false c.blanks_next-n.ensures (λ i. omega (arith, c.type_inv.sizes i)) (λ i. omega (arith, c.type_inv.rows i)) (omega arith),
+      last_fits c.requires c.find_row-start.ensures c.put_rows-reached.ensures.reached c.if-reached-page.false c.blanks_next-n.ensures s.sizes32 s.rows32
+          (omega arith),
     )
 
 pub returns : goal.returns
 returns c =
-    let p = c.requires in
-    let f = c.find_row-start.ensures in
-    let g = c.put_rows-reached.ensures in
-    rows-done p f g c.if-row-terms.false c.blanks_next-n.ensures c.put_blank_lines-last.ensures
+    let s = c.args.page.now in
+    let o = c.put_blank_lines.new.out in
+    let r : Piece = record { next = c.args.from + c.put_rows-reached.new.out.end / 81 + c.blanks_next-n.result; end = o.end } in
+    subst (λ (v : List ℕ). PageHas s.entries.records.now s.entries.places.now s.rows.now s.terms c.args.from c.args.out.now v r) (search rules)
+    (rows-done c.requires c.find_row-start.ensures c.put_rows-reached.ensures.reached c.if-reached-page.false c.blanks_next-n.ensures c.put_blank_lines.ensures.put)

@@ -8,7 +8,7 @@ returns-then-end-from-lt-COLUMN c =
     let a = c.args in
     next_last a.from a.end c.if-end-from.false c.if-end-from-lt-COLUMN.true
 
-pub returns : goal.returns
-returns c =
+pub returns-else-end-from-lt-COLUMN : goal.returns-else-end-from-lt-COLUMN
+returns-else-end-from-lt-COLUMN c =
     let a = c.args in
     next_more a.from a.end

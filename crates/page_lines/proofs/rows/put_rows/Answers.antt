@@ -1,70 +1,65 @@
-use Rattle.std.proofs.Common.{arith}
-use mathlib.Core.Path.{refl, ◌∙◌}
+use Rattle.std.proofs.Common.{arith, refl, ◌∙◌}
 use Rattle.page_lines.specs.Heights.{height_in}
 use Rattle.page_lines.specs.RowLaws.{height-most}
-use Rattle.page_lines.specs.GoingLaws.{page-asks, going_start, going-number, going_more, going-below}
+use Rattle.page_lines.specs.GoingLaws.{going_start, going-number, going_more, going-below}
 use Rattle.page_lines.proofs.rows.put_rows.Goals as goal
 
-pub loop-row-init : goal.loop-row-init
-loop-row-init c = (going_start _ _ _ _ _ _ _ _ c.requires.spot, refl, refl, refl)
+pub loop-at-init : goal.loop-at-init
+loop-at-init c = (refl, rw c.requires.empty (going_start _ _ _ _ _ _ _ _ c.requires.asks.spot))
 
 pub overflow_sub-high : goal.overflow_sub-high
 unfolding height_in
-overflow_sub-high c = omega (arith, c.row_height-high.ensures, c.loop-row.invariant.0.spot.inside c.loop-row-test.true)
+overflow_sub-high c = omega (arith, c.row_height-high.ensures, c.loop-at.invariant.1.spot.inside c.loop-at-test.true)
 
-pub returns-then-n-eq0 : goal.returns-then-n-eq0
+pub returns-then-n-eq0-clause-reached : goal.returns-then-n-eq0-clause-reached
 unfolding height_in
-returns-then-n-eq0 c =
-    let g = c.loop-row.invariant.0 in
-    let f = c.stretch-n.ensures in
-    let left = g.spot.inside c.loop-row-test.true in
-    record { going = g; full = λ h. omega (arith, f.none c.if-n-eq0.true (omega (arith, c.row_height-high.ensures, left)), g.long, g.within) }
+returns-then-n-eq0-clause-reached c =
+    let g = c.loop-at.invariant.1 in
+    let left = g.spot.inside c.loop-at-test.true in
+    record { going = g; full = λ h. omega (arith, c.stretch-n.ensures.none c.if-n-eq0.true (omega (arith, c.row_height-high.ensures, left)), g.long, g.within) }
 
-pub row_lines-end-requires : goal.row_lines-end-requires
+pub row_lines-requires : goal.row_lines-requires
 unfolding height_in
-row_lines-end-requires c =
-    let a = c.args in
-    let l = c.loop-row in
-    let g = l.invariant.0 in
+row_lines-requires c =
+    let s = c.args.page.now in
+    let l = c.loop-at in
+    let g = l.invariant.1 in
     let f = c.stretch-n.ensures in
-    let high = height-most a.sizes.now a.rows.now l.row (λ i. omega (
-      arith,
-      c.type_inv.sizes i,
-    )) (λ i. omega (
-      arith,
-      c.type_inv.rows i,
-    )) in
+    let p = c.requires.asks.page in
     record {
-      count = a.terms;
-      page = page-asks _ _ _ c.requires.page l.invariant.1 l.invariant.2
-          l.invariant.3;
-      row = c.loop-row-test.true;
-      low = omega (
-        arith,
-        f.most,
-        high,
-        c.row_height-high.ensures,
-        g.spot.inside
-            c.loop-row-test.true,
-      );
+      count = s.terms;
+      page =
+          record {
+            many = p.many;
+            judged = p.judged;
+            table = p.table;
+            short = p.short;
+            deep = l.windows.deep;
+            first = l.windows.first;
+            second = l.windows.second;
+          };
+      row = c.loop-at-test.true;
+      low =
+          omega (arith, f.most, height-most s.sizes.now s.rows.now l.at.row s.sizes32 s.rows32, c.row_height-high.ensures, g.spot.inside c.loop-at-test.true);
       few = f.few;
       fits = omega (arith, f.fits, g.long, g.within);
     }
 
-pub loop-row-smaller : goal.loop-row-smaller
+pub loop-at-smaller : goal.loop-at-smaller
 unfolding height_in
-loop-row-smaller c =
-    let a = c.args in
-    let l = c.loop-row in
-    let g = l.invariant.0 in
-    let h = c.loop-row-test.true in
-    let m = going-number g h c.requires.page c.row_height-high.ensures
-    c.stretch-n.ensures.most c.gone_on-next.ensures in
-    omega (arith, m, going-below a.sizes.now a.rows.now a.terms l.row l.line g.spot h, c.if-n-eq0.false)
+loop-at-smaller c =
+    let s = c.args.page.now in
+    let l = c.loop-at in
+    let g = l.invariant.1 in
+    let h = c.loop-at-test.true in
+    let m = going-number g h c.requires.asks.page c.row_height-high.ensures c.stretch-n.ensures.most c.gone_on-at.ensures in
+    omega (arith, m, going-below s.sizes.now s.rows.now s.terms l.at.row l.at.line g.spot h, c.if-n-eq0.false)
 
-pub loop-row-preserved : goal.loop-row-preserved
+pub loop-at-preserved : goal.loop-at-preserved
 unfolding height_in
-loop-row-preserved c =
-    let l = c.loop-row in
-    let r = c.row_lines-end in
-    (going_more l.invariant.0 c.loop-row-test.true c.requires.page c.row_height-high.ensures c.stretch-n.ensures.most c.gone_on-next.ensures r.ensures, r.auto.stack ∙ l.invariant.1, r.auto.one ∙ l.invariant.2, r.auto.two ∙ l.invariant.3)
+loop-at-preserved c =
+    let l = c.loop-at in
+    let r = c.row_lines.ensures in (
+      r.same ∙ l.invariant.0,
+      going_more l.invariant.1 c.loop-at-test.true c.requires.asks.page c.row_height-high.ensures c.stretch-n.ensures.most c.gone_on-at.ensures r.put,
+    )

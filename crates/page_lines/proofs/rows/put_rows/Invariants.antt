@@ -1,15 +1,16 @@
 -- The lines up to the next one are written; a step writes some lines of its row, or there is no room for one.
 -- Each step comes nearer to the end of all rows.
 use Prim.Native.Nat.{◌-◌}
-use mathlib.Core.Path.{◌≡◌}
-use lib.ListN.{length}
+use Rattle.printout_sort.specs.Buffer.{Same}
 use Rattle.page.specs.Numbered.{above}
 use Rattle.page_lines.specs.Heights.{height_in}
 use Rattle.page_lines.specs.Rows.{number_of, Going}
 use Rattle.page_lines.proofs.rows.put_rows.Given as goal
 
-abbrev pub invariant-loop-row : goal.invariant-loop-row
-invariant-loop-row l = Going l.records l.places l.sizes l.rows l.terms l.initial.row l.initial.line l.initial.out l.row l.line l.out l.end × (length l.stack ≡ length l.initial.stack) × (length l.one ≡ length l.initial.one) × (length l.two ≡ length l.initial.two)
+abbrev pub invariant-loop-at : goal.invariant-loop-at
+invariant-loop-at l =
+    Same l.initial.out l.out
+    × Going l.page.entries.records.now l.page.entries.places.now l.page.sizes.now l.page.rows.now l.page.terms l.initial.at.row l.initial.at.line l.initial.out.bytes.now l.at.row l.at.line l.out.bytes.now l.out.end
 
-abbrev pub decreases-loop-row : goal.decreases-loop-row
-decreases-loop-row l = above (height_in l.sizes l.rows) l.terms - number_of l.sizes l.rows l.row l.line
+abbrev pub decreases-loop-at : goal.decreases-loop-at
+decreases-loop-at l = above (height_in l.page.sizes.now l.page.rows.now) l.page.terms - number_of l.page.sizes.now l.page.rows.now l.at.row l.at.line

@@ -1,20 +1,33 @@
 -- A row with a sort has the text of that sort; a refused one a short text, which is written whole.
 -- So the window of that text is one of the row.
-use Rattle.std.proofs.Common.{arith}
-use mathlib.Core.Path.{sym}
+use Rattle.std.proofs.Common.{rules, arith, sym, ap, ◌∙◌, subst, List, ℕ, length}
+use Rattle.printout_sort.specs.Text.{text}
+use Rattle.printout_sort.specs.Trees.{tree_at}
+use Rattle.printout_sort.specs.Wrote.{wrote_as}
+use Rattle.printout.specs.Lines.{refusal_text}
+use Rattle.printout.specs.LineAsks.{row_text_at}
 use Rattle.printout.specs.LineLaws.{row-sort}
+use Rattle.page_window.specs.Window.{WindowIs}
 use Rattle.page_lines.specs.RowLaws.{window-as, refused-window, refused-short}
 use Rattle.page_lines.proofs.rows.row_window.Goals as goal
 
-pub returns-then-v-lt65536 : goal.returns-then-v-lt65536
-returns-then-v-lt65536 c =
-    let a = c.args in
-    window-as (sym (row-sort a.records.now a.places.now a.code c.if-v-lt65536.true)) c.sort_window.ensures
+pub put_refusal-requires : goal.put_refusal-requires
+put_refusal-requires c =
+    let e = c.in-Err.ensures.refusal in
+    omega (arith, refused-short c.args.code (omega arith), c.requires.fits, ap (λ (i : ℕ). length (refusal_text i)) e.0)
 
-pub put_refusal-end-requires : goal.put_refusal-end-requires
-put_refusal-end-requires c = omega (arith, refused-short c.args.code (omega arith), c.requires.fits)
+pub returns-in-Ok : goal.returns-in-Ok
+returns-in-Ok c =
+    let s = c.args.page.now.entries in
+    let e = c.in-Ok.ensures.sort in
+    window-as (ap (λ (k : ℕ). text (tree_at s.records.now s.places.now k)) e.0 ∙ sym (row-sort s.records.now s.places.now c.args.code e.1))
+    c.sort_window.ensures
 
-pub returns : goal.returns
-returns c =
-    let a = c.args in
-    refused-window a.records.now a.places.now a.code a.skip a.want c.if-v-lt65536.false c.put_refusal-end.ensures
+pub returns-in-Err : goal.returns-in-Err
+returns-in-Err c =
+    let s = c.args.page.now.entries in
+    let e = c.in-Err.ensures.refusal in
+    let o = c.put_refusal.new.out in
+    subst (λ (v : List ℕ). WindowIs (row_text_at s.records.now s.places.now c.args.code) c.args.skip c.args.want v (record { lead = c.args.skip; end = o.end }))
+    (search rules)
+    (refused-window s.records.now s.places.now c.args.code c.args.skip c.args.want e.1 (wrote_as (ap refusal_text e.0) c.put_refusal.ensures.put))

@@ -1,11 +1,32 @@
-use Rattle.std.proofs.Common.{arith}
-use Rattle.page_window.specs.SizeLaws.{parts-step, parts-end}
+-- Each turn sums the size of the next part that is left.
+-- So at the end all are summed.
+use Rattle.std.proofs.Common.{arith, ℕ, List, ◌≡◌, sym, ap, subst, ◌∙◌}
+use Rattle.record.specs.Numbers.{numbers_left}
+use Rattle.page_window.specs.Sizes.{parts_total}
+use Rattle.page_window.specs.SizeLaws.{PartsInv, parts-start, parts-step, parts-end}
 use Rattle.page_window.proofs.sizes.parts_size.Goals as goal
 
-pub loop-left-preserved : goal.loop-left-preserved
-loop-left-preserved c =
-    let v = c.type_inv.sizes c.u16_at-k.result in
-    parts-step c.loop-left.invariant c.loop-left-test.true c.u16_at-k.ensures.value (omega (arith, v))
+pub loop-k-init : goal.loop-k-init
+loop-k-init c =
+    let q = sym (ap numbers_left c.into_iter-k-iterator.ensures.into_iter_gives ∙ c.numbers-k-items.ensures) in
+    subst (λ (ks : List ℕ). PartsInv c.args.sizes.now ks 0 ks) q (parts-start c.requires)
+
+pub offset_bounds-sizes-k : goal.offset_bounds-sizes-k
+offset_bounds-sizes-k c =
+    let v = c.type_inv.sizes c.in-Some.k in
+    omega (arith, (parts-step c.loop-k.invariant c.in-Some.ensures.steps (omega (arith, v))).1)
+
+pub bounds-sizes-k : goal.bounds-sizes-k
+bounds-sizes-k c =
+    let v = c.type_inv.sizes c.in-Some.k in
+    (parts-step c.loop-k.invariant c.in-Some.ensures.steps (omega (arith, v))).1
+
+pub loop-k-preserved : goal.loop-k-preserved
+loop-k-preserved c =
+    let v = c.type_inv.sizes c.in-Some.k in
+    (parts-step c.loop-k.invariant c.in-Some.ensures.steps (omega (arith, v))).0
 
 pub returns : goal.returns
-returns c = parts-end c.loop-left.invariant (omega arith)
+returns c =
+    let q = ap numbers_left c.into_iter-k-iterator.ensures.into_iter_gives ∙ c.numbers-k-items.ensures in
+    parts-end c.loop-k.invariant c.in-None.ensures.steps.0 ∙ ap (parts_total c.args.sizes.now) q

@@ -1,7 +1,6 @@
 -- The sheet is read into buffers of its own, of the lengths that the program lends.
 -- An accepted sheet is the definition's, so the kinds at its places are those of its questions.
-use Rattle.std.proofs.Common.{arith}
-use mathlib.Core.Path.{refl}
+use Rattle.std.proofs.Common.{arith, refl}
 use Rattle.sheet.specs.Stands.{zeros-all}
 use Rattle.printout.specs.KindLaws.{kinds-listed}
 use Rattle.printout.proofs.kinds.question_kinds.Goals as goal
@@ -11,14 +10,10 @@ read_sheet-read-requires c = record { index = refl; table = refl; terms = refl; 
 
 pub put_kinds-requires : goal.put_kinds-requires
 put_kinds-requires c =
-    let h = c.in-Accepted.ensures in
-    record { sorts = c.in-Accepted.counts.sorts; stands = h.stands.questions; asked = omega (arith, h.few_questions, c.read_sheet-read.auto.questions); room = omega (arith, h.few_questions, c.requires); few = h.few_questions; short = h.short }
+    let h = c.in-Ok.ensures in
+    record { sorts = c.in-Ok.counts.sorts; stands = h.stands.questions; asked = omega (arith, h.few_questions, c.read_sheet-read.auto.questions); room = omega (arith, h.few_questions, c.requires); few = h.few_questions; short = h.short }
 
-pub returns-in-Accepted : goal.returns-in-Accepted
-returns-in-Accepted c =
-    let a = c.args in
-    let x = a.sheet.now in
-    let k = a.kinds.now in
+pub returns-in-Ok : goal.returns-in-Ok
+returns-in-Ok c =
     let r = c.read_sheet-read.new in
-    let h = c.in-Accepted.ensures in
-    kinds-listed x r.records r.places r.index r.table r.terms r.questions c.in-Accepted.counts h k c.put_kinds.new.kinds c.requires c.put_kinds.ensures
+    kinds-listed c.args.sheet.now r.records r.places r.index r.table r.terms r.questions c.in-Ok.counts c.in-Ok.ensures c.args.kinds.now c.put_kinds.new.kinds c.requires c.put_kinds.ensures

@@ -6,16 +6,12 @@ use Rattle.printout.specs.LineLaws.{refusal-length}
 use Rattle.printout.specs.Lines.{refusal_text}
 use Rattle.printout.proofs.lines.put_refusal.Goals as goal
 
-pub put-next-requires : goal.put-next-requires
-put-next-requires c =
-    let a = c.args in
-    omega (arith, c.requires, refusal-length a.number)
+pub put_byte-requires : goal.put_byte-requires
+put_byte-requires c = omega (arith, c.requires, refusal-length c.args.number)
 
 pub put_decimal-requires : goal.put_decimal-requires
-put_decimal-requires c =
-    let a = c.args in
-    omega (arith, c.requires, refusal-length a.number, c.put-next.ensures.next, wrote-long c.put-next.ensures)
+put_decimal-requires c = omega (arith, c.requires, refusal-length c.args.number, c.put_byte.ensures.put.next, wrote-long c.put_byte.ensures.put)
 
-pub returns : goal.returns
+pub returns-clause-put : goal.returns-clause-put
 unfolding refusal_text
-returns c = wrote-more c.put-next.ensures c.put_decimal.ensures
+returns-clause-put c = wrote-more c.put_byte.ensures.put c.put_decimal.ensures.put

@@ -1,24 +1,29 @@
 -- A row is the text of its sort, or the number of its refusal behind a mark.
 -- A sort of at most 4,096 nodes has at most 456 bytes for each.
-use Rattle.std.proofs.Common.{arith}
-use mathlib.Core.Path.{ap}
-use Prim.Native.Nat.{◌/◌}
-use lib.ListN.{length}
+use Rattle.std.proofs.Common.{arith, ap, length, ℕ, ◌∙◌, sym, ◌/◌}
+use Rattle.record.specs.Sort.{size}
+use Rattle.printout_sort.specs.Text.{text, decimal}
+use Rattle.printout_sort.specs.Trees.{tree_at}
 use Rattle.printout.specs.LineLaws.{row-sort, row-text-refused, refusal-length}
 use Rattle.printout.proofs.lines.row_size.Goals as goal
 
-pub returns-then-v-lt65536 : goal.returns-then-v-lt65536
-returns-then-v-lt65536 c =
-    let a = c.args in
-    let b = a.records.now in
-    let p = a.places.now in
-    let e = row-sort b p a.code c.if-v-lt65536.true in
-    (omega (arith, c.text_size.ensures.is, ap length e), omega (arith, c.text_size.ensures.most, (c.requires c.if-v-lt65536.true).small))
+pub text_size-requires : goal.text_size-requires
+text_size-requires c = rw c.in-Ok.ensures.sort.0 (c.requires c.in-Ok.ensures.sort.1)
 
-pub returns : goal.returns
-returns c =
-    let a = c.args in
-    let b = a.records.now in
-    let p = a.places.now in
-    let e = row-text-refused b p a.code c.if-v-lt65536.false in
-    (omega (arith, c.digits.ensures.0, ap length e, refusal-length (a.code / 65536)), omega (arith, c.digits.ensures.1))
+pub digits-requires : goal.digits-requires
+digits-requires c = omega (arith, c.in-Err.ensures.refusal.0, c.ranges.code)
+
+pub returns-in-Ok : goal.returns-in-Ok
+returns-in-Ok c =
+    let b = c.args.entries.records.now in
+    let p = c.args.entries.places.now in
+    let e = row-sort b p c.args.code c.in-Ok.ensures.sort.1 in
+    let k = ap (λ (i : ℕ). length (text (tree_at b p i))) c.in-Ok.ensures.sort.0 in
+    let z = ap (λ (i : ℕ). size (tree_at b p i)) c.in-Ok.ensures.sort.0 in
+    (omega (arith, c.text_size.ensures.is, ap length e, k), omega (arith, c.text_size.ensures.most, (c.requires c.in-Ok.ensures.sort.1).small, z))
+
+pub returns-in-Err : goal.returns-in-Err
+returns-in-Err c =
+    let e = row-text-refused c.args.entries.records.now c.args.entries.places.now c.args.code c.in-Err.ensures.refusal.1 in
+    let n = ap (λ (i : ℕ). length (decimal i)) c.in-Err.ensures.refusal.0 in
+    (omega (arith, c.digits.ensures.0, ap length e, refusal-length (c.args.code / 65536), n), omega (arith, c.digits.ensures.1))

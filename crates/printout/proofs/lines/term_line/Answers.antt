@@ -4,31 +4,32 @@ use Rattle.printout_sort.specs.Wrote.{wrote-more, room-now, room-then}
 use Rattle.printout.specs.LineLaws.{term-full, term-room, term-wrote}
 use Rattle.printout.proofs.lines.term_line.Goals as goal
 
-pub returns-then-out-to : goal.returns-then-out-to
-returns-then-out-to c = term-full c.requires c.digits.ensures.0 c.row_size-one.ensures.0 c.row_size-two.ensures.0 c.if-out-to.true
+pub returns-then-out-digits-clause-line : goal.returns-then-out-digits-clause-line
+returns-then-out-digits-clause-line c = term-full c.requires c.digits.ensures.0 c.row_size-one.ensures.0 c.row_size-two.ensures.0 c.if-out-digits.true
 
-pub put_label-first-requires : goal.put_label-first-requires
-put_label-first-requires c = room-now (term-room c.requires c.digits.ensures.0 c.row_size-one.ensures.0 c.row_size-two.ensures.0 c.if-out-to.false)
+pub put_label-requires : goal.put_label-requires
+put_label-requires c = room-now (term-room c.requires c.digits.ensures.0 c.row_size-one.ensures.0 c.row_size-two.ensures.0 c.if-out-digits.false)
 
-pub put_row-second-requires : goal.put_row-second-requires
-put_row-second-requires c = (c.requires.inferred, room-now (room-then (term-room c.requires c.digits.ensures.0 c.row_size-one.ensures.0 c.row_size-two.ensures.0 c.if-out-to.false) c.put_label-first.ensures))
+pub put_row-requires-clause-room : goal.put_row-requires-clause-room
+put_row-requires-clause-room c = room-now (room-then (term-room c.requires c.digits.ensures.0 c.row_size-one.ensures.0 c.row_size-two.ensures.0 c.if-out-digits.false) c.put_label.ensures.put)
 
-pub put-third-requires : goal.put-third-requires
-put-third-requires c = room-now (room-then (room-then (term-room c.requires c.digits.ensures.0 c.row_size-one.ensures.0 c.row_size-two.ensures.0 c.if-out-to.false) c.put_label-first.ensures) c.put_row-second.ensures)
+pub put_byte-requires : goal.put_byte-requires
+put_byte-requires c =
+    room-now (room-then (room-then (term-room c.requires c.digits.ensures.0 c.row_size-one.ensures.0 c.row_size-two.ensures.0 c.if-out-digits.false) c.put_label.ensures.put) c.put_row.ensures.put)
 
-pub put_row-fourth-requires : goal.put_row-fourth-requires
-put_row-fourth-requires c =
-    let first = term-room c.requires c.digits.ensures.0 c.row_size-one.ensures.0 c.row_size-two.ensures.0 c.if-out-to.false in
-    let r = room-then (room-then first c.put_label-first.ensures) c.put_row-second.ensures in
-    (c.requires.checked, room-now (room-then r c.put-third.ensures))
+pub put_row-requires-2-clause-room : goal.put_row-requires-2-clause-room
+put_row-requires-2-clause-room c =
+    let first = term-room c.requires c.digits.ensures.0 c.row_size-one.ensures.0 c.row_size-two.ensures.0 c.if-out-digits.false in
+    let r = room-then (room-then first c.put_label.ensures.put) c.put_row.ensures.put in
+    room-now (room-then r c.put_byte.ensures.put)
 
-pub put-end-requires : goal.put-end-requires
-put-end-requires c =
-    let first = term-room c.requires c.digits.ensures.0 c.row_size-one.ensures.0 c.row_size-two.ensures.0 c.if-out-to.false in
-    let r = room-then (room-then first c.put_label-first.ensures) c.put_row-second.ensures in
-    room-now (room-then (room-then r c.put-third.ensures) c.put_row-fourth.ensures)
+pub put_byte-requires-2 : goal.put_byte-requires-2
+put_byte-requires-2 c =
+    let first = term-room c.requires c.digits.ensures.0 c.row_size-one.ensures.0 c.row_size-two.ensures.0 c.if-out-digits.false in
+    let r = room-then (room-then first c.put_label.ensures.put) c.put_row.ensures.put in
+    room-now (room-then (room-then r c.put_byte.ensures.put) c.put_row-2.ensures.put)
 
-pub returns : goal.returns
-returns c =
-    let w = wrote-more c.put-third.ensures (wrote-more c.put_row-fourth.ensures c.put-end.ensures) in
-    term-wrote _ _ _ _ _ (wrote-more c.put_label-first.ensures (wrote-more c.put_row-second.ensures w))
+pub returns-clause-line : goal.returns-clause-line
+returns-clause-line c =
+    let w = wrote-more c.put_byte.ensures.put (wrote-more c.put_row-2.ensures.put c.put_byte-2.ensures.put) in
+    term-wrote _ _ _ _ _ (wrote-more c.put_label.ensures.put (wrote-more c.put_row.ensures.put w))

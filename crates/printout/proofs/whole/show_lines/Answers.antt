@@ -1,13 +1,11 @@
-use Rattle.std.proofs.Common.{arith}
-use mathlib.Core.Path.{refl}
-use Rattle.printout.specs.WholeLaws.{showing-start, showing-step}
+-- The buffer that is lent is the one that was written.
+-- It was empty before.
+use Rattle.std.proofs.Common.{rules, ℕ, List, subst}
+use Rattle.printout.specs.Whole.{PieceHas}
 use Rattle.printout.proofs.whole.show_lines.Goals as goal
 
-pub loop-k-init : goal.loop-k-init
-loop-k-init c = (refl, showing-start _ _ _ _ _ _ _ _ c.requires _)
-
-pub loop-k-preserved : goal.loop-k-preserved
-loop-k-preserved c =
-    let l = c.loop-k in
-    let h = c.in-To.ensures in
-    (l.invariant.0, showing-step _ _ _ _ _ _ _ _ c.requires _ _ _ _ l.invariant.1 _ c.in-To.end (omega (arith, c.loop-k-test.true, l.invariant.0)) h)
+pub returns : goal.returns
+returns c =
+    let s = c.args.sheet.now in
+    subst (λ (o : List ℕ). PieceHas s.entries.records.now s.entries.places.now s.rows.now s.kinds.now s.answers.now s.totals.terms s.totals.questions c.args.from c.args.out.now o (record { next = c.put_lines-next.result; end = c.put_lines-next.new.out.end })) (search rules)
+    c.put_lines-next.ensures.lines

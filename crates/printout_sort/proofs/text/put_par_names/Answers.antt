@@ -1,22 +1,41 @@
 -- The first name, the others behind blanks, and a bracket.
 -- What is written first leaves room for the rest.
-use Rattle.std.proofs.Common.{arith}
-use mathlib.Core.Path.{sym}
+use Rattle.std.proofs.Common.{arith, ℕ, ◌+◌, ◌≡◌, sym, ap, ◌∙◌}
+use Rattle.record.specs.Number.{u16_at}
 use Rattle.printout_sort.specs.NameLaws.{names-own, names-room, name-as}
 use Rattle.printout_sort.specs.Wrote.{wrote_as, wrote-more, room-now, room-then}
 use Rattle.printout_sort.proofs.text.put_par_names.Goals as goal
 
-pub put_name-first-requires : goal.put_name-first-requires
-put_name-first-requires c = rw c.u16_at-name.ensures.value (room-now (names-room _ _ _ c.args.out.now c.args.to c.requires.0 c.requires.2))
+pub put_name-requires : goal.put_name-requires
+put_name-requires c =
+    let a = c.args.names.at in
+    let z : a + 0 ≡ a = omega arith in
+    let e = c.get.ensures.value ∙ ap (u16_at c.args.records.now) z in
+    rw e (room-now (names-room c.args.records.now a c.args.names.count c.args.out.now.bytes.now c.args.out.now.end c.requires.some c.requires.room))
 
-pub put_names-last-requires : goal.put_names-last-requires
-put_names-last-requires c = let w = name-as c.u16_at-name.ensures.value c.put_name-first.ensures in
-    (omega (arith, c.requires.0, c.requires.1), room-now (room-then (names-room _ _ _ c.args.out.now c.args.to c.requires.0 c.requires.2) w))
+pub put_names-requires : goal.put_names-requires
+put_names-requires c =
+    let a = c.args.names.at in
+    let z : a + 0 ≡ a = omega arith in
+    let e = c.get.ensures.value ∙ ap (u16_at c.args.records.now) z in
+    let w = name-as e c.put_name.ensures.put in
+    record {
+      within = omega (arith, c.requires.some, c.requires.within);
+      room = room-now (room-then (names-room c.args.records.now a c.args.names.count c.args.out.now.bytes.now c.args.out.now.end c.requires.some c.requires.room) w);
+    }
 
-pub put-requires : goal.put-requires
-put-requires c = let w = name-as c.u16_at-name.ensures.value c.put_name-first.ensures in
-    room-now (room-then (room-then (names-room _ _ _ c.args.out.now c.args.to c.requires.0 c.requires.2) w) c.put_names-last.ensures)
+pub put_byte-requires : goal.put_byte-requires
+put_byte-requires c =
+    let a = c.args.names.at in
+    let z : a + 0 ≡ a = omega arith in
+    let e = c.get.ensures.value ∙ ap (u16_at c.args.records.now) z in
+    let w = name-as e c.put_name.ensures.put in
+    room-now (room-then (room-then (names-room c.args.records.now a c.args.names.count c.args.out.now.bytes.now c.args.out.now.end c.requires.some c.requires.room) w) c.put_names.ensures.put)
 
-pub returns : goal.returns
-returns c = let w = name-as c.u16_at-name.ensures.value c.put_name-first.ensures in
-    wrote_as (sym (names-own _ _ _ c.requires.0)) (wrote-more w (wrote-more c.put_names-last.ensures c.put.ensures))
+pub returns-clause-put : goal.returns-clause-put
+returns-clause-put c =
+    let a = c.args.names.at in
+    let z : a + 0 ≡ a = omega arith in
+    let e = c.get.ensures.value ∙ ap (u16_at c.args.records.now) z in
+    let w = name-as e c.put_name.ensures.put in
+    wrote_as (sym (names-own c.args.records.now a c.args.names.count c.requires.some)) (wrote-more w (wrote-more c.put_names.ensures.put c.put_byte.ensures.put))

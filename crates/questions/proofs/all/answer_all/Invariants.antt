@@ -1,13 +1,13 @@
 -- The loop keeps: the store and the first answers are the definition's, and behind them stands what stood there.
 -- A turn adds one answer more.
-use Prim.Native.Nat.{◌-◌, ◌≤◌}
+use Rattle.store.specs.Changes.{Same}
+use Rattle.matching_tables.specs.Names.{SameNames}
 use Rattle.questions.specs.All.{Answering}
 use Rattle.questions.proofs.all.answer_all.Given as goal
 
--- The loop keeps: the store and the first answers are the definition's, and behind them stands what stood there.
--- A turn adds one answer more.
 abbrev pub invariant-loop-q : goal.invariant-loop-q
-invariant-loop-q l = (l.q ≤ l.many) × Answering l.initial.records l.initial.places l.initial.n l.initial.params l.initial.images l.initial.bound l.sheet l.table l.sorts l.asked l.initial.answers l.records l.places l.index l.params l.images l.bound l.answers l.n l.u l.q
-
-abbrev pub decreases-loop-q : goal.decreases-loop-q
-decreases-loop-q l = l.many - l.q
+invariant-loop-q l =
+    Same l.initial.store l.store × SameNames l.initial.names l.names
+    × Answering l.initial.store.records.now l.initial.store.places.now l.initial.store.count l.initial.names.params.now l.initial.names.images.now l.initial.names.bound.now
+    l.sheet.bytes.now l.sheet.table.now l.sorts l.asked l.initial.answers
+    l.store.records.now l.store.places.now l.store.index.now l.names.params.now l.names.images.now l.names.bound.now l.answers l.store.count l.store.used l.q

@@ -1,22 +1,24 @@
 -- The record that stands there is read, and its question over the store is the sheet's.
 -- None read is ruled out by what is asked.
 use mathlib.Core.Path.{sym, ◌∙◌}
-use Rattle.questions.specs.All.{at-is}
+use Rattle.questions.specs.All.{question-asks, at-is}
 use Rattle.questions.proofs.all.answer_at.Goals as goal
 
-pub returns-in-Question : goal.returns-in-Question
-returns-in-Question c = let a = c.args in
-    let b = a.records.now in
-    let p = a.places.now in
-    let ix = a.index.now in
-    let n = a.count in
-    let u = a.used in
-    let m = a.params.now in
-    let g = a.images.now in
-    let o = a.bound.now in
-    let d = a.sheet.now in
-    let t = a.table.now in
-    let k = a.sorts in
-    let x = a.at in
-    let r = c.answer_question.new in
-    at-is b p ix n u m g o d t k x c.requires c.in-Question.question c.in-Question.field-1 (sym c.question-read.ensures ∙ c.in-Question.is) r.records r.places r.index r.params r.images r.bound c.answer_question.result c.answer_question.ensures
+pub answer_question-requires : goal.answer_question-requires
+answer_question-requires c =
+    let s = c.args.store.now in
+    let x = c.args.names.now in
+    let d = c.args.sheet.now in
+    question-asks s.records.now s.places.now s.index.now s.count s.used x.params.now x.images.now x.bound.now d.bytes.now d.table.now c.args.sorts c.args.at c.requires
+    c.in-Ok.question c.in-Ok.field-0-1 (sym c.question.ensures ∙ c.in-Ok.is)
+
+pub returns-in-Ok-clause-answer : goal.returns-in-Ok-clause-answer
+returns-in-Ok-clause-answer c =
+    let s = c.args.store.now in
+    let x = c.args.names.now in
+    let d = c.args.sheet.now in
+    let t = c.answer_question.new.store in
+    let y = c.answer_question.new.names in
+    at-is s.records.now s.places.now s.index.now s.count s.used x.params.now x.images.now x.bound.now d.bytes.now d.table.now c.args.sorts c.args.at c.requires
+    c.in-Ok.question c.in-Ok.field-0-1 (sym c.question.ensures ∙ c.in-Ok.is)
+    t.records.now t.places.now t.index.now y.params.now y.images.now y.bound.now _ c.answer_question.ensures.answer

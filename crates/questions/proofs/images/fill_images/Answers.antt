@@ -1,27 +1,20 @@
 use Rattle.std.proofs.Common.{arith}
-use Prim.Native.Nat.{◌-◌, ◌<◌}
-use Rattle.questions.specs.Fill.{filling-start, filling_step}
+use Rattle.questions.specs.Fill.{filling-start, filling_step, filling-end}
 use Rattle.questions.proofs.images.fill_images.Goals as goal
 
-pub loop-left-init : goal.loop-left-init
-loop-left-init c = let a = c.args in
-    let g = a.images.now in
-    let b = a.sheet.now in
-    let t = a.table.now in
-    let x = a.names in
-    let y = a.at in
-    let n = a.n in
-    filling-start g b t x y n
+pub loop-i-init : goal.loop-i-init
+loop-i-init c =
+    let a = c.args in
+    filling-start a.images.now a.sheet.now.bytes.now a.sheet.now.table.now a.names.at a.at a.names.count
 
-pub loop-left-preserved : goal.loop-left-preserved
-loop-left-preserved c = let a = c.args in
-    let g = a.images.now in
-    let b = a.sheet.now in
-    let t = a.table.now in
-    let x = a.names in
-    let y = a.at in
-    let n = a.n in
-    let l = c.loop-left in
-    let some = c.loop-left-test.true in
-    let o : l.left - 1 < n = omega (arith, l.invariant.low, some) in
-    filling_step g b t x y n l.images l.left c.u16_at-name.result c.sort_at-k.result l.invariant some c.u16_at-name.ensures.value c.u16_at-name.ensures.upper_bound c.sort_at-k.ensures
+pub loop-i-preserved : goal.loop-i-preserved
+loop-i-preserved c =
+    let a = c.args in
+    let l = c.loop-i in
+    filling_step a.images.now a.sheet.now.bytes.now a.sheet.now.table.now a.names.at a.at a.names.count l.images l.i c.get-name.result c.sort_at.result l.invariant c.loop-i-test.true c.get-name.ensures.value c.get-name.ensures.upper_bound c.sort_at.ensures
+
+pub returns : goal.returns
+returns c =
+    let a = c.args in
+    let l = c.loop-i in
+    filling-end a.images.now a.sheet.now.bytes.now a.sheet.now.table.now a.names.at a.at a.names.count l.images l.i l.invariant (omega (arith, c.loop-i-test.false))

@@ -1,25 +1,52 @@
 -- Each way through is one case of the definition, for every list of names that the table lists.
 -- Both tables of the map are zeros again.
-use mathlib.Core.Path.{ap}
+use mathlib.Core.Path.{ap, refl, ◌∙◌}
 use mathlib.Core.Bool.{not}
+use Rattle.matching_tables.specs.Matched.{found}
+use Rattle.matching_tables.specs.MapLaws.{found-fits, found-misfits}
 use Rattle.questions.proofs.MatchLaws.{fits-mapped, misfits-tabled, result-asks, listed-barred, listed-fits, listed-misfits}
 use Rattle.questions.proofs.matched.match_listed.Goals as goal
 
-pub returns-then-not-in_premise : goal.returns-then-not-in_premise
-returns-then-not-in_premise c = listed-barred c.requires c.in_premise.result c.in_premise.ensures (ap not c.if-not-in_premise.true) c.refuse.ensures
-
-pub instance-made-requires : goal.instance-made-requires
-instance-made-requires c = result-asks c.requires c.matches-found.new.images c.matches-found.new.bound c.matches-found.result c.matches-found.ensures c.in-Fits.m c.in-Fits.is
+pub returns-then-not-in_premise-clause-answer : goal.returns-then-not-in_premise-clause-answer
+returns-then-not-in_premise-clause-answer c =
+    let s = c.sorts-sorts.ensures in
+    let q = rw (s.records, s.places, s.count) at c.in_premise.ensures in
+    (listed-barred c.requires c.in_premise.result q (ap not c.if-not-in_premise.true) refl, refl)
 
 pub clear-requires : goal.clear-requires
-clear-requires c = (fits-mapped c.requires c.matches-found.new.images c.matches-found.new.bound c.matches-found.result c.matches-found.ensures c.in-Fits.m c.in-Fits.is).tabled
+clear-requires c =
+    let s = c.sorts-sorts.ensures in
+    let m = c.matches.new.names in
+    let w = rw (s.records, s.places, s.count) at c.matches.ensures.answer in
+    misfits-tabled c.requires m.images.now m.bound.now (found m.many c.matches.result) w m.many (found-misfits m.many c.if-not-matches.true)
 
-pub clear-requires-in-Misfits : goal.clear-requires-in-Misfits
-clear-requires-in-Misfits c = misfits-tabled c.requires c.matches-found.new.images c.matches-found.new.bound c.matches-found.result c.matches-found.ensures c.in-Misfits.m c.in-Misfits.is
+pub returns-then-not-matches-clause-answer : goal.returns-then-not-matches-clause-answer
+returns-then-not-matches-clause-answer c =
+    let s = c.sorts-sorts.ensures in
+    let m = c.matches.new.names in
+    let q = rw (s.records, s.places, s.count) at c.in_premise.ensures in
+    let w = rw (s.records, s.places, s.count) at c.matches.ensures.answer in
+    (listed-misfits c.requires m.images.now m.bound.now (found m.many c.matches.result) w c.in_premise.result q (ap not c.if-not-in_premise.false) c.clear.ensures.cleared m.many (found-misfits m.many c.if-not-matches.true) refl, c.clear.ensures.params ∙ c.matches.ensures.params)
 
-pub returns-in-Fits : goal.returns-in-Fits
-returns-in-Fits c = let r = c.instance-made.new in
-    listed-fits c.requires c.matches-found.new.images c.matches-found.new.bound c.matches-found.result c.matches-found.ensures c.in_premise.result c.in_premise.ensures (ap not c.if-not-in_premise.false) c.clear.ensures c.in-Fits.m c.in-Fits.is r.records r.places r.index c.instance-made.result c.instance-made.ensures
+pub instance-made-requires : goal.instance-made-requires
+instance-made-requires c =
+    let s = c.sorts-sorts.ensures in
+    let m = c.matches.new.names in
+    let w = rw (s.records, s.places, s.count) at c.matches.ensures.answer in
+    result-asks c.requires m.images.now m.bound.now (found m.many c.matches.result) w m.many (found-fits m.many c.if-not-matches.false)
 
-pub returns-in-Misfits : goal.returns-in-Misfits
-returns-in-Misfits c = listed-misfits c.requires c.matches-found.new.images c.matches-found.new.bound c.matches-found.result c.matches-found.ensures c.in_premise.result c.in_premise.ensures (ap not c.if-not-in_premise.false) c.clear-in-Misfits.ensures c.in-Misfits.m c.in-Misfits.is c.refuse-in-Misfits.ensures
+pub clear-requires-2 : goal.clear-requires-2
+clear-requires-2 c =
+    let s = c.sorts-sorts.ensures in
+    let m = c.matches.new.names in
+    let w = rw (s.records, s.places, s.count) at c.matches.ensures.answer in
+    (fits-mapped c.requires m.images.now m.bound.now (found m.many c.matches.result) w m.many (found-fits m.many c.if-not-matches.false)).tabled
+
+pub returns-clause-answer : goal.returns-clause-answer
+returns-clause-answer c =
+    let s = c.sorts-sorts.ensures in
+    let m = c.matches.new.names in
+    let t = c.instance-made.new.store in
+    let q = rw (s.records, s.places, s.count) at c.in_premise.ensures in
+    let w = rw (s.records, s.places, s.count) at c.matches.ensures.answer in
+    (listed-fits c.requires m.images.now m.bound.now (found m.many c.matches.result) w c.in_premise.result q (ap not c.if-not-in_premise.false) c.clear-2.ensures.cleared m.many (found-fits m.many c.if-not-matches.false) t.records.now t.places.now t.index.now _ c.instance-made.ensures.answer, c.clear-2.ensures.params ∙ c.matches.ensures.params)

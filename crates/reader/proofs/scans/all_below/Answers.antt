@@ -1,12 +1,12 @@
-use Rattle.std.proofs.Common.{rules}
-use Rattle.reader.specs.Cases.{below-far, below_step, below_end}
+use Rattle.std.proofs.Common.{ltb, rules, tests, ◌∙◌}
+use Rattle.std.proofs.lemmas.Iterator.Search.{all_from_yields_List}
+use Rattle.record.specs.Number.{numbers_at}
+use Rattle.record.specs.Numbers.{numbers-yield}
+use Rattle.reader.specs.Scans.{below-all}
 use Rattle.reader.proofs.scans.all_below.Goals as goal
 
-pub returns-then-limit-v : goal.returns-then-limit-v
-returns-then-limit-v c = search (rules, below-far, below_step, below_end)
-
-pub loop-left-preserved : goal.loop-left-preserved
-loop-left-preserved c = search (rules, below-far, below_step, below_end)
-
 pub returns : goal.returns
-returns c = search (rules, below-far, below_step, below_end)
+returns c =
+    let vs = numbers_at c.args.s.now c.args.list.at c.args.list.count in
+    all_from_yields_List (λ w. ltb w c.args.limit) c.all.new.self _ _ c.all.ensures.ran (numbers-yield vs c.numbers.ensures) (λ x b q k. search (rules, tests))
+    ∙ below-all c.args.limit vs

@@ -1,26 +1,28 @@
-use Rattle.std.proofs.Common.{arith}
-use Prim.Native.Nat.{ℕ, ◌+◌, ◌*◌, ◌<◌}
-use mathlib.Core.Path.{◌≡◌, ap, subst}
-use lib.ListN.{get_or}
-use Rattle.row_answer.specs.Arguments.{row_at, judged-clear, judged-hit}
+-- Whether no row of the list is refused.
+use Rattle.std.proofs.Common.{ℕ, ◌+◌, ◌*◌, ◌<◌, length, get_or, ltb, arith, rules, tests}
+use Rattle.std.proofs.lemmas.Iterator.Search.{all_from_yields_List}
+use Rattle.std.proofs.lemmas.Iterator.Adapters.{serves_from_places}
+use Rattle.record.specs.Number.{numbers_at}
+use Rattle.record.specs.Numbers.{numbers-yield}
+use Rattle.row_answer.specs.Arguments.{column_number}
+use Rattle.row_answer.proofs.ItemLaws.{number-place}
+use Rattle.row_answer.proofs.JudgedLaws.{judged-by}
 use Rattle.row_answer.proofs.arguments.all_judged.Goals as goal
 
-pub returns-then-v-ge-REFUSED : goal.returns-then-v-ge-REFUSED
-returns-then-v-ge-REFUSED c =
+pub all-requires-clause-callable : goal.all-requires-clause-callable
+all-requires-clause-callable c =
     let a = c.args in
-    let z = a.sheet.now in
-    let x = a.at in
-    let rows = a.rows.now in
-    let l = c.loop-i in
-    let e = ap (λ (t : ℕ). get_or rows (2 * t + a.column) 0) c.u16_at-t.ensures.value in
-    judged-hit z x a.n rows a.column l.i c.loop-i-test.true (omega (arith, e, c.if-v-ge-REFUSED.true))
+    let column = column_number a.column in
+    serves_from_places (numbers-yield (numbers_at a.sheet.now a.list.at a.list.count) c.numbers.ensures) (λ x q k. search rules)
+    (λ x k l e.
+    let o = number-place a.sheet.now a.list.at a.list.count x k l e in
+    let h : 2 * x + column < length a.rows.now = omega (arith, o.1, c.requires.row k o.0) in
+    search rules)
 
 pub returns : goal.returns
 returns c =
     let a = c.args in
-    let z = a.sheet.now in
-    let x = a.at in
-    let rows = a.rows.now in
-    let l = c.loop-i in
-    let e : l.i ≡ a.n = omega (arith, l.invariant.0, c.loop-i-test.false) in
-    judged-clear z x a.n rows a.column (subst (λ (i : ℕ). (j : ℕ) → j < i → row_at z x rows a.column j < 65536) e l.invariant.1)
+    let vs = numbers_at a.sheet.now a.list.at a.list.count in
+    judged-by a.sheet.now a.list.at a.list.count a.rows.now (column_number a.column) c.all.result
+    (all_from_yields_List (λ (t : ℕ). ltb (get_or a.rows.now (2 * t + column_number a.column) 0) 65536) c.all.new.self _ _ c.all.ensures.ran (numbers-yield vs c.numbers.ensures)
+    (λ x b q k. search (rules, tests)))

@@ -1,23 +1,22 @@
 -- The answer to the Set of a sort of the store.
 -- Its record is written out.
-use mathlib.Core.Path.{sym, ap}
+use Rattle.std.proofs.Common.{sym, ap, arith}
 use Rattle.record.specs.Decode.{store_of, sort_at}
 use Rattle.row_rules.specs.Verdict.{sort}
 use Rattle.row_answer.specs.AnswerLaws.{judged-as}
 use Rattle.row_answer.specs.Records.{set-fresh, set-sort}
+use Rattle.row_answer.proofs.MakeLaws.{two-bytes}
 use Rattle.row_answer.proofs.lists.set_of.Goals as goal
 
 pub make-requires : goal.make-requires
 make-requires c =
-    let a = c.args in
-    let n = a.count in
-    record { good = c.requires.good; fresh = set-fresh a.k n c.requires.known }
+    let e = two-bytes c.args.k (omega (arith, c.requires.known, c.requires.good.indexed.count)) c.to_le_bytes.ensures in
+    rw (e.0, e.1) (record { good = c.requires.good; fresh = set-fresh c.args.k c.args.store.now.count c.requires.known })
 
-pub returns : goal.returns
+pub returns-clause-answer : goal.returns-clause-answer
 unfolding sort_at
-returns c =
-    let a = c.args in
-    let b = a.records.now in
-    let p = a.places.now in
-    let n = a.count in
-    judged-as (ap sort (sym (set-sort a.k (store_of b p n)))) c.make.ensures
+returns-clause-answer c =
+    let s = c.args.store.now in
+    let e = two-bytes c.args.k (omega (arith, c.requires.known, c.requires.good.indexed.count)) c.to_le_bytes.ensures in
+    let made = rw (e.0, e.1) at c.make.ensures.answer in
+    judged-as (ap sort (sym (set-sort c.args.k (store_of s.records.now s.places.now s.count)))) made

@@ -1,28 +1,22 @@
 -- The answer to the Set of the sort of the record.
 -- The limit is judged before anything is made, so that 22 comes before 23.
-use Rattle.std.proofs.Common.{arith}
-use Rattle.row_answer.specs.AnswerLaws.{answered-as}
+use Rattle.std.proofs.Common.{arith, rules}
 use Rattle.row_answer.proofs.MakeLaws.{set-large, set_full, made-from, set-made}
 use Rattle.row_answer.proofs.lists.set_of_tuple.Goals as goal
 
-pub returns-then-weight-gt-LARGEST_PARTS : goal.returns-then-weight-gt-LARGEST_PARTS
-returns-then-weight-gt-LARGEST_PARTS c =
-    let w = c.tree_size-weight.result in
-    answered-as c.refuse.ensures (set-large c.requires w c.tree_size-weight.ensures (omega (arith, c.if-weight-gt-LARGEST_PARTS.true)))
+pub returns-then-weight-gt-LARGEST_PARTS-clause-answer : goal.returns-then-weight-gt-LARGEST_PARTS-clause-answer
+returns-then-weight-gt-LARGEST_PARTS-clause-answer c =
+    set-large c.requires c.tree_size-weight.result c.tree_size-weight.ensures (omega (arith, c.if-weight-gt-LARGEST_PARTS.true))
 
-pub returns-in-Is : goal.returns-in-Is
-returns-in-Is c =
-    let a = c.args in
-    let b = a.records.now in
-    let p = a.places.now in
-    let ix = a.index.now in
-    let d = c.intern-inner.new in
-    set-made c.requires d.records d.places d.index c.in-Is.k c.in-Is.n c.in-Is.u (c.in-Is.ensures)
-    (c.set_over.ensures b p ix (made-from c.requires d.records d.places d.index c.in-Is.k c.in-Is.n c.in-Is.u (c.in-Is.ensures)))
+pub returns-in_err-inner-clause-answer : goal.returns-in_err-inner-clause-answer
+returns-in_err-inner-clause-answer c =
+    set_full c.requires c.tree_size-weight.result c.tree_size-weight.ensures (omega (arith, c.if-weight-gt-LARGEST_PARTS.false)) c.in_err-inner.ensures.interned (search rules)
 
-pub returns-in-NoRoom : goal.returns-in-NoRoom
-returns-in-NoRoom c =
-    let w = c.tree_size-weight.result in
-    let d = c.intern-inner.new in
-    answered-as c.refuse-in-NoRoom.ensures (set_full c.requires w c.tree_size-weight.ensures d.records d.places d.index (omega (arith, c.if-weight-gt-LARGEST_PARTS.false))
-    (c.in-NoRoom.ensures))
+pub returns-clause-answer : goal.returns-clause-answer
+returns-clause-answer c =
+    let s = c.args.store.now in
+    let t = c.intern.new.self in
+    let k = c.in_ok-inner.inner in
+    let holds = c.in_ok-inner.ensures.interned in
+    set-made c.requires t.records.now t.places.now t.index.now k t.count t.used holds
+    (c.set_over.ensures.answer s.used s.records.now s.places.now s.index.now (made-from c.requires t.records.now t.places.now t.index.now k t.count t.used holds))

@@ -3,29 +3,47 @@
 use Rattle.std.proofs.Common.{arith}
 use mathlib.Core.Path.{refl}
 use Rattle.row_application.proofs.CalledLaws.{called-count, deliver-asks, app-delivered, called-plain, called-misfit, called-values}
-use Rattle.row_application.proofs.UnmadeLaws.{own-asks, rest-asks, unmade-call, app-unmade}
+use Rattle.row_application.proofs.UnmadeLaws.{own-asked, rest-asks, unmade-call, app-unmade}
 use Rattle.row_application.proofs.called.called.Goals as goal
 
-pub returns-then-m-n : goal.returns-then-m-n
-returns-then-m-n c = called-count c.requires.0 c.if-m-n.true c.refuse.ensures
+pub returns-then-callee-n-clause-answer : goal.returns-then-callee-n-clause-answer
+returns-then-callee-n-clause-answer c = called-count c.requires.asked.0 c.if-callee-n.true refl
 
-pub returns-then-callee-eq0 : goal.returns-then-callee-eq0
-returns-then-callee-eq0 c = called-plain c.requires.0 c.if-m-n.false c.if-callee-eq0.true c.checked_plain.ensures
+pub returns-then-callee-eq0-clause-answer : goal.returns-then-callee-eq0-clause-answer
+returns-then-callee-eq0-clause-answer c = called-plain c.requires.asked.0 c.if-callee-n.false c.if-callee-eq0.true c.checked_plain.ensures.answer
 
-pub returns-then-not-all_values : goal.returns-then-not-all_values
-returns-then-not-all_values c = let v = c.all_values in called-misfit c.requires.0 c.if-m-n.false v.ensures c.if-not-all_values.true c.refuse-then-not-all_values.ensures
+pub returns-then-not-all_values-clause-answer : goal.returns-then-not-all_values-clause-answer
+returns-then-not-all_values-clause-answer c =
+    let e = c.entries.ensures in
+    let v = rw (e.records, e.places, c.rest.ensures.at, c.rest.ensures.count) at c.all_values.ensures in
+    called-misfit c.requires.asked.0 c.if-callee-n.false v c.if-not-all_values.true refl
 
 pub unmade-call-requires : goal.unmade-call-requires
-unmade-call-requires c = (own-asks c.requires.0.good c.fit_arguments-found.ensures, rest-asks c.requires.0 (omega (arith, c.if-m-n.false)))
+unmade-call-requires c =
+    let h = c.requires.asked.0 in
+    let s = c.sorts-sorts.ensures in
+    let g = rw (s.records, s.places, s.count) at c.fit_arguments-found.ensures.fit in
+    rw (s.records, s.places, s.count, c.skip.ensures.at, c.skip.ensures.count) (own-asked h.good c.fit_arguments-found.result g, rest-asks h (omega (arith, c.if-callee-n.false)))
 
 pub deliver-requires : goal.deliver-requires
-deliver-requires c = deliver-asks c.requires.0 (omega (arith, c.if-m-n.false)) c.if-callee-eq0.false (unmade-call c.fit_arguments-found.ensures c.args.crowded c.unmade-call.ensures)
+deliver-requires c =
+    let h = c.requires.asked.0 in
+    let s = c.sorts-sorts.ensures in
+    let g = rw (s.records, s.places, s.count) at c.fit_arguments-found.ensures.fit in
+    let u = rw (s.records, s.places, s.count, c.skip.ensures.at, c.skip.ensures.count) at c.unmade-call.ensures in
+    deliver-asks h (omega (arith, c.if-callee-n.false)) c.if-callee-eq0.false (unmade-call g c.args.crowded u)
 
-pub returns : goal.returns
-returns c =
-    let v = c.all_values in
-    let g = c.fit_arguments-found.ensures in
+pub returns-clause-answer : goal.returns-clause-answer
+returns-clause-answer c =
+    let h = c.requires.asked.0 in
+    let s = c.sorts-sorts.ensures in
+    let e = c.entries.ensures in
+    let v = rw (e.records, e.places, c.rest.ensures.at, c.rest.ensures.count) at c.all_values.ensures in
+    let g = rw (s.records, s.places, s.count) at c.fit_arguments-found.ensures.fit in
+    let u = rw (s.records, s.places, s.count, c.skip.ensures.at, c.skip.ensures.count) at c.unmade-call.ensures in
     let t = c.args.crowded in
-    let l = c.if-m-n.false in
-    app-unmade g t c.unmade-call.ensures (λ e. c.requires.1 e c.if-callee-eq0.false (omega (arith, l))) (called-values c.requires.0 l v.ensures c.if-not-all_values.false)
-    (app-delivered c.requires.0 (omega (arith, l)) c.if-callee-eq0.false (unmade-call g t c.unmade-call.ensures) refl c.deliver.ensures)
+    let l = c.if-callee-n.false in
+    let d = c.deliver.ensures.answer in
+    rw d.1
+    (app-unmade g t u (λ x. c.requires.crowded x c.if-callee-eq0.false (omega (arith, l))) (called-values h l v c.if-not-all_values.false)
+    (app-delivered h (omega (arith, l)) c.if-callee-eq0.false (unmade-call g t u) refl d.0))

@@ -1,13 +1,9 @@
--- What remains with the images put in, or the refusal with its cause.
--- The tables of the map are cleared in either case.
-use Rattle.row_application.proofs.DeliveredLaws.{rest-asks, deliver-made, deliver-fails}
+-- What remains, and the tables of the map are cleared.
+use Rattle.row_application.proofs.DeliveredLaws.{call-tabled}
 use Rattle.row_application.proofs.delivered.deliver.Goals as goal
 
-pub rest-made-requires : goal.rest-made-requires
-rest-made-requires c = rest-asks c.requires
+pub clear-requires : goal.clear-requires
+clear-requires c = call-tabled c.args.call c.requires
 
-pub returns-in-Settled : goal.returns-in-Settled
-returns-in-Settled c = deliver-made c.requires c.clear.ensures c.in-Settled.k c.in-Settled.is c.rest-made.ensures
-
-pub returns-in-Fails : goal.returns-in-Fails
-returns-in-Fails c = deliver-fails c.requires c.clear-in-Fails.ensures c.in-Fails.cause c.in-Fails.k c.in-Fails.is c.refuse.ensures
+pub returns-clause-answer : goal.returns-clause-answer
+returns-clause-answer c = (record { answer = c.what_remains-made.ensures.answer; cleared = c.clear.ensures.cleared }, c.clear.ensures.params, c.clear.ensures.none)

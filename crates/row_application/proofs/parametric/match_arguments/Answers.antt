@@ -1,17 +1,34 @@
 -- The head's names are listed in a table of zeros, and taken off again.
 -- The map found is that of the names as a list.
 use Rattle.row_application.proofs.CalledLaws.{fitted-add}
-use Rattle.row_application.proofs.ParametricLaws.{with-asks, patterns-fit, patterns-fail}
+use Rattle.row_application.proofs.ParametricLaws.{with-asked, taken-asked, pattern-fits, pattern-fails}
 use Rattle.row_application.proofs.parametric.match_arguments.Goals as goal
 
-pub list_names-requires : goal.list_names-requires
-list_names-requires c = fitted-add c.requires.fitted
+pub list-requires : goal.list-requires
+list-requires c = fitted-add c.requires.0.fitted
 
-pub match_all_with-found-requires : goal.match_all_with-found-requires
-match_all_with-found-requires c = with-asks c.requires c.list_names.ensures
+pub match_all_with-fits-requires-clause-asks : goal.match_all_with-fits-requires-clause-asks
+match_all_with-fits-requires-clause-asks c =
+    let m = c.list.ensures.map in
+    let r = c.rest-arguments.ensures in
+    with-asked c.requires.0 c.list.ensures.listed m.0 m.1 m.2 r.at r.count
 
-pub returns-in-Fits : goal.returns-in-Fits
-returns-in-Fits c = patterns-fit c.requires c.list_names.ensures c.match_all_with-found.ensures c.unlist_names.ensures c.in-Fits.k c.in-Fits.is
+pub unlist-requires : goal.unlist-requires
+unlist-requires c =
+    let m = c.list.ensures.map in
+    let r = c.rest-arguments.ensures in
+    taken-asked c.requires.0 c.list.ensures.listed m.0 m.1 m.2 r.at r.count _ _ c.match_all_with-fits.ensures.answer
 
-pub returns-in-Misfits : goal.returns-in-Misfits
-returns-in-Misfits c = patterns-fail c.requires c.list_names.ensures c.match_all_with-found.ensures c.unlist_names.ensures c.in-Misfits.k c.in-Misfits.is
+pub returns-then-fits-clause-call : goal.returns-then-fits-clause-call
+returns-then-fits-clause-call c =
+    let m = c.list.ensures.map in
+    let r = c.rest-arguments.ensures in
+    let u = c.unlist.ensures in
+    pattern-fits c.requires.0 c.list.ensures.listed m.0 m.1 m.2 r.at r.count _ _ c.match_all_with-fits.ensures.answer u.unlisted u.map.0 u.map.1 u.map.2 c.if-fits.true
+
+pub returns-else-fits-clause-call : goal.returns-else-fits-clause-call
+returns-else-fits-clause-call c =
+    let m = c.list.ensures.map in
+    let r = c.rest-arguments.ensures in
+    let u = c.unlist.ensures in
+    pattern-fails c.requires.0 c.list.ensures.listed m.0 m.1 m.2 r.at r.count _ _ c.match_all_with-fits.ensures.answer u.unlisted u.map.0 u.map.1 u.map.2 c.if-fits.false

@@ -1,32 +1,48 @@
-use Rattle.row_application.specs.Contract.{ParlessAt}
+-- Whether each argument is the sort in its place, and no Par stands in it.
+use Rattle.std.proofs.Common.{ℕ, ◌≡◌, List, arith, ap, ap₂, ◌∙◌, inl, inr}
+use mathlib.Core.Logic.{⊎_elim}
+use Rattle.record.specs.Number.{numbers_at}
+use Rattle.record.specs.Numbers.{numbers_left}
 use Rattle.matching_tables.specs.NoteLaws.{table_none}
-use Rattle.row_application.proofs.ExactLaws.{exact-start, exact-end, exact-differ, exact-par, exact-step}
+use Rattle.row_application.specs.Contract.{ParlessAt}
+use Rattle.row_application.proofs.ExactLaws.{exact-start, known-first, exact-differ, exact-par, exact-step, exact-end}
 use Rattle.row_application.proofs.plain.all_exact.Goals as goal
+use Rattle.row_application.proofs.plain.all_exact.Goals.{then-sort-argument-via-then-sort-argument, then-sort-argument-via-else-sort-argument+then-not-is_parless}
 
-pub loop-left-init : goal.loop-left-init
-loop-left-init c =
-    let a = c.args in
-    let b = a.records.now in
-    let p = a.places.now in
-    let n = a.count in
-    (exact-start c.requires, table_none (ParlessAt b p n))
+pub loop-sort-init : goal.loop-sort-init
+loop-sort-init c =
+    let s = c.args.store.now in
+    let into = c.into_iter-sort-iterator.ensures.into_iter_gives in
+    let z = c.zip-sort-items.ensures in
+    let k : c.rest.result.count ≡ c.args.list.count = omega (arith, c.rest.ensures.count, c.requires.1) in
+    let xs = ap (λ w. numbers_left w.a) into ∙ ap numbers_left z.first ∙ c.numbers-sorts.ensures ∙ ap (λ (r : List ℕ). numbers_at r c.args.list.at c.args.list.count) c.sorts.ensures.records in
+    let ys = ap (λ w. numbers_left w.b) into ∙ ap numbers_left z.second ∙ c.numbers-arguments.ensures ∙ ap₂ (λ (i j : ℕ). numbers_at c.args.args.now.bytes.now i j) c.rest.ensures.at k in
+    (rw (xs, ys) (exact-start c.requires.0), rw c.new-seen.ensures (table_none (ParlessAt s.records.now s.places.now s.count)))
 
-pub returns-then-k-t : goal.returns-then-k-t
-returns-then-k-t c =
-    let l = c.loop-left in
-    exact-differ l.invariant.0 c.loop-left-test.true c.u16_at-k.ensures.value c.u16_at-t.ensures.value c.if-k-t.true
+pub is_parless-requires-clause-asked : goal.is_parless-requires-clause-asked
+is_parless-requires-clause-asked c =
+    let h = c.requires.0 in
+    let l = c.loop-sort.invariant.0 in
+    let s = c.in-Some.ensures.steps in
+    record { one = record { usable = l.usable; known = known-first l s.0 s.1 }; sized = h.sized; index = h.index }
 
-pub returns-then-not-is_parless : goal.returns-then-not-is_parless
-returns-then-not-is_parless c =
-    let l = c.loop-left in
-    exact-par l.invariant.0 c.loop-left-test.true c.u16_at-k.ensures.value c.u16_at-t.ensures.value c.is_parless.ensures.0 c.if-not-is_parless.true
+pub is_parless-requires-clause-noted : goal.is_parless-requires-clause-noted
+is_parless-requires-clause-noted c = c.loop-sort.invariant.1
 
-pub loop-left-preserved : goal.loop-left-preserved
-loop-left-preserved c =
-    let l = c.loop-left in
-    (exact-step l.invariant.0 c.loop-left-test.true c.u16_at-k.ensures.value c.u16_at-t.ensures.value c.is_parless.ensures.0 c.if-k-t.false c.if-not-is_parless.false, c.is_parless.ensures.1)
+pub returns-then-sort-argument : goal.returns-then-sort-argument
+returns-then-sort-argument c =
+    let l = c.loop-sort.invariant.0 in
+    let s = c.in-Some.ensures.steps in
+    elim c.then-sort-argument.branch [
+      | then-sort-argument-via-then-sort-argument w ↦ exact-differ l s.0 s.1 w.if-sort-argument.true
+      | then-sort-argument-via-else-sort-argument+then-not-is_parless w ↦ exact-par l s.0 s.1 w.is_parless.ensures.answer w.if-not-is_parless.true
+    ]
+
+pub loop-sort-preserved : goal.loop-sort-preserved
+loop-sort-preserved c =
+    let l = c.loop-sort.invariant.0 in
+    let s = c.in-Some.ensures.steps in
+    (exact-step l s.0 s.1 c.is_parless.ensures.answer c.if-sort-argument.false c.if-not-is_parless.false, c.is_parless.ensures.noted)
 
 pub returns : goal.returns
-returns c =
-    let l = c.loop-left in
-    exact-end l.invariant.0 c.loop-left-test.false
+returns c = exact-end c.loop-sort.invariant.0 (⊎_elim (λ w. inl w.1.0) (λ w. inr w.1.0) c.in-None.ensures.steps)

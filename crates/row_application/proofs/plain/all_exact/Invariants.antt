@@ -1,12 +1,10 @@
--- Whether each argument is the sort in its place, and no Par stands in it.
 -- The loop keeps: what is left decides the whole, and each sort noted is free of Par.
-use Rattle.matching_tables.specs.Notes.{NoteTable}
-use Rattle.row_application.specs.Contract.{ParlessAt}
-use Rattle.row_application.proofs.ExactLaws.{ExactScan}
+use Rattle.record.specs.Numbers.{numbers_left}
+use Rattle.row_application.specs.Words.{ParlessNotes}
+use Rattle.row_application.proofs.ExactLaws.{ExactRun}
 use Rattle.row_application.proofs.plain.all_exact.Given as goal
 
-abbrev pub invariant-loop-left : goal.invariant-loop-left
-invariant-loop-left l = ExactScan l.records l.places l.count l.list l.args l.n l.at l.to l.left × NoteTable (ParlessAt l.records l.places l.count) l.seen
-
-abbrev pub decreases-loop-left : goal.decreases-loop-left
-decreases-loop-left l = l.left
+abbrev pub invariant-loop-sort : goal.invariant-loop-sort
+invariant-loop-sort l =
+    ExactRun l.store.records.now l.store.places.now l.store.count l.fn.list.at l.args.bytes.now l.fn.list.count (numbers_left l.sort-iterator.a) (numbers_left l.sort-iterator.b)
+    × ParlessNotes l.store l.seen.slots

@@ -1,14 +1,29 @@
 -- A sort of tree size 1 by its size, any other by the walk and the law of its test.
-use Rattle.std.proofs.Common.{replicate}
-use Rattle.matching_each.specs.EveryLaws.{parless-tests, each-by, found-by}
+use Rattle.std.proofs.Common.{rules}
+use mathlib.Core.Path.{◌≡◌, ◌∙◌}
+use mathlib.Core.List.{[]}
+use borrow.Author.Tests.{eq-eqb}
+use Rattle.record.specs.Decode.{sort_at}
+use Rattle.substitution.specs.Premises.{parless}
+use Rattle.matching_tables.specs.Notes.{NoteTable}
+use Rattle.matching_each.specs.EveryLaws.{parless-tests, found-by}
+use Rattle.row_application.specs.Contract.{ParlessAt}
 use Rattle.row_application.proofs.ExactLaws.{leaf-parless}
 use Rattle.row_application.proofs.plain.is_parless.Goals as goal
 
-pub returns-then-size_at-eq1 : goal.returns-then-size_at-eq1
-returns-then-size_at-eq1 c = (leaf-parless c.requires.0 c.size_at.ensures c.if-size_at-eq1.true, c.requires.1)
+walked : (c : goal.After-each)
+    → (c.each.result ≡ parless (sort_at c.args.store.now.records.now c.args.store.now.places.now c.args.store.now.count c.args.k))
+    × NoteTable (ParlessAt c.args.store.now.records.now c.args.store.now.places.now c.args.store.now.count) c.each.new.seen.slots
+walked c =
+    let e = c.sorts.ensures in
+    rw (e.records, e.places, e.count) at
+    (found-by (parless-tests [] []) (λ r k q one has says. search rules) (rw (e.records, e.places, e.count) c.requires.noted) c.args.k c.each.ensures)
 
-pub each-requires : goal.each-requires
-each-requires c = each-by (parless-tests (replicate 1 0) (replicate 1 0)) c.requires.0.one (record { listed = tt; bound = tt }) c.requires.1
+pub returns-then-size-eq1-clause-answer : goal.returns-then-size-eq1-clause-answer
+returns-then-size-eq1-clause-answer c = eq-eqb c.size.result 1 c.if-size-eq1.true ∙ leaf-parless c.requires.asked c.size.ensures c.if-size-eq1.true
 
-pub returns : goal.returns
-returns c = found-by (parless-tests (replicate 1 0) (replicate 1 0)) c.each.ensures
+pub returns-else-size-eq1-clause-answer : goal.returns-else-size-eq1-clause-answer
+returns-else-size-eq1-clause-answer c = (walked c).0
+
+pub returns-else-size-eq1-clause-noted : goal.returns-else-size-eq1-clause-noted
+returns-else-size-eq1-clause-noted c = (walked c).1

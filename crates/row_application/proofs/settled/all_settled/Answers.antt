@@ -1,12 +1,19 @@
 -- The walk, by the law of its test, for every test of names and every map that the tables stand for.
-use mathlib.Core.Path.{◌∙◌}
+use Rattle.std.proofs.Common.{◌∙◌, rules}
 use Rattle.matching_tables.specs.Usable.{sorts_at}
+use Rattle.matching_each.specs.Every.{Settled, passing}
 use Rattle.matching_each.specs.EveryLaws.{every_all-is}
 use Rattle.row_application.proofs.SettledLaws.{settled-tests}
 use Rattle.row_application.proofs.settled.all_settled.Goals as goal
 
-pub returns : goal.returns
-returns c =
-    let a = c.args in
-    let e = c.all_each.ensures in
-    (λ f t θ i. e.answer ∙ every_all-is (settled-tests a.params.now t i) (sorts_at a.records.now a.places.now a.count a.records.now a.at a.left), e.noted)
+pub returns-clause-found : goal.returns-clause-found
+returns-clause-found c =
+    let s = c.args.sorts.now in
+    let x = c.args.names.now in
+    let e = c.all_each.ensures (passing Settled x.params.now x.images.now) (λ r k q one has says. search rules) c.requires.noted in
+    λ f t θ i. e.answer ∙ every_all-is (settled-tests x.params.now t i) (sorts_at s.records.now s.places.now s.count s.records.now c.args.list.at c.args.list.count)
+
+pub returns-clause-noted : goal.returns-clause-noted
+returns-clause-noted c =
+    let x = c.args.names.now in
+    (c.all_each.ensures (passing Settled x.params.now x.images.now) (λ r k q one has says. search rules) c.requires.noted).noted

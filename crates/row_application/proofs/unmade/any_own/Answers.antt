@@ -1,14 +1,19 @@
-use Rattle.std.proofs.Common.{arith}
-use mathlib.Core.Path.{sym, ◌∙◌}
-use Rattle.record.specs.Decode.{store_of}
-use Rattle.row_application.proofs.UnmadeLaws.{own-found, own-next, owned-none}
+use Rattle.std.proofs.Common.{◌≡◌, true, false, refl, arith, rules, tests}
+use Rattle.std.proofs.lemmas.Iterator.{cases_from_any, YieldsList-from_range}
+use Rattle.row_application.proofs.AnyLaws.{below-any}
+use Rattle.row_application.proofs.UnmadeLaws.{own_at, own-any}
 use Rattle.row_application.proofs.unmade.any_own.Goals as goal
 
-pub returns-then-is_var : goal.returns-then-is_var
-returns-then-is_var c = let l = c.loop-left in let o = c.loop-left-test.true in own-found c.requires o l.invariant.0 c.is_var.ensures c.if-is_var.true ∙ sym l.invariant.1
-
-pub loop-left-preserved : goal.loop-left-preserved
-loop-left-preserved c = let l = c.loop-left in let o = c.loop-left-test.true in (omega (arith, l.invariant.0), l.invariant.1 ∙ own-next c.requires o l.invariant.0 c.is_var.ensures c.if-is_var.false)
-
 pub returns : goal.returns
-returns c = let a = c.args in let l = c.loop-left in owned-none (store_of a.records.now a.places.now a.count) a.images.now a.bound.now l.left c.loop-left-test.false ∙ sym l.invariant.1
+returns c =
+    let s = c.args.sorts.now in
+    let x = c.args.names.now in
+    let b = s.records.now in
+    let p = s.places.now in
+    let n = s.count in
+    let l = x.images.now in
+    let d = x.bound.now in
+    own-any b p n l d x.many c.any.result
+    (below-any _ _ x.many c.any.result
+    (cases_from_any _ _ c.any.result (λ k. own_at b p n l d k ≡ true) (λ k. own_at b p n l d k ≡ false) c.any.ensures.ran (YieldsList-from_range 0 x.many x.many refl (omega arith))
+    (λ i q k. search (rules, tests)) (λ i q k. search (rules, tests))))

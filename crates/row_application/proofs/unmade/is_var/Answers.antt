@@ -1,10 +1,15 @@
--- A Var by its kind and its name.
--- Any other sort is no variable.
+-- A Var by its kind and its name; any other sort is no variable.
+use Rattle.std.proofs.Common.{◌≡◌, ◌∙◌, rules}
+use Rattle.record.specs.Kinds.{sort_number}
 use Rattle.row_application.proofs.UnmadeLaws.{var-named, var-other}
 use Rattle.row_application.proofs.unmade.is_var.Goals as goal
 
-pub returns-then-e-eq-SORT_VAR : goal.returns-then-e-eq-SORT_VAR
-returns-then-e-eq-SORT_VAR c = var-named c.requires c.args.name c.entry-e.ensures c.if-e-eq-SORT_VAR.true
+pub returns-then-eq : goal.returns-then-eq
+returns-then-eq c =
+    let k : sort_number c.entry-entry.result.kind ≡ 2 = search rules in
+    var-named c.requires c.args.name c.entry-entry.ensures k
 
-pub returns : goal.returns
-returns c = var-other c.requires c.args.name c.entry-e.ensures c.if-e-eq-SORT_VAR.false
+pub returns-else-eq : goal.returns-else-eq
+returns-else-eq c =
+    let k : sort_number c.entry-entry.result.kind ≡ 2 → ⊥ = λ e. search rules in
+    c.if-eq.false ∙ var-other c.requires c.args.name c.entry-entry.ensures k

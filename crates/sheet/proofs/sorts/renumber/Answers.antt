@@ -1,15 +1,21 @@
-use Rattle.std.proofs.Common.{arith}
-use Rattle.sheet.proofs.TranslateLaws.{number-first, writing_step, writing-end}
+use Rattle.std.proofs.Common.{ℕ, ◌+◌, ◌*◌, ◌-◌, List, get_or, arith, ap, subst, ◌∙◌}
+use Rattle.record.specs.Decode.{written}
+use Rattle.sheet.proofs.TranslateLaws.{Writing, number-first, number-written, writing-start, writing_step, writing-on, writing-end}
 use Rattle.sheet.proofs.sorts.renumber.Goals as goal
 
-pub bounds-table-v : goal.bounds-table-v
-bounds-table-v c = let l = c.loop-left in
-    omega (arith, number-first l.invariant.asks c.loop-left-test.true, c.u16_at-v.ensures.value)
+pub loop-i-init : goal.loop-i-init
+loop-i-init c = writing-start c.requires
 
-pub loop-left-preserved : goal.loop-left-preserved
-loop-left-preserved c = let l = c.loop-left in
-    writing_step l.invariant c.loop-left-test.true c.u16_at-v.ensures.value
+pub bounds-table-get : goal.bounds-table-get
+bounds-table-get c = omega (arith, number-first c.loop-i.invariant.asks (omega (arith, c.loop-i-test.true)), c.get.ensures.value)
+
+pub loop-i-preserved : goal.loop-i-preserved
+loop-i-preserved c = let a = c.args in
+    let l = c.loop-i in
+    let k = get_or a.table.now c.get.result 0 in
+    let written_is = number-written l.rec (a.list.at + 2 * l.i) k (omega (arith, c.type_inv.table c.get.result)) (omega (arith, l.invariant.asks.within, c.loop-i-test.true)) (c.copy_at.ensures ∙ ap (written l.rec (a.list.at + 2 * l.i)) c.to_le_bytes.ensures) in
+    subst (λ (b : List ℕ). Writing a.rec.now a.table.now a.list.at a.list.count b (a.list.at + 2 * (l.i + 1)) (a.list.count - (l.i + 1))) written_is
+    (writing-on a.list.at a.list.count l.i (writing_step l.invariant (omega (arith, c.loop-i-test.true)) c.get.ensures.value))
 
 pub returns : goal.returns
-returns c = let l = c.loop-left in
-    writing-end l.invariant c.loop-left-test.false
+returns c = writing-end c.loop-i.invariant (omega (arith, c.loop-i-test.false))

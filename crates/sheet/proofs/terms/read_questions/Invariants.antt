@@ -1,13 +1,9 @@
 -- The result is that of `read_questions`, whatever the sorts are, and each record stands at its place.
--- The loop keeps: the first i records are passed; a refusal stays to the end.
-use Prim.Native.Nat.{◌-◌, ◌≤◌}
+-- The loop keeps: the records before the index are passed; a refusal stays to the end.
 use mathlib.Core.Path.{◌≡◌}
 use lib.ListN.{length}
 use Rattle.sheet.specs.Contract.{QuestionsPassed}
 use Rattle.sheet.proofs.terms.read_questions.Given as goal
 
-abbrev pub invariant-loop-i : goal.invariant-loop-i
-invariant-loop-i l = (l.i ≤ l.n) × (length l.questions ≡ length l.initial.questions) × QuestionsPassed l.s l.sorts l.start l.i l.questions l.at
-
-abbrev pub decreases-loop-i : goal.decreases-loop-i
-decreases-loop-i l = l.n - l.i
+abbrev pub invariant-loop-place : goal.invariant-loop-place
+invariant-loop-place l = (length l.questions ≡ length l.initial.questions) × QuestionsPassed l.s l.sorts l.fn.start.at l.place-index l.questions l.cursor.at

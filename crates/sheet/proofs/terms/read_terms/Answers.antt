@@ -1,32 +1,32 @@
 use Rattle.std.proofs.Common.{arith}
-use mathlib.Core.Path.{refl, ap, ◌∙◌}
+use Rattle.std.proofs.lemmas.Result.{err_from_is_err_and}
+use mathlib.Core.Path.{refl, sym, ◌∙◌}
 use lib.ListN.{length, length-set}
-use Rattle.sheet.specs.Contract.{TermNext}
-use Rattle.sheet.proofs.PassLaws.{terms-none, terms-more, terms-stop}
+use Rattle.sheet.proofs.PassLaws.{term-stands, term-place, terms-none, terms-more, terms-stop, terms-end}
 use Rattle.sheet.proofs.terms.read_terms.Goals as goal
 
 pub loop-i-init : goal.loop-i-init
 loop-i-init c = let a = c.args in
-    let s = a.s.now in
-    let m = a.sorts in
-    let x = a.start in
-    let xs = a.terms.now in
-    (omega arith, refl, terms-none s m x xs c.requires.within)
+    (refl, terms-none a.s.now a.sorts a.start.at a.terms.now c.requires.within)
 
-pub returns-in-Stop : goal.returns-in-Stop
-returns-in-Stop c = let a = c.args in
-    let s = a.s.now in
-    let m = a.sorts in
-    let n = a.n in
+pub returns-in_err-after : goal.returns-in_err-after
+returns-in_err-after c = let l = c.loop-i in
+    let p = err_from_is_err_and c.from_residual.result c.from_residual.ensures.1 in
+    rw (p.1, p.2) (terms-stop l.invariant.1 (length c.args.terms.now) (omega (arith, c.loop-i-test.true)) c.in_err-after.field-0.0 (sym c.term.ensures ∙ c.in_err-after.was))
+
+pub overflow_cast-place : goal.overflow_cast-place
+overflow_cast-place c = let a = c.args in
     let l = c.loop-i in
-    let d = c.next_term-step.new in
-    terms-stop l.invariant.2 n c.loop-i-test.true c.in-Stop.e (c.in-Stop.ensures)
+    omega (arith, term-place a.s.now a.sorts l.i l.cursor.at (λ j. omega (arith, c.type_inv.s j)) _ _ (sym c.term.ensures ∙ c.in_ok-after.was), c.requires.short)
 
+-- The record that was read stands at its place.
 pub loop-i-preserved : goal.loop-i-preserved
 loop-i-preserved c = let a = c.args in
-    let s = a.s.now in
-    let m = a.sorts in
-    let l = c.loop-i in
-    let d = c.next_term-step.new in
-    let o : TermNext s m l.i l.at l.terms d.terms c.in-To.y = c.in-To.ensures in
-    (omega (arith, c.loop-i-test.true), ap length o.table ∙ length-set l.terms l.i l.at ∙ l.invariant.1, terms-more l.invariant.2 (omega (arith, l.invariant.1, c.requires.count, c.loop-i-test.true)) o)
+    let l = c.loop-i in (
+      length-set l.terms l.i l.cursor.at ∙ l.invariant.0,
+      terms-more l.invariant.1 (omega (arith, c.loop-i-test.true))
+          (term-stands a.s.now a.sorts l.i l.cursor.at (λ j. omega (arith, c.type_inv.s j)) c.in_ok-after.field-0-0 c.in_ok-after.after (sym c.term.ensures ∙ c.in_ok-after.was)),
+    )
+
+pub returns : goal.returns
+returns c = terms-end c.loop-i.invariant.1 (length c.args.terms.now) (omega arith) (omega (arith, c.loop-i-test.false))

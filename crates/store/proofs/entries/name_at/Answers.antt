@@ -15,7 +15,7 @@ returns-then-map-eq1 c = let a = c.args in
     let b = a.records.now in
     c.u16_at.ensures.value ∙ bit-on 2 a.map (u16_at b a.at) c.if-map-eq1.true
 
-pub returns : goal.returns
-returns c = let a = c.args in
+pub returns-else-map-eq1 : goal.returns-else-map-eq1
+returns-else-map-eq1 c = let a = c.args in
     let b = a.records.now in
     bit-off 2 a.map (u16_at b a.at) c.if-map-eq1.false

@@ -21,7 +21,7 @@ returns-then-map-eq1 c = let a = c.args in
     let b = a.records.now in
     ap₂ (λ (i j : ℕ). i + j * 65536) c.u16_at-low.ensures.value c.u16_at-high.ensures.value ∙ bit-on 4 a.map (u32_at b a.at) c.if-map-eq1.true
 
-pub returns : goal.returns
-returns c = let a = c.args in
+pub returns-else-map-eq1 : goal.returns-else-map-eq1
+returns-else-map-eq1 c = let a = c.args in
     let b = a.records.now in
     bit-off 4 a.map (u32_at b a.at) c.if-map-eq1.false

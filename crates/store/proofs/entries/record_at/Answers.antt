@@ -9,13 +9,12 @@ pub bounds-records-at : goal.bounds-records-at
 bounds-records-at c = let r = name-room c.requires refl in
     omega (arith, r)
 
-pub bounds-records-at-2 : goal.bounds-records-at-2
-bounds-records-at-2 c = let r = name-room c.requires refl in
+pub kind_at-kind-requires-clause-within : goal.kind_at-kind-requires-clause-within
+kind_at-kind-requires-clause-within c = let r = name-room c.requires refl in
     omega (arith, r)
 
 pub name_at-name-requires : goal.name_at-name-requires
-name_at-name-requires c = let r = name-room c.requires refl in
-    r
+name_at-name-requires c = name-room c.requires refl
 
 pub number_at-number-requires : goal.number_at-number-requires
 number_at-number-requires c = number-room c.requires refl
@@ -27,4 +26,4 @@ pub count_at-named-requires : goal.count_at-named-requires
 count_at-named-requires c = names-room c.requires refl c.count_at-count.ensures.0
 
 pub returns : goal.returns
-returns c = entry_at c.requires refl c.count_at-count.ensures.0 c.name_at-name.ensures c.number_at-number.ensures c.count_at-named.ensures.0
+returns c = entry_at c.requires refl c.count_at-count.ensures.0 c.kind_at-kind.ensures c.name_at-name.ensures c.number_at-number.ensures c.count_at-named.ensures.0

@@ -1,26 +1,23 @@
-use Rattle.std.proofs.Common.{arith}
-use Prim.Native.Nat.{◌+◌, ◌-◌, ◌*◌}
-use mathlib.Core.Path.{refl, sym, ◌∙◌}
-use lib.ListN.{length, get_or}
-use Rattle.store.specs.Index.{product, hash_by, turned-small, hash-step, hash-end, hash-none}
+use Rattle.std.proofs.Common.{arith, refl, sym, length, ◌-◌}
+use Rattle.std.proofs.lemmas.Option.{get_or_from_slice_get}
+use Rattle.store.specs.Index.{hash-none}
+use Rattle.store.proofs.HashLaws.{hash-start, hash-small, hash-step, hash-end}
 use Rattle.store.proofs.hashes.hash_by.Goals as goal
 
-pub returns-then-rec-eq0 : goal.returns-then-rec-eq0
-returns-then-rec-eq0 c = sym (hash-none c.args.one c.args.two c.args.rec.now c.if-rec-eq0.true)
+pub returns-in_default : goal.returns-in_default
+returns-in_default c = sym (hash-none c.args.one c.args.two c.args.rec.now (omega (arith, c.in_default.ensures.item.3)))
 
-pub loop-i-init : goal.loop-i-init
-unfolding hash_by
-loop-i-init c = let r = c.args.rec.now in
-    (omega (arith, c.type_inv.rec (length r - 1)), omega arith, omega arith, refl)
+pub loop-v-init : goal.loop-v-init
+loop-v-init c =
+    let r = c.args.rec.now in
+    rw c.into_iter-v-iterator.ensures.into_iter_gives
+    (hash-start c.args.one c.args.two r (λ i. omega (arith, c.type_inv.rec i)) (sym (get_or_from_slice_get r (length r - 1) c.in-Some.last.now 0 (sym c.in-Some.ensures.value))))
 
-pub loop-i-preserved : goal.loop-i-preserved
-loop-i-preserved c = let l = c.loop-i in
-    let a = c.args in
-    let r = a.rec.now in
-    let x = product (l.low + get_or r l.i 0 + get_or r (l.i + 1) 0 * 256) a.one in
-    (turned-small x (omega arith), turned-small (product (l.high + x) a.two) (omega arith), omega arith, hash-step a.one a.two r l.low l.high l.i c.loop-i-test.true ∙ l.invariant.3)
+pub overflow_cast-x : goal.overflow_cast-x
+overflow_cast-x c = omega (arith, hash-small c.loop-v.invariant c.in-Some-v.ensures.steps)
+
+pub loop-v-preserved : goal.loop-v-preserved
+loop-v-preserved c = hash-step c.loop-v.invariant c.in-Some-v.ensures.steps refl refl c.rotate_left-low.ensures c.rotate_left-high.ensures
 
 pub returns : goal.returns
-returns c = let l = c.loop-i in
-    let a = c.args in
-    sym (hash-end a.one a.two a.rec.now l.low l.high l.i (omega arith)) ∙ l.invariant.3
+returns c = hash-end c.loop-v.invariant c.in-None.ensures.steps.0

@@ -1,0 +1,33 @@
+use Rattle.std.proofs.Common.{arith, ◌∙◌, ap}
+use Rattle.record.specs.Numbers.{numbers_left, numbers-small}
+use Rattle.matching_tables.proofs.NamesLaws.{taking-start, taking-low, taking-some, taking_step, taking-end}
+use Rattle.matching_tables.proofs.names.Names.unlist.Goals as goal
+
+pub loop-v-init : goal.loop-v-init
+loop-v-init c = let a = c.args in (
+  tt,
+  tt,
+  taking-start (ap numbers_left c.into_iter-v-iterator.ensures.into_iter_gives ∙ c.numbers-v-items.ensures)
+      (numbers-small a.bytes.now a.span.at a.span.count (λ i. omega (arith, c.type_inv.bytes i))),
+)
+
+pub offset_bounds-params-v : goal.offset_bounds-params-v
+offset_bounds-params-v c = let h = taking-low c.loop-v.invariant.2 c.in-Some.ensures.steps c.requires.names.table in
+    omega (arith, h, c.loop-v.invariant.2.long, c.requires.names.table)
+
+pub bounds-params-v : goal.bounds-params-v
+bounds-params-v c = taking-low c.loop-v.invariant.2 c.in-Some.ensures.steps c.requires.names.table
+
+pub overflow_sub-params : goal.overflow_sub-params
+overflow_sub-params c = taking-some c.loop-v.invariant.2 c.in-Some.ensures.steps c.requires.there
+
+pub bounds-params-v-in-loop-v : goal.bounds-params-v-in-loop-v
+bounds-params-v-in-loop-v c = taking-low c.loop-v.invariant.2 c.in-Some.ensures.steps c.requires.names.table
+
+pub loop-v-preserved : goal.loop-v-preserved
+loop-v-preserved c = let v = c.loop-v.invariant.2 in
+    let e = c.in-Some.ensures.steps in
+    (tt, tt, taking_step v e c.requires.there (taking-low v e c.requires.names.table))
+
+pub returns-clause-unlisted : goal.returns-clause-unlisted
+returns-clause-unlisted c = taking-end c.loop-v.invariant.2 c.in-None.ensures.steps.0

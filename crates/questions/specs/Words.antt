@@ -1,0 +1,76 @@
+-- The words of Contract.antt and All.antt over a store, the tables of names and a sheet as they are lent. Definitions only.
+use Rattle.std.specs.Prelude.{ℕ, ◌≡◌, List, length, Result}
+use Rattle.reader.specs.declared.QuestionRecord.{QuestionRecord}
+use Rattle.sheet.specs.declared.ReadSheet.{ReadSheet}
+use Rattle.store.specs.declared.Store.{Store}
+use Rattle.matching_tables.specs.declared.names.Names.{Names}
+use Rattle.row_rules.specs.declared.Cause.{Cause}
+use Rattle.row_answer.specs.Answer.{answer}
+use Rattle.questions.specs.Word.{Word, Counts}
+use Rattle.questions.specs.Contract.{AnswerApplyAsks, ApplyIs, MatchListedAsks, ListedIs, AnswerMatchAsks, AnswerMatchIs, QuestionAsks, QuestionIs}
+use Rattle.questions.specs.All.{AtAsks, AtIs, AllAsks, AllIs}
+
+---------------------------------------------------------------- question 2
+abbrev pub ApplyAsked : Store → Names → ReadSheet → QuestionRecord → Type 0
+ApplyAsked s x d q = AnswerApplyAsks s.records.now s.places.now s.index.now s.count s.used x.images.now d.bytes.now d.table.now q
+
+-- The other tables of names are as they were.
+
+abbrev pub ApplyAnswered : Store → Names → ReadSheet → QuestionRecord → Store → Names → Result ℕ Cause → Type 0
+ApplyAnswered s x d q t y r =
+    ApplyIs s.records.now s.places.now s.count x.images.now d.bytes.now d.table.now q t.records.now t.places.now t.index.now y.images.now (answer t r)
+    × (y.params.now ≡ x.params.now)
+    × (y.bound.now ≡ x.bound.now)
+
+---------------------------------------------------------------- question 1
+abbrev pub ListedAsked : Store → Names → ℕ → ℕ → ℕ → Type 0
+ListedAsked s x k j i =
+    MatchListedAsks s.records.now s.places.now s.index.now s.count s.used x.params.now x.images.now x.bound.now k j i
+
+abbrev pub ListedAnswered : Store → Names → ℕ → ℕ → ℕ → Store → Names → Result ℕ Cause → Type 0
+ListedAnswered s x k j i t y r =
+    ListedIs s.records.now s.places.now s.count x.params.now x.images.now x.bound.now k j i t.records.now t.places.now t.index.now y.images.now y.bound.now (answer t r)
+    × (y.params.now ≡ x.params.now)
+
+abbrev pub MatchAsked : Store → Names → ReadSheet → QuestionRecord → Type 0
+MatchAsked s x d q =
+    AnswerMatchAsks s.records.now s.places.now s.index.now s.count s.used x.params.now x.images.now x.bound.now d.bytes.now d.table.now q
+
+abbrev pub MatchAnswered : Store → Names → ReadSheet → QuestionRecord → Store → Names → Result ℕ Cause → Type 0
+MatchAnswered s x d q t y r =
+    AnswerMatchIs s.records.now s.places.now s.count x.params.now x.images.now x.bound.now d.bytes.now d.table.now q t.records.now t.places.now t.index.now y.params.now y.images.now y.bound.now (answer t r)
+
+---------------------------------------------------------------- a question of any kind
+-- The code of an answer, and the counts of the store after it.
+abbrev pub word : Store → ℕ → Word
+word t w = record { code = w; count = t.count; used = t.used }
+
+abbrev pub QuestionAsked : Store → Names → ReadSheet → QuestionRecord → Type 0
+QuestionAsked s x d q =
+    QuestionAsks s.records.now s.places.now s.index.now s.count s.used x.params.now x.images.now x.bound.now d.bytes.now d.table.now q
+
+abbrev pub QuestionAnswered : Store → Names → ReadSheet → QuestionRecord → Store → Names → ℕ → Type 0
+QuestionAnswered s x d q t y w =
+    QuestionIs s.records.now s.places.now s.count x.params.now x.images.now x.bound.now d.bytes.now d.table.now q t.records.now t.places.now t.index.now y.params.now y.images.now y.bound.now (word t w)
+
+---------------------------------------------------------------- questions at their places
+-- m sorts are the sheet's.
+abbrev pub AtAsked : Store → Names → ReadSheet → ℕ → ℕ → Type 0
+AtAsked s x d m i =
+    AtAsks s.records.now s.places.now s.index.now s.count s.used x.params.now x.images.now x.bound.now d.bytes.now d.table.now m i
+
+abbrev pub AtAnswered : Store → Names → ReadSheet → ℕ → ℕ → Store → Names → ℕ → Type 0
+AtAnswered s x d m i t y w =
+    AtIs s.records.now s.places.now s.count x.params.now x.images.now x.bound.now d.bytes.now d.table.now m i t.records.now t.places.now t.index.now y.params.now y.images.now y.bound.now (word t w)
+
+abbrev pub counts_of : Store → Counts
+counts_of t = record { count = t.count; used = t.used }
+
+-- Those at the places ys, into the list an.
+abbrev pub AllAsked : Store → Names → ReadSheet → ℕ → List ℕ → List ℕ → Type 0
+AllAsked s x d m ys an =
+    AllAsks s.records.now s.places.now s.index.now s.count s.used x.params.now x.images.now x.bound.now d.bytes.now d.table.now m ys (length ys) an
+
+abbrev pub AllAnswered : Store → Names → ReadSheet → ℕ → List ℕ → List ℕ → Store → Names → List ℕ → Type 0
+AllAnswered s x d m ys an t y an' =
+    AllIs s.records.now s.places.now s.count x.params.now x.images.now x.bound.now d.bytes.now d.table.now m ys (length ys) an t.records.now t.places.now t.index.now y.params.now y.images.now y.bound.now an' (counts_of t)

@@ -1,0 +1,152 @@
+-- The numbers of the operators, as they stand in an Op record: `operator_number` is `operator as usize`, `operator_kind` is the operator
+-- with a number, if any.
+use Rattle.std.specs.Prelude.{◌≡◌, ℕ, ◌≤◌, List, [], ◌∷◌, Option, Result, MatchResult, slice_get}
+use Rattle.record.specs.declared.kinds.UnknownKind.{UnknownKind}
+use Rattle.record.specs.declared.operators.Operator.{Operator}
+use Rattle.record.specs.declared.operators.Operator.TheVariants.{True as OperatorTrue, False as OperatorFalse, Not as OperatorNot, Implies as OperatorImplies, And as OperatorAnd, Or as OperatorOr, Xor as OperatorXor, Equals as OperatorEquals, Distinct as OperatorDistinct, Ite as OperatorIte, Add as OperatorAdd, Sub as OperatorSub, Mult as OperatorMult, IntDiv as OperatorIntDiv, RealDiv as OperatorRealDiv, Mod as OperatorMod, Abs as OperatorAbs, LessThan as OperatorLessThan, GreaterThan as OperatorGreaterThan, LessEq as OperatorLessEq, GreaterEq as OperatorGreaterEq, ToReal as OperatorToReal, ToInt as OperatorToInt, IsInt as OperatorIsInt, Pow2 as OperatorPow2, IsPow2 as OperatorIsPow2, Log2 as OperatorLog2, RealPi as OperatorRealPi, Sqrt as OperatorSqrt, Exp as OperatorExp, Sin as OperatorSin, Cos as OperatorCos, Tan as OperatorTan, Csc as OperatorCsc, Sec as OperatorSec, Cot as OperatorCot, Arcsin as OperatorArcsin, Arccos as OperatorArccos, Arctan as OperatorArctan, Arccsc as OperatorArccsc, Arcsec as OperatorArcsec, Arccot as OperatorArccot, Select as OperatorSelect, Store as OperatorStore, StrConcat as OperatorStrConcat, StrLen as OperatorStrLen, StrLessThan as OperatorStrLessThan, StrLessEq as OperatorStrLessEq, CharAt as OperatorCharAt, Substring as OperatorSubstring, PrefixOf as OperatorPrefixOf, SuffixOf as OperatorSuffixOf, Contains as OperatorContains, IndexOf as OperatorIndexOf, IndexOfRe as OperatorIndexOfRe, Replace as OperatorReplace, ReplaceAll as OperatorReplaceAll, ReplaceRe as OperatorReplaceRe, ReplaceReAll as OperatorReplaceReAll, StrIsDigit as OperatorStrIsDigit, StrToCode as OperatorStrToCode, StrFromCode as OperatorStrFromCode, StrToInt as OperatorStrToInt, StrFromInt as OperatorStrFromInt, StrToRe as OperatorStrToRe, StrInRe as OperatorStrInRe, ReNone as OperatorReNone, ReAll as OperatorReAll, ReAllChar as OperatorReAllChar, ReConcat as OperatorReConcat, ReUnion as OperatorReUnion, ReIntersection as OperatorReIntersection, ReKleeneClosure as OperatorReKleeneClosure, ReComplement as OperatorReComplement, ReDiff as OperatorReDiff, ReKleeneCross as OperatorReKleeneCross, ReOption as OperatorReOption, ReRange as OperatorReRange, ReFromAutomaton as OperatorReFromAutomaton, BvNot as OperatorBvNot, BvNeg as OperatorBvNeg, BvAnd as OperatorBvAnd, BvOr as OperatorBvOr, BvAdd as OperatorBvAdd, BvMul as OperatorBvMul, BvUDiv as OperatorBvUDiv, BvURem as OperatorBvURem, BvShl as OperatorBvShl, BvLShr as OperatorBvLShr, BvULt as OperatorBvULt, BvConcat as OperatorBvConcat, BvNAnd as OperatorBvNAnd, BvNOr as OperatorBvNOr, BvXor as OperatorBvXor, BvXNor as OperatorBvXNor, BvComp as OperatorBvComp, BvSub as OperatorBvSub, BvSDiv as OperatorBvSDiv, BvSRem as OperatorBvSRem, BvSMod as OperatorBvSMod, BvAShr as OperatorBvAShr, BvULe as OperatorBvULe, BvUGt as OperatorBvUGt, BvUGe as OperatorBvUGe, BvSLt as OperatorBvSLt, BvSLe as OperatorBvSLe, BvSGt as OperatorBvSGt, BvSGe as OperatorBvSGe, UBvToInt as OperatorUBvToInt, SBvToInt as OperatorSBvToInt, BvPBbTerm as OperatorBvPBbTerm, BvBbTerm as OperatorBvBbTerm, BvConst as OperatorBvConst, BvSize as OperatorBvSize, BvIte as OperatorBvIte, RareList as OperatorRareList, Cl as OperatorCl, Delete as OperatorDelete, SetUnion as OperatorSetUnion, SetInter as OperatorSetInter, SetMinus as OperatorSetMinus, SetMember as OperatorSetMember, SetSubset as OperatorSetSubset, SetSingleton as OperatorSetSingleton, SetIsEmpty as OperatorSetIsEmpty, SetIsSingleton as OperatorSetIsSingleton, SetCard as OperatorSetCard, SetInsert as OperatorSetInsert, SetComplement as OperatorSetComplement, Tuple as OperatorTuple, TupleUnit as OperatorTupleUnit, RelTranspose as OperatorRelTranspose, RelTclosure as OperatorRelTclosure, RelJoin as OperatorRelJoin, RelProduct as OperatorRelProduct}
+
+abbrev pub operator_number : Operator → ℕ
+operator_number OperatorTrue = 0
+operator_number OperatorFalse = 1
+operator_number OperatorNot = 2
+operator_number OperatorImplies = 3
+operator_number OperatorAnd = 4
+operator_number OperatorOr = 5
+operator_number OperatorXor = 6
+operator_number OperatorEquals = 7
+operator_number OperatorDistinct = 8
+operator_number OperatorIte = 9
+operator_number OperatorAdd = 10
+operator_number OperatorSub = 11
+operator_number OperatorMult = 12
+operator_number OperatorIntDiv = 13
+operator_number OperatorRealDiv = 14
+operator_number OperatorMod = 15
+operator_number OperatorAbs = 16
+operator_number OperatorLessThan = 17
+operator_number OperatorGreaterThan = 18
+operator_number OperatorLessEq = 19
+operator_number OperatorGreaterEq = 20
+operator_number OperatorToReal = 21
+operator_number OperatorToInt = 22
+operator_number OperatorIsInt = 23
+operator_number OperatorPow2 = 24
+operator_number OperatorIsPow2 = 25
+operator_number OperatorLog2 = 26
+operator_number OperatorRealPi = 27
+operator_number OperatorSqrt = 28
+operator_number OperatorExp = 29
+operator_number OperatorSin = 30
+operator_number OperatorCos = 31
+operator_number OperatorTan = 32
+operator_number OperatorCsc = 33
+operator_number OperatorSec = 34
+operator_number OperatorCot = 35
+operator_number OperatorArcsin = 36
+operator_number OperatorArccos = 37
+operator_number OperatorArctan = 38
+operator_number OperatorArccsc = 39
+operator_number OperatorArcsec = 40
+operator_number OperatorArccot = 41
+operator_number OperatorSelect = 42
+operator_number OperatorStore = 43
+operator_number OperatorStrConcat = 44
+operator_number OperatorStrLen = 45
+operator_number OperatorStrLessThan = 46
+operator_number OperatorStrLessEq = 47
+operator_number OperatorCharAt = 48
+operator_number OperatorSubstring = 49
+operator_number OperatorPrefixOf = 50
+operator_number OperatorSuffixOf = 51
+operator_number OperatorContains = 52
+operator_number OperatorIndexOf = 53
+operator_number OperatorIndexOfRe = 54
+operator_number OperatorReplace = 55
+operator_number OperatorReplaceAll = 56
+operator_number OperatorReplaceRe = 57
+operator_number OperatorReplaceReAll = 58
+operator_number OperatorStrIsDigit = 59
+operator_number OperatorStrToCode = 60
+operator_number OperatorStrFromCode = 61
+operator_number OperatorStrToInt = 62
+operator_number OperatorStrFromInt = 63
+operator_number OperatorStrToRe = 64
+operator_number OperatorStrInRe = 65
+operator_number OperatorReNone = 66
+operator_number OperatorReAll = 67
+operator_number OperatorReAllChar = 68
+operator_number OperatorReConcat = 69
+operator_number OperatorReUnion = 70
+operator_number OperatorReIntersection = 71
+operator_number OperatorReKleeneClosure = 72
+operator_number OperatorReComplement = 73
+operator_number OperatorReDiff = 74
+operator_number OperatorReKleeneCross = 75
+operator_number OperatorReOption = 76
+operator_number OperatorReRange = 77
+operator_number OperatorReFromAutomaton = 78
+operator_number OperatorBvNot = 79
+operator_number OperatorBvNeg = 80
+operator_number OperatorBvAnd = 81
+operator_number OperatorBvOr = 82
+operator_number OperatorBvAdd = 83
+operator_number OperatorBvMul = 84
+operator_number OperatorBvUDiv = 85
+operator_number OperatorBvURem = 86
+operator_number OperatorBvShl = 87
+operator_number OperatorBvLShr = 88
+operator_number OperatorBvULt = 89
+operator_number OperatorBvConcat = 90
+operator_number OperatorBvNAnd = 91
+operator_number OperatorBvNOr = 92
+operator_number OperatorBvXor = 93
+operator_number OperatorBvXNor = 94
+operator_number OperatorBvComp = 95
+operator_number OperatorBvSub = 96
+operator_number OperatorBvSDiv = 97
+operator_number OperatorBvSRem = 98
+operator_number OperatorBvSMod = 99
+operator_number OperatorBvAShr = 100
+operator_number OperatorBvULe = 101
+operator_number OperatorBvUGt = 102
+operator_number OperatorBvUGe = 103
+operator_number OperatorBvSLt = 104
+operator_number OperatorBvSLe = 105
+operator_number OperatorBvSGt = 106
+operator_number OperatorBvSGe = 107
+operator_number OperatorUBvToInt = 108
+operator_number OperatorSBvToInt = 109
+operator_number OperatorBvPBbTerm = 110
+operator_number OperatorBvBbTerm = 111
+operator_number OperatorBvConst = 112
+operator_number OperatorBvSize = 113
+operator_number OperatorBvIte = 114
+operator_number OperatorRareList = 115
+operator_number OperatorCl = 116
+operator_number OperatorDelete = 117
+operator_number OperatorSetUnion = 118
+operator_number OperatorSetInter = 119
+operator_number OperatorSetMinus = 120
+operator_number OperatorSetMember = 121
+operator_number OperatorSetSubset = 122
+operator_number OperatorSetSingleton = 123
+operator_number OperatorSetIsEmpty = 124
+operator_number OperatorSetIsSingleton = 125
+operator_number OperatorSetCard = 126
+operator_number OperatorSetInsert = 127
+operator_number OperatorSetComplement = 128
+operator_number OperatorTuple = 129
+operator_number OperatorTupleUnit = 130
+operator_number OperatorRelTranspose = 131
+operator_number OperatorRelTclosure = 132
+operator_number OperatorRelJoin = 133
+operator_number OperatorRelProduct = 134
+
+abbrev pub operator_kinds : List Operator
+operator_kinds = OperatorTrue ∷ OperatorFalse ∷ OperatorNot ∷ OperatorImplies ∷ OperatorAnd ∷ OperatorOr ∷ OperatorXor ∷ OperatorEquals ∷ OperatorDistinct ∷ OperatorIte ∷ OperatorAdd ∷ OperatorSub ∷ OperatorMult ∷ OperatorIntDiv ∷ OperatorRealDiv ∷ OperatorMod ∷ OperatorAbs ∷ OperatorLessThan ∷ OperatorGreaterThan ∷ OperatorLessEq ∷ OperatorGreaterEq ∷ OperatorToReal ∷ OperatorToInt ∷ OperatorIsInt ∷ OperatorPow2 ∷ OperatorIsPow2 ∷ OperatorLog2 ∷ OperatorRealPi ∷ OperatorSqrt ∷ OperatorExp ∷ OperatorSin ∷ OperatorCos ∷ OperatorTan ∷ OperatorCsc ∷ OperatorSec ∷ OperatorCot ∷ OperatorArcsin ∷ OperatorArccos ∷ OperatorArctan ∷ OperatorArccsc ∷ OperatorArcsec ∷ OperatorArccot ∷ OperatorSelect ∷ OperatorStore ∷ OperatorStrConcat ∷ OperatorStrLen ∷ OperatorStrLessThan ∷ OperatorStrLessEq ∷ OperatorCharAt ∷ OperatorSubstring ∷ OperatorPrefixOf ∷ OperatorSuffixOf ∷ OperatorContains ∷ OperatorIndexOf ∷ OperatorIndexOfRe ∷ OperatorReplace ∷ OperatorReplaceAll ∷ OperatorReplaceRe ∷ OperatorReplaceReAll ∷ OperatorStrIsDigit ∷ OperatorStrToCode ∷ OperatorStrFromCode ∷ OperatorStrToInt ∷ OperatorStrFromInt ∷ OperatorStrToRe ∷ OperatorStrInRe ∷ OperatorReNone ∷ OperatorReAll ∷ OperatorReAllChar ∷ OperatorReConcat ∷ OperatorReUnion ∷ OperatorReIntersection ∷ OperatorReKleeneClosure ∷ OperatorReComplement ∷ OperatorReDiff ∷ OperatorReKleeneCross ∷ OperatorReOption ∷ OperatorReRange ∷ OperatorReFromAutomaton ∷ OperatorBvNot ∷ OperatorBvNeg ∷ OperatorBvAnd ∷ OperatorBvOr ∷ OperatorBvAdd ∷ OperatorBvMul ∷ OperatorBvUDiv ∷ OperatorBvURem ∷ OperatorBvShl ∷ OperatorBvLShr ∷ OperatorBvULt ∷ OperatorBvConcat ∷ OperatorBvNAnd ∷ OperatorBvNOr ∷ OperatorBvXor ∷ OperatorBvXNor ∷ OperatorBvComp ∷ OperatorBvSub ∷ OperatorBvSDiv ∷ OperatorBvSRem ∷ OperatorBvSMod ∷ OperatorBvAShr ∷ OperatorBvULe ∷ OperatorBvUGt ∷ OperatorBvUGe ∷ OperatorBvSLt ∷ OperatorBvSLe ∷ OperatorBvSGt ∷ OperatorBvSGe ∷ OperatorUBvToInt ∷ OperatorSBvToInt ∷ OperatorBvPBbTerm ∷ OperatorBvBbTerm ∷ OperatorBvConst ∷ OperatorBvSize ∷ OperatorBvIte ∷ OperatorRareList ∷ OperatorCl ∷ OperatorDelete ∷ OperatorSetUnion ∷ OperatorSetInter ∷ OperatorSetMinus ∷ OperatorSetMember ∷ OperatorSetSubset ∷ OperatorSetSingleton ∷ OperatorSetIsEmpty ∷ OperatorSetIsSingleton ∷ OperatorSetCard ∷ OperatorSetInsert ∷ OperatorSetComplement ∷ OperatorTuple ∷ OperatorTupleUnit ∷ OperatorRelTranspose ∷ OperatorRelTclosure ∷ OperatorRelJoin ∷ OperatorRelProduct ∷ []
+
+abbrev pub operator_kind : ℕ → Option Operator
+operator_kind n = slice_get operator_kinds n
+
+abbrev pub OperatorDecodes : ℕ → Result Operator UnknownKind → Type 0
+OperatorDecodes n r = MatchResult r (λ k. operator_number k ≡ n) (λ e. (e.0 ≡ n) × (135 ≤ n))

@@ -1,0 +1,18 @@
+-- The store as it was with `from` sorts, whole.
+-- All from the place of its first record to go is zeros, and no slot holds a later one; a good state is fixed by its sorts and lengths.
+use Rattle.std.proofs.Common.{arith, refl}
+use Rattle.store.proofs.BufferLaws.{part-cleared}
+use Rattle.store.proofs.UndoLaws.{undo-none, undo-room, undo-wide, undo-cut}
+use Rattle.store.proofs.cut.Goals as goal
+
+pub returns-then-count-from : goal.returns-then-count-from
+returns-then-count-from c = undo-none c.requires c.if-count-from.true
+
+pub returns : goal.returns
+returns c = let i = c.requires.good.indexed in
+    let some = c.if-count-from.false in
+    undo-cut c.requires some
+    (part-cleared (c.fill.ensures.after (λ y e. e)) refl (undo-room c.requires some))
+    (part-cleared (c.fill-2.ensures.after (λ y e. e)) refl (undo-wide c.requires some))
+    c.cut_slots.ensures
+    (part-cleared (c.fill-3.ensures.after (λ y e. e)) (omega arith) (omega (arith, c.cut_slots.ensures.long, some, i.table, i.count)))
