@@ -70,7 +70,10 @@ module _ {b p ix : List ℕ} {n u : ℕ} {l : List ℕ} {x m : ℕ} (a : Functio
       record { asks = a; small = omega (arith, e, cap-within (sizes answers) s, size-function answers) }
 
 -- THE FUNCTION AFTER ITS LIST.
-module _ {b p ix : List ℕ} {n u : ℕ} {l : List ℕ} {x m : ℕ} (f : FunctionFits b p ix n u l x m) {o : List ℕ} (ho : o ≡ numbers_at b x m) where
+module _ {b p ix : List ℕ} {n u : ℕ} {l : List ℕ} {x m : ℕ} (f : FunctionFits b p ix n u l x m) {o bytes : List ℕ} (read : o ≡ numbers_at bytes x m) (same : bytes ≡ b) where
+  ho : o ≡ numbers_at b x m
+  ho = read ∙ ap (λ (s : List ℕ). numbers_at s x m) same
+
   abbrev a : FunctionAsks b p ix n u l x m
   a = f.asks
 

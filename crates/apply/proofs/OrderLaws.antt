@@ -234,9 +234,9 @@ module _ {b p : List ℕ} {seen : List Bool} {o : List ℕ} {n k : ℕ} (a : Ord
                 let d : length o' - length o' ≡ 0 = omega arith in
                 get_or-append_right o' (k ∷ []) (length o') (length o') 0 refl (omega arith) ∙ ap (λ (j : ℕ). get_or (k ∷ []) j 0) d
 
-        pub order-last : {seen'' : List Bool} {o'' : List ℕ} → seen'' ≡ set seen' k true → o'' ≡ last → OrderIs b p seen o n k seen'' o''
-        order-last {seen''} {o''} es eo =
-            subst (λ (x : List Bool). OrderIs b p seen o n k x o'') (sym es) (subst (OrderIs b p seen o n k (set seen' k true)) (sym eo)
+        pub order-last : {o'' : List ℕ} → o'' ≡ last → OrderIs b p seen o n k (set seen' k true) o''
+        order-last eo =
+            subst (OrderIs b p seen o n k (set seen' k true)) (sym eo)
             (record {
               table = length-set seen' k true ∙ i.long;
               above = λ j l. get_or-set_other seen' k j true false (λ e. omega arith) ∙ i.above j (omega arith);
@@ -247,18 +247,20 @@ module _ {b p : List ℕ} {seen : List Bool} {o : List ℕ} {n k : ℕ} (a : Ord
                   ∙ ap (intern (sort_answer θ S k)) (parts-made w)
                   ∙ intern-after θ (get_or S k leaf) (answers_listed θ S o st) (ordered-intern-all (apply_all θ (sorts_of S o)) st w.ordered);
               within = λ θ y l w. last_within θ y l (i.within θ y l w);
-            }))
+            })
 
 -- The same store, read through other slices, and the same list.
-pub order-asks-through : {b p b' p' : List ℕ} {seen : List Bool} {o : List ℕ} {n n' k : ℕ} → b' ≡ b → p' ≡ p → n' ≡ n → OrderAsks b p seen o n k → OrderAsks b' p' seen o n' k
-order-asks-through {b} {p} {b'} {p'} {seen} {o} {n} {n'} {k} e f g h =
-    subst (λ (x : List ℕ). OrderAsks x p' seen o n' k) (sym e) (subst (λ (x : List ℕ). OrderAsks b x seen o n' k) (sym f) (subst (λ (x : ℕ). OrderAsks b p seen o x k) (sym g) h))
+pub order-asks-through : {b p b' p' : List ℕ} {seen : List Bool} {o o' : List ℕ} {n k : ℕ} → b' ≡ b → p' ≡ p → o' ≡ o
+    → OrderAsks b p seen o n k → OrderAsks b' p' seen o' n k
+order-asks-through {b} {p} {p' = p'} {seen} {o} {o'} {n} {k} e f g h =
+    subst (λ (x : List ℕ). OrderAsks x p' seen o' n k) (sym e) (subst (λ (x : List ℕ). OrderAsks b x seen o' n k) (sym f)
+    (subst (λ (x : List ℕ). OrderAsks b p seen x n k) (sym g) h))
 
-pub order-is-through : {b p b' p' : List ℕ} {seen : List Bool} {o : List ℕ} {n n' k : ℕ} {seen' : List Bool} {o' o'' : List ℕ} → b' ≡ b → p' ≡ p → n' ≡ n → o'' ≡ o'
-    → OrderIs b' p' seen o n' k seen' o' → OrderIs b p seen o n k seen' o''
-order-is-through {b} {p} {b'} {p'} {seen} {o} {n} {n'} {k} {seen'} {o'} {o''} e f g q h =
-    subst (λ (x : List ℕ). OrderIs x p seen o n k seen' o'') e (subst (λ (x : List ℕ). OrderIs b' x seen o n k seen' o'') f
-    (subst (λ (x : ℕ). OrderIs b' p' seen o x k seen' o'') g (subst (OrderIs b' p' seen o n' k seen') (sym q) h)))
+pub order-is-through : {b p b' p' : List ℕ} {seen : List Bool} {o o' : List ℕ} {n k : ℕ} {seen' : List Bool} {q q' : List ℕ} → b' ≡ b → p' ≡ p → o' ≡ o → q ≡ q'
+    → OrderIs b' p' seen o' n k seen' q' → OrderIs b p seen o n k seen' q
+order-is-through {p = p} {b'} {p'} {seen} {o} {o'} {n} {k} {seen'} {q} {q'} e f g i h =
+    subst (λ (x : List ℕ). OrderIs x p seen o n k seen' q) e (subst (λ (x : List ℕ). OrderIs b' x seen o n k seen' q) f
+    (subst (λ (x : List ℕ). OrderIs b' p' seen x n k seen' q) g (subst (OrderIs b' p' seen o' n k seen') (sym i) h)))
 
 -- THE STORE ITSELF has the answers of its sorts without parts.
 image-there : (st : List Sort) (l : List ℕ) (v : ℕ) → memb (var v) st ≡ true → (x : ℕ) → get_or l v 0 ≡ x → x ≤ length st

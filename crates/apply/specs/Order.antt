@@ -41,11 +41,6 @@ unfoldable pub unnoted : List Bool → ℕ
 unnoted [] = 0
 unnoted (a ∷ l) = cond a (unnoted l) (suc (unnoted l))
 
--- What an order holds: which sorts are noted, and the numbers that are listed.
-pub record Listed : Type 0 where
-  pub seen : List Bool
-  pub list : List ℕ
-
 -- A list that covers what is noted, with a place for each sort that is not.
 pub record OrderAsks (b p : List ℕ) (seen : List Bool) (o : List ℕ) (n k : ℕ) : Type 0 where
   pub stored : Stored b p n

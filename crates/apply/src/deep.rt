@@ -1,15 +1,14 @@
 // Substitution in a deep sort with little stack: its sorts with parts are put in order first, parts before what they stand in,
 // so that the walk that makes the answers finds those of the parts in its table.
-ghost use Rattle.std.specs.Prelude.{[], ◌≡◌, ◌≤◌, take};
 ghost use Rattle.store.specs.Changes.{Same};
 ghost use Rattle.apply_walk.specs.Stores.{WalkAsks, WalkedIn, WalkAllAsk, AllWalkedIn};
-ghost use Rattle.apply.specs.Order.{Listed, OrderAsks, OrderIs};
+ghost use Rattle.apply.specs.Order.{OrderAsks, OrderIs};
 ghost use Rattle.apply.specs.Stores.{ListAsks, ListedIn};
 
 use apply_walk::apply_sort;
+use arrayvec::ArrayVec;
 use record::limits::MOST_SORTS;
-use std::marker::Model;
-use store::entries::Sorts;
+use store::entries::Entries;
 use store::{Full, Store};
 
 // The largest tree that is walked without an order: up to it the stack that an order saves is not worth its time.
@@ -18,43 +17,25 @@ const SHALLOW: usize = 1024;
 // Sorts with parts, each once, parts first from left to right; and which sorts are noted as listed.
 #[derive(Drop)]
 pub struct Order {
-    seen: [bool; MOST_SORTS],
-    list: [u16; MOST_SORTS],
-    len: usize,
-}
-
-// Clauses see the notes and the numbers that are listed.
-impl Model for Order {
-    ghost Value = { Listed };
-
-    ghost view = { λ o. record { seen = o.seen; list = take o.len o.list } };
-
-    ghost invariant = { λ o. o.len ≤ 4096 };
+    pub seen: [bool; MOST_SORTS],
+    pub list: ArrayVec<u16, MOST_SORTS>,
 }
 
 impl Order {
-    // Lists the sorts with parts in the sort `k`, but for those noted, and notes them.
-    pub fn add(&mut self, sorts: &Sorts<'_>, k: usize)
-        requires { OrderAsks sorts.now.records.now sorts.now.places.now self.old.seen self.old.list sorts.now.count k }
-        ensures { OrderIs sorts.now.records.now sorts.now.places.now self.old.seen self.old.list sorts.now.count k self.new.seen self.new.list }
+    // Lists the sorts with parts in the sort `k` of a store of `count` sorts, but for those noted, and notes them.
+    pub fn add(&mut self, entries: &Entries<'_>, count: usize, k: usize)
+        requires { OrderAsks entries.now.records.now entries.now.places.now self.old.seen self.old.list.items count k }
+        ensures { OrderIs entries.now.records.now entries.now.places.now self.old.seen self.old.list.items count k self.new.seen self.new.list.items }
     {
-        let e = sorts.entry(k);
+        let e = entries.entry(k);
         if e.parts.count == 0 || self.seen[k] {
             return;
         }
-        for part in e.parts.numbers(sorts.records) {
-            self.add(sorts, part);
+        for part in e.parts.numbers(entries.records) {
+            self.add(entries, count, part);
         }
         self.seen[k] = true;
-        self.list[self.len] = k as u16;
-        self.len += 1;
-    }
-
-    // The numbers of the sorts that are listed.
-    pub fn as_slice(&self) -> &[u16]
-        ensures { result.now ≡ self.now.list }
-    {
-        &self.list[..self.len]
+        self.list.push(k as u16);
     }
 }
 
@@ -92,11 +73,11 @@ pub fn apply_deep(
     }
     let mut order = Order {
         seen: [false; MOST_SORTS],
-        list: [0; MOST_SORTS],
-        len: 0,
+        list: ArrayVec::new(),
     };
-    order.add(&store.sorts(), k);
-    apply_order(store, known, order.as_slice(), images)?;
+    let count = store.count;
+    order.add(&store.entries(), count, k);
+    apply_order(store, known, order.list.as_slice(), images)?;
     apply_sort(store, known, k, images)
 }
 

@@ -7,7 +7,9 @@ use native.Mathlib.Omega.{arith}
 use native.Mathlib.Numerals.{add-one}
 use lib.ListN.{length, get_or, take, length-append}
 use lib.Seq.{take-suc, take-length}
-use lib.Dec.{eqb, ltb, ltb→lt}
+use lib.Dec.{ltb, ltb→lt}
+use Rattle.std.specs.Bool.{then_some}
+use Rattle.std.proofs.Common.{Option, MatchOption}
 use Rattle.record.specs.Number.{u16_bytes, u32_bytes, numbers_bytes}
 use Rattle.record.specs.Record.{Fields, maps, map_of, bit, name_bytes, number_bytes, list_bytes, record_bytes}
 use Rattle.record.specs.Table.{at}
@@ -43,14 +45,18 @@ list-more {l} {first} {out} {j} i h {v} q {next} e =
     }
 
 pub list-end : {l first out : List ℕ} (start : List ℕ) {j : ℕ} → ListInv l first out j → j ≡ length l → first ≡ start ++ (length l ∷ [])
-    → (given : Bool) → given ≡ true → out ≡ start ++ list_bytes given l
-list-end {l} {first} {out} start {j} i e f given g =
-    let whole : out ≡ start ++ (length l ∷ numbers_bytes l) =
+    → out ≡ start ++ list_bytes true l
+list-end {l} {first} {out} start {j} i e f =
     i.is ∙ ap (λ (k : ℕ). first ++ numbers_bytes (take k l)) e
     ∙ ap (λ (vs : List ℕ). first ++ numbers_bytes vs) (take-length l)
     ∙ ap (λ (s : List ℕ). s ++ numbers_bytes l) f
-    ∙ append_assoc start (length l ∷ []) (numbers_bytes l) in
-    whole ∙ sym (ap (λ (t : Bool). start ++ list_bytes t l) g)
+    ∙ append_assoc start (length l ∷ []) (numbers_bytes l)
+
+-- A field that is there only where its bit stands has the bytes that the bit gives it.
+pub field-bytes : {A : Type 0} (bytes : Bool → A → List ℕ) (t : Bool) (x : A) (s : List ℕ) {u : Bool} {r : List ℕ} {o : Option A} → u ≡ t → o ≡ then_some u x → bytes false x ≡ []
+    → MatchOption o (r ≡ s) (λ y. r ≡ s ++ bytes true y) → r ≡ s ++ bytes t x
+field-bytes bytes true x s q e z h = rw (e, q) at h
+field-bytes bytes false x s {r = r} q e z h = let same : r ≡ s = rw (e, q) at h in same ∙ sym (ap (λ (b : List ℕ). s ++ b) z ∙ append-nil s)
 
 -- Every map is a byte.
 abbrev small-map : ℕ → ℕ → Bool
@@ -78,15 +84,15 @@ list-room s {r} false vs e h = omega (arith, ap length e, length-append {A = ℕ
 
 -- THE WHOLE RECORD: the six steps, one behind the other.
 pub whole : (f : Fields) {m : ℕ} → m ≡ map_of f.kind → {s s1 s2 s3 s4 s5 s6 : List ℕ} → s ≡ [] → s1 ≡ s ++ (m ∷ []) → s2 ≡ s1 ++ (f.kind ∷ [])
-    → s3 ≡ s2 ++ name_bytes (eqb (m / 2 % 2) 1) f.name → s4 ≡ s3 ++ number_bytes (eqb (m / 4 % 2) 1) f.number
-    → s5 ≡ s4 ++ list_bytes (eqb (m / 16 % 2) 1) f.list → s6 ≡ s5 ++ list_bytes (eqb (m / 64 % 2) 1) f.names
+    → s3 ≡ s2 ++ name_bytes (bit 2 m) f.name → s4 ≡ s3 ++ number_bytes (bit 4 m) f.number
+    → s5 ≡ s4 ++ list_bytes (bit 16 m) f.list → s6 ≡ s5 ++ list_bytes (bit 64 m) f.names
     → s6 ≡ record_bytes f
-unfolding record_bytes bit
+unfolding record_bytes
 whole f {m} e {s} {s1} {s2} {s3} {s4} {s5} {s6} z p1 p2 p3 p4 p5 p6 =
-    let n2 = name_bytes (eqb (m / 2 % 2) 1) f.name in
-    let n4 = number_bytes (eqb (m / 4 % 2) 1) f.number in
-    let n16 = list_bytes (eqb (m / 16 % 2) 1) f.list in
-    let n64 = list_bytes (eqb (m / 64 % 2) 1) f.names in
+    let n2 = name_bytes (bit 2 m) f.name in
+    let n4 = number_bytes (bit 4 m) f.number in
+    let n16 = list_bytes (bit 16 m) f.list in
+    let n64 = list_bytes (bit 64 m) f.names in
     let e1 : s1 ≡ m ∷ [] = p1 ∙ ap (λ (r : List ℕ). r ++ (m ∷ [])) z in
     let e2 : s2 ≡ m ∷ f.kind ∷ [] = p2 ∙ ap (λ (r : List ℕ). r ++ (f.kind ∷ [])) e1 in
     let e3 : s3 ≡ m ∷ f.kind ∷ n2 = p3 ∙ ap (λ (r : List ℕ). r ++ n2) e2 in
@@ -95,4 +101,4 @@ whole f {m} e {s} {s1} {s2} {s3} {s4} {s5} {s6} z p1 p2 p3 p4 p5 p6 =
     let e6 : s6 ≡ m ∷ f.kind ∷ (n2 ++ n4 ++ n16 ++ n64) = p6 ∙ ap (λ (r : List ℕ). r ++ n64) e5 in
     let g : n2 ++ n4 ++ n16 ++ n64 ≡ n2 ++ (n4 ++ (n16 ++ n64)) = append_assoc (n2 ++ n4) n16 n64 ∙ append_assoc n2 n4 (n16 ++ n64) in
     e6 ∙ ap (λ (r : List ℕ). m ∷ f.kind ∷ r) g
-    ∙ ap (λ (i : ℕ). i ∷ f.kind ∷ (name_bytes (eqb (i / 2 % 2) 1) f.name ++ (number_bytes (eqb (i / 4 % 2) 1) f.number ++ (list_bytes (eqb (i / 16 % 2) 1) f.list ++ list_bytes (eqb (i / 64 % 2) 1) f.names)))) e
+    ∙ ap (λ (i : ℕ). i ∷ f.kind ∷ (name_bytes (bit 2 i) f.name ++ (number_bytes (bit 4 i) f.number ++ (list_bytes (bit 16 i) f.list ++ list_bytes (bit 64 i) f.names)))) e

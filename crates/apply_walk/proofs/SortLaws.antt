@@ -15,9 +15,9 @@ use Rattle.record.specs.Entries.{store-ordered}
 use Rattle.record.specs.Kinds.{sort_number}
 use Rattle.record.specs.declared.SortRecord.{SortRecord}
 use Rattle.store.specs.Contract.{Untouched}
-use Rattle.store.specs.Entry.{EntryIs}
+use Rattle.store.specs.Entry.{EntryIs, EntryHas}
 use Rattle.substitution.specs.Substitution.{Map, apply_all}
-use Rattle.apply_walk.specs.Lists.{unbound, ReadAsks}
+use Rattle.apply_walk.specs.Lists.{unbound}
 use Rattle.apply_walk.specs.Images.{image_number, images_of}
 use Rattle.apply_walk.specs.Made.{Made, made-known-sort, grown-count}
 use Rattle.apply_walk.specs.Halted.{Halted, made-over, halted-over}
@@ -27,7 +27,10 @@ use Rattle.apply_walk.specs.KnownLaws.{image-map-same, sort-same, answer-same, t
 use Rattle.apply_walk.proofs.SortForms.{rebuilt, image-is, image-known, answer-rebuilt, answer-leaf, parts-one, intern-rebuilt, starts-rebuilt, sizes-within, size-refs}
 
 -- A WHOLE SORT.
-module _ {b p ix : List ℕ} {n u k : ℕ} {l : List ℕ} (a : SortAsks b p ix n u k l) {e : SortRecord} (is : EntryIs b p n k e) where
+module _ {b p ix : List ℕ} {n u k : ℕ} {l : List ℕ} (a : SortAsks b p ix n u k l) {e : SortRecord} (entry : EntryHas b p k e) where
+  abbrev is : EntryIs b p n k e
+  is = entry n a.ready.good.stored a.known
+
   pub sort-image : sort_number e.kind ≡ 2 → {i : ℕ} → i ≡ image_number (get_or l e.name 0) k → Made b p n u (answer_at b p n l k) b p ix i n u
   sort-image h {i} q =
       subst (λ (s : Sort). Made b p n u s b p ix i n u)
@@ -41,10 +44,10 @@ module _ {b p ix : List ℕ} {n u k : ℕ} {l : List ℕ} (a : SortAsks b p ix n
       (answer-leaf a.ready.good.stored a.ready.table a.known is d z)
       (made-known-sort b p ix n u a.ready.good k a.known)
 
-  pub sort-read : ReadAsks b e.parts.at e.parts.count
-  sort-read = record { within = is.place.list; few = is.few }
+  module _ (other : sort_number e.kind ≡ 2 → ⊥) {o bytes : List ℕ} (read : o ≡ numbers_at bytes e.parts.at e.parts.count) (same : bytes ≡ b) where
+    ho : o ≡ numbers_at b e.parts.at e.parts.count
+    ho = read ∙ ap (λ (s : List ℕ). numbers_at s e.parts.at e.parts.count) same
 
-  module _ (other : sort_number e.kind ≡ 2 → ⊥) {o : List ℕ} (ho : o ≡ numbers_at b e.parts.at e.parts.count) where
     abbrev ps : Sorts
     ps = apply_all (images_of (store_of b p n) l) (parts_of (sort_at b p n k))
 
@@ -138,14 +141,13 @@ module _ {b p ix : List ℕ} {n u k : ℕ} {l : List ℕ} (a : SortAsks b p ix n
 
       -- The table has it too.
       pub sort-known : {d t jx' : List ℕ} {i m' v' : ℕ} → Made c q m v (answer_at c q m l k) d t jx' i m' v'
-          → (ws : List ℕ) → Known c q m l ws → Known d t m' l (set ws k (i + 1))
-      sort-known {d} {t} {jx'} {i} {m'} {v'} y ws h =
-          known-added c q m v k l d t jx' i m' v' y sort-rebuild.ready.table sort-rebuild.known ws h
+          → {ws : List ℕ} → Known c q m l ws → Known d t m' l (set ws k (i + 1))
+      sort-known y h = known-added y sort-rebuild.ready.table sort-rebuild.known h
 
-      pub sort-full : (d t jx' : List ℕ) (m' v' : ℕ)
+      pub sort-full : {d t jx' : List ℕ} {m' v' : ℕ}
           → (room (length c) (length q) (intern (answer_at c q m l k) (store_of c q m)) ≡ false) × Untouched c q kx d t jx' × (m' ≡ m) × (v' ≡ v)
           → Halted b p n u (intern (answer_at b p n l k) (store_of b p n)) d t jx' m' v'
-      sort-full d t jx' m' v' y =
+      sort-full {d} {t} {jx'} {m'} {v'} y =
           subst (λ (i : ℕ). Halted b p n u (intern (answer_at b p n l k) (store_of b p n)) d t jx' i v') (sym y.2)
           (subst (Halted b p n u (intern (answer_at b p n l k) (store_of b p n)) d t jx' m) (sym y.3)
           (halted-over b p ix n u a.ready.good c q kx m v w.good starts w.kept (answer_at b p n l k) interned

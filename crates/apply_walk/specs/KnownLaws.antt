@@ -65,9 +65,9 @@ known-set b p n l ws k i h a c e =
     number j q = omega arith
 
 -- The answer for the sort k is made, and the table has it.
-pub known-added : (c q : List ℕ) (n u k : ℕ) (l d t ix : List ℕ) (i m v : ℕ) → Made c q n u (answer_at c q n l k) d t ix i m v → ImageTable l n → k < n
-    → (ws : List ℕ) → Known c q n l ws → Known d t m l (set ws k (i + 1))
-known-added c q n u k l d t ix i m v w tab h ws old =
+pub known-added : {c q : List ℕ} {n u k : ℕ} {l d t ix : List ℕ} {i m v : ℕ} → Made c q n u (answer_at c q n l k) d t ix i m v → ImageTable l n → k < n
+    → {ws : List ℕ} → Known c q n l ws → Known d t m l (set ws k (i + 1))
+known-added {c} {q} {n} {u} {k} {l} {d} {t} {ix} {i} {m} {v} w tab h {ws} old =
     let s = answer_at c q n l k in
     let grows = made-starts c q n u s d t ix i m v w in
     known-set d t m l ws k i (known_grown c q d t n m l grows tab ws old)
@@ -75,10 +75,10 @@ known-added c q n u k l d t ix i m v w tab h ws old =
     (made-here c q n u s d t ix i m v w ∙ sym (answer-same c q d t n m l grows tab k h))
 
 -- What the table has is made.
-pub known-made : (b p ix : List ℕ) (n u : ℕ) → Good b p ix n u → (k : ℕ) (l ws : List ℕ) → Known b p n l ws
-    → (v : ℕ) → v ≡ get_or ws k 0 → (v ≡ 0 → ⊥) → Made b p n u (answer_at b p n l k) b p ix (v - 1) n u
-known-made b p ix n u g k l ws h zero e d = absurd (d refl)
-known-made b p ix n u g k l ws h (suc i) e d =
+pub known-made : {b p ix : List ℕ} {n u : ℕ} → Good b p ix n u → (k : ℕ) {l ws : List ℕ} → Known b p n l ws
+    → {v : ℕ} → v ≡ get_or ws k 0 → (v ≡ 0 → ⊥) → Made b p n u (answer_at b p n l k) b p ix (v - 1) n u
+known-made g k h {v = zero} e d = absurd (d refl)
+known-made {b} {p} {ix} {n} {u} g k {l} {ws} h {v = suc i} e d =
     let w = h.each k i (sym e) in
     let o : suc i - 1 ≡ i = omega arith in
     subst (λ (j : ℕ). Made b p n u (answer_at b p n l k) b p ix j n u) (sym o)
@@ -96,23 +96,23 @@ known-parts b p n u parts l c q ix' ws' o m v (Ok w) h = h.made
 known-parts b p n u parts l c q ix' ws' o m v (Err e) h = h
 
 -- Where there was no room.
-pub known-halted : (b p : List ℕ) (n u k : ℕ) (l c q ix' ws' : List ℕ) (m v : ℕ) (r : Result ℕ Full) → IsErr r
+pub known-halted : {b p : List ℕ} {n u : ℕ} (k : ℕ) (l : List ℕ) {c q ix' : List ℕ} (ws' : List ℕ) {m v : ℕ} (r : Result ℕ Full) → IsErr r
     → Halted b p n u (intern (answer_at b p n l k) (store_of b p n)) c q ix' m v → KnownIs b p n u k l c q ix' ws' m v r
-known-halted b p n u k l c q ix' ws' m v (Ok i) e h = cc
-known-halted b p n u k l c q ix' ws' m v (Err f) e h = h
+known-halted k l ws' (Ok i) e h = cc
+known-halted k l ws' (Err f) e h = h
 
-pub known-parts-halted : (b p : List ℕ) (n u : ℕ) (parts l c q ix' ws' o : List ℕ) (m v : ℕ) (r : Result (Unit {0}) Full) → IsErr r
+pub known-parts-halted : {b p : List ℕ} {n u : ℕ} (parts l : List ℕ) {c q ix' : List ℕ} (ws' o : List ℕ) {m v : ℕ} (r : Result (Unit {0}) Full) → IsErr r
     → Halted b p n u (intern_all (answers_at b p n l parts) (store_of b p n)) c q ix' m v → KnownAllAre b p n u parts l c q ix' ws' o m v r
-known-parts-halted b p n u parts l c q ix' ws' o m v (Ok w) e h = cc
-known-parts-halted b p n u parts l c q ix' ws' o m v (Err f) e h = h
+known-parts-halted parts l ws' o (Ok w) e h = cc
+known-parts-halted parts l ws' o (Err f) e h = h
 
 -- THE SIZES.
 pub weighed-none : (b p : List ℕ) (n : ℕ) (l : List ℕ) (m : ℕ) → Weighed b p n l (replicate m 0)
 weighed-none b p n l m = record { each = λ k v e. absurd (omega (arith, e, zeros-held m k)) }
 
-pub weighed-set : (b p : List ℕ) (n : ℕ) (l ws : List ℕ) (k v : ℕ) → Weighed b p n l ws → SizeIs b p n k l v → Weighed b p n l (set ws k v)
-weighed-set b p n l ws k v h is = record { each = table-set (Weighs b p n l) ws k v h.each (λ j q. is) }
+pub weighed-set : {b p : List ℕ} {n : ℕ} {l ws : List ℕ} (k : ℕ) {v : ℕ} → Weighed b p n l ws → SizeIs b p n k l v → Weighed b p n l (set ws k v)
+weighed-set {b} {p} {n} {l} {ws} k {v} h is = record { each = table-set (Weighs b p n l) ws k v h.each (λ j q. is) }
 
-pub weighed-is : (b p : List ℕ) (n k : ℕ) (l ws : List ℕ) → Weighed b p n l ws → (v : ℕ) → v ≡ get_or ws k 0 → (v ≡ 0 → ⊥) → SizeIs b p n k l v
-weighed-is b p n k l ws h zero e d = absurd (d refl)
-weighed-is b p n k l ws h (suc v) e d = e ∙ h.each k v (sym e)
+pub weighed-is : {b p : List ℕ} {n : ℕ} (k : ℕ) {l ws : List ℕ} → Weighed b p n l ws → {v : ℕ} → v ≡ get_or ws k 0 → (v ≡ 0 → ⊥) → SizeIs b p n k l v
+weighed-is k h {v = zero} e d = absurd (d refl)
+weighed-is k h {v = suc v} e d = e ∙ h.each k v (sym e)

@@ -61,9 +61,8 @@ pub record KnownInv (b p : List ℕ) (n u : ℕ) (parts l c q ix ws list : List 
   pub inv : PartsInv b p n u parts l c q ix list m v j
   pub known : Known c q m l ws
 
-pub parts-start : (b p ix : List ℕ) (n u : ℕ) (parts l : List ℕ) → PartsAsk b p ix n u parts l
-    → PartsInv b p n u parts l b p ix parts n u 0
-parts-start b p ix n u parts l a =
+pub parts-start : {b p ix : List ℕ} {n u : ℕ} {parts l : List ℕ} → PartsAsk b p ix n u parts l → PartsInv b p n u parts l b p ix parts n u 0
+parts-start {b} {p} {n = n} {u} a =
     record {
       low = omega arith;
       good = a.ready.good;
@@ -76,12 +75,12 @@ parts-start b p ix n u parts l a =
       total = refl;
     }
 
-module _ (b p ix : List ℕ) (n u : ℕ) (parts l : List ℕ) (a : PartsAsk b p ix n u parts l)
-    (c q jx list : List ℕ) (m v j : ℕ) (i : PartsInv b p n u parts l c q jx list m v j) where
+module _ {b p ix : List ℕ} {n u : ℕ} {parts l : List ℕ} (a : PartsAsk b p ix n u parts l)
+    {c q jx list : List ℕ} {m v j : ℕ} (i : PartsInv b p n u parts l c q jx list m v j) where
   along : Along b p n u parts l c q jx m v j
   along = record { good = i.good; starts = i.starts; kept = i.kept; total = i.total }
 
-  module _ (h : j < length parts) (k : ℕ) (first : k ≡ get_or list j 0) where
+  module _ (h : j < length parts) {k : ℕ} (first : k ≡ get_or list j 0) where
     here : k ≡ get_or parts j 0
     here = first ∙ i.rest j (omega arith)
 
@@ -111,13 +110,13 @@ module _ (b p ix : List ℕ) (n u : ℕ) (parts l : List ℕ) (a : PartsAsk b p 
           )),
     )
 
-    pub parts-halted : (d r kx : List ℕ) (m' v' : ℕ)
+    pub parts-halted : {d r kx : List ℕ} {m' v' : ℕ}
         → Halted c q m v (intern (answer_at c q m l k) (store_of c q m)) d r kx m' v'
         → Halted b p n u (intern_all (answers_at b p n l parts) (store_of b p n)) d r kx m' v'
-    parts-halted =
-        along-halted b p ix n u l a.ready parts c q jx m v j along k known h (sym here)
+    parts-halted {d} {r} {kx} {m'} {v'} =
+        along-halted b p ix n u l a.ready parts c q jx m v j along k known h (sym here) d r kx m' v'
 
-    module _ (d r kx : List ℕ) (y m' v' : ℕ) (w : Made c q m v (answer_at c q m l k) d r kx y m' v') where
+    module _ {d r kx : List ℕ} {y m' v' : ℕ} (w : Made c q m v (answer_at c q m l k) d r kx y m' v') where
       grows : Starts (store_of c q m) (store_of d r m')
       grows = made-starts c q m v (answer_at c q m l k) d r kx y m' v' w
 

@@ -1,14 +1,15 @@
 // A sort made from its fields: the record's bytes, put together from left to right, and interned.
-ghost use Rattle.std.specs.Prelude.{◌≡◌, ℕ, List, [], ◌∷◌, ◌++◌, ◌+◌, ◌≤◌, ◌<◌, length, take};
+ghost use Rattle.std.specs.Prelude.{◌≡◌, ℕ, true, List, [], ◌∷◌, ◌++◌, ◌+◌, ◌≤◌, ◌<◌, length, IfSome, MatchOption};
 ghost use Rattle.record.specs.Number.{u16_bytes};
 ghost use Rattle.record.specs.Record.{name_bytes, number_bytes, list_bytes, record_bytes};
 ghost use Rattle.store.specs.Changes.{Same};
 ghost use Rattle.apply_walk.specs.Draft.{fields_of, FieldsFit};
 ghost use Rattle.apply_walk.specs.Stores.{sort_in, MakeAsks, MadeIn};
 
+use arrayvec::ArrayVec;
 use record::kinds::SortKind;
 use record::limits::LONGEST_RECORD;
-use record::tables::map_of;
+use record::tables::{LIST_BIT, NAME_BIT, NAMES_BIT, NUMBER_BIT, has_bit, map_of};
 use std::marker::Model;
 use store::{Full, Store};
 
@@ -25,35 +26,32 @@ pub struct SortFields<'a> {
 // The bytes of a record that is put together from left to right.
 #[derive(Drop)]
 pub struct Draft {
-    bytes: [u8; LONGEST_RECORD],
-    len: usize,
+    bytes: ArrayVec<u8, LONGEST_RECORD>,
 }
 
-// Clauses see the bytes so far.
+// Clauses see the bytes, from the first to the last.
 impl Model for Draft {
     ghost Value = { List ℕ };
 
-    ghost view = { λ d. take d.len d.bytes };
-
-    ghost invariant = { λ d. d.len ≤ 266 };
+    ghost view = { λ d. d.bytes.items };
 }
 
 impl Draft {
-    // A record of no bytes yet.
+    // A record of no bytes.
     pub fn new() -> Draft
         ensures { result ≡ [] }
     {
         Draft {
-            bytes: [0; LONGEST_RECORD],
-            len: 0,
+            bytes: ArrayVec::new(),
         }
     }
 
-    // The bytes so far.
+    // The bytes, from the first to the last.
     pub fn as_slice(&self) -> &[u8]
-        ensures { result.now ≡ self.now }
+        ensures value { result.now ≡ self.now }
+        ensures few { length result.now ≤ 266 }
     {
-        &self.bytes[..self.len]
+        self.bytes.as_slice()
     }
 
     // One byte more.
@@ -62,8 +60,7 @@ impl Draft {
         requires small { v < 256 }
         ensures { self.new ≡ self.old ++ (v ∷ []) }
     {
-        self.bytes[self.len] = v as u8;
-        self.len += 1;
+        self.bytes.push(v as u8);
     }
 
     // A number of two bytes more, low byte first.
@@ -72,44 +69,45 @@ impl Draft {
         requires small { v < 65536 }
         ensures { self.new ≡ self.old ++ u16_bytes v }
     {
-        self.put_byte(v % 256);
-        self.put_byte(v / 256);
+        let [low, high] = (v as u16).to_le_bytes();
+        self.bytes.push(low);
+        self.bytes.push(high);
     }
 
     // A name more, where there is one; else nothing more.
-    pub fn put_name(&mut self, given: bool, v: usize)
+    pub fn put_name(&mut self, name: Option<usize>)
         requires room { length self.old + 2 ≤ 266 }
-        requires small { v < 65536 }
-        ensures { self.new ≡ self.old ++ name_bytes given v }
+        requires small { IfSome name (λ v. v < 65536) }
+        ensures { MatchOption name (self.new ≡ self.old) (λ v. self.new ≡ self.old ++ name_bytes true v) }
     {
-        if given {
+        if let Some(v) = name {
             self.put_word(v);
         }
     }
 
     // A number of four bytes more, where there is one; else nothing more.
-    pub fn put_width(&mut self, given: bool, v: usize)
+    pub fn put_number(&mut self, number: Option<usize>)
         requires room { length self.old + 4 ≤ 266 }
-        requires small { v < 65536 }
-        ensures { self.new ≡ self.old ++ number_bytes given v }
+        requires small { IfSome number (λ v. v < 65536) }
+        ensures { MatchOption number (self.new ≡ self.old) (λ v. self.new ≡ self.old ++ number_bytes true v) }
     {
-        if given {
+        if let Some(v) = number {
             self.put_word(v);
             self.put_word(0);
         }
     }
 
     // A list more, where there is one: how many numbers, then each in two bytes; else nothing more.
-    pub fn put_list(&mut self, given: bool, list: &[u16])
+    pub fn put_list(&mut self, list: Option<&[u16]>)
         requires room { length self.old + 129 ≤ 266 }
-        requires few { length list.now ≤ 64 }
-        ensures { self.new ≡ self.old ++ list_bytes given list.now }
+        requires few { IfSome list (λ l. length l.now ≤ 64) }
+        ensures { MatchOption list.entry (self.new ≡ self.old) (λ l. self.new ≡ self.old ++ list_bytes true l.now) }
     {
-        if !given {
+        let Some(numbers) = list else {
             return;
-        }
-        self.put_byte(list.len());
-        for v in list {
+        };
+        self.put_byte(numbers.len());
+        for v in numbers {
             self.put_word(usize::from(*v));
         }
     }
@@ -123,10 +121,10 @@ impl Draft {
         let map = map_of(fields.kind);
         self.put_byte(map);
         self.put_byte(fields.kind as usize);
-        self.put_name(map / 2 % 2 == 1, fields.name);
-        self.put_width(map / 4 % 2 == 1, fields.number);
-        self.put_list(map / 16 % 2 == 1, fields.parts);
-        self.put_list(map / 64 % 2 == 1, fields.names);
+        self.put_name(has_bit(map, NAME_BIT).then_some(fields.name));
+        self.put_number(has_bit(map, NUMBER_BIT).then_some(fields.number));
+        self.put_list(has_bit(map, LIST_BIT).then_some(fields.parts));
+        self.put_list(has_bit(map, NAMES_BIT).then_some(fields.names));
     }
 }
 

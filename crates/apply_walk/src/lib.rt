@@ -13,8 +13,9 @@ ghost use Rattle.apply_walk.specs.Images.{image_number};
 ghost use Rattle.apply_walk.specs.Contract.{capped, goes};
 ghost use Rattle.apply_walk.specs.Stores.{answer_in, MadeIn, RebuildAsksOf, WeighAsksOf, WeighedIn, WeighAllAskOf, AllWeighedIn, WalkAsks, WalkedIn, WalkAllAsk, AllWalkedIn};
 
+use arrayvec::ArrayVec;
 use build::{SortFields, make_fields};
-use lists::{List, names_kept, names_left, read_numbers, same_numbers};
+use lists::{names_kept, names_left, read_numbers, same_numbers};
 use record::kinds::SortKind;
 use record::limits::{LARGEST_TREE, LONGEST_LIST};
 use record::span::Span;
@@ -115,7 +116,7 @@ pub fn rebuild(
 {
     let e = store.entry(k);
     let records = store.entries().records;
-    let mut left = List::new();
+    let mut left = ArrayVec::new();
     names_left(records, e.names, images, &mut left);
     let names = left.as_slice();
     let kept = names.len();

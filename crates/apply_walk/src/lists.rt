@@ -1,57 +1,12 @@
 // Lists of at most 64 numbers: the references of a record, and the names of a Par that a table of images leaves.
-ghost use Rattle.std.specs.Prelude.{◌≡◌, ◌+◌, ◌<◌, ◌≤◌, true, List as Items, [], ◌∷◌, ◌++◌, ℕ, eqb, get_or, length, take};
+ghost use Rattle.std.specs.Prelude.{◌≡◌, ◌+◌, ◌<◌, ◌≤◌, true, ◌++◌, eqb, get_or, length};
+ghost use Rattle.arrayvec.specs.ArrayVec.{array_vec_len};
 ghost use Rattle.record.specs.Number.{numbers_at};
 ghost use Rattle.apply_walk.specs.Lists.{unbound, ReadAsks, NamesKeptAsk, SameAsks};
 
+use arrayvec::ArrayVec;
 use record::limits::LONGEST_LIST;
 use record::span::Span;
-use std::marker::Model;
-
-// At most 64 numbers of two bytes each.
-#[derive(Drop)]
-pub struct List {
-    items: [u16; LONGEST_LIST],
-    len: usize,
-}
-
-// Clauses see the numbers, from the first to the last.
-impl Model for List {
-    ghost Value = { Items ℕ };
-
-    ghost view = { λ s. take s.len s.items };
-
-    ghost invariant = { λ s. s.len ≤ 64 };
-}
-
-impl List {
-    // A list of no numbers.
-    pub fn new() -> List
-        ensures { result ≡ [] }
-    {
-        List {
-            items: [0; LONGEST_LIST],
-            len: 0,
-        }
-    }
-
-    // One number more behind the others.
-    pub fn push(&mut self, v: usize)
-        requires room { length self.old < 64 }
-        requires small { v < 65536 }
-        ensures { self.new ≡ self.old ++ (v ∷ []) }
-    {
-        self.items[self.len] = v as u16;
-        self.len += 1;
-    }
-
-    // The numbers, from the first to the last.
-    pub fn as_slice(&self) -> &[u16]
-        ensures value { result.now ≡ self.now }
-        ensures few { length result.now ≤ 64 }
-    {
-        &self.items[..self.len]
-    }
-}
 
 // Writes the numbers of the list `span` into `out`, which is as long.
 pub fn read_numbers(bytes: &[u8], span: Span, out: &mut [u16])
@@ -82,14 +37,14 @@ pub fn is_free(images: &[u16], v: usize) -> bool
 }
 
 // Puts those of the names of the list `span` that have no image behind the names of `out`, in their order.
-pub fn names_left(bytes: &[u8], span: Span, images: &[u16], out: &mut List)
+pub fn names_left(bytes: &[u8], span: Span, images: &[u16], out: &mut ArrayVec<u16, LONGEST_LIST>)
     requires asks { NamesKeptAsk bytes.now span.at span.count images.now }
-    requires room { length out.old + span.count ≤ 64 }
-    ensures { out.new ≡ out.old ++ unbound images.now (numbers_at bytes.now span.at span.count) }
+    requires room { array_vec_len out.old + span.count ≤ 64 }
+    ensures { out.new.items ≡ out.old.items ++ unbound images.now (numbers_at bytes.now span.at span.count) }
 {
     for v in span.numbers(bytes) {
         if is_free(images, v) {
-            out.push(v);
+            out.push(v as u16);
         }
     }
 }

@@ -11,7 +11,7 @@ use lib.Dec.{eqb, leb}
 use borrow.Author.Tests.{leb-true}
 use Rattle.std.specs.Prelude.{MatchBool}
 use Rattle.std.specs.List.{zip, AllWithin, HoldsAt}
-use Rattle.std.proofs.lemmas.List.{get_or-map}
+use Rattle.std.proofs.lemmas.List.{get_or-map, get_or_default}
 use Rattle.std.proofs.lemmas.Slice.Zip.{get_or-zip, length-zip}
 use Rattle.record.specs.Number.{u16_at, numbers_at}
 use Rattle.record.specs.Kinds.{sort_number}
@@ -27,7 +27,7 @@ use Rattle.record.specs.Cases.{false-second}
 use Rattle.check_rules.specs.Checked.{only_of}
 use Rattle.check_operator.specs.Rule.{plain_sort, fixed_of, all_same}
 use Rattle.check_operator.specs.Numbered.{kind_in}
-use Rattle.check_operator.specs.Contract.{arg_at, ArgsAsk, args_of, KindsHave, SameHas}
+use Rattle.check_operator.specs.Contract.{arg_at, Over, args_of, KindIs}
 use Rattle.check_operator.specs.KindLaws.{kind-same}
 
 ---------------------------------------------------------------- one test of every argument
@@ -70,29 +70,34 @@ within-list : (a : List ℕ) (m k : ℕ) → k < length (numbers_at a 3 m) → k
 within-list a m k l = omega (arith, length-numbers_at a 3 m)
 
 -- An argument that a scan came to is one of the store.
-pub arg_known : {b p : List ℕ} {n : ℕ} {a : List ℕ} {m : ℕ} → ArgsAsk b p n a m → (x k : ℕ) → k < length (numbers_at a 3 m) → x ≡ get_or (numbers_at a 3 m) k x → x < n
+pub arg_known : {b p : List ℕ} {n : ℕ} {a : List ℕ} {m : ℕ} → Over b p n a m → (x k : ℕ) → k < length (numbers_at a 3 m) → x ≡ get_or (numbers_at a 3 m) k x → x < n
 arg_known {a = a} {m} f x k l e =
     let h = within-list a m k l in
-    omega (arith, e, get-number a m k x h, f.over.below k h)
+    omega (arith, e, get-number a m k x h, f.below k h)
+
+-- The argument j is one of the store.
+pub arg-below : {b p : List ℕ} {n : ℕ} {a : List ℕ} {m : ℕ} → Over b p n a m → (j : ℕ) → j < m → {k : ℕ} → k ≡ arg_at a j → k < n
+arg-below o j l e = omega (arith, e, o.below j l)
 
 ---------------------------------------------------------------- kinds and numbers
 module _ (b p : List ℕ) (n : ℕ) (a : List ℕ) (m : ℕ) where
-  pub kinds_by : ArgsAsk b p n a m → (k : ℕ) (t : Bool) → Scanned t (λ v. eqb (kind_of (sort_at b p n v)) k ≡ true) (λ v. eqb (kind_of (sort_at b p n v)) k ≡ false) (numbers_at a 3 m) → KindsHave b p n a m k t
+  pub kinds_by : Over b p n a m → (k : ℕ) (t : Bool) → Scanned t (λ v. KindIs b p v k true) (λ v. KindIs b p v k false) (numbers_at a 3 m) → map_of k ≡ 1 → t ≡ all_same (plain_sort k) (args_of b p n a m)
   unfolding sort_at
   kinds_by f k t h plain = go t h
     where
-      same-at : (j : ℕ) → j < length (numbers_at a 3 m) → same (plain_sort k) (get_or (store_of b p n) (get_or (numbers_at a 3 m) j 0) leaf) ≡ eqb (kind_of (sort_at b p n (get_or (numbers_at a 3 m) j 0))) k
-      same-at j l =
-          let w = within-list a m j l in
-          kind-same b p n (get_or (numbers_at a 3 m) j 0) f.over.stored (omega (arith, get-number a m j 0 w, f.over.below j w)) k plain
+      known : (j : ℕ) → j < length (numbers_at a 3 m) → get_or (numbers_at a 3 m) j 0 < n
+      known j l = let w = within-list a m j l in omega (arith, get-number a m j 0 w, f.below j w)
 
-      go : (r : Bool) → Scanned r (λ v. eqb (kind_of (sort_at b p n v)) k ≡ true) (λ v. eqb (kind_of (sort_at b p n v)) k ≡ false) (numbers_at a 3 m) → r ≡ all_same (plain_sort k) (args_of b p n a m)
+      same-at : (j : ℕ) → j < length (numbers_at a 3 m) → same (plain_sort k) (get_or (store_of b p n) (get_or (numbers_at a 3 m) j 0) leaf) ≡ eqb (kind_of (sort_at b p n (get_or (numbers_at a 3 m) j 0))) k
+      same-at j l = kind-same b p n (get_or (numbers_at a 3 m) j 0) f.stored (known j l) k plain
+
+      go : (r : Bool) → Scanned r (λ v. KindIs b p v k true) (λ v. KindIs b p v k false) (numbers_at a 3 m) → r ≡ all_same (plain_sort k) (args_of b p n a m)
       go true g =
           sym (same_by (plain_sort k) (args_of b p n a m)
-          ∙ by_all (λ x. same (plain_sort k) x) (store_of b p n) (numbers_at a 3 m) (λ j l. same-at j l ∙ g j 0 (omega arith) l))
+          ∙ by_all (λ x. same (plain_sort k) x) (store_of b p n) (numbers_at a 3 m) (λ j l. same-at j l ∙ sym (g j 0 (omega arith) l n f.stored (known j l))))
       go false g =
           sym (same_by (plain_sort k) (args_of b p n a m)
-          ∙ by_one (λ x. same (plain_sort k) x) (store_of b p n) (numbers_at a 3 m) g.0 g.1 (same-at g.0 g.1 ∙ g.2 0))
+          ∙ by_one (λ x. same (plain_sort k) x) (store_of b p n) (numbers_at a 3 m) g.0 g.1 (same-at g.0 g.1 ∙ sym (g.2 0 n f.stored (known g.0 g.1))))
 
   -- The first argument, where there is one.
   first-is : 0 < m → only_of (args_of b p n a m) ≡ sort_at b p n (arg_at a 0)
@@ -107,7 +112,7 @@ module _ (b p : List ℕ) (n : ℕ) (a : List ℕ) (m : ℕ) where
   unfolding all_same sorts_of numbers_at
   none-same e = ap (λ (x : ℕ). all_same (only_of (args_of b p n a x)) (args_of b p n a x)) e
 
-  pub same_all_by : (t : Bool) → Scanned t (λ v. v ≡ arg_at a 0) (λ v. v ≡ arg_at a 0 → ⊥) (numbers_at a 3 m) → SameHas b p n a m t
+  pub same_all_by : (t : Bool) → Scanned t (λ v. v ≡ arg_at a 0) (λ v. v ≡ arg_at a 0 → ⊥) (numbers_at a 3 m) → Over b p n a m → t ≡ all_same (only_of (args_of b p n a m)) (args_of b p n a m)
   unfolding sort_at
   same_all_by t h o = go (dec_lt 0 m)
     where
@@ -162,11 +167,14 @@ plain-not st (k ∷ ks) (x ∷ xs) zero l o e = ap (◌&& same_all (plain_sorts 
 plain-not st (k ∷ ks) (x ∷ xs) (suc j) l o e =
     false-second (same (plain_sort (sort_number k)) (get_or st x leaf)) (same_all (plain_sorts ks) (sorts_of st xs)) (plain-not st ks xs j (omega arith) (omega arith) e)
 
--- The test of an argument beside its kind.
-abbrev pub of_kind : List ℕ → List ℕ → ℕ → ℕ × SortKind → Bool
+-- The test of an argument beside its kind, and what the code tells of it.
+abbrev of_kind : List ℕ → List ℕ → ℕ → ℕ × SortKind → Bool
 of_kind b p n x = eqb (kind_of (sort_at b p n x.0)) (sort_number x.1)
 
-module _ {b p : List ℕ} {n : ℕ} {a : List ℕ} {m : ℕ} (f : ArgsAsk b p n a m) (ks : List SortKind) (many : length ks ≡ m) where
+abbrev pub OfKind : List ℕ → List ℕ → ℕ × SortKind → Bool → Type 0
+OfKind b p x r = KindIs b p x.0 (sort_number x.1) r
+
+module _ {b p : List ℕ} {n : ℕ} {a : List ℕ} {m : ℕ} (f : Over b p n a m) (ks : List SortKind) (many : length ks ≡ m) where
   abbrev pairs : List (ℕ × SortKind)
   pairs = zip (numbers_at a 3 m) ks
 
@@ -178,19 +186,22 @@ module _ {b p : List ℕ} {n : ℕ} {a : List ℕ} {m : ℕ} (f : ArgsAsk b p n 
   pub zip_known : (x : ℕ × SortKind) (k : ℕ) → k < length pairs → x ≡ get_or pairs k x → x.0 < n
   zip_known x k l e =
       let h = pair-at k x l in
-      omega (arith, ap (λ (y : ℕ × SortKind). y.0) (e ∙ h.1), f.over.below k h.0)
+      omega (arith, ap (λ (y : ℕ × SortKind). y.0) (e ∙ h.1), f.below k h.0)
 
   module _ (plain : (j : ℕ) → j < m → map_of (kind_in ks j) ≡ 1) where
+    place : (j : ℕ) (d : ℕ × SortKind) → j < length pairs → get_or pairs j d ≡ get_or pairs j (get_or pairs j d)
+    place j d l = get_or_default pairs j d (get_or pairs j d) l
+
     kind-at : (j : ℕ) (d : SortKind) → j < m → sort_number (get_or ks j d) ≡ kind_in ks j
     kind-at j d l = sym (get_or-map sort_number ks j d 3 (omega arith))
 
     same-kind : (j : ℕ) (d : ℕ × SortKind) → j < length pairs → same (plain_sort (kind_in ks j)) (sort_at b p n (arg_at a j)) ≡ of_kind b p n (get_or pairs j d)
     same-kind j d l =
         let h = pair-at j d l in
-        kind-same b p n (arg_at a j) f.over.stored (f.over.below j h.0) (kind_in ks j) (plain j h.0)
+        kind-same b p n (arg_at a j) f.stored (f.below j h.0) (kind_in ks j) (plain j h.0)
         ∙ ap (eqb (kind_of (sort_at b p n (arg_at a j)))) (sym (kind-at j d.1 h.0)) ∙ ap (of_kind b p n) (sym h.1)
 
-    pub fixed_by : (t : Bool) → Scanned t (λ x. of_kind b p n x ≡ true) (λ x. of_kind b p n x ≡ false) pairs
+    pub fixed_by : (t : Bool) → Scanned t (λ x. OfKind b p x true) (λ x. OfKind b p x false) pairs
         → t ≡ same_all (plain_sorts ks) (args_of b p n a m)
     unfolding sort_at
     fixed_by true h =
@@ -198,10 +209,10 @@ module _ {b p : List ℕ} {n : ℕ} {a : List ℕ} {m : ℕ} (f : ArgsAsk b p n 
         (λ j l.
         let k : j < length pairs = omega (arith, length-zip (numbers_at a 3 m) ks, length-numbers_at a 3 m) in
         let d : ℕ × SortKind = (0, first) in
-        ap (λ (v : ℕ). same (plain_sort (kind_in ks j)) (sort_at b p n v)) (get-number a m j 0 (omega arith)) ∙ same-kind j d k ∙ h j d (omega arith) k))
+        ap (λ (v : ℕ). same (plain_sort (kind_in ks j)) (sort_at b p n v)) (get-number a m j 0 (omega arith)) ∙ same-kind j d k ∙ sym (h j d (omega arith) k n f.stored (zip_known (get_or pairs j d) j k (place j d k)))))
     fixed_by false h =
         let j = h.0 in
         let d : ℕ × SortKind = (0, first) in
         let k : j < m = (pair-at j d h.1).0 in
         sym (plain-not (store_of b p n) ks (numbers_at a 3 m) j (omega arith) (omega (arith, length-numbers_at a 3 m))
-        (ap (λ (v : ℕ). same (plain_sort (kind_in ks j)) (sort_at b p n v)) (get-number a m j 0 k) ∙ same-kind j d h.1 ∙ h.2 d))
+        (ap (λ (v : ℕ). same (plain_sort (kind_in ks j)) (sort_at b p n v)) (get-number a m j 0 k) ∙ same-kind j d h.1 ∙ sym (h.2 d n f.stored (zip_known (get_or pairs j d) j h.1 (place j d h.1)))))

@@ -31,9 +31,9 @@ use Rattle.check_rules.specs.Rank.{vector}
 use Rattle.check_rules.specs.Checked.{only_of}
 use Rattle.check_operator.specs.declared.op.Fit.{Fit}
 use Rattle.check_operator.specs.declared.op.Fit.TheVariants.{Known, Plain, Width}
-use Rattle.check_operator.specs.Rule.{All, Numbers, Equal, Choose, Vectors, Concat, plain_sort, numbers_result, vectors_result, all_same, choosing, concatenated, fitted, plain_kind, one_or_two, well_rule}
+use Rattle.check_operator.specs.Rule.{Rule, All, Numbers, Equal, Choose, Vectors, Concat, plain_sort, numbers_result, vectors_result, all_same, choosing, concatenated, fitted, plain_kind, one_or_two, well_rule, counts_for}
 use Rattle.check_operator.specs.Numbered.{kind_in, plain_result, result_number, fixed_numbers}
-use Rattle.check_operator.specs.Contract.{Over, args_of, KindsHave, SameHas, fit_verdict, fits_verdict, FitOk, FitsOk, FitIs, FitAsks, FitHas}
+use Rattle.check_operator.specs.Contract.{Over, args_of, KindIs, SameHas, fit_verdict, fits_verdict, FitOk, FitsOk, FitIs, FitAsks, FitHas}
 use Rattle.check_operator.specs.KindLaws.{vector-small, kind-vector, kind-same}
 use Rattle.check_operator.proofs.ArgumentLaws.{plain_sorts, fixed-plain}
 
@@ -87,11 +87,6 @@ module _ (b p : List ℕ) (n : ℕ) (a : List ℕ) where
   first-arg (suc m) l = refl
 
 ---------------------------------------------------------------- the kind of a result
-plain-result : (i : ℕ) → plain_kind (plain_result i) ≡ true → plain_result i ≡ i
-unfolding map_of maps
-plain-result zero e = absurd (false≢true e)
-plain-result (suc i) e = refl
-
 result-is : (o : Option SortKind) (k : SortKind) → map_of (sort_number k) ≡ 1 → eqb (result_number o) 0 || plain_kind (result_number o) ≡ true
     → (map_of (sort_number (unwrap_or o k)) ≡ 1) × (plain_sort (sort_number (unwrap_or o k)) ≡ numbers_result (result_number o) (plain_sort (sort_number k)))
 unfolding map_of maps
@@ -117,16 +112,31 @@ kind-result i y h s = go (sort_number i) (λ e. y (sort_number-same i SortBitVec
         )
 
 ---------------------------------------------------------------- the rules
+-- What is asked and promised, of one store of n sorts.
+pub record FitOver (b p : List ℕ) (n : ℕ) (a : List ℕ) (m : ℕ) (r : Rule) : Type 0 where
+  pub over : Over b p n a m
+  pub well : well_rule r ≡ true
+  pub counted : counts_for r m ≡ true
+
+pub fit-over : {b p a : List ℕ} {m : ℕ} {r : Rule} → FitAsks b p a m r → {n : ℕ} → Over b p n a m → FitOver b p n a m r
+fit-over f o = record { over = o; well = f.well; counted = f.counted }
+
+abbrev pub FitFor : List ℕ → List ℕ → ℕ → List ℕ → ℕ → Rule → Option Fit → Type 0
+FitFor b p n a m rule r = FitIs n (store_of b p n) (fitted rule (args_of b p n a m)) r
+
+abbrev KindsAre : List ℕ → List ℕ → ℕ → List ℕ → ℕ → ℕ → Bool → Type 0
+KindsAre b p n a m k r = map_of k ≡ 1 → r ≡ all_same (plain_sort k) (args_of b p n a m)
+
 module _ {b p : List ℕ} {n : ℕ} {a : List ℕ} {m : ℕ} where
-  pub all-fits : (k : ℕ) (r : SortKind) → FitAsks b p n a m (All k (sort_number r)) → (t : Bool) → KindsHave b p n a m k t → {x : Option Fit} → x ≡ then_some t (Plain r)
-      → FitHas b p n a m (All k (sort_number r)) x
+  pub all-fits : (k : ℕ) (r : SortKind) → FitOver b p n a m (All k (sort_number r)) → (t : Bool) → KindsAre b p n a m k t → {x : Option Fit} → x ≡ then_some t (Plain r)
+      → FitFor b p n a m (All k (sort_number r)) x
   unfolding fitted well_rule
   all-fits k r f t h e =
       by_test (Plain r) t e (plain_sort (sort_number r)) (h (plain_map k (and_left (plain_kind k) (plain_kind (sort_number r)) f.well))) refl
       (λ q. plain_map (sort_number r) (and_right (plain_kind k) (plain_kind (sort_number r)) f.well))
 
   -- Fixed kinds.
-  module _ (ks : List SortKind) (r : SortKind) (f : FitAsks b p n a m (fixed_numbers ks r)) where
+  module _ (ks : List SortKind) (r : SortKind) (f : FitOver b p n a m (fixed_numbers ks r)) where
     pub fixed-many : length ks ≡ m
     fixed-many = sym (eqb-true m (length ks) f.counted)
 
@@ -147,50 +157,46 @@ module _ {b p : List ℕ} {n : ℕ} {a : List ℕ} {m : ℕ} where
         go (suc (suc zero)) o = plain_map (kind_in ks 2) (and_left (plain_kind (kind_in ks 2)) _ (and_right (plain_kind (kind_in ks 1)) _ (and_right (plain_kind (kind_in ks 0)) _ rest)))
         go (suc (suc (suc i))) o = absurd (omega arith)
 
-    pub fixed-fits : (t : Bool) → t ≡ same_all (plain_sorts ks) (args_of b p n a m) → {x : Option Fit} → x ≡ then_some t (Plain r) → FitHas b p n a m (fixed_numbers ks r) x
+    pub fixed-fits : (t : Bool) → t ≡ same_all (plain_sorts ks) (args_of b p n a m) → {x : Option Fit} → x ≡ then_some t (Plain r) → FitFor b p n a m (fixed_numbers ks r) x
     unfolding fitted
     fixed-fits t h e =
         by_test (Plain r) t e (plain_sort (sort_number r)) (h ∙ sym (ap (λ (ss : Sorts). same_all ss (args_of b p n a m)) (fixed-plain ks few))) refl
         (λ q. plain_map (sort_number r) (and_right (plain_kind (kind_in ks 2)) _ (and_right (plain_kind (kind_in ks 1)) _ (and_right (plain_kind (kind_in ks 0)) _ rest))))
 
   -- All Int or all Real.
-  module _ (r : Option SortKind) (f : FitAsks b p n a m (Numbers 1 (result_number r))) where
+  module _ (r : Option SortKind) (f : FitOver b p n a m (Numbers 1 (result_number r))) where
     numbers-well : eqb (result_number r) 0 || plain_kind (result_number r) ≡ true
     unfolding well_rule
     numbers-well = and_right (one_or_two 1) (eqb (result_number r) 0 || plain_kind (result_number r)) f.well
 
-    pub numbers-int : (t : Bool) → KindsHave b p n a m 4 t → t ≡ true → {k : SortKind} → k ≡ unwrap_or r SortInt → FitHas b p n a m (Numbers 1 (result_number r)) (Some (Plain k))
+    pub numbers-int : (t : Bool) → KindsAre b p n a m 4 t → t ≡ true → {k : SortKind} → k ≡ unwrap_or r SortInt → FitFor b p n a m (Numbers 1 (result_number r)) (Some (Plain k))
     unfolding fitted map_of maps
     numbers-int t h e {k} q =
         let g = result-is r SortInt refl numbers-well in
-        subst (λ (i : SortKind). FitHas b p n a m (Numbers 1 (result_number r)) (Some (Plain i))) (sym q)
+        subst (λ (i : SortKind). FitFor b p n a m (Numbers 1 (result_number r)) (Some (Plain i))) (sym q)
         (subst (λ (c : Bool). FitIs n (store_of b p n) (cond c (sort (numbers_result (result_number r) int)) (need (all_same real (args_of b p n a m)) Misfit (sort (numbers_result (result_number r) real)))) (Some (Plain (unwrap_or r SortInt))))
         (sym e ∙ h refl) (record { is = ap sort g.1; ok = g.0 }))
 
-    module _ (t : Bool) (h : KindsHave b p n a m 4 t) (e : t ≡ false) (u : Bool) (i : KindsHave b p n a m 5 u) where
+    module _ (t : Bool) (h : KindsAre b p n a m 4 t) (e : t ≡ false) (u : Bool) (i : KindsAre b p n a m 5 u) where
       second : fitted (Numbers 1 (result_number r)) (args_of b p n a m) ≡ need u Misfit (sort (numbers_result (result_number r) real))
       unfolding fitted map_of maps
       second =
           ap₂ (λ (c d : Bool). cond c (sort (numbers_result (result_number r) int)) (need d Misfit (sort (numbers_result (result_number r) real)))) (sym (h refl) ∙ e) (sym (i refl))
 
-      pub numbers-real : u ≡ true → {k : SortKind} → k ≡ unwrap_or r SortReal → FitHas b p n a m (Numbers 1 (result_number r)) (Some (Plain k))
+      pub numbers-real : u ≡ true → {k : SortKind} → k ≡ unwrap_or r SortReal → FitFor b p n a m (Numbers 1 (result_number r)) (Some (Plain k))
       unfolding map_of maps
       numbers-real d {k} q =
           let g = result-is r SortReal refl numbers-well in
-          subst (λ (j : SortKind). FitHas b p n a m (Numbers 1 (result_number r)) (Some (Plain j))) (sym q)
+          subst (λ (j : SortKind). FitFor b p n a m (Numbers 1 (result_number r)) (Some (Plain j))) (sym q)
           (subst (λ (v : Verdict). FitIs n (store_of b p n) v (Some (Plain (unwrap_or r SortReal)))) (sym second)
           (fits (numbers_result (result_number r) real) (sym d) (ap sort g.1) g.0))
 
-      pub numbers-no : u ≡ false → FitHas b p n a m (Numbers 1 (result_number r)) None
+      pub numbers-no : u ≡ false → FitFor b p n a m (Numbers 1 (result_number r)) None
       numbers-no d = subst (λ (v : Verdict). FitIs n (store_of b p n) v None) (sym second) (no_fit (numbers_result (result_number r) real) (sym d))
-
-  pub equal-fits : Over b p n a m → (t : Bool) → SameHas b p n a m t → {x : Option Fit} → x ≡ then_some t (Plain SortBool) → FitHas b p n a m Equal x
-  unfolding fitted map_of maps
-  equal-fits o t h e = by_test (Plain SortBool) t e bool (h o) refl (λ q. refl)
 
   -- Bool A A.
   pub choose-fits : Over b p n a m → m ≡ 3 → (c : ℕ) → c ≡ u16_at a 5 → {i j : ℕ} → i ≡ u16_at a 3 → j ≡ u16_at a 7 → (t : Bool) → t ≡ (eqb (kind_of (sort_at b p n i)) 3 && eqb j c) → (x : Option Fit) → x ≡ then_some t (Known c)
-      → FitHas b p n a m Choose x
+      → FitFor b p n a m Choose x
   unfolding fitted map_of maps sort_at
   choose-fits o three c ec {i} {j} ei ej t h x e =
       let B = sort_at b p n (u16_at a 5) in
@@ -201,6 +207,11 @@ module _ {b p : List ℕ} {n : ℕ} {a : List ℕ} {m : ℕ} where
       (ap₂ eqb ej ec ∙ sym (numbers-same (u16_at a 7) (u16_at a 5) o.stored o.distinct (o.below 2 (omega arith)) (o.below 1 (omega arith))) ∙ same-swap D B))
       (ap (λ (k : ℕ). sort (sort_at b p n k)) ec)
       (λ q. subst (λ (k : ℕ). k < n) (sym ec) (o.below 1 (omega arith))))
+
+-- All of one sort.
+pub equal-fits : (b p a : List ℕ) (m : ℕ) (t : Bool) → SameHas b p a m t → {x : Option Fit} → x ≡ then_some t (Plain SortBool) → FitHas b p a m Equal x
+unfolding fitted map_of maps
+equal-fits b p a m t h e n o = by_test (Plain SortBool) t e bool (h n o) refl (λ q. refl)
 
 ---------------------------------------------------------------- vectors and arrays
 -- What the record of an Array stands for.
@@ -238,30 +249,32 @@ kind-is-vector b p n k s l =
     (λ e. kind-vector b p n k s l (eqb-true (kind_of v) 9 e))
 
 -- Vectors of one width.
-module _ {b p : List ℕ} {n : ℕ} {a : List ℕ} {m : ℕ} (r : Option SortKind) (f : FitAsks b p n a m (Vectors 1 1 (result_number r))) where
+module _ {b p : List ℕ} {n : ℕ} {a : List ℕ} {m : ℕ} (r : Option SortKind) (f : FitOver b p n a m (Vectors 1 1 (result_number r))) where
   pub vectors-some : 0 < m
   vectors-some = leb-true 1 m f.counted
 
   -- The first argument is a vector, and the others are it.
-  module _ {k : ℕ} (ek : k ≡ u16_at a 3) (t : Bool) (h : t ≡ eqb (kind_of (sort_at b p n k)) 9) where
+  module _ {k : ℕ} (ek : k ≡ u16_at a 3) (t : Bool) (told : KindIs b p k 9 t) where
+    first-below : k < n
+    first-below = subst (λ (i : ℕ). i < n) (sym ek) (f.over.below 0 vectors-some)
+
     only : only_of (args_of b p n a m) ≡ sort_at b p n k
     only = first-arg b p n a m vectors-some ∙ ap (sort_at b p n) (sym ek)
 
     first-vector : vector (only_of (args_of b p n a m)) ≡ t
-    first-vector =
-        ap vector only ∙ kind-is-vector b p n k f.args.over.stored (subst (λ (i : ℕ). i < n) (sym ek) (f.args.over.below 0 vectors-some)) ∙ sym h
+    first-vector = ap vector only ∙ kind-is-vector b p n k f.over.stored first-below ∙ sym (told n f.over.stored first-below)
 
-    pub vectors-other : t ≡ false → FitHas b p n a m (Vectors 1 1 (result_number r)) None
+    pub vectors-other : t ≡ false → FitFor b p n a m (Vectors 1 1 (result_number r)) None
     unfolding fitted
     vectors-other e =
         let ts = args_of b p n a m in
         no_fit (vectors_result (result_number r) (only_of ts)) (sym (ap (◌&& all_same (only_of ts) ts) (first-vector ∙ e)))
 
-    module _ (u : Bool) (g : SameHas b p n a m u) where
+    module _ (u : Bool) (g : SameHas b p a m u) where
       vectors-on : (vector (only_of (args_of b p n a m)) && all_same (only_of (args_of b p n a m)) (args_of b p n a m)) ≡ (t && u)
-      vectors-on = ap₂ ◌&&◌ first-vector (sym (g f.args.over))
+      vectors-on = ap₂ ◌&&◌ first-vector (sym (g n f.over))
 
-      pub vectors-differ : u ≡ false → FitHas b p n a m (Vectors 1 1 (result_number r)) None
+      pub vectors-differ : u ≡ false → FitFor b p n a m (Vectors 1 1 (result_number r)) None
       unfolding fitted
       vectors-differ e = no_fit (vectors_result (result_number r) (only_of (args_of b p n a m))) (sym (vectors-on ∙ ap (t &&◌) e ∙ false-second t false refl))
 
@@ -269,20 +282,19 @@ module _ {b p : List ℕ} {n : ℕ} {a : List ℕ} {m : ℕ} (r : Option SortKin
         both : true ≡ (vector (only_of (args_of b p n a m)) && all_same (only_of (args_of b p n a m)) (args_of b p n a m))
         both = sym (vectors-on ∙ ap₂ ◌&&◌ d e)
 
-        pub vectors-same : r ≡ None → FitHas b p n a m (Vectors 1 1 (result_number r)) (Some (Known k))
+        pub vectors-same : r ≡ None → FitFor b p n a m (Vectors 1 1 (result_number r)) (Some (Known k))
         unfolding fitted sort_at
         vectors-same z =
             fits (vectors_result (result_number r) (only_of (args_of b p n a m))) both
-            (sym (ap₂ (λ (o : Option SortKind) (s : Sort). sort (vectors_result (result_number o) s)) z only))
-            (subst (λ (i : ℕ). i < n) (sym ek) (f.args.over.below 0 vectors-some))
+            (sym (ap₂ (λ (o : Option SortKind) (s : Sort). sort (vectors_result (result_number o) s)) z only)) first-below
 
-        pub vectors-bit : r ≡ Some SortBitVec → FitHas b p n a m (Vectors 1 1 (result_number r)) (Some (Width 1))
+        pub vectors-bit : r ≡ Some SortBitVec → FitFor b p n a m (Vectors 1 1 (result_number r)) (Some (Width 1))
         unfolding fitted
         vectors-bit z =
             fits (vectors_result (result_number r) (only_of (args_of b p n a m))) both
             (sym (ap (λ (o : Option SortKind). sort (vectors_result (result_number o) (only_of (args_of b p n a m)))) z)) tt
 
-        pub vectors-kind : (i : SortKind) → r ≡ Some i → (i ≡ SortBitVec → ⊥) → FitHas b p n a m (Vectors 1 1 (result_number r)) (Some (Plain i))
+        pub vectors-kind : (i : SortKind) → r ≡ Some i → (i ≡ SortBitVec → ⊥) → FitFor b p n a m (Vectors 1 1 (result_number r)) (Some (Plain i))
         unfolding fitted well_rule
         vectors-kind i z y =
             let w = subst (λ (o : Option SortKind). one_or_two 1 && (eqb (result_number o) 0 || eqb (result_number o) 9 || plain_kind (result_number o)) ≡ true) z f.well in
@@ -291,29 +303,29 @@ module _ {b p : List ℕ} {n : ℕ} {a : List ℕ} {m : ℕ} (r : Option SortKin
             (sym (ap (λ (o : Option SortKind). sort (vectors_result (result_number o) (only_of (args_of b p n a m)))) z ∙ g.1)) g.0
 
 -- Two vectors joined.
-module _ {b p : List ℕ} {n : ℕ} {a : List ℕ} {m : ℕ} (f : FitAsks b p n a m Concat) where
+module _ {b p : List ℕ} {n : ℕ} {a : List ℕ} {m : ℕ} (f : FitOver b p n a m Concat) where
   pub concat-two : m ≡ 2
   concat-two = eqb-true m 2 f.counted
 
   module _ {i j : ℕ} (ei : i ≡ u16_at a 3) (ej : j ≡ u16_at a 5) (x y : SortRecord) (hx : EntryHas b p i x) (hy : EntryHas b p j y) where
     first-known : i < n
-    first-known = subst (λ (k : ℕ). k < n) (sym ei) (f.args.over.below 0 (omega (arith, concat-two)))
+    first-known = subst (λ (k : ℕ). k < n) (sym ei) (f.over.below 0 (omega (arith, concat-two)))
 
     second-known : j < n
-    second-known = subst (λ (k : ℕ). k < n) (sym ej) (f.args.over.below 1 (omega (arith, concat-two)))
+    second-known = subst (λ (k : ℕ). k < n) (sym ej) (f.over.below 1 (omega (arith, concat-two)))
 
-    pub concat-fits : (t : Bool) → t ≡ (eqb (kind_of (sort_at b p n i)) 9 && eqb (kind_of (sort_at b p n j)) 9) → (z : Option Fit) → z ≡ then_some t (Width (x.number + y.number)) → FitHas b p n a m Concat z
+    pub concat-fits : (t : Bool) → t ≡ (eqb (kind_of (sort_at b p n i)) 9 && eqb (kind_of (sort_at b p n j)) 9) → (z : Option Fit) → z ≡ then_some t (Width (x.number + y.number)) → FitFor b p n a m Concat z
     unfolding fitted
     concat-fits t h z e =
         subst (λ (ts : Sorts). FitIs n (store_of b p n) (concatenated ts) z) (sym (two-args b p n a concat-two ∙ ap₂ (λ (c d : ℕ). sort_at b p n c then sort_at b p n d then end) (sym ei) (sym ej)))
         (by_test (Width (x.number + y.number)) t e (bitvec (number_in (sort_at b p n i) + number_in (sort_at b p n j)))
-        (h ∙ ap₂ ◌&&◌ (sym (kind-is-vector b p n i f.args.over.stored first-known)) (sym (kind-is-vector b p n j f.args.over.stored second-known)))
-        (ap₂ (λ (c d : ℕ). sort (bitvec (c + d))) (hx n f.args.over.stored first-known).number (hy n f.args.over.stored second-known).number) (λ q. tt))
+        (h ∙ ap₂ ◌&&◌ (sym (kind-is-vector b p n i f.over.stored first-known)) (sym (kind-is-vector b p n j f.over.stored second-known)))
+        (ap₂ (λ (c d : ℕ). sort (bitvec (c + d))) (hx n f.over.stored first-known).number (hy n f.over.stored second-known).number) (λ q. tt))
 
     pub concat-small : x.number + y.number < 200000
     concat-small =
         omega (
           arith,
-          vector-small b p n i f.args.over.stored first-known x (hx n f.args.over.stored first-known),
-          vector-small b p n j f.args.over.stored second-known y (hy n f.args.over.stored second-known),
+          vector-small b p n i f.over.stored first-known x (hx n f.over.stored first-known),
+          vector-small b p n j f.over.stored second-known y (hy n f.over.stored second-known),
         )

@@ -1,7 +1,7 @@
 -- The fit of an array, of any rule, and the answer to an operator.
 use Prim.Native.Nat.{ℕ, ◌+◌, ◌*◌, ◌≤◌, ◌<◌}
 use mathlib.Core.Path.{◌≡◌, refl, sym, ap, ap₂, subst, ◌∙◌}
-use mathlib.Core.Logic.{⊎_elim}
+use mathlib.Core.Logic.{◌⊎◌, ⊎_elim}
 use mathlib.Core.Bool.{Bool, true, false, cond, ◌&&◌, ◌||◌}
 use mathlib.Core.List.{List}
 use native.Mathlib.Omega.{arith}
@@ -33,7 +33,7 @@ use Rattle.check_operator.specs.declared.op.Fit.TheVariants.{Known}
 use Rattle.check_operator.specs.Rule.{Rule, Unranked, Numbers, Select, Store, Vectors, counts_for, selecting, storing, ruled_select, stored, fitted, is_ranked, ruled, rule_of, plain_kind, one_or_two, well_rule}
 use Rattle.check_operator.specs.Numbered.{result_number, vectors_numbers, rule_numbers}
 use Rattle.check_operator.specs.RuleLaws.{operated-ruled, well-rule}
-use Rattle.check_operator.specs.Contract.{Over, args_of, fit_verdict, fits_verdict, FitsOk, FitIs, FitAsks, FitHas, ArrayAsks, ArrayHas, DeliverFitAsks, CheckOperatorAsks, args-refs}
+use Rattle.check_operator.specs.Contract.{Over, args_of, KindIs, fit_verdict, fits_verdict, FitsOk, FitIs, FitAsks, FitHas, ArrayAsks, ArrayIs, DeliverFitAsks, CheckOperatorAsks, args-refs}
 use Rattle.check_operator.proofs.FitLaws.{by_test, numbers-same, two-args, three-args, array-two, array-sort}
 
 ---------------------------------------------------------------- arrays
@@ -54,7 +54,18 @@ store_other (node k n w (i then (e then end))) j d h =
     ap (λ (c : Bool). need (c && eqb 0 n && eqb 0 w && (same i j && same e d)) Misfit (sort (array i e))) (ne_eqb 8 k (λ q. h (sym q)))
 store_other (node k n w (i then (e then (r then rs)))) j d h = refl
 
-module _ {b p : List ℕ} {n : ℕ} {a : List ℕ} {m : ℕ} (f : ArrayAsks b p n a m) where
+-- What is asked and promised, of one store of n sorts.
+pub record ArrayOver (b p : List ℕ) (n : ℕ) (a : List ℕ) (m : ℕ) : Type 0 where
+  pub over : Over b p n a m
+  pub few : (m ≡ 2) ⊎ (m ≡ 3)
+
+pub array-over : {b p a : List ℕ} {m : ℕ} → ArrayAsks b p a m → {n : ℕ} → Over b p n a m → ArrayOver b p n a m
+array-over f o = record { over = o; few = f.few }
+
+abbrev pub ArrayFor : List ℕ → List ℕ → ℕ → List ℕ → ℕ → Option Fit → Type 0
+ArrayFor b p n a m r = ArrayIs n (store_of b p n) (args_of b p n a m) m r
+
+module _ {b p : List ℕ} {n : ℕ} {a : List ℕ} {m : ℕ} (f : ArrayOver b p n a m) where
   pub array-many : 2 ≤ m
   array-many = ⊎_elim (λ (e : m ≡ 2). omega arith) (λ (e : m ≡ 3). omega arith) f.few
 
@@ -63,7 +74,7 @@ module _ {b p : List ℕ} {n : ℕ} {a : List ℕ} {m : ℕ} (f : ArrayAsks b p 
 
   module _ {k : ℕ} (ek : k ≡ u16_at a 3) where
     pub array_known : k < n
-    array_known = subst (λ (i : ℕ). i < n) (sym ek) (f.args.over.below 0 (omega (arith, array-many)))
+    array_known = subst (λ (i : ℕ). i < n) (sym ek) (f.over.below 0 (omega (arith, array-many)))
 
     select-is : m ≡ 2 → fitted Select (args_of b p n a m) ≡ selecting (sort_at b p n k) (sort_at b p n (u16_at a 5))
     unfolding fitted
@@ -73,23 +84,23 @@ module _ {b p : List ℕ} {n : ℕ} {a : List ℕ} {m : ℕ} (f : ArrayAsks b p 
     unfolding fitted
     store_is e = ap stored (three-args b p n a e) ∙ ap (λ (i : ℕ). storing (sort_at b p n i) (sort_at b p n (u16_at a 5)) (sort_at b p n (u16_at a 7))) (sym ek)
 
-    pub array-other : {t : Bool} → t ≡ eqb (kind_of (sort_at b p n k)) 8 → t ≡ false → ArrayHas b p n a m None
-    array-other {t} et d =
-        let g = eqb-false (kind_of (sort_at b p n k)) 8 (sym et ∙ d) in
+    pub array-other : {t : Bool} → KindIs b p k 8 t → t ≡ false → ArrayFor b p n a m None
+    array-other {t} told d =
+        let g = eqb-false (kind_of (sort_at b p n k)) 8 (sym (told n f.over.stored array_known) ∙ d) in
         record {
           two = λ e. record { is = sym (select-is e ∙ select-other (sort_at b p n k) (sort_at b p n (u16_at a 5)) g); ok = tt };
           three = λ e. record { is = sym (store_is e ∙ store_other (sort_at b p n k) (sort_at b p n (u16_at a 5)) (sort_at b p n (u16_at a 7)) g); ok = tt };
         }
 
-    module _ {t : Bool} (et : t ≡ eqb (kind_of (sort_at b p n k)) 8) (on : t ≡ true) (r : SortRecord) (h : EntryHas b p k r) where
+    module _ {t : Bool} (told : KindIs b p k 8 t) (on : t ≡ true) (r : SortRecord) (h : EntryHas b p k r) where
       read : EntryIs b p n k r
-      read = h n f.args.over.stored array_known
+      read = h n f.over.stored array_known
 
       kind : sort_number r.kind ≡ 8
-      kind = read.kind ∙ eqb-true (kind_of (sort_at b p n k)) 8 (sym et ∙ on)
+      kind = read.kind ∙ eqb-true (kind_of (sort_at b p n k)) 8 (sym (told n f.over.stored array_known) ∙ on)
 
       parts-two : r.parts.count ≡ 2
-      parts-two = array-two f.args.over.stored array_known read kind
+      parts-two = array-two f.over.stored array_known read kind
 
       pub array_place : r.parts.at + 4 ≤ length b
       array_place = omega (arith, read.place.list, parts-two)
@@ -100,7 +111,7 @@ module _ {b p : List ℕ} {n : ℕ} {a : List ℕ} {m : ℕ} (f : ArrayAsks b p 
 
         sort-is : sort_at b p n k ≡ array (sort_at b p n i) (sort_at b p n e)
         sort-is =
-            array-sort f.args.over.stored array_known read kind
+            array-sort f.over.stored array_known read kind
             ∙ ap₂ (λ (x y : ℕ). array (sort_at b p n x) (sort_at b p n y)) (ap (u16_at b) front ∙ sym ei) (sym ee)
 
         index-known : i < n
@@ -115,7 +126,7 @@ module _ {b p : List ℕ} {n : ℕ} {a : List ℕ} {m : ℕ} (f : ArrayAsks b p 
 
         index_same : same (sort_at b p n i) (sort_at b p n (u16_at a 5)) ≡ eqb i v
         index_same =
-            numbers-same i (u16_at a 5) f.args.over.stored f.args.over.distinct index-known (f.args.over.below 1 (omega (arith, array-many))) ∙ ap (eqb i) (sym ev)
+            numbers-same i (u16_at a 5) f.over.stored f.over.distinct index-known (f.over.below 1 (omega (arith, array-many))) ∙ ap (eqb i) (sym ev)
 
         selects : m ≡ 2 → fitted Select (args_of b p n a m) ≡ need (eqb i v) Misfit (sort (sort_at b p n e))
         selects q =
@@ -128,7 +139,7 @@ module _ {b p : List ℕ} {n : ℕ} {a : List ℕ} {m : ℕ} (f : ArrayAsks b p 
             store_is q ∙ ap (λ (s : Sort). storing s (sort_at b p n (u16_at a 5)) (sort_at b p n (u16_at a 7))) sort-is
             ∙ ap (λ (c : Bool). need (c && same (sort_at b p n e) (sort_at b p n (u16_at a 7))) Misfit (sort (array (sort_at b p n i) (sort_at b p n e)))) index_same
 
-        pub array-differs : (v ≡ i → ⊥) → ArrayHas b p n a m None
+        pub array-differs : (v ≡ i → ⊥) → ArrayFor b p n a m None
         array-differs d =
             let g = ne_eqb i v (λ q. d (sym q)) in
             record {
@@ -139,7 +150,7 @@ module _ {b p : List ℕ} {n : ℕ} {a : List ℕ} {m : ℕ} (f : ArrayAsks b p 
               };
             }
 
-        pub array-selects : v ≡ i → m ≡ 2 → ArrayHas b p n a m (Some (Known e))
+        pub array-selects : v ≡ i → m ≡ 2 → ArrayFor b p n a m (Some (Known e))
         unfolding sort_at
         array-selects d two =
             record {
@@ -147,7 +158,7 @@ module _ {b p : List ℕ} {n : ℕ} {a : List ℕ} {m : ℕ} (f : ArrayAsks b p 
               three = λ q. absurd (omega arith);
             }
 
-        pub array-stores : v ≡ i → m ≡ 3 → {x : ℕ} → x ≡ u16_at a 7 → (t : Bool) → t ≡ eqb x e → (z : Option Fit) → z ≡ then_some t (Known k) → ArrayHas b p n a m z
+        pub array-stores : v ≡ i → m ≡ 3 → {x : ℕ} → x ≡ u16_at a 7 → (t : Bool) → t ≡ eqb x e → (z : Option Fit) → z ≡ then_some t (Known k) → ArrayFor b p n a m z
         unfolding sort_at
         array-stores d h3 {x} ex t et z ez =
             record {
@@ -156,7 +167,7 @@ module _ {b p : List ℕ} {n : ℕ} {a : List ℕ} {m : ℕ} (f : ArrayAsks b p 
                   subst (λ (w : Verdict). FitIs n (store_of b p n) w z) (sym (stores q))
                   (by_test (Known k) t ez (array (sort_at b p n i) (sort_at b p n e))
                   (et ∙ ap₂ (λ (y : ℕ) (c : Bool). c) ex (eqb-swap x e) ∙ ap (eqb e) ex
-                  ∙ sym (numbers-same e (u16_at a 7) f.args.over.stored f.args.over.distinct element-known (f.args.over.below 2 (omega arith)))
+                  ∙ sym (numbers-same e (u16_at a 7) f.over.stored f.over.distinct element-known (f.over.below 2 (omega arith)))
                   ∙ ap (◌&& same (sort_at b p n e) (sort_at b p n (u16_at a 7))) (sym (eq-eqb i v (sym d))))
                   (ap sort sort-is) (λ c. array_known));
             }
@@ -165,12 +176,12 @@ module _ {b p : List ℕ} {n : ℕ} {a : List ℕ} {m : ℕ} (f : ArrayAsks b p 
             eqb-swap y w = both_ways (eqb y w) (eqb w y) (λ c. eq-eqb w y (sym (eqb-true y w c))) (λ c. eq-eqb y w (sym (eqb-true w y c)))
 
 ---------------------------------------------------------------- any rule
-module _ (b p : List ℕ) (n : ℕ) (a : List ℕ) (m : ℕ) where
+module _ (b p a : List ℕ) (m : ℕ) where
   some-least : (l : ℕ) → one_or_two l ≡ true → l ≤ m → 1 ≤ m
   some-least l w h =
       or_cases (eqb l 1) (eqb l 2) w (λ e. let z = eqb-true l 1 e in omega arith) (λ e. let z = eqb-true l 2 e in omega arith)
 
-  pub numbers_asks : (l r : ℕ) → FitAsks b p n a m (Numbers l r) → FitAsks b p n a m (Numbers 1 r)
+  pub numbers_asks : (l r : ℕ) → FitAsks b p a m (Numbers l r) → FitAsks b p a m (Numbers 1 r)
   unfolding well_rule
   numbers_asks l r f =
       record {
@@ -179,7 +190,7 @@ module _ (b p : List ℕ) (n : ℕ) (a : List ℕ) (m : ℕ) where
         counted = le-leb 1 m (some-least l (and_left (one_or_two l) (eqb r 0 || plain_kind r) f.well) (leb-true l m f.counted));
       }
 
-  pub numbers_has : (l r : ℕ) (t : Option Fit) → FitHas b p n a m (Numbers 1 r) t → FitHas b p n a m (Numbers l r) t
+  pub numbers_has : (l r : ℕ) (t : Option Fit) → FitHas b p a m (Numbers 1 r) t → FitHas b p a m (Numbers l r) t
   unfolding fitted
   numbers_has l r t h = h
 
@@ -187,7 +198,7 @@ module _ (b p : List ℕ) (n : ℕ) (a : List ℕ) (m : ℕ) where
   at_least true l e = leb-true l m e
   at_least false l e = let z = eqb-true m l e in omega arith
 
-  more-asks : (l o r : ℕ) → FitAsks b p n a m (Vectors l o r) → FitAsks b p n a m (Vectors 1 1 r)
+  more-asks : (l o r : ℕ) → FitAsks b p a m (Vectors l o r) → FitAsks b p a m (Vectors 1 1 r)
   unfolding well_rule
   more-asks l o r f =
       record {
@@ -196,11 +207,11 @@ module _ (b p : List ℕ) (n : ℕ) (a : List ℕ) (m : ℕ) where
         counted = le-leb 1 m (some-least l (and_left (one_or_two l) (eqb r 0 || eqb r 9 || plain_kind r) f.well) (at_least (eqb o 1) l f.counted));
       }
 
-  pub vectors_asks : (y : Arity) (o : Option SortKind) → FitAsks b p n a m (vectors_numbers y o) → FitAsks b p n a m (Vectors 1 1 (result_number o))
+  pub vectors_asks : (y : Arity) (o : Option SortKind) → FitAsks b p a m (vectors_numbers y o) → FitAsks b p a m (Vectors 1 1 (result_number o))
   vectors_asks (Exactly l) o f = more-asks l 0 (result_number o) f
   vectors_asks (AtLeast l) o f = more-asks l 1 (result_number o) f
 
-  pub vectors_has : (y : Arity) (o : Option SortKind) (t : Option Fit) → FitHas b p n a m (Vectors 1 1 (result_number o)) t → FitHas b p n a m (vectors_numbers y o) t
+  pub vectors_has : (y : Arity) (o : Option SortKind) (t : Option Fit) → FitHas b p a m (Vectors 1 1 (result_number o)) t → FitHas b p a m (vectors_numbers y o) t
   unfolding fitted
   vectors_has (Exactly l) o t h = h
   vectors_has (AtLeast l) o t h = h
@@ -248,10 +259,10 @@ module _ {b p ix : List ℕ} {n u : ℕ} {a : List ℕ} {m : ℕ} (f : CheckOper
       no-count e = by-count ∙ ap (λ (c : Bool). need c Count (need (values (args_of b p n a m)) Misfit (fitted (rule_numbers g) (args_of b p n a m)))) (sym et ∙ e)
 
       module _ (on : t ≡ true) where
-        pub rule-asks : FitAsks b p n a m (rule_numbers g)
+        pub rule-asks : FitAsks b p a m (rule_numbers g)
         rule-asks =
             record {
-              args = record { within = f.within; over = args_over };
+              args = record { within = f.within; many = n; over = args_over };
               well = ap well_rule er ∙ well-rule op;
               counted = sym et ∙ on;
             }
@@ -266,9 +277,9 @@ module _ {b p ix : List ℕ} {n u : ℕ} {a : List ℕ} {m : ℕ} (f : CheckOper
           pub no_value : v ≡ false → operated smt_lib op (args_of b p n a m) ≡ refused Misfit
           no_value e = by_values ∙ ap (λ (x : Bool). need x Misfit (fitted (rule_numbers g) (args_of b p n a m))) e
 
-          module _ (all : v ≡ true) (x : Option Fit) (h : FitHas b p n a m (rule_numbers g) x) where
+          module _ (all : v ≡ true) (x : Option Fit) (h : FitHas b p a m (rule_numbers g) x) where
             by-fit : operated smt_lib op (args_of b p n a m) ≡ fits_verdict (store_of b p n) x
-            by-fit = by_values ∙ ap (λ (y : Bool). need y Misfit (fitted (rule_numbers g) (args_of b p n a m))) all ∙ sym h.is
+            by-fit = by_values ∙ ap (λ (y : Bool). need y Misfit (fitted (rule_numbers g) (args_of b p n a m))) all ∙ sym (h n args_over).is
 
             pub misfit : x ≡ None → operated smt_lib op (args_of b p n a m) ≡ refused Misfit
             misfit e = by-fit ∙ ap (fits_verdict (store_of b p n)) e
@@ -277,4 +288,4 @@ module _ {b p ix : List ℕ} {n u : ℕ} {a : List ℕ} {m : ℕ} (f : CheckOper
             fit_is y e = by-fit ∙ ap (fits_verdict (store_of b p n)) e
 
             pub deliver-asks : (y : Fit) → x ≡ Some y → DeliverFitAsks b p ix n u y
-            deliver-asks y e = record { good = f.good; ok = subst (FitsOk n) e h.ok }
+            deliver-asks y e = record { good = f.good; ok = subst (FitsOk n) e (h n args_over).ok }

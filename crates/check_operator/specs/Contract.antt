@@ -1,12 +1,12 @@
 -- What the functions on an operator's arguments ask and promise. The arguments are store numbers in a lent array from byte 3 on.
-use Rattle.std.specs.Prelude.{ℕ, ◌+◌, ◌*◌, ◌≤◌, ◌<◌, ◌≡◌, ◌⊎◌, Bool, true, List, length, get_or, Option, Some, None}
+use Rattle.std.specs.Prelude.{ℕ, ◌+◌, ◌*◌, ◌≤◌, ◌<◌, ◌≡◌, ◌⊎◌, Bool, true, List, length, get_or, eqb, Option, Some, None}
 use Rattle.record.specs.Kinds.{sort_number}
 use Rattle.record.specs.Number.{u16_at, numbers_at}
-use Rattle.record.specs.Sort.{Sort, Sorts, bitvec}
+use Rattle.record.specs.Sort.{Sort, Sorts, bitvec, kind_of}
 use Rattle.record.specs.Record.{map_of, leaf, sorts_of}
-use Rattle.record.specs.Decode.{store_of, Stored, Distinct}
+use Rattle.record.specs.Decode.{store_of, sort_at, Stored, Distinct}
 use Rattle.store.specs.Good.{Good}
-use Rattle.store.specs.declared.entries.Sorts.{Sorts as StoreSorts}
+use Rattle.store.specs.declared.entries.Entries.{Entries}
 use Rattle.matching_tables.specs.Usable.{Refs}
 use Rattle.row_rules.specs.declared.Cause.TheVariants.{Misfit}
 use Rattle.row_rules.specs.Verdict.{Verdict, sort, refused}
@@ -26,21 +26,26 @@ pub record Over (b p : List ℕ) (n : ℕ) (a : List ℕ) (m : ℕ) : Type 0 whe
   pub distinct : Distinct b p n
   pub below : (j : ℕ) → j < m → arg_at a j < n
 
-pub record ArgsAsk (b p : List ℕ) (n : ℕ) (a : List ℕ) (m : ℕ) : Type 0 where
+pub record ArgsAsk (b p a : List ℕ) (m : ℕ) : Type 0 where
   pub within : 3 + 2 * m ≤ length a
-  pub over : Over b p n a m
+  pub many : ℕ
+  pub over : Over b p many a m
 
 -- The sorts of the arguments.
 abbrev pub args_of : List ℕ → List ℕ → ℕ → List ℕ → ℕ → Sorts
 args_of b p n a m = sorts_of (store_of b p n) (numbers_at a 3 m)
 
+-- Whatever the count of the store's sorts is: the sort v is of the kind k.
+abbrev pub KindIs : List ℕ → List ℕ → ℕ → ℕ → Bool → Type 0
+KindIs b p v k r = (n : ℕ) → Stored b p n → v < n → r ≡ eqb (kind_of (sort_at b p n v)) k
+
 -- Every argument is the sort of a kind without parts.
-abbrev pub KindsHave : List ℕ → List ℕ → ℕ → List ℕ → ℕ → ℕ → Bool → Type 0
-KindsHave b p n a m k r = map_of k ≡ 1 → r ≡ all_same (plain_sort k) (args_of b p n a m)
+abbrev pub KindsHave : List ℕ → List ℕ → List ℕ → ℕ → ℕ → Bool → Type 0
+KindsHave b p a m k r = (n : ℕ) → Over b p n a m → map_of k ≡ 1 → r ≡ all_same (plain_sort k) (args_of b p n a m)
 
 -- Every argument is the first one.
-abbrev pub SameHas : List ℕ → List ℕ → ℕ → List ℕ → ℕ → Bool → Type 0
-SameHas b p n a m r = Over b p n a m → r ≡ all_same (only_of (args_of b p n a m)) (args_of b p n a m)
+abbrev pub SameHas : List ℕ → List ℕ → List ℕ → ℕ → Bool → Type 0
+SameHas b p a m r = (n : ℕ) → Over b p n a m → r ≡ all_same (only_of (args_of b p n a m)) (args_of b p n a m)
 
 -- They are references to its sorts.
 pub args-refs : (b p a : List ℕ) (n m : ℕ) → 3 + 2 * m ≤ length a → Over b p n a m → Refs a 3 m n
@@ -72,25 +77,25 @@ pub record FitIs (n : ℕ) (st : List Sort) (v : Verdict) (r : Option Fit) : Typ
   pub ok : FitsOk n r
 
 -- A rule of the table whose count the arguments have.
-pub record FitAsks (b p : List ℕ) (n : ℕ) (a : List ℕ) (m : ℕ) (r : Rule) : Type 0 where
-  pub args : ArgsAsk b p n a m
+pub record FitAsks (b p a : List ℕ) (m : ℕ) (r : Rule) : Type 0 where
+  pub args : ArgsAsk b p a m
   pub well : well_rule r ≡ true
   pub counted : counts_for r m ≡ true
 
-abbrev pub FitHas : List ℕ → List ℕ → ℕ → List ℕ → ℕ → Rule → Option Fit → Type 0
-FitHas b p n a m rule r = FitIs n (store_of b p n) (fitted rule (args_of b p n a m)) r
+abbrev pub FitHas : List ℕ → List ℕ → List ℕ → ℕ → Rule → Option Fit → Type 0
+FitHas b p a m rule r = (n : ℕ) → Over b p n a m → FitIs n (store_of b p n) (fitted rule (args_of b p n a m)) r
 
 -- Two arguments or three, for Select and Store.
-pub record ArrayAsks (b p : List ℕ) (n : ℕ) (a : List ℕ) (m : ℕ) : Type 0 where
-  pub args : ArgsAsk b p n a m
+pub record ArrayAsks (b p a : List ℕ) (m : ℕ) : Type 0 where
+  pub args : ArgsAsk b p a m
   pub few : (m ≡ 2) ⊎ (m ≡ 3)
 
 pub record ArrayIs (n : ℕ) (st : List Sort) (ts : Sorts) (m : ℕ) (r : Option Fit) : Type 0 where
   pub two : m ≡ 2 → FitIs n st (fitted Select ts) r
   pub three : m ≡ 3 → FitIs n st (fitted Store ts) r
 
-abbrev pub ArrayHas : List ℕ → List ℕ → ℕ → List ℕ → ℕ → Option Fit → Type 0
-ArrayHas b p n a m r = ArrayIs n (store_of b p n) (args_of b p n a m) m r
+abbrev pub ArrayHas : List ℕ → List ℕ → List ℕ → ℕ → Option Fit → Type 0
+ArrayHas b p a m r = (n : ℕ) → Over b p n a m → ArrayIs n (store_of b p n) (args_of b p n a m) m r
 
 ---------------------------------------------------------------- answers
 pub record DeliverFitAsks (b p ix : List ℕ) (n u : ℕ) (r : Fit) : Type 0 where
@@ -103,12 +108,9 @@ pub record CheckOperatorAsks (b p ix : List ℕ) (n u : ℕ) (a : List ℕ) (m :
   pub within : 3 + 2 * m ≤ length a
   pub below : (j : ℕ) → j < m → arg_at a j < n
 
----------------------------------------------------------------- the same over a store and the arguments as they are lent
-abbrev pub ArgsKnown : StoreSorts → Args → Type 0
-ArgsKnown s a = ArgsAsk s.records.now s.places.now s.count a.bytes.now a.count
+---------------------------------------------------------------- the same of entries and the arguments as they are lent
+abbrev pub RuleAsks : Entries → Args → Rule → Type 0
+RuleAsks e a rule = FitAsks e.records.now e.places.now a.bytes.now a.count rule
 
-abbrev pub RuleAsks : StoreSorts → Args → Rule → Type 0
-RuleAsks s a rule = FitAsks s.records.now s.places.now s.count a.bytes.now a.count rule
-
-abbrev pub RuleFits : StoreSorts → Args → Rule → Option Fit → Type 0
-RuleFits s a rule r = FitHas s.records.now s.places.now s.count a.bytes.now a.count rule r
+abbrev pub RuleFits : Entries → Args → Rule → Option Fit → Type 0
+RuleFits e a rule r = FitHas e.records.now e.places.now a.bytes.now a.count rule r

@@ -3,3 +3,4 @@ pub mod RuleLaws
 pub mod Numbered
 pub mod Contract
 pub mod KindLaws
+pub mod Words

@@ -5,6 +5,8 @@ use Rattle.check_operator.specs.declared.rule.Arity.{Arity}
 use Rattle.check_operator.specs.declared.rule.Arity.TheVariants.{Exactly, AtLeast}
 use Rattle.check_operator.specs.declared.rule.Rule.{Rule as Given}
 use Rattle.record.specs.Kinds.{sort_number}
+use Rattle.record.specs.Operators.{operator_number}
+use Rattle.record.specs.declared.operators.Operator.{Operator}
 use Rattle.check_operator.specs.Rule.{Rule, Unranked, All, Fixed, Numbers, Equal, Choose, Select, Store, Vectors, Concat, rule_of}
 
 -- The kind at a place of a list; Bool past its end.
@@ -47,6 +49,6 @@ abbrev pub ruled_numbers : Option Given → Rule
 ruled_numbers None = Unranked
 ruled_numbers (Some r) = rule_numbers r
 
--- The rule of an operator between two numbers.
-abbrev pub rule_within : ℕ → ℕ → ℕ → Rule
-rule_within a b n = cond (leb a n && leb n b) (rule_of n) Unranked
+-- The rule of the operator with the number n, where it stands from a to b in enum Operator.
+abbrev pub rule_within : Operator → Operator → ℕ → Rule
+rule_within a b n = cond (leb (operator_number a) n && leb n (operator_number b)) (rule_of n) Unranked

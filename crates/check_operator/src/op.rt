@@ -1,15 +1,17 @@
 // The checked sort of an operator at its arguments.
-ghost use Rattle.std.specs.Prelude.{◌≡◌, ℕ, ◌<◌, List, eqb};
+ghost use Rattle.std.specs.Prelude.{List, ℕ};
 ghost use Rattle.record.specs.Kinds.{sort_number};
-ghost use Rattle.record.specs.Sort.{kind_of};
-ghost use Rattle.record.specs.Decode.{store_of, sort_at};
 ghost use Rattle.store.specs.Changes.{Same};
+ghost use Rattle.store.specs.Words.{store_in};
 ghost use Rattle.check_rules.specs.Ranks.{smt_lib};
 ghost use Rattle.check_rules.specs.Checked.{operated};
 ghost use Rattle.row_answer.specs.Answer.{Answered};
+ghost use Rattle.row_answer.specs.Heads.{HeadAsks};
+ghost use Rattle.row_answer.specs.Words.{args_in};
 ghost use Rattle.check_operator.specs.Rule.{All, Numbers, Equal, Choose, Vectors, Concat};
 ghost use Rattle.check_operator.specs.Numbered.{result_number, fixed_numbers, rule_numbers};
-ghost use Rattle.check_operator.specs.Contract.{ArgsKnown, args_of, KindsHave, SameHas, RuleAsks, RuleFits, ArrayAsks, ArrayHas, fit_verdict, DeliverFitAsks, CheckOperatorAsks};
+ghost use Rattle.check_operator.specs.Contract.{ArgsAsk, KindIs, KindsHave, SameHas, RuleAsks, RuleFits, ArrayAsks, ArrayHas, fit_verdict};
+ghost use Rattle.check_operator.specs.Words.{DeliverFitAsked, CheckOperatorAsked};
 
 use super::rule::{Rule, counts, rule_of};
 use record::kinds::SortKind;
@@ -18,7 +20,7 @@ use row_answer::values::all_values;
 use row_answer::{bit_vector, leaf};
 use row_rules::{Cause, Row};
 use store::Store;
-use store::entries::Sorts;
+use store::entries::Entries;
 
 // The result of a rule that fits: a sort of the store, the sort of a kind without parts, or a vector of a width.
 #[derive(Clone, Copy, Debug, PartialEq, Eq)]
@@ -29,97 +31,97 @@ pub enum Fit {
 }
 
 // Whether the sort k is of this kind.
-pub fn is_kind(sorts: &Sorts<'_>, k: usize, kind: SortKind) -> bool
-    requires { k < sorts.now.count }
-    ensures { result ≡ eqb (kind_of (sort_at sorts.now.records.now sorts.now.places.now sorts.now.count k)) (sort_number kind) }
+pub fn is_kind(entries: Entries<'_>, k: usize, kind: SortKind) -> bool
+    requires { HeadAsks entries.records.now entries.places.now k }
+    ensures { KindIs entries.entry.records.now entries.entry.places.now k (sort_number kind) result }
 {
-    sorts.kind(k) == kind
+    entries.kind(k) == kind
 }
 
 // Whether the arguments are all of this kind.
-pub fn all_kind(sorts: &Sorts<'_>, args: &Args<'_>, kind: SortKind) -> bool
-    requires { ArgsKnown sorts.now args.now }
-    ensures { KindsHave sorts.now.records.now sorts.now.places.now sorts.now.count args.now.bytes.now args.now.count (sort_number kind) result }
+pub fn all_kind(entries: Entries<'_>, args: &Args<'_>, kind: SortKind) -> bool
+    requires { ArgsAsk entries.records.now entries.places.now args.now.bytes.now args.now.count }
+    ensures { KindsHave entries.entry.records.now entries.entry.places.now args.now.bytes.now args.now.count (sort_number kind) result }
 {
-    args.numbers().all(|k| is_kind(sorts, k, kind))
+    args.numbers().all(|k| is_kind(entries, k, kind))
 }
 
 // Whether the arguments are all of the sort of the first one.
 pub fn all_same(args: &Args<'_>) -> bool
-    ensures { (b p : List ℕ) (n : ℕ) → SameHas b p n args.now.bytes.now args.now.count result }
+    ensures { (b p : List ℕ) → SameHas b p args.now.bytes.now args.now.count result }
 {
     args.numbers().all(|k| k == args.number(0))
 }
 
 // Two or more of one kind.
-pub fn fit_all(sorts: &Sorts<'_>, args: &Args<'_>, kind: SortKind, res: SortKind) -> Option<Fit>
-    requires { RuleAsks sorts.now args.now (All (sort_number kind) (sort_number res)) }
-    ensures { RuleFits sorts.now args.now (All (sort_number kind) (sort_number res)) result }
+pub fn fit_all(entries: Entries<'_>, args: &Args<'_>, kind: SortKind, res: SortKind) -> Option<Fit>
+    requires { RuleAsks entries args.now (All (sort_number kind) (sort_number res)) }
+    ensures { RuleFits entries.entry args.now (All (sort_number kind) (sort_number res)) result }
 {
-    all_kind(sorts, args, kind).then_some(Fit::Plain(res))
+    all_kind(entries, args, kind).then_some(Fit::Plain(res))
 }
 
 // At most three arguments of these kinds.
 pub fn fit_fixed(
-    sorts: &Sorts<'_>,
+    entries: Entries<'_>,
     args: &Args<'_>,
     kinds: &[SortKind],
     res: SortKind,
 ) -> Option<Fit>
-    requires { RuleAsks sorts.now args.now (fixed_numbers kinds.now res) }
-    ensures { RuleFits sorts.now args.now (fixed_numbers kinds.now res) result }
+    requires { RuleAsks entries args.now (fixed_numbers kinds.now res) }
+    ensures { RuleFits entries.entry args.now (fixed_numbers kinds.now res) result }
 {
     let mut pairs = args.numbers().zip(kinds);
-    let fits = pairs.all(|(k, kind)| is_kind(sorts, k, *kind));
+    let fits = pairs.all(|(k, kind)| is_kind(entries, k, *kind));
     fits.then_some(Fit::Plain(res))
 }
 
 // All Int or all Real; the result is of this kind, or theirs.
-pub fn fit_numbers(sorts: &Sorts<'_>, args: &Args<'_>, res: Option<SortKind>) -> Option<Fit>
-    requires { RuleAsks sorts.now args.now (Numbers 1 (result_number res)) }
-    ensures { RuleFits sorts.now args.now (Numbers 1 (result_number res)) result }
+pub fn fit_numbers(entries: Entries<'_>, args: &Args<'_>, res: Option<SortKind>) -> Option<Fit>
+    requires { RuleAsks entries args.now (Numbers 1 (result_number res)) }
+    ensures { RuleFits entries.entry args.now (Numbers 1 (result_number res)) result }
 {
-    if all_kind(sorts, args, SortKind::Int) {
+    if all_kind(entries, args, SortKind::Int) {
         return Some(Fit::Plain(res.unwrap_or(SortKind::Int)));
     }
-    if all_kind(sorts, args, SortKind::Real) {
+    if all_kind(entries, args, SortKind::Real) {
         return Some(Fit::Plain(res.unwrap_or(SortKind::Real)));
     }
     None
 }
 
 // All of one sort gives Bool.
-pub fn fit_equal(sorts: &Sorts<'_>, args: &Args<'_>) -> Option<Fit>
-    requires { RuleAsks sorts.now args.now Equal }
-    ensures { RuleFits sorts.now args.now Equal result }
+pub fn fit_equal(entries: Entries<'_>, args: &Args<'_>) -> Option<Fit>
+    requires { RuleAsks entries args.now Equal }
+    ensures { RuleFits entries.entry args.now Equal result }
 {
     all_same(args).then_some(Fit::Plain(SortKind::Bool))
 }
 
 // Bool A A gives A.
-pub fn fit_choose(sorts: &Sorts<'_>, args: &Args<'_>) -> Option<Fit>
-    requires { RuleAsks sorts.now args.now Choose }
-    ensures { RuleFits sorts.now args.now Choose result }
+pub fn fit_choose(entries: Entries<'_>, args: &Args<'_>) -> Option<Fit>
+    requires { RuleAsks entries args.now Choose }
+    ensures { RuleFits entries.entry args.now Choose result }
 {
     let test = args.number(0);
     let chosen = args.number(1);
     let other = args.number(2);
-    let fits = is_kind(sorts, test, SortKind::Bool) && other == chosen;
+    let fits = is_kind(entries, test, SortKind::Bool) && other == chosen;
     fits.then_some(Fit::Known(chosen))
 }
 
 // (Array X Y) X gives Y; with three arguments, (Array X Y) X Y gives (Array X Y).
-pub fn fit_array(sorts: &Sorts<'_>, args: &Args<'_>) -> Option<Fit>
-    requires { ArrayAsks sorts.now.records.now sorts.now.places.now sorts.now.count args.now.bytes.now args.now.count }
-    ensures { ArrayHas sorts.now.records.now sorts.now.places.now sorts.now.count args.now.bytes.now args.now.count result }
+pub fn fit_array(entries: Entries<'_>, args: &Args<'_>) -> Option<Fit>
+    requires { ArrayAsks entries.records.now entries.places.now args.now.bytes.now args.now.count }
+    ensures { ArrayHas entries.entry.records.now entries.entry.places.now args.now.bytes.now args.now.count result }
 {
     let array = args.number(0);
-    if !is_kind(sorts, array, SortKind::Array) {
+    if !is_kind(entries, array, SortKind::Array) {
         return None;
     }
-    let parts = sorts.entry(array).parts;
-    let index = parts.get(sorts.records, 0);
-    let element = parts.get(sorts.records, 1);
+    let parts = entries.entry(array).parts;
+    let index = parts.get(entries.records, 0);
+    let element = parts.get(entries.records, 1);
     if args.number(1) != index {
         return None;
     }
@@ -130,12 +132,12 @@ pub fn fit_array(sorts: &Sorts<'_>, args: &Args<'_>) -> Option<Fit>
 }
 
 // Vectors of one width; the result is theirs, one bit, or of this kind.
-pub fn fit_vectors(sorts: &Sorts<'_>, args: &Args<'_>, res: Option<SortKind>) -> Option<Fit>
-    requires { RuleAsks sorts.now args.now (Vectors 1 1 (result_number res)) }
-    ensures { RuleFits sorts.now args.now (Vectors 1 1 (result_number res)) result }
+pub fn fit_vectors(entries: Entries<'_>, args: &Args<'_>, res: Option<SortKind>) -> Option<Fit>
+    requires { RuleAsks entries args.now (Vectors 1 1 (result_number res)) }
+    ensures { RuleFits entries.entry args.now (Vectors 1 1 (result_number res)) result }
 {
     let k = args.number(0);
-    if !is_kind(sorts, k, SortKind::BitVec) || !all_same(args) {
+    if !is_kind(entries, k, SortKind::BitVec) || !all_same(args) {
         return None;
     }
     Some(match res {
@@ -146,39 +148,39 @@ pub fn fit_vectors(sorts: &Sorts<'_>, args: &Args<'_>, res: Option<SortKind>) ->
 }
 
 // Two vectors; the result is as wide as both.
-pub fn fit_concat(sorts: &Sorts<'_>, args: &Args<'_>) -> Option<Fit>
-    requires { RuleAsks sorts.now args.now Concat }
-    ensures { RuleFits sorts.now args.now Concat result }
+pub fn fit_concat(entries: Entries<'_>, args: &Args<'_>) -> Option<Fit>
+    requires { RuleAsks entries args.now Concat }
+    ensures { RuleFits entries.entry args.now Concat result }
 {
     let a = args.number(0);
     let b = args.number(1);
-    let fits = is_kind(sorts, a, SortKind::BitVec) && is_kind(sorts, b, SortKind::BitVec);
-    fits.then_some(Fit::Width(sorts.entry(a).number + sorts.entry(b).number))
+    let fits = is_kind(entries, a, SortKind::BitVec) && is_kind(entries, b, SortKind::BitVec);
+    fits.then_some(Fit::Width(entries.entry(a).number + entries.entry(b).number))
 }
 
 // The result of a rule at the arguments, whose count it has; None where it does not fit.
 #[tactic(auto, using(crate::proofs::OperatedLaws::numbers_has, crate::proofs::OperatedLaws::vectors_has))]
-pub fn fit_rule(sorts: &Sorts<'_>, rule: Rule, args: &Args<'_>) -> Option<Fit>
-    requires { RuleAsks sorts.now args.now (rule_numbers rule) }
-    ensures { RuleFits sorts.now args.now (rule_numbers rule) result }
+pub fn fit_rule(entries: Entries<'_>, rule: Rule, args: &Args<'_>) -> Option<Fit>
+    requires { RuleAsks entries args.now (rule_numbers rule) }
+    ensures { RuleFits entries.entry args.now (rule_numbers rule) result }
 {
     match rule {
-        Rule::All(kind, result) => fit_all(sorts, args, kind, result),
-        Rule::Fixed(kinds, result) => fit_fixed(sorts, args, kinds, result),
-        Rule::Numbers(_, result) => fit_numbers(sorts, args, result),
-        Rule::Equal => fit_equal(sorts, args),
-        Rule::Choose => fit_choose(sorts, args),
-        Rule::Select | Rule::Store => fit_array(sorts, args),
-        Rule::Vectors(_, result) => fit_vectors(sorts, args, result),
-        Rule::Concat => fit_concat(sorts, args),
+        Rule::All(kind, result) => fit_all(entries, args, kind, result),
+        Rule::Fixed(kinds, result) => fit_fixed(entries, args, kinds, result),
+        Rule::Numbers(_, result) => fit_numbers(entries, args, result),
+        Rule::Equal => fit_equal(entries, args),
+        Rule::Choose => fit_choose(entries, args),
+        Rule::Select | Rule::Store => fit_array(entries, args),
+        Rule::Vectors(_, result) => fit_vectors(entries, args, result),
+        Rule::Concat => fit_concat(entries, args),
     }
 }
 
 // The answer of a fit: its sort, made where it is not in the store.
 pub fn delivered_fit(store: &mut Store<'_>, made: Fit) -> Row
-    requires { DeliverFitAsks store.old.records.now store.old.places.now store.old.index.now store.old.count store.old.used made }
+    requires { DeliverFitAsked store.old made }
     ensures same { Same store.old store.new }
-    ensures answer { Answered store.old (fit_verdict (store_of store.old.records.now store.old.places.now store.old.count) made) store.new result }
+    ensures answer { Answered store.old (fit_verdict (store_in store.old) made) store.new result }
 {
     match made {
         Fit::Known(k) => Ok(k),
@@ -190,18 +192,18 @@ pub fn delivered_fit(store: &mut Store<'_>, made: Fit) -> Row
 // The checked sort of the operator: NoRank without a rule, Count where the rule has another count of arguments, Misfit where
 // an argument is a Par or the rule does not fit.
 pub fn checked_operator(store: &mut Store<'_>, op: usize, args: &Args<'_>) -> Row
-    requires { CheckOperatorAsks store.old.records.now store.old.places.now store.old.index.now store.old.count store.old.used args.now.bytes.now args.now.count }
+    requires { CheckOperatorAsked store.old args.now }
     ensures same { Same store.old store.new }
-    ensures answer { Answered store.old (operated smt_lib op (args_of store.old.records.now store.old.places.now store.old.count args.now.bytes.now args.now.count)) store.new result }
+    ensures answer { Answered store.old (operated smt_lib op (args_in store.old args.now)) store.new result }
 {
     let rule = rule_of(op).ok_or(Cause::NoRank)?;
     if !counts(rule, args.count) {
         return Err(Cause::Count);
     }
-    let sorts = store.sorts();
-    if !all_values(sorts.entries(), args.bytes, args.span()) {
+    let entries = store.entries();
+    if !all_values(entries, args.bytes, args.span()) {
         return Err(Cause::Misfit);
     }
-    let made = fit_rule(&sorts, rule, args).ok_or(Cause::Misfit)?;
+    let made = fit_rule(entries, rule, args).ok_or(Cause::Misfit)?;
     delivered_fit(store, made)
 }

@@ -1,6 +1,7 @@
 // The rules of the ranked operators, by families of ranks.
 ghost use Rattle.std.specs.Prelude.{◌≡◌};
 ghost use Rattle.record.specs.Operators.{operator_number};
+ghost use Rattle.record.specs.declared.operators.Operator.{Operator};
 ghost use Rattle.check_operator.specs.Rule.{rule_of, counts_for};
 ghost use Rattle.check_operator.specs.Numbered.{arity_counts, rule_numbers, ruled_numbers, rule_within};
 
@@ -51,7 +52,7 @@ pub enum Rule {
 // The rule of an operator of Core, Ints, Reals, Reals_Ints or ArraysEx; None for one without ranks and for the other operators.
 #[tactic(auto, unfolding(crate::specs::Rule::rule_of, crate::specs::Rule::rules_in, crate::specs::Rule::rules))]
 pub fn rule_of_theory(op: Operator) -> Option<Rule>
-    ensures { ruled_numbers result ≡ rule_within 0 43 (operator_number op) }
+    ensures { ruled_numbers result ≡ rule_within Operator.True Operator.Store (operator_number op) }
 {
     use Operator::*;
     use SortKind::{Bool, Int, Real};
@@ -80,7 +81,7 @@ pub fn rule_of_theory(op: Operator) -> Option<Rule>
 // The rule of an operator of Strings; None for one without ranks and for the other operators.
 #[tactic(auto, unfolding(crate::specs::Rule::rule_of, crate::specs::Rule::rules_in, crate::specs::Rule::rules))]
 pub fn rule_of_text(op: Operator) -> Option<Rule>
-    ensures { ruled_numbers result ≡ rule_within 44 78 (operator_number op) }
+    ensures { ruled_numbers result ≡ rule_within Operator.StrConcat Operator.ReFromAutomaton (operator_number op) }
 {
     use Operator::*;
     use SortKind::{Bool, Int, RegLan, String};
@@ -112,7 +113,7 @@ pub fn rule_of_text(op: Operator) -> Option<Rule>
 // The rule of an operator of FixedSizeBitVectors; None for one without ranks and for the other operators.
 #[tactic(auto, unfolding(crate::specs::Rule::rule_of, crate::specs::Rule::rules_in, crate::specs::Rule::rules))]
 pub fn rule_of_vectors(op: Operator) -> Option<Rule>
-    ensures { ruled_numbers result ≡ rule_within 79 134 (operator_number op) }
+    ensures { ruled_numbers result ≡ rule_within Operator.BvNot Operator.RelProduct (operator_number op) }
 {
     use Operator::*;
     match op {

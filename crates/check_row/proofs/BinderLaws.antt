@@ -29,7 +29,7 @@ use Rattle.row_rules.specs.declared.Cause.TheVariants.{Count, Misfit, Barred}
 use Rattle.row_rules.specs.Verdict.{sort, refused, need}
 use Rattle.row_rules.specs.Lists.{joined}
 use Rattle.check_rules.specs.Checked.{value, only_of, bound_body, binder}
-use Rattle.row_answer.specs.Arguments.{looked, bound_numbers, LambdaAsks}
+use Rattle.row_answer.specs.Arguments.{looked, bound_numbers}
 use Rattle.row_answer.specs.Values.{value-kind, stored-value}
 use Rattle.check_operator.specs.Contract.{args_of}
 use Rattle.check_operator.specs.KindLaws.{kind-same}
@@ -199,19 +199,6 @@ module _ {b p : List ℕ} {n : ℕ} {s tbl : List ℕ} {x m : ℕ} (f : Bindings
       body-choice (pair_sorts (store_of b p n) tbl s x m) (sort_at b p n body) e
       ∙ ap (λ (c : Bool). need c Count (need (same (sort_at b p n body) bool) Misfit (sort (only_of (pair_sorts (store_of b p n) tbl s x m)))))
       (ap (λ (i : ℕ). eqb i 1) (pair-count (store_of b p n) tbl s x m) ∙ ne_eqb m 1 d)
-
-pub lambda-asks : {b p ix : List ℕ} {n u : ℕ} {s tbl : List ℕ} {x m : ℕ} {a : List ℕ} {body : ℕ} → BodyAsks b p ix n u s tbl x m a body
-    → LambdaAsks b p ix n u s x m tbl a body
-lambda-asks {b} {p} {ix} {n} {u} {s} {tbl} {x} {m} {a} {body} f =
-    record {
-      good = f.good;
-      within = f.bound.within;
-      each = f.bound.each;
-      below = f.bound.below;
-      known = f.known;
-      few = f.few;
-      room = f.room;
-    }
 
 -- The binders of an arm.
 pub plain_binder : (o : Binder) → (o ≡ Binder.Forall) ⊎ (o ≡ Binder.Exists) → (binder_number o ≡ 3 → ⊥) × (binder_number o ≡ 2 → ⊥)

@@ -7,7 +7,6 @@ use mathlib.Core.List.{List, [], ◌∷◌}
 use mathlib.Core.Option.{Option, none, some}
 use native.Mathlib.Omega.{arith}
 use native.Mathlib.Numerals.{add-one}
-use native.Mathlib.Nat.{mul-le-mul}
 use lib.Dec.{eqb, ltb}
 use borrow.Author.Tests.{eq-eqb, eqb-true, eqb-false, ne_eqb, le-leb, lt-leb, lt-ltb, le-ltb}
 use Rattle.record.specs.Number.{u16_at, numbers_at}
@@ -32,10 +31,10 @@ use Rattle.row_answer.specs.Arguments.{integer_of, constants_from, constants_in,
 use Rattle.row_answer.specs.Asks.{KnownAsks}
 use Rattle.check_operator.specs.Rule.{plain_sort}
 use Rattle.check_operator.specs.Contract.{args_of}
-use Rattle.check_operator.specs.KindLaws.{kind-same, kind-vector, vector-not, vector-small}
+use Rattle.check_operator.specs.KindLaws.{kind-same, kind-vector, vector-not}
 use Rattle.check_row.specs.declared.indexed.Indices.{Indices}
 use Rattle.check_row.specs.declared.indexed.Indices.TheVariants.{One, Two}
-use Rattle.check_row.specs.Indexed.{indices_from, SmallIfOne, IndicesAre, kept_as, widened_verdict, OneIndexAsks, CheckIndexedAsks, indexed_within, IndexingAsks}
+use Rattle.check_row.specs.Indexed.{indices_from, IndicesAre, kept_as, widened_verdict, OneIndexAsks, indexed_within, IndexingAsks}
 
 ---------------------------------------------------------------- the indices
 many-wrong : (a b c : Option ℕ) (is : List (Option ℕ)) → None ≡ indices_from (a ∷ b ∷ c ∷ is)
@@ -64,29 +63,32 @@ module _ (s xs : List ℕ) (x : ℕ) where
   pub indices-other : (m : ℕ) → (m ≡ 1 → ⊥) → (m ≡ 2 → ⊥) → IndicesAre s xs x m None
   indices-other m g h = record { are = other_is m g h; small = tt }
 
-  module _ {r : Maybe ℕ} (h : IndexIs s xs x r) (m : ℕ) where
+  module _ {r : Maybe ℕ} (h : IndexIs s xs (x + 2 * 0) r) (m : ℕ) where
+    first : integer_of r ≡ index_at s xs x
+    first = let e : x + 2 * 0 ≡ x = omega arith in h.is ∙ ap (index_at s xs) e
+
     pub indices-first : m ≡ 1 → r ≡ None → {z : Maybe Indices} → z ≡ None → IndicesAre s xs x m z
     indices-first d e {z} ez =
         subst (λ (y : Maybe Indices). IndicesAre s xs x m y) (sym ez)
-        (record { are = one-are m None none d (sym (ap integer_of e) ∙ h.is) refl; small = tt })
+        (record { are = one-are m None none d (sym (ap integer_of e) ∙ first) refl; small = tt })
 
     pub indices-one : m ≡ 1 → (i : ℕ) → r ≡ Some i → IndicesAre s xs x m (Some (One i))
-    indices-one d i e = record { are = one-are m (Some (One i)) (some i) d (sym (ap integer_of e) ∙ h.is) refl; small = h.small i e }
+    indices-one d i e = record { are = one-are m (Some (One i)) (some i) d (sym (ap integer_of e) ∙ first) refl; small = h.small i e }
 
     pub indices-wrong : m ≡ 2 → r ≡ None → {z : Maybe Indices} → z ≡ None → IndicesAre s xs x m z
     indices-wrong d e {z} ez =
         subst (λ (y : Maybe Indices). IndicesAre s xs x m y) (sym ez)
-        (record { are = two-are m None none (index_at s xs (x + 2)) d (sym (ap integer_of e) ∙ h.is) refl refl; small = tt })
+        (record { are = two-are m None none (index_at s xs (x + 2)) d (sym (ap integer_of e) ∙ first) refl refl; small = tt })
 
     module _ (two : m ≡ 2) (i : ℕ) (e : r ≡ Some i) {q : Maybe ℕ} (g : IndexIs s xs (x + 2) q) where
       pub indices-second : q ≡ None → {z : Maybe Indices} → z ≡ None → IndicesAre s xs x m z
       indices-second d {z} ez =
           subst (λ (y : Maybe Indices). IndicesAre s xs x m y) (sym ez)
-          (record { are = two-are m None (some i) none two (sym (ap integer_of e) ∙ h.is) (sym (ap integer_of d) ∙ g.is) refl; small = tt })
+          (record { are = two-are m None (some i) none two (sym (ap integer_of e) ∙ first) (sym (ap integer_of d) ∙ g.is) refl; small = tt })
 
       pub indices-two : (j : ℕ) → q ≡ Some j → IndicesAre s xs x m (Some (Two i j))
       indices-two j d =
-          record { are = two-are m (Some (Two i j)) (some i) (some j) two (sym (ap integer_of e) ∙ h.is) (sym (ap integer_of d) ∙ g.is) refl; small = tt }
+          record { are = two-are m (Some (Two i j)) (some i) (some j) two (sym (ap integer_of e) ∙ first) (sym (ap integer_of d) ∙ g.is) refl; small = tt }
 
 ---------------------------------------------------------------- the argument
 -- One index, by the operator.
@@ -173,15 +175,6 @@ module _ {b p ix : List ℕ} {n u a : ℕ} (f : KnownAsks b p ix n u a) where
     plain_by k m =
         same-swap (sort_at b p n a) (plain_sort k) ∙ kind-same b p n a f.good.stored f.known k m ∙ ap (λ (i : ℕ). eqb i k) (sym read.kind)
 
-    pub number_small : r.number < 65536
-    number_small = vector-small b p n a f.good.stored f.known r read
-
-    pub product_small : (i : ℕ) → i < 4294967296 → i * r.number ≤ 4294967296 * 65536
-    product_small i l =
-        let x : i ≤ 4294967296 = omega arith in
-        let y : r.number ≤ 65536 = omega (arith, number_small) in
-        mul-le-mul x y
-
     pub extend-is : (op i : ℕ) → 3 ≤ op → op < 5 → indexed₁ op i (sort_at b p n a) ≡ widened_verdict (sort_number r.kind) 9 (r.number + i)
     extend-is op i l o =
         one-extend op i (sort_at b p n a) l o
@@ -261,9 +254,6 @@ module _ {b p ix : List ℕ} {n u a : ℕ} (f : KnownAsks b p ix n u a) where
             is-vector ∙ ap (λ (c : Bool). need c Count (sort (bitvec (suc (i - j))))) (lt-ltb i r.number w)
             ∙ ap (λ (x : ℕ). sort (bitvec x)) (sym (add-one (i - j)))
 
-pub two-extract : {op : ℕ} (i j : ℕ) (s : Sort) → op ≡ 0 → indexed₂ op i j s ≡ indexed₂ 0 i j s
-two-extract {op} i j s e = ap (λ (k : ℕ). indexed₂ k i j s) e
-
 ---------------------------------------------------------------- the operator
 indexed-by : (op : ℕ) (is : List (Option ℕ)) (s : Sort) → indexed_by op is s ≡ indexed_within op (indices_from is) s
 indexed-by op [] s = refl
@@ -322,9 +312,6 @@ module _ {b p ix : List ℕ} {n u : ℕ} {s xs : List ℕ} {x y : ℕ} {a : List
       indexed-on op (constants_in s xs x y) (args_of b p n a m) et on ∙ indexed-count op (constants_in s xs x y) (store_of b p n) a m d
 
   module _ (e : m ≡ 1) {r : Maybe Indices} (g : IndicesAre s xs x y r) {k : ℕ} (ek : k ≡ u16_at a 3) where
-    pub indexed-asks : (is : Indices) → r ≡ Some is → CheckIndexedAsks b p ix n u is k
-    indexed-asks is er = record { good = f.good; known = subst (λ (i : ℕ). i < n) (sym ek) (f.below 0 (omega arith)); small = subst SmallIfOne er g.small }
-
     pub indexing-is : indexing op (constants_in s xs x y) (args_of b p n a m) ≡ indexed_within op r (sort_at b p n k)
     unfolding sort_at sorts_of numbers_at
     indexing-is =

@@ -25,8 +25,8 @@ use Rattle.row_rules.specs.Term.{Site}
 use Rattle.check_rules.specs.Ranks.{smt_lib}
 use Rattle.check_rules.specs.Checked.{checked_app, operated, binder, letting, indexing, qualified, checked}
 use Rattle.row_answer.specs.Arguments.{bound_numbers, constants_in}
-use Rattle.check_operator.specs.Contract.{ArgsAsk, args_of, CheckOperatorAsks}
-use Rattle.check_row.specs.Single.{constant_verdict, variable_verdict}
+use Rattle.check_operator.specs.Contract.{ArgsAsk, args_of}
+use Rattle.check_row.specs.Single.{constant_verdict, variable_verdict, OverAsks}
 use Rattle.row_parts.specs.Site.{site_over, SiteAsks}
 use Rattle.row_parts.specs.SiteLaws.{OwnIs, var-owns, as_own, bindings-sorts, bindings-bound, index-constants, count-few, binder-one}
 use Rattle.check_row.specs.Indexed.{IndexingAsks}
@@ -112,14 +112,14 @@ module _ {b p ix : List ℕ} {n u : ℕ} {prm imgs bnd s tbl xs : List ℕ} {r :
   many : args_of b p n a r.list.count ≡ args_of b p n a m
   many = ap (args_of b p n a) (sym count)
 
-  pub known-args : ArgsAsk b p n a m
+  pub known-args : OverAsks b p n a m
   known-args = record { within = within; over = record { stored = good.stored; distinct = good.distinct; below = below } }
+
+  pub let-asks : ArgsAsk b p a m
+  let-asks = record { within = within; many = n; over = known-args.over }
 
   pub app-is : term_number r.kind ≡ 6 → checked smt_lib site ≡ checked_app (args_of b p n a m)
   app-is e = checked-app site e ∙ ap checked_app many
-
-  pub op-asks : CheckOperatorAsks b p ix n u a m
-  op-asks = record { good = good; within = within; below = below }
 
   pub op-is : term_number r.kind ≡ 7 → checked smt_lib site ≡ operated smt_lib r.number (args_of b p n a m)
   op-is e = checked-op site e ∙ ap (operated smt_lib r.number) many

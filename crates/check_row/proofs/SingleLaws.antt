@@ -12,37 +12,30 @@ use Rattle.record.specs.Sort.{Sort, var, par, node, end, ◌then◌, array, bitv
 use Rattle.record.specs.SortLaws.{same_refl}
 use Rattle.record.specs.Record.{Fields, maps, map_of, leaf, sorts_of}
 use Rattle.record.specs.Decode.{store_of, sort_at, Stored}
-use Rattle.record.specs.Kinds.{sort_number, term_number}
+use Rattle.record.specs.Kinds.{sort_number, term_number, as_number}
+use Rattle.record.specs.declared.kinds.AsOp.{AsOp}
 use Rattle.record.specs.declared.kinds.TermKind.{TermKind}
 use Rattle.record.specs.Codec.{length-numbers_at}
 use Rattle.record.specs.Sizes.{count-sorts}
 use Rattle.record.specs.declared.SortRecord.{SortRecord}
 use Rattle.substitution.specs.Premises.{proper}
-use Rattle.store.specs.Entry.{EntryIs, EntryHas}
+use Rattle.store.specs.Entry.{EntryIs, EntryHas, KindHas}
 use Rattle.store.specs.Walk.{walk-par, walk-one}
 use Rattle.matching_tables.specs.Usable.{OneAsks}
 use Rattle.row_rules.specs.declared.Cause.TheVariants.{NoRank, Count, Misfit, Barred}
 use Rattle.row_rules.specs.Verdict.{Verdict, sort, refused, need}
 use Rattle.row_rules.specs.Lists.{last_of}
 use Rattle.check_rules.specs.Checked.{carried, values, inner_of, letting, constant_array, qualified}
-use Rattle.row_answer.specs.Values.{ValuesHave, ValuesAsk}
-use Rattle.check_operator.specs.Rule.{plain_sort}
+use Rattle.row_answer.specs.Values.{ValuesHave}
 use Rattle.row_rules.specs.declared.Cause.{Cause}
 use Rattle.row_answer.specs.Answer.{AnswerIs}
 use Rattle.row_answer.specs.AnswerLaws.{judged-as, made-refused, answer-known}
 use Rattle.std.specs.Prelude.{Result, Ok, Err}
-use Rattle.check_operator.specs.Contract.{ArgsAsk, args_of, args-refs}
-use Rattle.check_row.specs.Single.{ReadIs, constant_verdict}
+use Rattle.check_operator.specs.Contract.{Over, ArgsAsk, args_of, args-refs}
+use Rattle.check_row.specs.Single.{ReadIs, OverAsks, constant_verdict}
 use Rattle.check_operator.proofs.FitLaws.{numbers-same, array-two, array-sort}
 
 ---------------------------------------------------------------- constants
-pub constant-leaf : (k w : ℕ) → k < 4 → constant_verdict k w ≡ sort (plain_sort (k + 4))
-constant-leaf zero w l = refl
-constant-leaf (suc zero) w l = refl
-constant-leaf (suc (suc zero)) w l = refl
-constant-leaf (suc (suc (suc zero))) w l = refl
-constant-leaf (suc (suc (suc (suc k)))) w l = absurd (omega arith)
-
 pub constant-map : (k : ℕ) → k < 4 → map_of (k + 4) ≡ 1
 unfolding map_of maps
 constant-map zero l = refl
@@ -74,9 +67,6 @@ constant-other k w l =
 pub constant-zero : (k : ℕ) {w : ℕ} → 4 ≤ k → w ≡ 0 → constant_verdict k w ≡ refused Barred
 constant-zero k {w} l e = constant-other k w l ∙ ap (λ (c : Bool). need (not c) Barred (sort (bitvec w))) (eq-eqb w 0 e)
 
-pub constant-vector : (k w : ℕ) → 4 ≤ k → (w ≡ 0 → ⊥) → constant_verdict k w ≡ sort (bitvec w)
-constant-vector k w l h = constant-other k w l ∙ ap (λ (c : Bool). need (not c) Barred (sort (bitvec w))) (ne_eqb w 0 h)
-
 ---------------------------------------------------------------- Var
 carried_other : (s : Sort) → (kind_of s ≡ 12 → ⊥) → proper s ≡ carried s
 unfolding proper
@@ -95,6 +85,10 @@ carried_none [] t h = refl
 carried_none (n ∷ ns) (var v) h = refl
 carried_none (n ∷ ns) (par ms b) h = refl
 carried_none (n ∷ ns) (node k a w ss) h = sym (ap (λ (c : Bool). c && proper (node k a w ss)) (ne_eqb k 0 h))
+
+-- The test of a kind that was read.
+pub kind-read : {b p : List ℕ} {n k : ℕ} → OneAsks b p n k → (i : ℕ) {r : ℕ} → KindHas b p k r → eqb r i ≡ eqb (kind_of (sort_at b p n k)) i
+kind-read {n = n} f i h = ap (λ (q : ℕ). eqb q i) (h n f.usable.stored f.known)
 
 module _ {b p : List ℕ} {n k : ℕ} (f : OneAsks b p n k) {par_test : Bool} (ep : par_test ≡ eqb (kind_of (sort_at b p n k)) 12) where
   own-stored : Stored b p n
@@ -186,10 +180,10 @@ inner-read st a (suc (suc m)) l =
     let e : 3 + 2 + 2 * m ≡ 3 + 2 * (suc (suc m) - 1) = omega arith in
     ap sort (last-read st (get_or st (u16_at a 3) leaf) a (3 + 2) m ∙ ap (λ (i : ℕ). get_or st (u16_at a i) leaf) e)
 
-module _ {b p : List ℕ} {n : ℕ} {a : List ℕ} {m : ℕ} (f : ArgsAsk b p n a m) where
-  pub over-values : ValuesAsk b p a 3 m
-  over-values = record { many = n; stored = f.over.stored; refs = args-refs b p a n m f.within f.over }
+pub let-over : {b p a : List ℕ} {m : ℕ} → ArgsAsk b p a m → {n : ℕ} → Over b p n a m → OverAsks b p n a m
+let-over f o = record { within = f.within; over = o }
 
+module _ {b p : List ℕ} {n : ℕ} {a : List ℕ} {m : ℕ} (f : OverAsks b p n a m) where
   letting-by : letting (args_of b p n a m) ≡ need (ltb 1 m) Count (need (values (args_of b p n a m)) Misfit (inner_of (args_of b p n a m)))
   unfolding letting
   letting-by =
@@ -233,7 +227,13 @@ constant-kind (node k n w (i then (e then end))) t h =
     ap (λ (c : Bool). need (c && eqb n 0 && eqb w 0 && (same i i && (same e e && true)) && same t e) Misfit (sort (array i e))) (ne_eqb k 8 h)
 constant-kind (node k n w (i then (e then (r then rs)))) t h = refl
 
-module _ {b p : List ℕ} {n k : ℕ} {a : List ℕ} {m : ℕ} (f : ArgsAsk b p n a m) (own : OneAsks b p n k) (q : ℕ) where
+-- The number of another operator than `const`.
+pub other-number : {n : ℕ} (k : AsOp) → as_number k ≡ n → (k ≡ AsOp.Const → ⊥) → n ≡ 0 → ⊥
+other-number AsOp.Const h d e = d refl
+other-number AsOp.SetEmpty h d e = absurd (omega (arith, h, e))
+other-number AsOp.SetUniverse h d e = absurd (omega (arith, h, e))
+
+module _ {b p : List ℕ} {n k : ℕ} {a : List ℕ} {m : ℕ} (f : OverAsks b p n a m) (own : OneAsks b p n k) (q : ℕ) where
   pub qualified-other : (q ≡ 0 → ⊥) → qualified q (sort_at b p n k) (args_of b p n a m) ≡ refused NoRank
   unfolding qualified
   qualified-other h = ap (λ (c : Bool). need c NoRank (need (proper (sort_at b p n k)) Barred (constant_array (sort_at b p n k) (args_of b p n a m)))) (ne_eqb q 0 h)

@@ -2,3 +2,4 @@ pub mod Single
 pub mod Indexed
 pub mod Bound
 pub mod Kinds
+pub mod Words

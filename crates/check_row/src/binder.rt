@@ -2,14 +2,14 @@
 ghost use Rattle.std.specs.Prelude.{◌≡◌};
 ghost use Rattle.record.specs.Kinds.{binder_number};
 ghost use Rattle.record.specs.Sort.{end, ◌then◌};
-ghost use Rattle.record.specs.Decode.{sort_at};
 ghost use Rattle.store.specs.Changes.{Same};
+ghost use Rattle.store.specs.Words.{sort_in};
 ghost use Rattle.substitution.specs.Premises.{proper_all};
 ghost use Rattle.check_rules.specs.Checked.{bound_body, binder};
 ghost use Rattle.row_answer.specs.Answer.{Answered};
 ghost use Rattle.row_answer.specs.Args.{SameArgs};
-ghost use Rattle.check_operator.specs.Contract.{args_of};
-ghost use Rattle.check_row.specs.Bound.{BindingsAsk, bound_sorts, BodyAsks, BinderAsks};
+ghost use Rattle.row_answer.specs.Words.{bound_in};
+ghost use Rattle.check_row.specs.Words.{bound_among, first_in, BindingsAsked, BodyAsked, BinderAsked};
 
 use super::indexed::kept;
 use matching_each::premises::is_proper;
@@ -24,8 +24,8 @@ use store::entries::Sorts;
 
 // Whether the sorts of the pairs are proper.
 pub fn all_proper(sorts: &Sorts<'_>, sheet: &ReadSheet<'_>, pairs: Span) -> bool
-    requires { BindingsAsk sorts.now.records.now sorts.now.places.now sorts.now.count sheet.now.bytes.now sheet.now.table.now pairs.at pairs.count }
-    ensures { result ≡ proper_all (bound_sorts sorts.now.records.now sorts.now.places.now sorts.now.count sheet.now pairs) }
+    requires { BindingsAsked sorts.now sheet.now pairs }
+    ensures { result ≡ proper_all (bound_among sorts.now sheet.now pairs) }
 {
     pairs
         .pairs(sheet.bytes)
@@ -43,10 +43,10 @@ pub fn bound_body(
     args: &mut Args<'_>,
     body: usize,
 ) -> Row
-    requires { BodyAsks store.old.records.now store.old.places.now store.old.index.now store.old.count store.old.used sheet.now.bytes.now sheet.now.table.now pairs.at pairs.count args.old.bytes.now body }
+    requires { BodyAsked store.old sheet.now pairs args.old body }
     ensures same { Same store.old store.new }
     ensures same_args { SameArgs args.old args.new }
-    ensures answer { Answered store.old (bound_body (binder_number binder) (bound_sorts store.old.records.now store.old.places.now store.old.count sheet.now pairs) (sort_at store.old.records.now store.old.places.now store.old.count body then end)) store.new result }
+    ensures answer { Answered store.old (bound_body (binder_number binder) (bound_in store.old sheet.now pairs) (sort_in store.old body then end)) store.new result }
 {
     if pairs.count == 0 {
         return Err(Cause::Count);
@@ -82,10 +82,10 @@ pub fn checked_binder(
     number: usize,
     args: &mut Args<'_>,
 ) -> Row
-    requires { BinderAsks store.old.records.now store.old.places.now store.old.index.now store.old.count store.old.used sheet.now.bytes.now sheet.now.table.now pairs.at pairs.count args.old.bytes.now args.old.count }
+    requires { BinderAsked store.old sheet.now pairs args.old }
     ensures same { Same store.old store.new }
     ensures same_args { SameArgs args.old args.new }
-    ensures answer { Answered store.old (binder number (bound_sorts store.old.records.now store.old.places.now store.old.count sheet.now pairs) (args_of store.old.records.now store.old.places.now store.old.count args.old.bytes.now 1)) store.new result }
+    ensures answer { Answered store.old (binder number (bound_in store.old sheet.now pairs) (first_in store.old args.old)) store.new result }
 {
     if !all_proper(&store.sorts(), sheet, pairs) {
         return Err(Cause::Barred);

@@ -1,14 +1,14 @@
 // The checked sort of an indexed operator: its index terms are named on the sheet.
 ghost use Rattle.std.specs.Prelude.{◌≡◌, ◌||◌, not, eqb};
 ghost use Rattle.record.specs.Kinds.{sort_number, param_number};
-ghost use Rattle.record.specs.Decode.{sort_at};
 ghost use Rattle.store.specs.Changes.{Same};
+ghost use Rattle.store.specs.Words.{sort_in};
 ghost use Rattle.check_rules.specs.Checked.{indexed₁, indexed₂, indexing};
 ghost use Rattle.row_answer.specs.Answer.{Answered};
-ghost use Rattle.row_answer.specs.Asks.{KnownAsks};
-ghost use Rattle.row_answer.specs.Arguments.{constants_in, ConstantsAsk};
-ghost use Rattle.check_operator.specs.Contract.{args_of};
-ghost use Rattle.check_row.specs.Indexed.{IndicesAre, kept_as, widened_verdict, OneIndexAsks, CheckIndexedAsks, indexed_with, IndexingAsks};
+ghost use Rattle.row_answer.specs.Arguments.{ConstantsAsk};
+ghost use Rattle.row_answer.specs.Words.{args_in, constants, KnownAsked};
+ghost use Rattle.check_row.specs.Indexed.{IndicesAre, kept_as, widened_verdict, indexed_with};
+ghost use Rattle.check_row.specs.Words.{OneIndexAsked, CheckIndexedAsked, IndexingAsked};
 
 use record::kinds::{ParamOp, SortKind};
 use record::span::Span;
@@ -31,10 +31,10 @@ pub fn indices_of(sheet: &ReadSheet<'_>, second: Span) -> Option<Indices>
     ensures { IndicesAre sheet.now.bytes.now sheet.now.starts.now second.at second.count result }
 {
     match second.count {
-        1 => Some(Indices::One(index_at(sheet, second.at)?)),
+        1 => Some(Indices::One(index_at(sheet, second, 0)?)),
         2 => {
-            let first = index_at(sheet, second.at)?;
-            let last = index_at(sheet, second.at + 2)?;
+            let first = index_at(sheet, second, 0)?;
+            let last = index_at(sheet, second, 1)?;
             Some(Indices::Two(first, last))
         }
         _ => None,
@@ -65,9 +65,9 @@ pub fn widened(store: &mut Store<'_>, kind: SortKind, wanted: SortKind, width: u
 // One index i at the argument a; Count for an operator with two, and where i is 0 for Repeat and IntToBv; Misfit where the
 // argument is of another kind.
 pub fn with_one(store: &mut Store<'_>, op: ParamOp, i: usize, a: usize) -> Row
-    requires { OneIndexAsks store.old.records.now store.old.places.now store.old.index.now store.old.count store.old.used i a }
+    requires { OneIndexAsked store.old i a }
     ensures same { Same store.old store.new }
-    ensures answer { Answered store.old (indexed₁ (param_number op) i (sort_at store.old.records.now store.old.places.now store.old.count a)) store.new result }
+    ensures answer { Answered store.old (indexed₁ (param_number op) i (sort_in store.old a)) store.new result }
 {
     let e = store.entry(a);
     match op {
@@ -94,9 +94,9 @@ pub fn with_one(store: &mut Store<'_>, op: ParamOp, i: usize, a: usize) -> Row
 
 // Extract i, j at the argument a: Count unless j <= i and, of a vector, i under its width; Misfit where it is no vector.
 pub fn checked_extract(store: &mut Store<'_>, i: usize, j: usize, a: usize) -> Row
-    requires { KnownAsks store.old.records.now store.old.places.now store.old.index.now store.old.count store.old.used a }
+    requires { KnownAsked store.old a }
     ensures same { Same store.old store.new }
-    ensures answer { Answered store.old (indexed₂ 0 i j (sort_at store.old.records.now store.old.places.now store.old.count a)) store.new result }
+    ensures answer { Answered store.old (indexed₂ 0 i j (sort_in store.old a)) store.new result }
 {
     let e = store.entry(a);
     if i < j {
@@ -113,9 +113,9 @@ pub fn checked_extract(store: &mut Store<'_>, i: usize, j: usize, a: usize) -> R
 
 // Two indices i, j at the argument a, for Extract and ReLoop; Count for another operator.
 pub fn with_two(store: &mut Store<'_>, op: ParamOp, i: usize, j: usize, a: usize) -> Row
-    requires { KnownAsks store.old.records.now store.old.places.now store.old.index.now store.old.count store.old.used a }
+    requires { KnownAsked store.old a }
     ensures same { Same store.old store.new }
-    ensures answer { Answered store.old (indexed₂ (param_number op) i j (sort_at store.old.records.now store.old.places.now store.old.count a)) store.new result }
+    ensures answer { Answered store.old (indexed₂ (param_number op) i j (sort_in store.old a)) store.new result }
 {
     match op {
         ParamOp::Extract => checked_extract(store, i, j, a),
@@ -126,9 +126,9 @@ pub fn with_two(store: &mut Store<'_>, op: ParamOp, i: usize, j: usize, a: usize
 
 // The indices at the argument a: two for Extract and ReLoop, one for the others; Count where they are not so.
 pub fn indexed_by(store: &mut Store<'_>, op: ParamOp, indices: Indices, a: usize) -> Row
-    requires { CheckIndexedAsks store.old.records.now store.old.places.now store.old.index.now store.old.count store.old.used indices a }
+    requires { CheckIndexedAsked store.old indices a }
     ensures same { Same store.old store.new }
-    ensures answer { Answered store.old (indexed_with (param_number op) indices (sort_at store.old.records.now store.old.places.now store.old.count a)) store.new result }
+    ensures answer { Answered store.old (indexed_with (param_number op) indices (sort_in store.old a)) store.new result }
 {
     match indices {
         Indices::One(i) => with_one(store, op, i, a),
@@ -152,9 +152,9 @@ pub fn checked_indexed(
     op: usize,
     args: &Args<'_>,
 ) -> Row
-    requires { IndexingAsks store.old.records.now store.old.places.now store.old.index.now store.old.count store.old.used sheet.now.bytes.now sheet.now.starts.now second.at second.count args.now.bytes.now args.now.count }
+    requires { IndexingAsked store.old sheet.now second args.now }
     ensures same { Same store.old store.new }
-    ensures answer { Answered store.old (indexing op (constants_in sheet.now.bytes.now sheet.now.starts.now second.at second.count) (args_of store.old.records.now store.old.places.now store.old.count args.now.bytes.now args.now.count)) store.new result }
+    ensures answer { Answered store.old (indexing op (constants sheet.now second) (args_in store.old args.now)) store.new result }
 {
     let Ok(op) = ParamOp::try_from(op) else {
         return Err(Cause::Count);

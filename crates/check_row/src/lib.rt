@@ -48,7 +48,7 @@ pub fn check(
         TermKind::App => checked_app(store, names, args, false),
         TermKind::Op => checked_operator(store, term.number, args),
         TermKind::Binder => checked_binder(store, sheet, term.pairs, term.number, args),
-        TermKind::Let => checked_let(&store.sorts(), args),
+        TermKind::Let => checked_let(store.entries(), args),
         TermKind::Match => Err(Cause::NoRank),
         TermKind::ParamOp => checked_indexed(store, sheet, term.second, term.number, args),
         TermKind::AsOp => {

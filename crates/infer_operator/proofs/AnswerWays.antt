@@ -1,13 +1,14 @@
 -- Ways to an answer over a whole store, for the functions that take one: Panics, a sort that the store has, and what asking for
 -- a kind without parts needs.
 use Prim.Native.Nat.{ℕ, ◌<◌}
-use mathlib.Core.Path.{◌≡◌, sym, ap, ap₂, subst, ◌∙◌}
+use mathlib.Core.Path.{◌≡◌, sym, subst, ◌∙◌}
 use mathlib.Core.List.{List}
 use Rattle.std.specs.Prelude.{Result, Ok, Err, Option, ok_or}
 use Rattle.std.specs.Iterator.{YieldsFirst}
 use Rattle.record.specs.Number.{numbers_at}
 use Rattle.record.specs.Numbers.{numbers_left}
 use Rattle.record.specs.declared.numbers.Numbers.{Numbers}
+use Rattle.record.specs.declared.span.Span.{Span}
 use Rattle.record.specs.Sort.{Sorts, end, ◌then◌}
 use Rattle.record.specs.Record.{sorts_of}
 use Rattle.record.specs.Record.{map_of}
@@ -20,9 +21,10 @@ use Rattle.row_answer.specs.Answer.{Answered}
 use Rattle.row_answer.specs.AnswerLaws.{judged-as, made-refused, answer-known}
 use Rattle.row_answer.specs.Asks.{LeafAsks, KnownAsks}
 use Rattle.row_answer.specs.declared.arguments.Args.{Args}
-use Rattle.store.specs.declared.entries.Sorts.{Sorts as Readable}
-use Rattle.infer_operator.specs.Asks.{ArgumentsAsk, arguments, Known, sorts_with}
-use Rattle.infer_operator.proofs.WalkLaws.{sorts-step, sorts-stop, known-first, args-known, first-taken, none-taken}
+use Rattle.store.specs.declared.entries.Entries.{Entries}
+use Rattle.infer_operator.specs.Asks.{Referring, Known, sorts_in, KnownAsk, ArgumentsAsk, arguments, sorts_with, args-refer}
+use Rattle.infer_operator.specs.Relations.{BothIs, BothHas}
+use Rattle.infer_operator.proofs.WalkLaws.{sorts-step, sorts-stop, known-first, refer-known, args-known, first-taken, none-taken}
 
 module _ (s : Store) where
   pub answer-panics : {v : Verdict} → v ≡ refused Panics → Answered s v s (Err Panics)
@@ -42,31 +44,50 @@ module _ (s : Store) where
   pub known-asks : (k : ℕ) → k < s.count → KnownAsks s.records.now s.places.now s.index.now s.count s.used k
   known-asks k l = record { good = s.good; known = l }
 
--- THE SORTS THAT `sorts` LENDS are the store's.
-module _ (z : Readable) (s : Store) (er : z.records.now ≡ s.records.now) (ep : z.places.now ≡ s.places.now) (ec : z.count ≡ s.count) where
-  pub read-sorts : (ks : List ℕ) → sorts_with z ks ≡ sorts_of (store_of s.records.now s.places.now s.count) ks
-  read-sorts ks =
-      ap₂ (λ (b p : List ℕ). sorts_of (store_of b p z.count) ks) er ep ∙ ap (λ (n : ℕ). sorts_of (store_of s.records.now s.places.now n) ks) ec
+-- THE ENTRIES THAT `entries` LENDS are the store's: what holds of the ones holds of the others.
+module _ (z : Entries) (s : Store) (er : z.records.now ≡ s.records.now) (ep : z.places.now ≡ s.places.now) where
+  pub lent : (T : List ℕ → List ℕ → Type 0) → T s.records.now s.places.now → T z.records.now z.places.now
+  lent T h = subst (λ (p : List ℕ). T z.records.now p) (sym ep) (subst (λ (b : List ℕ). T b s.places.now) (sym er) h)
 
-  pub read-sort : (k : ℕ) → sort_at z.records.now z.places.now z.count k ≡ sort_at s.records.now s.places.now s.count k
-  read-sort k = ap₂ (λ (b p : List ℕ). sort_at b p z.count k) er ep ∙ ap (λ (n : ℕ). sort_at s.records.now s.places.now n k) ec
+  pub back : (T : List ℕ → List ℕ → Type 0) → T z.records.now z.places.now → T s.records.now s.places.now
+  back T h = subst (λ (p : List ℕ). T s.records.now p) ep (subst (λ (b : List ℕ). T b z.places.now) er h)
 
-  module _ (a : Args) {ks : List ℕ} (e : ks ≡ numbers_at a.bytes.now 3 a.count) where
-    pub read-known : ArgumentsAsk s a → Known z.count ks
-    read-known h = subst (λ (n : ℕ). Known n ks) (sym ec) (args-known s a h e)
+  -- The arguments are of the entries, too.
+  module _ (a : Args) (h : ArgumentsAsk s a) where
+    pub lent-known : {ks : List ℕ} → ks ≡ numbers_at a.bytes.now 3 a.count → KnownAsk z.records.now z.places.now ks
+    lent-known {ks} e = lent (λ (b p : List ℕ). KnownAsk b p ks) (s.count, args-known s a h e)
 
-    pub read-arguments : {T : Type 0} (f : Sorts → T) → f (arguments s a) ≡ f (sorts_with z ks)
-    read-arguments f =
-        sym (ap f (read-sorts ks ∙ ap (λ (is : List ℕ). sorts_of (store_of s.records.now s.places.now s.count) is) e))
+    -- What holds of the first two, and of the numbers that were taken from them, holds over the store.
+    pub both-is : (r : Option (Span × Span)) → BothHas z.records.now z.places.now a.bytes.now a.count r → BothIs s.records.now s.places.now s.count (arguments s a) r
+    both-is r has =
+        back (λ (b p : List ℕ). BothHas b p a.bytes.now a.count r) has s.count (args-refer s.records.now s.places.now s.index.now s.count s.used a.bytes.now a.count h)
+
+    pub numbers-are : {ks : List ℕ} → ks ≡ numbers_at a.bytes.now 3 a.count → (T : List ℕ → List ℕ → ℕ → Sorts → Type 0)
+        → ((n : ℕ) → Known z.records.now z.places.now n ks → T z.records.now z.places.now n (sorts_with z.records.now z.places.now n ks)) → T s.records.now s.places.now s.count (arguments s a)
+    numbers-are {ks} e T has =
+        subst (λ (is : List ℕ). T s.records.now s.places.now s.count (sorts_with s.records.now s.places.now s.count is)) e
+        (back (λ (b p : List ℕ). (n : ℕ) → Known b p n ks → T b p n (sorts_with b p n ks)) has s.count (args-known s a h e))
 
 -- THE FIRST ARGUMENT, which `next` and `ok_or` gave; or none.
+module _ (b p : List ℕ) (count : ℕ) (a : Args) (n : Numbers) (r : Option ℕ) (t : Numbers) (e : numbers_left n ≡ numbers_at a.bytes.now 3 a.count) (steps : YieldsFirst numbers_left n r t) where
+  module _ {k : ℕ} (taken : ok_or r Panics ≡ Ok k) where
+    pub taken-known : Referring b p count a.bytes.now 3 a.count → k < count
+    taken-known h = known-first (first-taken n r t steps taken) (refer-known h e)
+
+    pub taken-then : {T : Type 0} (f : Sorts → T) → f (sorts_in b p count a.bytes.now 3 a.count) ≡ f (sort_at b p count k then sorts_of (store_of b p count) (numbers_left t))
+    taken-then f = sorts-step f b p count (sym e ∙ first-taken n r t steps taken)
+
+  pub taken-none : {c : Cause} → ok_or r Panics ≡ Err c → {T : Type 0} (f : Sorts → T) → f (sorts_in b p count a.bytes.now 3 a.count) ≡ f end
+  taken-none h f = sorts-stop f b p count (sym e ∙ none-taken n r t steps h)
+
+-- The same of a whole store.
 module _ (s : Store) (a : Args) (n : Numbers) (r : Option ℕ) (t : Numbers) (e : numbers_left n ≡ numbers_at a.bytes.now 3 a.count) (steps : YieldsFirst numbers_left n r t) where
   module _ {k : ℕ} (taken : ok_or r Panics ≡ Ok k) where
     pub first-known : ArgumentsAsk s a → k < s.count
     first-known h = known-first (first-taken n r t steps taken) (args-known s a h e)
 
     pub first-then : {T : Type 0} (f : Sorts → T) → f (arguments s a) ≡ f (sort_at s.records.now s.places.now s.count k then sorts_of (store_of s.records.now s.places.now s.count) (numbers_left t))
-    first-then f = sorts-step f s.records.now s.places.now s.count (sym e ∙ first-taken n r t steps taken)
+    first-then f = taken-then s.records.now s.places.now s.count a n r t e steps taken f
 
   pub first-missing : {c : Cause} → ok_or r Panics ≡ Err c → {T : Type 0} (f : Sorts → T) → f (arguments s a) ≡ f end
-  first-missing h f = sorts-stop f s.records.now s.places.now s.count (sym e ∙ none-taken n r t steps h)
+  first-missing h f = taken-none s.records.now s.places.now s.count a n r t e steps h f

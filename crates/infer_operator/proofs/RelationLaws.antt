@@ -26,21 +26,26 @@ use Rattle.record.specs.Codec.{length-numbers_at}
 use Rattle.record.specs.StoreLaws.{parts_more}
 use Rattle.record.specs.declared.SortRecord.{SortRecord}
 use Rattle.store.specs.Good.{Good}
-use Rattle.store.specs.Entry.{EntryIs, EntryHas}
-use Rattle.store.specs.Walk.{walk-node}
-use Rattle.store.specs.declared.Store.{Store}
-use Rattle.store.specs.declared.entries.Sorts.{Sorts as Readable}
+use Rattle.store.specs.Entry.{EntryAsks, EntryHas}
+use Rattle.store.specs.Walk.{entry-asks, walk-node}
 use Rattle.row_rules.specs.declared.Cause.{Cause}
 use Rattle.row_rules.specs.declared.Cause.TheVariants.{Panics}
 use Rattle.row_rules.specs.Verdict.{Verdict, sort, refused}
 use Rattle.row_rules.specs.Lists.{appended}
 use Rattle.infer_rules.specs.Inferred.{columns, backwards, all_but_last, join_of, product_of, over_columns, over_both}
 use Rattle.row_answer.specs.Arguments.{put_at, Filled, filled_more}
+use Rattle.std.specs.Iterator.{YieldsFirst}
+use Rattle.record.specs.Numbers.{numbers_left}
+use Rattle.record.specs.declared.numbers.Numbers.{Numbers}
+use Rattle.store.specs.declared.Store.{Store}
+use Rattle.store.specs.declared.entries.Entries.{Entries}
 use Rattle.row_answer.specs.declared.arguments.Args.{Args}
+use Rattle.row_answer.specs.Heads.{HeadAsks}
 use Rattle.row_answer.specs.Asks.{StoredListAsks}
-use Rattle.infer_operator.specs.Asks.{Referring, sorts_in, arguments, read_arguments, refer-rest, sorts-first}
-use Rattle.infer_operator.specs.Relations.{ColumnsIs, ColumnsStand, BothIs, PutHas, BackwardsIs, SideAsks}
+use Rattle.infer_operator.specs.Asks.{Referring, sorts_in, ReadArgumentsAsk, ArgumentsAsk, refer-rest, sorts-first}
+use Rattle.infer_operator.specs.Relations.{ColumnsIs, ColumnsHas, ColumnsStand, Having, BothIs, BothHas, PutHas, BackwardsIs, SideAsks}
 use Rattle.infer_operator.proofs.SingleLaws.{same-test}
+use Rattle.infer_operator.proofs.AnswerWays.{lent, back, first-known}
 
 ---------------------------------------------------------------- the columns of a sort
 not-tuple : (a w : ℕ) (t : Sort) (ss : Sorts) → (kind_of t ≡ 15 → ⊥) → columns (node 14 a w (t then ss)) ≡ none
@@ -48,54 +53,56 @@ not-tuple a w (var v) ss d = refl
 not-tuple a w (par ns t) ss d = refl
 not-tuple a w (node l c x cs) ss d = rw (ne_eqb l 15 d) refl
 
-module _ {b p : List ℕ} {n k : ℕ} (st : Stored b p n) (l : k < n) (r : SortRecord) (q : EntryHas b p k r) where
+module _ {b p : List ℕ} {k : ℕ} (r : SortRecord) (q : EntryHas b p k r) where
   -- The sort inside a Set, by the number that was read.
   module _ (i : sort_number r.kind ≡ 14) where
-    one-part : 1 ≤ r.parts.count
+    one-part : {n : ℕ} → Stored b p n → k < n → 1 ≤ r.parts.count
     unfolding least_of leasts
-    one-part =
+    one-part {n} st l =
         let f = fields_at b (get_or p k 0) in
         let e = (q n st l).place.same in
         let kind : f.kind ≡ 14 = ap (λ (g : Fields). g.kind) e ∙ i in
         let least : 1 ≤ length f.list = subst (λ (j : ℕ). least_of j ≤ length f.list) kind (st.each k l).shape.least in
         omega (arith, ap (λ (g : Fields). length g.list) e, length-numbers_at b r.parts.at r.parts.count)
 
-    pub inner-place : r.parts.at + 2 ≤ length b
-    inner-place = omega (arith, one-part, (q n st l).place.list)
+    pub inner-place : HeadAsks b p k → r.parts.at + 2 ≤ length b
+    inner-place (n, h) = omega (arith, one-part h.stored h.known, (q n h.stored h.known).place.list)
 
     module _ {v : ℕ} (z : v ≡ u16_at b (r.parts.at + 2 * 0)) where
-      pub inner-below : v < n
-      inner-below = omega (arith, l, z, (q n st l).below 0 one-part)
+      inner_below : {n : ℕ} → Stored b p n → k < n → v < n
+      inner_below {n} st l = omega (arith, l, z, (q n st l).below 0 (one-part st l))
 
-      inner-sort : sort_at b p n k ≡ node 14 r.name r.number (sort_at b p n v then sorts_in b p n b (r.parts.at + 2) (r.parts.count - 1))
+      pub inner-entry : HeadAsks b p k → EntryAsks b p v
+      inner-entry (n, h) = entry-asks b p n v h.stored (inner_below h.stored h.known)
+
+      inner-sort : {n : ℕ} → Stored b p n → k < n → sort_at b p n k ≡ node 14 r.name r.number (sort_at b p n v then sorts_in b p n b (r.parts.at + 2) (r.parts.count - 1))
       unfolding sort_at
-      inner-sort =
+      inner-sort {n} st l =
           let o : r.parts.at + 2 * 0 ≡ r.parts.at = omega arith in
           walk-node b p n k st l r (q n st l) (λ y. absurd (omega arith)) (λ y. absurd (omega arith))
           ∙ ap₂ (λ (j : ℕ) (ss : Sorts). node j r.name r.number ss) i
-          (parts_more (store_of b p n) b r.parts.at r.parts.count one-part
+          (parts_more (store_of b p n) b r.parts.at r.parts.count (one-part st l)
           ∙ ap (λ (j : ℕ). get_or (store_of b p n) j leaf then sorts_in b p n b (r.parts.at + 2) (r.parts.count - 1)) (sym (z ∙ ap (u16_at b) o)))
 
       module _ (c : SortRecord) (d : EntryHas b p v c) where
-        read : EntryIs b p n v c
-        read = d n st inner-below
-
-        columns-list : sort_number c.kind ≡ 15 → ColumnsIs b p n (sort_at b p n k) (Some c.parts)
-        columns-list h =
+        columns-list : sort_number c.kind ≡ 15 → ColumnsHas b p k (Some c.parts)
+        columns-list h n st l =
+            let o = inner_below st l in
+            let e = d n st o in
             let cs = sorts_in b p n b c.parts.at c.parts.count in (
-              ap columns inner-sort
+              ap columns (inner-sort st l)
                   ∙ ap (λ (t : Sort). columns (node 14 r.name r.number (t then sorts_in b p n b (r.parts.at + 2) (r.parts.count - 1))))
-                  (walk-node b p n v st inner-below c read (λ y. absurd (omega arith)) (λ y. absurd (omega arith))
+                  (walk-node b p n v st o c e (λ y. absurd (omega arith)) (λ y. absurd (omega arith))
                   ∙ ap (λ (j : ℕ). node j c.name c.number cs) h),
-              record { within = read.place.list; below = λ j y. omega (arith, inner-below, read.below j y); few = read.few },
+              record { within = e.place.list; below = λ j y. omega (arith, o, e.below j y); few = e.few },
             )
 
-        tuple-none : (sort_number c.kind ≡ 15 → ⊥) → columns (sort_at b p n k) ≡ none
-        tuple-none h =
-            ap columns inner-sort
-            ∙ not-tuple r.name r.number (sort_at b p n v) (sorts_in b p n b (r.parts.at + 2) (r.parts.count - 1)) (λ y. h (read.kind ∙ y))
+        tuple-none : (sort_number c.kind ≡ 15 → ⊥) → ColumnsHas b p k None
+        tuple-none h n st l =
+            ap columns (inner-sort st l)
+            ∙ not-tuple r.name r.number (sort_at b p n v) (sorts_in b p n b (r.parts.at + 2) (r.parts.count - 1)) (λ y. h ((d n st (inner_below st l)).kind ∙ y))
 
-        pub columns-by : (t : Bool) → t ≡ sameb the_type c.kind Tuple → ColumnsIs b p n (sort_at b p n k) (then_some t c.parts)
+        pub columns-by : (t : Bool) → t ≡ sameb the_type c.kind Tuple → ColumnsHas b p k (then_some t c.parts)
         columns-by true e = columns-list (eqb-true (sort_number c.kind) 15 (sym (same-test c.kind Tuple) ∙ sym e))
         columns-by false e = tuple-none (eqb-false (sort_number c.kind) 15 (sym (same-test c.kind Tuple) ∙ sym e))
 
@@ -182,30 +189,24 @@ back-put {b} {p} {ix} {n} {u} g {x} {m} st s c {k} e h q room =
     subst (λ (v : ℕ). StoredListAsks b p ix n u c v × (sorts_in b p n c 3 v ≡ backwards (sorts_in b p n b x m) end)) (sym q)
     (backwards-asks p ix u st c put g room, backwards-is p ix u st c put)
 
--- What `columns_of` and `ok_or` gave, over the store whose sorts were read.
-module _ (z : Readable) (s : Store) (er : z.records.now ≡ s.records.now) (ep : z.places.now ≡ s.places.now) (ec : z.count ≡ s.count) (k : ℕ) (r : Option Span)
-    (h : ColumnsIs z.records.now z.places.now z.count (sort_at z.records.now z.places.now z.count k) r) where
-  over-columns : ColumnsIs s.records.now s.places.now s.count (sort_at s.records.now s.places.now s.count k) r
-  over-columns =
-      let Is = λ (b p : List ℕ) (n : ℕ). ColumnsIs b p n (sort_at b p n k) r in
-      subst (λ (n : ℕ). Is s.records.now s.places.now n) ec (subst (λ (p : List ℕ). Is s.records.now p z.count) ep (subst (λ (b : List ℕ). Is b z.places.now z.count) er h))
+-- What `columns_of` and `ok_or` gave of the sort k.
+module _ (b p : List ℕ) (n k : ℕ) where
+  pub columns-missing : (r : Option Span) → ColumnsIs b p n (sort_at b p n k) r → {c : Cause} → ok_or r Panics ≡ Err c → columns (sort_at b p n k) ≡ none
+  columns-missing (Some x) h e = cc
+  columns-missing None h e = h
 
-  pub columns-missing : {c : Cause} → ok_or r Panics ≡ Err c → columns (sort_at s.records.now s.places.now s.count k) ≡ none
-  columns-missing {c} e = go r over-columns e
-    where
-      go : (o : Option Span) → ColumnsIs s.records.now s.places.now s.count (sort_at s.records.now s.places.now s.count k) o → ok_or o Panics ≡ Err c
-          → columns (sort_at s.records.now s.places.now s.count k) ≡ none
-      go (Some x) h e = cc
-      go None h e = h
+  pub columns-read : (r : Option Span) → ColumnsIs b p n (sort_at b p n k) r → {x : Span} → ok_or r Panics ≡ Ok x → ColumnsIs b p n (sort_at b p n k) (Some x)
+  columns-read (Some v) h {x} e = let q : v ≡ x = cc in subst (λ (o : Span). ColumnsIs b p n (sort_at b p n k) (Some o)) q h
+  columns-read None h e = cc
 
-  pub columns-read : {x : Span} → ok_or r Panics ≡ Ok x → ColumnsIs s.records.now s.places.now s.count (sort_at s.records.now s.places.now s.count k) (Some x)
-  columns-read {x} e = go r over-columns e
-    where
-      go : (o : Option Span) → ColumnsIs s.records.now s.places.now s.count (sort_at s.records.now s.places.now s.count k) o → ok_or o Panics ≡ Ok x
-          → ColumnsIs s.records.now s.places.now s.count (sort_at s.records.now s.places.now s.count k) (Some x)
-      go (Some v) h e =
-          let q : v ≡ x = cc in subst (λ (o : Span). ColumnsIs s.records.now s.places.now s.count (sort_at s.records.now s.places.now s.count k) (Some o)) q h
-      go None h e = cc
+-- Of the first argument, whose columns were read in the entries that the store lends.
+module _ (z : Entries) (s : Store) (er : z.records.now ≡ s.records.now) (ep : z.places.now ≡ s.places.now)
+    (a : Args) (n : Numbers) (r : Option ℕ) (t : Numbers) (e : numbers_left n ≡ numbers_at a.bytes.now 3 a.count) (steps : YieldsFirst numbers_left n r t) {k : ℕ} (taken : ok_or r Panics ≡ Ok k) (h : ArgumentsAsk s a) where
+  pub head-asks : HeadAsks z.records.now z.places.now k
+  head-asks = lent z s er ep (λ (b p : List ℕ). HeadAsks b p k) (s.count, record { stored = s.good.stored; known = first-known s a n r t e steps taken h })
+
+  pub head-columns : (v : Option Span) → ColumnsHas z.records.now z.places.now k v → ColumnsIs s.records.now s.places.now s.count (sort_at s.records.now s.places.now s.count k) v
+  head-columns v has = back z s er ep (λ (b p : List ℕ). ColumnsHas b p k v) has s.count s.good.stored (first-known s a n r t e steps taken h)
 
 ---------------------------------------------------------------- side by side
 abbrev side_by : Bool → ℕ → ℕ → ℕ
@@ -337,46 +338,53 @@ over-two : (f : Sorts → Sorts → Verdict) (s t : Sort) (ss xs ys : Sorts) →
 over-two f s t ss xs ys h g = ap (over_columns (λ xs. over_columns (λ ys. f xs ys) (columns t))) h ∙ ap (over_columns (λ ys. f xs ys)) g
 
 -- The first two of the arguments, by what their columns are.
-module _ {b p : List ℕ} {n : ℕ} {a : List ℕ} {m : ℕ} (h : Referring b p n a 3 m) where
-  pub both-few : m < 2 → BothIs b p n (sorts_in b p n a 3 m) None
-  both-few l f = none_both f (store_of b p n) a 3 m l
+module _ (b p a : List ℕ) (m : ℕ) where
+  pub both-few : m < 2 → BothHas b p a m None
+  both-few l n h f = none_both f (store_of b p n) a 3 m l
 
   module _ (l : 2 ≤ m) {k v : ℕ} (e : k ≡ u16_at a (3 + 2 * 0)) (z : v ≡ u16_at a (3 + 2 * 1)) where
-    two-sorts : sorts_in b p n a 3 m ≡ sort_at b p n k then (sort_at b p n v then sorts_in b p n a 7 (m - 1 - 1))
-    two-sorts =
+    two-known : {n : ℕ} → Referring b p n a 3 m → (k < n) × (v < n)
+    two-known h = (omega (arith, e, h.below 0 (omega arith)), omega (arith, z, h.below 1 (omega arith)))
+
+    pub right-asks : ReadArgumentsAsk b p a 3 m → HeadAsks b p v
+    right-asks (n, h) = (n, record { stored = h.stored; known = (two-known h).1 })
+
+    two-sorts : {n : ℕ} → Referring b p n a 3 m → sorts_in b p n a 3 m ≡ sort_at b p n k then (sort_at b p n v then sorts_in b p n a 7 (m - 1 - 1))
+    two-sorts {n} h =
         sorts-first b p n a 3 m h (omega arith)
         ∙ ap₂ (λ (i : ℕ) (ss : Sorts). sort_at b p n i then ss) (sym e)
         (sorts-first b p n a 5 (m - 1) (refer-rest b p n a 3 m h (omega arith)) (omega arith)
         ∙ ap (λ (i : ℕ). sort_at b p n i then sorts_in b p n a 7 (m - 1 - 1)) (sym z))
 
-    pub left-none : ColumnsIs b p n (sort_at b p n k) None → BothIs b p n (sorts_in b p n a 3 m) None
-    left-none c f = ap (over_both f) two-sorts ∙ over-left f (sort_at b p n k) (sort_at b p n v) (sorts_in b p n a 7 (m - 1 - 1)) c
+    pub left-none : ColumnsHas b p k None → BothHas b p a m None
+    left-none c n h f =
+        ap (over_both f) (two-sorts h)
+        ∙ over-left f (sort_at b p n k) (sort_at b p n v) (sorts_in b p n a 7 (m - 1 - 1)) (c n h.stored (two-known h).0)
 
-    pub right-none : (x : Span) → ColumnsIs b p n (sort_at b p n k) (Some x) → ColumnsIs b p n (sort_at b p n v) None → BothIs b p n (sorts_in b p n a 3 m) None
-    right-none x c d f =
-        ap (over_both f) two-sorts
-        ∙ over-right f (sort_at b p n k) (sort_at b p n v) (sorts_in b p n a 7 (m - 1 - 1)) (sorts_in b p n b x.at x.count) c.0 d
+    module _ (x : Span) (left : ColumnsHas b p k (Some x)) where
+      pub right-none : ColumnsHas b p v None → BothHas b p a m None
+      right-none r n h f =
+          ap (over_both f) (two-sorts h)
+          ∙ over-right f (sort_at b p n k) (sort_at b p n v) (sorts_in b p n a 7 (m - 1 - 1)) (sorts_in b p n b x.at x.count) (left n h.stored (two-known h).0).0 (r n h.stored (two-known h).1)
 
-    pub both-have : (x y : Span) → ColumnsIs b p n (sort_at b p n k) (Some x) → ColumnsIs b p n (sort_at b p n v) (Some y) → BothIs b p n (sorts_in b p n a 3 m) (Some (x, y))
-    both-have x y c d =
-        record {
-          is = λ f.
-              ap (over_both f) two-sorts
-              ∙ over-two f (sort_at b p n k) (sort_at b p n v) (sorts_in b p n a 7 (m - 1 - 1)) (sorts_in b p n b x.at x.count) (sorts_in b p n b y.at y.count) c.0 d.0;
-          left = c.1;
-          right = d.1;
-        }
+      pub both-have : (y : Span) → ColumnsHas b p v (Some y) → BothHas b p a m (Some (x, y))
+      both-have y r n h =
+          let one = left n h.stored (two-known h).0 in
+          let two = r n h.stored (two-known h).1 in
+          record {
+            is = λ f.
+                ap (over_both f) (two-sorts h)
+                ∙ over-two f (sort_at b p n k) (sort_at b p n v) (sorts_in b p n a 7 (m - 1 - 1)) (sorts_in b p n b x.at x.count) (sorts_in b p n b y.at y.count) one.0 two.0;
+            left = one.1;
+            right = two.1;
+          }
 
--- What `both_columns` and `ok_or` gave, over the store whose sorts were read.
-module _ (z : Readable) (s : Store) (er : z.records.now ≡ s.records.now) (ep : z.places.now ≡ s.places.now) (ec : z.count ≡ s.count) (a : Args) (r : Option (Span × Span)) where
-  over-store : BothIs z.records.now z.places.now z.count (read_arguments z a) r → BothIs s.records.now s.places.now s.count (arguments s a) r
-  over-store h =
-      let Both = λ (b p : List ℕ) (n : ℕ). BothIs b p n (sorts_in b p n a.bytes.now 3 a.count) r in
-      subst (λ (n : ℕ). Both s.records.now s.places.now n) ec (subst (λ (p : List ℕ). Both s.records.now p z.count) ep (subst (λ (b : List ℕ). Both b z.places.now z.count) er h))
+-- What `both_columns` and `ok_or` gave.
+module _ (b p : List ℕ) (n : ℕ) (ss : Sorts) where
+  pub both-missing : (r : Option (Span × Span)) → BothIs b p n ss r → {c : Cause} → ok_or r Panics ≡ Err c → (f : Sorts → Sorts → Verdict) → over_both f ss ≡ refused Panics
+  both-missing (Some x) h e f = cc
+  both-missing None h e f = h f
 
-  pub both-missing : BothIs z.records.now z.places.now z.count (read_arguments z a) r → {c : Cause} → ok_or r Panics ≡ Err c → (f : Sorts → Sorts → Verdict) → over_both f (arguments s a) ≡ refused Panics
-  both-missing h {c} e = go r (over-store h) e
-    where
-      go : (o : Option (Span × Span)) → BothIs s.records.now s.places.now s.count (arguments s a) o → ok_or o Panics ≡ Err c → (f : Sorts → Sorts → Verdict) → over_both f (arguments s a) ≡ refused Panics
-      go (Some x) h e = cc
-      go None h e = h
+  pub both-read : (r : Option (Span × Span)) → BothIs b p n ss r → {x : Span × Span} → ok_or r Panics ≡ Ok x → Having b p n ss x.0.at x.0.count x.1.at x.1.count
+  both-read (Some v) h {x} e = let q : v ≡ x = cc in subst (λ (o : Span × Span). Having b p n ss o.0.at o.0.count o.1.at o.1.count) q h
+  both-read None h e = cc

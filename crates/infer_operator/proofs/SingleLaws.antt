@@ -3,7 +3,7 @@ use Prim.Native.Nat.{ℕ, zero, suc, ◌+◌, ◌*◌, ◌-◌, ◌≤◌, ◌<�
 use mathlib.Core.Path.{◌≡◌, refl, sym, ap, ap₂, subst, ◌∙◌}
 use mathlib.Core.Bool.{Bool, true, false, not, ◌||◌}
 use mathlib.Core.List.{List, [], ◌∷◌}
-use mathlib.Core.Option.{Option, none, some}
+use mathlib.Core.Option.{Option}
 use mathlib.Core.Logic.{◌⊎◌, inl, inr, ⊎_elim}
 use native.Mathlib.Omega.{arith}
 use native.Mathlib.Nat.{not-suc-le-zero}
@@ -20,7 +20,7 @@ use Rattle.record.specs.Kinds.{sort_number}
 use Rattle.record.specs.contracts.kinds.SortKind.{the_type}
 use Rattle.record.specs.declared.kinds.SortKind.{SortKind}
 use Rattle.record.specs.declared.kinds.SortKind.TheVariants.{Function, Atom, Var, Bool as Truth, Int, Real, String, RegLan, Array, BitVec, ParamBitVec, Datatype, Par, «Type», Set, Tuple}
-use Rattle.record.specs.Sort.{Sort, Sorts, var, par, node, end, ◌then◌, real, bitvec, param_bit_vec, kind_of, count, same}
+use Rattle.record.specs.Sort.{Sort, Sorts, var, par, node, end, ◌then◌, real, kind_of, count, same}
 use Rattle.record.specs.Record.{Fields, leaf, maps, map_of, bit, leasts, least_of, sorts_of}
 use Rattle.record.specs.Decode.{fields_at, store_of, sort_at, Stored}
 use Rattle.record.specs.Codec.{length-numbers_at}
@@ -32,13 +32,14 @@ use Rattle.record.specs.Sizes.{Formed, sort-formed, length-indices}
 use Rattle.record.specs.StoreLaws.{sort-node}
 use Rattle.row_rules.specs.declared.Cause.{Cause}
 use Rattle.row_rules.specs.declared.Cause.TheVariants.{Panics}
-use Rattle.row_rules.specs.Verdict.{Verdict, sort, refused}
+use Rattle.row_rules.specs.Verdict.{sort, refused}
 use Rattle.row_rules.specs.Lists.{last_of}
-use Rattle.infer_rules.specs.Inferred.{final_of, some_real, element_of, constant_width}
+use Rattle.infer_rules.specs.Inferred.{final_of, some_real, selected, element_of, constant_width}
 use Rattle.row_answer.specs.AnswerLaws.{judged-as, answered-as, answer-known, made-refused}
-use Rattle.row_answer.specs.Arguments.{integer_at, index_at, constants_from, constants_in}
+use Rattle.row_answer.specs.Arguments.{integer_of, index_at, IndexIs, constants_from, constants_in}
 use Rattle.infer_operator.specs.Asks.{Referring, sorts_in, args-refer}
-use Rattle.infer_operator.specs.Single.{nth_of, last_from, ArgumentHas, LastHas}
+use Rattle.infer_operator.specs.Vectors.{vector_of}
+use Rattle.infer_operator.specs.Single.{nth_of, last_from, ArgumentHas, LastHas, ElementHas}
 
 ---------------------------------------------------------------- by place
 module _ (b p : List ℕ) (n : ℕ) (a : List ℕ) where
@@ -207,6 +208,14 @@ some-any b p n [] = refl
 some-any b p n (k ∷ ks) = ap (λ (t : Bool). same (get_or (store_of b p n) k leaf) real || t) (some-any b p n ks)
 
 ---------------------------------------------------------------- Select
+-- The answer, by what is selected of whatever store.
+module _ {b p a : List ℕ} {m : ℕ} where
+  pub element-panics : ((n : ℕ) → Referring b p n a 3 m → selected (sorts_in b p n a 3 m) ≡ refused Panics) → ElementHas b p a m (Err Panics)
+  element-panics g ix n u h = judged-as (g n (args-refer b p ix n u a m h)) (made-refused b p ix n u h.good Panics)
+
+  pub element-found : {v : ℕ} → ((n : ℕ) → Referring b p n a 3 m → (v < n) × (selected (sorts_in b p n a 3 m) ≡ sort (sort_at b p n v))) → ElementHas b p a m (Ok v)
+  element-found {v} g ix n u h = let is = g n (args-refer b p ix n u a m h) in judged-as is.1 (answer-known b p ix n u h.good v is.0)
+
 -- The second part of the Array k, by what was read of it; another sort has none.
 module _ {b p : List ℕ} {n k : ℕ} (st : Stored b p n) (known : k < n) (r : SortRecord) (q : EntryHas b p k r) where
   read : EntryIs b p n k r
@@ -220,14 +229,11 @@ module _ {b p : List ℕ} {n k : ℕ} (st : Stored b p n) (known : k < n) (r : S
       let least : 2 ≤ length f.list = subst (λ (j : ℕ). least_of j ≤ length f.list) kind (st.each k known).shape.least in
       omega (arith, ap (λ (g : Fields). length g.list) read.place.same, length-numbers_at b r.parts.at r.parts.count)
 
-  pub element-in : sort_number r.kind ≡ 8 → r.parts.at + 2 + 2 ≤ length b
+  pub element-in : sort_number r.kind ≡ 8 → r.parts.at + 2 * 1 + 2 ≤ length b
   element-in i = omega (arith, two-parts i, read.place.list)
 
-  pub element-known : sort_number r.kind ≡ 8 → {v : ℕ} → v ≡ u16_at b (r.parts.at + 2) → v < n
-  element-known i {v} z =
-      let o : r.parts.at + 2 * 1 ≡ r.parts.at + 2 = omega arith in
-      let l = subst (λ (y : ℕ). u16_at b y < k) o (read.below 1 (omega (arith, two-parts i))) in
-      omega (arith, known)
+  pub element-known : sort_number r.kind ≡ 8 → {v : ℕ} → v ≡ u16_at b (r.parts.at + 2 * 1) → v < n
+  element-known i {v} z = omega (arith, z, read.below 1 (two-parts i), known)
 
   element-of : (ss : List Sort) (x c : ℕ) → 2 ≤ c → element_of (node 8 r.name r.number (sorts_of ss (numbers_at b x c))) ≡ sort (get_or ss (u16_at b (x + 2)) leaf)
   unfolding sorts_of numbers_at
@@ -235,13 +241,14 @@ module _ {b p : List ℕ} {n k : ℕ} (st : Stored b p n) (known : k < n) (r : S
   element-of ss x (suc zero) l = absurd (omega arith)
   element-of ss x (suc (suc c)) l = refl
 
-  pub element-is : (i : sort_number r.kind ≡ 8) {v : ℕ} → v ≡ u16_at b (r.parts.at + 2) → element_of (sort_at b p n k) ≡ sort (sort_at b p n v)
+  pub element-is : (i : sort_number r.kind ≡ 8) {v : ℕ} → v ≡ u16_at b (r.parts.at + 2 * 1) → element_of (sort_at b p n k) ≡ sort (sort_at b p n v)
   unfolding sort_at
   element-is i {v} z =
+      let o : r.parts.at + 2 * 1 ≡ r.parts.at + 2 = omega arith in
       ap element_of (walk-node b p n k st known r read (λ y. absurd (omega arith)) (λ y. absurd (omega arith))
       ∙ ap (λ (j : ℕ). node j r.name r.number (sorts_of (store_of b p n) (numbers_at b r.parts.at r.parts.count))) i)
       ∙ element-of (store_of b p n) r.parts.at r.parts.count (two-parts i)
-      ∙ ap (λ (j : ℕ). sort (get_or (store_of b p n) j leaf)) (sym z)
+      ∙ ap (λ (j : ℕ). sort (get_or (store_of b p n) j leaf)) (sym (z ∙ ap (u16_at b) o))
 
   not-array : (s : Sort) → (kind_of s ≡ 8 → ⊥) → element_of s ≡ refused Panics
   not-array (var v) d = refl
@@ -254,11 +261,6 @@ module _ {b p : List ℕ} {n k : ℕ} (st : Stored b p n) (known : k < n) (r : S
   element-none d = not-array (sort_at b p n k) (λ z. d (read.kind ∙ z))
 
 ---------------------------------------------------------------- constants
--- The vector of a width that is written.
-abbrev pub width_in : Option ℕ → Verdict
-width_in none = sort param_bit_vec
-width_in (some w) = sort (bitvec w)
-
 module _ (sheet starts : List ℕ) (x : ℕ) where
   pub written_none : (m : ℕ) → m < 2 → constant_width (constants_in sheet starts x m) ≡ refused Panics
   unfolding constants_from numbers_at
@@ -266,12 +268,14 @@ module _ (sheet starts : List ℕ) (x : ℕ) where
   written_none (suc zero) l = refl
   written_none (suc (suc i)) l = absurd (omega arith)
 
-  pub width-second : (i : ℕ) → 2 ≤ i → constant_width (constants_in sheet starts x i) ≡ width_in (index_at sheet starts (x + 2))
+  pub width-second : (i : ℕ) → 2 ≤ i → {r : Found ℕ} → IndexIs sheet starts (x + 2) r → constant_width (constants_in sheet starts x i) ≡ vector_of r
   unfolding constants_from numbers_at
-  width-second zero l = absurd (not-suc-le-zero l)
-  width-second (suc zero) l = absurd (omega arith)
-  width-second (suc (suc i)) l = go (integer_at sheet (get_or starts (u16_at sheet (x + 2)) 0)) (constants_from sheet starts (numbers_at sheet (x + 2 + 2) i))
+  width-second zero l h = absurd (not-suc-le-zero l)
+  width-second (suc zero) l h = absurd (omega arith)
+  width-second (suc (suc i)) l {r} h =
+      let cs = constants_from sheet starts (numbers_at sheet (x + 2 + 2) i) in
+      ap (λ (o : Option ℕ). constant_width (index_at sheet starts x ∷ (o ∷ cs))) (sym h.is) ∙ go r cs
     where
-      go : (o : Option ℕ) (cs : List (Option ℕ)) → constant_width (integer_at sheet (get_or starts (u16_at sheet x) 0) ∷ (o ∷ cs)) ≡ width_in o
-      go none cs = refl
-      go (some w) cs = refl
+      go : (o : Found ℕ) (cs : List (Option ℕ)) → constant_width (index_at sheet starts x ∷ (integer_of o ∷ cs)) ≡ vector_of o
+      go None cs = refl
+      go (Some w) cs = refl

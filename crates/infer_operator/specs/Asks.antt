@@ -8,7 +8,6 @@ use Rattle.record.specs.Decode.{store_of, sort_at, Stored}
 use Rattle.record.specs.StoreLaws.{parts_more}
 use Rattle.store.specs.Good.{Good}
 use Rattle.store.specs.declared.Store.{Store}
-use Rattle.store.specs.declared.entries.Sorts.{Sorts as Readable}
 use Rattle.row_answer.specs.declared.arguments.Args.{Args}
 
 -- m numbers of the store of n sorts in b p stand in a from x on.
@@ -20,6 +19,21 @@ pub record Referring (b p : List ℕ) (n : ℕ) (a : List ℕ) (x m : ℕ) : Typ
 -- Their sorts.
 abbrev pub sorts_in : List ℕ → List ℕ → ℕ → List ℕ → ℕ → ℕ → Sorts
 sorts_in b p n a x m = sorts_of (store_of b p n) (numbers_at a x m)
+
+-- Of some store in these buffers; what is read holds for each that has them.
+abbrev pub ReadArgumentsAsk : List ℕ → List ℕ → List ℕ → ℕ → ℕ → Type 0
+ReadArgumentsAsk b p a x m = (n : ℕ) × Referring b p n a x m
+
+-- Each of the numbers ks is one of the store of n sorts in b p; of some store, and their sorts.
+pub record Known (b p : List ℕ) (n : ℕ) (ks : List ℕ) : Type 0 where
+  pub stored : Stored b p n
+  pub below : All (λ k. k < n) ks
+
+abbrev pub KnownAsk : List ℕ → List ℕ → List ℕ → Type 0
+KnownAsk b p ks = (n : ℕ) × Known b p n ks
+
+abbrev pub sorts_with : List ℕ → List ℕ → ℕ → List ℕ → Sorts
+sorts_with b p n ks = sorts_of (store_of b p n) ks
 
 -- A good store, and m arguments of it in a from byte 3 on, at most 64; a is long enough for two lists of 64.
 pub record ArgsAsks (b p ix : List ℕ) (n u : ℕ) (a : List ℕ) (m : ℕ) : Type 0 where
@@ -38,20 +52,6 @@ ArgumentsAsk s a = ArgsAsks s.records.now s.places.now s.index.now s.count s.use
 
 abbrev pub arguments : Store → Args → Sorts
 arguments s a = sorts_in s.records.now s.places.now s.count a.bytes.now 3 a.count
-
--- The same of the sorts of a store that are only read.
-abbrev pub ReadArgumentsAsk : Readable → Args → Type 0
-ReadArgumentsAsk s a = Referring s.records.now s.places.now s.count a.bytes.now 3 a.count
-
-abbrev pub read_arguments : Readable → Args → Sorts
-read_arguments s a = sorts_in s.records.now s.places.now s.count a.bytes.now 3 a.count
-
--- Each of the numbers is below n, one of the store's; and their sorts.
-abbrev pub Known : ℕ → List ℕ → Type 0
-Known n ks = All (λ k. k < n) ks
-
-abbrev pub sorts_with : Readable → List ℕ → Sorts
-sorts_with s ks = sorts_of (store_of s.records.now s.places.now s.count) ks
 
 ---------------------------------------------------------------- the first of some numbers
 -- THE FIRST OF SOME NUMBERS, and the rest.

@@ -3,3 +3,4 @@ pub mod Vectors
 pub mod Single
 pub mod Relations
 pub mod Operators
+pub mod Words

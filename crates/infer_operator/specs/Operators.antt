@@ -85,7 +85,7 @@ pub record LookedAsks (s : Store) (f : Family) (a : Args) : Type 0 where
   pub args : ArgumentsAsk s a
   pub look : looks f ≡ true
 
--- Arguments, and as many terms that the sheet names for them.
+-- Arguments, and the terms that the sheet names in the list.
 pub record InferOperatorAsks (s : Store) (sheet starts : List ℕ) (list : Span) (a : Args) : Type 0 where
   pub args : ArgumentsAsk s a
   pub terms : ConstantsAsk sheet starts list.at list.count

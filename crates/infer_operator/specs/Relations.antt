@@ -3,6 +3,7 @@ use Rattle.std.specs.Prelude.{ℕ, ◌+◌, ◌*◌, ◌-◌, ◌≤◌, ◌<◌
 use Rattle.std.proofs.Math.Option.{none, some}
 use Rattle.record.specs.Number.{u16_at}
 use Rattle.record.specs.Sort.{Sort, Sorts}
+use Rattle.record.specs.Decode.{sort_at, Stored}
 use Rattle.record.specs.declared.span.Span.{Span}
 use Rattle.row_rules.specs.declared.Cause.TheVariants.{Panics}
 use Rattle.row_rules.specs.Verdict.{Verdict, refused}
@@ -10,7 +11,7 @@ use Rattle.store.specs.Good.{Good}
 use Rattle.store.specs.declared.Store.{Store}
 use Rattle.infer_rules.specs.Inferred.{columns, over_both}
 use Rattle.row_answer.specs.Arguments.{Filled}
-use Rattle.infer_operator.specs.Asks.{sorts_in}
+use Rattle.infer_operator.specs.Asks.{Referring, sorts_in}
 
 -- m numbers of the store of n sorts stand in its own bytes from x on, at most 64.
 pub record ColumnsStand (b : List ℕ) (n x m : ℕ) : Type 0 where
@@ -21,6 +22,9 @@ pub record ColumnsStand (b : List ℕ) (n x m : ℕ) : Type 0 where
 abbrev pub ColumnsIs : List ℕ → List ℕ → ℕ → Sort → Option Span → Type 0
 ColumnsIs b p n s (Some c) = (columns s ≡ some (sorts_in b p n b c.at c.count)) × ColumnsStand b n c.at c.count
 ColumnsIs b p n s None = columns s ≡ none
+
+abbrev pub ColumnsHas : List ℕ → List ℕ → ℕ → Option Span → Type 0
+ColumnsHas b p k r = (n : ℕ) → Stored b p n → k < n → ColumnsIs b p n (sort_at b p n k) r
 
 -- Their sorts.
 abbrev pub columns_in : Store → Span → Sorts
@@ -35,6 +39,9 @@ pub record Having (b p : List ℕ) (n : ℕ) (ss : Sorts) (x m y q : ℕ) : Type
 abbrev pub BothIs : List ℕ → List ℕ → ℕ → Sorts → Option (Span × Span) → Type 0
 BothIs b p n ss (Some (c, d)) = Having b p n ss c.at c.count d.at d.count
 BothIs b p n ss None = (f : Sorts → Sorts → Verdict) → over_both f ss ≡ refused Panics
+
+abbrev pub BothHas : List ℕ → List ℕ → List ℕ → ℕ → Option (Span × Span) → Type 0
+BothHas b p a m r = (n : ℕ) → Referring b p n a 3 m → BothIs b p n (sorts_in b p n a 3 m) r
 
 -- m numbers from x on of b have room in a, from its number i on.
 pub record PutColumnsAsk (b : List ℕ) (x m : ℕ) (a : List ℕ) (i : ℕ) : Type 0 where

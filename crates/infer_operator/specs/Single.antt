@@ -1,14 +1,14 @@
 -- What looking at one argument promises.
-use Rattle.std.specs.Prelude.{ℕ, zero, suc, ◌≡◌, refl, List, Result}
+use Rattle.std.specs.Prelude.{ℕ, zero, suc, ◌≡◌, refl, Bool, List, Result}
 use Rattle.record.specs.Sort.{Sorts, end, ◌then◌}
 use Rattle.row_rules.specs.declared.Cause.{Cause}
 use Rattle.row_rules.specs.declared.Cause.TheVariants.{Panics}
 use Rattle.row_rules.specs.Verdict.{Verdict, sort, refused}
-use Rattle.infer_rules.specs.Inferred.{final_of, first_of, second_of, matched}
+use Rattle.infer_rules.specs.Inferred.{final_of, first_of, second_of, matched, some_real, selected}
 use Rattle.store.specs.Good.{Good}
 use Rattle.row_answer.specs.Answer.{AnswerIs}
 use Rattle.row_answer.specs.Arguments.{ConstantsAsk}
-use Rattle.infer_operator.specs.Asks.{sorts_in, ArgsAsks}
+use Rattle.infer_operator.specs.Asks.{sorts_in, ArgsAsks, Known, sorts_with}
 
 -- The sort number i, and the last one behind the first i.
 unfoldable pub nth_of : ℕ → Sorts → Verdict
@@ -50,6 +50,14 @@ ArgumentHas a m i r =
 abbrev pub LastHas : List ℕ → ℕ → ℕ → Result ℕ Cause → Type 0
 LastHas a m i r =
     (b p ix : List ℕ) (n u : ℕ) → ArgsAsks b p ix n u a m → AnswerIs b p n (last_from i (sorts_in b p n a 3 m)) b p ix (record { verdict = r; count = n; used = u })
+
+-- Whatever store the numbers ks are of.
+abbrev pub RealHas : List ℕ → List ℕ → List ℕ → Bool → Type 0
+RealHas b p ks r = (n : ℕ) → Known b p n ks → some_real (sorts_with b p n ks) ≡ r
+
+abbrev pub ElementHas : List ℕ → List ℕ → List ℕ → ℕ → Result ℕ Cause → Type 0
+ElementHas b p a m r =
+    (ix : List ℕ) (n u : ℕ) → ArgsAsks b p ix n u a m → AnswerIs b p n (selected (sorts_in b p n a 3 m)) b p ix (record { verdict = r; count = n; used = u })
 
 -- A good store, and terms of a sheet.
 pub record WrittenAsks (b p ix : List ℕ) (n u : ℕ) (sheet starts : List ℕ) (x m : ℕ) : Type 0 where

@@ -4,7 +4,7 @@ ghost use Rattle.infer_rules.specs.Inferred.{operated_by};
 ghost use Rattle.store.specs.Changes.{Same};
 ghost use Rattle.row_answer.specs.Answer.{Answered};
 ghost use Rattle.row_answer.specs.Args.{SameArgs};
-ghost use Rattle.row_answer.specs.Arguments.{constants_in};
+ghost use Rattle.row_answer.specs.Words.{constants};
 ghost use Rattle.infer_operator.specs.Asks.{arguments};
 ghost use Rattle.infer_operator.specs.Operators.{no_constants, MadeAsks, LookedAsks, InferOperatorAsks};
 
@@ -56,7 +56,7 @@ pub fn looked(store: &mut Store<'_>, family: Family, args: &mut Args<'_>) -> Row
         Family::Second => argument(args, 1),
         Family::Last => last_of(args, 0),
         Family::Sum => sum(store, args),
-        Family::Element => element(store, args),
+        Family::Element => element(store.entries(), args),
         Family::RareList => rare_list(store, args),
         _ => gathered(store, family, args),
     }
@@ -74,7 +74,7 @@ pub fn inferred_operator(
     requires { InferOperatorAsks store.old sheet.now.bytes.now sheet.now.starts.now list args.old }
     ensures same { Same store.old store.new }
     ensures same_args { SameArgs args.old args.new }
-    ensures answer { Answered store.old (operated_by (family_of op) (arguments store.old args.old) (constants_in sheet.now.bytes.now sheet.now.starts.now list.at list.count)) store.new result }
+    ensures answer { Answered store.old (operated_by (family_of op) (arguments store.old args.old) (constants sheet.now list)) store.new result }
 {
     let family = family_of(op);
     match plain_of(family, args.count) {

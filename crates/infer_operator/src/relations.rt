@@ -1,12 +1,13 @@
 // The operators of relations. The columns of an answer are put together in place of the arguments.
-ghost use Rattle.std.specs.Prelude.{◌≡◌, ◌+◌, ◌<◌};
-ghost use Rattle.record.specs.Decode.{sort_at};
+ghost use Rattle.std.specs.Prelude.{◌≡◌, ◌+◌};
 ghost use Rattle.store.specs.Changes.{Same};
 ghost use Rattle.infer_rules.specs.Inferred.{transpose_of, over_both, join_of, product_of};
 ghost use Rattle.row_answer.specs.Answer.{Answered};
 ghost use Rattle.row_answer.specs.Args.{SameArgs};
-ghost use Rattle.infer_operator.specs.Asks.{ArgumentsAsk, ReadArgumentsAsk, arguments, read_arguments};
-ghost use Rattle.infer_operator.specs.Relations.{ColumnsIs, BothIs, PutColumnsAsk, PutHas, BackwardsIs, SideAsks, columns_in};
+ghost use Rattle.row_answer.specs.Heads.{HeadAsks};
+ghost use Rattle.infer_operator.specs.Asks.{ArgumentsAsk, ReadArgumentsAsk, arguments};
+ghost use Rattle.infer_operator.specs.Relations.{ColumnsHas, BothHas, PutColumnsAsk, PutHas, BackwardsIs, columns_in};
+ghost use Rattle.infer_operator.specs.Words.{SideAsked};
 
 use record::kinds::SortKind;
 use record::span::Span;
@@ -14,18 +15,18 @@ use row_answer::arguments::Args;
 use row_answer::lists::relation;
 use row_rules::{Cause, Row};
 use store::Store;
-use store::entries::Sorts;
+use store::entries::Entries;
 
 // The columns of the sort k, where it is a Set of a Tuple; else None.
-pub fn columns_of(sorts: &Sorts<'_>, k: usize) -> Option<Span>
-    requires { k < sorts.now.count }
-    ensures { ColumnsIs sorts.now.records.now sorts.now.places.now sorts.now.count (sort_at sorts.now.records.now sorts.now.places.now sorts.now.count k) result }
+pub fn columns_of(entries: Entries<'_>, k: usize) -> Option<Span>
+    requires { HeadAsks entries.records.now entries.places.now k }
+    ensures { ColumnsHas entries.entry.records.now entries.entry.places.now k result }
 {
-    let set = sorts.entry(k);
+    let set = entries.entry(k);
     if set.kind != SortKind::Set {
         return None;
     }
-    let inner = sorts.entry(set.parts.get(sorts.records, 0));
+    let inner = entries.entry(set.parts.get(entries.records, 0));
     (inner.kind == SortKind::Tuple).then_some(inner.parts)
 }
 
@@ -36,8 +37,8 @@ pub fn put_columns(records: &[u8], columns: Span, args: &mut Args<'_>)
     ensures count { args.new.count ≡ args.old.count + columns.count }
     ensures put { PutHas records.now columns.at columns.count args.old.bytes.now args.old.count args.new.bytes.now }
 {
-    for i in 0..columns.count {
-        args.push(columns.get(records, i));
+    for k in columns.numbers(records) {
+        args.push(k);
     }
 }
 
@@ -62,29 +63,29 @@ pub fn transpose(store: &mut Store<'_>, args: &mut Args<'_>) -> Row
     ensures answer { Answered store.old (transpose_of (arguments store.old args.old)) store.new result }
 {
     let k = args.numbers().next().ok_or(Cause::Panics)?;
-    let sorts = store.sorts();
-    let columns = columns_of(&sorts, k).ok_or(Cause::Panics)?;
-    put_backwards(sorts.records, columns, args);
+    let entries = store.entries();
+    let columns = columns_of(entries, k).ok_or(Cause::Panics)?;
+    put_backwards(entries.records, columns, args);
     relation(store, args)
 }
 
 // The relation with the columns on the left and then those on the right.
 pub fn side_by_side(store: &mut Store<'_>, args: &mut Args<'_>, left: Span, right: Span) -> Row
-    requires { SideAsks store.old.records.now store.old.places.now store.old.index.now store.old.count store.old.used args.old.bytes.now left.at left.count right.at right.count }
+    requires { SideAsked store.old args.old left right }
     ensures same { Same store.old store.new }
     ensures same_args { SameArgs args.old args.new }
     ensures answer { Answered store.old (product_of (columns_in store.old left) (columns_in store.old right)) store.new result }
 {
-    let sorts = store.sorts();
+    let records = store.entries().records;
     args.clear();
-    put_columns(sorts.records, left, args);
-    put_columns(sorts.records, right, args);
+    put_columns(records, left, args);
+    put_columns(records, right, args);
     relation(store, args)
 }
 
 // RelJoin of these columns: without the last on the left, if there is one, and the first on the right, Panics if there is none.
 pub fn join_columns(store: &mut Store<'_>, args: &mut Args<'_>, left: Span, right: Span) -> Row
-    requires { SideAsks store.old.records.now store.old.places.now store.old.index.now store.old.count store.old.used args.old.bytes.now left.at left.count right.at right.count }
+    requires { SideAsked store.old args.old left right }
     ensures same { Same store.old store.new }
     ensures same_args { SameArgs args.old args.new }
     ensures answer { Answered store.old (join_of (columns_in store.old left) (columns_in store.old right)) store.new result }
@@ -93,22 +94,22 @@ pub fn join_columns(store: &mut Store<'_>, args: &mut Args<'_>, left: Span, righ
         return Err(Cause::Panics);
     }
     let before = Span {
-        at: left.at,
         count: left.count.saturating_sub(1),
+        ..left
     };
     side_by_side(store, args, before, right.skip(1))
 }
 
 // The columns of the first two arguments; None where one is missing or no relation.
-pub fn both_columns(sorts: &Sorts<'_>, args: &Args<'_>) -> Option<(Span, Span)>
-    requires { ReadArgumentsAsk sorts.now args.now }
-    ensures { BothIs sorts.now.records.now sorts.now.places.now sorts.now.count (read_arguments sorts.now args.now) result }
+pub fn both_columns(entries: Entries<'_>, args: &Args<'_>) -> Option<(Span, Span)>
+    requires { ReadArgumentsAsk entries.records.now entries.places.now args.now.bytes.now 3 args.now.count }
+    ensures { BothHas entries.entry.records.now entries.entry.places.now args.now.bytes.now args.now.count result }
 {
     if args.count < 2 {
         return None;
     }
-    let left = columns_of(sorts, args.number(0))?;
-    let right = columns_of(sorts, args.number(1))?;
+    let left = columns_of(entries, args.number(0))?;
+    let right = columns_of(entries, args.number(1))?;
     Some((left, right))
 }
 
@@ -119,7 +120,7 @@ pub fn join(store: &mut Store<'_>, args: &mut Args<'_>) -> Row
     ensures same_args { SameArgs args.old args.new }
     ensures answer { Answered store.old (over_both join_of (arguments store.old args.old)) store.new result }
 {
-    let (left, right) = both_columns(&store.sorts(), args).ok_or(Cause::Panics)?;
+    let (left, right) = both_columns(store.entries(), args).ok_or(Cause::Panics)?;
     join_columns(store, args, left, right)
 }
 
@@ -130,6 +131,6 @@ pub fn product(store: &mut Store<'_>, args: &mut Args<'_>) -> Row
     ensures same_args { SameArgs args.old args.new }
     ensures answer { Answered store.old (over_both product_of (arguments store.old args.old)) store.new result }
 {
-    let (left, right) = both_columns(&store.sorts(), args).ok_or(Cause::Panics)?;
+    let (left, right) = both_columns(store.entries(), args).ok_or(Cause::Panics)?;
     side_by_side(store, args, left, right)
 }

@@ -1,25 +1,28 @@
 // The operators that look at one argument, or at the sorts of all, over the numbers of their arguments' sorts.
-ghost use Rattle.std.specs.Prelude.{◌≡◌, ◌<◌};
+ghost use Rattle.std.specs.Prelude.{◌≡◌, ◌<◌, ℕ};
 ghost use Rattle.record.specs.Numbers.{numbers_left};
 ghost use Rattle.record.specs.Sort.{real, same};
-ghost use Rattle.record.specs.Decode.{sort_at};
+ghost use Rattle.record.specs.Decode.{Stored, sort_at};
 ghost use Rattle.store.specs.Changes.{Same};
-ghost use Rattle.infer_rules.specs.Inferred.{constant_width, some_real, sum_of, rare_of, singleton_of, selected};
+ghost use Rattle.infer_rules.specs.Inferred.{constant_width, some_real, sum_of, rare_of, singleton_of};
 ghost use Rattle.row_answer.specs.Answer.{Answered};
-ghost use Rattle.row_answer.specs.Arguments.{constants_in};
-ghost use Rattle.infer_operator.specs.Asks.{Known, ArgumentsAsk, arguments, sorts_with};
-ghost use Rattle.infer_operator.specs.Single.{ArgumentHas, LastHas, WrittenAsks};
+ghost use Rattle.row_answer.specs.Heads.{HeadAsks};
+ghost use Rattle.row_answer.specs.Words.{constants};
+ghost use Rattle.infer_operator.specs.Asks.{ArgumentsAsk, ReadArgumentsAsk, KnownAsk, arguments};
+ghost use Rattle.infer_operator.specs.Single.{ArgumentHas, LastHas, RealHas, ElementHas};
+ghost use Rattle.infer_operator.specs.Words.{WrittenAsked};
 
+use super::vectors::vector;
 use record::kinds::SortKind;
 use record::numbers::Numbers;
 use record::span::Span;
 use row_answer::arguments::{Args, index_at};
 use row_answer::lists::set_of;
-use row_answer::{bit_vector, leaf, variable};
+use row_answer::{leaf, variable};
 use row_rules::{Cause, Row};
 use sheet::ReadSheet;
 use store::Store;
-use store::entries::Sorts;
+use store::entries::Entries;
 
 // The argument number i; Panics where there is none.
 pub fn argument(args: &Args<'_>, i: usize) -> Row
@@ -39,19 +42,19 @@ pub fn last_of(args: &Args<'_>, least: usize) -> Row
 }
 
 // Whether a sort is Real.
-fn is_real(sorts: &Sorts<'_>, k: usize) -> bool
-    requires { k < sorts.now.count }
-    ensures { result ≡ same (sort_at sorts.now.records.now sorts.now.places.now sorts.now.count k) real }
+fn is_real(entries: Entries<'_>, k: usize) -> bool
+    requires { HeadAsks entries.records.now entries.places.now k }
+    ensures { (n : ℕ) → Stored entries.entry.records.now entries.entry.places.now n → k < n → result ≡ same (sort_at entries.entry.records.now entries.entry.places.now n k) real }
 {
-    sorts.kind(k) == SortKind::Real
+    entries.kind(k) == SortKind::Real
 }
 
 // Whether one of these sorts is Real.
-pub fn some_real(sorts: &Sorts<'_>, mut numbers: Numbers<'_>) -> bool
-    requires { Known sorts.now.count (numbers_left numbers) }
-    ensures { some_real (sorts_with sorts.now (numbers_left numbers.entry)) ≡ result }
+pub fn some_real(entries: Entries<'_>, mut numbers: Numbers<'_>) -> bool
+    requires { KnownAsk entries.records.now entries.places.now (numbers_left numbers) }
+    ensures { RealHas entries.entry.records.now entries.entry.places.now (numbers_left numbers.entry) result }
 {
-    numbers.any(|k| is_real(sorts, k))
+    numbers.any(|k| is_real(entries, k))
 }
 
 // Add, Sub, Mult: Real where an argument is Real, else Int.
@@ -60,7 +63,7 @@ pub fn sum(store: &mut Store<'_>, args: &Args<'_>) -> Row
     ensures same { Same store.old store.new }
     ensures answer { Answered store.old (sum_of (some_real (arguments store.old args.now))) store.new result }
 {
-    if some_real(&store.sorts(), args.numbers()) {
+    if some_real(store.entries(), args.numbers()) {
         leaf(store, SortKind::Real)
     } else {
         leaf(store, SortKind::Int)
@@ -68,16 +71,16 @@ pub fn sum(store: &mut Store<'_>, args: &Args<'_>) -> Row
 }
 
 // Select: the second part of the first argument, an Array; else Panics.
-pub fn element(store: &Store<'_>, args: &Args<'_>) -> Row
-    requires { ArgumentsAsk store.now args.now }
-    ensures { Answered store.now (selected (arguments store.now args.now)) store.now result }
+pub fn element(entries: Entries<'_>, args: &Args<'_>) -> Row
+    requires { ReadArgumentsAsk entries.records.now entries.places.now args.now.bytes.now 3 args.now.count }
+    ensures { ElementHas entries.entry.records.now entries.entry.places.now args.now.bytes.now args.now.count result }
 {
     let k = args.numbers().next().ok_or(Cause::Panics)?;
-    let array = store.entry(k);
+    let array = entries.entry(k);
     if array.kind != SortKind::Array {
         return Err(Cause::Panics);
     }
-    Ok(store.number(array.parts.at + 2))
+    Ok(array.parts.get(entries.records, 1))
 }
 
 // RareList: the first argument's sort, or the variable `?` without one.
@@ -105,15 +108,12 @@ pub fn singleton(store: &mut Store<'_>, args: &Args<'_>) -> Row
 // BvConst: the vector of the width that the second argument writes; ParamBitVec where it is no integer constant; Panics
 // without a second argument. The sheet names the arguments in `list`.
 pub fn constant_width(store: &mut Store<'_>, sheet: &ReadSheet<'_>, list: Span) -> Row
-    requires { WrittenAsks store.old.records.now store.old.places.now store.old.index.now store.old.count store.old.used sheet.now.bytes.now sheet.now.starts.now list.at list.count }
+    requires { WrittenAsked store.old sheet.now list }
     ensures same { Same store.old store.new }
-    ensures answer { Answered store.old (constant_width (constants_in sheet.now.bytes.now sheet.now.starts.now list.at list.count)) store.new result }
+    ensures answer { Answered store.old (constant_width (constants sheet.now list)) store.new result }
 {
     if list.count < 2 {
         return Err(Cause::Panics);
     }
-    match index_at(sheet, list.at + 2) {
-        Some(w) => bit_vector(store, w),
-        None => leaf(store, SortKind::ParamBitVec),
-    }
+    vector(store, index_at(sheet, list, 1))
 }

@@ -117,11 +117,12 @@ looks-unknown {op} is ss (repeats e) = at_op (none ∷ is) ss 7 e
 looks-unknown {op} is ss (converts e) = at_op (none ∷ is) ss 9 e
 
 -- With the first index that was found.
-module _ {s xs : List ℕ} {x : ℕ} (q : ℕ) (some : 0 < q) {o : Found ℕ} (h : IndexIs s xs x o) (op : ℕ) (ss : Sorts) where
+module _ {s xs : List ℕ} (x q : ℕ) (some : 0 < q) {o : Found ℕ} (h : IndexIs s xs (x + 2 * 0) o) (op : ℕ) (ss : Sorts) where
   pub looks-first : indexed op (constants_in s xs x q) ss ≡ indexed op (integer_of o ∷ constants_in s xs (x + 2) (q - 1)) ss
   looks-first =
+      let e : x ≡ x + 2 * 0 = omega arith in
       ap (λ (is : List (Option ℕ)). indexed op is ss)
-      (constants-first s xs x q some ∙ ap (λ (c : Option ℕ). c ∷ constants_in s xs (x + 2) (q - 1)) (sym h.is))
+      (constants-first s xs x q some ∙ ap (λ (c : Option ℕ). c ∷ constants_in s xs (x + 2) (q - 1)) (ap (index_at s xs) e ∙ sym h.is))
 
 -- Which is left when the arms told them apart.
 pub convert-only : (op : ParamOp) → Indexing (param_number op) → (op ≡ Extract → ⊥) → (op ≡ ZeroExtend → ⊥) → (op ≡ SignExtend → ⊥) → (op ≡ Repeat → ⊥) → param_number op ≡ 9

@@ -15,8 +15,8 @@ use row_rules::{Cause, Row};
 use sheet::ReadSheet;
 use store::Store;
 
-// A Binder, whose body is its argument: Bool for Forall, Exists and a number that is none's; for Choice the sort of its first binding, Panics without one;
-// for Lambda the Function of its bindings' sorts and its body's, put together in `args`.
+// A Binder, whose body is its argument: Bool for Forall, Exists and a number that is none's; for Choice the sort of its first
+// binding, Panics without one; for Lambda the Function of its bindings' sorts and its body's, put together in `args`.
 pub fn inferred_binder(
     store: &mut Store<'_>,
     sheet: &ReadSheet<'_>,

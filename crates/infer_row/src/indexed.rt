@@ -27,7 +27,7 @@ pub fn inferred_extract(store: &mut Store<'_>, sheet: &ReadSheet<'_>, second: Sp
     if second.count < 2 {
         return Err(Cause::Panics);
     }
-    match index_at(sheet, second.at + 2) {
+    match index_at(sheet, second, 1) {
         Some(j) if i < j => Err(Cause::Panics),
         Some(j) => bit_vector(store, i - j + 1),
         None => leaf(store, SortKind::ParamBitVec),
@@ -87,7 +87,7 @@ pub fn first_index(
     if second.count == 0 {
         return Err(Cause::Panics);
     }
-    match index_at(sheet, second.at) {
+    match index_at(sheet, second, 0) {
         Some(i) => by_index(store, sheet, second, op, args, i),
         None => leaf(store, SortKind::ParamBitVec),
     }

@@ -5,10 +5,8 @@
 pub mod binders;
 pub mod indexed;
 
-ghost use Rattle.std.specs.Prelude.{◌≡◌};
 ghost use Rattle.store.specs.Changes.{Same};
 ghost use Rattle.matching_tables.specs.Names.{SameNames};
-ghost use Rattle.infer_rules.specs.Inferred.{inferred};
 ghost use Rattle.row_answer.specs.Args.{SameArgs};
 ghost use Rattle.infer_row.specs.Terms.{PlainTermAsks, PlainTermIs, InferComposedAsks, ComposedIs, InferAsks, InferIs};
 

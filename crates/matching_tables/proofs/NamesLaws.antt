@@ -4,8 +4,7 @@ use mathlib.Core.Path.{◌≡◌, refl, sym, ap, subst, ◌∙◌}
 use mathlib.Core.Bool.{Bool, true, false, ◌&&◌}
 use mathlib.Core.List.{List, [], ◌∷◌}
 use native.Mathlib.Omega.{arith}
-use native.Mathlib.Nat.{not-suc-le-zero}
-use native.Mathlib.Decide.{dec_lt, ℕ_discrete}
+use native.Mathlib.Decide.{ℕ_discrete}
 use lib.ListN.{length, get_or, set, length-set}
 use lib.Seq.{get_or-set_same, get_or-set_other}
 use lib.Dec.{eqb}
@@ -19,7 +18,7 @@ use Rattle.record.specs.Numbers.{numbers_left, numbers-small}
 use Rattle.record.specs.Decode.{Zeros}
 use Rattle.record.specs.declared.numbers.Numbers.{Numbers}
 use Rattle.substitution.specs.MatchWith.{all_members}
-use Rattle.matching_tables.specs.Tables.{times, Lists, Added, Tabled, Cleared}
+use Rattle.matching_tables.specs.Tables.{times, Lists, Added}
 use Rattle.matching_tables.specs.Contract.{none_of}
 use Rattle.matching_tables.specs.TableLaws.{times-first, times-other, listed-is, listed-some, listed-none}
 
@@ -181,58 +180,3 @@ pub record Clearing (m : ℕ) (imgs bnd : List ℕ) (i : ℕ) : Type 0 where
   pub only : (v : ℕ) → 0 < get_or imgs v 0 → (j : ℕ) × (i ≤ j) × (j < m) × (get_or bnd j 0 ≡ v)
   pub done : (j : ℕ) → j < i → get_or bnd j 0 ≡ 0
   pub rest : Zeros bnd m
-
-pub clear-start : {imgs bnd : List ℕ} {m : ℕ} → Tabled imgs bnd m → Clearing m imgs bnd 0
-clear-start {imgs} {bnd} {m} t =
-    record {
-      names = t.names;
-      order = t.order;
-      few = t.few;
-      only = λ v h. let o = t.only v h in (o.0, omega arith, o.1, o.2);
-      done = λ j l. absurd (not-suc-le-zero l);
-      rest = t.rest;
-    }
-
-pub clear_step : {m : ℕ} {imgs bnd : List ℕ} {i : ℕ} → Clearing m imgs bnd i → i < m → get_or bnd i 0 < 65536
-    → Clearing m (set imgs (get_or bnd i 0) 0) (set bnd i 0) (i + 1)
-clear_step {m} {imgs} {bnd} {i} c l small =
-    record {
-      names = length-set imgs (get_or bnd i 0) 0 ∙ c.names;
-      order = length-set bnd i 0 ∙ c.order;
-      few = c.few;
-      only = λ v h. by_name v h (ℕ_discrete v (get_or bnd i 0));
-      done = λ j h. by_place j h (ℕ_discrete j i);
-      rest = λ j h. get_or-set_other bnd i j 0 0 (λ e. omega arith) ∙ c.rest j h;
-    }
-  where
-    by_name : (v : ℕ) → 0 < get_or (set imgs (get_or bnd i 0) 0) v 0 → Dec (v ≡ get_or bnd i 0) → (j : ℕ) × (i + 1 ≤ j) × (j < m) × (get_or (set bnd i 0) j 0 ≡ v)
-    by_name v h (yes e) =
-        absurd (omega (arith, ap (λ (u : ℕ). get_or (set imgs (get_or bnd i 0) 0) u 0) e, get_or-set_same imgs (get_or bnd i 0) 0 0 (omega (arith, c.names))))
-    by_name v h (no d) =
-        let o = c.only v (omega (arith, get_or-set_other imgs (get_or bnd i 0) v 0 0 d)) in
-        let a : o.0 ≡ i → ⊥ = λ e. d (sym o.3 ∙ ap (λ (u : ℕ). get_or bnd u 0) e) in
-        (o.0, after o.0 o.1 a, o.2, get_or-set_other bnd i o.0 0 0 a ∙ o.3)
-      where
-        after : (j : ℕ) → i ≤ j → (j ≡ i → ⊥) → i + 1 ≤ j
-        after j q a = omega arith
-
-    by_place : (j : ℕ) → j < i + 1 → Dec (j ≡ i) → get_or (set bnd i 0) j 0 ≡ 0
-    by_place j h (yes e) = ap (λ (u : ℕ). get_or (set bnd i 0) u 0) e ∙ get_or-set_same bnd i 0 0 (omega (arith, c.order, c.few))
-    by_place j h (no d) = get_or-set_other bnd i j 0 0 d ∙ c.done j (omega arith)
-
-pub clear-end : {m : ℕ} {imgs bnd : List ℕ} {i : ℕ} → Clearing m imgs bnd i → m ≤ i → Cleared imgs bnd
-clear-end {m} {imgs} {bnd} {i} c h =
-    record {
-      names = c.names;
-      order = c.order;
-      images = λ v q. zero-if (get_or imgs v 0) (λ z. let o = c.only v z in omega (arith, o.1, o.2));
-      bound = λ j q. by_low j (dec_lt j i);
-    }
-  where
-    zero-if : (w : ℕ) → (0 < w → ⊥) → w ≡ 0
-    zero-if zero f = refl
-    zero-if (suc w) f = absurd (f (omega arith))
-
-    by_low : (j : ℕ) → Dec (j < i) → get_or bnd j 0 ≡ 0
-    by_low j (yes l) = c.done j l
-    by_low j (no d) = c.rest j (omega arith)

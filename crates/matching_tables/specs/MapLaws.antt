@@ -17,24 +17,16 @@ use Rattle.substitution.specs.Matching.{meet}
 use Rattle.matching_tables.specs.Matched.{Matched, Fits, Misfits, found}
 use Rattle.matching_tables.specs.Tables.{image_of, table_map, Tabled, VarIn, Mapped}
 use Rattle.matching_tables.specs.Usable.{Usable}
-use Rattle.matching_tables.specs.Contract.{count_of, Answered, LookIs, BindIs, MeetIs}
+use Rattle.matching_tables.specs.Contract.{Answered, LookIs, BindIs, MeetIs}
 use Rattle.matching_tables.specs.TableLaws.{find-is, bind-mapped, bind-map}
 use Rattle.matching_tables.specs.Entered.{same_number, other-number}
 
 ---------------------------------------------------------------- what is found
-pub count-found : (m : ℕ) (q : Bool) → count_of (found m q) ≡ m
-count-found m true = refl
-count-found m false = refl
-
 pub found-fits : (m : ℕ) {q : Bool} → q ≡ true → found m q ≡ Fits m
 found-fits m e = ap (found m) e
 
 pub found-misfits : (m : ℕ) {q : Bool} → q ≡ false → found m q ≡ Misfits m
 found-misfits m e = ap (found m) e
-
--- The tables are well formed, with as many names as are bound.
-pub answered-mapped : {b p : List ℕ} {n : ℕ} {imgs bnd : List ℕ} {m : ℕ} (q : Bool) {o : Option Map} → Answered b p n imgs bnd (found m q) o → Mapped b p n imgs bnd m
-answered-mapped {b} {p} {n} {imgs} {bnd} {m} q a = subst (Mapped b p n imgs bnd) (count-found m q) a.mapped
 
 pub answered-as : {b p : List ℕ} {n : ℕ} {imgs bnd : List ℕ} {r : Matched} {o q : Option Map} → o ≡ q → Answered b p n imgs bnd r o → Answered b p n imgs bnd r q
 answered-as e a = record { mapped = a.mapped; result = a.result ∙ e }

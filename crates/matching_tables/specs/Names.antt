@@ -17,6 +17,10 @@ SameParams s t = t.params.now ≡ s.params.now
 abbrev pub SameMap : Names → Names → Type 0
 SameMap s t = (t.images.now ≡ s.images.now) × (t.bound.now ≡ s.bound.now) × (t.many ≡ s.many)
 
+-- The same tables, with no name counted as bound.
+abbrev pub Started : Names → Names → Type 0
+Started s t = t ≡ record { params = s.params; images = s.images; bound = s.bound; many = 0 }
+
 -- The entry of a name in the table of images: 0 without an image, else one more than its number.
 abbrev pub entry_of : Option ℕ → ℕ
 entry_of None = 0

@@ -2,20 +2,16 @@
 use Rattle.std.specs.Prelude.{ℕ}
 use Rattle.record.specs.Sort.{Sort}
 use Rattle.record.specs.Decode.{sort_at}
-use Rattle.record.specs.declared.span.Span.{Span}
 use Rattle.store.specs.declared.entries.Sorts.{Sorts}
-use Rattle.matching_tables.specs.Usable.{OneAsks, ListAsks, PairAsks}
+use Rattle.matching_tables.specs.Usable.{OneAsks, PairAsks}
 
 -- The sort with a number.
 abbrev pub sort_in : Sorts → ℕ → Sort
 sort_in s k = sort_at s.records.now s.places.now s.count k
 
--- A sort, a list of sorts that the store names, two sorts.
+-- A sort, two sorts.
 abbrev pub OneIn : Sorts → ℕ → Type 0
 OneIn s k = OneAsks s.records.now s.places.now s.count k
-
-abbrev pub ListIn : Sorts → Span → Type 0
-ListIn s x = ListAsks s.records.now s.places.now s.count s.records.now x.at x.count
 
 abbrev pub PairIn : Sorts → ℕ → ℕ → Type 0
 PairIn s k j = PairAsks s.records.now s.places.now s.count k j

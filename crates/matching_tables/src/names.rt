@@ -4,7 +4,7 @@ ghost use Rattle.record.specs.Number.{numbers_at};
 ghost use Rattle.matching_tables.specs.Tables.{listed, Added, Tabled, Cleared};
 ghost use Rattle.matching_tables.specs.Contract.{NamesAsk, AddAsks, TakeAsks, AllListed, none_of, LookIs, BindAsks, BindIs, MeetAsks, MeetIs};
 ghost use Rattle.matching_tables.specs.Matched.{found};
-ghost use Rattle.matching_tables.specs.Names.{SameNames, SameParams, SameMap, entry_of};
+ghost use Rattle.matching_tables.specs.Names.{Started, SameNames, SameParams, SameMap, entry_of};
 
 use record::span::Span;
 
@@ -114,6 +114,13 @@ impl Names<'_> {
             }
             Some(image) => image == target,
         }
+    }
+
+    // Counts no name as bound: over a map whose tables are zeros, whatever was counted before.
+    pub fn start(&mut self)
+        ensures { Started self.old self.new }
+    {
+        self.many = 0;
     }
 
     // Unbinds the bound names: both tables of the map are zeros again.

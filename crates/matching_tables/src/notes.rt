@@ -9,6 +9,9 @@ pub const NOTES: usize = 64;
 
 pub const PAIR_NOTES: usize = 32;
 
+// How many numbers a target may have: a pair is noted as one more than its pattern's number, times this, and its target's number.
+const TARGETS: usize = 65536;
+
 // Sorts by their numbers.
 #[derive(Drop)]
 pub struct Seen {
@@ -61,7 +64,7 @@ impl Met {
         requires { MetAsks p t }
         ensures { MetIs self.now.slots p t result }
     {
-        self.slots[p % PAIR_NOTES] as usize == (p + 1) * 65536 + t
+        self.slots[p % PAIR_NOTES] as usize == (p + 1) * TARGETS + t
     }
 
     // Notes the pattern `p` and the target `t`, in the place of the pair noted there before.
@@ -69,7 +72,7 @@ impl Met {
         requires { MetAsks p t }
         ensures { PairIs self.old.slots p t self.new.slots }
     {
-        self.slots[p % PAIR_NOTES] = ((p + 1) * 65536 + t) as u32;
+        self.slots[p % PAIR_NOTES] = ((p + 1) * TARGETS + t) as u32;
     }
 
     // Notes no pair any more.

@@ -23,10 +23,6 @@ pub record Along (b p : List ℕ) (n : ℕ) (prm imgs bnd : List ℕ) (m : ℕ) 
   pub less : sizes (sorts_of (store_of b p n) ks₁) + sizes (sorts_of (store_of b p n) js₁) ≤ sizes (sorts_of (store_of b p n) ks) + sizes (sorts_of (store_of b p n) js)
   pub whole : (ns : List ℕ) → Lists prm ns → ListsWith b p n imgs₁ bnd₁ m₁ ks₁ js₁ ns ≡ ListsWith b p n imgs bnd m ks js ns
 
-pub along-start : {b p : List ℕ} {n : ℕ} {prm imgs bnd : List ℕ} {m : ℕ} {ks js l : List ℕ}
-    → WithListsAsk b p n prm imgs bnd m ks js → WithBefore b p n prm imgs bnd m l → Along b p n prm imgs bnd m ks js prm imgs bnd l m ks js
-along-start a w = record { params = refl; asks = a; noted = w; less = omega arith; whole = λ ns h. refl }
-
 empty : (l : List ℕ) → length l ≡ 0 → l ≡ []
 empty [] h = refl
 empty (a ∷ l) h = absurd (omega arith)
@@ -51,9 +47,6 @@ module _ {b p : List ℕ} {n : ℕ} {prm imgs bnd : List ℕ} {m : ℕ} {ks js p
 
   pub along-ended : js₁ ≡ [] → WithIs b p n prm prm₁ imgs₁ bnd₁ (Fits m₁) (ListsWith b p n imgs bnd m ks js)
   along-ended e = both-end (empty ks₁ (sym a.asks.lists.even ∙ ap length e)) e
-
-  pub along-noted : WithAfter b p n prm imgs₁ bnd₁ l₁ (Fits m₁)
-  along-noted = subst (λ (l : List ℕ). WithBefore b p n l imgs₁ bnd₁ m₁ l₁) a.params a.noted
 
   module _ {k j : ℕ} {ks' js' : List ℕ} (ek : ks₁ ≡ k ∷ ks') (ej : js₁ ≡ j ∷ js') where
     pub along-first : WithAsks b p n prm₁ imgs₁ bnd₁ m₁ k j

@@ -53,9 +53,6 @@ pub record FitsInv (b p : List ℕ) (n : ℕ) (ks₀ js₀ l ks js : List ℕ) :
   pub less : sizes (sorts_of (store_of b p n) ks) + sizes (sorts_of (store_of b p n) js) ≤ sizes (sorts_of (store_of b p n) ks₀) + sizes (sorts_of (store_of b p n) js₀)
   pub whole : compatible_all (sorts_of (store_of b p n) ks) (sorts_of (store_of b p n) js) ≡ compatible_all (sorts_of (store_of b p n) ks₀) (sorts_of (store_of b p n) js₀)
 
-pub fits-start : {b p : List ℕ} {n : ℕ} {ks js l : List ℕ} → ListsAsk b p n ks js → Pairs (CompatibleAt b p n) l → FitsInv b p n ks js l ks js
-fits-start a t = record { asks = a; noted = t; less = omega arith; whole = refl }
-
 fit_none : (b p : List ℕ) (n x y : ℕ) {c : ℕ} → c ≡ 0 → true ≡ compatible_all (sorts_at b p n b x c) (sorts_at b p n b y c)
 unfolding compatible
 fit_none b p n x y {c} e = rw (sorts-end b p n b x c e, sorts-end b p n b y c e) refl
@@ -195,13 +192,7 @@ pub record FitInv (b p : List ℕ) (n k₀ j₀ : ℕ) (l : List ℕ) (k j : ℕ
   pub less : size (sort_at b p n k) + size (sort_at b p n j) ≤ size (sort_at b p n k₀) + size (sort_at b p n j₀)
   pub whole : compatible (sort_at b p n k) (sort_at b p n j) ≡ compatible (sort_at b p n k₀) (sort_at b p n j₀)
 
-pub fit-start : {b p : List ℕ} {n k j : ℕ} {l : List ℕ} → PairAsks b p n k j → Pairs (CompatibleAt b p n) l → FitInv b p n k j l k j
-fit-start a t = record { asks = a; noted = t; less = omega arith; whole = refl }
-
 module _ {b p : List ℕ} {n k₀ j₀ : ℕ} {l : List ℕ} {k j : ℕ} (v : FitInv b p n k₀ j₀ l k j) where
-  pub fit_on : {i h : ℕ} → FitOn b p n k j i h → FitInv b p n k₀ j₀ l i h
-  fit_on o = record { asks = o.asks; noted = v.noted; less = omega (arith, v.less, o.falls); whole = o.whole ∙ v.whole }
-
   module _ {x y c : ℕ} (o : FitParts b p n k j x y c) where
     split : compatible (sort_at b p n k) (sort_at b p n j)
         ≡ (compatible_all (sorts_at b p n b x (c - 1)) (sorts_at b p n b y (c - 1)) && compatible (sort_at b p n (u16_at b (x + 2 * (c - 1)))) (sort_at b p n (u16_at b (y + 2 * (c - 1)))))

@@ -13,33 +13,20 @@ use Rattle.substitution.specs.Matching.{and_then}
 use Rattle.substitution.specs.MatchWith.{match_with, match_all_with}
 use Rattle.matching_tables.specs.Matched.{Matched, Fits, Misfits}
 use Rattle.matching_with.specs.declared.Turn.{Turn}
-use Rattle.matching_with.specs.declared.Turn.TheVariants.{Holds, Fails, Meets, Under, Past, Parts}
+use Rattle.matching_with.specs.declared.Turn.TheVariants.{Meets, Under, Past, Parts}
 use Rattle.matching_tables.specs.Tables.{times, Lists, Added, table_map, Mapped}
 use Rattle.matching_tables.specs.TableLaws.{times-once}
 use Rattle.matching_tables.specs.Usable.{ListsAsk}
 use Rattle.matching_tables.specs.Contract.{count_of, matched_map, AddAsks}
-use Rattle.matching_with.specs.Contract.{MeetWithAsks, MeetWithIs, WithAsks, WithAllAsks, WithListsAsk, WithIs, PairWith, PairsWith, ListsWith, TurnIs, Meeting, Opened, Passed, Parted}
+use Rattle.matching_with.specs.Contract.{MeetWithIs, WithAsks, WithAllAsks, WithListsAsk, WithIs, PairWith, PairsWith, ListsWith, TurnIs, Meeting, Opened, Passed, Parted}
 use Rattle.matching_tables.specs.Entered.{sorts-end}
 use Rattle.matching_tables.specs.WalkLaws.{lists-ask, below-first, below-rest}
 
 module _ {b p : List ℕ} {n : ℕ} {prm imgs bnd : List ℕ} {m k j : ℕ} (a : WithAsks b p n prm imgs bnd m k j) (z : Turn) (g : TurnIs b p n prm k j z) where
-  pub general-holds : z ≡ Holds → WithIs b p n prm prm imgs bnd (Fits m) (PairWith b p n imgs bnd m k j)
-  general-holds e =
-      let t = subst (TurnIs b p n prm k j) e g in
-      record { params = refl; mapped = a.mapped; result = λ ns l. t ns l (table_map (store_of b p n) imgs bnd m) }
-
-  pub general-fails : z ≡ Fails → WithIs b p n prm prm imgs bnd (Misfits m) (PairWith b p n imgs bnd m k j)
-  general-fails e =
-      let t = subst (TurnIs b p n prm k j) e g in
-      record { params = refl; mapped = a.mapped; result = λ ns l. t ns l (table_map (store_of b p n) imgs bnd m) }
-
   ---------------------------------------------------------------- a parameter
   module _ (v : ℕ) (e : z ≡ Meets v) where
     meeting : Meeting b p n prm k j v
     meeting = subst (TurnIs b p n prm k j) e g
-
-    pub meet-asks : MeetWithAsks b p n imgs bnd m v j
-    meet-asks = record { usable = a.pair.usable; mapped = a.mapped; target = a.pair.right; name = meeting.name; own = meeting.own }
 
     pub general-met : (imgs' bnd' : List ℕ) (q : Matched) → MeetWithIs b p n imgs bnd m v j imgs' bnd' q → WithIs b p n prm prm imgs' bnd' q (PairWith b p n imgs bnd m k j)
     general-met imgs' bnd' q h =
@@ -86,9 +73,6 @@ module _ {b p : List ℕ} {n : ℕ} {prm imgs bnd : List ℕ} {m k j : ℕ} (a :
   module _ (x y : Span) (e : z ≡ Parts x y) where
     pub parted : Parted b p n k j x.at y.at x.count × (y.count ≡ x.count)
     parted = subst (TurnIs b p n prm k j) e g
-
-    pub parts-ask : WithAllAsks b p n prm imgs bnd m b x.at b y.at x.count
-    parts-ask = record { pairs = parted.0.pairs; table = a.table; room = λ v. omega (arith, a.room v, parted.0.less); mapped = a.mapped }
 
     pub general-parts : {prm' imgs' bnd' : List ℕ} {q : Matched} → WithIs b p n prm prm' imgs' bnd' q (PairsWith b p n imgs bnd m b x.at b y.at x.count)
         → WithIs b p n prm prm' imgs' bnd' q (PairWith b p n imgs bnd m k j)

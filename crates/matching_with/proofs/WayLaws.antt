@@ -1,5 +1,5 @@
 -- match_with down Pars and last parts: a turn, the walk of many turns, and the names taken off again behind it.
-use Prim.Native.Nat.{ℕ, zero, suc, ◌+◌, ◌*◌, ◌-◌, ◌%◌, ◌≤◌, ◌<◌}
+use Prim.Native.Nat.{ℕ, zero, suc, ◌+◌, ◌*◌, ◌-◌, ◌≤◌, ◌<◌}
 use mathlib.Core.Path.{◌≡◌, refl, sym, ap, subst, ◌∙◌}
 use mathlib.Core.List.{List, [], ◌++◌, append_assoc, append-nil}
 use mathlib.Core.Option.{Option, none, some}
@@ -13,30 +13,29 @@ use Rattle.record.specs.Record.{leaf, sorts_of}
 use Rattle.record.specs.SortLists.{below_suc}
 use Rattle.record.specs.Decode.{store_of, sort_at}
 use Rattle.record.specs.declared.SortRecord.{SortRecord}
-use Rattle.store.specs.Entry.{EntryHas, EntryAsks}
+use Rattle.store.specs.Entry.{EntryHas}
 use Rattle.substitution.specs.Substitution.{Map}
 use Rattle.substitution.specs.Matching.{and_then}
 use Rattle.substitution.specs.MatchWith.{match_with, match_all_with}
 use Rattle.matching_tables.specs.Matched.{Matched, Fits, Misfits, found}
 use Rattle.matching_with.specs.declared.Turn.{Turn}
-use Rattle.matching_with.specs.declared.Turn.TheVariants.{Holds, Fails, Meets, Under, Past, Parts}
+use Rattle.matching_with.specs.declared.Turn.TheVariants.{Meets, Under, Past, Parts}
 use Rattle.matching_with.specs.declared.Move.TheVariants.{Ends, Under as Down, Past as Through, Parts as Several}
 use Rattle.record.specs.declared.span.Span.{Span}
-use mathlib.Core.Bool.{Bool, true, false}
+use mathlib.Core.Bool.{Bool, true}
 use Rattle.matching_tables.specs.Tables.{times, Lists, Added, table_map, Mapped}
 use Rattle.matching_tables.specs.TableLaws.{times-append, lists-added, added-back}
 use Rattle.matching_tables.specs.Usable.{sorts_at}
 use Rattle.matching_tables.specs.Contract.{TakeAsks, count_of, matched_map}
 use Rattle.matching_with.specs.Contract.{MeetWithIs, WithAsks, WithListsAsk, WithIs, PairWith, PairsWith, ListsWith, TurnIs, Parted}
-use Rattle.matching_tables.specs.Notes.{pair_of}
 use Rattle.matching_with.specs.Met.{MatchedWith, WithBefore, WithAfter}
 use Rattle.matching_tables.specs.NoteLaws.{pairs-none}
 use Rattle.matching_with.specs.Way.{last_sort, way_end, way_names, Deep, CloseAsks, CloseIs, Instead, Leads, Split, MoveIs, WalkIs}
 use Rattle.matching_tables.specs.Entered.{entry-names, entry-refs}
 use Rattle.matching_tables.specs.WalkLaws.{count_at}
 use Rattle.matching_tables.specs.LastLaws.{and-some, sizes-more, refs-less}
-use Rattle.matching_with.proofs.WithLaws.{with-same, with-fits, with-next, with-back}
-use Rattle.matching_with.proofs.GeneralLaws.{under, body-asks, through, target-asks, parted, general-holds, general-fails, general-met, general-empty, with-lists}
+use Rattle.matching_with.proofs.WithLaws.{with-same, with-next, with-back}
+use Rattle.matching_with.proofs.GeneralLaws.{under, body-asks, through, target-asks, parted, general-met, general-empty, with-lists}
 
 ---------------------------------------------------------------- all but the last, then the last
 -- The last of c + 1 sorts.
@@ -94,9 +93,6 @@ added_then {prm} {us} {prm'} {ws} {prm''} a c =
 
 ---------------------------------------------------------------- a turn
 module _ {b p : List ℕ} {n : ℕ} {prm imgs bnd : List ℕ} {m k j : ℕ} (a : WithAsks b p n prm imgs bnd m k j) (l : List ℕ) (w : WithBefore b p n prm imgs bnd m l) where
-  pub move-met : get_or l (k % 32) 0 ≡ pair_of k j → MoveIs b p n prm imgs bnd m k j prm imgs bnd m l (Ends true)
-  move-met e = (with-fits l a (omega (arith, a.pair.right, a.pair.usable.count)) w e, w)
-
   -- The parts but for the last, then the last.
   move-split : {x y c : ℕ} (d : ℕ) → c ≡ suc d → Parted b p n k j x y c → Split b p n prm imgs bnd m k j prm imgs bnd m l x y d
   move-split {x} {y} {c} d f o' =
@@ -128,12 +124,6 @@ module _ {b p : List ℕ} {n : ℕ} {prm imgs bnd : List ℕ} {m k j : ℕ} (a :
       }
 
   module _ (z : Turn) (g : TurnIs b p n prm k j z) where
-    pub move-holds : z ≡ Holds → MoveIs b p n prm imgs bnd m k j prm imgs bnd m l (Ends true)
-    move-holds e = (general-holds a z g e, w)
-
-    pub move-fails : z ≡ Fails → MoveIs b p n prm imgs bnd m k j prm imgs bnd m l (Ends false)
-    move-fails e = (general-fails a z g e, tt)
-
     pub move-meets : (v : ℕ) → z ≡ Meets v → (imgs' bnd' : List ℕ) (m' : ℕ) (q : Bool) → MeetWithIs b p n imgs bnd m v j imgs' bnd' (found m' q)
         → MoveIs b p n prm imgs bnd m k j prm imgs' bnd' m' l (Ends q)
     move-meets v e imgs' bnd' m' q h =
@@ -381,15 +371,6 @@ module _ {b p : List ℕ} {n : ℕ} {prm imgs bnd : List ℕ} {m k j : ℕ} (a :
     w.noted e,
   )
 
-  pub close-asks : CloseAsks b p n prm₁ k d
-  close-asks =
-      record {
-        one = record { usable = a.pair.usable; known = a.pair.left };
-        table = w.added.long ∙ a.table;
-        deep = w.deep;
-        there = λ v. omega (arith, w.added.each v);
-      }
-
   pub match-closed : (prm₂ : List ℕ) {l₂ : List ℕ} → CloseIs b p n prm₁ k d prm₂ → l₂ ≡ replicate 32 0
       → WithIs b p n prm prm₂ imgs₁ bnd₁ q (PairWith b p n imgs bnd m k j) × WithAfter b p n prm imgs₁ bnd₁ l₂ q
   match-closed prm₂ {l₂} t e = (
@@ -426,13 +407,6 @@ unfolding way_end way_names
 closing-start {b} {p} {n} {prm} {k} {i} a = record { known = a.one.known; ends = refl; taken = added_none prm; low = omega arith }
 
 module _ {b p : List ℕ} {n : ℕ} {prm : List ℕ} {k i : ℕ} (a : CloseAsks b p n prm k i) {prm₁ : List ℕ} {k₁ h : ℕ} (c : Closing b p n prm k i prm₁ k₁ h) where
-  pub closing-entry : EntryAsks b p k₁
-  closing-entry =
-      record {
-        placed = omega (arith, c.known, a.one.usable.stored.placed);
-        held = a.one.usable.stored.each k₁ c.known;
-      }
-
   module _ (l : h < i) (r : SortRecord) (e : EntryHas b p k₁ r) where
     pub closing-some : 0 < r.parts.count
     closing-some =

@@ -8,3 +8,4 @@ pub mod RowLaws
 pub mod GoingLaws
 pub mod Pages
 pub mod PageLaws
+pub mod Words

@@ -3,6 +3,7 @@ use Rattle.std.specs.Prelude.{ℕ, zero, suc, ◌+◌, ◌*◌, ◌-◌, ◌≤�
 use Rattle.std.proofs.Common.{sym, ap, ◌∙◌, arith, add-one, length-append, length-take, length-drop, drop_of_length-le, take-add, take-take, take_all, drop_at, length-take-le}
 use Rattle.std.proofs.lemmas.List.{length-replicate, replicate-append-replicate}
 use Rattle.std.proofs.Math.Seq.{length-slice}
+use native.Mathlib.Decide.{dec_lt}
 use Rattle.printout_sort.specs.Text.{ascii, decimal}
 use Rattle.printout_sort.specs.DecimalLaws.{ten, decimal-most}
 use Rattle.printout_sort.specs.Wrote.{Wrote, TextRoom, total, wrote_as, wrote_none, wrote-more}
@@ -70,6 +71,14 @@ piece-full from end high =
           ap (take 36) (drop-take l from end (omega arith) h) ∙ take-take 36 (end - from) (drop from l) (omega arith)
           ∙ ap (λ (n : ℕ). take n (drop from l)) q;
     }
+
+-- Either, by the bounds of where it ends.
+pub piece-ends : (from end r : ℕ) → from ≤ r → r ≤ end → r ≤ from + 36 → (r < end → r ≡ from + 36) → PieceEnd from end r
+piece-ends from end r low high short full = go (dec_lt r end)
+  where
+    go : Dec (r < end) → PieceEnd from end r
+    go (yes h) = let e = full h in rw e (piece-full from end (omega (arith, e)))
+    go (no h) = let e : r ≡ end = omega arith in rw e (piece-last from end (omega arith) (omega arith))
 
 -- Behind its end a text has none.
 pub piece-none : (l : List ℕ) (from end : ℕ) → end ≤ length l → end ≤ from → piece l from end ≡ []

@@ -4,6 +4,7 @@ use Rattle.std.specs.Prelude.{◌≡◌, length, get_or, take, drop, leb, ltb}
 use Rattle.std.proofs.Math.Path.{refl, ap₂}
 use Rattle.std.proofs.Common.{sym, ap, subst, ◌∙◌, arith, add-one, length-append, drop_of_length-le, get_or-take, drop-drop, length-take-le, ltb-true, ltb-false}
 use mathlib.Core.List.{List, [], ◌++◌, append-nil}
+use native.Mathlib.Decide.{dec_lt}
 use Rattle.record.specs.Sort.{Sort}
 use Rattle.record.specs.Cases.{by_test}
 use Rattle.record.specs.Decode.{store_of}
@@ -132,6 +133,22 @@ next_last from end h u l =
 
 pub next_more : (from end : ℕ) → NextPiece from end (from + 36)
 next_more from end l = sym (drop-drop 36 from (take end l))
+
+-- Any of them, by the bounds of where it starts.
+pub next_is : (from end r : ℕ) → (end ≤ from → r ≡ from) → (from < end → r ≤ end) → r ≤ from + 36 → (from < end → r < end → r ≡ from + 36) → NextPiece from end r
+next_is from end r none high short full = go (dec_lt from end) (dec_lt r end)
+  where
+    go : Dec (from < end) → Dec (r < end) → NextPiece from end r
+    go (no h) d = let e = none (omega arith) in rw e (next-none from end (omega arith))
+    go (yes h) (yes k) = let e = full h k in rw e (next_more from end)
+    go (yes h) (no k) =
+        let u = high h in
+        let e : r ≡ end = omega arith in
+        eq-or-lt-end (dec_lt (end - from) 36) e h
+      where
+        eq-or-lt-end : Dec (end - from < 36) → r ≡ end → from < end → NextPiece from end r
+        eq-or-lt-end (yes l) e h = rw e (next_last from end h l)
+        eq-or-lt-end (no l) e h = let q : r ≡ from + 36 = omega arith in rw q (next_more from end)
 
 -- A piece further, in a text of which k pieces are behind.
 pub pieces-on : (from end r : ℕ) (l : List ℕ) (k : ℕ) (a : List ℕ) → NextPiece from end r → drop from (take end l) ≡ drop (36 * k) a

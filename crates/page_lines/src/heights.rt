@@ -1,9 +1,11 @@
 // How high the rows are, by the sizes of their texts, and in which row a line of the pages stands.
-ghost use Rattle.std.specs.Prelude.{◌≡◌, ◌-◌, ◌/◌, length};
+ghost use Rattle.std.specs.Prelude.{◌≡◌, ◌-◌, ◌/◌, ◌<◌, length};
 ghost use Rattle.printout.specs.LineAsks.{RowKnown};
-ghost use Rattle.page_lines.specs.Heights.{length_by, height_by, HeightAsks, HeightsAsk, SpotIs};
+ghost use Rattle.page_lines.specs.Heights.{length_by};
+ghost use Rattle.page_lines.specs.Words.{height_of, HeightsAsked, SpotFound};
 
 use super::line::COLUMN;
+use super::paged::PagedRows;
 use printout::lines::row_of;
 use printout_sort::buffer::digits;
 
@@ -33,30 +35,33 @@ fn lines_below(bytes: usize) -> usize
     bytes.saturating_sub(1) / COLUMN
 }
 
-// How many lines a row has: those that the longer of its two texts needs.
-pub fn row_height(sizes: &[u32], inferred: u32, checked: u32) -> usize
-    requires { HeightAsks sizes.now inferred checked }
-    ensures { result ≡ height_by (length_by sizes.now inferred) (length_by sizes.now checked) }
+// How many lines the row of the term `t` has: those that the longer of its two texts needs.
+#[tactic(auto, unfolding(crate::specs::Heights::height_in))]
+pub fn row_height(page: &PagedRows<'_>, t: usize) -> usize
+    requires rows { HeightsAsked page.now }
+    requires row { t < page.now.terms }
+    ensures { result ≡ height_of page.now t }
 {
-    let first = row_length(sizes, inferred);
-    let second = row_length(sizes, checked);
-    let one = lines_below(first);
-    let two = lines_below(second);
-    one.max(two) + 1
+    let first = row_length(page.sizes, page.rows[2 * t]);
+    let second = row_length(page.sizes, page.rows[2 * t + 1]);
+    lines_below(first).max(lines_below(second)) + 1
 }
 
-// Where the line with the number `from` stands among the rows of so many terms.
-pub fn find_row(sizes: &[u32], rows: &[u32], terms: usize, from: usize) -> Spot
-    requires { HeightsAsk sizes.now rows.now terms }
-    ensures { SpotIs sizes.now rows.now terms from result }
+// Where the line with the number `from` stands among the rows.
+pub fn find_row(page: &PagedRows<'_>, from: usize) -> Spot
+    requires { HeightsAsked page.now }
+    ensures { SpotFound page.now from result }
 {
     let mut line = from;
-    for row in 0..terms {
-        let high = row_height(sizes, rows[2 * row], rows[2 * row + 1]);
+    for row in 0..page.terms {
+        let high = row_height(page, row);
         if line < high {
             return Spot { row, line };
         }
         line -= high;
     }
-    Spot { row: terms, line }
+    Spot {
+        row: page.terms,
+        line,
+    }
 }

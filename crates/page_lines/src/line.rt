@@ -1,7 +1,7 @@
 // A line of a page: the number column, two columns of text, and the newline. Each `put_..` function writes where there is room.
 ghost use Rattle.std.specs.Prelude.{◌++◌, ◌+◌, ◌*◌, ◌≤◌, ◌<◌, length};
 ghost use Rattle.printout_sort.specs.Text.{ascii};
-ghost use Rattle.printout_sort.specs.Buffer.{HasRoom, Puts, Same};
+ghost use Rattle.printout_sort.specs.Buffer.{Puts, Same};
 ghost use Rattle.printout.specs.Whole.{lines_from};
 ghost use Rattle.page.specs.Page.{blanks, filled, line_of};
 ghost use Rattle.page.specs.Numbered.{number_on, blank_line};
@@ -30,9 +30,9 @@ pub fn put_blanks(n: usize, out: &mut TextBuffer<'_>)
     ensures same { Same out.old out.new }
     ensures put { Puts out.old (blanks n) out.new }
 {
-    for _i in 0..n {
-        out.put_byte(BLANK);
-    }
+    let end = out.end + n;
+    out.bytes[out.end..end].fill(BLANK);
+    out.end = end;
 }
 
 // Writes the number column of the line `i` of the row `t`: its number right-justified on the first line, blanks below.
@@ -54,11 +54,7 @@ fn piece_end(from: usize, end: usize) -> usize
     requires { from ≤ end }
     ensures { PieceEnd from end result }
 {
-    if end - from < COLUMN {
-        end
-    } else {
-        from + COLUMN
-    }
+    from.saturating_add(COLUMN).min(end)
 }
 
 // Writes a column: the bytes of `src` from `from` on up to `end`, at most a column of them, and blanks that fill it.

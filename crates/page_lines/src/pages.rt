@@ -1,7 +1,7 @@
 // The pages of a judged sheet: the lines of its rows, then the lines of blanks that fill the last page, as many as fit a lent buffer.
 ghost use Rattle.std.specs.Prelude.{◌≡◌};
-ghost use Rattle.page_lines.specs.Rows.{PageAsks};
-ghost use Rattle.page_lines.specs.Pages.{padding_of, BlanksIs, PageHas};
+ghost use Rattle.page_lines.specs.Pages.{padding_of, BlanksIs};
+ghost use Rattle.page_lines.specs.Words.{PageAsked, PageShown};
 
 use super::heights::find_row;
 use super::line::{LINE, put_blank_lines};
@@ -35,11 +35,11 @@ pub fn show_pages(
     windows: &mut Windows<'_>,
     out: &mut [u8],
 ) -> Piece
-    requires { PageAsks page.now.entries.records.now page.now.entries.places.now page.now.sizes.now page.now.rows.now page.now.terms windows.old.stack.now windows.old.one.now windows.old.two.now }
-    ensures { PageHas page.now.entries.records.now page.now.entries.places.now page.now.rows.now page.now.terms from out.old out.new result }
+    requires { PageAsked page.now windows.old }
+    ensures { PageShown page.now from out.old out.new result }
 {
     let mut text = TextBuffer { bytes: out, end: 0 };
-    let start = find_row(page.sizes, page.rows, page.terms, from);
+    let start = find_row(page, from);
     let reached = put_rows(page, start, windows, &mut text);
     let next = from + text.end / LINE;
     if reached.row < page.terms {
@@ -48,11 +48,7 @@ pub fn show_pages(
             end: text.end,
         };
     }
-    let n = blanks_next(
-        next - reached.line,
-        reached.line,
-        text.bytes.len() - text.end,
-    );
+    let n = blanks_next(next - reached.line, reached.line, text.room());
     put_blank_lines(n, &mut text);
     Piece {
         next: next + n,

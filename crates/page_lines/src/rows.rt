@@ -1,11 +1,10 @@
 // The lines of rows: each row's two texts stand in windows while some of its lines are written, so that no buffer holds a whole text.
 ghost use Rattle.std.specs.Prelude.{◌≡◌, ◌≤◌, ◌<◌, ◌+◌, ◌*◌, length};
 ghost use Rattle.printout_sort.specs.Buffer.{Same, Puts};
-ghost use Rattle.printout.specs.LineAsks.{row_text_at};
 ghost use Rattle.printout.specs.Whole.{lines_from};
-ghost use Rattle.page.specs.Numbered.{row_line};
 ghost use Rattle.page_window.specs.Window.{WindowIs};
-ghost use Rattle.page_lines.specs.Rows.{RowWindowAsks, NextPiece, window_line, cut_text, RowLinesAsk, inferred_in, checked_in, StretchIs, GoneOn, RowsAsk, ReachedIs};
+ghost use Rattle.page_lines.specs.Rows.{NextPiece, window_line, cut_text, StretchIs, GoneOn};
+ghost use Rattle.page_lines.specs.Words.{row_text_in, row_line_in, RowWindowAsked, RowLinesAsked, RowsAsked, RowsPut};
 
 use super::heights::{Spot, row_height};
 use super::line::{COLUMN, Cut, LINE, put_line};
@@ -29,8 +28,8 @@ fn row_window(
     stack: &mut [u32],
     out: &mut [u8],
 ) -> Window
-    requires { RowWindowAsks page.now.entries.records.now page.now.entries.places.now page.now.sizes.now code want stack.old out.old }
-    ensures { WindowIs (row_text_at page.now.entries.records.now page.now.entries.places.now code) skip want out.new result }
+    requires { RowWindowAsked page.now code want stack.old out.old }
+    ensures { WindowIs (row_text_in page.now code) skip want out.new result }
 {
     match row_of(code) {
         Ok(k) => sort_window(page.entries, page.sizes, k, skip, want, stack, out),
@@ -49,13 +48,7 @@ fn row_window(
 fn next_piece(from: usize, end: usize) -> usize
     ensures { NextPiece from end result }
 {
-    if end <= from {
-        from
-    } else if end - from < COLUMN {
-        end
-    } else {
-        from + COLUMN
-    }
+    from.saturating_add(COLUMN).min(end).max(from)
 }
 
 // Writes `n` lines of the row `t`, from its line `i` on; their pieces are the next ones of two texts.
@@ -98,9 +91,9 @@ fn row_lines(
     windows: &mut Windows<'_>,
     out: &mut TextBuffer<'_>,
 )
-    requires { RowLinesAsk page.now.entries.records.now page.now.entries.places.now page.now.sizes.now page.now.rows.now t i n windows.old.stack.now windows.old.one.now windows.old.two.now out.old.bytes.now out.old.end }
+    requires { RowLinesAsked page.now t i n windows.old out.old }
     ensures same { Same out.old out.new }
-    ensures put { Puts out.old (lines_from (row_line t (inferred_in page.now.entries.records.now page.now.entries.places.now page.now.rows.now t) (checked_in page.now.entries.records.now page.now.entries.places.now page.now.rows.now t)) i n) out.new }
+    ensures put { Puts out.old (lines_from (row_line_in page.now t) i n) out.new }
 {
     let skip = COLUMN * i;
     let want = COLUMN * n;
@@ -151,14 +144,14 @@ pub fn put_rows(
     out: &mut TextBuffer<'_>,
 ) -> Spot
     requires empty { out.old.end ≡ 0 }
-    requires asks { RowsAsk page.now.entries.records.now page.now.entries.places.now page.now.sizes.now page.now.rows.now page.now.terms from windows.old.stack.now windows.old.one.now windows.old.two.now }
+    requires asks { RowsAsked page.now from windows.old }
     ensures same { Same out.old out.new }
-    ensures reached { ReachedIs page.now.entries.records.now page.now.entries.places.now page.now.sizes.now page.now.rows.now page.now.terms from out.old.bytes.now out.new.bytes.now (record { row = result.row; line = result.line; end = out.new.end }) }
+    ensures reached { RowsPut page.now from out.old out.new result }
 {
     let mut at = from;
     while at.row < page.terms {
-        let high = row_height(page.sizes, page.rows[2 * at.row], page.rows[2 * at.row + 1]);
-        let n = stretch(high - at.line, out.bytes.len() - out.end);
+        let high = row_height(page, at.row);
+        let n = stretch(high - at.line, out.room());
         if n == 0 {
             break;
         }

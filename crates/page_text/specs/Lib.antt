@@ -1,2 +1,3 @@
 pub mod PageText
 pub mod PageLeftLaws
+pub mod Words

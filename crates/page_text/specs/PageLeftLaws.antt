@@ -69,8 +69,8 @@ page-store s b p w g a k k' r kinds =
 pub raised-sort : (most code k : ℕ) → k ≡ code → code < 65536 → RaisedIs most code (ord_max nat_cmp most (k + 1))
 raised-sort most code k e h = record { known = λ u. search rules; low = search rules; least = λ n l f. search rules }
 
-pub raised-same : (most code : ℕ) → 65536 ≤ code → RaisedIs most code most
-raised-same most code h = record { known = λ u. absurd (omega arith); low = omega arith; least = λ n l k. l }
+pub raised-same : (most code : ℕ) → (code < 65536 → code < most) → RaisedIs most code most
+raised-same most code h = record { known = h; low = omega arith; least = λ n l k. l }
 
 pub known-none : (rows : List ℕ) → KnownIs rows 0 0
 known-none rows = record { each = λ i h. absurd (omega arith); least = λ n f. omega arith }

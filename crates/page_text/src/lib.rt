@@ -4,7 +4,8 @@
 
 ghost use Rattle.std.specs.Prelude.{◌*◌};
 ghost use Rattle.verdicts.specs.Judge.{Accepted};
-ghost use Rattle.page_text.specs.PageText.{PageTextIs, PagesAsk, KnownAsk, KnownIs, PageSizesAsk, PageSizesAre};
+ghost use Rattle.page_text.specs.PageText.{PageTextIs, KnownAsk, KnownIs};
+ghost use Rattle.page_text.specs.Words.{PagesAsked, PageSizesAsked, PageSized};
 
 use page_lines::paged::{PagedRows, Windows};
 use page_lines::pages::show_pages;
@@ -14,8 +15,8 @@ use printout::kinds::question_kinds;
 use printout::lines::row_of;
 use printout::whole::Piece;
 use printout_text::judged::JudgedSheet;
-use printout_text::{ROWS, refused_line};
-use record::limits::{LONGEST_SHEET, MOST_QUESTIONS, MOST_SORTS};
+use printout_text::refused_line;
+use record::limits::{LONGEST_SHEET, MOST_QUESTIONS, MOST_SORTS, ROWS};
 use verdicts::judge;
 
 // One more than the greatest number of a sort that the rows of so many terms name; 0 where they name none.
@@ -24,8 +25,8 @@ fn known_sorts(rows: &[u32], terms: usize) -> usize
     ensures { KnownIs rows.now (2 * terms) result }
 {
     let mut most = 0;
-    for i in 0..2 * terms {
-        if let Ok(k) = row_of(rows[i]) {
+    for code in &rows[..2 * terms] {
+        if let Ok(k) = row_of(*code) {
             most = most.max(k + 1);
         }
     }
@@ -34,8 +35,8 @@ fn known_sorts(rows: &[u32], terms: usize) -> usize
 
 // How many terms an accepted sheet has that was judged; the sizes of the texts of the sorts that their rows name are written into `sizes`.
 pub fn page_sizes(sheet: &JudgedSheet<'_>, sizes: &mut [u32]) -> usize
-    requires { PageSizesAsk sheet.now.bytes.now sheet.now.entries.records.now sheet.now.entries.places.now sheet.now.rows.now sheet.now.answers.now sizes.old }
-    ensures { PageSizesAre sheet.now.bytes.now sheet.now.entries.records.now sheet.now.entries.places.now sheet.now.rows.now sizes.new result }
+    requires { PageSizesAsked sheet.now sizes.old }
+    ensures { PageSized sheet.now sizes.new result }
 {
     let mut kinds = [0u8; MOST_QUESTIONS];
     let terms = question_kinds(sheet.bytes, &mut kinds).terms;
@@ -47,7 +48,7 @@ pub fn page_sizes(sheet: &JudgedSheet<'_>, sizes: &mut [u32]) -> usize
 // Writes the lines of the pages from the number `from` on of a sheet that was accepted and judged, as many as fit; where they have no such
 // line nothing is written, and the next line is `from`.
 fn accepted_pages(sheet: &JudgedSheet<'_>, from: usize, out: &mut [u8]) -> Piece
-    requires { PagesAsk sheet.now.bytes.now sheet.now.entries.records.now sheet.now.entries.places.now sheet.now.rows.now sheet.now.answers.now Accepted }
+    requires { PagesAsked sheet.now Accepted }
     ensures { PageTextIs sheet.now.bytes.now from out.old out.new result }
 {
     let mut sizes = [0u32; MOST_SORTS];

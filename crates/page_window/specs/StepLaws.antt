@@ -150,18 +150,24 @@ enter-is {b} {p} {k} {st} {o} {w} {o₁} {e} {o₂} {v} {r} a x i s =
     regroup x h t c y = simp append_assoc
 
 -- ONE STEP from a walk whose top frame v is the frame `top`.
-module _ {b p z st o : List ℕ} {w : Walk} (a : StepAsks b p z st o w) (top : ℕ) (is : w.depth ≡ suc top) where
+module _ {b p z st o : List ℕ} {w : Walk} (a : StepAsks b p z st o w) where
+  abbrev top : ℕ
+  top = w.depth - 1
+
+  is : w.depth ≡ suc top
+  is = omega (arith, a.some)
+
   abbrev v : ℕ
   v = get_or st top 0
 
   pub top-deep : top < length st
-  top-deep = omega (arith, weight-deep b p st w.depth, a.light, a.deep)
+  top-deep = omega (arith, is, weight-deep b p st w.depth, a.light, a.deep)
 
   pub top-asks : FrameAsks b p z v
-  top-asks = a.valid top (omega arith)
+  top-asks = a.valid top (omega (arith, is))
 
   below-valid : Valid b p z st top
-  below-valid i l = a.valid i (omega arith)
+  below-valid i l = a.valid i (omega (arith, is))
 
   now-rest : rest b p st w.depth ≡ texts (parts_in b p v) ++ (close_text (form_in v) ++ rest b p st top)
   unfolding rest
@@ -195,32 +201,43 @@ module _ {b p z st o : List ℕ} {w : Walk} (a : StepAsks b p z st o w) (top : �
         near = settled-near s (near-more w e a.near (omega (arith, x.next, close-short (form_in v))));
       }
 
-  -- else its next part k
-  module _ (some : left_of v ≡ 0 → ⊥) {k : ℕ} (part : k ≡ u16_at b (place_of v)) where
-    abbrev on : List ℕ
-    on = set st top (v + next_part)
+  -- else some parts are left, from the place q on
+  module _ {l q : ℕ} (left : l ≡ left_of v) (any : l ≡ 0 → ⊥) (place : q ≡ place_of v) where
+    some : left_of v ≡ 0 → ⊥
+    some e = any (left ∙ e)
 
-    pub part-within : place_of v + 2 ≤ length b
+    pub part-within : q + 2 ≤ length b
     part-within =
         let h = after (left_of v) 0 some (omega arith) in
-        omega (arith, top-asks.asks.within)
+        omega (arith, top-asks.asks.within, place)
 
     pub next_fits : v + next_part < 4294967296
     unfolding place_of
-    next_fits = omega (arith, part-within, a.short)
+    next_fits = omega (arith, part-within, place, a.short)
+
+  -- of which the next is k
+  module _ {l q k : ℕ} (left : l ≡ left_of v) (any : l ≡ 0 → ⊥) (place : q ≡ place_of v) (number : k ≡ u16_at b q) where
+    abbrev on : List ℕ
+    on = set st top (v + next_part)
+
+    here : left_of v ≡ 0 → ⊥
+    here = some left any place
+
+    part : k ≡ u16_at b (place_of v)
+    part = number ∙ ap (u16_at b) place
 
     pub part-asks : TextAsks b p k
-    part-asks = rw part (first-asks top-asks.asks some)
+    part-asks = rw part (first-asks top-asks.asks here)
 
     pub part-known : SizesAre b p (suc k) z
     part-known =
         let e : place_of v + 2 * 0 ≡ place_of v = omega arith in
-        let h = after (left_of v) 0 some (omega arith) in
+        let h = after (left_of v) 0 here (omega arith) in
         rw part (subst (λ (i : ℕ). SizesAre b p (suc (u16_at b i)) z) e (top-asks.known 0 h))
 
     on-valid : Valid b p z on w.depth
     on-valid =
-        subst (Valid b p z on) (sym is) (valid-top b p st top (v + next_part) top-deep below-valid (next-asks v some top-asks))
+        subst (Valid b p z on) (sym is) (valid-top b p st top (v + next_part) top-deep below-valid (next-asks v here top-asks))
 
     on-rest : rest b p st w.depth ≡ ascii " " ++ (text (tree_at b p k) ++ rest b p on w.depth)
     on-rest =
@@ -228,8 +245,8 @@ module _ {b p z st o : List ℕ} {w : Walk} (a : StepAsks b p z st o w) (top : �
         let cl = close_text (form_in v) in
         let more = texts (parts_in b p (v + next_part)) in
         let e : rest b p on w.depth ≡ more ++ (cl ++ below) =
-        ap (rest b p on) is ∙ rest-top b p st top (v + next_part) top-deep ∙ ap (λ (f : ℕ). more ++ (close_text f ++ below)) (next-form v some) in
-        now-rest ∙ ap (λ (t : List ℕ). t ++ (cl ++ below)) (next-texts v some b p)
+        ap (rest b p on) is ∙ rest-top b p st top (v + next_part) top-deep ∙ ap (λ (f : ℕ). more ++ (close_text f ++ below)) (next-form v here) in
+        now-rest ∙ ap (λ (t : List ℕ). t ++ (cl ++ below)) (next-texts v here b p)
         ∙ regroup (ascii " ") (text (tree_at b p (u16_at b (place_of v)))) more (cl ++ below)
         ∙ ap₂ (λ (i : ℕ) (t : List ℕ). ascii " " ++ (text (tree_at b p i) ++ t)) (sym part) (sym e)
       where
@@ -240,7 +257,7 @@ module _ {b p z st o : List ℕ} {w : Walk} (a : StepAsks b p z st o w) (top : �
     on-weight =
         let e : weight b p on w.depth ≡ 1 + sizes (parts_in b p (v + next_part)) + weight b p st top =
         ap (weight b p on) is ∙ weight-top b p st top (v + next_part) top-deep in
-        omega (arith, e, now-weight, next-sizes v some b p, ap (λ (i : ℕ). size (tree_at b p i)) part)
+        omega (arith, e, now-weight, next-sizes v here b p, ap (λ (i : ℕ). size (tree_at b p i)) part)
 
     -- passed over
     pub skip_is : (n : ℕ) → n ≡ length (text (tree_at b p k)) → w.end ≡ 0 → n < w.lead

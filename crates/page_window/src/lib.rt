@@ -12,7 +12,7 @@ ghost use Rattle.printout_sort.specs.Trees.{tree_at};
 
 use sizes::sort_size;
 use store::entries::Entries;
-use walk::{going, start, step};
+use walk::start;
 
 // Where a window stands in its buffer: from `lead` on up to `end`; nothing of it where `lead` is no less than `end`.
 #[derive(Clone, Copy, Debug, PartialEq, Eq)]
@@ -47,8 +47,8 @@ pub fn sort_window(
     ensures { WindowIs (text (tree_at entries.entry.records.now entries.entry.places.now k)) skip want out.new result }
 {
     let mut walk = start(entries, k, skip, stack, out);
-    while going(walk, want) {
-        walk = step(entries, sizes, walk, stack, out);
+    while walk.is_going(want) {
+        walk = walk.step(entries, sizes, stack, out);
     }
     Window {
         lead: walk.lead,

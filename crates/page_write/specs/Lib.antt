@@ -1,2 +1,3 @@
 pub mod Paging
 pub mod PagingLaws
+pub mod Words

@@ -1,13 +1,13 @@
 // The pages of a judged sheet printed to an output: their lines are gathered in a buffer of its own, and written piece by piece.
 #![tactic(auto)]
 
-ghost use Rattle.std.specs.Prelude.{◌≤◌, length};
 ghost use Rattle.judge_rules.specs.Judged.{judged};
 ghost use Rattle.verdicts.specs.Judge.{Accepted};
 ghost use Rattle.printout.specs.Printed.{program_lengths};
-ghost use Rattle.page_text.specs.PageText.{PagesAsk};
-ghost use Rattle.written.specs.Written.{on_pages, PagedIs};
-ghost use Rattle.page_write.specs.Paging.{PiecesAsk, PageLinesAsk};
+ghost use Rattle.page.specs.Page.{paged};
+ghost use Rattle.page_text.specs.Words.{PagesAsked};
+ghost use Rattle.written.specs.Written.{on_pages, PagedIs, TextAdded};
+ghost use Rattle.page_write.specs.Words.{PiecesAsked, PageLinesAsked};
 
 use page_lines::line::LINE;
 use page_lines::paged::{PagedRows, Windows};
@@ -40,7 +40,7 @@ impl Lines for PageLines<'_, '_> {
 
     ghost next = { λ l. l.next };
 
-    ghost can_show = { λ l. PageLinesAsk l.bytes.now l.page.entries.records.now l.page.entries.places.now l.page.sizes.now l.page.rows.now l.page.terms l.windows.stack.now l.windows.one.now l.windows.two.now };
+    ghost can_show = { λ l. PageLinesAsked l.bytes.now l.page l.windows };
 
     fn show(&mut self, out: &mut [u8]) -> Piece {
         let piece = show_pages(&self.page, self.next, &mut self.windows, out);
@@ -49,8 +49,9 @@ impl Lines for PageLines<'_, '_> {
     }
 }
 
-// Writes the pages of an accepted sheet by way of a buffer that holds a line at least. All lines are written; or a write failed, nothing
-// was handed over after it, and the lines before it are written. Only the contracts read the sheet's bytes.
+// Writes the pages of an accepted sheet by way of a buffer that holds a line at least. All lines are written, and their bytes stand
+// behind what the output held; or a write failed, nothing was handed over after it, and the lines before it are written. Only the
+// contracts read the sheet's bytes.
 fn print_pieces<'a, 'w, W: Write>(
     output: &mut W,
     bytes: &'a [u8],
@@ -60,8 +61,9 @@ fn print_pieces<'a, 'w, W: Write>(
     two: &'w mut [u8],
     out: &mut [u8],
 ) -> Written
-    requires { PiecesAsk bytes.now page.entries.records.now page.entries.places.now page.sizes.now page.rows.now page.terms stack.old one.old two.old out.old }
-    ensures { PagedIs (judged bytes.now program_lengths) result }
+    requires { PiecesAsked bytes.now page stack.old one.old two.old out.old }
+    ensures lines { PagedIs (judged bytes.now program_lengths) result }
+    ensures bytes { TextAdded (W.contents output.old) (W.contents output.new) (paged (judged bytes.now program_lengths)) result }
 {
     let windows = Windows { stack, one, two };
     let mut lines = PageLines {
@@ -73,11 +75,12 @@ fn print_pieces<'a, 'w, W: Write>(
     write_lines(output, &mut lines, out)
 }
 
-// Writes the pages of an accepted sheet by way of buffers of its own. All lines are written; or a write failed, nothing was handed over
-// after it, and the lines before it are written.
+// Writes the pages of an accepted sheet by way of buffers of its own. All lines are written, and their bytes stand behind what the output
+// held; or a write failed, nothing was handed over after it, and the lines before it are written.
 fn print_accepted<W: Write>(output: &mut W, sheet: &JudgedSheet<'_>) -> Written
-    requires { PagesAsk sheet.now.bytes.now sheet.now.entries.records.now sheet.now.entries.places.now sheet.now.rows.now sheet.now.answers.now Accepted }
-    ensures { PagedIs (judged sheet.now.bytes.now program_lengths) result }
+    requires { PagesAsked sheet.now Accepted }
+    ensures lines { PagedIs (judged sheet.now.bytes.now program_lengths) result }
+    ensures bytes { TextAdded (W.contents output.old) (W.contents output.new) (paged (judged sheet.now.bytes.now program_lengths)) result }
 {
     let mut sizes = [0u32; MOST_SORTS];
     let mut stack = [0u32; MOST_SORTS];
@@ -104,16 +107,18 @@ pub struct Pages;
 impl Printer for Pages {
     ghost layout = { on_pages };
 
-    // Writes the pages of a sheet that was judged with this outcome. All their lines are written, the one of a refused sheet too; or a
-    // write failed, nothing was handed over after it, and the lines before it are written.
+    // Writes the pages of a sheet that was judged with this outcome. All their lines are written, the one of a refused sheet too, and
+    // their bytes stand behind what the output held; or a write failed, nothing was handed over after it, and the lines before it are
+    // written.
     fn print_judged<W: Write>(
         &self,
         output: &mut W,
         sheet: &JudgedSheet<'_>,
         outcome: Result<(), Refusal>,
     ) -> Written
-        requires { PagesAsk sheet.now.bytes.now sheet.now.entries.records.now sheet.now.entries.places.now sheet.now.rows.now sheet.now.answers.now outcome }
-        ensures { PagedIs (judged sheet.now.bytes.now program_lengths) result }
+        requires { PagesAsked sheet.now outcome }
+        ensures lines { PagedIs (judged sheet.now.bytes.now program_lengths) result }
+        ensures bytes { TextAdded (W.contents output.old) (W.contents output.new) (paged (judged sheet.now.bytes.now program_lengths)) result }
     {
         match outcome {
             Ok(()) => print_accepted(output, sheet),

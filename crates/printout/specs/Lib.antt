@@ -11,3 +11,4 @@ pub mod Kinds
 pub mod KindLaws
 pub mod Sheets
 pub mod LineExamples
+pub mod Words

@@ -1,5 +1,5 @@
 -- What writing rows, answers and lines asks and gives.
-use Rattle.std.specs.Prelude.{ℕ, suc, ◌+◌, ◌≤◌, ◌<◌, ◌≡◌, List, ◌∷◌, ◌++◌, length, Result, Ok, Err}
+use Rattle.std.specs.Prelude.{ℕ, suc, ◌+◌, ◌≤◌, ◌<◌, ◌≡◌, cond, List, ◌∷◌, ◌++◌, length, eqb, Result, Ok, Err}
 use Rattle.record.specs.Decode.{store_of}
 use Rattle.printout_sort.specs.Text.{ascii, decimal}
 use Rattle.printout_sort.specs.Wrote.{Wrote}
@@ -32,6 +32,10 @@ answer_text_at b p kind code = answer_text (store_of b p (suc code)) kind code
 -- A row that names a sort of the store, or none.
 abbrev pub RowAsks : List ℕ → List ℕ → ℕ → Type 0
 RowAsks b p code = code < 65536 → TextAsks b p code
+
+-- The answer to a question whether two sorts are compatible.
+abbrev pub no_or_yes : ℕ → List ℕ
+no_or_yes code = cond (eqb code 0) (ascii "no") (ascii "yes")
 
 -- An answer to a question of a kind that is not answered by yes or no is such a row.
 abbrev pub AnswerAsks : List ℕ → List ℕ → ℕ → ℕ → Type 0

@@ -1,5 +1,5 @@
 -- Rows, answers and lines: what each is by its code, over any store that has the sort, and how long it is.
-use Rattle.std.specs.Prelude.{ℕ, suc, ◌+◌, ◌-◌, ◌/◌, ◌≤◌, ◌<◌, ◌≡◌, refl, Bool, true, false, List, [], ◌∷◌, ◌++◌, length, eqb, ltb}
+use Rattle.std.specs.Prelude.{ℕ, suc, ◌+◌, ◌-◌, ◌/◌, ◌≤◌, ◌<◌, ◌≡◌, refl, Bool, true, false, cond, List, [], ◌∷◌, ◌++◌, length, eqb, ltb}
 use Rattle.std.proofs.Common.{sym, ap, ap₂, ◌∙◌, append_assoc, arith, length-append, lt-ltb, le-ltb, eq-eqb, ne_eqb, ltb-true, ltb-false, eqb-true}
 use Rattle.std.proofs.lemmas.Bool.{eqb-false}
 use Rattle.record.specs.Sort.{Sort}
@@ -9,7 +9,7 @@ use Rattle.printout_sort.specs.Wrote.{Wrote, wrote_as, total, TextRoom}
 use Rattle.printout_sort.specs.Trees.{tree_at}
 use Rattle.printout_sort.specs.TreeLaws.{tree-at}
 use Rattle.printout.specs.Lines.{refusal_text, refusal_line, row_text, answer_text, term_line, question_line}
-use Rattle.printout.specs.LineAsks.{To, Full, row_text_at, answer_text_at, RowKnown, TermLineAsks, TermHas, QuestionLineAsks, QuestionHas, label_text, term_line_at, question_line_at}
+use Rattle.printout.specs.LineAsks.{To, Full, row_text_at, answer_text_at, no_or_yes, RowKnown, TermLineAsks, TermHas, QuestionLineAsks, QuestionHas, label_text, term_line_at, question_line_at}
 
 pub refusal-length : (n : ℕ) → length (refusal_text n) ≡ 1 + length (decimal n)
 unfolding refusal_text
@@ -50,6 +50,18 @@ answer-no b p kind code e q = rw (eq-eqb kind 0 e, eq-eqb code 0 q)
 pub answer-yes : (b p : List ℕ) (kind code : ℕ) → kind ≡ 0 → (code ≡ 0 → ⊥) → answer_text_at b p kind code ≡ ascii "yes"
 unfolding answer_text
 answer-yes b p kind code e q = rw (eq-eqb kind 0 e, ne_eqb code 0 q)
+
+-- Either of them, as it is written; it has at most three bytes.
+pub answer-plain : (b p : List ℕ) (kind code : ℕ) → kind ≡ 0 → answer_text_at b p kind code ≡ no_or_yes code
+unfolding answer_text
+answer-plain b p kind code e = rw (eq-eqb kind 0 e)
+
+pub plain-short : (code : ℕ) → length (no_or_yes code) ≤ 3
+plain-short code = go (eqb code 0)
+  where
+    go : (t : Bool) → length (cond t (ascii "no") (ascii "yes")) ≤ 3
+    go true = omega arith
+    go false = omega arith
 
 row_by : (st : List Sort) (kind code : ℕ) → (kind ≡ 0 → ⊥) → answer_text st kind code ≡ row_text st code
 unfolding answer_text
@@ -98,12 +110,12 @@ term-length b p t i c =
     )
 
 -- It does not fit, or there is room for its pieces.
-module _ {b p o : List ℕ} {t i c to : ℕ} (a : TermLineAsks b p t i c o to) {d x y : ℕ} (ed : d ≡ length (decimal t)) (ex : x ≡ length (row_text_at b p i))
-    (ey : y ≡ length (row_text_at b p c)) where
-  pub term-full : length o - to < 4 + d + x + y → TermHas b p t i c o to o Full
+module _ {b p o : List ℕ} {t i c to : ℕ} (a : TermLineAsks b p t i c o to) {d x y r : ℕ} (ed : d ≡ length (decimal t)) (ex : x ≡ length (row_text_at b p i))
+    (ey : y ≡ length (row_text_at b p c)) (er : r ≡ length o - to) where
+  pub term-full : r < 4 + d + x + y → TermHas b p t i c o to o Full
   term-full h n ki kc = (refl, omega (arith, term-length b p t i c, ap length (term-at b p n t i c ki kc)))
 
-  pub term-room : 4 + d + x + y ≤ length o - to → TextRoom o to (label_text 84 t ∷ row_text_at b p i ∷ ascii " " ∷ row_text_at b p c ∷ ascii "\n" ∷ [])
+  pub term-room : 4 + d + x + y ≤ r → TextRoom o to (label_text 84 t ∷ row_text_at b p i ∷ ascii " " ∷ row_text_at b p c ∷ ascii "\n" ∷ [])
   unfolding total
   term-room h = record { fits = omega (arith, label-length 84 t, a.within) }
 
@@ -129,12 +141,12 @@ question-length b p q kind code =
       length-append (answer_text_at b p kind code) (ascii "\n"),
     )
 
-module _ {b p o : List ℕ} {q kind code to : ℕ} (a : QuestionLineAsks b p q kind code o to) {d x : ℕ} (ed : d ≡ length (decimal q))
-    (ex : x ≡ length (answer_text_at b p kind code)) where
-  pub question-full : length o - to < 3 + d + x → QuestionHas b p q kind code o to o Full
+module _ {b p o : List ℕ} {q kind code to : ℕ} (a : QuestionLineAsks b p q kind code o to) {d x r : ℕ} (ed : d ≡ length (decimal q))
+    (ex : x ≡ length (answer_text_at b p kind code)) (er : r ≡ length o - to) where
+  pub question-full : r < 3 + d + x → QuestionHas b p q kind code o to o Full
   question-full h n k = (refl, omega (arith, question-length b p q kind code, ap length (question-at b p n q kind code k)))
 
-  pub question-room : 3 + d + x ≤ length o - to → TextRoom o to (label_text 81 q ∷ answer_text_at b p kind code ∷ ascii "\n" ∷ [])
+  pub question-room : 3 + d + x ≤ r → TextRoom o to (label_text 81 q ∷ answer_text_at b p kind code ∷ ascii "\n" ∷ [])
   unfolding total
   question-room h = record { fits = omega (arith, label-length 81 q, a.within) }
 

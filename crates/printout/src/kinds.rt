@@ -1,9 +1,9 @@
-// The kinds of a sheet's questions: the answers to kind 0 are printed as yes and no.
+// The kinds of a sheet's questions: the answers to the kind Compatible are printed as yes and no.
 ghost use Rattle.std.specs.Prelude.{◌≤◌, length};
 ghost use Rattle.printout.specs.Kinds.{PutKindsAsk, KindsPut, KindsAre};
 
 use record::limits::{
-    LONGEST_RECORD, LONGEST_SHEET, MOST_QUESTIONS, MOST_SORT_RECORDS, MOST_SORTS, MOST_TERMS,
+    LONGEST_RECORD, LONGEST_SHEET, MOST_QUESTIONS, MOST_SORT_RECORDS, MOST_SORTS, MOST_TERMS, ROWS,
 };
 use sheet::read_sheet;
 use store::slots::INDEX_LENGTH;
@@ -20,8 +20,8 @@ fn put_kinds(sheet: &[u8], asked: &[u16], many: usize, kinds: &mut [u8])
     requires { PutKindsAsk sheet.now asked.now many kinds.old }
     ensures { KindsPut sheet.now asked.now many kinds.old kinds.new }
 {
-    for q in 0..many {
-        kinds[q] = sheet[asked[q] as usize + 1];
+    for (q, at) in asked[..many].iter().enumerate() {
+        kinds[q] = sheet[*at as usize + 1];
     }
 }
 
@@ -43,7 +43,7 @@ pub fn question_kinds(sheet: &[u8], kinds: &mut [u8]) -> Totals
         sheet,
         &mut records,
         &mut places,
-        2 * MOST_TERMS,
+        ROWS,
         MOST_QUESTIONS,
         &mut index,
         &mut table,

@@ -1,18 +1,16 @@
 // The rows and answers as text, and the lines `Tk inferred checked`, `Qk answer` and `!n`.
-ghost use Rattle.std.specs.Prelude.{◌≡◌, ◌+◌, ◌/◌, ◌≤◌, ◌<◌, length, IfOk, IfErr, OnErr};
+ghost use Rattle.std.specs.Prelude.{◌≡◌, ◌/◌, ◌≤◌, ◌<◌, length, IfOk, IfErr, OnErr};
 ghost use Rattle.printout_sort.specs.Buffer.{HasRoom, Puts, Same};
 ghost use Rattle.printout_sort.specs.Trees.{sort_room};
 ghost use Rattle.printout.specs.Lines.{refusal_text, refusal_line};
-ghost use Rattle.printout.specs.LineAsks.{ShownIs, shown, row_text_at, answer_text_at, RowAsks, AnswerAsks, TermHas, QuestionHas, TermLineAsks, QuestionLineAsks, label_text};
+ghost use Rattle.printout.specs.LineAsks.{ShownIs, shown, row_text_at, answer_text_at, RowAsks, AnswerAsks, TermHas, QuestionHas, TermLineAsks, QuestionLineAsks, label_text, no_or_yes};
 
 use super::NoRoom;
 use printout_sort::buffer::{TextBuffer, digits};
 use printout_sort::text::{put_sort, text_size};
 use record::kinds::QuestionKind;
+use record::limits::REFUSED;
 use store::entries::Entries;
-
-// A row is refused from this number on: it is the refusal's number times this one.
-const REFUSED: usize = 65536;
 
 // The number of the sort that a row names, or the number of its refusal.
 pub fn row_of(code: u32) -> Result<usize, usize>
@@ -57,15 +55,23 @@ fn put_row(entries: Entries<'_>, code: u32, out: &mut TextBuffer<'_>)
     }
 }
 
+// The text of an answer whether two sorts are compatible: no for 0, else yes.
+fn no_or_yes(code: u32) -> &'static [u8]
+    ensures { result.now ≡ no_or_yes code }
+{
+    if code == 0 { b"no" } else { b"yes" }
+}
+
 // The length of the text of an answer to a question of this kind.
 fn answer_text_size(entries: Entries<'_>, kind: u8, code: u32) -> usize
     requires { AnswerAsks entries.records.now entries.places.now kind code }
     ensures { (result ≡ length (answer_text_at entries.entry.records.now entries.entry.places.now kind code)) × (result ≤ sort_room) }
 {
-    if kind != QuestionKind::Compatible as u8 {
-        return row_size(entries, code);
+    if kind == QuestionKind::Compatible as u8 {
+        no_or_yes(code).len()
+    } else {
+        row_size(entries, code)
     }
-    if code == 0 { 2 } else { 3 }
 }
 
 // Writes the text of an answer to a question of this kind: no or yes whether two sorts are compatible, else as a row.
@@ -75,12 +81,10 @@ fn put_answer(entries: Entries<'_>, kind: u8, code: u32, out: &mut TextBuffer<'_
     ensures same { Same out.old out.new }
     ensures put { Puts out.old (answer_text_at entries.entry.records.now entries.entry.places.now kind code) out.new }
 {
-    if kind != QuestionKind::Compatible as u8 {
-        put_row(entries, code, out);
-    } else if code == 0 {
-        out.put(b"no");
+    if kind == QuestionKind::Compatible as u8 {
+        out.put(no_or_yes(code));
     } else {
-        out.put(b"yes");
+        put_row(entries, code, out);
     }
 }
 
@@ -110,7 +114,7 @@ pub fn term_line(
 {
     let one = row_size(entries, inferred);
     let two = row_size(entries, checked);
-    if out.bytes.len() - out.end < 4 + digits(t) + one + two {
+    if out.room() < 4 + digits(t) + one + two {
         return Err(NoRoom);
     }
     put_label(b'T', t, out);
@@ -135,7 +139,7 @@ pub fn question_line(
     ensures line { QuestionHas entries.entry.records.now entries.entry.places.now q kind code out.old.bytes.now out.old.end out.new.bytes.now (shown out.new.end result) }
 {
     let size = answer_text_size(entries, kind, code);
-    if out.bytes.len() - out.end < 3 + digits(q) + size {
+    if out.room() < 3 + digits(q) + size {
         return Err(NoRoom);
     }
     put_label(b'Q', q, out);
@@ -151,7 +155,7 @@ pub fn refusal_line(number: usize, out: &mut TextBuffer<'_>) -> Result<(), NoRoo
     ensures end { OnErr result (out.new.end ≡ out.old.end) }
     ensures line { ShownIs out.old.bytes.now out.old.end (refusal_line number) out.new.bytes.now (shown out.new.end result) }
 {
-    if out.bytes.len() - out.end < 2 + digits(number) {
+    if out.room() < 2 + digits(number) {
         return Err(NoRoom);
     }
     put_refusal(number, out);

@@ -1,8 +1,7 @@
 // The printout of a whole judged sheet, in pieces of whole lines that fit a lent buffer.
 ghost use Rattle.std.specs.Prelude.{◌≡◌, OnErr};
 ghost use Rattle.printout_sort.specs.Buffer.{Same};
-ghost use Rattle.printout.specs.LineAsks.{shown};
-ghost use Rattle.printout.specs.Whole.{LineAsks, LineHas, PieceAsks, PieceHas};
+ghost use Rattle.printout.specs.Words.{LineAsked, LineShown, PieceAsked, PieceShown};
 
 use super::NoRoom;
 use super::kinds::Totals;
@@ -30,10 +29,10 @@ pub struct Piece {
 // Writes the line with the number k, the terms' lines first, then the questions'; or NoRoom, where it does not fit, and the buffer is as it
 // was.
 fn line(sheet: &Printable<'_>, k: usize, out: &mut TextBuffer<'_>) -> Result<(), NoRoom>
-    requires { LineAsks sheet.now.entries.records.now sheet.now.entries.places.now sheet.now.rows.now sheet.now.kinds.now sheet.now.answers.now sheet.now.totals.terms sheet.now.totals.questions k out.old.bytes.now out.old.end }
+    requires { LineAsked sheet.now k out.old }
     ensures same { Same out.old out.new }
     ensures end { OnErr result (out.new.end ≡ out.old.end) }
-    ensures line { LineHas sheet.now.entries.records.now sheet.now.entries.places.now sheet.now.rows.now sheet.now.kinds.now sheet.now.answers.now sheet.now.totals.terms sheet.now.totals.questions k out.old.bytes.now out.old.end out.new.bytes.now (shown out.new.end result) }
+    ensures line { LineShown sheet.now k out.old out.new result }
 {
     let terms = sheet.totals.terms;
     if k < terms {
@@ -48,9 +47,9 @@ fn line(sheet: &Printable<'_>, k: usize, out: &mut TextBuffer<'_>) -> Result<(),
 // Writes the lines from the number `from` on into an empty buffer, as many as fit; the number of the next line.
 fn put_lines(sheet: &Printable<'_>, from: usize, out: &mut TextBuffer<'_>) -> usize
     requires empty { out.old.end ≡ 0 }
-    requires asks { PieceAsks sheet.now.entries.records.now sheet.now.entries.places.now sheet.now.rows.now sheet.now.kinds.now sheet.now.answers.now sheet.now.totals.terms sheet.now.totals.questions from }
+    requires asks { PieceAsked sheet.now from }
     ensures same { Same out.old out.new }
-    ensures lines { PieceHas sheet.now.entries.records.now sheet.now.entries.places.now sheet.now.rows.now sheet.now.kinds.now sheet.now.answers.now sheet.now.totals.terms sheet.now.totals.questions from out.old.bytes.now out.new.bytes.now (record { next = result; end = out.new.end }) }
+    ensures lines { PieceShown sheet.now from out.old.bytes.now out.new.bytes.now (record { next = result; end = out.new.end }) }
 {
     let total = sheet.totals.terms + sheet.totals.questions;
     for k in from..total {
@@ -64,8 +63,8 @@ fn put_lines(sheet: &Printable<'_>, from: usize, out: &mut TextBuffer<'_>) -> us
 // Writes the lines from the number `from` on, as many as fit the buffer, from its start on; the number of the next line, and the
 // place behind what was written.
 pub fn show_lines(sheet: &Printable<'_>, from: usize, out: &mut [u8]) -> Piece
-    requires { PieceAsks sheet.now.entries.records.now sheet.now.entries.places.now sheet.now.rows.now sheet.now.kinds.now sheet.now.answers.now sheet.now.totals.terms sheet.now.totals.questions from }
-    ensures { PieceHas sheet.now.entries.records.now sheet.now.entries.places.now sheet.now.rows.now sheet.now.kinds.now sheet.now.answers.now sheet.now.totals.terms sheet.now.totals.questions from out.old out.new result }
+    requires { PieceAsked sheet.now from }
+    ensures { PieceShown sheet.now from out.old out.new result }
 {
     let mut text = TextBuffer { bytes: out, end: 0 };
     let next = put_lines(sheet, from, &mut text);

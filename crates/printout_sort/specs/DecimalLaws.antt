@@ -1,7 +1,10 @@
 -- What `decimal` is without its fuel, for every number: the last digit, behind the decimal of what stands before it; and how
 -- many digits a number has: one more than are left of it after a division by ten.
-use Rattle.std.specs.Prelude.{ℕ, zero, suc, ◌+◌, ◌*◌, ◌-◌, ◌/◌, ◌%◌, ◌≤◌, ◌<◌, ◌≡◌, refl, List, [], ◌∷◌, ◌++◌, length}
-use Rattle.std.proofs.Common.{arith, ap, ◌∙◌, length-append}
+use Rattle.std.specs.Prelude.{ℕ, zero, suc, ◌+◌, ◌*◌, ◌-◌, ◌/◌, ◌%◌, ◌^◌, ◌≤◌, ◌<◌, ◌≡◌, refl, List, [], ◌∷◌, ◌++◌, length, drop, set, Option, None, Some, IfNone, IfSome}
+use Rattle.std.specs.Option.{unwrap_or}
+use Rattle.std.proofs.Common.{arith, ap, sym, ◌∙◌, add-one, append_assoc, length-append}
+use Rattle.std.proofs.lemmas.List.{drop-set}
+use Rattle.std.proofs.Math.Nat.{pow-succ'}
 use Rattle.printout_sort.specs.Text.{ahead, digits, decimal}
 
 ahead-same : (F G : ℕ → List ℕ) (q : ℕ) → (0 < q → F q ≡ G q) → ahead q F ≡ ahead q G
@@ -63,10 +66,6 @@ ahead-some F (suc q) h = refl
 pub decimal-one : (n : ℕ) → n < 10 → decimal n ≡ (48 + n % 10) ∷ []
 decimal-one n h = decimal-is n ∙ ap (λ (l : List ℕ). l ++ ((48 + n % 10) ∷ [])) (ahead_none decimal (n / 10) (omega arith))
 
--- Its digit is the number itself.
-pub decimal-own : (n : ℕ) → n < 10 → decimal n ≡ (48 + n) ∷ []
-decimal-own n h = let e : n % 10 ≡ n = omega arith in decimal-one n h ∙ ap (λ (d : ℕ). (48 + d) ∷ []) e
-
 pub decimal-more : (n : ℕ) → 10 ≤ n → decimal n ≡ decimal (n / 10) ++ ((48 + n % 10) ∷ [])
 decimal-more n h = decimal-is n ∙ ap (λ (l : List ℕ). l ++ ((48 + n % 10) ∷ [])) (ahead-some decimal (n / 10) (omega arith))
 
@@ -87,6 +86,11 @@ unfoldable pub ten : ℕ → ℕ
 ten zero = 1
 ten (suc i) = 10 * ten i
 
+pub ten-power : (i : ℕ) → ten i ≡ 10 ^ i
+unfolding ten
+ten-power zero = refl
+ten-power (suc i) = omega (arith, ten-power i, pow-succ' 10 i)
+
 ten-pos : (i : ℕ) → 1 ≤ ten i
 unfolding ten
 ten-pos zero = omega arith
@@ -102,6 +106,13 @@ decimal-length (suc i) n low high =
       decimal-length i (n / 10) (λ h. omega (arith, low (omega arith))) (omega arith),
     )
 
+-- The same by the logarithm of the number, which 0 has none of.
+pub logarithm-length : (n : ℕ) (r : Option ℕ) → IfNone r (n ≡ 0) → IfSome r (λ k. 10 ^ k ≤ n) → IfSome r (λ k. n < 10 * 10 ^ k)
+    → length (decimal n) ≡ suc (unwrap_or r 0)
+logarithm-length n None e l h = digits-one n (omega (arith, e))
+logarithm-length n (Some k) e l h =
+    decimal-length k n (λ o. omega (arith, l, ten-power k)) (omega (arith, h, ten-power (suc k), pow-succ' 10 k))
+
 ahead-short : (q : ℕ) → length (ahead q decimal) ≤ length (decimal q)
 ahead-short zero = omega arith
 ahead-short (suc q) = omega arith
@@ -112,3 +123,31 @@ unfolding ten
 decimal-most zero n h = omega (arith, digits-one n (omega arith))
 decimal-most (suc i) n h =
     omega (arith, decimal-divided n, ahead-short (n / 10), decimal-most i (n / 10) (omega arith))
+
+-- THE LAST DIGITS of a number, so many of them.
+unfoldable pub last_digits : ℕ → ℕ → List ℕ
+last_digits zero n = []
+last_digits (suc m) n = last_digits m (n / 10) ++ ((48 + n % 10) ∷ [])
+
+ahead_last : (m q : ℕ) → m ≡ length (ahead q decimal) → (m ≡ length (decimal q) → last_digits m q ≡ decimal q) → last_digits m q ≡ ahead q decimal
+unfolding last_digits
+ahead_last zero zero e h = refl
+ahead_last (suc m) zero e h = absurd (omega arith)
+ahead_last m (suc q) e h = h e
+
+-- As many as it has are the number.
+pub all-digits : (m n : ℕ) → m ≡ length (decimal n) → last_digits m n ≡ decimal n
+unfolding last_digits
+all-digits zero n e = absurd (omega (arith, decimal-divided n))
+all-digits (suc m) n e =
+    ap (λ (l : List ℕ). l ++ ((48 + n % 10) ∷ []))
+    (ahead_last m (n / 10) (omega (arith, decimal-divided n)) (λ p. all-digits m (n / 10) p))
+    ∙ sym (decimal-is n)
+
+-- Writing a digit: it stands before those that are written.
+pub digit-put : (m n : ℕ) (l : List ℕ) → m < length l → last_digits m (n / 10) ++ drop m (set l m (48 + n % 10)) ≡ last_digits (m + 1) n ++ drop (m + 1) l
+unfolding last_digits
+digit-put m n l h =
+    ap (λ (r : List ℕ). last_digits m (n / 10) ++ r) (drop-set l m (48 + n % 10) h)
+    ∙ sym (append_assoc (last_digits m (n / 10)) ((48 + n % 10) ∷ []) (drop (m + 1) l))
+    ∙ ap (λ (k : ℕ). last_digits k n ++ drop (m + 1) l) (sym (add-one m))

@@ -16,7 +16,7 @@ use Rattle.record.specs.Entries.{stored-first}
 use Rattle.record.specs.Kinds.{sort_number}
 use Rattle.record.specs.declared.SortRecord.{SortRecord}
 use Rattle.store.specs.Entry.{EntryIs}
-use Rattle.store.specs.Walk.{walk-size, size-pos}
+use Rattle.store.specs.Walk.{walk-size}
 use Rattle.printout_sort.specs.Text.{ascii, text, texts}
 use Rattle.printout_sort.specs.Pieces.{form_of, word_text, close_text, frames, pieces_text}
 use Rattle.printout_sort.specs.PieceLaws.{pieces-text, pieces-length, form-below, form-par, names-form, own-short, after}
@@ -72,7 +72,6 @@ texts-room b p x m o to h r =
     let first = text (tree_at b p (u16_at b x)) in
     record { fits = omega (arith, ap length (texts-more b p x m h), length-append first (texts (trees_at b p (numbers_at b (x + 2) (m - 1))))) }
 
--- The measures fall: from a list to its first sort, and to the rest.
 -- A sort of a well-formed store within document 01's limit meets what printing it asks.
 pub text-asks : (b p : List ℕ) (n k : ℕ) → Stored b p n → k < n → size (sort_at b p n k) ≤ 4096 → TextAsks b p k
 text-asks b p n k stored l small =

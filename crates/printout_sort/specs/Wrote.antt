@@ -1,8 +1,10 @@
 -- Texts that are written into a buffer at a place: one, one after the other, and what is left of one.
-use Rattle.std.specs.Prelude.{ℕ, suc, ◌+◌, ◌≤◌, ◌<◌, ◌≡◌, refl, List, [], ◌∷◌, ◌++◌, length, take, drop, set}
+use Rattle.std.specs.Prelude.{ℕ, suc, ◌+◌, ◌-◌, ◌≤◌, ◌<◌, ◌≡◌, refl, List, [], ◌∷◌, ◌++◌, length, take, drop, set}
 use Rattle.std.proofs.Common.{sym, ap, ap₂, subst, ◌∙◌, append_assoc, arith, add-one, length-append, take_at, drop_at, drop-drop, length-take-le}
 use Rattle.std.proofs.lemmas.List.{set_split}
-use Rattle.std.proofs.Math.Seq.{append_snoc, paste-zero}
+use Rattle.std.proofs.lemmas.Slice.{put_mid-paste}
+use Rattle.std.proofs.Math.Seq.{append_snoc, paste-zero, take-length}
+use borrow.Rule.Slice.PartMut.{put_mid}
 use Rattle.record.specs.Decode.{written}
 use Rattle.record.specs.Append.{length-written}
 
@@ -47,6 +49,16 @@ wrote_as {o} {to} {s} {t} {o'} {e} q w = subst (λ (x : List ℕ). Wrote o to x 
 
 pub wrote-long : {o : List ℕ} {to : ℕ} {t o' : List ℕ} {e : ℕ} → Wrote o to t o' e → length o' ≡ length o
 wrote-long {o} {to} {t} w = ap length w.is ∙ length-written o to t w.fits
+
+-- A text in a part of the buffer that is as long as it.
+pub wrote_part : {o ys t : List ℕ} {to n : ℕ} → ys ≡ t → n ≡ length t → to + length t ≤ length o → Wrote o to t (put_mid to (to + n - to) o ys) (to + n)
+unfolding written
+wrote_part {o} {ys} {t} {to} {n} e l h =
+    record {
+      is = put_mid-paste to (to + n - to) o ys t (length t) e (omega (arith, l)) refl ∙ rw take-length;
+      next = omega (arith, l);
+      fits = h;
+    }
 
 -- A text and the next.
 pub wrote-more : {o : List ℕ} {to : ℕ} {s o₁ : List ℕ} {e : ℕ} {t o₂ : List ℕ} {d : ℕ} → Wrote o to s o₁ e → Wrote o₁ e t o₂ d → Wrote o to (s ++ t) o₂ d

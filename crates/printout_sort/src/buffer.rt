@@ -1,6 +1,6 @@
 // Text in a lent buffer: bytes, numbers in decimal and names are written one behind the other. Each `put` function writes where there is
 // room; a `.._size` function gives the length of what the function beside it writes.
-ghost use Rattle.std.specs.Prelude.{◌≡◌, ◌+◌, ◌*◌, ◌≤◌, ◌<◌, [], ◌∷◌, length};
+ghost use Rattle.std.specs.Prelude.{◌≡◌, ◌+◌, ◌-◌, ◌*◌, ◌≤◌, ◌<◌, [], ◌∷◌, length};
 ghost use Rattle.record.specs.Number.{numbers_at};
 ghost use Rattle.printout_sort.specs.Text.{decimal, name_text, more_names};
 
@@ -16,6 +16,14 @@ pub struct TextBuffer<'a> {
 
 impl TextBuffer<'_> {
     ghost use Rattle.printout_sort.specs.Buffer.{HasRoom, Puts, Same};
+
+    // How many bytes are left behind what is written.
+    pub fn room(&self) -> usize
+        requires { self.now.end ≤ length self.now.bytes.now }
+        ensures { result ≡ length self.now.bytes.now - self.now.end }
+    {
+        self.bytes.len() - self.end
+    }
 
     // Writes these bytes.
     pub fn put(&mut self, text: &[u8])
@@ -38,18 +46,15 @@ impl TextBuffer<'_> {
         self.end += 1;
     }
 
-    // Writes a number in decimal: its last digit behind the others.
+    // Writes a number in decimal.
     pub fn put_decimal(&mut self, v: usize)
         requires { HasRoom self.old (decimal v) }
         ensures same { Same self.old self.new }
         ensures put { Puts self.old (decimal v) self.new }
     {
-        if v < 10 {
-            self.put_byte(b'0' + v as u8);
-        } else {
-            self.put_decimal(v / 10);
-            self.put_byte(b'0' + (v % 10) as u8);
-        }
+        let end = self.end + digit_count(v);
+        put_digits(&mut self.bytes[self.end..end], v);
+        self.end = end;
     }
 
     // Writes a name: `?` for 0, else `n` and its number.
@@ -80,18 +85,31 @@ impl TextBuffer<'_> {
     }
 }
 
-// How many digits a number under 100,000 has: one, and one more for each division by ten until one is left.
+// How many digits a number has: one more than the power of ten that it reaches; 0 has one too.
+fn digit_count(v: usize) -> usize
+    ensures { result ≡ length (decimal v) }
+{
+    v.checked_ilog10().unwrap_or(0) as usize + 1
+}
+
+// How many digits a number under 100,000 has: at most five.
 pub fn digits(v: usize) -> usize
     requires { v < 100000 }
     ensures { (result ≡ length (decimal v)) × (result ≤ 5) }
 {
+    digit_count(v)
+}
+
+// Writes the digits of a number into a slice as long as they are: the last one first, at the slice's end.
+fn put_digits(text: &mut [u8], v: usize)
+    requires { length text.old ≡ length (decimal v) }
+    ensures { text.new ≡ decimal v }
+{
     let mut rest = v;
-    let mut count = 1;
-    while 10 <= rest {
+    for i in (0..text.len()).rev() {
+        text[i] = b'0' + (rest % 10) as u8;
         rest /= 10;
-        count += 1;
     }
-    count
 }
 
 // The length of a name.

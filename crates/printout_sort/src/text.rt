@@ -1,7 +1,7 @@
 // The text of a sort: a word, then a name, a number or names, then its parts, each behind a blank, then a bracket.
-ghost use Rattle.std.specs.Prelude.{◌≡◌, ◌+◌, ◌*◌, ◌≤◌, ◌<◌, length, get_or, ◌++◌};
+ghost use Rattle.std.specs.Prelude.{◌+◌, ◌*◌, ◌≤◌, length, ◌++◌};
 ghost use Rattle.record.specs.Number.{numbers_at};
-ghost use Rattle.record.specs.Sort.{size, sizes};
+ghost use Rattle.record.specs.Sort.{size};
 ghost use Rattle.printout_sort.specs.Buffer.{HasRoom, Puts, Same};
 ghost use Rattle.printout_sort.specs.Forms.{form_number};
 ghost use Rattle.printout_sort.specs.Pieces.{close_text};
@@ -50,13 +50,7 @@ fn put_par_names(records: &[u8], names: Span, out: &mut TextBuffer<'_>)
     ensures put { Puts out.old (names_text (numbers_at records.now names.at names.count) ++ ascii ")") out.new }
 {
     out.put_name(names.get(records, 0));
-    out.put_names(
-        records,
-        Span {
-            at: names.at + 2,
-            count: names.count - 1,
-        },
-    );
+    out.put_names(records, names.skip(1));
     out.put_byte(b')');
 }
 

@@ -3,3 +3,4 @@ pub mod PrintedLaws
 pub mod LeftLaws
 pub mod TextLaws
 pub mod NewlineLaws
+pub mod Words

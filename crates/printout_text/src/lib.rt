@@ -3,7 +3,8 @@
 #![tactic(auto)]
 
 ghost use Rattle.verdicts.specs.Judge.{Accepted};
-ghost use Rattle.printout_text.specs.Text.{RefusedLines, TextIs, PrintAsks};
+ghost use Rattle.printout_text.specs.Text.{RefusedLines, TextIs};
+ghost use Rattle.printout_text.specs.Words.{PrintAsked};
 
 pub mod judged;
 
@@ -14,11 +15,8 @@ use printout::lines::refusal_line;
 use printout::whole::{Piece, Printable, show_lines};
 use printout_sort::buffer::TextBuffer;
 use reader::Refusal;
-use record::limits::{LONGEST_SHEET, MOST_QUESTIONS, MOST_SORTS, MOST_TERMS};
+use record::limits::{LONGEST_SHEET, MOST_QUESTIONS, MOST_SORTS, ROWS};
 use verdicts::judge;
-
-// The lengths of the program's rows.
-pub const ROWS: usize = 2 * MOST_TERMS;
 
 // Writes the line of a sheet that is refused for this reason, where it is asked for, from the number 0 on, and fits. The next line
 // is then 1; else it is `from`, nothing is written, and the buffer is as it was.
@@ -42,7 +40,7 @@ pub fn refused_line(e: Refusal, from: usize, out: &mut [u8]) -> Piece
 // Writes the lines from the number `from` on of a sheet that was accepted and judged, as many as fit; where it has no such line nothing
 // is written, and the next line is `from`.
 fn accepted_lines(sheet: &JudgedSheet<'_>, from: usize, out: &mut [u8]) -> Piece
-    requires { PrintAsks sheet.now.bytes.now sheet.now.entries.records.now sheet.now.entries.places.now sheet.now.rows.now sheet.now.answers.now Accepted }
+    requires { PrintAsked sheet.now Accepted }
     ensures { TextIs sheet.now.bytes.now from out.old out.new result }
 {
     let mut kinds = [0u8; MOST_QUESTIONS];

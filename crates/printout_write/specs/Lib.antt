@@ -1,2 +1,3 @@
 pub mod Print
 pub mod PrintLaws
+pub mod Words

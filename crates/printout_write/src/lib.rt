@@ -2,14 +2,12 @@
 // piece by piece.
 #![tactic(auto)]
 
-ghost use Rattle.std.specs.Prelude.{◌≤◌, length};
 ghost use Rattle.judge_rules.specs.Judged.{judged};
 ghost use Rattle.verdicts.specs.Judge.{Accepted};
-ghost use Rattle.printout.specs.Printed.{program_lengths};
-ghost use Rattle.printout_text.specs.Text.{PrintAsks};
-ghost use Rattle.printout_text.specs.LeftLaws.{JudgeLeft};
-ghost use Rattle.written.specs.Written.{in_lines, PrintedIs};
-ghost use Rattle.printout_write.specs.Print.{LinesAsk, ShowAsks};
+ghost use Rattle.printout.specs.Printed.{printed, program_lengths};
+ghost use Rattle.printout_text.specs.Words.{PrintAsked};
+ghost use Rattle.written.specs.Written.{in_lines, PrintedIs, TextAdded};
+ghost use Rattle.printout_write.specs.Words.{SheetLeft, LinesAsked, ShowAsked};
 
 use printout::kinds::{Totals, question_kinds};
 use printout::whole::{Piece, Printable, show_lines};
@@ -42,7 +40,7 @@ impl Lines for SheetLines<'_> {
 
     ghost next = { λ l. l.next };
 
-    ghost can_show = { λ l. ShowAsks l.bytes.now l.printable.entries.records.now l.printable.entries.places.now l.printable.rows.now l.printable.kinds.now l.printable.answers.now l.printable.totals l.next };
+    ghost can_show = { λ l. ShowAsked l.bytes.now l.printable l.next };
 
     fn show(&mut self, out: &mut [u8]) -> Piece {
         let piece = show_lines(&self.printable, self.next, out);
@@ -52,7 +50,8 @@ impl Lines for SheetLines<'_> {
 }
 
 // Writes the lines of an accepted sheet with the kinds of its questions, by way of a buffer that holds the longest line. All lines are
-// written; or a write failed, nothing was handed over after it, and the lines before it are written.
+// written, and their bytes stand behind what the output held; or a write failed, nothing was handed over after it, and the lines before
+// it are written.
 fn print_lines<W: Write>(
     output: &mut W,
     sheet: &JudgedSheet<'_>,
@@ -60,8 +59,9 @@ fn print_lines<W: Write>(
     totals: Totals,
     out: &mut [u8],
 ) -> Written
-    requires { LinesAsk sheet.now.bytes.now sheet.now.entries.records.now sheet.now.entries.places.now sheet.now.rows.now kinds.now sheet.now.answers.now totals.terms totals.questions out.old }
-    ensures { PrintedIs (judged sheet.now.bytes.now program_lengths) result }
+    requires { LinesAsked sheet.now kinds.now totals out.old }
+    ensures lines { PrintedIs (judged sheet.now.bytes.now program_lengths) result }
+    ensures bytes { TextAdded (W.contents output.old) (W.contents output.new) (printed (judged sheet.now.bytes.now program_lengths)) result }
 {
     let printable = Printable {
         entries: sheet.entries,
@@ -78,8 +78,9 @@ fn print_lines<W: Write>(
     write_lines(output, &mut lines, out)
 }
 
-// Writes the lines of an accepted sheet with the kinds of its questions, by way of a buffer of its own, which is so large that it is kept out
-// of every other frame. All lines are written; or a write failed, nothing was handed over after it, and the lines before it are written.
+// Writes the lines of an accepted sheet with the kinds of its questions, by way of a buffer of its own, which is so large that it is kept
+// out of every other frame. All lines are written, and their bytes stand behind what the output held; or a write failed, nothing was
+// handed over after it, and the lines before it are written.
 #[inline(never)]
 fn print_all<W: Write>(
     output: &mut W,
@@ -87,18 +88,20 @@ fn print_all<W: Write>(
     kinds: &[u8],
     totals: Totals,
 ) -> Written
-    requires { JudgeLeft sheet.now.bytes.now sheet.now.entries.records.now sheet.now.entries.places.now sheet.now.rows.now kinds.now sheet.now.answers.now totals }
-    ensures { PrintedIs (judged sheet.now.bytes.now program_lengths) result }
+    requires { SheetLeft sheet.now kinds.now totals }
+    ensures lines { PrintedIs (judged sheet.now.bytes.now program_lengths) result }
+    ensures bytes { TextAdded (W.contents output.old) (W.contents output.new) (printed (judged sheet.now.bytes.now program_lengths)) result }
 {
     let mut out = line_buffer();
     print_lines(output, sheet, kinds, totals, &mut out)
 }
 
-// Writes the lines of an accepted sheet. All lines are written; or a write failed, nothing was handed over after it, and the lines before
-// it are written.
+// Writes the lines of an accepted sheet. All lines are written, and their bytes stand behind what the output held; or a write failed,
+// nothing was handed over after it, and the lines before it are written.
 fn print_accepted<W: Write>(output: &mut W, sheet: &JudgedSheet<'_>) -> Written
-    requires { PrintAsks sheet.now.bytes.now sheet.now.entries.records.now sheet.now.entries.places.now sheet.now.rows.now sheet.now.answers.now Accepted }
-    ensures { PrintedIs (judged sheet.now.bytes.now program_lengths) result }
+    requires { PrintAsked sheet.now Accepted }
+    ensures lines { PrintedIs (judged sheet.now.bytes.now program_lengths) result }
+    ensures bytes { TextAdded (W.contents output.old) (W.contents output.new) (printed (judged sheet.now.bytes.now program_lengths)) result }
 {
     let mut kinds = [0u8; MOST_QUESTIONS];
     let totals = question_kinds(sheet.bytes, &mut kinds);
@@ -112,16 +115,18 @@ pub struct Printout;
 impl Printer for Printout {
     ghost layout = { in_lines };
 
-    // Writes the printout of a sheet that was judged with this outcome. All its lines are written, the one of a refused sheet too; or a
-    // write failed, nothing was handed over after it, and the lines before it are written.
+    // Writes the printout of a sheet that was judged with this outcome. All its lines are written, the one of a refused sheet too, and
+    // their bytes stand behind what the output held; or a write failed, nothing was handed over after it, and the lines before it are
+    // written.
     fn print_judged<W: Write>(
         &self,
         output: &mut W,
         sheet: &JudgedSheet<'_>,
         outcome: Result<(), Refusal>,
     ) -> Written
-        requires { PrintAsks sheet.now.bytes.now sheet.now.entries.records.now sheet.now.entries.places.now sheet.now.rows.now sheet.now.answers.now outcome }
-        ensures { PrintedIs (judged sheet.now.bytes.now program_lengths) result }
+        requires { PrintAsked sheet.now outcome }
+        ensures lines { PrintedIs (judged sheet.now.bytes.now program_lengths) result }
+        ensures bytes { TextAdded (W.contents output.old) (W.contents output.new) (printed (judged sheet.now.bytes.now program_lengths)) result }
     {
         match outcome {
             Ok(()) => print_accepted(output, sheet),

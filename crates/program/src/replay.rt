@@ -46,7 +46,8 @@ fn replay_all<F: Read, W: Write, P: Printer>(file: &mut F, output: &mut W, print
     }
 }
 
-// Judges the sheets of the file `sheets.bin`; a file that cannot be opened is told on standard error.
+// Judges the sheets of the file `sheets.bin`; a file that cannot be opened is told on standard error. What stands in a file no clause can
+// say, and a write that fails is passed over: so the promise is that of `print_sheet`, for each sheet.
 pub fn replay<R: Files + Eprint, W: Write, P: Printer>(rt: &R, output: &mut W, printer: &P) {
     match fs::open(rt, "sheets.bin") {
         Ok(file) => {

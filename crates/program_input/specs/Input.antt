@@ -1,5 +1,6 @@
 -- What a call of read gave, and what is promised of the bytes that were read. Definitions only.
-use Rattle.std.specs.Prelude.{ℕ, zero, suc, ◌+◌, ◌≤◌, ◌<◌, Option, Some, None, Result, Ok, Err}
+use Rattle.std.specs.Prelude.{ℕ, zero, suc, ◌+◌, ◌≤◌, ◌<◌, List, [], length, take, drop, Option, Some, None, Result, Ok, Err}
+use Rattle.std.specs.Io.KnownBytes.{Consumes, IsAtEnd}
 
 -- A count of bytes: none is the end of the input.
 abbrev pub counted : ℕ → Option ℕ
@@ -16,3 +17,15 @@ abbrev pub ReadWithin : {E : Type 0} → ℕ → ℕ → Result (Option ℕ) E �
 ReadWithin from room (Ok (Some n)) = (0 < n) × (from + n ≤ room)
 ReadWithin from room (Ok None) = Unit {0}
 ReadWithin from room (Err e) = Unit {0}
+
+-- What reading into the buffer b from a place on did to the bytes that the reader had left, where they are known: it took those that now
+-- stand there; at the end of the input none was left.
+abbrev pub ReadFrom : {E : Type 0} → ℕ → Option (List ℕ) → Option (List ℕ) → List ℕ → Result (Option ℕ) E → Type 0
+ReadFrom from old new b (Ok (Some n)) = Consumes old new (take n (drop from b))
+ReadFrom from old new b (Ok None) = Consumes old new [] × IsAtEnd new
+ReadFrom from old new b (Err e) = Unit {0}
+
+-- THE FIRST n BYTES OF THE BUFFER ARE THE NEXT ONES OF THE INPUT, where these are known, and where the buffer is not full, all of them.
+pub record InputRead (old new : Option (List ℕ)) (b : List ℕ) (n : ℕ) : Type 0 where
+  pub bytes : Consumes old new (take n b)
+  pub whole : n < length b → IsAtEnd new

@@ -20,7 +20,7 @@ use Rattle.row_answer.specs.Answer.{Answer}
 use Rattle.row_answer.specs.AnswerLaws.{judged-as}
 use Rattle.row_instance.specs.Instance.{InstanceIs}
 use Rattle.judge_rules.specs.Questions.{first_sort, rest_sorts, images_given, apply_answer}
-use Rattle.questions.specs.Fill.{FillAsks, FilledIs, EmptyAsks, emptied, filled-images, emptied-back}
+use Rattle.questions.specs.Fill.{FillAsks, FilledIs, emptied, filled-images, emptied-back}
 use Rattle.questions.specs.Contract.{AnswerApplyAsks, ApplyIs}
 use Rattle.questions.specs.Asked.{sorts_by, sorts-by-first, sorts-rest, mapped-known}
 
@@ -68,9 +68,6 @@ module _ {b p ix : List ℕ} {n u : ℕ} {imgs s tbl : List ℕ} {q : QuestionRe
           ready = record { good = h.good; table = record { long = filled-map.table.long; below = λ v. omega (arith, filled-map.table.below v, store_of-length b p n) } };
           known = o;
         }
-
-    pub empty-asks : EmptyAsks l s q.names.at q.names.count
-    empty-asks = record { table = filled-map.table.long; names = h.asked.names }
 
     pub apply-is : {k : ℕ} → k ≡ get_or tbl (u16_at s q.list.at) 0 → (b' p' ix' : List ℕ) (r : Answer) → InstanceIs b p n l k b' p' ix' r
         → {l' : List ℕ} → l' ≡ emptied l (numbers_at s q.names.at q.names.count) → ApplyIs b p n imgs s tbl q b' p' ix' l' r

@@ -19,7 +19,7 @@ use Rattle.matching_tables.specs.Matched.{Matched, Fits, Misfits}
 use Rattle.matching_tables.specs.Tables.{Lists, Told, listed, Added, table_map, Tabled, Mapped, Cleared}
 use Rattle.matching_tables.specs.TableLaws.{times-few, listed-is, lists-none, lists-added, added-back, cleared-mapped, cleared-map, cleared-images, cleared-bound}
 use Rattle.matching_tables.specs.Usable.{PairAsks}
-use Rattle.matching_tables.specs.Contract.{TestAsks, AddAsks, TakeAsks, Answered}
+use Rattle.matching_tables.specs.Contract.{AddAsks, Answered}
 use Rattle.matching_each.specs.Premises.{PremiseIs}
 use Rattle.matching.specs.Contract.{MatchAsks as PlainAsks, MatchIs as PlainIs}
 use Rattle.matching_tables.specs.Entered.{good-usable}
@@ -48,9 +48,6 @@ match-barred vs p t r e = match_by vs p t r false (matches (listed_in vs) p t em
 module _ {b p ix : List ℕ} {n u : ℕ} {prm imgs bnd : List ℕ} {k j i : ℕ} (h : MatchListedAsks b p ix n u prm imgs bnd k j i) where
   pub pair-asks : PairAsks b p n k j
   pair-asks = record { usable = good-usable b p ix n u h.good; left = h.pattern; right = h.target }
-
-  pub premise-asks : TestAsks b p n prm k j
-  premise-asks = record { pair = pair-asks; table = h.table }
 
   pub plain-asks : PlainAsks b p n prm imgs bnd 0 k j
   plain-asks = record { pair = pair-asks; table = h.table; mapped = cleared-mapped b p n imgs bnd h.cleared }
@@ -128,13 +125,6 @@ module _ {b p ix : List ℕ} {n u : ℕ} {prm imgs bnd s tbl : List ℕ} {q : Qu
     pub listed-asks : (k j i : ℕ) → k < n → j < n → i < n → MatchListedAsks b p ix n u m imgs bnd k j i
     listed-asks k j i x y z =
         record { good = h.good; table = a.long ∙ h.table; cleared = h.cleared; pattern = x; target = y; result = z }
-
-    pub take-asks : TakeAsks m s q.names.at q.names.count
-    take-asks =
-        record {
-          names = record { table = a.long ∙ h.table; within = h.asked.names };
-          there = λ v. omega (arith, a.each v);
-        }
 
     pub match_is : {k j i : ℕ} → k ≡ get_or tbl (u16_at s q.list.at) 0 → j ≡ get_or tbl (u16_at s (q.list.at + 2)) 0 → i ≡ get_or tbl (u16_at s (q.list.at + 4)) 0
         → {b' p' ix' l' m' prm' : List ℕ} {r : Answer} → ListedIs b p n m imgs bnd k j i b' p' ix' l' m' r

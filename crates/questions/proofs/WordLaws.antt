@@ -23,7 +23,7 @@ use Rattle.row_rules.specs.Outcome.{CodedStore, outcome}
 use Rattle.row_answer.specs.Answer.{Answer}
 use Rattle.judge_rules.specs.Questions.{first_sort, rest_sorts, yes_no, match_answer, apply_answer, answer_of}
 use Rattle.questions.specs.Word.{Word}
-use Rattle.questions.specs.Contract.{question_over, AnswerApplyAsks, ApplyIs, AnswerMatchAsks, AnswerMatchIs, WordIs, QuestionAsks, QuestionIs}
+use Rattle.questions.specs.Contract.{question_over, ApplyIs, AnswerMatchIs, WordIs, QuestionAsks, QuestionIs}
 use Rattle.questions.specs.Asked.{sorts_by, sorts-by-first, sorts-second, sort-known}
 
 -- The three cases of the definition.
@@ -59,14 +59,6 @@ worded {c} {q} {ix} {r} {w} e g =
     subst (λ (i : ℕ). Good c q ix i w.used) (sym e.count) (subst (λ (i : ℕ). Good c q ix r.count i) (sym e.used) g)
 
 module _ {b p ix : List ℕ} {n u : ℕ} {prm imgs bnd s tbl : List ℕ} {q : QuestionRecord} (h : QuestionAsks b p ix n u prm imgs bnd s tbl q) where
-  pub match-part : question_number q.kind ≡ 1 → AnswerMatchAsks b p ix n u prm imgs bnd s tbl q
-  match-part e =
-      record { good = h.good; table = h.table; zeros = h.zeros; cleared = h.cleared; asked = h.asked; count = h.three e }
-
-  pub apply-part : question_number q.kind ≡ 2 → AnswerApplyAsks b p ix n u imgs s tbl q
-  apply-part e =
-      record { good = h.good; table = h.cleared.names; zeros = h.cleared.images; asked = h.asked; count = h.pairs e }
-
   pub pair-part : (k j : ℕ) → k < n → j < n → PairAsks b p n k j
   pair-part k j x y = record { usable = good-usable b p ix n u h.good; left = x; right = y }
 

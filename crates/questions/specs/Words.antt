@@ -15,7 +15,6 @@ abbrev pub ApplyAsked : Store → Names → ReadSheet → QuestionRecord → Typ
 ApplyAsked s x d q = AnswerApplyAsks s.records.now s.places.now s.index.now s.count s.used x.images.now d.bytes.now d.table.now q
 
 -- The other tables of names are as they were.
-
 abbrev pub ApplyAnswered : Store → Names → ReadSheet → QuestionRecord → Store → Names → Result ℕ Cause → Type 0
 ApplyAnswered s x d q t y r =
     ApplyIs s.records.now s.places.now s.count x.images.now d.bytes.now d.table.now q t.records.now t.places.now t.index.now y.images.now (answer t r)

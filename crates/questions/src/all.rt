@@ -9,24 +9,20 @@ use reader::Cursor;
 use sheet::ReadSheet;
 use store::Store;
 
-// The answer to the question whose record stands at `at`, of a sheet with this many sorts. Where none is read, which what is asked
-// rules out, 0.
+// The answer to the question of the sheet whose record stands at `at`.
 pub fn answer_at(
     store: &mut Store<'_>,
     names: &mut Names<'_>,
     sheet: &ReadSheet<'_>,
-    sorts: usize,
     at: usize,
 ) -> u32
-    requires { AtAsked store.old names.old sheet.now sorts at }
+    requires { AtAsked store.old names.old sheet.now sheet.now.sorts at }
     ensures same { Same store.old store.new }
     ensures names { SameNames names.old names.new }
-    ensures answer { AtAnswered store.old names.old sheet.now sorts at store.new names.new result }
+    ensures answer { AtAnswered store.old names.old sheet.now sheet.now.sorts at store.new names.new result }
 {
-    match (Cursor { at }).question(sheet.bytes, sorts) {
-        Ok((question, _)) => answer_question(store, names, sheet, question),
-        Err(_) => 0,
-    }
+    let (question, _) = (Cursor { at }).question(sheet.bytes, sheet.sorts).unwrap();
+    answer_question(store, names, sheet, question)
 }
 
 // Writes the answers to the questions whose places are `asked` into `answers`.
@@ -34,16 +30,15 @@ pub fn answer_all(
     store: &mut Store<'_>,
     names: &mut Names<'_>,
     sheet: &ReadSheet<'_>,
-    sorts: usize,
     asked: &[u16],
     answers: &mut [u32],
 )
-    requires { AllAsked store.old names.old sheet.now sorts asked.now answers.old }
+    requires { AllAsked store.old names.old sheet.now sheet.now.sorts asked.now answers.old }
     ensures same { Same store.old store.new }
     ensures names { SameNames names.old names.new }
-    ensures answers { AllAnswered store.old names.old sheet.now sorts asked.now answers.old store.new names.new answers.new }
+    ensures answers { AllAnswered store.old names.old sheet.now sheet.now.sorts asked.now answers.old store.new names.new answers.new }
 {
     for (q, at) in asked.iter().enumerate() {
-        answers[q] = answer_at(store, names, sheet, sorts, *at as usize);
+        answers[q] = answer_at(store, names, sheet, *at as usize);
     }
 }

@@ -27,7 +27,7 @@ pub fn match_listed(
     ensures names { SameNames names.old names.new }
     ensures answer { ListedAnswered store.old names.old pattern target res store.new names.new result }
 {
-    names.many = 0;
+    names.start();
     let sorts = store.sorts();
     if !in_premise(&sorts, names, pattern, target) {
         return Err(Cause::Barred);

@@ -1,42 +1,19 @@
 // The single fields of a record, and the numbers they are made of. A method returns what it read with the next cursor, or
 // the refusal; a field whose bit does not stand in the map is 0 or empty and takes no bytes.
-ghost use Rattle.std.specs.Prelude.{◌≡◌, ◌+◌, ◌<◌, ℕ, IfOk, length};
-ghost use Rattle.record.specs.Record.{bit};
+ghost use Rattle.std.specs.Prelude.{◌≡◌, ◌<◌, IfOk};
 ghost use Rattle.reader.specs.Reader.{skipped, read_byte, read_u16, read_u32, read_head, read_name, read_number, read_own, read_list, read_references, read_names, read_second, read_pairs};
 ghost use Rattle.record.specs.Kinds.{term_number};
 
 use super::scans::{all_below, is_distinct, pairs_below};
-use super::tables::Limits;
+use super::tables::{Limits, second_limits};
 use super::{Cursor, Head, Read, Refusal};
 use record::kinds::TermKind;
 use record::limits::LONGEST_LIST;
 use record::span::Span;
-use record::u16_at;
-
-// The weights of the bits of a map: the kind, the name, the number, the record's own sort, the list, the pairs and the second
-// list or the names.
-const KIND_BIT: usize = 1;
-
-const NAME_BIT: usize = 2;
-
-const NUMBER_BIT: usize = 4;
-
-const SORT_BIT: usize = 8;
-
-const LIST_BIT: usize = 16;
-
-const PAIRS_BIT: usize = 32;
-
-const SECOND_BIT: usize = 64;
-
-// Whether the bit of this weight stands in the map.
-#[tactic(auto, unfolding(record::specs::Record::bit))]
-fn has_bit(weight: usize, map: usize) -> bool
-    requires { 0 < weight }
-    ensures { result ≡ bit weight map }
-{
-    map / weight % 2 == 1
-}
+use record::tables::{
+    KIND_BIT, LIST_BIT, NAME_BIT, NAMES_BIT, NUMBER_BIT, PAIRS_BIT, SORT_BIT, has_bit,
+};
+use record::{u16_at, u32_at};
 
 impl Cursor {
     // The place n bytes further on, or PastEnd where they are not all there.
@@ -79,14 +56,12 @@ impl Cursor {
     }
 
     // Four bytes, or PastEnd.
-    #[tactic(auto, unfolding(crate::specs::Reader::read_u32, record::specs::Number::u32_at, record::specs::Number::u16_at))]
+    #[tactic(auto, unfolding(crate::specs::Reader::read_u32))]
     pub fn u32(self, s: &[u8]) -> Read<usize>
         ensures { result ≡ read_u32 s.now self.at }
     {
         let next = self.skip(s, 4)?;
-        let at = self.at;
-        let value = u32::from_le_bytes([s[at], s[at + 1], s[at + 2], s[at + 3]]);
-        Ok((value as usize, next))
+        Ok((u32_at(s, self.at), next))
     }
 
     // The bit map and the kind: PastEnd without the map byte, Map without the bit of the kind, PastEnd without the kind byte.
@@ -95,7 +70,7 @@ impl Cursor {
         ensures { result ≡ read_head s.now self.at }
     {
         let (map, next) = self.byte(s)?;
-        if !has_bit(KIND_BIT, map) {
+        if !has_bit(map, KIND_BIT) {
             return Err(Refusal::Map);
         }
         let (kind, next) = next.byte(s)?;
@@ -107,7 +82,7 @@ impl Cursor {
     pub fn name(self, s: &[u8], map: usize) -> Read<usize>
         ensures { result ≡ read_name s.now map self.at }
     {
-        if has_bit(NAME_BIT, map) {
+        if has_bit(map, NAME_BIT) {
             return self.u16(s);
         }
         Ok((0, self))
@@ -118,7 +93,7 @@ impl Cursor {
     pub fn number(self, s: &[u8], map: usize, most: usize) -> Read<usize>
         ensures { result ≡ read_number s.now map most self.at }
     {
-        if !has_bit(NUMBER_BIT, map) {
+        if !has_bit(map, NUMBER_BIT) {
             return Ok((0, self));
         }
         let (v, next) = self.u32(s)?;
@@ -134,7 +109,7 @@ impl Cursor {
     pub fn own(self, s: &[u8], map: usize, sorts: usize) -> Read<usize>
         ensures { result ≡ read_own s.now map sorts self.at }
     {
-        if !has_bit(SORT_BIT, map) {
+        if !has_bit(map, SORT_BIT) {
             return Ok((0, self));
         }
         let (v, next) = self.u16(s)?;
@@ -164,11 +139,11 @@ impl Cursor {
     pub fn references(self, s: &[u8], map: usize, limits: Limits, limit: usize) -> Read<Span>
         ensures { result ≡ read_references s.now map limits.least limits.most limit self.at }
     {
-        if !has_bit(LIST_BIT, map) {
+        if !has_bit(map, LIST_BIT) {
             return Ok(self.no_list());
         }
         let (list, next) = self.list(s, limits)?;
-        if !all_below(s, list, limit) {
+        if !all_below(list.numbers(s), limit) {
             return Err(Refusal::Reference);
         }
         Ok((list, next))
@@ -180,11 +155,11 @@ impl Cursor {
     pub fn names(self, s: &[u8], map: usize, limits: Limits) -> Read<Span>
         ensures { result ≡ read_names s.now map limits.least limits.most self.at }
     {
-        if !has_bit(SECOND_BIT, map) {
+        if !has_bit(map, NAMES_BIT) {
             return Ok(self.no_list());
         }
         let (list, next) = self.list(s, limits)?;
-        if !is_distinct(s, list) {
+        if !is_distinct(list.numbers(s)) {
             return Err(Refusal::Value);
         }
         Ok((list, next))
@@ -192,7 +167,7 @@ impl Cursor {
 
     // The second list of a term of this kind with a list of `count`: the names of a Let, which may be any, or the index
     // terms of a ParamOp, Reference where one is not below `limit`; empty where its bit does not stand in the map.
-    #[tactic(auto, unfolding(crate::specs::Reader::read_second, crate::specs::Tables::second_least_of, crate::specs::Tables::second_most_of))]
+    #[tactic(auto, unfolding(crate::specs::Reader::read_second))]
     pub fn second(
         self,
         s: &[u8],
@@ -203,12 +178,11 @@ impl Cursor {
     ) -> Read<Span>
         ensures { result ≡ read_second s.now map (term_number kind) count limit self.at }
     {
-        if !has_bit(SECOND_BIT, map) {
+        if !has_bit(map, NAMES_BIT) {
             return Ok(self.no_list());
         }
-        let named = kind == TermKind::Let;
-        let (list, next) = self.list(s, Limits::beside(count, named))?;
-        if !named && !all_below(s, list, limit) {
+        let (list, next) = self.list(s, second_limits(kind, count))?;
+        if kind != TermKind::Let && !all_below(list.numbers(s), limit) {
             return Err(Refusal::Reference);
         }
         Ok((list, next))
@@ -216,11 +190,11 @@ impl Cursor {
 
     // The pairs: PastEnd where not all their bytes are there, Value over 64, Reference where a sort is none of the `sorts`
     // sorts; empty where their bit does not stand in the map.
-    #[tactic(auto, unfolding(crate::specs::Reader::read_pairs))]
+    #[tactic(auto, using(crate::specs::Scans::pair_sorts_are), unfolding(crate::specs::Reader::read_pairs))]
     pub fn pairs(self, s: &[u8], map: usize, sorts: usize) -> Read<Span>
         ensures { result ≡ read_pairs s.now map sorts self.at }
     {
-        if !has_bit(PAIRS_BIT, map) {
+        if !has_bit(map, PAIRS_BIT) {
             return Ok(self.no_list());
         }
         let (count, first) = self.byte(s)?;
@@ -230,7 +204,7 @@ impl Cursor {
         }
         let at = first.at;
         let pairs = Span { at, count };
-        if !pairs_below(s, pairs, sorts) {
+        if !pairs_below(pairs.pairs(s), sorts) {
             return Err(Refusal::Reference);
         }
         Ok((pairs, next))

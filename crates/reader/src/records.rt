@@ -4,7 +4,8 @@ ghost use Rattle.std.specs.Prelude.{◌≡◌};
 ghost use Rattle.reader.specs.Reader.{read_sort_fields, read_sort, read_term_fields, read_term, read_question_fields, read_question};
 
 use super::tables::{
-    Limits, question_limits, question_map_of, sort_limits, term_limits, term_map_of, term_number_of,
+    Limits, names_limits, question_limits, question_map_of, sort_limits, term_limits, term_map_of,
+    term_number_of,
 };
 use super::{Cursor, QuestionRecord, Read, Refusal, TermRecord};
 use record::SortRecord;
@@ -91,7 +92,7 @@ impl Cursor {
     }
 
     // The fields behind the kind of a question record, one after the other, or the first refusal.
-    #[tactic(auto, unfolding(crate::specs::Reader::read_question_fields, crate::specs::Tables::names_least_of, crate::specs::Tables::names_most_of))]
+    #[tactic(auto, unfolding(crate::specs::Reader::read_question_fields))]
     fn question_fields(
         self,
         s: &[u8],
@@ -102,8 +103,7 @@ impl Cursor {
         ensures { result ≡ read_question_fields s.now map kind sorts self.at }
     {
         let (list, next) = self.references(s, map, question_limits(kind), sorts)?;
-        let limits = Limits::beside(list.count, kind == QuestionKind::Apply);
-        let (names, next) = next.names(s, map, limits)?;
+        let (names, next) = next.names(s, map, names_limits(kind, list.count))?;
         Ok((QuestionRecord { kind, list, names }, next))
     }
 

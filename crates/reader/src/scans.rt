@@ -1,27 +1,23 @@
 // Tests of the numbers of a list.
-ghost use Rattle.std.specs.Prelude.{◌≡◌, ◌+◌, ◌*◌, ◌≤◌, length};
-ghost use Rattle.record.specs.Number.{numbers_at};
+ghost use Rattle.std.specs.Prelude.{◌≡◌, map};
 ghost use Rattle.record.specs.Names.{distinct, member};
-ghost use Rattle.record.specs.Numbers.{numbers_left};
-ghost use Rattle.reader.specs.Reader.{all_below, pair_sorts_at};
+ghost use Rattle.record.specs.Numbers.{numbers_left, pairs_left};
+ghost use Rattle.reader.specs.Reader.{all_below};
 
-use record::numbers::Numbers;
-use record::span::Span;
+use record::numbers::{Numbers, Pairs};
 
-// Whether the numbers of the list are all below the limit.
-pub fn all_below(s: &[u8], list: Span, limit: usize) -> bool
-    requires { list.at + 2 * list.count ≤ length s.now }
-    ensures { result ≡ all_below limit (numbers_at s.now list.at list.count) }
+// Whether the numbers are all below the limit.
+pub fn all_below(mut numbers: Numbers<'_>, limit: usize) -> bool
+    ensures { result ≡ all_below limit (numbers_left numbers.entry) }
 {
-    list.numbers(s).all(|v| v < limit)
+    numbers.all(|v| v < limit)
 }
 
 // Whether the sorts of the pairs are all below the limit.
-pub fn pairs_below(s: &[u8], pairs: Span, limit: usize) -> bool
-    requires { pairs.at + 4 * pairs.count ≤ length s.now }
-    ensures { result ≡ all_below limit (pair_sorts_at s.now pairs.at pairs.count) }
+pub fn pairs_below(mut pairs: Pairs<'_>, limit: usize) -> bool
+    ensures { result ≡ all_below limit (map (λ p. p.1) (pairs_left pairs.entry)) }
 {
-    pairs.pairs(s).all(|(_, sort)| sort < limit)
+    pairs.all(|(_, sort)| sort < limit)
 }
 
 // Whether v is one of the numbers.
@@ -31,15 +27,13 @@ pub fn contains(mut numbers: Numbers<'_>, v: usize) -> bool
     numbers.any(|w| w == v)
 }
 
-// Whether no number of the list stands twice.
+// Whether none of the numbers stands twice.
 #[tactic(auto, unfolding(record::specs::Names::distinct))]
-pub fn is_distinct(s: &[u8], list: Span) -> bool
-    requires { list.at + 2 * list.count ≤ length s.now }
-    ensures { result ≡ distinct (numbers_at s.now list.at list.count) }
+pub fn is_distinct(mut numbers: Numbers<'_>) -> bool
+    ensures { result ≡ distinct (numbers_left numbers.entry) }
 {
-    let mut left = list.numbers(s);
-    while let Some(v) = left.next() {
-        if contains(left, v) {
+    while let Some(v) = numbers.next() {
+        if contains(numbers, v) {
             return false;
         }
     }

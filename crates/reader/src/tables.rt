@@ -1,12 +1,13 @@
 // The bit maps and limits of the three parts' records, by kind; the bit maps of sorts stand in the crate record.
-ghost use Rattle.std.specs.Prelude.{◌≡◌, cond, ◌-◌, ◌&&◌, leb};
+ghost use Rattle.std.specs.Prelude.{◌≡◌, ◌&&◌, leb};
 ghost use Rattle.record.specs.Kinds.{sort_number, term_number, question_number};
 ghost use Rattle.record.specs.Record.{least_of, most_of};
-ghost use Rattle.reader.specs.Tables.{term_map_of, term_number_of, term_least_of, term_most_of, question_map_of, question_least_of, question_most_of};
+ghost use Rattle.reader.specs.Tables.{term_map_of, term_number_of, term_least_of, term_most_of, second_least_of, second_most_of, question_map_of, question_least_of, question_most_of, names_least_of, names_most_of};
 
 use record::kinds::{AsOp, Binder, ParamOp, QuestionKind, SortKind, TermKind};
 use record::limits::{LARGEST_WIDTH, LONGEST_LIST};
 use record::operators::Operator;
+use record::tables::{KIND_BIT, LIST_BIT, NAME_BIT, NAMES_BIT, NUMBER_BIT, PAIRS_BIT, SORT_BIT};
 
 // How long a list may be.
 #[derive(Clone, Copy, Debug, PartialEq, Eq)]
@@ -40,17 +41,6 @@ impl Limits {
             least: count,
             most: count,
         }
-    }
-
-    // How long a list beside one of `count` may be: one entry less where it is `tied` to it, 0 beside an empty one; else any.
-    pub fn beside(count: usize, tied: bool) -> Limits
-        ensures least { result.least ≡ cond tied (count - 1) 0 }
-        ensures most { result.most ≡ cond tied (count - 1) 64 }
-    {
-        if tied {
-            return Limits::exactly(count.saturating_sub(1));
-        }
-        Limits::ANY
     }
 
     // Whether a list may have `count` entries.
@@ -89,15 +79,15 @@ pub fn term_map_of(kind: TermKind) -> usize
     ensures { result ≡ term_map_of (term_number kind) }
 {
     match kind {
-        TermKind::Integer | TermKind::BitVector => 5,
-        TermKind::Real | TermKind::String | TermKind::RegLan => 1,
-        TermKind::Var => 11,
-        TermKind::App | TermKind::Match => 17,
-        TermKind::Op => 21,
-        TermKind::Binder => 53,
-        TermKind::Let => 81,
-        TermKind::ParamOp => 85,
-        TermKind::AsOp => 29,
+        TermKind::Integer | TermKind::BitVector => KIND_BIT | NUMBER_BIT,
+        TermKind::Real | TermKind::String | TermKind::RegLan => KIND_BIT,
+        TermKind::Var => KIND_BIT | NAME_BIT | SORT_BIT,
+        TermKind::App | TermKind::Match => KIND_BIT | LIST_BIT,
+        TermKind::Op => KIND_BIT | NUMBER_BIT | LIST_BIT,
+        TermKind::Binder => KIND_BIT | NUMBER_BIT | LIST_BIT | PAIRS_BIT,
+        TermKind::Let => KIND_BIT | LIST_BIT | NAMES_BIT,
+        TermKind::ParamOp => KIND_BIT | NUMBER_BIT | LIST_BIT | NAMES_BIT,
+        TermKind::AsOp => KIND_BIT | NUMBER_BIT | SORT_BIT | LIST_BIT,
     }
 }
 
@@ -143,14 +133,27 @@ pub fn term_limits(kind: TermKind) -> Limits
     }
 }
 
+// How many entries the second list of a kind of term has beside a list of `count`: one less for a Let, which has a name for each value
+// beside its inner term; else any.
+#[tactic(auto, unfolding(crate::specs::Tables::second_least_of, crate::specs::Tables::second_most_of))]
+pub fn second_limits(kind: TermKind, count: usize) -> Limits
+    ensures least { result.least ≡ second_least_of (term_number kind) count }
+    ensures most { result.most ≡ second_most_of (term_number kind) count }
+{
+    match kind {
+        TermKind::Let => Limits::exactly(count.saturating_sub(1)),
+        _ => Limits::ANY,
+    }
+}
+
 // The bit map of a kind of question.
 #[tactic(auto, unfolding(crate::specs::Tables::question_map_of, crate::specs::Tables::question_maps))]
 pub fn question_map_of(kind: QuestionKind) -> usize
     ensures { result ≡ question_map_of (question_number kind) }
 {
     match kind {
-        QuestionKind::Compatible => 17,
-        QuestionKind::Match | QuestionKind::Apply => 81,
+        QuestionKind::Compatible => KIND_BIT | LIST_BIT,
+        QuestionKind::Match | QuestionKind::Apply => KIND_BIT | LIST_BIT | NAMES_BIT,
     }
 }
 
@@ -164,5 +167,18 @@ pub fn question_limits(kind: QuestionKind) -> Limits
         QuestionKind::Compatible => Limits::exactly(2),
         QuestionKind::Match => Limits::exactly(3),
         QuestionKind::Apply => Limits::SOME,
+    }
+}
+
+// How many names a kind of question has beside a list of `count` sorts: one less for an Apply, which has an image for each name beside
+// its sort; else any.
+#[tactic(auto, unfolding(crate::specs::Tables::names_least_of, crate::specs::Tables::names_most_of))]
+pub fn names_limits(kind: QuestionKind, count: usize) -> Limits
+    ensures least { result.least ≡ names_least_of (question_number kind) count }
+    ensures most { result.most ≡ names_most_of (question_number kind) count }
+{
+    match kind {
+        QuestionKind::Apply => Limits::exactly(count.saturating_sub(1)),
+        _ => Limits::ANY,
     }
 }

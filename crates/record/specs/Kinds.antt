@@ -1,5 +1,5 @@
--- The numbers of the kinds, as they stand in a record: `K_number` is `kind as usize`, `K_kind` is the kind with a number, if any, and
--- `KDecodes n r` says that r is the kind with the number n, or the error where n is none's.
+-- The numbers of the kinds, as they stand in a record: `K_number` is `kind as usize`, and `KDecodes n r` says that r is the kind with the
+-- number n, or the error where n is none's. Where definitions ask for it, `K_kind` is the kind with a number, if any.
 use Rattle.std.specs.Prelude.{◌≡◌, ℕ, ◌≤◌, List, [], ◌∷◌, Option, Result, MatchResult, slice_get}
 use Rattle.record.specs.declared.kinds.UnknownKind.{UnknownKind}
 use Rattle.record.specs.declared.kinds.SortKind.{SortKind}
@@ -72,12 +72,6 @@ binder_number BinderExists = 1
 binder_number BinderChoice = 2
 binder_number BinderLambda = 3
 
-abbrev pub binder_kinds : List Binder
-binder_kinds = BinderForall ∷ BinderExists ∷ BinderChoice ∷ BinderLambda ∷ []
-
-abbrev pub binder_kind : ℕ → Option Binder
-binder_kind n = slice_get binder_kinds n
-
 abbrev pub BinderDecodes : ℕ → Result Binder UnknownKind → Type 0
 BinderDecodes n r = MatchResult r (λ k. binder_number k ≡ n) (λ e. (e.0 ≡ n) × (4 ≤ n))
 
@@ -85,12 +79,6 @@ abbrev pub as_number : AsOp → ℕ
 as_number AsConst = 0
 as_number AsSetEmpty = 1
 as_number AsSetUniverse = 2
-
-abbrev pub as_kinds : List AsOp
-as_kinds = AsConst ∷ AsSetEmpty ∷ AsSetUniverse ∷ []
-
-abbrev pub as_kind : ℕ → Option AsOp
-as_kind n = slice_get as_kinds n
 
 abbrev pub AsDecodes : ℕ → Result AsOp UnknownKind → Type 0
 AsDecodes n r = MatchResult r (λ k. as_number k ≡ n) (λ e. (e.0 ≡ n) × (3 ≤ n))

@@ -61,9 +61,6 @@ left-small (a ∷ []) h j = omega arith
 left-small (a ∷ b ∷ bytes) h zero = omega (arith, h 0, h 1)
 left-small (a ∷ b ∷ bytes) h (suc j) = left-small bytes (λ i. h (suc (suc i))) j
 
-pub first-small : (bytes : List ℕ) (v : ℕ) (rest : List ℕ) → Bytes bytes → numbers_of bytes ≡ v ∷ rest → v < 65536
-first-small bytes v rest h e = omega (arith, left-small bytes h 0, ap (λ (l : List ℕ). get_or l 0 0) e)
-
 -- What the iterators give, for the lemmas of std on `all`, `any`, `position` and the like.
 pub numbers-yield : {n : Numbers} (xs : List ℕ) → numbers_left n ≡ xs → YieldsList (YieldsFirst numbers_left) (λ v. v) n xs
 numbers-yield xs e = YieldsList-from_first (λ v. v) numbers_left xs e

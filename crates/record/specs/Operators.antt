@@ -1,6 +1,6 @@
--- The numbers of the operators, as they stand in an Op record: `operator_number` is `operator as usize`, `operator_kind` is the operator
--- with a number, if any.
-use Rattle.std.specs.Prelude.{◌≡◌, ℕ, ◌≤◌, List, [], ◌∷◌, Option, Result, MatchResult, slice_get}
+-- The numbers of the operators, as they stand in an Op record: `operator_number` is `operator as usize`, and `OperatorDecodes n r` says
+-- that r is the operator with the number n, or the error where n is none's.
+use Rattle.std.specs.Prelude.{◌≡◌, ℕ, ◌≤◌, Result, MatchResult}
 use Rattle.record.specs.declared.kinds.UnknownKind.{UnknownKind}
 use Rattle.record.specs.declared.operators.Operator.{Operator}
 use Rattle.record.specs.declared.operators.Operator.TheVariants.{True as OperatorTrue, False as OperatorFalse, Not as OperatorNot, Implies as OperatorImplies, And as OperatorAnd, Or as OperatorOr, Xor as OperatorXor, Equals as OperatorEquals, Distinct as OperatorDistinct, Ite as OperatorIte, Add as OperatorAdd, Sub as OperatorSub, Mult as OperatorMult, IntDiv as OperatorIntDiv, RealDiv as OperatorRealDiv, Mod as OperatorMod, Abs as OperatorAbs, LessThan as OperatorLessThan, GreaterThan as OperatorGreaterThan, LessEq as OperatorLessEq, GreaterEq as OperatorGreaterEq, ToReal as OperatorToReal, ToInt as OperatorToInt, IsInt as OperatorIsInt, Pow2 as OperatorPow2, IsPow2 as OperatorIsPow2, Log2 as OperatorLog2, RealPi as OperatorRealPi, Sqrt as OperatorSqrt, Exp as OperatorExp, Sin as OperatorSin, Cos as OperatorCos, Tan as OperatorTan, Csc as OperatorCsc, Sec as OperatorSec, Cot as OperatorCot, Arcsin as OperatorArcsin, Arccos as OperatorArccos, Arctan as OperatorArctan, Arccsc as OperatorArccsc, Arcsec as OperatorArcsec, Arccot as OperatorArccot, Select as OperatorSelect, Store as OperatorStore, StrConcat as OperatorStrConcat, StrLen as OperatorStrLen, StrLessThan as OperatorStrLessThan, StrLessEq as OperatorStrLessEq, CharAt as OperatorCharAt, Substring as OperatorSubstring, PrefixOf as OperatorPrefixOf, SuffixOf as OperatorSuffixOf, Contains as OperatorContains, IndexOf as OperatorIndexOf, IndexOfRe as OperatorIndexOfRe, Replace as OperatorReplace, ReplaceAll as OperatorReplaceAll, ReplaceRe as OperatorReplaceRe, ReplaceReAll as OperatorReplaceReAll, StrIsDigit as OperatorStrIsDigit, StrToCode as OperatorStrToCode, StrFromCode as OperatorStrFromCode, StrToInt as OperatorStrToInt, StrFromInt as OperatorStrFromInt, StrToRe as OperatorStrToRe, StrInRe as OperatorStrInRe, ReNone as OperatorReNone, ReAll as OperatorReAll, ReAllChar as OperatorReAllChar, ReConcat as OperatorReConcat, ReUnion as OperatorReUnion, ReIntersection as OperatorReIntersection, ReKleeneClosure as OperatorReKleeneClosure, ReComplement as OperatorReComplement, ReDiff as OperatorReDiff, ReKleeneCross as OperatorReKleeneCross, ReOption as OperatorReOption, ReRange as OperatorReRange, ReFromAutomaton as OperatorReFromAutomaton, BvNot as OperatorBvNot, BvNeg as OperatorBvNeg, BvAnd as OperatorBvAnd, BvOr as OperatorBvOr, BvAdd as OperatorBvAdd, BvMul as OperatorBvMul, BvUDiv as OperatorBvUDiv, BvURem as OperatorBvURem, BvShl as OperatorBvShl, BvLShr as OperatorBvLShr, BvULt as OperatorBvULt, BvConcat as OperatorBvConcat, BvNAnd as OperatorBvNAnd, BvNOr as OperatorBvNOr, BvXor as OperatorBvXor, BvXNor as OperatorBvXNor, BvComp as OperatorBvComp, BvSub as OperatorBvSub, BvSDiv as OperatorBvSDiv, BvSRem as OperatorBvSRem, BvSMod as OperatorBvSMod, BvAShr as OperatorBvAShr, BvULe as OperatorBvULe, BvUGt as OperatorBvUGt, BvUGe as OperatorBvUGe, BvSLt as OperatorBvSLt, BvSLe as OperatorBvSLe, BvSGt as OperatorBvSGt, BvSGe as OperatorBvSGe, UBvToInt as OperatorUBvToInt, SBvToInt as OperatorSBvToInt, BvPBbTerm as OperatorBvPBbTerm, BvBbTerm as OperatorBvBbTerm, BvConst as OperatorBvConst, BvSize as OperatorBvSize, BvIte as OperatorBvIte, RareList as OperatorRareList, Cl as OperatorCl, Delete as OperatorDelete, SetUnion as OperatorSetUnion, SetInter as OperatorSetInter, SetMinus as OperatorSetMinus, SetMember as OperatorSetMember, SetSubset as OperatorSetSubset, SetSingleton as OperatorSetSingleton, SetIsEmpty as OperatorSetIsEmpty, SetIsSingleton as OperatorSetIsSingleton, SetCard as OperatorSetCard, SetInsert as OperatorSetInsert, SetComplement as OperatorSetComplement, Tuple as OperatorTuple, TupleUnit as OperatorTupleUnit, RelTranspose as OperatorRelTranspose, RelTclosure as OperatorRelTclosure, RelJoin as OperatorRelJoin, RelProduct as OperatorRelProduct}
@@ -141,12 +141,6 @@ operator_number OperatorRelTranspose = 131
 operator_number OperatorRelTclosure = 132
 operator_number OperatorRelJoin = 133
 operator_number OperatorRelProduct = 134
-
-abbrev pub operator_kinds : List Operator
-operator_kinds = OperatorTrue ∷ OperatorFalse ∷ OperatorNot ∷ OperatorImplies ∷ OperatorAnd ∷ OperatorOr ∷ OperatorXor ∷ OperatorEquals ∷ OperatorDistinct ∷ OperatorIte ∷ OperatorAdd ∷ OperatorSub ∷ OperatorMult ∷ OperatorIntDiv ∷ OperatorRealDiv ∷ OperatorMod ∷ OperatorAbs ∷ OperatorLessThan ∷ OperatorGreaterThan ∷ OperatorLessEq ∷ OperatorGreaterEq ∷ OperatorToReal ∷ OperatorToInt ∷ OperatorIsInt ∷ OperatorPow2 ∷ OperatorIsPow2 ∷ OperatorLog2 ∷ OperatorRealPi ∷ OperatorSqrt ∷ OperatorExp ∷ OperatorSin ∷ OperatorCos ∷ OperatorTan ∷ OperatorCsc ∷ OperatorSec ∷ OperatorCot ∷ OperatorArcsin ∷ OperatorArccos ∷ OperatorArctan ∷ OperatorArccsc ∷ OperatorArcsec ∷ OperatorArccot ∷ OperatorSelect ∷ OperatorStore ∷ OperatorStrConcat ∷ OperatorStrLen ∷ OperatorStrLessThan ∷ OperatorStrLessEq ∷ OperatorCharAt ∷ OperatorSubstring ∷ OperatorPrefixOf ∷ OperatorSuffixOf ∷ OperatorContains ∷ OperatorIndexOf ∷ OperatorIndexOfRe ∷ OperatorReplace ∷ OperatorReplaceAll ∷ OperatorReplaceRe ∷ OperatorReplaceReAll ∷ OperatorStrIsDigit ∷ OperatorStrToCode ∷ OperatorStrFromCode ∷ OperatorStrToInt ∷ OperatorStrFromInt ∷ OperatorStrToRe ∷ OperatorStrInRe ∷ OperatorReNone ∷ OperatorReAll ∷ OperatorReAllChar ∷ OperatorReConcat ∷ OperatorReUnion ∷ OperatorReIntersection ∷ OperatorReKleeneClosure ∷ OperatorReComplement ∷ OperatorReDiff ∷ OperatorReKleeneCross ∷ OperatorReOption ∷ OperatorReRange ∷ OperatorReFromAutomaton ∷ OperatorBvNot ∷ OperatorBvNeg ∷ OperatorBvAnd ∷ OperatorBvOr ∷ OperatorBvAdd ∷ OperatorBvMul ∷ OperatorBvUDiv ∷ OperatorBvURem ∷ OperatorBvShl ∷ OperatorBvLShr ∷ OperatorBvULt ∷ OperatorBvConcat ∷ OperatorBvNAnd ∷ OperatorBvNOr ∷ OperatorBvXor ∷ OperatorBvXNor ∷ OperatorBvComp ∷ OperatorBvSub ∷ OperatorBvSDiv ∷ OperatorBvSRem ∷ OperatorBvSMod ∷ OperatorBvAShr ∷ OperatorBvULe ∷ OperatorBvUGt ∷ OperatorBvUGe ∷ OperatorBvSLt ∷ OperatorBvSLe ∷ OperatorBvSGt ∷ OperatorBvSGe ∷ OperatorUBvToInt ∷ OperatorSBvToInt ∷ OperatorBvPBbTerm ∷ OperatorBvBbTerm ∷ OperatorBvConst ∷ OperatorBvSize ∷ OperatorBvIte ∷ OperatorRareList ∷ OperatorCl ∷ OperatorDelete ∷ OperatorSetUnion ∷ OperatorSetInter ∷ OperatorSetMinus ∷ OperatorSetMember ∷ OperatorSetSubset ∷ OperatorSetSingleton ∷ OperatorSetIsEmpty ∷ OperatorSetIsSingleton ∷ OperatorSetCard ∷ OperatorSetInsert ∷ OperatorSetComplement ∷ OperatorTuple ∷ OperatorTupleUnit ∷ OperatorRelTranspose ∷ OperatorRelTclosure ∷ OperatorRelJoin ∷ OperatorRelProduct ∷ []
-
-abbrev pub operator_kind : ℕ → Option Operator
-operator_kind n = slice_get operator_kinds n
 
 abbrev pub OperatorDecodes : ℕ → Result Operator UnknownKind → Type 0
 OperatorDecodes n r = MatchResult r (λ k. operator_number k ≡ n) (λ e. (e.0 ≡ n) × (135 ≤ n))

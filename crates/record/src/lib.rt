@@ -10,7 +10,7 @@ pub mod span;
 pub mod tables;
 
 ghost use Rattle.std.specs.Prelude.{◌≡◌, ◌+◌, ◌≤◌, ◌<◌, length};
-ghost use Rattle.record.specs.Number.{u16_at};
+ghost use Rattle.record.specs.Number.{u16_at, u32_at};
 
 use kinds::SortKind;
 use span::Span;
@@ -33,4 +33,14 @@ pub fn u16_at(s: &[u8], at: usize) -> usize
     ensures upper_bound { result < 65536 }
 {
     usize::from(u16::from_le_bytes([s[at], s[at + 1]]))
+}
+
+// The u32 at `at`, low byte first.
+#[tactic(auto, unfolding(crate::specs::Number::u32_at, crate::specs::Number::u16_at))]
+pub fn u32_at(s: &[u8], at: usize) -> usize
+    requires { at + 4 ≤ length s.now }
+    ensures value { result ≡ u32_at s.now at }
+    ensures upper_bound { result < 4294967296 }
+{
+    u32::from_le_bytes([s[at], s[at + 1], s[at + 2], s[at + 3]]) as usize
 }

@@ -12,6 +12,9 @@ pub const MOST_TERMS: usize = 4096;
 
 pub const MOST_QUESTIONS: usize = 1024;
 
+// The most rows: two for each term, the inferred one and the checked one.
+pub const ROWS: usize = 2 * MOST_TERMS;
+
 // The most entries of a list.
 pub const LONGEST_LIST: usize = 64;
 
@@ -35,3 +38,6 @@ pub const MOST_BOUND: usize = MOST_SORTS;
 
 // How many names there are.
 pub const NAMES: usize = 65536;
+
+// A row is refused from this number on: it is the cause's number times this one. Below it, it is the number of a sort.
+pub const REFUSED: usize = 65536;

@@ -3,7 +3,7 @@
 // two bytes: the four lengths and its own.
 #![tactic(auto)]
 
-use record::limits::{LONGEST_SHEET, MOST_QUESTIONS, MOST_SORTS, MOST_TERMS};
+use record::limits::{LONGEST_SHEET, MOST_QUESTIONS, MOST_SORTS, ROWS};
 use record::u16_at;
 use std::io::{ErrorKind, Read, Write};
 use std::{fs, io};
@@ -68,7 +68,7 @@ fn judge_over<W: Write>(
 fn run<W: Write>(output: &mut W, sheet: &[u8], lent: Lengths) {
     let mut records = [DIRT; LONGEST_SHEET];
     let mut places = [DIRTY_NUMBER; MOST_SORTS];
-    let mut rows = [DIRTY_NUMBER; 2 * MOST_TERMS];
+    let mut rows = [DIRTY_NUMBER; ROWS];
     let mut answers = [DIRTY_NUMBER; MOST_QUESTIONS];
     let Some(records) = records.get_mut(..lent.records) else {
         return;

@@ -1,16 +1,15 @@
 -- Lists put together in the lent array: what they ask of `make`, and the sorts that they stand for.
-use Prim.Native.Nat.{ℕ, zero, suc, ◌+◌, ◌*◌, ◌≤◌, ◌<◌}
+use Prim.Native.Nat.{ℕ, zero, suc, ◌+◌, ◌*◌, ◌/◌, ◌%◌, ◌≤◌, ◌<◌}
 use mathlib.Core.Path.{◌≡◌, refl, sym, ap, ap₂, subst, ◌∙◌}
 use mathlib.Core.Bool.{false, cond}
-use mathlib.Core.Option.{none, some}
 use mathlib.Core.List.{List, [], ◌∷◌}
 use native.Mathlib.Omega.{arith}
 use native.Mathlib.Numerals.{add-one}
 use lib.ListN.{length, get_or, set, take, drop, length-take, length-drop}
 use lib.Seq.{get_or-take, get_or-drop, length-take-le, take_all}
 use lib.Dec.{eqb}
-use borrow.Author.Tests.{eq-eqb, ne_eqb}
-use Rattle.record.specs.Number.{u16_at, u32_at, numbers_at}
+use borrow.Author.Tests.{ne_eqb}
+use Rattle.record.specs.Number.{u16_at, numbers_at}
 use Rattle.record.specs.Sort.{Sort, node, function, count, tuple}
 use Rattle.record.specs.Sort.{set as set_of}
 use Rattle.record.specs.Record.{maps, map_of, leasts, least_of, mosts, most_of, leaf, sorts_of, sort_of}
@@ -25,7 +24,7 @@ use Rattle.row_rules.specs.Lists.{remaining, joined}
 use Rattle.row_answer.specs.Within.{over-list, over-inner}
 use Rattle.row_answer.specs.Records.{listed_record, list-fresh, list-sort, remaining-many}
 use Rattle.row_answer.specs.Asks.{MakeAsks, StoredListAsks, ListedAsks, RemainingAsks}
-use Rattle.row_answer.specs.Arguments.{row_at, integer_at, put_at, put-long, Filled, filled_more, binding_at, bound_numbers, BindingsAsks, BindingsAre, bindings-are, LambdaAsks, sorts-joined}
+use Rattle.row_answer.specs.Arguments.{PutNumberAsks, row_at, put_at, put-long, Filled, filled_more, binding_at, bound_numbers, BindingsAre, bindings-are, LambdaAsks, sorts-joined}
 
 -- A list of more than 64.
 module _ (st : List Sort) (a : List ℕ) (x m : ℕ) (h : 64 < m) where
@@ -52,6 +51,30 @@ numbers-same a x b y (suc m) h =
     let fx : x + 2 + i ≡ x + (2 + i) = omega arith in
     let fy : y + (2 + i) ≡ y + 2 + i = omega arith in
     ap (λ (z : ℕ). get_or a z 0) fx ∙ h (2 + i) (omega arith) ∙ ap (λ (z : ℕ). get_or b z 0) fy))
+
+-- The two bytes of a number, copied to a place.
+two-written : (l : List ℕ) (at v w : ℕ) → at + 2 ≤ length l → written l at (v ∷ w ∷ []) ≡ set (set l at v) (at + 1) w
+unfolding written
+two-written [] at v w h = absurd (omega arith)
+two-written (x ∷ []) at v w h = absurd (omega arith)
+two-written (x ∷ y ∷ l) zero v w h = refl
+two-written (x ∷ y ∷ l) (suc at) v w h =
+    let e : suc at + 2 ≡ suc (at + 2) = omega arith in
+    let f : suc at + 1 ≡ suc (at + 1) = omega arith in
+    rw (e, f) (ap (λ (m : List ℕ). x ∷ m) (two-written (y ∷ l) at v w (omega arith)))
+
+pub put-written : {l : List ℕ} {at v : ℕ} → PutNumberAsks l at v → {bytes : List ℕ} → bytes ≡ v % 256 ∷ v / 256 % 256 ∷ [] → written l at bytes ≡ put_at l at v
+put-written {l} {at} {v} h e =
+    let z : v / 256 % 256 ≡ v / 256 = omega (arith, h.small) in
+    ap (written l at) e ∙ ap (λ (i : ℕ). written l at (v % 256 ∷ i ∷ [])) z ∙ two-written l at (v % 256) (v / 256) h.within
+
+-- The three bytes of a record's head.
+pub head-written : (l : List ℕ) (u w : ℕ) {v k : ℕ} → 3 ≤ length l → v ≡ k → written l 0 (u ∷ v ∷ w ∷ []) ≡ set (set (set l 0 u) 1 k) 2 w
+unfolding written
+head-written [] u w h e = absurd (omega arith)
+head-written (x ∷ []) u w h e = absurd (omega arith)
+head-written (x ∷ y ∷ []) u w h e = absurd (omega arith)
+head-written (x ∷ y ∷ z ∷ l) u w h e = ap (λ (i : ℕ). u ∷ i ∷ w ∷ l) e
 
 -- The record r of a list put together in a: it is its own record, and has the bytes of a behind its head.
 record Listed (a : List ℕ) (k m : ℕ) (r : List ℕ) : Type 0 where
@@ -160,9 +183,6 @@ module _ {b p ix : List ℕ} {n u : ℕ} {a : List ℕ} {x m : ℕ} (asks : Rema
 
 ---------------------------------------------------------------- Lambda
 module _ {b p ix : List ℕ} {n u : ℕ} {sheet : List ℕ} {x m : ℕ} {table a : List ℕ} {body : ℕ} (asks : LambdaAsks b p ix n u sheet x m table a body) where
-  pub lambda-bindings : BindingsAsks sheet x m table a
-  lambda-bindings = record { within = asks.within; each = asks.each; room = omega (arith, asks.few, asks.room) }
-
   -- c is the array with the bindings, to which the body is put.
   module _ {c : List ℕ} (long : length c ≡ length a) (h : BindingsAre sheet x m table c) where
     pub lambda-room : 3 + 2 * m + 2 ≤ length c
@@ -209,18 +229,8 @@ module _ {b p ix : List ℕ} {n u : ℕ} {sheet : List ℕ} {x m : ℕ} {table a
           ∙ sorts-joined st (put_at c (3 + 2 * m) body) 3 m
           ∙ ap₂ (λ (is : List ℕ) (i : ℕ). joined (sorts_of st is) (get_or st i leaf)) (same-bound ∙ h.numbers) last))
 
----------------------------------------------------------------- rows and constants
+---------------------------------------------------------------- rows
 -- One row more that is no refusal.
 pub rows_more : (sheet : List ℕ) (x : ℕ) (rows : List ℕ) (column i : ℕ) → row_at sheet x rows column i < 65536 → ((j : ℕ) → j < i → row_at sheet x rows column j < 65536)
     → (j : ℕ) → j < i + 1 → row_at sheet x rows column j < 65536
 rows_more sheet x rows column i here h j l = below_suc (λ (j : ℕ). row_at sheet x rows column j < 65536) i h here j (omega arith)
-
-pub constant-other : (s : List ℕ) (x : ℕ) → (get_or s (x + 1) 0 ≡ 0 → ⊥) → integer_at s x ≡ none
-constant-other s x h = simp (ne_eqb (get_or s (x + 1) 0) 0 h)
-
-pub constant-integer : (s : List ℕ) (x : ℕ) → get_or s (x + 1) 0 ≡ 0 → {low high : ℕ} → low ≡ u16_at s (x + 2) → high ≡ u16_at s (x + 4) → integer_at s x ≡ some (low + high * 65536)
-unfolding u32_at
-constant-integer s x h {low} {high} el eh =
-    let e : x + 2 + 2 ≡ x + 4 = omega arith in
-    simp (eq-eqb (get_or s (x + 1) 0) 0 h)
-    (ap some (ap₂ (λ (i j : ℕ). i + j * 65536) (sym el) (ap (u16_at s) e ∙ sym eh)))

@@ -6,7 +6,7 @@ use mathlib.Core.Bool.{false, false≢true}
 use mathlib.Core.List.{List, [], ◌∷◌}
 use native.Mathlib.Omega.{arith}
 use lib.ListN.{get_or}
-use Rattle.record.specs.Sort.{Sort, set, size}
+use Rattle.record.specs.Sort.{Sort, set, node, end, size}
 use Rattle.record.specs.Record.{leaf, sort_of}
 use Rattle.record.specs.Store.{add_once, intern}
 use Rattle.record.specs.Decode.{fields_at, store_of, sort_at}
@@ -14,7 +14,7 @@ use Rattle.record.specs.StoreLaws.{store_of-length}
 use Rattle.record.specs.SortLists.{Starts, starts-self, starts-intern, memb-at, intern-known}
 use Rattle.record.specs.Entries.{store-ordered}
 use Rattle.store.specs.Entry.{TreeAsks, TreeHas}
-use Rattle.store.specs.Contract.{InternAsks, InternedIs, Holds, UndoIs}
+use Rattle.store.specs.Contract.{InternedIs, Holds, UndoIs}
 use Rattle.store.specs.declared.Full.{Full as NoRoom}
 use Rattle.store.specs.Walk.{tree-asks}
 use Rattle.store.specs.Grown.{holds-intern}
@@ -24,11 +24,21 @@ use Rattle.row_rules.specs.Verdict.{sort}
 use Rattle.row_answer.specs.Answer.{Answer, AnswerIs, accepting, refusing}
 use Rattle.row_answer.specs.Within.{within-fresh, within-set, over-size, over-set}
 use Rattle.row_answer.specs.AnswerLaws.{judged-as, answered-as, answer-same, untouched-as, made-limit, record-made, record-full, intern-set, starts-set, Back, answer_back, grown-accepted, grown-refused, undone, undone-used}
-use Rattle.row_answer.specs.Asks.{MakeAsks, SetOverAsks, MadeFrom}
+use Rattle.row_answer.specs.Asks.{MakeAsks, LeafAsks, SetOverAsks, MadeFrom}
+use Rattle.row_answer.specs.Records.{leaf-fresh, leaf-sort}
 
 -- The two bytes that a number is written in.
 pub two-bytes : (v : ℕ) → v < 65536 → {bytes : List ℕ} → bytes ≡ v % 256 ∷ v / 256 % 256 ∷ [] → (get_or bytes 0 0 ≡ v % 256) × (get_or bytes 1 0 ≡ v / 256)
 two-bytes v h {bytes} e = (ap (λ (l : List ℕ). get_or l 0 0) e, omega (arith, ap (λ (l : List ℕ). get_or l 1 0) e))
+
+-- The record of a kind alone, which stands in the byte v.
+module _ {b p ix : List ℕ} {n u k : ℕ} (asks : LeafAsks b p ix n u k) {v : ℕ} (e : v ≡ k) where
+  pub leaf-asks : MakeAsks b p ix n u (1 ∷ v ∷ [])
+  leaf-asks = record { good = asks.good; fresh = rw e (leaf-fresh k asks.map n) }
+
+  pub leaf-answer : {b' p' ix' : List ℕ} {r : Answer} → AnswerIs b p n (sort (sort_of (store_of b p n) (fields_at (1 ∷ v ∷ []) 0))) b' p' ix' r
+      → AnswerIs b p n (sort (node k 0 0 end)) b' p' ix' r
+  leaf-answer a = judged-as (ap sort (sym (leaf-sort k asks.map (store_of b p n)))) (rw e at a)
 
 -- MAKE: w is what `tree_size` gave.
 module _ {b p ix : List ℕ} {n u : ℕ} {r : List ℕ} (asks : MakeAsks b p ix n u r) where
@@ -38,9 +48,6 @@ module _ {b p ix : List ℕ} {n u : ℕ} {r : List ℕ} (asks : MakeAsks b p ix 
   module _ (w : ℕ) (has : TreeHas ix r w) where
     weight : w ≡ size (sort_of (store_of b p n) (fields_at r 0))
     weight = has b p n asks.good.sized asks.fresh.below
-
-    pub weight-asks : w ≤ 4096 → InternAsks b p ix n u r w
-    weight-asks h = record { good = asks.good; fresh = asks.fresh; weight = weight; small = h }
 
     pub make-over : 4096 < w → AnswerIs b p n (sort (sort_of (store_of b p n) (fields_at r 0))) b p ix (refusing Limit n u)
     make-over h =
@@ -79,9 +86,6 @@ module _ {b p ix : List ℕ} {n u : ℕ} {r : List ℕ} (asks : MakeAsks b p ix 
 
   -- The store with the record's sort was made from the one before.
   module _ (c q ic : List ℕ) (k m v : ℕ) (h : Holds b p n u r c q ic k m v) where
-    pub made_asks : SetOverAsks c q ic m v k n
-    made_asks = record { good = h.good; known = h.known; order = h.more }
-
     pub made-from : MadeFrom b p ix n u c q m k
     made-from =
         record {

@@ -277,22 +277,6 @@ pub record IndexIs (sheet starts : List ℕ) (x : ℕ) (r : Found ℕ) : Type 0 
   pub is : integer_of r ≡ index_at sheet starts x
   pub small : (v : ℕ) → r ≡ Some v → v < 4294967296
 
--- The first and the second of several.
-module _ (sheet starts : List ℕ) (x m : ℕ) (h : ConstantsAsk sheet starts x m) where
-  pub index-first : 0 < m → IndexAsks sheet starts x
-  index-first l =
-      let e : x + 2 * 0 ≡ x = omega arith in
-      record {
-        within = omega (arith, h.within);
-        term = subst (λ (y : ℕ). u16_at sheet y < length starts) e (h.term 0 l);
-        start = subst (λ (y : ℕ). ConstantAsks sheet (get_or starts (u16_at sheet y) 0)) e (h.start 0 l);
-      }
-
-  pub index-second : 2 ≤ m → IndexAsks sheet starts (x + 2)
-  index-second l =
-      let e : x + 2 * 1 ≡ x + 2 = omega arith in
-      record {
-        within = omega (arith, h.within);
-        term = subst (λ (y : ℕ). u16_at sheet y < length starts) e (h.term 1 (omega arith));
-        start = subst (λ (y : ℕ). ConstantAsks sheet (get_or starts (u16_at sheet y) 0)) e (h.start 1 (omega arith));
-      }
+-- One of several.
+pub index-asks : (sheet starts : List ℕ) (x m : ℕ) → ConstantsAsk sheet starts x m → (i : ℕ) → i < m → IndexAsks sheet starts (x + 2 * i)
+index-asks sheet starts x m h i l = record { within = omega (arith, h.within); term = h.term i l; start = h.start i l }

@@ -19,6 +19,10 @@ pub record ValuesAsk (b p s : List ℕ) (x m : ℕ) : Type 0 where
 abbrev pub ValuesHave : List ℕ → List ℕ → List ℕ → ℕ → ℕ → Bool → Type 0
 ValuesHave b p s x m r = (n : ℕ) → Stored b p n → Refs s x m n → r ≡ values (sorts_at b p n s x m)
 
+-- Whether the sort k is a value, whatever the count is.
+abbrev pub Valued : List ℕ → List ℕ → Bool → ℕ → Type 0
+Valued b p t k = (n : ℕ) → Stored b p n → k < n → value (sort_at b p n k) ≡ t
+
 -- A Par is no value, every other sort is.
 pub value-kind : (s : Sort) → (kind_of s ≡ 12 → ⊥) → value s ≡ true
 value-kind (var v) h = refl

@@ -10,9 +10,10 @@ ghost use Rattle.row_answer.specs.Arguments.{column_number, GatherAsks, GatherIs
 
 use super::MAP_LIST;
 use record::kinds::{SortKind, TermKind};
+use record::limits::REFUSED;
 use record::numbers::Numbers;
 use record::span::Span;
-use record::u16_at;
+use record::{u16_at, u32_at};
 use sheet::ReadSheet;
 use store::buffers::copy_at;
 
@@ -25,9 +26,6 @@ pub enum Column {
     Inferred,
     Checked,
 }
-
-// A row is refused from this number on: it is the cause's number times this one.
-pub const REFUSED: usize = 65536;
 
 // The numbers of sorts in a lent array from byte 3 on, two bytes each, where the list of a Function, Set or Tuple record stands.
 #[derive(Drop)]
@@ -66,10 +64,7 @@ impl Args<'_> {
         ensures at { result.at ≡ 5 }
         ensures count { result.count ≡ self.now.count - 1 }
     {
-        Span {
-            at: FIRST_AT + 2,
-            count: self.count - 1,
-        }
+        self.span().skip(1)
     }
 
     // The numbers, from the first to the last.
@@ -102,10 +97,11 @@ impl Args<'_> {
         ensures count { self.new.count ≡ self.old.count + 1 }
         ensures bytes { self.new.bytes.now ≡ put_at self.old.bytes.now (3 + 2 * self.old.count) k }
     {
-        let at = FIRST_AT + 2 * self.count;
-        let [low, high] = (k as u16).to_le_bytes();
-        self.bytes[at] = low;
-        self.bytes[at + 1] = high;
+        copy_at(
+            self.bytes,
+            FIRST_AT + 2 * self.count,
+            &(k as u16).to_le_bytes(),
+        );
         self.count += 1;
     }
 
@@ -129,9 +125,7 @@ impl Args<'_> {
         ensures count { self.new.count ≡ self.old.count }
         ensures bytes { self.new.bytes.now ≡ set (set (set self.old.bytes.now 0 17) 1 (sort_number kind)) 2 self.old.count }
     {
-        self.bytes[0] = MAP_LIST;
-        self.bytes[1] = kind as u8;
-        self.bytes[2] = self.count as u8;
+        copy_at(self.bytes, 0, &[MAP_LIST, kind as u8, self.count as u8]);
     }
 
     // The head and the numbers.
@@ -210,16 +204,14 @@ pub fn constant_at(sheet: &[u8], at: usize) -> Option<usize>
     if sheet[at + 1] != TermKind::Integer as u8 {
         return None;
     }
-    let low = u16_at(sheet, at + 2);
-    let high = u16_at(sheet, at + 4);
-    Some(low + high * 65536)
+    Some(u32_at(sheet, at + 2))
 }
 
-// The number of the term that the sheet names at `at`, where it is an integer constant; else None.
-pub fn index_at(sheet: &ReadSheet<'_>, at: usize) -> Option<usize>
-    requires { IndexAsks sheet.now.bytes.now sheet.now.starts.now at }
-    ensures { IndexIs sheet.now.bytes.now sheet.now.starts.now at result }
+// The number of the term that the sheet names in the place i of a list, where it is an integer constant; else None.
+pub fn index_at(sheet: &ReadSheet<'_>, list: Span, i: usize) -> Option<usize>
+    requires { IndexAsks sheet.now.bytes.now sheet.now.starts.now (list.at + 2 * i) }
+    ensures { IndexIs sheet.now.bytes.now sheet.now.starts.now (list.at + 2 * i) result }
 {
-    let t = u16_at(sheet.bytes, at);
+    let t = list.get(sheet.bytes, i);
     constant_at(sheet.bytes, sheet.starts[t] as usize)
 }

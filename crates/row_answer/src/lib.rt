@@ -10,26 +10,27 @@ ghost use Rattle.std.specs.Prelude.{◌≡◌, ◌<◌};
 ghost use Rattle.record.specs.Kinds.{sort_number};
 ghost use Rattle.record.specs.Sort.{var, node, end, bitvec};
 ghost use Rattle.record.specs.Record.{sort_of};
-ghost use Rattle.record.specs.Decode.{fields_at, store_of};
+ghost use Rattle.record.specs.Decode.{fields_at};
 ghost use Rattle.store.specs.Changes.{Same};
+ghost use Rattle.store.specs.Words.{store_in};
 ghost use Rattle.row_rules.specs.Verdict.{sort, code_of};
 ghost use Rattle.row_answer.specs.Answer.{Answered};
-ghost use Rattle.row_answer.specs.Asks.{MakeAsks, LeafAsks, VariableAsks};
+ghost use Rattle.row_answer.specs.Words.{MakeAsked, LeafAsked, VariableAsked};
 
-use arguments::REFUSED;
 use record::kinds::SortKind;
-use record::limits::{LARGEST_TREE, LARGEST_WIDTH};
+use record::limits::{LARGEST_TREE, LARGEST_WIDTH, REFUSED};
+use record::tables::{KIND_BIT, LIST_BIT, NAME_BIT, NUMBER_BIT};
 use row_rules::{Cause, Row};
 use store::Store;
 
 // The bit maps of the records of answers: the kind alone, or with a name, a number or a list.
-const MAP_KIND: u8 = 1;
+const MAP_KIND: u8 = KIND_BIT as u8;
 
-const MAP_NAME: u8 = 3;
+const MAP_NAME: u8 = (KIND_BIT | NAME_BIT) as u8;
 
-const MAP_NUMBER: u8 = 5;
+const MAP_NUMBER: u8 = (KIND_BIT | NUMBER_BIT) as u8;
 
-const MAP_LIST: u8 = 17;
+const MAP_LIST: u8 = (KIND_BIT | LIST_BIT) as u8;
 
 // A row as it is written: the store number, or the number of the cause times 65,536.
 pub fn code(row: Row) -> u32
@@ -44,9 +45,9 @@ pub fn code(row: Row) -> u32
 
 // The sort of a record: found or added; Limit where its tree is over 4,096; Full where the store cannot hold it.
 pub fn make(store: &mut Store<'_>, rec: &[u8]) -> Row
-    requires { MakeAsks store.old.records.now store.old.places.now store.old.index.now store.old.count store.old.used rec.now }
+    requires { MakeAsked store.old rec.now }
     ensures same { Same store.old store.new }
-    ensures answer { Answered store.old (sort (sort_of (store_of store.old.records.now store.old.places.now store.old.count) (fields_at rec.now 0))) store.new result }
+    ensures answer { Answered store.old (sort (sort_of (store_in store.old) (fields_at rec.now 0))) store.new result }
 {
     let weight = store.tree_size(rec);
     if LARGEST_TREE < weight {
@@ -55,26 +56,18 @@ pub fn make(store: &mut Store<'_>, rec: &[u8]) -> Row
     Ok(store.intern(rec, weight)?)
 }
 
-// The byte that stands for a kind in a record.
-fn byte_of(kind: SortKind) -> u8
-    ensures { result ≡ sort_number kind }
-{
-    kind as u8
-}
-
 // The sort of a kind without name, number and parts, as Bool; or Full.
 pub fn leaf(store: &mut Store<'_>, kind: SortKind) -> Row
-    requires { LeafAsks store.old.records.now store.old.places.now store.old.index.now store.old.count store.old.used (sort_number kind) }
+    requires { LeafAsked store.old (sort_number kind) }
     ensures same { Same store.old store.new }
     ensures answer { Answered store.old (sort (node (sort_number kind) 0 0 end)) store.new result }
 {
-    let rec = [MAP_KIND, byte_of(kind)];
-    make(store, &rec)
+    make(store, &[MAP_KIND, kind as u8])
 }
 
 // The variable with this name; or Full.
 pub fn variable(store: &mut Store<'_>, name: usize) -> Row
-    requires { VariableAsks store.old.records.now store.old.places.now store.old.index.now store.old.count store.old.used name }
+    requires { VariableAsked store.old name }
     ensures same { Same store.old store.new }
     ensures answer { Answered store.old (sort (var name)) store.new result }
 {

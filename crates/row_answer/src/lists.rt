@@ -1,18 +1,16 @@
 // Answers made over numbers of the store. Lists of arguments and of parts are put together in a lent array from byte 3 on,
 // where the list of a Function, Set or Tuple record stands.
-ghost use Rattle.std.specs.Prelude.{ℕ};
-ghost use Rattle.record.specs.Number.{numbers_at};
 ghost use Rattle.record.specs.Kinds.{sort_number};
 ghost use Rattle.record.specs.Sort.{node, set, tuple, function};
-ghost use Rattle.record.specs.Record.{sorts_of, sort_of};
-ghost use Rattle.record.specs.Decode.{fields_at, store_of, sort_at};
+ghost use Rattle.record.specs.Record.{sort_of};
+ghost use Rattle.record.specs.Decode.{fields_at};
 ghost use Rattle.store.specs.Changes.{Same};
+ghost use Rattle.store.specs.Words.{store_in, sort_in};
 ghost use Rattle.row_rules.specs.Verdict.{sort};
 ghost use Rattle.row_rules.specs.Lists.{remaining, joined};
-ghost use Rattle.row_answer.specs.Answer.{Answered, answer};
+ghost use Rattle.row_answer.specs.Answer.{Answered};
 ghost use Rattle.row_answer.specs.Args.{SameArgs};
-ghost use Rattle.row_answer.specs.Asks.{MakeAsks, KnownAsks, StoredListAsks, ListedAsks, RemainingAsks, SetOverAsks, OverIs};
-ghost use Rattle.row_answer.specs.Arguments.{LambdaAsks, bound_numbers};
+ghost use Rattle.row_answer.specs.Words.{args_in, parts_in, bound_in, MakeAsked, KnownAsked, SetOverAsked, StoredListAsked, ListedAsked, RemainingAsked, LambdaAsked, SetOver};
 
 use super::arguments::Args;
 use super::{MAP_LIST, make};
@@ -26,10 +24,10 @@ use store::Store;
 // The sort of this kind (Function or Tuple) over the sorts in `list`; Limit where they are more than 64 or the tree is over
 // 4,096; or Full.
 pub fn listed(store: &mut Store<'_>, kind: SortKind, list: &mut Args<'_>) -> Row
-    requires { ListedAsks store.old.records.now store.old.places.now store.old.index.now store.old.count store.old.used (sort_number kind) list.old.bytes.now list.old.count }
+    requires { ListedAsked store.old (sort_number kind) list.old }
     ensures same { Same store.old store.new }
     ensures same_list { SameArgs list.old list.new }
-    ensures answer { Answered store.old (sort (node (sort_number kind) 0 0 (sorts_of (store_of store.old.records.now store.old.places.now store.old.count) (numbers_at list.old.bytes.now 3 list.old.count)))) store.new result }
+    ensures answer { Answered store.old (sort (node (sort_number kind) 0 0 (args_in store.old list.old))) store.new result }
 {
     if LONGEST_LIST < list.count {
         return Err(Cause::Limit);
@@ -40,9 +38,9 @@ pub fn listed(store: &mut Store<'_>, kind: SortKind, list: &mut Args<'_>) -> Row
 
 // The Set of the sort k.
 pub fn set_of(store: &mut Store<'_>, k: usize) -> Row
-    requires { KnownAsks store.old.records.now store.old.places.now store.old.index.now store.old.count store.old.used k }
+    requires { KnownAsked store.old k }
     ensures same { Same store.old store.new }
-    ensures answer { Answered store.old (sort (set (sort_at store.old.records.now store.old.places.now store.old.count k))) store.new result }
+    ensures answer { Answered store.old (sort (set (sort_in store.old k))) store.new result }
 {
     let [low, high] = (k as u16).to_le_bytes();
     make(store, &[MAP_LIST, SortKind::Set as u8, 1, low, high])
@@ -51,9 +49,9 @@ pub fn set_of(store: &mut Store<'_>, k: usize) -> Row
 // The Set of the sort k that was made last, over the store of `from` sorts before: of the sorts that were made since, and the
 // Set, none stays where there is no room.
 pub fn set_over(store: &mut Store<'_>, k: usize, from: usize) -> Row
-    requires { SetOverAsks store.old.records.now store.old.places.now store.old.index.now store.old.count store.old.used k from }
+    requires { SetOverAsked store.old k from }
     ensures same { Same store.old store.new }
-    ensures answer { (u : ℕ) → OverIs store.old.records.now store.old.places.now store.old.count k from u store.new.records.now store.new.places.now store.new.index.now (answer store.new result) }
+    ensures answer { SetOver store.old k from store.new result }
 {
     let outer = set_of(store, k);
     if outer.is_err() {
@@ -64,9 +62,9 @@ pub fn set_over(store: &mut Store<'_>, k: usize, from: usize) -> Row
 
 // The Set of the sort of a record; Limit where its tree is over 4,096; or Full.
 pub fn set_of_tuple(store: &mut Store<'_>, rec: &[u8]) -> Row
-    requires { MakeAsks store.old.records.now store.old.places.now store.old.index.now store.old.count store.old.used rec.now }
+    requires { MakeAsked store.old rec.now }
     ensures same { Same store.old store.new }
-    ensures answer { Answered store.old (sort (set (sort_of (store_of store.old.records.now store.old.places.now store.old.count) (fields_at rec.now 0)))) store.new result }
+    ensures answer { Answered store.old (sort (set (sort_of (store_in store.old) (fields_at rec.now 0)))) store.new result }
 {
     let weight = store.tree_size(rec);
     if LARGEST_PARTS < weight {
@@ -80,10 +78,10 @@ pub fn set_of_tuple(store: &mut Store<'_>, rec: &[u8]) -> Row
 // The relation with the columns in `list`, a Set of a Tuple; Limit where they are more than 64 or the tree is over 4,096; or
 // Full.
 pub fn relation(store: &mut Store<'_>, list: &mut Args<'_>) -> Row
-    requires { StoredListAsks store.old.records.now store.old.places.now store.old.index.now store.old.count store.old.used list.old.bytes.now list.old.count }
+    requires { StoredListAsked store.old list.old }
     ensures same { Same store.old store.new }
     ensures same_list { SameArgs list.old list.new }
-    ensures answer { Answered store.old (sort (set (tuple (sorts_of (store_of store.old.records.now store.old.places.now store.old.count) (numbers_at list.old.bytes.now 3 list.old.count))))) store.new result }
+    ensures answer { Answered store.old (sort (set (tuple (args_in store.old list.old)))) store.new result }
 {
     if LONGEST_LIST < list.count {
         return Err(Cause::Limit);
@@ -95,10 +93,10 @@ pub fn relation(store: &mut Store<'_>, list: &mut Args<'_>) -> Row
 // What is left of a Function's list, the sorts that the store names in `left`: the last one by itself, or the Function of what
 // remains, put together in `list`.
 pub fn remaining(store: &mut Store<'_>, list: &mut Args<'_>, left: Span) -> Row
-    requires { RemainingAsks store.old.records.now store.old.places.now store.old.index.now store.old.count store.old.used list.old.bytes.now left.at left.count }
+    requires { RemainingAsked store.old list.old left }
     ensures same { Same store.old store.new }
     ensures same_list { SameArgs list.old list.new }
-    ensures answer { Answered store.old (sort (remaining (sorts_of (store_of store.old.records.now store.old.places.now store.old.count) (numbers_at store.old.records.now left.at left.count)))) store.new result }
+    ensures answer { Answered store.old (sort (remaining (parts_in store.old left))) store.new result }
 {
     if left.count == 1 {
         return Ok(store.number(left.at));
@@ -116,10 +114,10 @@ pub fn lambda(
     list: &mut Args<'_>,
     body: usize,
 ) -> Row
-    requires { LambdaAsks store.old.records.now store.old.places.now store.old.index.now store.old.count store.old.used sheet.now.bytes.now pairs.at pairs.count sheet.now.table.now list.old.bytes.now body }
+    requires { LambdaAsked store.old sheet.now pairs list.old body }
     ensures same { Same store.old store.new }
     ensures same_list { SameArgs list.old list.new }
-    ensures answer { Answered store.old (sort (function (joined (sorts_of (store_of store.old.records.now store.old.places.now store.old.count) (bound_numbers sheet.now.table.now sheet.now.bytes.now pairs.at pairs.count)) (sort_at store.old.records.now store.old.places.now store.old.count body)))) store.new result }
+    ensures answer { Answered store.old (sort (function (joined (bound_in store.old sheet.now pairs) (sort_in store.old body)))) store.new result }
 {
     list.put_bindings(sheet, pairs);
     list.push(body);

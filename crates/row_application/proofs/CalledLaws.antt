@@ -16,10 +16,10 @@ use Rattle.substitution.specs.Matching.{matches_all, listed_in}
 use Rattle.matching_tables.specs.Matched.{Matched, Fits, Misfits, found}
 use Rattle.matching_tables.specs.MapLaws.{found-fits, found-misfits}
 use Rattle.matching_tables.specs.Tables.{Told, listed, Lists, Added, table_map}
-use Rattle.matching_tables.specs.TableLaws.{listed-is, added-back, cleared-mapped, cleared-map, cleared-images, cleared-bound}
+use Rattle.matching_tables.specs.TableLaws.{listed-is, added-back, cleared-map, cleared-images, cleared-bound}
 use Rattle.matching_tables.specs.Usable.{sorts_at}
-use Rattle.matching_tables.specs.Contract.{AddAsks, TakeAsks, Answered}
-use Rattle.matching.specs.Contract.{MatchAllAsks, MatchAllIs}
+use Rattle.matching_tables.specs.Contract.{AddAsks, Answered}
+use Rattle.matching.specs.Contract.{MatchAllIs}
 use Rattle.matching_tables.specs.Entered.{good-usable}
 use Rattle.row_rules.specs.declared.Cause.TheVariants.{Count, Misfit, Unassigned}
 use Rattle.row_rules.specs.Verdict.{Verdict, sort, refused, need}
@@ -30,16 +30,16 @@ use Rattle.row_answer.specs.declared.heads.Callee.{Callee}
 use Rattle.row_answer.specs.Answer.{refusing}
 use Rattle.row_answer.specs.AnswerLaws.{judged-as}
 use Rattle.row_answer.specs.Heads.{callee_names, callee_sorts}
-use Rattle.row_answer.specs.Values.{ValuesAsk, ValuesHave}
+use Rattle.row_answer.specs.Values.{ValuesHave}
 use Rattle.row_instance.specs.Mapped.{mapped-images}
 use Rattle.row_application.specs.Contract.{Call, Settled, Fails, AppIs, SettledAllAsks, SettledAllIs, AppFitAsks, AppFitIs, FittedAsks, FittedIs, CallIs, rest_at, delivered_at, CalledAsks, DeliverAsks, DeliverIs, NoNames, PlainAppAsks, PlainAppIs}
 use Rattle.std.specs.Prelude.{Result, ⊤}
 use Rattle.row_rules.specs.declared.Cause.{Cause}
 use Rattle.row_application.specs.Words.{call_in}
 use Rattle.row_application.proofs.AppLaws.{app-refused}
-use Rattle.row_application.proofs.ListLaws.{count_at, firsts_at, others-at, refs-part, refs-behind}
+use Rattle.row_application.proofs.ListLaws.{count_at, firsts_at, others-at, refs-behind}
 use Rattle.row_application.proofs.SettledLaws.{settled-remaining}
-use Rattle.row_application.proofs.TableLaws.{add-asks, take-asks, listed-names}
+use Rattle.row_application.proofs.TableLaws.{add-asks, listed-names}
 
 ---------------------------------------------------------------- a head at its arguments, by the test of names
 module _ (b p : List ℕ) (n x m : ℕ) (a : List ℕ) (k : ℕ) (f : ℕ → Bool) where
@@ -69,14 +69,6 @@ module _ (b p : List ℕ) (n x m : ℕ) (a : List ℕ) (k : ℕ) (f : ℕ → Bo
 
 ---------------------------------------------------------------- with the names listed
 module _ {b p : List ℕ} {n : ℕ} {prm imgs bnd : List ℕ} {x m : ℕ} {a : List ℕ} {k : ℕ} (h : AppFitAsks b p n prm imgs bnd x m a k) where
-  pub matches-ask : MatchAllAsks b p n prm imgs bnd 0 b x a 5 k
-  matches-ask =
-      record {
-        pairs = record { usable = h.usable; left = refs-part k h.list h.fewer; right = h.args };
-        table = h.table;
-        mapped = cleared-mapped b p n imgs bnd h.cleared;
-      }
-
   -- After matching, whatever it found.
   module _ (l d : List ℕ) (r : Matched) (w : MatchAllIs b p n prm imgs bnd 0 b x a 5 k l d r) where
     abbrev matches_by : (ℕ → Bool) → Option Map
@@ -140,26 +132,18 @@ module _ {b p : List ℕ} {n : ℕ} {prm imgs bnd : List ℕ} {x m : ℕ} {a : L
 module _ {b p : List ℕ} {n : ℕ} {prm imgs bnd : List ℕ} {x m : ℕ} {a : List ℕ} {k : ℕ} (h : AppFitAsks b p n prm imgs bnd x m a k) {z y j : ℕ} (ez : z ≡ 0) (ey : y ≡ 5) (ej : j ≡ k)
     {l d : List ℕ} (q : ℕ) (t : Bool) (w : MatchAllIs b p n prm imgs bnd z b x a y j l d (found q t)) where
   match-is : MatchAllIs b p n prm imgs bnd 0 b x a 5 k l d (found q t)
-  match-is =
-      subst (λ (i : ℕ). MatchAllIs b p n prm imgs bnd i b x a 5 k l d (found q t)) ez
-      (subst (λ (i : ℕ). MatchAllIs b p n prm imgs bnd z b x a i k l d (found q t)) ey
-      (subst (λ (i : ℕ). MatchAllIs b p n prm imgs bnd z b x a y i l d (found q t)) ej w))
+  match-is = rw (ez, ey, ej) at w
 
   pub fit-misfits : t ≡ false → AppFitIs b p n prm x m a k l d (Fails Misfit q)
   fit-misfits e = fit-fails h l d (found q t) match-is q (found-misfits q e)
 
   module _ (e : t ≡ true) {prm' : List ℕ} (ep : prm' ≡ prm) {x' m' : ℕ} (ex : x' ≡ x + 2 * k) (em : m' ≡ m - k) where
     pub settled-asked : SettledAllAsks b p n prm' l x' m'
-    settled-asked =
-        subst (λ (r : List ℕ). SettledAllAsks b p n r l x' m') (sym ep)
-        (subst (λ (i : ℕ). SettledAllAsks b p n prm l i m') (sym ex)
-        (subst (λ (i : ℕ). SettledAllAsks b p n prm l (x + 2 * k) i) (sym em) (settled-asks h l d (found q t) match-is q (found-fits q e))))
+    settled-asked = rw (ep, ex, em) (settled-asks h l d (found q t) match-is q (found-fits q e))
 
     module _ {r : Bool} (g : SettledAllIs b p n prm' l x' m' r) where
       settled-is : SettledAllIs b p n prm l (x + 2 * k) (m - k) r
-      settled-is =
-          subst (λ (s : List ℕ). SettledAllIs b p n s l (x + 2 * k) (m - k) r) ep
-          (subst (λ (i : ℕ). SettledAllIs b p n prm' l i (m - k) r) ex (subst (λ (i : ℕ). SettledAllIs b p n prm' l x' i r) em g))
+      settled-is = rw (ep, ex, em) at g
 
       pub fit-open : r ≡ false → AppFitIs b p n prm x m a k l d (Fails Unassigned q)
       fit-open o = fit-unsettled h l d (found q t) match-is q (found-fits q e) r settled-is o
@@ -176,20 +160,6 @@ module _ {b p : List ℕ} {n : ℕ} {prm imgs bnd : List ℕ} {f : Callee} {a : 
   fitted-add = add-asks prm h.fit.table h.zeros b f.names.at f.names.count h.names h.named
 
   module _ {o : List ℕ} (t : Added prm vs o) where
-    pub fit-asks : AppFitAsks b p n o imgs bnd f.list.at f.list.count a k
-    fit-asks =
-        record {
-          usable = h.fit.usable;
-          table = t.long ∙ h.fit.table;
-          cleared = h.fit.cleared;
-          list = h.fit.list;
-          args = h.fit.args;
-          fewer = h.fit.fewer;
-        }
-
-    pub fitted-take : TakeAsks o b f.names.at f.names.count
-    fitted-take = take-asks prm h.fit.table h.zeros b f.names.at f.names.count h.names h.named t
-
     pub fitted-lists : Lists o vs
     fitted-lists = listed-names prm h.fit.table h.zeros b f.names.at f.names.count h.names h.named t
 
@@ -204,23 +174,14 @@ module _ {b p : List ℕ} {n : ℕ} {prm imgs bnd : List ℕ} {f : Callee} {a : 
 -- The same tables, the same call.
 pub call-moved : {v : Verdict} {b p : List ℕ} {n : ℕ} {prm : List ℕ} {f : Callee} {k : ℕ} {prm' l d : List ℕ} {q : ℕ} (r : Result ⊤ Cause) → CallIs v b p n prm f k prm' l d (call_in q r)
     → {l' d' : List ℕ} {q' : ℕ} → l' ≡ l → d' ≡ d → q' ≡ q → CallIs v b p n prm f k prm' l' d' (call_in q' r)
-call-moved {v} {b} {p} {n} {prm} {f} {k} {prm'} {l} {d} {q} r h {l'} {d'} {q'} el ed eq =
-    subst (λ (x : List ℕ). CallIs v b p n prm f k prm' x d' (call_in q' r)) (sym el)
-    (subst (λ (x : List ℕ). CallIs v b p n prm f k prm' l x (call_in q' r)) (sym ed)
-    (subst (λ (i : ℕ). CallIs v b p n prm f k prm' l d (call_in i r)) (sym eq) h))
+call-moved r h el ed eq = rw (el, ed, eq) h
 
 pub fitted-moved : {b p : List ℕ} {n : ℕ} {prm : List ℕ} {f : Callee} {a : List ℕ} {k : ℕ} {prm' l d : List ℕ} {q : ℕ} (r : Result ⊤ Cause) → FittedIs b p n prm f a k prm' l d (call_in q r)
     → {l' d' : List ℕ} {q' : ℕ} → l' ≡ l → d' ≡ d → q' ≡ q → FittedIs b p n prm f a k prm' l' d' (call_in q' r)
-fitted-moved {b} {p} {n} {prm} {f} {a} {k} {prm'} {l} {d} {q} r h {l'} {d'} {q'} el ed eq =
-    subst (λ (x : List ℕ). FittedIs b p n prm f a k prm' x d' (call_in q' r)) (sym el)
-    (subst (λ (x : List ℕ). FittedIs b p n prm f a k prm' l x (call_in q' r)) (sym ed)
-    (subst (λ (i : ℕ). FittedIs b p n prm f a k prm' l d (call_in i r)) (sym eq) h))
+fitted-moved r h el ed eq = rw (el, ed, eq) h
 
 ---------------------------------------------------------------- a head at its arguments
 module _ {b p ix : List ℕ} {n u : ℕ} {prm imgs bnd : List ℕ} {f : Callee} {a : List ℕ} {k : ℕ} (h : CalledAsks b p ix n u prm imgs bnd f a k) where
-  pub values-ask : ValuesAsk b p a 5 k
-  values-ask = record { many = n; stored = h.good.stored; refs = h.args }
-
   abbrev names : ℕ → Bool
   names = listed_in (callee_names b f)
 

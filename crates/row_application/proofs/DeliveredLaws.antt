@@ -1,11 +1,11 @@
 -- What remains of a head's Function at a call: what it asks, and the answer by whether the arguments fit.
 use Prim.Native.Nat.{ℕ, ◌+◌, ◌*◌, ◌-◌}
-use mathlib.Core.Path.{◌≡◌, refl, sym, ap, subst}
+use mathlib.Core.Path.{◌≡◌, refl, ap, subst}
 use Rattle.std.specs.Prelude.{Result, Ok, Err, ⊤}
 use mathlib.Core.List.{List}
 use native.Mathlib.Omega.{arith}
 use Rattle.record.specs.Decode.{store_of}
-use Rattle.matching_tables.specs.Tables.{table_map, Tabled, Mapped}
+use Rattle.matching_tables.specs.Tables.{table_map, Mapped}
 use Rattle.row_rules.specs.declared.Cause.{Cause}
 use Rattle.row_answer.specs.Answer.{Answer}
 use Rattle.row_answer.specs.declared.heads.Callee.{Callee}
@@ -32,16 +32,13 @@ module _ {b p ix : List ℕ} {n u : ℕ} {l d : List ℕ} {f : Callee} {k : ℕ}
       }
 
   pub rest-asked : {y j : ℕ} → y ≡ f.list.at + 2 * k → j ≡ f.list.count - k → RestAsks b p ix n u l y j
-  rest-asked {y} {j} ey ej =
-      subst (λ (i : ℕ). RestAsks b p ix n u l i j) (sym ey) (subst (λ (i : ℕ). RestAsks b p ix n u l (f.list.at + 2 * k) i) (sym ej) rest-asks)
+  rest-asked ey ej = rw (ey, ej) rest-asks
 
   pub rest-answer : {y j : ℕ} → y ≡ f.list.at + 2 * k → j ≡ f.list.count - k → (q : ℕ) → c ≡ Settled q → {b' p' ix' : List ℕ} {r : Answer} → RestIs b p n l y j b' p' ix' r
       → AnswerIs b p n (call_of (store_of b p n) l d (rest_at b p n f.list.at f.list.count k) c) b' p' ix' r
-  rest-answer {y} {j} ey ej q e {b'} {p'} {ix'} {r} g =
-      let g' : RestIs b p n l (f.list.at + 2 * k) (f.list.count - k) b' p' ix' r =
-      subst (λ (i : ℕ). RestIs b p n l i (f.list.count - k) b' p' ix' r) ey (subst (λ (i : ℕ). RestIs b p n l y i b' p' ix' r) ej g) in
+  rest-answer ey ej q e g =
       judged-as (ap (call_of (store_of b p n) l d (rest_at b p n f.list.at f.list.count k)) e)
-      (g' (table_map (store_of b p n) l d q) (mapped-images b p n l d q (bound_by (Settled q) e)))
+      ((rw (ey, ej) at g) (table_map (store_of b p n) l d q) (mapped-images b p n l d q (bound_by (Settled q) e)))
 
   pub fails-answer : (o : Cause) (q : ℕ) → c ≡ Fails o q → AnswerIs b p n (call_of (store_of b p n) l d (rest_at b p n f.list.at f.list.count k) c) b p ix (refusing o n u)
   fails-answer o q e = judged-as (ap (call_of (store_of b p n) l d (rest_at b p n f.list.at f.list.count k)) e) (made-refused b p ix n u h.good o)
@@ -50,6 +47,3 @@ module _ {b p ix : List ℕ} {n u : ℕ} {l d : List ℕ} {f : Callee} {k : ℕ}
 pub call-bound : (m : ℕ) (r : Result ⊤ Cause) → bound_in (call_in m r) ≡ m
 call-bound m (Ok u) = refl
 call-bound m (Err c) = refl
-
-pub call-tabled : {b p ix : List ℕ} {n u : ℕ} {l d : List ℕ} {f : Callee} {k m : ℕ} (r : Result ⊤ Cause) → DeliverAsks b p ix n u l d f k (call_in m r) → Tabled l d m
-call-tabled {l = l} {d = d} {m = m} r h = subst (Tabled l d) (call-bound m r) h.mapped.tabled

@@ -22,8 +22,7 @@ use Rattle.substitution.specs.Substitution.{Map, empty}
 use Rattle.substitution.proofs.SubstitutionLaws.{apply-empty}
 use Rattle.substitution.specs.Premises.{parless, any_name, named, named_all}
 use Rattle.substitution.specs.Matching.{and_then, matches, matches_all}
-use Rattle.matching_tables.specs.Usable.{Usable, Refs, sorts_at}
-use Rattle.matching_tables.specs.Entered.{good-usable}
+use Rattle.matching_tables.specs.Usable.{Usable, sorts_at}
 use Rattle.row_rules.specs.declared.Cause.TheVariants.{Misfit, Unassigned}
 use Rattle.row_rules.specs.Verdict.{Verdict, sort, refused, need}
 use Rattle.row_rules.specs.Lists.{remaining}
@@ -33,7 +32,8 @@ use Rattle.row_answer.specs.Answer.{AnswerIs, refusing}
 use Rattle.row_answer.specs.AnswerLaws.{judged-as, answered-as, made-refused}
 use Rattle.row_answer.specs.Asks.{RemainingAsks}
 use Rattle.row_application.specs.Contract.{NoNames, ParlessAsks, ExactAsks, ExactIs, PlainAppAsks, PlainAppIs, rest_at, delivered_at}
-use Rattle.row_application.proofs.ListLaws.{refs-part, refs-behind}
+use Rattle.row_answer.proofs.ValueLaws.{refs-all}
+use Rattle.row_application.proofs.ListLaws.{refs-behind}
 use Rattle.row_application.proofs.PlainLaws.{fits-itself, fits-other, fits-par, values-fit, settled_plain}
 use Rattle.row_application.proofs.CalledLaws.{called-under}
 
@@ -62,11 +62,6 @@ pub record ExactRun (b p : List ℕ) (n x : ℕ) (a : List ℕ) (k : ℕ) (xs ys
 no_numbers : (xs : List ℕ) → length xs ≡ 0 → xs ≡ []
 no_numbers [] e = refl
 no_numbers (v ∷ xs) e = absurd (omega arith)
-
-refs-all : (b : List ℕ) (x k n : ℕ) → Refs b x k n → (j : ℕ) → j < length (numbers_at b x k) → get_or (numbers_at b x k) j 0 < n
-refs-all b x k n r j l =
-    let o : j < k = omega (arith, length-numbers_at b x k) in
-    omega (arith, number_at b x k j o, r.below j o)
 
 pub exact-start : {b p ix : List ℕ} {n x : ℕ} {a : List ℕ} {k : ℕ} → ExactAsks b p ix n x a k → ExactRun b p n x a k (numbers_at b x k) (numbers_at a 5 k)
 exact-start {b} {p} {ix} {n} {x} {a} {k} h =
@@ -173,19 +168,6 @@ misfit-either true = refl
 misfit-either false = refl
 
 module _ {b p ix : List ℕ} {n u x m : ℕ} {a : List ℕ} {k : ℕ} (h : PlainAppAsks b p ix n u x m a k) where
-  pub exact-asks : ExactAsks b p ix n x a k
-  exact-asks =
-      record {
-        pairs =
-            record {
-              usable = good-usable b p ix n u h.good;
-              left = refs-part k h.list (omega (arith, h.fewer));
-              right = h.args;
-            };
-        sized = h.good.sized;
-        index = h.good.indexed.table;
-      }
-
   pub remaining-asks : (rec : List ℕ) → length rec ≡ 131 → RemainingAsks b p ix n u rec (x + 2 * k) (m - k)
   remaining-asks rec e =
       let r = refs-behind k h.list (omega (arith, h.fewer)) in

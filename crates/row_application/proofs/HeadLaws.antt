@@ -25,7 +25,7 @@ use Rattle.infer_rules.specs.Inferred.{substituted, plain_app, parametric_app, h
 use Rattle.check_rules.specs.Checked.{parameters, function_list, called, checked_app}
 use Rattle.row_answer.specs.declared.heads.Callee.{Callee}
 use Rattle.std.specs.Prelude.{Option, Some, None}
-use Rattle.row_answer.specs.Heads.{Headed, plain_head, par_head, other, head_in, head_over, callee_names, callee_sorts, HeadAsks, FunctionIs, HeadIs, HeadHas}
+use Rattle.row_answer.specs.Heads.{Headed, plain_head, par_head, other, head_in, head_over, callee_names, callee_sorts, FunctionIs, HeadIs, HeadHas}
 use Rattle.row_answer.specs.Asks.{RemainingAsks}
 use Rattle.row_answer.specs.Lent.{lent-under}
 use Rattle.row_application.specs.Contract.{AppAsks, AppCrowded, CalledAsks, CalledCrowded, ParametricAsks, rest_at, substituted_at}
@@ -136,9 +136,6 @@ module _ {b p ix : List ℕ} {n u : ℕ} {prm imgs bnd a : List ℕ} {m : ℕ} (
   module _ (more : 0 < m) {i : ℕ} (e : i ≡ u16_at a 3) where
     known : i < n
     known = subst (◌< n) (sym e) (h.below 0 more)
-
-    pub head-asks : HeadAsks b p i
-    head-asks = (n, record { stored = h.good.stored; known = known })
 
     abbrev ts : Sorts
     ts = sorts_at b p n a 5 (m - 1)

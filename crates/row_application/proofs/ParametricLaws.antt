@@ -15,7 +15,7 @@ use Rattle.matching_tables.specs.MapLaws.{found-fits, found-misfits}
 use Rattle.matching_tables.specs.Tables.{Lists, Added, Mapped}
 use Rattle.matching_tables.specs.TableLaws.{lists-roomy, added-back, cleared-mapped, cleared-map}
 use Rattle.matching_tables.specs.Usable.{sorts_at}
-use Rattle.matching_tables.specs.Contract.{TakeAsks, count_of}
+use Rattle.matching_tables.specs.Contract.{count_of}
 use Rattle.matching_with.specs.Contract.{WithAllAsks, WithIs, PairsWith}
 use Rattle.matching_tables.specs.Contract.{matched_map as found_by}
 use Rattle.row_rules.specs.declared.Cause.TheVariants.{Panics}
@@ -25,7 +25,7 @@ use Rattle.row_answer.specs.declared.heads.Callee.{Callee}
 use Rattle.row_answer.specs.Heads.{callee_names}
 use Rattle.row_application.specs.Contract.{Call, Settled, Fails, rest_at, bound_in, call_of, CallIs, PatternsAsk, ParametricAsks, substituted_at}
 use Rattle.row_application.proofs.ListLaws.{refs-part, sizes-first}
-use Rattle.row_application.proofs.CalledLaws.{fitted-take, fitted-lists, fitted-asks, call-moved}
+use Rattle.row_application.proofs.CalledLaws.{fitted-lists, fitted-asks, call-moved}
 
 ---------------------------------------------------------------- matching the arguments
 module _ {b p : List ℕ} {n : ℕ} {prm imgs bnd : List ℕ} {f : Callee} {a : List ℕ} {k : ℕ} (h : PatternsAsk b p n prm imgs bnd f a k) where
@@ -49,9 +49,6 @@ module _ {b p : List ℕ} {n : ℕ} {prm imgs bnd : List ℕ} {f : Callee} {a : 
         }
 
     module _ {o' l d : List ℕ} {r : Matched} (w : WithIs b p n o o' l d r (PairsWith b p n imgs bnd 0 b f.list.at a 5 k)) where
-      pub patterns-take : TakeAsks o' b f.names.at f.names.count
-      patterns-take = subst (λ (z : List ℕ). TakeAsks z b f.names.at f.names.count) (sym w.params) (fitted-take h.fitted t)
-
       -- The call for what was found, once no name is listed.
       module _ {prm' : List ℕ} (z : Added prm' vs o') where
         abbrev verdict_by : Matched → Verdict
@@ -83,24 +80,11 @@ module _ {b p : List ℕ} {n : ℕ} {prm imgs bnd : List ℕ} {f : Callee} {a : 
 module _ {b p : List ℕ} {n : ℕ} {prm imgs bnd : List ℕ} {f : Callee} {a : List ℕ} {k : ℕ} (h : PatternsAsk b p n prm imgs bnd f a k) {o : List ℕ} (t : Added prm (callee_names b f) o)
     {imgs₁ bnd₁ : List ℕ} {z y j : ℕ} (ei : imgs₁ ≡ imgs) (eb : bnd₁ ≡ bnd) (ez : z ≡ 0) (ey : y ≡ 5) (ej : j ≡ k) where
   pub with-asked : WithAllAsks b p n o imgs₁ bnd₁ z b f.list.at a y j
-  with-asked =
-      subst (λ (r : List ℕ). WithAllAsks b p n o r bnd₁ z b f.list.at a y j) (sym ei)
-      (subst (λ (r : List ℕ). WithAllAsks b p n o imgs r z b f.list.at a y j) (sym eb)
-      (subst (λ (i : ℕ). WithAllAsks b p n o imgs bnd i b f.list.at a y j) (sym ez)
-      (subst (λ (i : ℕ). WithAllAsks b p n o imgs bnd 0 b f.list.at a i j) (sym ey)
-      (subst (λ (i : ℕ). WithAllAsks b p n o imgs bnd 0 b f.list.at a 5 i) (sym ej) (with-asks h t)))))
+  with-asked = rw (ei, eb, ez, ey, ej) (with-asks h t)
 
   module _ {o' l d : List ℕ} (q : ℕ) (g : Bool) (w : WithIs b p n o o' l d (found q g) (PairsWith b p n imgs₁ bnd₁ z b f.list.at a y j)) where
     with-is : WithIs b p n o o' l d (found q g) (PairsWith b p n imgs bnd 0 b f.list.at a 5 k)
-    with-is =
-        subst (λ (r : List ℕ). WithIs b p n o o' l d (found q g) (PairsWith b p n r bnd 0 b f.list.at a 5 k)) ei
-        (subst (λ (r : List ℕ). WithIs b p n o o' l d (found q g) (PairsWith b p n imgs₁ r 0 b f.list.at a 5 k)) eb
-        (subst (λ (i : ℕ). WithIs b p n o o' l d (found q g) (PairsWith b p n imgs₁ bnd₁ i b f.list.at a 5 k)) ez
-        (subst (λ (i : ℕ). WithIs b p n o o' l d (found q g) (PairsWith b p n imgs₁ bnd₁ z b f.list.at a i k)) ey
-        (subst (λ (i : ℕ). WithIs b p n o o' l d (found q g) (PairsWith b p n imgs₁ bnd₁ z b f.list.at a y i)) ej w))))
-
-    pub taken-asked : TakeAsks o' b f.names.at f.names.count
-    taken-asked = patterns-take h t with-is
+    with-is = rw (ei, eb, ez, ey, ej) at w
 
     module _ {prm' : List ℕ} (v : Added prm' (callee_names b f) o') {l' d' : List ℕ} {q' : ℕ} (el : l' ≡ l) (ed : d' ≡ d) (eq : q' ≡ q) where
       pub pattern-fits : g ≡ true → CallIs (substituted_at b p n f a k) b p n prm f k prm' l' d' (Settled q')

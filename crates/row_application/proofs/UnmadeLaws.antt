@@ -26,7 +26,6 @@ use Rattle.matching_tables.specs.Tables.{table_map, Mapped}
 use Rattle.matching_tables.specs.Usable.{OneAsks, ListAsks, sorts_at}
 use Rattle.matching_tables.specs.Entered.{good-usable, entry-var}
 use Rattle.row_rules.specs.declared.Cause.{Cause}
-use Rattle.row_rules.specs.declared.Cause.TheVariants.{Full}
 use Rattle.row_rules.specs.Verdict.{Verdict, sort}
 use Rattle.row_rules.specs.Outcome.{outcome}
 use Rattle.row_rules.specs.Lists.{remaining}
@@ -36,7 +35,7 @@ use Rattle.row_answer.specs.declared.heads.Callee.{Callee}
 use Rattle.row_answer.specs.Answer.{AnswerIs}
 use Rattle.row_answer.specs.AnswerLaws.{judged-as}
 use Rattle.row_answer.specs.Heads.{callee_names}
-use Rattle.row_application.specs.Contract.{Call, Settled, Fails, AppIs, Crowded, CalledAsks, rest_at, bound_in, call_of, CallIs, fitted, FoundBy, FittedIs, delivered_at, substituted_at, owned, OwnAsks, unmade_of}
+use Rattle.row_application.specs.Contract.{Call, Settled, Fails, AppIs, Crowded, CalledAsks, rest_at, bound_in, call_of, CallIs, fitted, FoundBy, FittedIs, delivered_at, substituted_at, owned, own_of, OwnAsks, unmade_of}
 use Rattle.std.specs.Prelude.{Result, ⊤}
 use Rattle.row_application.specs.Words.{call_in}
 use Rattle.row_application.proofs.DeliveredLaws.{call-bound}
@@ -55,29 +54,29 @@ module _ {b p : List ℕ} {n k : ℕ} (h : OneAsks b p n k) (v : ℕ) {r : SortR
   var-other d = sym (same-other (sort_at b p n k) (var v) (λ q. d ((e n h.usable.stored h.known).kind ∙ ap kind_of q)))
 
 ---------------------------------------------------------------- the bound names
--- Whether the name that was bound in the place k is bound to its own variable.
-abbrev pub own_at : List ℕ → List ℕ → ℕ → List ℕ → List ℕ → ℕ → Bool
-own_at b p n l d k = same (sort_at b p n (get_or l (get_or d k 0) 0 - 1)) (var (get_or d k 0))
-
 module _ (b p : List ℕ) (n : ℕ) (l d : List ℕ) where
+  -- Whether the name that was bound in the place k is bound to its own variable.
+  abbrev own_at : ℕ → Bool
+  own_at k = own_of b p n l (get_or d k 0)
+
   abbrev owns : ℕ → Bool
   owns m = owned (table_map (store_of b p n) l d m)
 
-  own-some : (m k : ℕ) → k < m → own_at b p n l d k ≡ true → owns m ≡ true
+  own-some : (m k : ℕ) → k < m → own_at k ≡ true → owns m ≡ true
   unfolding owned table_map sort_at
   own-some zero k o e = absurd (omega arith)
   own-some (suc m) k o e = go (dec_lt k m) (λ i. own-some m k i e)
     where
       go : Dec (k < m) → (k < m → owns m ≡ true) → owns (suc m) ≡ true
-      go (yes i) h = or-second (own_at b p n l d m) (owns m) (h i)
-      go (no i) h = let q : k ≡ m = omega arith in or-first (own_at b p n l d m) (owns m) (rw q at e)
+      go (yes i) h = or-second (own_at m) (owns m) (h i)
+      go (no i) h = let q : k ≡ m = omega arith in or-first (own_at m) (owns m) (rw q at e)
 
-  own-none : (m : ℕ) → ((k : ℕ) → k < m → own_at b p n l d k ≡ false) → owns m ≡ false
+  own-none : (m : ℕ) → ((k : ℕ) → k < m → own_at k ≡ false) → owns m ≡ false
   unfolding owned table_map sort_at
   own-none zero h = refl
   own-none (suc m) h = rw (h m (omega arith)) (own-none m (λ k o. h k (omega arith)))
 
-  pub own-any : (m : ℕ) (r : Bool) → MatchBool r ((k : ℕ) × (k < m) × (own_at b p n l d k ≡ true)) ((k : ℕ) → k < m → own_at b p n l d k ≡ false) → r ≡ owns m
+  pub own-any : (m : ℕ) (r : Bool) → MatchBool r ((k : ℕ) × (k < m) × (own_at k ≡ true)) ((k : ℕ) → k < m → own_at k ≡ false) → r ≡ owns m
   own-any m true h = sym (own-some m h.0 h.1 h.2)
   own-any m false h = sym (own-none m h)
 
@@ -93,9 +92,6 @@ module _ (b p : List ℕ) (n : ℕ) (l d : List ℕ) (m x y : ℕ) {t : Bool} (g
   abbrev sorts : Sorts
   sorts = sorts_at b p n b x y
 
-  pub counts-none : t ≡ false → false ≡ (owned (table_map (store_of b p n) l d m) && not (parless_all sorts))
-  counts-none e = rw (sym g ∙ e) refl
-
   pub counts_some : t ≡ true → {r : Bool} → r ≡ parless_all sorts → not r ≡ (owned (table_map (store_of b p n) l d m) && not (parless_all sorts))
   counts_some e w = rw (sym g ∙ e) (ap not w)
 
@@ -105,23 +101,6 @@ unmade-bound : (t : Bool) (st : List Sort) (l d : List ℕ) (ss : Sorts) (c : Ca
 unmade-bound false st l d ss c = refl
 unmade-bound true st l d ss (Settled c) = by_test (owned (table_map st l d c) && not (parless_all ss)) (λ q. rw q refl) (λ q. rw q refl)
 unmade-bound true st l d ss (Fails o c) = refl
-
--- The call by its cases.
-pub own-bound : {b p : List ℕ} {n : ℕ} {l d : List ℕ} {c : Call} {k : ℕ} → OwnAsks b p n l d (bound_in c) → c ≡ Settled k → OwnAsks b p n l d k
-own-bound {b} {p} {n} {l} {d} h e = subst (λ (z : Call). OwnAsks b p n l d (bound_in z)) e h
-
-pub unmade-no : (st : List Sort) (l d : List ℕ) (ss : Sorts) (c : Call) {t : Bool} → t ≡ false → c ≡ unmade_of t st l d ss c
-unmade-no st l d ss c e = rw e refl
-
-module _ (st : List Sort) (l d : List ℕ) (ss : Sorts) {t : Bool} (o : t ≡ true) {c : Call} {k : ℕ} (e : c ≡ Settled k) {q : Bool} (g : q ≡ (owned (table_map st l d k) && not (parless_all ss))) where
-  pub unmade-own : q ≡ true → Settled k ≡ unmade_of t st l d ss c
-  unmade-own y = rw (o, e, sym g ∙ y) refl
-
-  pub unmade-full : q ≡ false → Fails Full k ≡ unmade_of t st l d ss c
-  unmade-full y = rw (o, e, sym g ∙ y) refl
-
-pub unmade-fails : (st : List Sort) (l d : List ℕ) (ss : Sorts) {t : Bool} → t ≡ true → {c : Call} {x : Cause} {k : ℕ} → c ≡ Fails x k → c ≡ unmade_of t st l d ss c
-unmade-fails st l d ss o e = rw (o, e) refl
 
 -- Two verdicts have one outcome over a store.
 abbrev Alike : List ℕ → List ℕ → ℕ → Verdict → Verdict → Type 0

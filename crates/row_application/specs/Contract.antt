@@ -1,6 +1,6 @@
 -- What the functions on an App ask of their callers, and what they promise. The sorts of an App are store numbers in a lent
 -- array from byte 3 on, the head first, so that its arguments stand from byte 5 on.
-use Rattle.std.specs.Prelude.{ℕ, ◌+◌, ◌*◌, ◌-◌, ◌≤◌, ◌<◌, ◌≡◌, Bool, true, false, not, cond, ◌&&◌, ◌||◌, List, length}
+use Rattle.std.specs.Prelude.{ℕ, ◌+◌, ◌*◌, ◌-◌, ◌≤◌, ◌<◌, ◌≡◌, Bool, true, false, not, cond, ◌&&◌, ◌||◌, List, length, get_or}
 use Rattle.std.proofs.Math.Option.{Option, some}
 use Rattle.record.specs.Number.{u16_at}
 use Rattle.record.specs.Sort.{Sort, Sorts, var, same, sizes}
@@ -223,6 +223,10 @@ unfoldable pub owned : Map → Bool
 unfolding same
 owned empty = false
 owned (bind v s m) = same s (var v) || owned m
+
+-- The name v is, by the image under it.
+abbrev pub own_of : List ℕ → List ℕ → ℕ → List ℕ → ℕ → Bool
+own_of b p n l v = same (sort_at b p n (get_or l v 0 - 1)) (var v)
 
 -- The tables of m bound names over a store.
 pub record OwnAsks (b p : List ℕ) (n : ℕ) (l d : List ℕ) (m : ℕ) : Type 0 where

@@ -18,7 +18,7 @@ use Rattle.row_answer.specs.declared.arguments.Args.{Args}
 use Rattle.row_answer.specs.declared.heads.Callee.{Callee}
 use Rattle.row_answer.specs.Answer.{answer}
 use Rattle.row_answer.specs.Heads.{callee_names, callee_sorts}
-use Rattle.row_application.specs.Contract.{Call, Settled, Fails, AppAsks, AppIs, AppCrowded, SettledAllAsks, SettledAllIs, SettledAt, AppFitAsks, AppFitIs, FittedAsks, FittedIs, CalledAsks, CalledCrowded, CallIs, call_of, rest_at, DeliverAsks, DeliverIs, ParlessAsks, ParlessAt, ExactAsks, ExactIs, PlainAppAsks, PlainAppIs, PatternsAsk, ParametricAsks, substituted_at, owned, OwnAsks, unmade_of}
+use Rattle.row_application.specs.Contract.{Call, Settled, Fails, AppAsks, AppIs, AppCrowded, SettledAllAsks, SettledAllIs, SettledAt, AppFitAsks, AppFitIs, FittedAsks, FittedIs, CalledAsks, CalledCrowded, CallIs, call_of, rest_at, DeliverAsks, DeliverIs, ParlessAsks, ParlessAt, ExactAsks, ExactIs, PlainAppAsks, PlainAppIs, PatternsAsk, ParametricAsks, substituted_at, owned, own_of, OwnAsks, unmade_of}
 
 -- How a call ended, with m names bound.
 abbrev pub call_in : ℕ → Result ⊤ Cause → Call
@@ -85,16 +85,16 @@ Delivered s x f k c t y r =
     × (y.many ≡ 0)
 
 ---------------------------------------------------------------- a head without parameters
-abbrev pub ParlessAsked : Store → ℕ → Type 0
-ParlessAsked s k = ParlessAsks s.records.now s.places.now s.index.now s.count k
+abbrev pub ParlessAsked : Sorts → List ℕ → ℕ → Type 0
+ParlessAsked s ix k = ParlessAsks s.records.now s.places.now ix s.count k
 
-abbrev pub ParlessNotes : Store → List ℕ → Type 0
+abbrev pub ParlessNotes : Sorts → List ℕ → Type 0
 ParlessNotes s seen = NoteTable (ParlessAt s.records.now s.places.now s.count) seen
 
-abbrev pub ExactAsked : Store → Span → Args → Type 0
-ExactAsked s l a = ExactAsks s.records.now s.places.now s.index.now s.count l.at a.bytes.now l.count × (a.count ≡ l.count + 1)
+abbrev pub ExactAsked : Sorts → List ℕ → Span → Args → Type 0
+ExactAsked s ix l a = ExactAsks s.records.now s.places.now ix s.count l.at a.bytes.now l.count × (a.count ≡ l.count + 1)
 
-abbrev pub ExactFound : Store → Span → Args → Bool → Type 0
+abbrev pub ExactFound : Sorts → Span → Args → Bool → Type 0
 ExactFound s l a r = ExactIs s.records.now s.places.now s.count l.at a.bytes.now l.count r
 
 abbrev pub PlainAsked : Store → Span → Args → Type 0
@@ -134,6 +134,9 @@ OwnAsked s x = OwnAsks s.records.now s.places.now s.count x.images.now x.bound.n
 
 abbrev pub RestAsked : Sorts → Span → Type 0
 RestAsked s l = ListAsks s.records.now s.places.now s.count s.records.now l.at l.count
+
+abbrev pub own_in : Sorts → Names → ℕ → Bool
+own_in s x v = own_of s.records.now s.places.now s.count x.images.now v
 
 abbrev pub owned_in : Sorts → Names → Bool
 owned_in s x = owned (table_map (store_of s.records.now s.places.now s.count) x.images.now x.bound.now x.many)

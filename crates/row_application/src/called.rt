@@ -53,7 +53,7 @@ pub fn fit_arguments(
     ensures names { SameNames names.old names.new }
     ensures fit { FittedFound sorts.now names.old callee args.now names.new result }
 {
-    names.many = 0;
+    names.start();
     names.list(sorts.records, callee.names);
     let call = fit_listed(sorts, names, callee.list, args);
     names.unlist(sorts.records, callee.names);

@@ -30,7 +30,7 @@ pub fn match_arguments(
         count: arguments.count,
         ..callee.list
     };
-    names.many = 0;
+    names.start();
     names.list(sorts.records, callee.names);
     let fits = match_all_with(sorts, names, sorts.records, patterns, args.bytes, arguments);
     names.unlist(sorts.records, callee.names);

@@ -16,27 +16,29 @@ use row_answer::arguments::Args;
 use row_answer::lists::remaining;
 use row_rules::{Cause, Row};
 use store::Store;
+use store::entries::Sorts;
+use store::sizes::size_at;
 
 // Whether no Par stands in the sort `k`. One of tree size 1 has no parts and is no Par, and needs no walk.
-pub fn is_parless(store: &Store<'_>, seen: &mut Seen, k: usize) -> bool
-    requires asked { ParlessAsked store.now k }
-    requires noted { ParlessNotes store.now seen.old.slots }
-    ensures answer { result ≡ parless (sort_at store.now.records.now store.now.places.now store.now.count k) }
-    ensures noted { ParlessNotes store.now seen.new.slots }
+pub fn is_parless(sorts: &Sorts<'_>, index: &[u16], seen: &mut Seen, k: usize) -> bool
+    requires asked { ParlessAsked sorts.now index.now k }
+    requires noted { ParlessNotes sorts.now seen.old.slots }
+    ensures answer { result ≡ parless (sort_at sorts.now.records.now sorts.now.places.now sorts.now.count k) }
+    ensures noted { ParlessNotes sorts.now seen.new.slots }
 {
-    store.size(k) == 1 || each(&store.sorts(), &parless, seen, k)
+    size_at(index, k) == 1 || each(sorts, &parless, seen, k)
 }
 
 // Whether the arguments are the first sorts that the store names in `list`, and no Par stands in them.
-pub fn all_exact(store: &Store<'_>, list: Span, args: &Args<'_>) -> bool
-    requires { ExactAsked store.now list args.now }
-    ensures { ExactFound store.now list args.now result }
+pub fn all_exact(sorts: &Sorts<'_>, index: &[u16], list: Span, args: &Args<'_>) -> bool
+    requires { ExactAsked sorts.now index.now list args.now }
+    ensures { ExactFound sorts.now list args.now result }
 {
     let mut seen = Seen::new();
-    let sorts = list.numbers(store.sorts().records);
+    let wanted = list.numbers(sorts.records);
     let arguments = args.rest().numbers(args.bytes);
-    for (sort, argument) in sorts.zip(arguments) {
-        if sort != argument || !is_parless(store, &mut seen, sort) {
+    for (sort, argument) in wanted.zip(arguments) {
+        if sort != argument || !is_parless(sorts, index, &mut seen, sort) {
             return false;
         }
     }
@@ -51,7 +53,9 @@ pub fn checked_plain(store: &mut Store<'_>, list: Span, args: &Args<'_>) -> Row
     ensures answer { PlainAnswered store.old list args.now store.new result }
 {
     let n = args.count - 1;
-    if !all_exact(store, Span { count: n, ..list }, args) {
+    let first = Span { count: n, ..list };
+    let read = &*store;
+    if !all_exact(&read.sorts(), read.index, first, args) {
         return Err(Cause::Misfit);
     }
     let mut bytes = [0u8; LONGEST_LISTED];

@@ -1,12 +1,12 @@
 // The checked App of sorts whose inferred App has no room in the store. Where the arguments fit, match_with finds the same map, but for
 // names bound to the variable of that name, which it leaves out. These count only where a Par stands in what remains. So but for that both
 // have the same sort, and it is not made in vain.
-ghost use Rattle.std.specs.Prelude.{◌≡◌, not, ◌&&◌};
+ghost use Rattle.std.specs.Prelude.{◌≡◌, ◌<◌, not, ◌&&◌, get_or};
 ghost use Rattle.record.specs.Sort.{var, same};
 ghost use Rattle.record.specs.Decode.{sort_at};
 ghost use Rattle.substitution.specs.Premises.{parless_all};
 ghost use Rattle.matching_tables.specs.Usable.{OneAsks};
-ghost use Rattle.row_application.specs.Words.{OwnAsked, RestAsked, owned_in, rest_sorts, call_in, unmade_in};
+ghost use Rattle.row_application.specs.Words.{OwnAsked, RestAsked, own_in, owned_in, rest_sorts, call_in, unmade_in};
 
 use matching_each::each::all_each;
 use matching_each::nodes::parless;
@@ -26,15 +26,22 @@ pub fn is_var(sorts: &Sorts<'_>, k: usize, name: usize) -> bool
     entry.kind == SortKind::Var && entry.name == name
 }
 
+// Whether a bound name is bound to the variable of that name.
+fn is_own(sorts: &Sorts<'_>, names: &Names<'_>, name: usize) -> bool
+    requires { OwnAsked sorts.now names.now × (0 < get_or names.now.images.now name 0) }
+    ensures { result ≡ own_in sorts.now names.now name }
+{
+    is_var(sorts, names.look_up(name).unwrap(), name)
+}
+
 // Whether one of the bound names is bound to the variable of that name.
 pub fn any_own(sorts: &Sorts<'_>, names: &Names<'_>) -> bool
     requires { OwnAsked sorts.now names.now }
     ensures { result ≡ owned_in sorts.now names.now }
 {
-    (0..names.many).any(|i| {
-        let name = names.bound[i] as usize;
-        is_var(sorts, names.images[name] as usize - 1, name)
-    })
+    names.bound[..names.many]
+        .iter()
+        .any(|&name| is_own(sorts, names, name as usize))
 }
 
 // Whether one of the bound names is bound to the variable of that name and a Par stands in one of the sorts that the store names in

@@ -1,2 +1,1 @@
 pub mod SlotLaws
-pub mod LookLaws

@@ -1,11 +1,10 @@
 -- The slots of the table: what is recalled there is said, an opened slot says nothing, and a note leaves the other slots as they were.
 use Prim.Native.Nat.{ℕ, zero, suc, ◌+◌, ◌*◌, ◌-◌, ◌/◌, ◌%◌, ◌≤◌, ◌<◌}
 use mathlib.Core.Path.{◌≡◌, refl, sym, ap, ap₂, subst, ◌∙◌}
-use mathlib.Core.Bool.{Bool, true}
+use mathlib.Core.Bool.{Bool, true, false}
 use mathlib.Core.List.{List, [], ◌∷◌}
 use mathlib.Core.Logic.{inl, inr}
 use native.Mathlib.Omega.{arith}
-use native.Mathlib.Nat.{div-add-mod'}
 use lib.ListN.{length, get_or, set, take, drop, length-set, length-drop}
 use lib.Seq.{get_or-take, get_or-drop, get_or-set_same, get_or-set_other, length-take-le}
 use lib.Dec.{eqb, ltb}
@@ -16,13 +15,10 @@ use Rattle.std.proofs.lemmas.List.{take_rest}
 use Rattle.record.specs.Number.{u16_at, numbers_at}
 use Rattle.record.specs.Decode.{written}
 use Rattle.record.specs.Append.{written-before, written_in, written_after, length-written}
-use Rattle.record.specs.Codec.{u16-read}
 use Rattle.record.specs.Cases.{by_test}
-use Rattle.row_answer.specs.Arguments.{put_at, put-long}
-use Rattle.std.specs.Prelude.{Option, Some}
-use Rattle.row_slots.specs.declared.Look.{Look}
-use Rattle.row_slots.specs.declared.Look.TheVariants.{Open}
-use Rattle.row_slots.specs.Slots.{code_end, no_room, KeyAsks, Tells, LackAsks, LackIs, slot_size, column_of, slot_number, slot_of, code_at, PastSays, PastSlotAt, PastSlotAsks, RecalledIs, OpenedIs, SlotNoteAsks, SlotNotedIs}
+use Rattle.std.specs.Prelude.{Option, None, Some, MatchOption}
+use Rattle.std.proofs.lemmas.Bool.{false≢true}
+use Rattle.row_slots.specs.Slots.{code_end, slot_size, column_of, slot_number, code_at, PastSays, PastSlotAt, PastSlotAsks, RecalledIs, OpenedIs, SlotNoteAsks, SlotNotedIs}
 
 -- Numbers whose bytes agree.
 u16-same : (l m : List ℕ) (x y : ℕ) → get_or l x 0 ≡ get_or m y 0 → get_or l (x + 1) 0 ≡ get_or m (y + 1) 0 → u16_at l x ≡ u16_at m y
@@ -78,12 +74,14 @@ begins {ws} {a} {n} {at} h {key} ek et e =
 pub recalled-said : (ws a : List ℕ) (at n : ℕ) {c : ℕ} (q : Option ℕ) → RecalledIs ws at a n q → q ≡ Some c → (slot : ℕ) → at ≡ slot * slot_size → PastSays ws slot (numbers_at a 3 n) c
 recalled-said ws a at n q i e = (subst (RecalledIs ws at a n) e i).1
 
+-- What is recalled where it has met a test that only k meets.
+pub recalled_as : {P : ℕ → Type 0} (q : Option ℕ) (t : Bool) (k : ℕ) → MatchOption q (t ≡ false) P → t ≡ true → ((c : ℕ) → P c → c ≡ k) → q ≡ Some k
+recalled_as None t k h e f = absurd (false≢true (sym h ∙ e))
+recalled_as (Some c) t k h e f = ap Some (f c h)
+
 -- The slots of a column.
 pub slot-column : (column : ℕ) (a : List ℕ) (n : ℕ) → column_of (slot_number column a n) ≡ column
 slot-column column a n = omega arith
-
-pub open-side : (column : ℕ) (a : List ℕ) (n : ℕ) {at : ℕ} → at ≡ slot_of column a n → (slot : ℕ) → slot * slot_size ≡ at → column_of slot ≡ column
-open-side column a n e slot d = let z : slot ≡ slot_number column a n = omega (arith, e, d) in ap column_of z ∙ slot-column column a n
 
 -- A slot says what it said, where its bytes are as they were.
 says-kept : (ws ws' : List ℕ) (slot : ℕ) (key : List ℕ) (c : ℕ) → PastSays ws' slot key c → ((y : ℕ) → y < slot_size → get_or ws' (slot * slot_size + y) 0 ≡ get_or ws (slot * slot_size + y) 0)
@@ -179,86 +177,53 @@ module _ {ws : List ℕ} {at : ℕ} {a : List ℕ} {n : ℕ} (h : PastSlotAsks w
   open_is e ey = subst (OpenedIs ws at a n) (sym (ey ∙ ap (written emptied (at + 4)) e)) filled_is
 
 ---------------------------------------------------------------- a code noted
-module _ {ws : List ℕ} {at n c : ℕ} (h : SlotNoteAsks ws at n c) where
-  abbrev counted : List ℕ
-  counted = set ws at n
-
-  abbrev numbered : List ℕ
-  numbered = put_at counted (at + 1) (c % 65536)
+-- The count and the first three bytes of the code are written at the place.
+module _ {ws : List ℕ} {at n c : ℕ} (h : SlotNoteAsks ws at n c) (bytes : List ℕ) (e : bytes ≡ c % 256 ∷ c / 256 % 256 ∷ c / 65536 % 256 ∷ c / 16777216 % 256 ∷ []) where
+  abbrev head : List ℕ
+  head = n ∷ get_or bytes 0 0 ∷ get_or bytes 1 0 ∷ get_or bytes 2 0 ∷ []
 
   abbrev coded : List ℕ
-  coded = set numbered (at + 3) (c / 65536)
-
-  numbered-long : length numbered ≡ length ws
-  numbered-long = put-long counted (at + 1) (c % 65536) ∙ length-set ws at n
-
-  -- Bytes apart from the first four are as they were.
-  coded-other : (y : ℕ) → (y ≡ at → ⊥) → (y ≡ at + 1 → ⊥) → (y ≡ at + 1 + 1 → ⊥) → (y ≡ at + 3 → ⊥) → get_or coded y 0 ≡ get_or ws y 0
-  coded-other y d₀ d₁ d₂ d₃ =
-      get_or-set_other numbered (at + 3) y (c / 65536) 0 d₃
-      ∙ get_or-set_other (set counted (at + 1) (c % 65536 % 256)) (at + 1 + 1) y (c % 65536 / 256) 0 d₂
-      ∙ get_or-set_other counted (at + 1) y (c % 65536 % 256) 0 d₁ ∙ get_or-set_other ws at y n 0 d₀
-
-  coded-far : (y : ℕ) → (y < at → ⊥) → at + 4 ≤ y → get_or coded y 0 ≡ get_or ws y 0
-  coded-far y d o =
-      coded-other y (λ e. absurd (omega (arith, e))) (λ e. absurd (omega (arith, e))) (λ e. absurd (omega (arith, e))) (λ e. absurd (omega (arith, e)))
+  coded = written ws at head
 
   coded-early : (y : ℕ) → y < at → get_or coded y 0 ≡ get_or ws y 0
-  coded-early y o =
-      coded-other y (λ e. absurd (omega (arith, e))) (λ e. absurd (omega (arith, e))) (λ e. absurd (omega (arith, e))) (λ e. absurd (omega (arith, e)))
+  coded-early y o = sym (written-before ws at head y (omega (arith, h.here.room)) o)
+
+  coded-far : (y : ℕ) → at + 4 ≤ y → get_or coded y 0 ≡ get_or ws y 0
+  coded-far y o = sym (written_after ws at head y (omega (arith, h.here.room)) o)
+
+  coded_at : (i y : ℕ) → i < 4 → y ≡ at + i → get_or coded y 0 ≡ get_or head i 0
+  coded_at i y o d = ap (λ (x : ℕ). get_or coded x 0) d ∙ sym (written_in ws at head i (omega (arith, h.here.room)) o)
 
   coded-count : get_or coded at 0 ≡ n
-  coded-count =
-      get_or-set_other numbered (at + 3) at (c / 65536) 0 (λ e. absurd (omega (arith, e)))
-      ∙ get_or-set_other (set counted (at + 1) (c % 65536 % 256)) (at + 1 + 1) at (c % 65536 / 256) 0 (λ e. absurd (omega (arith, e)))
-      ∙ get_or-set_other counted (at + 1) at (c % 65536 % 256) 0 (λ e. absurd (omega (arith, e)))
-      ∙ get_or-set_same ws at n 0 (omega (arith, h.here.room))
-
-  coded-number : u16_at coded (at + 1) ≡ c % 65536
-  coded-number =
-      u16-read (c % 65536) coded (at + 1)
-      (sym (get_or-set_other numbered (at + 3) (at + 1) (c / 65536) 0 (λ e. absurd (omega (arith, e)))
-      ∙ get_or-set_other (set counted (at + 1) (c % 65536 % 256)) (at + 1 + 1) (at + 1) (c % 65536 / 256) 0 (λ e. absurd (omega (arith, e)))
-      ∙ get_or-set_same counted (at + 1) (c % 65536 % 256) 0 (omega (arith, length-set ws at n, h.here.room))))
-      (sym (get_or-set_other numbered (at + 3) (at + 1 + 1) (c / 65536) 0 (λ e. absurd (omega (arith, e)))
-      ∙ get_or-set_same (set counted (at + 1) (c % 65536 % 256)) (at + 1 + 1) (c % 65536 / 256) 0
-      (omega (arith, length-set counted (at + 1) (c % 65536 % 256), length-set ws at n, h.here.room))))
+  coded-count = coded_at 0 at (omega arith) (omega arith)
 
   coded-is : code_at coded at ≡ c
+  unfolding u16_at
   coded-is =
-      ap₂ (λ (x y : ℕ). x * 65536 + y) (get_or-set_same numbered (at + 3) (c / 65536) 0 (omega (arith, numbered-long, h.here.room))) coded-number
-      ∙ div-add-mod' c 65536
+      let byte = λ (i : ℕ). ap (λ (l : List ℕ). get_or l i 0) e in
+      omega (
+        arith,
+        coded_at 1 (at + 1) (omega arith) (omega arith),
+        coded_at 2 (at + 1 + 1) (omega arith) (omega arith),
+        coded_at 3 (at + 3) (omega arith) (omega arith),
+        byte 0,
+        byte 1,
+        byte 2,
+        h.small,
+      )
 
   noted-is : SlotNotedIs ws at n c coded
   noted-is slot key d s =
       by_test (eqb slot h.here.slot)
       (λ q.
-      let e : slot * slot_size ≡ at = omega (arith, h.here.place, eqb-true slot h.here.slot q) in
+      let z : slot * slot_size ≡ at = omega (arith, h.here.place, eqb-true slot h.here.slot q) in
       inr (
-        e,
-        s.terms ∙ ap (λ (x : ℕ). numbers_at coded (x + 4) (get_or coded x 0)) e ∙ ap (numbers_at coded (at + 4)) coded-count
-            ∙ numbers-same coded ws (at + 4) (at + 4) n (λ y o. coded-far (at + 4 + y) (λ z. absurd (omega (arith, z))) (omega arith)),
-        s.code ∙ ap (code_at coded) e ∙ coded-is,
+        z,
+        s.terms ∙ ap (λ (x : ℕ). numbers_at coded (x + 4) (get_or coded x 0)) z ∙ ap (numbers_at coded (at + 4)) coded-count
+            ∙ numbers-same coded ws (at + 4) (at + 4) n (λ y o. coded-far (at + 4 + y) (omega arith)),
+        s.code ∙ ap (code_at coded) z ∙ coded-is,
       ))
-      (λ q.
-      inl (other-said coded h.here coded-early (λ y o. coded-far y (λ z. absurd (omega (arith, z))) (omega arith)) slot key d s (eqb-false slot h.here.slot q)))
+      (λ q. inl (other-said coded h.here coded-early (λ y o. coded-far y (omega arith)) slot key d s (eqb-false slot h.here.slot q)))
 
-  -- The same with the first three of the bytes of the code.
-  pub note-is : (bytes : List ℕ) → bytes ≡ c % 256 ∷ c / 256 % 256 ∷ c / 65536 % 256 ∷ c / 16777216 % 256 ∷ []
-      → SlotNotedIs ws at n c (set (set (set (set ws at n) (at + 1) (get_or bytes 0 0)) (at + 2) (get_or bytes 1 0)) (at + 3) (get_or bytes 2 0))
-  note-is bytes e =
-      let low : c % 65536 % 256 ≡ get_or bytes 0 0 = omega (arith, ap (λ (l : List ℕ). get_or l 0 0) e) in
-      let high : c % 65536 / 256 ≡ get_or bytes 1 0 = omega (arith, ap (λ (l : List ℕ). get_or l 1 0) e) in
-      let cause : c / 65536 ≡ get_or bytes 2 0 = omega (arith, ap (λ (l : List ℕ). get_or l 2 0) e, h.small) in
-      let second : at + 1 + 1 ≡ at + 2 = omega arith in
-      subst (λ (i : ℕ). SlotNotedIs ws at n c (set (set (set counted (at + 1) i) (at + 2) (get_or bytes 1 0)) (at + 3) (get_or bytes 2 0))) low
-      (subst (λ (i : ℕ). SlotNotedIs ws at n c (set (set (set counted (at + 1) (c % 65536 % 256)) (at + 2) i) (at + 3) (get_or bytes 2 0))) high
-      (subst (λ (i : ℕ). SlotNotedIs ws at n c (set (set (set counted (at + 1) (c % 65536 % 256)) (at + 2) (c % 65536 / 256)) (at + 3) i)) cause
-      (subst (λ (i : ℕ). SlotNotedIs ws at n c (set (set (set counted (at + 1) (c % 65536 % 256)) i (c % 65536 / 256)) (at + 3) (c / 65536))) second noted-is)))
-
----------------------------------------------------------------- no room
-pub lack-open : {a : List ℕ} {n at : ℕ} {q : Look} → LackAsks a n q → q ≡ Open at → KeyAsks a n
-lack-open {a} {n} h e = subst (LackAsks a n) e h
-
-pub lack-is : (ws a : List ℕ) (n : ℕ) {at : ℕ} {q : Look} {t : Bool} → q ≡ Open at → (t ≡ true → Tells ws 0 (numbers_at a 3 n) no_room) → LackIs ws a n q t
-lack-is ws a n {t = t} e f = subst (λ (z : Look). LackIs ws a n z t) (sym e) f
+  pub note-is : {y : List ℕ} → y ≡ coded → SlotNotedIs ws at n c y
+  note-is d = subst (SlotNotedIs ws at n c) (sym d) noted-is

@@ -11,8 +11,9 @@ ghost use Rattle.row_slots.specs.Slots.{slot_of, no_room, KeyAsks, Tells, LackAs
 
 use reader::TermRecord;
 use record::kinds::{SortKind, TermKind};
+use record::limits::REFUSED;
 use record::u16_at;
-use row_answer::arguments::{Args, Column, REFUSED};
+use row_answer::arguments::{Args, Column};
 use row_answer::code;
 use row_rules::{Cause, Row};
 use store::buffers::copy_at;
@@ -75,9 +76,8 @@ impl Past<'_> {
         ensures same { SamePast self.old self.new }
         ensures opened { OpenedIs self.old.bytes.now at args.now.bytes.now args.now.count self.new.bytes.now }
     {
-        let bytes = &mut *self.bytes;
-        bytes[at] = 0;
-        copy_at(bytes, at + 4, args.packed());
+        self.bytes[at] = 0;
+        copy_at(self.bytes, at + 4, args.packed());
     }
 
     // Looks up an App of the terms whose numbers are in `args`: its code in a column, or its slot, which is emptied and has the
@@ -107,10 +107,8 @@ impl Past<'_> {
         if self.bytes.len() < at + SLOT {
             return false;
         }
-        match self.recalled(at, args) {
-            Some(row) => row == code(Err(Cause::Full)) as usize,
-            None => false,
-        }
+        self.recalled(at, args)
+            .is_some_and(|row| row == code(Err(Cause::Full)) as usize)
     }
 
     // The same of an App for which the look-up left a slot; no for any other record.
@@ -131,11 +129,7 @@ impl Past<'_> {
         ensures noted { SlotNotedIs self.old.bytes.now at n row self.new.bytes.now }
     {
         let [low, high, cause, _] = (row as u32).to_le_bytes();
-        let bytes = &mut *self.bytes;
-        bytes[at] = n as u8;
-        bytes[at + 1] = low;
-        bytes[at + 2] = high;
-        bytes[at + 3] = cause;
+        copy_at(self.bytes, at, &[n as u8, low, high, cause]);
     }
 
     // Notes a row of `n` terms where the look-up left a slot for it; else the table stays as it was.

@@ -10,15 +10,12 @@ use Rattle.check_rules.specs.Ranks.{smt_lib}
 use Rattle.check_rules.specs.Checked.{checked}
 use Rattle.row_answer.specs.Answer.{Answer}
 use Rattle.row_parts.specs.Site.{TermIs}
-use Rattle.row_memo.specs.Past.{column_verdict, PastOf, PastAsks, PastIs}
+use Rattle.row_memo.specs.Past.{column_verdict, PastAsks, PastIs}
 use Rattle.questions.specs.Word.{Counts}
 use Rattle.row_table.specs.Table.{BothAsk, BothAre}
-use Rattle.row_table.proofs.TableLaws.{first-asks, second-asks, both-are}
+use Rattle.row_table.proofs.TableLaws.{second-asks, both-are}
 
 module _ {b p ix : List ℕ} {n u : ℕ} {prm imgs bnd s tbl xs rows : List ℕ} {r : TermRecord} {t : ℕ} (h : BothAsk b p ix n u prm imgs bnd s tbl xs rows r t) where
-  pub inferred-asks : {ws : List ℕ} → PastOf b p n ws → (a : List ℕ) → 259 ≤ length a → PastAsks 0 b p ix n u prm imgs bnd s tbl xs rows r a ws
-  inferred-asks y a o = record { asks = first-asks h a o; past = y }
-
   module _ {c q jx prm₁ imgs₁ bnd₁ : List ℕ} {v : Answer} {ws' : List ℕ} (f : PastIs 0 b p n prm imgs bnd s tbl xs rows r c q jx prm₁ imgs₁ bnd₁ v ws') where
     first-row : TermIs inferred 0 b p n prm imgs bnd s tbl xs rows r c q jx prm₁ imgs₁ bnd₁ v
     unfolding column_verdict

@@ -47,53 +47,49 @@ pub fn rows_of(
     rows[2 * t + 1] = code(checked);
 }
 
-// Both rows of the term `t` of a sheet with this many sorts, whose record is read again at its place. Where none is read, which what is
-// asked rules out, no row.
+// Both rows of the term `t` of the sheet, whose record is read again at its place.
 pub fn term_rows(
     store: &mut Store<'_>,
     names: &mut Names<'_>,
     sheet: &ReadSheet<'_>,
-    sorts: usize,
     rows: &mut [u32],
     t: usize,
     past: &mut Past<'_>,
 )
-    requires asked { TurnAsked store.old names.old sheet.now sorts rows.old t }
+    requires asked { TurnAsked store.old names.old sheet.now sheet.now.sorts rows.old t }
     requires past { PastTrue store.old past.old }
     ensures same { Same store.old store.new }
     ensures names { SameNames names.old names.new }
-    ensures rows { TurnWritten store.old names.old sheet.now sorts rows.old t store.new names.new rows.new }
+    ensures rows { TurnWritten store.old names.old sheet.now sheet.now.sorts rows.old t store.new names.new rows.new }
     ensures past { PastTrue store.new past.new }
     ensures same_past { SamePast past.old past.new }
 {
     let cursor = Cursor {
         at: sheet.starts[t] as usize,
     };
-    if let Ok((term, _)) = cursor.term(sheet.bytes, sorts, t) {
-        rows_of(store, names, sheet, rows, term, t, past);
-    }
+    let (term, _) = cursor.term(sheet.bytes, sheet.sorts, t).unwrap();
+    rows_of(store, names, sheet, rows, term, t, past);
 }
 
-// Writes both rows of each of the first `terms` terms of a sheet with this many sorts into `rows`.
+// Writes both rows of each of the first `terms` terms of the sheet into `rows`.
 pub fn rows_past(
     store: &mut Store<'_>,
     names: &mut Names<'_>,
     sheet: &ReadSheet<'_>,
-    sorts: usize,
     terms: usize,
     rows: &mut [u32],
     past: &mut Past<'_>,
 )
-    requires asked { RowsAsked store.old names.old sheet.now sorts terms rows.old }
+    requires asked { RowsAsked store.old names.old sheet.now sheet.now.sorts terms rows.old }
     requires past { PastTrue store.old past.old }
     ensures same { Same store.old store.new }
     ensures names { SameNames names.old names.new }
-    ensures rows { RowsWritten store.old names.old sheet.now sorts terms rows.old store.new names.new rows.new }
+    ensures rows { RowsWritten store.old names.old sheet.now sheet.now.sorts terms rows.old store.new names.new rows.new }
     ensures past { PastTrue store.new past.new }
     ensures same_past { SamePast past.old past.new }
 {
     for t in 0..terms {
-        term_rows(store, names, sheet, sorts, rows, t, past);
+        term_rows(store, names, sheet, rows, t, past);
     }
 }
 
@@ -103,22 +99,21 @@ pub fn rows_all(
     store: &mut Store<'_>,
     names: &mut Names<'_>,
     sheet: &ReadSheet<'_>,
-    sorts: usize,
     terms: usize,
     rows: &mut [u32],
 )
-    requires { RowsAsked store.old names.old sheet.now sorts terms rows.old }
+    requires { RowsAsked store.old names.old sheet.now sheet.now.sorts terms rows.old }
     ensures same { Same store.old store.new }
     ensures names { SameNames names.old names.new }
-    ensures rows { RowsWritten store.old names.old sheet.now sorts terms rows.old store.new names.new rows.new }
+    ensures rows { RowsWritten store.old names.old sheet.now sheet.now.sorts terms rows.old store.new names.new rows.new }
 {
     if names.params.len() < NAMES {
         let mut bytes = [0u8; 1];
         let mut past = Past { bytes: &mut bytes };
-        rows_past(store, names, sheet, sorts, terms, rows, &mut past);
+        rows_past(store, names, sheet, terms, rows, &mut past);
     } else {
         let mut bytes = [0u8; TABLE];
         let mut past = Past { bytes: &mut bytes };
-        rows_past(store, names, sheet, sorts, terms, rows, &mut past);
+        rows_past(store, names, sheet, terms, rows, &mut past);
     }
 }

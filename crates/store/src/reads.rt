@@ -5,8 +5,8 @@ ghost use Rattle.record.specs.Kinds.{sort_number};
 ghost use Rattle.store.specs.Entry.{EntryHas, KindHas, SizeHas, TreeAsks, TreeHas};
 
 use super::Store;
-use super::entries::{Entries, Sorts, record_at};
-use super::slots::SIZES_AT;
+use super::entries::{Entries, Sorts};
+use super::sizes::{size_at, tree_size};
 use record::SortRecord;
 use record::kinds::SortKind;
 
@@ -57,7 +57,7 @@ impl Store<'_> {
         ensures value { result ≡ u16_at self.now.records.now at }
         ensures upper_bound { result < 65536 }
     {
-        self.sorts().number(at)
+        self.entries().number(at)
     }
 
     // The tree size of the sort `k`, from the table.
@@ -65,7 +65,7 @@ impl Store<'_> {
         requires { k < 4096 }
         ensures { SizeHas self.now.index.now k result }
     {
-        self.index[SIZES_AT + k] as usize
+        size_at(self.index, k)
     }
 
     // The tree size of the sort of a record that is over the store: 1 and the sizes of its references.
@@ -73,11 +73,6 @@ impl Store<'_> {
         requires { TreeAsks self.now.index.now rec.now }
         ensures { TreeHas self.now.index.now rec.now result }
     {
-        let parts = record_at(rec, 0).parts;
-        let mut sum = 1;
-        for k in parts.numbers(rec) {
-            sum += self.index[SIZES_AT + k] as usize;
-        }
-        sum
+        tree_size(self.index, rec)
     }
 }

@@ -291,12 +291,6 @@ pub judge-moved : {s : List ℕ} {l : Lengths} {b p rw an : List ℕ} {o : Outco
 judge-moved {s} {l} {b} {p} {rw} {an} {o} j {b'} {p'} eb ep =
     subst (λ (x : List ℕ). JudgeIs s l b' x rw an o) ep (subst (λ (x : List ℕ). JudgeIs s l x p rw an o) eb j)
 
--- Rows and answers that were zeroed.
-pub cleared-asks : (rw an : List ℕ) {rw₁ an₁ : List ℕ} → length rw₁ ≡ length rw → length an₁ ≡ length an → rw₁ ≡ replicate (length rw) 0 → an₁ ≡ replicate (length an) 0
-    → ClearedAsks rw₁ an₁
-cleared-asks rw an {rw₁} {an₁} lr la er ea =
-    record { rows = er ∙ ap (λ (n : ℕ). replicate n 0) (sym lr); answers = ea ∙ ap (λ (n : ℕ). replicate n 0) (sym la) }
-
 ---------------------------------------------------------------- the number
 pub number_is : {s : List ℕ} {l : Lengths} {b p rw an : List ℕ} {o : Outcome} {r : ℕ} → JudgeIs s l b p rw an o → r ≡ number_of_outcome o → NumberIs s l b p rw an r
 number_is {s} {l} {b} {p} {rw} {an} {o} {r} j e = record { number = e ∙ judge-number j; buffers = j.buffers }

@@ -1,11 +1,15 @@
 -- The scan of a store for a Par, and what its answer tells of a sheet without questions.
-use Rattle.std.proofs.Common.{MatchBool}
+use Rattle.std.proofs.Common.{MatchBool, length}
+use Rattle.std.specs.List.{HoldsAt, AllWithin, range_with_len}
+use Rattle.std.proofs.lemmas.List.FromFn.{length-range_with_len, get_or-range_with_len}
 use Prim.Native.Nat.{ℕ, zero, suc, ◌<◌}
 use mathlib.Core.Path.{◌≡◌, refl, sym, ap, subst, ◌∙◌}
 use mathlib.Core.Bool.{Bool, true, false}
 use mathlib.Core.List.{List}
 use native.Mathlib.Omega.{arith}
-use lib.ListN.{get_or}
+use lib.ListN.{length, get_or}
+use Rattle.std.specs.List.{HoldsAt, AllWithin, range_with_len}
+use Rattle.std.proofs.lemmas.List.FromFn.{length-range_with_len, get_or-range_with_len}
 use Rattle.record.specs.Sort.{Sort, kind_of}
 use Rattle.record.specs.Record.{Fields, sort_of}
 use Rattle.record.specs.Forms.{Which, is_var, is_par, is_node, which, sort-var, sort-par, sort-other}
@@ -23,14 +27,16 @@ pub par-in : (b p : List ℕ) (n : ℕ) (r : Bool) → MatchBool r ((k : ℕ) ×
 par-in b p n true h = (h.0, h.1, h.2 h.1)
 par-in b p n false h = λ k l. h k l l
 
+-- What `any` over the numbers below n tells of each of them.
+pub below-any : (Yes No : ℕ → Type 0) (n : ℕ) (r : Bool)
+    → MatchBool r ((k : ℕ) × (k < length (range_with_len 0 n)) × HoldsAt Yes (range_with_len 0 n) k) (AllWithin No (range_with_len 0 n) 0 (length (range_with_len 0 n)))
+    → MatchBool r ((k : ℕ) × (k < n) × Yes k) ((k : ℕ) → k < n → No k)
+below-any Yes No n true (k, l, y) =
+    let o : k < n = omega (arith, length-range_with_len 0 n) in
+    (k, o, subst Yes (omega (arith, get_or-range_with_len 0 n k 0 o)) (y 0))
+below-any Yes No n false h = λ k o. subst No (omega (arith, get_or-range_with_len 0 n k 0 o)) (h k 0 (omega arith) (omega (arith, length-range_with_len 0 n)))
+
 ---------------------------------------------------------------- with the questions
-pub uses-asked : (b p : List ℕ) (n q : ℕ) → (q ≡ 0 → ⊥) → UsesNames b p n q true
-uses-asked b p n q d e = absurd (d e)
-
-pub uses-par : (b p : List ℕ) (n : ℕ) {q : ℕ} (t : Bool) → q ≡ 0 → ParIn b p n t → UsesNames b p n q t
-uses-par b p n {q} true e w = λ z. w
-uses-par b p n {q} false e w = (e, w)
-
 pub none-asked : (b p : List ℕ) (n q : ℕ) {t : Bool} → UsesNames b p n q t → t ≡ false → q ≡ 0
 none-asked b p n q {t} w e = (subst (UsesNames b p n q) e w).0
 

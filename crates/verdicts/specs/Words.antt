@@ -8,6 +8,7 @@ use Rattle.verdicts.specs.Judge.{lengths_of, JudgeIs, Accepted, AcceptedAsks}
 -- A sheet that was read into the store.
 pub record AcceptedAsked (s : Store) (d : ReadSheet) (c : SheetCounts) (ys rw an : List ℕ) : Type 0 where
   pub accepted : AcceptedAsks d.bytes.now s.records.now s.places.now s.index.now d.table.now d.starts.now ys c rw an
+  pub sorts : d.sorts ≡ c.sorts
   pub count : s.count ≡ c.count
   pub used : s.used ≡ c.used
 

@@ -32,7 +32,8 @@ pub fn judge_accepted(
     ensures same { Same store.old store.new }
     ensures judged { JudgedIn store.old sheet.now rows.old answers.old store.new rows.new answers.new }
 {
-    if uses_names(&store.sorts(), counts.questions) {
+    let count = store.count;
+    if uses_names(store.entries(), count, counts.questions) {
         return judge_named(store, sheet, counts, asked, rows, answers);
     }
     let mut names = Names {
@@ -41,7 +42,7 @@ pub fn judge_accepted(
         bound: &mut [0u16; 1],
         many: 0,
     };
-    rows_all(store, &mut names, sheet, counts.sorts, counts.terms, rows);
+    rows_all(store, &mut names, sheet, counts.terms, rows);
 }
 
 // Judges a sheet over rows and answers that are all zeros; `records` and `places` may hold anything. The outcome and the four
@@ -84,6 +85,7 @@ pub fn judge_cleared(
             };
             let sheet = ReadSheet {
                 bytes: sheet,
+                sorts: counts.sorts,
                 table: &table,
                 starts: &starts,
             };

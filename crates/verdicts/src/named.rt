@@ -1,5 +1,6 @@
 // Sheets whose judgement may look up a name: those with a Par among their sorts, or with questions. Only these are judged over
 // tables of all names.
+ghost use Rattle.record.specs.Decode.{Stored};
 ghost use Rattle.store.specs.Changes.{Same};
 ghost use Rattle.verdicts.specs.Named.{ParIn, UsesNames};
 ghost use Rattle.verdicts.specs.Words.{AcceptedAsked, JudgedIn};
@@ -11,20 +12,22 @@ use record::limits::{MOST_BOUND, NAMES};
 use row_table::rows_all;
 use sheet::{ReadSheet, SheetCounts};
 use store::Store;
-use store::entries::Sorts;
+use store::entries::Entries;
 
-// Whether one of the store's sorts is a Par.
-pub fn has_par(sorts: &Sorts<'_>) -> bool
-    ensures { ParIn sorts.now.records.now sorts.now.places.now sorts.now.count result }
+// Whether one of the store's `count` sorts is a Par.
+pub fn has_par(entries: Entries<'_>, count: usize) -> bool
+    requires { Stored entries.records.now entries.places.now count }
+    ensures { ParIn entries.entry.records.now entries.entry.places.now count result }
 {
-    (0..sorts.count).any(|k| sorts.kind(k) == SortKind::Par)
+    (0..count).any(|k| entries.kind(k) == SortKind::Par)
 }
 
-// Whether there are questions, or one of the store's sorts is a Par.
-pub fn uses_names(sorts: &Sorts<'_>, questions: usize) -> bool
-    ensures { UsesNames sorts.now.records.now sorts.now.places.now sorts.now.count questions result }
+// Whether there are questions, or one of the store's `count` sorts is a Par.
+pub fn uses_names(entries: Entries<'_>, count: usize, questions: usize) -> bool
+    requires { Stored entries.records.now entries.places.now count }
+    ensures { UsesNames entries.entry.records.now entries.entry.places.now count questions result }
 {
-    questions != 0 || has_par(sorts)
+    questions != 0 || has_par(entries, count)
 }
 
 // As `judge_accepted`, over tables of all names.
@@ -49,12 +52,11 @@ pub fn judge_named(
         bound: &mut bound,
         many: 0,
     };
-    rows_all(store, &mut names, sheet, counts.sorts, counts.terms, rows);
+    rows_all(store, &mut names, sheet, counts.terms, rows);
     answer_all(
         store,
         &mut names,
         sheet,
-        counts.sorts,
         &asked[..counts.questions],
         answers,
     );

@@ -1,10 +1,13 @@
 -- How much of a printout is written: what writing its lines asks, and what is promised of it. A printout is here a count of lines and
 -- the line of each number.
-use Rattle.std.specs.Prelude.{ℕ, ◌-◌, ◌≤◌, ◌<◌, ◌≡◌, true, false, List}
+use Rattle.std.specs.Prelude.{ℕ, ◌-◌, ◌≤◌, ◌<◌, ◌≡◌, true, false, List, Option}
+use Rattle.std.specs.Io.KnownBytes.{Appends}
 use Rattle.judge_rules.specs.Judged.{Judgement}
 use Rattle.printout.specs.Lines.{line_room}
+use Rattle.printout.specs.Printed.{printed}
 use Rattle.printout.specs.Whole.{lines_from}
 use Rattle.printout_text.specs.Text.{line_count, line_of}
+use Rattle.page.specs.Page.{paged}
 use Rattle.page.specs.Numbered.{page_count, page_line_of}
 use Rattle.written.specs.declared.Written.{Written}
 
@@ -34,6 +37,10 @@ pub record WentOn (w : Written) (next : ℕ) (r : Written) : Type 0 where
   pub took : r.failed ≡ false → r.lines ≡ next
   pub stayed : r.failed ≡ true → r.lines ≡ w.lines
 
+-- WHAT THE OUTPUT HOLDS, where that is known: if no write failed, what it held before and then just this text.
+abbrev pub TextAdded : Option (List ℕ) → Option (List ℕ) → List ℕ → Written → Type 0
+TextAdded before after text r = r.failed ≡ false → Appends before after text
+
 -- ALL LINES ARE WRITTEN, unless a write failed; where one failed, a line is left.
 pub record WrittenAll (count : ℕ) (r : Written) : Type 0 where
   pub whole : r.failed ≡ false → r.lines ≡ count
@@ -56,6 +63,11 @@ line_in on_pages j = page_line_of j
 abbrev pub room_in : Layout → ℕ
 room_in in_lines = line_room
 room_in on_pages = 81
+
+-- The whole text: by the laws `lines-printed` and `lines-paged` its lines in order.
+abbrev pub text_in : Layout → Judgement → List ℕ
+text_in in_lines j = printed j
+text_in on_pages j = paged j
 
 -- THE PROMISE OF WRITING either,
 abbrev pub WrittenIn : Layout → Judgement → Written → Type 0

@@ -1,21 +1,29 @@
 -- What a write of lines gives, case by case; and what the count of written lines says of the bytes that were handed over: they grow by
 -- the text of each write.
-use Rattle.std.specs.Prelude.{ℕ, ◌+◌, ◌-◌, ◌<◌, ◌≤◌, ◌≡◌, refl, Bool, true, false, List, [], ◌++◌, length, take, ltb}
-use Rattle.std.proofs.Common.{sym, ap, ◌∙◌, append-nil, arith, ltb-true, ltb-false}
+use Rattle.std.specs.Prelude.{ℕ, ◌+◌, ◌-◌, ◌<◌, ◌≤◌, ◌≡◌, refl, Bool, true, false, List, [], ◌++◌, length, take, ltb, Option}
+use Rattle.std.specs.Io.KnownBytes.{Appends}
+use Rattle.std.proofs.KnownBytes.{Appends-nil, Appends-trans}
+use Rattle.std.proofs.Common.{sym, ap, subst, ◌∙◌, append-nil, arith, ltb-true, ltb-false}
 use Rattle.record.specs.Cases.{by_test}
 use Rattle.reader.specs.declared.Refusal.{Refusal}
 use Rattle.reader.specs.Reader.{refusal_number}
+use Rattle.judge_rules.specs.Judged.{Judgement, judged}
+use Rattle.verdicts.specs.Judge.{Refused, outcome_of}
 use Rattle.printout_sort.specs.TextLaws.{decimal-short}
 use Rattle.printout.specs.declared.whole.Piece.{Piece}
 use Rattle.printout.specs.Lines.{refusal_line}
 use Rattle.printout.specs.LineLaws.{refusal-line-length}
+use Rattle.printout.specs.Printed.{printed, program_lengths}
 use Rattle.printout.specs.Whole.{lines_from}
-use Rattle.printout_text.specs.Text.{LinesBy, RefusedLines}
+use Rattle.printout_text.specs.Text.{line_of, LinesBy, RefusedLines}
 use Rattle.printout_text.specs.NewlineLaws.{wrote-first}
-use Rattle.printout_text.specs.PrintedLaws.{piece_then}
-use Rattle.printout_text.specs.TextLaws.{refusal-small}
+use Rattle.printout_text.specs.PrintedLaws.{piece_then, lines-printed}
+use Rattle.printout_text.specs.TextLaws.{refusal-small, refused_as}
+use Rattle.page.specs.Page.{paged}
+use Rattle.page.specs.Numbered.{page_line_of}
+use Rattle.page.proofs.NumberedLaws.{lines-paged}
 use Rattle.written.specs.declared.Written.{Written}
-use Rattle.written.specs.Written.{none_written, handed, NextLines, HandAsks, WentOn, WrittenAll}
+use Rattle.written.specs.Written.{none_written, handed, NextLines, HandAsks, WentOn, WrittenAll, TextAdded, Layout, in_lines, on_pages, count_in, line_in, text_in}
 
 not-both : (b : Bool) → b ≡ false → b ≡ true → ⊥
 not-both b f t = let z : ◌≡◌ {A = ℕ} 0 1 = cc in omega arith
@@ -70,6 +78,14 @@ refused-next e o o' r a long =
     let u : 0 < r.next = w.goes long (omega arith) in
     omega (arith, u, w.last u)
 
+-- In a buffer of 7 bytes that is the whole of it.
+pub refused-text : (e : Refusal) (o o' : List ℕ) (r : Piece) → RefusedLines e 0 o o' r → 7 ≤ length o → take r.end o' ≡ refusal_line (refusal_number e)
+unfolding lines_from
+refused-text e o o' r a long =
+    let n = refused-next e o o' r a long in
+    let w = next-lines (a 7 (omega arith)) (λ x. omega (arith, n, x)) none_written refl refl in
+    w.is ∙ ap (λ (i : ℕ). lines_from (λ k. refusal_line (refusal_number e)) 0 (i - 0)) n ∙ append-nil (refusal_line (refusal_number e))
+
 ---------------------------------------------------------------- what is promised
 -- A write took all,
 pub took-all : (w : Written) (next : ℕ) → WentOn w next (record { lines = next; failed = false })
@@ -107,3 +123,25 @@ handed-more {line = line} {w} {next} a g e =
     ∙ piece_then line 0 w.lines next (omega arith) a.on
     ∙ ap (λ (n : ℕ). lines_from line 0 n ++ lines_from line w.lines (next - w.lines)) y
     ∙ ap (λ (t : List ℕ). handed line w ++ t) (sym a.is)
+
+-- Where all lines are written, the whole text is handed over.
+pub handed-text : (t : Layout) (s : List ℕ) (r : Written) → r.lines ≡ count_in t (judged s program_lengths)
+    → handed (line_in t (judged s program_lengths)) r ≡ text_in t (judged s program_lengths)
+handed-text in_lines s r e = ap (lines_from (line_of (judged s program_lengths)) 0) e ∙ sym (lines-printed s program_lengths)
+handed-text on_pages s r e = ap (lines_from (page_line_of (judged s program_lengths)) 0) e ∙ sym (lines-paged (judged s program_lengths))
+
+-- The text of a refused sheet is its one line.
+pub text-refused : (t : Layout) (e : Refusal) (j : Judgement) → Refused e ≡ outcome_of j → refusal_line (refusal_number e) ≡ text_in t j
+unfolding printed paged
+text-refused in_lines e j h = ap printed (refused_as e j h)
+text-refused on_pages e j h = ap paged (refused_as e j h)
+
+---------------------------------------------------------------- what follows of what an output holds
+-- At first it holds nothing more than before,
+pub held-none : (o : Option (List ℕ)) (line : ℕ → List ℕ) (w : Written) → w ≡ none_written → Appends o o (handed line w)
+held-none o line w e = subst (λ (v : Written). Appends o o (handed line v)) (sym e) (subst (Appends o o) (sym (handed-none line)) (Appends-nil o))
+
+-- and each write that took all adds the next lines.
+pub held-more : {count : ℕ} {line : ℕ → List ℕ} {w : Written} {next : ℕ} {text : List ℕ} {r : Written} (o p q : Option (List ℕ)) → NextLines count line w next text
+    → WentOn w next r → r.failed ≡ false → Appends o p (handed line w) → TextAdded p q text r → Appends o q (handed line r)
+held-more o p q a g e h t = subst (Appends o q) (sym (handed-more a g e)) (Appends-trans o p q _ _ h (t e))

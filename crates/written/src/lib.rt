@@ -1,12 +1,16 @@
-// How much of a printout or of the pages was written to an output, and what writes either. The one call of `write_all` of it stands here, in `hand`, and so does
-// all that makes a `Written`: its fields are private, so that elsewhere a line counts as written only where its bytes were handed over.
+// How much of a printout or of the pages was written to an output, and what writes either. The one call of `write_all` of it stands
+// here, in `hand`, and so does all that makes a `Written`: its fields are private, so that elsewhere a line counts as written only
+// where its bytes were handed over.
 #![tactic(auto)]
 
 ghost use Rattle.std.specs.Prelude.{◌≡◌, ◌≤◌, ℕ, List, length};
+ghost use Rattle.reader.specs.Reader.{refusal_number};
 ghost use Rattle.judge_rules.specs.Judged.{judged};
+ghost use Rattle.printout.specs.Lines.{refusal_line};
 ghost use Rattle.printout.specs.Printed.{program_lengths};
-ghost use Rattle.printout_text.specs.Text.{LinesBy, PrintAsks};
-ghost use Rattle.written.specs.Written.{Layout, count_in, line_in, room_in, HandAsks, WentOn, WrittenAll, WrittenIn, none_written};
+ghost use Rattle.printout_text.specs.Text.{LinesBy};
+ghost use Rattle.printout_text.specs.Words.{PrintAsked};
+ghost use Rattle.written.specs.Written.{Layout, count_in, line_in, room_in, text_in, HandAsks, NextLines, WentOn, TextAdded, WrittenAll, WrittenIn, none_written};
 
 use printout::whole::Piece;
 use printout_text::judged::JudgedSheet;
@@ -68,24 +72,28 @@ pub trait Printer {
     // Which of them.
     ghost layout: { Layout };
 
-    // Writes what it prints of a sheet that was judged with this outcome. All lines are written, the one of a refused sheet too; or a
-    // write failed, nothing was handed over after it, and the lines before it are written.
+    // Writes what it prints of a sheet that was judged with this outcome. All lines are written, the one of a refused sheet too, and
+    // their bytes stand behind what the output held; or a write failed, nothing was handed over after it, and the lines before it are
+    // written.
     fn print_judged<W: Write>(
         &self,
         output: &mut W,
         sheet: &JudgedSheet<'_>,
         outcome: Result<(), Refusal>,
     ) -> Written
-        requires left { PrintAsks sheet.now.bytes.now sheet.now.entries.records.now sheet.now.entries.places.now sheet.now.rows.now sheet.now.answers.now outcome }
+        requires left { PrintAsked sheet.now outcome }
         requires short { length sheet.now.entries.records.now ≤ 65536 }
-        ensures { WrittenIn layout (judged sheet.now.bytes.now program_lengths) result };
+        ensures lines { WrittenIn layout (judged sheet.now.bytes.now program_lengths) result }
+        ensures bytes { TextAdded (W.contents output.old) (W.contents output.new) (text_in layout (judged sheet.now.bytes.now program_lengths)) result };
 }
 
 // Hands this text, that of the lines from the first unwritten one up to the line `next`, to the output. Where the write took
-// all, these lines are written too; else it failed, and the lines written are those of before.
+// all, these lines are written too, and the output holds the text behind what it held; else it failed, and the lines written are
+// those of before.
 fn hand<W: Write>(output: &mut W, done: Written, next: usize, text: &[u8]) -> Written
     requires { HandAsks done next text.now }
-    ensures { WentOn done next result }
+    ensures lines { WentOn done next result }
+    ensures bytes { TextAdded (W.contents output.old) (W.contents output.new) text.now result }
 {
     if output.write_all(text).is_ok() {
         Written {
@@ -100,13 +108,40 @@ fn hand<W: Write>(output: &mut W, done: Written, next: usize, text: &[u8]) -> Wr
     }
 }
 
-// Writes all these lines, of which none was shown yet, piece by piece, by way of a buffer that holds any of them. All are written; or a
-// write failed, nothing was handed over after it, and the lines before it are written.
+// Hands the text of these lines, from the first unwritten one up to the line `next`, to the output. Where the write took all, they are
+// written too; else it failed, and the lines written are those of before.
+fn hand_lines<W: Write, L: Lines>(
+    output: &mut W,
+    lines: &L,
+    done: Written,
+    next: usize,
+    text: &[u8],
+) -> Written
+    requires { NextLines (count_in L.layout (judged (L.sheet lines.now) program_lengths)) (line_in L.layout (judged (L.sheet lines.now) program_lengths)) done next text.now }
+    ensures lines { WentOn done next result }
+    ensures bytes { TextAdded (W.contents output.old) (W.contents output.new) text.now result }
+{
+    hand(output, done, next, text)
+}
+
+// Hands the line of a sheet that is refused for this reason to the output: it is written, or the write failed, and none is.
+fn hand_refusal<W: Write>(output: &mut W, e: Refusal, text: &[u8]) -> Written
+    requires { text.now ≡ refusal_line (refusal_number e) }
+    ensures lines { WentOn none_written 1 result }
+    ensures bytes { TextAdded (W.contents output.old) (W.contents output.new) (refusal_line (refusal_number e)) result }
+{
+    hand(output, nothing_written(), 1, text)
+}
+
+// Writes all these lines, of which none was shown yet, piece by piece, by way of a buffer that holds any of them. All are written, and
+// their bytes stand behind what the output held; or a write failed, nothing was handed over after it, and the lines before it are
+// written.
 pub fn write_lines<W: Write, L: Lines>(output: &mut W, lines: &mut L, out: &mut [u8]) -> Written
     requires can { L.can_show lines.old }
     requires first { L.next lines.old ≡ 0 }
     requires room { room_in L.layout ≤ length out.old }
-    ensures { WrittenIn L.layout (judged (L.sheet lines.old) program_lengths) result }
+    ensures lines { WrittenIn L.layout (judged (L.sheet lines.old) program_lengths) result }
+    ensures bytes { TextAdded (W.contents output.old) (W.contents output.new) (text_in L.layout (judged (L.sheet lines.old) program_lengths)) result }
 {
     let mut done = nothing_written();
     loop {
@@ -114,19 +149,20 @@ pub fn write_lines<W: Write, L: Lines>(output: &mut W, lines: &mut L, out: &mut 
         if piece.next == done.lines {
             return done;
         }
-        done = hand(output, done, piece.next, &out[..piece.end]);
+        done = hand_lines(output, lines, done, piece.next, &out[..piece.end]);
         if done.failed {
             return done;
         }
     }
 }
 
-// Writes the line of a sheet that is refused for this reason, the only one of its printout and of its pages. That line is written; or
-// the write failed, and none is.
+// Writes the line of a sheet that is refused for this reason, the only one of its printout and of its pages. That line is written, and
+// stands behind what the output held; or the write failed, and none is.
 pub fn print_refusal<W: Write>(output: &mut W, e: Refusal) -> Written
-    ensures { WrittenAll 1 result }
+    ensures lines { WrittenAll 1 result }
+    ensures bytes { TextAdded (W.contents output.old) (W.contents output.new) (refusal_line (refusal_number e)) result }
 {
     let mut line = [0u8; 16];
     let piece = refused_line(e, 0, &mut line);
-    hand(output, nothing_written(), piece.next, &line[..piece.end])
+    hand_refusal(output, e, &line[..piece.end])
 }

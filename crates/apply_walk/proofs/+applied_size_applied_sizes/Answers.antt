@@ -12,10 +12,8 @@ use Rattle.apply_walk.proofs.+applied_size_applied_sizes.Goals as goal
 
 pub applied_size-returns-in-Some : goal.applied_size-returns-in-Some
 applied_size-returns-in-Some t c =
-    let a = c.args in
-    let s = a.store.now in
     let v = c.in-Some in
-    record { is = weighed-is s.records.now s.places.now s.count a.k a.images.now a.weighed.now c.requires.weighed v.seen v.ensures.0 v.ensures.1; weighed = c.requires.weighed }
+    record { is = weighed-is c.args.k c.requires.weighed v.ensures.0 v.ensures.1; weighed = c.requires.weighed }
 
 pub applied_size-returns-then-eq : goal.applied_size-returns-then-eq
 applied_size-returns-then-eq t c =
@@ -49,7 +47,7 @@ applied_size-returns t c =
     let s = a.store.now in
     let e = c.entry-e.result in
     let is = size-whole c.requires.asks e c.entry-e.ensures (search rules) c.names_kept-kept.ensures c.applied_sizes-sum.result c.applied_sizes-sum.ensures.are (goes (sort_number e.kind) c.names_kept-kept.result) refl c.whole_size-size.ensures in
-    record { is = is; weighed = subst (Weighed s.records.now s.places.now s.count a.images.now) (sym c.remember.ensures) (weighed-set s.records.now s.places.now s.count a.images.now c.applied_sizes-sum.new.weighed a.k c.whole_size-size.result c.applied_sizes-sum.ensures.weighed is) }
+    record { is = is; weighed = subst (Weighed s.records.now s.places.now s.count a.images.now) (sym c.remember.ensures) (weighed-set a.k c.applied_sizes-sum.ensures.weighed is) }
 
 pub applied_sizes-loop-k-init : goal.applied_sizes-loop-k-init
 applied_sizes-loop-k-init t c =

@@ -1,5 +1,4 @@
-use Rattle.std.proofs.Common.{◌≡◌, ◌+◌, ◌-◌, ℕ, List, set, arith, rules, sym, ap, subst, ◌∙◌}
-use Rattle.record.specs.Number.{numbers_at}
+use Rattle.std.proofs.Common.{◌≡◌, ◌+◌, ℕ, List, set, arith, rules, sym, subst}
 use Rattle.store.specs.declared.Store.{Store}
 use Rattle.store.specs.Changes.{Same}
 use Rattle.apply_walk.specs.Made.{made-known}
@@ -13,34 +12,26 @@ use Rattle.apply_walk.proofs.+apply_parts_apply_sort.Goals.{apply_parts-in-Some,
 
 pub apply_parts-apply_sort-requires : goal.apply_parts-apply_sort-requires
 apply_parts-apply_sort-requires t c =
-    let s = c.args.store.now in
     let p = c.loop-part in
-    let d = p.store in
-    let q = parts-asks s.records.now s.places.now s.index.now s.count s.used c.args.parts.now c.args.images.now c.requires.asks d.records.now d.places.now d.index.now p.parts d.count d.used p.part-index p.invariant.along.inv c.loop-part-test.true c.from-k.result c.from-k.ensures in
+    let q = parts-asks c.requires.asks p.invariant.along.inv c.loop-part-test.true c.from-k.ensures in
     (omega (arith, c.decreases, q.0), record { asks = q.1; known = p.invariant.along.known })
 
 pub apply_parts-returns-in_err-i-in-None-clause-made : goal.apply_parts-returns-in_err-i-in-None-clause-made
 apply_parts-returns-in_err-i-in-None-clause-made t c =
-    let s = c.args.store.now in
     let p = c.loop-part in
-    let d = p.store in
-    let e = c.apply_sort.new.store in
-    known-parts-halted s.records.now s.places.now s.count s.used c.args.parts.now c.args.images.now e.records.now e.places.now e.index.now c.apply_sort.new.known _ e.count e.used c.from_residual.result c.from_residual.ensures.0
-    (parts-halted s.records.now s.places.now s.index.now s.count s.used c.args.parts.now c.args.images.now c.requires.asks d.records.now d.places.now d.index.now p.parts d.count d.used p.part-index p.invariant.along.inv c.loop-part-test.true c.from-k.result c.from-k.ensures e.records.now e.places.now e.index.now e.count e.used c.in_err-i-in-None.ensures.made)
+    known-parts-halted c.args.parts.now c.args.images.now c.apply_sort.new.known _ c.from_residual.result c.from_residual.ensures.0
+    (parts-halted c.requires.asks p.invariant.along.inv c.loop-part-test.true c.from-k.ensures c.in_err-i-in-None.ensures.made)
 
 pub apply_parts-overflow_cast-part : goal.apply_parts-overflow_cast-part
 apply_parts-overflow_cast-part t c =
-    let s = c.args.store.now in
     let p = c.loop-part in
-    let d = p.store in
     let i = p.invariant.along in
     elim c.match-recall.branch [
       | apply_parts-in-Some w ↦
-          omega (arith, w.i-is, parts-number s.records.now s.places.now s.index.now s.count s.used c.args.parts.now c.args.images.now c.requires.asks d.records.now d.places.now d.index.now p.parts d.count d.used p.part-index i.inv c.loop-part-test.true c.from-k.result c.from-k.ensures d.records.now d.places.now d.index.now (w.in-Some.seen - 1) d.count d.used (known-made d.records.now d.places.now d.index.now d.count d.used i.inv.good c.from-k.result c.args.images.now p.known i.known w.in-Some.seen w.in-Some.ensures.0 w.in-Some.ensures.1))
+          omega (arith, w.i-is, parts-number c.requires.asks i.inv c.loop-part-test.true c.from-k.ensures (known-made i.inv.good c.from-k.result i.known w.in-Some.ensures.0 w.in-Some.ensures.1))
       | apply_parts-in-None+in_ok-i-in-None w ↦
-          let e = w.apply_sort.new.store in
           let v = w.in_ok-i-in-None in
-          omega (arith, w.i-is, parts-number s.records.now s.places.now s.index.now s.count s.used c.args.parts.now c.args.images.now c.requires.asks d.records.now d.places.now d.index.now p.parts d.count d.used p.part-index i.inv c.loop-part-test.true c.from-k.result c.from-k.ensures e.records.now e.places.now e.index.now v.i e.count e.used v.ensures.made.made)
+          omega (arith, w.i-is, parts-number c.requires.asks i.inv c.loop-part-test.true c.from-k.ensures v.ensures.made.made)
     ]
 
 -- What holds of a store, a table and a number holds of those that equal them.
@@ -51,86 +42,60 @@ pub apply_parts-loop-part-preserved : goal.apply_parts-loop-part-preserved
 apply_parts-loop-part-preserved t c =
     let s = c.args.store.now in
     let p = c.loop-part in
-    let d = p.store in
     let i = p.invariant.along in
     let kept : Store → List ℕ → ℕ → Type 0 = λ (x : Store) (ws : List ℕ) (k : ℕ). Same s x × KnownInv s.records.now s.places.now s.count s.used c.args.parts.now c.args.images.now x.records.now x.places.now x.index.now ws (set p.parts p.part-index k) x.count x.used (p.part-index + 1) in
     elim c.match-recall.branch [
       | apply_parts-in-Some w ↦
           let h = moved kept w.store-is w.known-is w.i-is
-          (p.invariant.same, record { inv = parts-inv-more s.records.now s.places.now s.index.now s.count s.used c.args.parts.now c.args.images.now c.requires.asks d.records.now d.places.now d.index.now p.parts d.count d.used p.part-index i.inv c.loop-part-test.true c.from-k.result c.from-k.ensures d.records.now d.places.now d.index.now (w.in-Some.seen - 1) d.count d.used (known-made d.records.now d.places.now d.index.now d.count d.used i.inv.good c.from-k.result c.args.images.now p.known i.known w.in-Some.seen w.in-Some.ensures.0 w.in-Some.ensures.1); known = i.known }) in
+          (p.invariant.same, record { inv = parts-inv-more c.requires.asks i.inv c.loop-part-test.true c.from-k.ensures (known-made i.inv.good c.from-k.result i.known w.in-Some.ensures.0 w.in-Some.ensures.1); known = i.known }) in
           record { same = h.0; along = h.1 }
       | apply_parts-in-None+in_ok-i-in-None w ↦
-          let e = w.apply_sort.new.store in
           let v = w.in_ok-i-in-None in
           let h = moved kept w.store-is w.known-is w.i-is
-          (search rules, record { inv = parts-inv-more s.records.now s.places.now s.index.now s.count s.used c.args.parts.now c.args.images.now c.requires.asks d.records.now d.places.now d.index.now p.parts d.count d.used p.part-index i.inv c.loop-part-test.true c.from-k.result c.from-k.ensures e.records.now e.places.now e.index.now v.i e.count e.used v.ensures.made.made; known = v.ensures.made.known }) in
+          (search rules, record { inv = parts-inv-more c.requires.asks i.inv c.loop-part-test.true c.from-k.ensures v.ensures.made.made; known = v.ensures.made.known }) in
           record { same = h.0; along = h.1 }
     ]
 
 pub apply_parts-returns-clause-made : goal.apply_parts-returns-clause-made
 apply_parts-returns-clause-made t c =
-    let s = c.args.store.now in
     let p = c.loop-part in
-    let d = p.store in
-    record { made = parts-done s.records.now s.places.now s.index.now s.count s.used c.args.parts.now c.args.images.now c.requires.asks d.records.now d.places.now d.index.now p.parts d.count d.used p.part-index p.invariant.along.inv c.loop-part-test.false; known = p.invariant.along.known }
+    record { made = parts-done c.requires.asks p.invariant.along.inv c.loop-part-test.false; known = p.invariant.along.known }
 
 pub apply_sort-returns-in-Some-clause-made : goal.apply_sort-returns-in-Some-clause-made
 apply_sort-returns-in-Some-clause-made t c =
-    let a = c.args in
-    let s = a.store.now in
-    record { made = known-made s.records.now s.places.now s.index.now s.count s.used c.requires.asks.ready.good a.k a.images.now a.known.now c.requires.known c.in-Some.seen c.in-Some.ensures.0 c.in-Some.ensures.1; known = c.requires.known }
+    record { made = known-made c.requires.asks.ready.good c.args.k c.requires.known c.in-Some.ensures.0 c.in-Some.ensures.1; known = c.requires.known }
 
 pub apply_sort-returns-then-eq-clause-made : goal.apply_sort-returns-then-eq-clause-made
 apply_sort-returns-then-eq-clause-made t c =
     let a = c.args in
     let s = a.store.now in
-    let is = c.entry-e.ensures s.count c.requires.asks.ready.good.stored c.requires.asks.known in
-    let w = sort-image c.requires.asks is (search rules) c.image_of-image.ensures in
-    record { made = w; known = subst (Known s.records.now s.places.now s.count a.images.now) (sym c.remember.ensures) (known-added s.records.now s.places.now s.count s.used a.k a.images.now s.records.now s.places.now s.index.now c.image_of-image.result s.count s.used w c.requires.asks.ready.table c.requires.asks.known a.known.now c.requires.known) }
+    let w = sort-image c.requires.asks c.entry-e.ensures (search rules) c.image_of-image.ensures in
+    record { made = w; known = subst (Known s.records.now s.places.now s.count a.images.now) (sym c.remember.ensures) (known-added w c.requires.asks.ready.table c.requires.asks.known c.requires.known) }
 
 pub apply_sort-returns-then-e-eq0-clause-made : goal.apply_sort-returns-then-e-eq0-clause-made
 apply_sort-returns-then-e-eq0-clause-made t c =
     let a = c.args in
     let s = a.store.now in
-    let is = c.entry-e.ensures s.count c.requires.asks.ready.good.stored c.requires.asks.known in
-    let w = sort-leaf c.requires.asks is (search rules) c.if-e-eq0.true in
-    record { made = w; known = subst (Known s.records.now s.places.now s.count a.images.now) (sym c.remember-then-e-eq0.ensures) (known-added s.records.now s.places.now s.count s.used a.k a.images.now s.records.now s.places.now s.index.now a.k s.count s.used w c.requires.asks.ready.table c.requires.asks.known a.known.now c.requires.known) }
+    let w = sort-leaf c.requires.asks c.entry-e.ensures (search rules) c.if-e-eq0.true in
+    record { made = w; known = subst (Known s.records.now s.places.now s.count a.images.now) (sym c.remember-then-e-eq0.ensures) (known-added w c.requires.asks.ready.table c.requires.asks.known c.requires.known) }
 
 pub apply_sort-apply_parts-requires : goal.apply_sort-apply_parts-requires
 apply_sort-apply_parts-requires t c =
-    let s = c.args.store.now in
-    let e = c.entry-e.result in
-    let is = c.entry-e.ensures s.count c.requires.asks.ready.good.stored c.requires.asks.known in
-    let read = c.read_numbers.ensures ∙ ap (λ (bs : List ℕ). numbers_at bs e.parts.at e.parts.count) c.entries.ensures.records in
-    (omega (arith, c.decreases, sort-falls c.requires.asks is (search rules) read), record { asks = sort-parts-ask c.requires.asks is (search rules) read; known = c.requires.known })
+    (omega (arith, c.decreases, sort-falls c.requires.asks c.entry-e.ensures (search rules) c.read_numbers.ensures c.entries.ensures.records), record { asks = sort-parts-ask c.requires.asks c.entry-e.ensures (search rules) c.read_numbers.ensures c.entries.ensures.records; known = c.requires.known })
 
 pub apply_sort-returns-in_err-apply_parts-clause-made : goal.apply_sort-returns-in_err-apply_parts-clause-made
 apply_sort-returns-in_err-apply_parts-clause-made t c =
-    let s = c.args.store.now in
-    let e = c.entry-e.result in
-    let d = c.apply_parts.new.store in
-    let is = c.entry-e.ensures s.count c.requires.asks.ready.good.stored c.requires.asks.known in
-    let read = c.read_numbers.ensures ∙ ap (λ (bs : List ℕ). numbers_at bs e.parts.at e.parts.count) c.entries.ensures.records in
-    known-halted s.records.now s.places.now s.count s.used c.args.k c.args.images.now d.records.now d.places.now d.index.now c.apply_parts.new.known d.count d.used c.from_residual.result c.from_residual.ensures.0
-    (sort-stuck c.requires.asks is (search rules) read c.in_err-apply_parts.ensures.made)
+    known-halted c.args.k c.args.images.now c.apply_parts.new.known c.from_residual.result c.from_residual.ensures.0
+    (sort-stuck c.requires.asks c.entry-e.ensures (search rules) c.read_numbers.ensures c.entries.ensures.records c.in_err-apply_parts.ensures.made)
 
 pub apply_sort-rebuild-requires : goal.apply_sort-rebuild-requires
 apply_sort-rebuild-requires t c =
-    let s = c.args.store.now in
-    let e = c.entry-e.result in
-    let is = c.entry-e.ensures s.count c.requires.asks.ready.good.stored c.requires.asks.known in
-    let read = c.read_numbers.ensures ∙ ap (λ (bs : List ℕ). numbers_at bs e.parts.at e.parts.count) c.entries.ensures.records in
-    sort-rebuild c.requires.asks is (search rules) read c.in_ok-apply_parts.ensures.made.made
+    sort-rebuild c.requires.asks c.entry-e.ensures (search rules) c.read_numbers.ensures c.entries.ensures.records c.in_ok-apply_parts.ensures.made.made
 
 pub apply_sort-returns-in_err-i-clause-made : goal.apply_sort-returns-in_err-i-clause-made
 apply_sort-returns-in_err-i-clause-made t c =
-    let s = c.args.store.now in
-    let e = c.entry-e.result in
-    let d = c.rebuild.new.store in
-    let is = c.entry-e.ensures s.count c.requires.asks.ready.good.stored c.requires.asks.known in
-    let read = c.read_numbers.ensures ∙ ap (λ (bs : List ℕ). numbers_at bs e.parts.at e.parts.count) c.entries.ensures.records in
-    known-halted s.records.now s.places.now s.count s.used c.args.k c.args.images.now d.records.now d.places.now d.index.now c.apply_parts.new.known d.count d.used c.from_residual-in_err-i.result c.from_residual-in_err-i.ensures.0
-    (sort-full c.requires.asks is (search rules) read c.in_ok-apply_parts.ensures.made.made d.records.now d.places.now d.index.now d.count d.used c.in_err-i.ensures.made)
+    known-halted c.args.k c.args.images.now c.apply_parts.new.known c.from_residual-in_err-i.result c.from_residual-in_err-i.ensures.0
+    (sort-full c.requires.asks c.entry-e.ensures (search rules) c.read_numbers.ensures c.entries.ensures.records c.in_ok-apply_parts.ensures.made.made c.in_err-i.ensures.made)
 
 pub apply_sort-overflow_add-i : goal.apply_sort-overflow_add-i
 apply_sort-overflow_add-i t c =
@@ -146,11 +111,7 @@ apply_sort-remember-requires-2 t c =
 
 pub apply_sort-returns-clause-made : goal.apply_sort-returns-clause-made
 apply_sort-returns-clause-made t c =
-    let s = c.args.store.now in
-    let e = c.entry-e.result in
     let d = c.rebuild.new.store in
-    let is = c.entry-e.ensures s.count c.requires.asks.ready.good.stored c.requires.asks.known in
-    let read = c.read_numbers.ensures ∙ ap (λ (bs : List ℕ). numbers_at bs e.parts.at e.parts.count) c.entries.ensures.records in
     let w = c.in_ok-apply_parts.ensures.made in
     let v = c.in_ok-i in
-    record { made = sort-made c.requires.asks is (search rules) read w.made v.ensures.made; known = subst (Known d.records.now d.places.now d.count c.args.images.now) (sym c.remember-2.ensures) (sort-known c.requires.asks is (search rules) read w.made v.ensures.made c.apply_parts.new.known w.known) }
+    record { made = sort-made c.requires.asks c.entry-e.ensures (search rules) c.read_numbers.ensures c.entries.ensures.records w.made v.ensures.made; known = subst (Known d.records.now d.places.now d.count c.args.images.now) (sym c.remember-2.ensures) (sort-known c.requires.asks c.entry-e.ensures (search rules) c.read_numbers.ensures c.entries.ensures.records w.made v.ensures.made w.known) }

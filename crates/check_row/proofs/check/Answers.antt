@@ -6,7 +6,7 @@ use Rattle.row_rules.specs.declared.Cause.TheVariants.{NoRank}
 use Rattle.row_answer.specs.AnswerLaws.{judged-as}
 use Rattle.row_parts.specs.Site.{site_over}
 use Rattle.check_operator.proofs.RowLaws.{refused_row}
-use Rattle.check_row.proofs.KindLaws.{checked-constant, checked-match, five_kinds, known-args, app-is, op-is, binder-asks, binder-kind, let-is, index-asks, index-kind, var-inside, var-asks, var-is, as-inside, as_asks, as_is}
+use Rattle.check_row.proofs.KindLaws.{checked-constant, checked-match, five_kinds, known-args, let-asks, app-is, op-is, binder-asks, binder-kind, let-is, index-asks, index-kind, var-inside, var-asks, var-is, as-inside, as_asks, as_is}
 use Rattle.check_row.proofs.check.Goals as goal
 
 pub returns-in-Integer-clause-answer : goal.returns-in-Integer-clause-answer
@@ -43,11 +43,15 @@ checked_binder-requires c = binder-asks c.requires.site c.requires.count (ap ter
 pub returns-in-Binder-clause-answer : goal.returns-in-Binder-clause-answer
 returns-in-Binder-clause-answer c = record { answer = judged-as (binder-kind c.requires.site c.requires.count (ap term_number c.in-Binder.is)) c.checked_binder.ensures.answer; params = refl; images = refl; bound = refl }
 
+pub checked_let-requires : goal.checked_let-requires
+checked_let-requires c = rw (c.entries.ensures.records, c.entries.ensures.places) (let-asks c.requires.site c.requires.count)
+
 pub returns-in-Let-clause-answer : goal.returns-in-Let-clause-answer
 returns-in-Let-clause-answer c =
     let s = c.args.store.now in
-    let h = rw (c.sorts-in-Let.ensures.records, c.sorts-in-Let.ensures.places, c.sorts-in-Let.ensures.count) at c.checked_let.ensures in
-    record { answer = judged-as (let-is c.requires.site c.requires.count (ap term_number c.in-Let.is)) (h s.index.now s.used s.good); params = refl; images = refl; bound = refl }
+    let h = rw (c.entries.ensures.records, c.entries.ensures.places) at c.checked_let.ensures in
+    let known = known-args c.requires.site c.requires.count in
+    record { answer = judged-as (let-is c.requires.site c.requires.count (ap term_number c.in-Let.is)) (h s.count known.over s.index.now s.used s.good); params = refl; images = refl; bound = refl }
 
 pub returns-in-Match-clause-answer : goal.returns-in-Match-clause-answer
 returns-in-Match-clause-answer c =

@@ -3,5 +3,5 @@
 use Rattle.page_text.specs.PageText.{KnownIs}
 use Rattle.page_text.proofs.known_sorts.Given as goal
 
-abbrev pub invariant-loop-i : goal.invariant-loop-i
-invariant-loop-i l = KnownIs l.rows l.i l.most
+abbrev pub invariant-loop-code : goal.invariant-loop-code
+invariant-loop-code l = KnownIs l.rows l.code-index l.most

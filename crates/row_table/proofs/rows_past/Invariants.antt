@@ -11,7 +11,7 @@ abbrev pub invariant-loop-t : goal.invariant-loop-t
 invariant-loop-t l =
     Same l.initial.store l.store × SameNames l.initial.names l.names
     × Tabling l.initial.store.records.now l.initial.store.places.now l.initial.store.count l.initial.names.params.now l.initial.names.images.now l.initial.names.bound.now
-    l.sheet.bytes.now l.sheet.table.now l.sorts l.sheet.starts.now l.initial.rows
+    l.sheet.bytes.now l.sheet.table.now l.sheet.sorts l.sheet.starts.now l.initial.rows
     l.store.records.now l.store.places.now l.store.index.now l.names.params.now l.names.images.now l.names.bound.now l.rows l.store.count l.store.used l.t
     × PastTrue l.store l.past
     × SamePast l.initial.past l.past

@@ -1,11 +1,13 @@
 -- The record that stands there is read, and its rows are those of the sheet's term.
--- None read is ruled out by what is asked.
 use mathlib.Core.Path.{sym, ◌∙◌}
-use Rattle.row_table.proofs.TableLaws.{both-asks, turn_is}
+use Rattle.row_table.proofs.TableLaws.{stands_here, both-asks, turn_is}
 use Rattle.row_table.proofs.term_rows.Goals as goal
 
-pub rows_of-requires-clause-asked : goal.rows_of-requires-clause-asked
-rows_of-requires-clause-asked c = both-asks c.requires.asked c.in-Ok.term c.in-Ok.field-0-1 (sym c.term.ensures ∙ c.in-Ok.is)
+pub unwrap-requires : goal.unwrap-requires
+unwrap-requires c = rw (c.term.ensures, (stands_here c.requires.asked).read)
 
-pub returns-in-Ok-clause-rows : goal.returns-in-Ok-clause-rows
-returns-in-Ok-clause-rows c = turn_is c.requires.asked c.in-Ok.term c.in-Ok.field-0-1 (sym c.term.ensures ∙ c.in-Ok.is) c.rows_of.ensures.rows
+pub rows_of-requires-clause-asked : goal.rows_of-requires-clause-asked
+rows_of-requires-clause-asked c = both-asks c.requires.asked c.unwrap.result.0 c.unwrap.result.1 (sym c.term.ensures ∙ c.unwrap.ensures)
+
+pub returns-clause-rows : goal.returns-clause-rows
+returns-clause-rows c = turn_is c.requires.asked c.unwrap.result.0 c.unwrap.result.1 (sym c.term.ensures ∙ c.unwrap.ensures) c.rows_of.ensures.rows

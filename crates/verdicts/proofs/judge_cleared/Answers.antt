@@ -11,7 +11,7 @@ pub judge_accepted-requires : goal.judge_accepted-requires
 judge_accepted-requires c =
     let a = c.args in
     let l = c.read_sheet-read.auto in
-    record { accepted = accepted-ask a.records.now a.places.now c.requires c.in-Ok.ensures l.table l.terms l.questions; count = refl; used = refl }
+    record { accepted = accepted-ask a.records.now a.places.now c.requires c.in-Ok.ensures l.table l.terms l.questions; sorts = refl; count = refl; used = refl }
 
 pub returns-in-Ok : goal.returns-in-Ok
 returns-in-Ok c =

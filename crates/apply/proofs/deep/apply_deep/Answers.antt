@@ -4,28 +4,26 @@ use Rattle.apply.proofs.OrderLaws.{order-asks-through, order-is-through, deep-or
 use Rattle.apply.proofs.deep.apply_deep.Goals as goal
 
 pub add-requires : goal.add-requires
-add-requires c = order-asks-through c.sorts.ensures.records c.sorts.ensures.places c.sorts.ensures.count (deep-order c.requires.asks)
+add-requires c = order-asks-through c.entries.ensures.records c.entries.ensures.places c.new.ensures (deep-order c.requires.asks)
 
 pub apply_order-requires : goal.apply_order-requires
 apply_order-requires c =
-    deep-asks c.requires.asks (order-is-through c.sorts.ensures.records c.sorts.ensures.places c.sorts.ensures.count c.as_slice.ensures c.add.ensures)
+    deep-asks c.requires.asks (order-is-through c.entries.ensures.records c.entries.ensures.places c.new.ensures c.as_slice.ensures.value c.add.ensures)
     c.args.known.now c.requires.known
 
 pub returns-in_err-apply_order-clause-made : goal.returns-in_err-apply_order-clause-made
 returns-in_err-apply_order-clause-made c =
-    let s = c.args.store.now in
-    let d = c.apply_order.new.store in
-    known-halted s.records.now s.places.now s.count s.used c.args.k c.args.images.now d.records.now d.places.now d.index.now c.apply_order.new.known d.count d.used c.from_residual.result c.from_residual.ensures.0
-    (deep-stuck c.requires.asks (order-is-through c.sorts.ensures.records c.sorts.ensures.places c.sorts.ensures.count c.as_slice.ensures c.add.ensures)
+    known-halted c.args.k c.args.images.now c.apply_order.new.known c.from_residual.result c.from_residual.ensures.0
+    (deep-stuck c.requires.asks (order-is-through c.entries.ensures.records c.entries.ensures.places c.new.ensures c.as_slice.ensures.value c.add.ensures)
     c.in_err-apply_order.ensures.made)
 
 pub apply_sort-requires-2 : goal.apply_sort-requires-2
 apply_sort-requires-2 c =
-    deep-last c.requires.asks (order-is-through c.sorts.ensures.records c.sorts.ensures.places c.sorts.ensures.count c.as_slice.ensures c.add.ensures)
+    deep-last c.requires.asks (order-is-through c.entries.ensures.records c.entries.ensures.places c.new.ensures c.as_slice.ensures.value c.add.ensures)
     c.in_ok-apply_order.ensures.made
 
 pub returns-clause-made : goal.returns-clause-made
 returns-clause-made c =
     let d = c.apply_sort-2.new.store in
-    deep_is c.requires.asks (order-is-through c.sorts.ensures.records c.sorts.ensures.places c.sorts.ensures.count c.as_slice.ensures c.add.ensures)
+    deep_is c.requires.asks (order-is-through c.entries.ensures.records c.entries.ensures.places c.new.ensures c.as_slice.ensures.value c.add.ensures)
     c.in_ok-apply_order.ensures.made d.records.now d.places.now d.index.now c.apply_sort-2.new.known d.count d.used c.apply_sort-2.result c.apply_sort-2.ensures.made

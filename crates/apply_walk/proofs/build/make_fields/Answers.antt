@@ -7,11 +7,11 @@ pub put_fields-requires-clause-fit : goal.put_fields-requires-clause-fit
 put_fields-requires-clause-fit c = make-fit c.requires
 
 pub tree_size-weight-requires : goal.tree_size-weight-requires
-tree_size-weight-requires c = make-tree c.requires (c.as_slice-record.ensures ∙ c.put_fields.ensures)
+tree_size-weight-requires c = make-tree c.requires (c.as_slice-record.ensures.value ∙ c.put_fields.ensures)
 
 pub intern-requires : goal.intern-requires
-intern-requires c = make-intern c.requires (c.as_slice-record.ensures ∙ c.put_fields.ensures) c.tree_size-weight.result c.tree_size-weight.ensures
+intern-requires c = make-intern c.requires (c.as_slice-record.ensures.value ∙ c.put_fields.ensures) c.tree_size-weight.result c.tree_size-weight.ensures
 
 pub returns-clause-made : goal.returns-clause-made
 returns-clause-made c = let d = c.intern.new.self in
-    make-made c.requires (c.as_slice-record.ensures ∙ c.put_fields.ensures) d.records.now d.places.now d.index.now d.count d.used c.intern.result c.intern.ensures.interned
+    make-made c.requires (c.as_slice-record.ensures.value ∙ c.put_fields.ensures) d.records.now d.places.now d.index.now d.count d.used c.intern.result c.intern.ensures.interned

@@ -5,4 +5,4 @@ use Rattle.apply_walk.proofs.ListLaws.{NamesInv}
 use Rattle.apply_walk.proofs.lists.names_left.Given as goal
 
 abbrev pub invariant-loop-v : goal.invariant-loop-v
-invariant-loop-v l = NamesInv l.images (numbers_at l.bytes l.fn.span.at l.fn.span.count) (numbers_left l.v-iterator) l.initial.out l.out
+invariant-loop-v l = NamesInv l.images (numbers_at l.bytes l.fn.span.at l.fn.span.count) (numbers_left l.v-iterator) l.initial.out.items l.out.items

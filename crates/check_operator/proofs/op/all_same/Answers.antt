@@ -15,8 +15,8 @@ all-requires-clause-callable c =
     (λ x k l e. let h : 0 < a.count = omega (arith, length-numbers_at a.bytes.now 3 a.count) in search rules)
 
 pub returns : goal.returns
-returns c b p n =
+returns c b p n o =
     let a = c.args.args.now in
     same_all_by b p n a.bytes.now a.count c.all.result
     (cases_from_all c.all.new.self _ _ (λ v. v ≡ arg_at a.bytes.now 0) (λ v. v ≡ arg_at a.bytes.now 0 → ⊥)
-    c.all.ensures.ran (numbers-yield _ c.numbers.ensures) (λ x q k. search (rules, tests)) (λ x q k. search (rules, tests)))
+    c.all.ensures.ran (numbers-yield _ c.numbers.ensures) (λ x q k. search (rules, tests)) (λ x q k. search (rules, tests))) o

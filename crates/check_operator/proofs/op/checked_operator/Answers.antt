@@ -26,14 +26,14 @@ returns-then-not-all_values-clause-answer c =
     let r = c.in_ok-rule.rule in
     let e : rule_numbers r ≡ rule_of c.args.op = search rules in
     let v : ValuesHave s.records.now s.places.now a.bytes.now 3 a.count c.all_values.result =
-    rw (c.entries.ensures.records, c.entries.ensures.places, c.sorts-sorts.ensures.records, c.sorts-sorts.ensures.places, c.span.ensures.at, c.span.ensures.count) at c.all_values.ensures in
+    rw (c.entries-entries.ensures.records, c.entries-entries.ensures.places, c.span.ensures.at, c.span.ensures.count) at c.all_values.ensures in
     refused_row s Misfit (no_value c.requires c.args.op r e c.counts.ensures c.if-not-counts.false c.all_values.result v c.if-not-all_values.true) refl
 
 pub fit_rule-requires : goal.fit_rule-requires
 fit_rule-requires c =
     let r = c.in_ok-rule.rule in
     let e : rule_numbers r ≡ rule_of c.args.op = search rules in
-    rw (c.sorts-sorts.ensures.records, c.sorts-sorts.ensures.places, c.sorts-sorts.ensures.count) (rule-asks c.requires c.args.op r e c.counts.ensures c.if-not-counts.false)
+    rw (c.entries-entries.ensures.records, c.entries-entries.ensures.places) (rule-asks c.requires c.args.op r e c.counts.ensures c.if-not-counts.false)
 
 pub returns-in_err-made-clause-answer : goal.returns-in_err-made-clause-answer
 returns-in_err-made-clause-answer c =
@@ -42,9 +42,9 @@ returns-in_err-made-clause-answer c =
     let r = c.in_ok-rule.rule in
     let e : rule_numbers r ≡ rule_of c.args.op = search rules in
     let v : ValuesHave s.records.now s.places.now a.bytes.now 3 a.count c.all_values.result =
-    rw (c.entries.ensures.records, c.entries.ensures.places, c.sorts-sorts.ensures.records, c.sorts-sorts.ensures.places, c.span.ensures.at, c.span.ensures.count) at c.all_values.ensures in
-    let h : FitHas s.records.now s.places.now s.count a.bytes.now a.count (rule_numbers r) c.fit_rule.result =
-    rw (c.sorts-sorts.ensures.records, c.sorts-sorts.ensures.places, c.sorts-sorts.ensures.count) at c.fit_rule.ensures in
+    rw (c.entries-entries.ensures.records, c.entries-entries.ensures.places, c.span.ensures.at, c.span.ensures.count) at c.all_values.ensures in
+    let h : FitHas s.records.now s.places.now a.bytes.now a.count (rule_numbers r) c.fit_rule.result =
+    rw (c.entries-entries.ensures.records, c.entries-entries.ensures.places) at c.fit_rule.ensures in
     refused_row s Misfit
     (misfit c.requires c.args.op r e c.counts.ensures c.if-not-counts.false c.all_values.result v c.if-not-all_values.false c.fit_rule.result h (search rules))
     (search rules)
@@ -56,9 +56,9 @@ returns-clause-answer c =
     let r = c.in_ok-rule.rule in
     let e : rule_numbers r ≡ rule_of c.args.op = search rules in
     let v : ValuesHave s.records.now s.places.now a.bytes.now 3 a.count c.all_values.result =
-    rw (c.entries.ensures.records, c.entries.ensures.places, c.sorts-sorts.ensures.records, c.sorts-sorts.ensures.places, c.span.ensures.at, c.span.ensures.count) at c.all_values.ensures in
-    let h : FitHas s.records.now s.places.now s.count a.bytes.now a.count (rule_numbers r) c.fit_rule.result =
-    rw (c.sorts-sorts.ensures.records, c.sorts-sorts.ensures.places, c.sorts-sorts.ensures.count) at c.fit_rule.ensures in
+    rw (c.entries-entries.ensures.records, c.entries-entries.ensures.places, c.span.ensures.at, c.span.ensures.count) at c.all_values.ensures in
+    let h : FitHas s.records.now s.places.now a.bytes.now a.count (rule_numbers r) c.fit_rule.result =
+    rw (c.entries-entries.ensures.records, c.entries-entries.ensures.places) at c.fit_rule.ensures in
     judged-as
     (fit_is c.requires c.args.op r e c.counts.ensures c.if-not-counts.false c.all_values.result v c.if-not-all_values.false c.fit_rule.result h c.in_ok-made.made (search rules))
     c.delivered_fit.ensures.answer

@@ -1,8 +1,9 @@
--- The fit of arguments of one sort.
+-- The fit of arguments of one sort, for every count of the store.
 use Rattle.check_operator.proofs.FitLaws.{equal-fits}
 use Rattle.check_operator.proofs.op.fit_equal.Goals as goal
 
 pub returns : goal.returns
 returns c =
-    let s = c.args.sorts.now in
-    equal-fits c.requires.args.over c.all_same.result (c.all_same.ensures s.records.now s.places.now s.count) c.then_some.ensures
+    let z = c.args.entries in
+    let a = c.args.args.now in
+    equal-fits z.records.now z.places.now a.bytes.now a.count c.all_same.result (c.all_same.ensures z.records.now z.places.now) c.then_some.ensures

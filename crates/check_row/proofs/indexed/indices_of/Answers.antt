@@ -1,6 +1,6 @@
 -- One or two integer constants.
 use Rattle.std.proofs.Common.{rules, arith}
-use Rattle.row_answer.specs.Arguments.{index-second}
+use Rattle.row_answer.specs.Arguments.{index-asks}
 use Rattle.check_row.proofs.IndexedLaws.{indices-other, indices-first, indices-one, indices-wrong, indices-second, indices-two}
 use Rattle.check_row.proofs.indexed.indices_of.Goals as goal
 
@@ -21,7 +21,7 @@ returns-in_err-first-in-2 c =
     indices-wrong c.args.sheet.now.bytes.now c.args.sheet.now.starts.now c.args.second.at c.index_at-in-2.ensures c.args.second.count c.in-2.is c.in_err-first-in-2.was (search rules)
 
 pub index_at-requires-in-2-2 : goal.index_at-requires-in-2-2
-index_at-requires-in-2-2 c = index-second c.args.sheet.now.bytes.now c.args.sheet.now.starts.now c.args.second.at c.args.second.count c.requires (omega arith)
+index_at-requires-in-2-2 c = index-asks c.args.sheet.now.bytes.now c.args.sheet.now.starts.now c.args.second.at c.args.second.count c.requires 1 (omega arith)
 
 pub returns-in_err-last-in-2 : goal.returns-in_err-last-in-2
 returns-in_err-last-in-2 c =

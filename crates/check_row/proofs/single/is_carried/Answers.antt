@@ -1,26 +1,41 @@
 -- Whether a Var may carry the sort: a Par is taken off once, over a Function.
-use Rattle.std.proofs.Common.{arith, ◌∙◌}
-use Rattle.check_row.proofs.SingleLaws.{carried-plain, body-place, body-known, body-asks, carried-no, carried-par}
+use Rattle.std.proofs.Common.{◌≡◌, eqb, true, false, rules, arith, ◌∙◌}
+use Rattle.record.specs.Kinds.{sort_number}
+use Rattle.check_row.proofs.SingleLaws.{kind-read, carried-plain, body-place, body-known, body-asks, carried-no, carried-par}
 use Rattle.check_row.proofs.single.is_carried.Goals as goal
 
-pub returns-then-not-is_kind : goal.returns-then-not-is_kind
-returns-then-not-is_kind c = carried-plain c.requires c.is_kind.ensures c.if-not-is_kind.true c.is_proper.ensures
+pub returns-then-ne : goal.returns-then-ne
+returns-then-ne c =
+    let no : eqb (sort_number c.kind.result) 12 ≡ false = search rules in
+    carried-plain c.requires (kind-read c.requires 12 c.kind.ensures) no c.is_proper.ensures
 
 pub get-body-requires : goal.get-body-requires
-get-body-requires c = omega (arith, body-place c.requires c.is_kind.ensures c.if-not-is_kind.false c.entry.result c.entry.ensures)
+get-body-requires c =
+    let par : eqb (sort_number c.kind.result) 12 ≡ true = search rules in
+    omega (arith, body-place c.requires (kind-read c.requires 12 c.kind.ensures) par c.entry.result c.entry.ensures)
 
-pub is_kind-requires-2 : goal.is_kind-requires-2
-is_kind-requires-2 c = body-known c.requires c.is_kind.ensures c.if-not-is_kind.false c.entry.result c.entry.ensures c.get-body.ensures.value
+pub kind-requires-2 : goal.kind-requires-2
+kind-requires-2 c =
+    let par : eqb (sort_number c.kind.result) 12 ≡ true = search rules in
+    body-known c.requires (kind-read c.requires 12 c.kind.ensures) par c.entry.result c.entry.ensures c.get-body.ensures.value
 
-pub is_proper-requires-then-is_kind : goal.is_proper-requires-then-is_kind
-is_proper-requires-then-is_kind c = body-asks c.requires c.is_kind.ensures c.if-not-is_kind.false c.entry.result c.entry.ensures c.get-body.ensures.value
+pub is_proper-requires-then-eq : goal.is_proper-requires-then-eq
+is_proper-requires-then-eq c =
+    let par : eqb (sort_number c.kind.result) 12 ≡ true = search rules in
+    body-asks c.requires (kind-read c.requires 12 c.kind.ensures) par c.entry.result c.entry.ensures c.get-body.ensures.value
 
-pub returns-then-is_kind : goal.returns-then-is_kind
-returns-then-is_kind c =
-    carried-par c.requires c.is_kind.ensures c.if-not-is_kind.false c.entry.result c.entry.ensures c.get-body.ensures.value c.is_kind-2.ensures c.if-is_kind.true
-    c.is_proper-then-is_kind.ensures
+pub returns-then-eq : goal.returns-then-eq
+returns-then-eq c =
+    let par : eqb (sort_number c.kind.result) 12 ≡ true = search rules in
+    let body = body-asks c.requires (kind-read c.requires 12 c.kind.ensures) par c.entry.result c.entry.ensures c.get-body.ensures.value in
+    let function : eqb (sort_number c.kind-2.result) 0 ≡ true = search rules in
+    carried-par c.requires (kind-read c.requires 12 c.kind.ensures) par c.entry.result c.entry.ensures c.get-body.ensures.value (kind-read body 0 c.kind-2.ensures) function
+    c.is_proper-then-eq.ensures
 
-pub returns-else-is_kind : goal.returns-else-is_kind
-returns-else-is_kind c =
-    c.if-is_kind.false
-    ∙ carried-no c.requires c.is_kind.ensures c.if-not-is_kind.false c.entry.result c.entry.ensures c.get-body.ensures.value c.is_kind-2.ensures c.if-is_kind.false
+pub returns-else-eq : goal.returns-else-eq
+returns-else-eq c =
+    let par : eqb (sort_number c.kind.result) 12 ≡ true = search rules in
+    let body = body-asks c.requires (kind-read c.requires 12 c.kind.ensures) par c.entry.result c.entry.ensures c.get-body.ensures.value in
+    let other : eqb (sort_number c.kind-2.result) 0 ≡ false = search rules in
+    c.if-eq.false
+    ∙ carried-no c.requires (kind-read c.requires 12 c.kind.ensures) par c.entry.result c.entry.ensures c.get-body.ensures.value (kind-read body 0 c.kind-2.ensures) other

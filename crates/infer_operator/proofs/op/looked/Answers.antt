@@ -2,8 +2,9 @@
 use Rattle.row_answer.specs.AnswerLaws.{judged-as}
 use Rattle.infer_rules.specs.Inferred.{operated_by}
 use Rattle.infer_operator.specs.Asks.{arguments}
-use Rattle.infer_operator.specs.Single.{nth-first, nth-second, last-all}
+use Rattle.infer_operator.specs.Single.{ElementHas, nth-first, nth-second, last-all}
 use Rattle.infer_operator.specs.Operators.{no_constants}
+use Rattle.infer_operator.proofs.AnswerWays.{back}
 use Rattle.infer_operator.proofs.OperatorLaws.{family-answer}
 use Rattle.infer_operator.proofs.op.looked.Goals as goal
 
@@ -25,7 +26,11 @@ returns-in-RareList-clause-answer c = family-answer (arguments c.args.store.now 
 
 pub returns-in-Element-clause-answer : goal.returns-in-Element-clause-answer
 unfolding operated_by
-returns-in-Element-clause-answer c = family-answer (arguments c.args.store.now c.args.args.now) no_constants c.in-Element.is c.element.ensures
+returns-in-Element-clause-answer c =
+    let s = c.args.store.now in
+    let a = c.args.args.now in
+    let has = back c.entries.result s c.entries.ensures.records c.entries.ensures.places (λ b p. ElementHas b p a.bytes.now a.count c.element.result) c.element.ensures in
+    family-answer (arguments s a) no_constants c.in-Element.is (has s.index.now s.count s.used c.requires.args)
 
 pub returns-in-First-clause-answer : goal.returns-in-First-clause-answer
 unfolding operated_by

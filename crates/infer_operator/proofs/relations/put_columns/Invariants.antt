@@ -3,10 +3,10 @@ use Rattle.std.proofs.Common.{◌≡◌, ◌+◌, length}
 use Rattle.infer_operator.specs.Relations.{PutHas}
 use Rattle.infer_operator.proofs.relations.put_columns.Given as goal
 
-abbrev pub invariant-loop-i : goal.invariant-loop-i
-invariant-loop-i l = record {
+abbrev pub invariant-loop-k : goal.invariant-loop-k
+invariant-loop-k l = record {
   name : l.args.bytes.ghost_name ≡ l.initial.args.bytes.ghost_name;
   long : length l.args.bytes.now ≡ length l.initial.args.bytes.now;
-  count : l.args.count ≡ l.initial.args.count + l.i;
-  put : PutHas l.records l.columns.at l.i l.initial.args.bytes.now l.initial.args.count l.args.bytes.now;
+  count : l.args.count ≡ l.initial.args.count + length l.yielded;
+  put : PutHas l.records l.fn.columns.at (length l.yielded) l.initial.args.bytes.now l.initial.args.count l.args.bytes.now;
 }

@@ -4,4 +4,4 @@ use Rattle.infer_operator.proofs.SingleLaws.{is-real}
 use Rattle.infer_operator.proofs.single.is_real.Goals as goal
 
 pub returns : goal.returns
-returns c = let s = c.args.sorts.now in c.eq.ensures ∙ is-real s.records.now s.places.now s.count c.args.k s.usable.stored c.requires c.kind.result c.kind.ensures
+returns c = let z = c.args.entries in λ n st l. c.eq.ensures ∙ is-real z.records.now z.places.now n c.args.k st l c.kind.result c.kind.ensures

@@ -1,23 +1,28 @@
 -- The widths together: the sum is a width of its own, within its limit or not.
-use Rattle.std.proofs.Common.{◌≡◌, Err, refl, ◌∙◌, rules}
-use Rattle.record.specs.Record.{map_of, maps}
+use Rattle.std.proofs.Common.{◌≡◌, Ok, Err, rules}
+use Rattle.record.specs.Numbers.{numbers_left}
+use Rattle.row_answer.specs.AnswerLaws.{judged-as}
 use Rattle.infer_rules.specs.Inferred.{concat_from}
-use Rattle.infer_operator.proofs.AnswerWays.{leaf-asks, answer-passed, read-known, read-arguments}
-use Rattle.infer_operator.proofs.WalkLaws.{few-numbers}
+use Rattle.infer_operator.specs.Vectors.{WidthAsks, widths_of}
+use Rattle.infer_operator.proofs.AnswerWays.{answer-passed, lent, numbers-are}
+use Rattle.infer_operator.proofs.WalkLaws.{args-known, few-numbers}
 use Rattle.infer_operator.proofs.vectors.concat.Goals as goal
 
 pub add_widths-requires : goal.add_widths-requires
 add_widths-requires c =
-    record {
-      known = read-known c.sorts.result c.args.store.now c.sorts.ensures.records c.sorts.ensures.places c.sorts.ensures.count c.args.args.now c.numbers.ensures c.requires;
-      few = few-numbers c.args.store.now c.args.args.now c.requires c.numbers.ensures;
-    }
+    let s = c.args.store.now in
+    let a = c.args.args.now in
+    lent c.entries.result s c.entries.ensures.records c.entries.ensures.places (λ b p. WidthAsks b p (numbers_left c.numbers.result))
+    (s.count, record { known = args-known s a c.requires c.numbers.ensures; few = few-numbers s a c.requires c.numbers.ensures })
 
-pub returns-in_err-w-clause-answer : goal.returns-in_err-w-clause-answer
-returns-in_err-w-clause-answer c =
-    let e : c.from_residual.result ≡ Err c.in_err-w.field-0.0 = search rules in
-    answer-passed c.args.store.now e (read-arguments c.sorts.result c.args.store.now c.sorts.ensures.records c.sorts.ensures.places c.sorts.ensures.count c.args.args.now c.numbers.ensures (concat_from 0) ∙ c.in_err-w.ensures)
+pub returns-in_err-width-clause-answer : goal.returns-in_err-width-clause-answer
+returns-in_err-width-clause-answer c =
+    let e : c.from_residual.result ≡ Err c.in_err-width.field-0.0 = search rules in
+    answer-passed c.args.store.now e
+    (numbers-are c.entries.result c.args.store.now c.entries.ensures.records c.entries.ensures.places c.args.args.now c.requires c.numbers.ensures (λ b p n ss. concat_from 0 ss ≡ widths_of (Err c.in_err-width.field-0.0)) c.in_err-width.ensures)
 
-pub leaf-requires : goal.leaf-requires
-unfolding map_of maps
-leaf-requires c = leaf-asks c.args.store.now 10 refl
+pub returns-clause-answer : goal.returns-clause-answer
+returns-clause-answer c =
+    judged-as
+    (numbers-are c.entries.result c.args.store.now c.entries.ensures.records c.entries.ensures.places c.args.args.now c.requires c.numbers.ensures (λ b p n ss. concat_from 0 ss ≡ widths_of (Ok c.in_ok-width.width)) c.in_ok-width.ensures)
+    c.vector.ensures.answer

@@ -27,7 +27,7 @@ pub returns-in-Some-clause-answer : goal.returns-in-Some-clause-answer
 returns-in-Some-clause-answer c =
     let ss = arguments c.args.store.now c.args.args.now in
     judged-as
-    (looks-first c.args.second.count (positive c.args.second.count c.if-second-eq0.false) c.index_at.ensures (param_number c.args.op) ss
+    (looks-first c.args.second.at c.args.second.count (positive c.args.second.count c.if-second-eq0.false) c.index_at.ensures (param_number c.args.op) ss
     ∙ ap (λ o. indexed (param_number c.args.op) (integer_of o ∷ others c.args.sheet.now c.args.second) ss) c.in-Some.is)
     c.by_index.ensures.answer
 
@@ -35,7 +35,7 @@ pub returns-in-None-clause-answer : goal.returns-in-None-clause-answer
 returns-in-None-clause-answer c =
     let ss = arguments c.args.store.now c.args.args.now in
     judged-as
-    (looks-first c.args.second.count (positive c.args.second.count c.if-second-eq0.false) c.index_at.ensures (param_number c.args.op) ss
+    (looks-first c.args.second.at c.args.second.count (positive c.args.second.count c.if-second-eq0.false) c.index_at.ensures (param_number c.args.op) ss
     ∙ ap (λ o. indexed (param_number c.args.op) (integer_of o ∷ others c.args.sheet.now c.args.second) ss) c.in-None.is
     ∙ looks-unknown (others c.args.sheet.now c.args.second) ss c.requires.looks)
     c.leaf.ensures.answer

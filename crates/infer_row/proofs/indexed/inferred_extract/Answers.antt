@@ -1,8 +1,8 @@
 -- The answer to an extract, by its second index: what the sheet names there is no integer, over the first index, or gives the width.
-use Rattle.std.proofs.Common.{refl, ap, ◌∙◌}
+use Rattle.std.proofs.Common.{arith, refl, ap, ◌∙◌}
 use Rattle.record.specs.Record.{map_of, maps}
 use Rattle.row_answer.specs.AnswerLaws.{judged-as}
-use Rattle.row_answer.specs.Arguments.{integer_of, index-second}
+use Rattle.row_answer.specs.Arguments.{integer_of, index-asks}
 use Rattle.infer_operator.proofs.AnswerWays.{answer-panics, leaf-asks}
 use Rattle.infer_row.proofs.IndexedLaws.{extract_by, extract-none, extract-second, extract-over, extract-fits}
 use Rattle.infer_row.proofs.indexed.inferred_extract.Goals as goal
@@ -15,7 +15,7 @@ returns-then-second-lt2-clause-answer c =
 pub index_at-requires : goal.index_at-requires
 index_at-requires c =
     let z = c.args.sheet.now in
-    index-second z.bytes.now z.starts.now c.args.second.at c.args.second.count c.requires.terms c.if-second-lt2.false
+    index-asks z.bytes.now z.starts.now c.args.second.at c.args.second.count c.requires.terms 1 (omega (arith, c.if-second-lt2.false))
 
 pub leaf-requires : goal.leaf-requires
 unfolding map_of maps

@@ -7,4 +7,4 @@ use Rattle.page_lines.specs.Heights.{height_in}
 use Rattle.page_lines.proofs.heights.find_row.Given as goal
 
 abbrev pub invariant-loop-row : goal.invariant-loop-row
-invariant-loop-row l = l.from ≡ above (height_in l.sizes l.rows) l.row + l.line
+invariant-loop-row l = l.from ≡ above (height_in l.page.sizes.now l.page.rows.now) l.row + l.line

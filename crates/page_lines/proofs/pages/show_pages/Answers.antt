@@ -24,7 +24,7 @@ overflow_add-result c =
     let s = c.args.page.now in
     omega (
       arith,
-      last_fits c.requires c.find_row-start.ensures c.put_rows-reached.ensures.reached c.if-reached-page.false c.blanks_next-n.ensures s.sizes32 s.rows32
+      last_fits c.requires c.find_row-start.ensures c.put_rows-reached.ensures.reached c.if-reached-page.false (rw c.room.ensures at c.blanks_next-n.ensures) s.sizes32 s.rows32
           (omega arith),
     )
 
@@ -34,4 +34,4 @@ returns c =
     let o = c.put_blank_lines.new.out in
     let r : Piece = record { next = c.args.from + c.put_rows-reached.new.out.end / 81 + c.blanks_next-n.result; end = o.end } in
     subst (λ (v : List ℕ). PageHas s.entries.records.now s.entries.places.now s.rows.now s.terms c.args.from c.args.out.now v r) (search rules)
-    (rows-done c.requires c.find_row-start.ensures c.put_rows-reached.ensures.reached c.if-reached-page.false c.blanks_next-n.ensures c.put_blank_lines.ensures.put)
+    (rows-done c.requires c.find_row-start.ensures c.put_rows-reached.ensures.reached c.if-reached-page.false (rw c.room.ensures at c.blanks_next-n.ensures) c.put_blank_lines.ensures.put)

@@ -1,5 +1,4 @@
 use Rattle.std.proofs.Common.{arith, refl, ◌∙◌}
-use Rattle.page_lines.specs.Heights.{height_in}
 use Rattle.page_lines.specs.RowLaws.{height-most}
 use Rattle.page_lines.specs.GoingLaws.{going_start, going-number, going_more, going-below}
 use Rattle.page_lines.proofs.rows.put_rows.Goals as goal
@@ -7,19 +6,7 @@ use Rattle.page_lines.proofs.rows.put_rows.Goals as goal
 pub loop-at-init : goal.loop-at-init
 loop-at-init c = (refl, rw c.requires.empty (going_start _ _ _ _ _ _ _ _ c.requires.asks.spot))
 
-pub overflow_sub-high : goal.overflow_sub-high
-unfolding height_in
-overflow_sub-high c = omega (arith, c.row_height-high.ensures, c.loop-at.invariant.1.spot.inside c.loop-at-test.true)
-
-pub returns-then-n-eq0-clause-reached : goal.returns-then-n-eq0-clause-reached
-unfolding height_in
-returns-then-n-eq0-clause-reached c =
-    let g = c.loop-at.invariant.1 in
-    let left = g.spot.inside c.loop-at-test.true in
-    record { going = g; full = λ h. omega (arith, c.stretch-n.ensures.none c.if-n-eq0.true (omega (arith, c.row_height-high.ensures, left)), g.long, g.within) }
-
 pub row_lines-requires : goal.row_lines-requires
-unfolding height_in
 row_lines-requires c =
     let s = c.args.page.now in
     let l = c.loop-at in
@@ -46,7 +33,6 @@ row_lines-requires c =
     }
 
 pub loop-at-smaller : goal.loop-at-smaller
-unfolding height_in
 loop-at-smaller c =
     let s = c.args.page.now in
     let l = c.loop-at in
@@ -56,7 +42,6 @@ loop-at-smaller c =
     omega (arith, m, going-below s.sizes.now s.rows.now s.terms l.at.row l.at.line g.spot h, c.if-n-eq0.false)
 
 pub loop-at-preserved : goal.loop-at-preserved
-unfolding height_in
 loop-at-preserved c =
     let l = c.loop-at in
     let r = c.row_lines.ensures in (

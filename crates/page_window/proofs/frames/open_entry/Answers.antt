@@ -4,7 +4,7 @@ use Rattle.std.proofs.Common.{arith}
 use Rattle.record.specs.Codec.{Bytes}
 use Rattle.printout_sort.specs.TreeLaws.{inner-asks}
 use Rattle.printout_sort.specs.Wrote.{wrote_as}
-use Rattle.page_window.specs.FrameLaws.{word_fits, inner-fits, frame-asks, open_is}
+use Rattle.page_window.specs.FrameLaws.{word_fits, inner-fits, open_is}
 use Rattle.page_window.proofs.frames.open_entry.Goals as goal
 
 pub put-requires : goal.put-requires
@@ -22,15 +22,8 @@ put_inner-requires-clause-room c =
     let e = c.requires.entry _ c.requires.asks.asks.stored (omega arith) in
     inner-fits c.requires.asks.asks e c.form_of-form.ensures bytes c.requires.asks (wrote_as c.word.ensures c.put.ensures.put)
 
-pub frame_of-requires : goal.frame_of-requires
-frame_of-requires c =
-    let bytes : Bytes c.args.records.now = λ i. omega (arith, c.type_inv.records i) in
-    let e = c.requires.entry _ c.requires.asks.asks.stored (omega arith) in
-    let f = frame-asks c.requires.asks.asks e c.form_of-form.ensures bytes c.requires.asks.short in
-    (f.0, f.1)
-
 pub returns-clause-open : goal.returns-clause-open
 returns-clause-open c =
     let bytes : Bytes c.args.records.now = λ i. omega (arith, c.type_inv.records i) in
     let e = c.requires.entry _ c.requires.asks.asks.stored (omega arith) in
-    open_is c.requires.asks.asks e c.form_of-form.ensures bytes _ (wrote_as c.word.ensures c.put.ensures.put) c.put_inner.ensures.put c.frame_of.ensures
+    open_is c.requires.asks.asks e c.form_of-form.ensures bytes _ (wrote_as c.word.ensures c.put.ensures.put) c.put_inner.ensures.put c.new.ensures

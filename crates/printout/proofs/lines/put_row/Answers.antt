@@ -8,9 +8,6 @@ use Rattle.printout.specs.Lines.{refusal_text}
 use Rattle.printout.specs.LineLaws.{row-sort, row-text-refused}
 use Rattle.printout.proofs.lines.put_row.Goals as goal
 
-pub put_sort-requires-clause-asks : goal.put_sort-requires-clause-asks
-put_sort-requires-clause-asks c = rw c.in-Ok.ensures.sort.0 (c.requires.asks c.in-Ok.ensures.sort.1)
-
 pub put_sort-requires-clause-room : goal.put_sort-requires-clause-room
 put_sort-requires-clause-room c =
     let b = c.args.entries.records.now in

@@ -1,17 +1,11 @@
 -- A row is the text of its sort, or the number of its refusal behind a mark.
 -- A sort of at most 4,096 nodes has at most 456 bytes for each.
-use Rattle.std.proofs.Common.{arith, ap, length, ℕ, ◌∙◌, sym, ◌/◌}
+use Rattle.std.proofs.Common.{arith, ap, length, ℕ, ◌/◌}
 use Rattle.record.specs.Sort.{size}
 use Rattle.printout_sort.specs.Text.{text, decimal}
 use Rattle.printout_sort.specs.Trees.{tree_at}
 use Rattle.printout.specs.LineLaws.{row-sort, row-text-refused, refusal-length}
 use Rattle.printout.proofs.lines.row_size.Goals as goal
-
-pub text_size-requires : goal.text_size-requires
-text_size-requires c = rw c.in-Ok.ensures.sort.0 (c.requires c.in-Ok.ensures.sort.1)
-
-pub digits-requires : goal.digits-requires
-digits-requires c = omega (arith, c.in-Err.ensures.refusal.0, c.ranges.code)
 
 pub returns-in-Ok : goal.returns-in-Ok
 returns-in-Ok c =

@@ -15,11 +15,6 @@ loop-name-init c =
     subst (λ (ks : List ℕ). NamesSizeInv all 0 ks) e
     (size-start c.args.names.count (numbers-small b (λ i. omega (arith, c.type_inv.records i)) _ _) (length-numbers_at b c.args.names.at c.args.names.count) c.requires.1)
 
-pub name_size-requires : goal.name_size-requires
-name_size-requires c =
-    let e = c.in-Some.ensures.steps in
-    (rw e at c.loop-name.invariant.small).0
-
 pub loop-name-preserved : goal.loop-name-preserved
 loop-name-preserved c = names-step c.loop-name.invariant c.in-Some.ensures.steps c.name_size.ensures.0 c.name_size.ensures.1
 

@@ -1,6 +1,6 @@
 -- Room for the text is room for its pieces, one after the other.
 -- What the loop has written of the parts is their text at its end.
-use Rattle.std.proofs.Common.{arith, ℕ, ◌≡◌, List, length, refl, sym, ap, subst, ◌∙◌}
+use Rattle.std.proofs.Common.{arith, ℕ, ◌≡◌, List, refl, sym, ap, subst, ◌∙◌}
 use Rattle.record.specs.Numbers.{numbers_left}
 use Rattle.record.specs.Sort.{sizes}
 use Rattle.printout_sort.specs.Text.{text, texts}

@@ -1,7 +1,6 @@
 -- The entry says what the pieces of the text are and how large its parts are together.
 -- What is counted stays within the bound that the tree size gives.
-use Rattle.std.proofs.Common.{arith, ℕ, ◌+◌, ◌≡◌, List, length, refl, sym, ap, subst, ◌∙◌}
-use Rattle.record.specs.Number.{numbers_at}
+use Rattle.std.proofs.Common.{arith, ℕ, ◌+◌, List, length, refl, sym, ap, subst, ◌∙◌}
 use Rattle.record.specs.Numbers.{numbers_left}
 use Rattle.record.specs.Sort.{sizes}
 use Rattle.printout_sort.specs.Text.{texts}

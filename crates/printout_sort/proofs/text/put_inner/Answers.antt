@@ -20,15 +20,11 @@ put_decimal-requires c =
     let e : get_or inners (form_number c.args.form) 0 ≡ 2 = sym c.in-Number.ensures in
     omega (arith, c.requires.room, ap length (inner-number (form_number c.args.form) a.name a.number (numbers_at c.args.records.now a.names.at a.names.count) e))
 
-pub put_par_names-requires : goal.put_par_names-requires
-put_par_names-requires c =
+pub put_par_names-requires-clause-room : goal.put_par_names-requires-clause-room
+put_par_names-requires-clause-room c =
     let a = c.args.a in
     let e : get_or inners (form_number c.args.form) 0 ≡ 3 = sym c.in-Names.ensures in
-    record {
-      some = c.requires.asks.some e;
-      within = c.requires.asks.within;
-      room = omega (arith, c.requires.room, ap length (inner-names (form_number c.args.form) a.name a.number (numbers_at c.args.records.now a.names.at a.names.count) e));
-    }
+    omega (arith, c.requires.room, ap length (inner-names (form_number c.args.form) a.name a.number (numbers_at c.args.records.now a.names.at a.names.count) e))
 
 pub returns-in-Nothing-clause-put : goal.returns-in-Nothing-clause-put
 returns-in-Nothing-clause-put c =

@@ -10,36 +10,36 @@ use Rattle.questions.proofs.matched.match_listed.Goals as goal
 pub returns-then-not-in_premise-clause-answer : goal.returns-then-not-in_premise-clause-answer
 returns-then-not-in_premise-clause-answer c =
     let s = c.sorts-sorts.ensures in
-    let q = rw (s.records, s.places, s.count) at c.in_premise.ensures in
-    (listed-barred c.requires c.in_premise.result q (ap not c.if-not-in_premise.true) refl, refl)
+    let q = rw (c.start.ensures, s.records, s.places, s.count) at c.in_premise.ensures in
+    rw c.start.ensures (listed-barred c.requires c.in_premise.result q (ap not c.if-not-in_premise.true) refl, refl)
 
 pub clear-requires : goal.clear-requires
 clear-requires c =
     let s = c.sorts-sorts.ensures in
     let m = c.matches.new.names in
-    let w = rw (s.records, s.places, s.count) at c.matches.ensures.answer in
+    let w = rw (c.start.ensures, s.records, s.places, s.count) at c.matches.ensures.answer in
     misfits-tabled c.requires m.images.now m.bound.now (found m.many c.matches.result) w m.many (found-misfits m.many c.if-not-matches.true)
 
 pub returns-then-not-matches-clause-answer : goal.returns-then-not-matches-clause-answer
 returns-then-not-matches-clause-answer c =
     let s = c.sorts-sorts.ensures in
     let m = c.matches.new.names in
-    let q = rw (s.records, s.places, s.count) at c.in_premise.ensures in
-    let w = rw (s.records, s.places, s.count) at c.matches.ensures.answer in
-    (listed-misfits c.requires m.images.now m.bound.now (found m.many c.matches.result) w c.in_premise.result q (ap not c.if-not-in_premise.false) c.clear.ensures.cleared m.many (found-misfits m.many c.if-not-matches.true) refl, c.clear.ensures.params ∙ c.matches.ensures.params)
+    let q = rw (c.start.ensures, s.records, s.places, s.count) at c.in_premise.ensures in
+    let w = rw (c.start.ensures, s.records, s.places, s.count) at c.matches.ensures.answer in
+    (listed-misfits c.requires m.images.now m.bound.now (found m.many c.matches.result) w c.in_premise.result q (ap not c.if-not-in_premise.false) c.clear.ensures.cleared m.many (found-misfits m.many c.if-not-matches.true) refl, c.clear.ensures.params ∙ (rw c.start.ensures at c.matches.ensures.params))
 
 pub instance-made-requires : goal.instance-made-requires
 instance-made-requires c =
     let s = c.sorts-sorts.ensures in
     let m = c.matches.new.names in
-    let w = rw (s.records, s.places, s.count) at c.matches.ensures.answer in
+    let w = rw (c.start.ensures, s.records, s.places, s.count) at c.matches.ensures.answer in
     result-asks c.requires m.images.now m.bound.now (found m.many c.matches.result) w m.many (found-fits m.many c.if-not-matches.false)
 
 pub clear-requires-2 : goal.clear-requires-2
 clear-requires-2 c =
     let s = c.sorts-sorts.ensures in
     let m = c.matches.new.names in
-    let w = rw (s.records, s.places, s.count) at c.matches.ensures.answer in
+    let w = rw (c.start.ensures, s.records, s.places, s.count) at c.matches.ensures.answer in
     (fits-mapped c.requires m.images.now m.bound.now (found m.many c.matches.result) w m.many (found-fits m.many c.if-not-matches.false)).tabled
 
 pub returns-clause-answer : goal.returns-clause-answer
@@ -47,6 +47,6 @@ returns-clause-answer c =
     let s = c.sorts-sorts.ensures in
     let m = c.matches.new.names in
     let t = c.instance-made.new.store in
-    let q = rw (s.records, s.places, s.count) at c.in_premise.ensures in
-    let w = rw (s.records, s.places, s.count) at c.matches.ensures.answer in
-    (listed-fits c.requires m.images.now m.bound.now (found m.many c.matches.result) w c.in_premise.result q (ap not c.if-not-in_premise.false) c.clear-2.ensures.cleared m.many (found-fits m.many c.if-not-matches.false) t.records.now t.places.now t.index.now _ c.instance-made.ensures.answer, c.clear-2.ensures.params ∙ c.matches.ensures.params)
+    let q = rw (c.start.ensures, s.records, s.places, s.count) at c.in_premise.ensures in
+    let w = rw (c.start.ensures, s.records, s.places, s.count) at c.matches.ensures.answer in
+    (listed-fits c.requires m.images.now m.bound.now (found m.many c.matches.result) w c.in_premise.result q (ap not c.if-not-in_premise.false) c.clear-2.ensures.cleared m.many (found-fits m.many c.if-not-matches.false) t.records.now t.places.now t.index.now _ c.instance-made.ensures.answer, c.clear-2.ensures.params ∙ (rw c.start.ensures at c.matches.ensures.params))

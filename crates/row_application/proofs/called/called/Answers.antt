@@ -2,7 +2,7 @@
 -- What is left is what `plain` answers, or what is delivered of the call, unless that is made in vain.
 use Rattle.std.proofs.Common.{arith}
 use mathlib.Core.Path.{refl}
-use Rattle.row_application.proofs.CalledLaws.{called-count, deliver-asks, app-delivered, called-plain, called-misfit, called-values}
+use Rattle.row_application.proofs.CalledLaws.{called-count, app-delivered, called-plain, called-misfit, called-values}
 use Rattle.row_application.proofs.UnmadeLaws.{own-asked, rest-asks, unmade-call, app-unmade}
 use Rattle.row_application.proofs.called.called.Goals as goal
 
@@ -24,14 +24,6 @@ unmade-call-requires c =
     let s = c.sorts-sorts.ensures in
     let g = rw (s.records, s.places, s.count) at c.fit_arguments-found.ensures.fit in
     rw (s.records, s.places, s.count, c.skip.ensures.at, c.skip.ensures.count) (own-asked h.good c.fit_arguments-found.result g, rest-asks h (omega (arith, c.if-callee-n.false)))
-
-pub deliver-requires : goal.deliver-requires
-deliver-requires c =
-    let h = c.requires.asked.0 in
-    let s = c.sorts-sorts.ensures in
-    let g = rw (s.records, s.places, s.count) at c.fit_arguments-found.ensures.fit in
-    let u = rw (s.records, s.places, s.count, c.skip.ensures.at, c.skip.ensures.count) at c.unmade-call.ensures in
-    deliver-asks h (omega (arith, c.if-callee-n.false)) c.if-callee-eq0.false (unmade-call g c.args.crowded u)
 
 pub returns-clause-answer : goal.returns-clause-answer
 returns-clause-answer c =

@@ -9,11 +9,11 @@ use Rattle.row_application.proofs.CalledLaws.{fitted-add, fitted-is, fitted-move
 use Rattle.row_application.proofs.called.fit_arguments.Goals as goal
 
 pub list-requires : goal.list-requires
-list-requires c = fitted-add c.requires.0
+list-requires c = rw c.start.ensures (fitted-add c.requires.0)
 
 pub returns-clause-fit : goal.returns-clause-fit
 returns-clause-fit c =
     let z = c.fit_listed-call.ensures.fit in
     let m = c.unlist.ensures.map in
     let vs : List ℕ = callee_names c.args.sorts.now.records.now c.args.callee in
-    fitted-moved c.fit_listed-call.result (fitted-is c.requires.0 c.list.ensures.listed z.0 (subst (λ (o : List ℕ). Added c.unlist.new.self.params.now vs o) z.1 c.unlist.ensures.unlisted)) m.0 m.1 m.2
+    fitted-moved c.fit_listed-call.result (fitted-is c.requires.0 (rw c.start.ensures at c.list.ensures.listed) z.0 (subst (λ (o : List ℕ). Added c.unlist.new.self.params.now vs o) z.1 c.unlist.ensures.unlisted)) m.0 m.1 m.2

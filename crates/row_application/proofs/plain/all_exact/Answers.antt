@@ -1,33 +1,23 @@
 -- Whether each argument is the sort in its place, and no Par stands in it.
-use Rattle.std.proofs.Common.{ℕ, ◌≡◌, List, arith, ap, ap₂, ◌∙◌, inl, inr}
+use Rattle.std.proofs.Common.{ℕ, ◌≡◌, arith, ap, ap₂, ◌∙◌, inl, inr}
 use mathlib.Core.Logic.{⊎_elim}
 use Rattle.record.specs.Number.{numbers_at}
 use Rattle.record.specs.Numbers.{numbers_left}
 use Rattle.matching_tables.specs.NoteLaws.{table_none}
 use Rattle.row_application.specs.Contract.{ParlessAt}
-use Rattle.row_application.proofs.ExactLaws.{exact-start, known-first, exact-differ, exact-par, exact-step, exact-end}
+use Rattle.row_application.proofs.ExactLaws.{exact-start, exact-differ, exact-par, exact-step, exact-end}
 use Rattle.row_application.proofs.plain.all_exact.Goals as goal
 use Rattle.row_application.proofs.plain.all_exact.Goals.{then-sort-argument-via-then-sort-argument, then-sort-argument-via-else-sort-argument+then-not-is_parless}
 
 pub loop-sort-init : goal.loop-sort-init
 loop-sort-init c =
-    let s = c.args.store.now in
+    let s = c.args.sorts.now in
     let into = c.into_iter-sort-iterator.ensures.into_iter_gives in
     let z = c.zip-sort-items.ensures in
     let k : c.rest.result.count ≡ c.args.list.count = omega (arith, c.rest.ensures.count, c.requires.1) in
-    let xs = ap (λ w. numbers_left w.a) into ∙ ap numbers_left z.first ∙ c.numbers-sorts.ensures ∙ ap (λ (r : List ℕ). numbers_at r c.args.list.at c.args.list.count) c.sorts.ensures.records in
+    let xs = ap (λ w. numbers_left w.a) into ∙ ap numbers_left z.first ∙ c.numbers-wanted.ensures in
     let ys = ap (λ w. numbers_left w.b) into ∙ ap numbers_left z.second ∙ c.numbers-arguments.ensures ∙ ap₂ (λ (i j : ℕ). numbers_at c.args.args.now.bytes.now i j) c.rest.ensures.at k in
     (rw (xs, ys) (exact-start c.requires.0), rw c.new-seen.ensures (table_none (ParlessAt s.records.now s.places.now s.count)))
-
-pub is_parless-requires-clause-asked : goal.is_parless-requires-clause-asked
-is_parless-requires-clause-asked c =
-    let h = c.requires.0 in
-    let l = c.loop-sort.invariant.0 in
-    let s = c.in-Some.ensures.steps in
-    record { one = record { usable = l.usable; known = known-first l s.0 s.1 }; sized = h.sized; index = h.index }
-
-pub is_parless-requires-clause-noted : goal.is_parless-requires-clause-noted
-is_parless-requires-clause-noted c = c.loop-sort.invariant.1
 
 pub returns-then-sort-argument : goal.returns-then-sort-argument
 returns-then-sort-argument c =

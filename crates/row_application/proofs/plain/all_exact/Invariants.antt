@@ -6,5 +6,5 @@ use Rattle.row_application.proofs.plain.all_exact.Given as goal
 
 abbrev pub invariant-loop-sort : goal.invariant-loop-sort
 invariant-loop-sort l =
-    ExactRun l.store.records.now l.store.places.now l.store.count l.fn.list.at l.args.bytes.now l.fn.list.count (numbers_left l.sort-iterator.a) (numbers_left l.sort-iterator.b)
-    × ParlessNotes l.store l.seen.slots
+    ExactRun l.sorts.records.now l.sorts.places.now l.sorts.count l.fn.list.at l.args.bytes.now l.fn.list.count (numbers_left l.sort-iterator.a) (numbers_left l.sort-iterator.b)
+    × ParlessNotes l.sorts l.seen.slots

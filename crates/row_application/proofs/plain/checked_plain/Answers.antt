@@ -7,11 +7,15 @@ use Rattle.row_application.proofs.ExactLaws.{remaining-asks, plain-made, plain-r
 use Rattle.row_application.proofs.plain.checked_plain.Goals as goal
 
 pub returns-then-not-all_exact-clause-answer : goal.returns-then-not-all_exact-clause-answer
-returns-then-not-all_exact-clause-answer c = plain-refused c.requires.0 c.all_exact.result c.all_exact.ensures c.if-not-all_exact.true refl
+returns-then-not-all_exact-clause-answer c =
+    let s = c.sorts.ensures in
+    plain-refused c.requires.0 c.all_exact.result (rw (s.records, s.places, s.count) at c.all_exact.ensures) c.if-not-all_exact.true refl
 
 pub remaining-requires : goal.remaining-requires
 remaining-requires c = rw (c.skip.ensures.at, c.skip.ensures.count) (remaining-asks c.requires.0 (replicate 131 0) (length-replicate {A = ℕ} 131 0))
 
 pub returns-clause-answer : goal.returns-clause-answer
 returns-clause-answer c =
-    plain-made c.requires.0 c.all_exact.result c.all_exact.ensures c.if-not-all_exact.false (rw (c.skip.ensures.at, c.skip.ensures.count) at c.remaining.ensures.answer)
+    let s = c.sorts.ensures in
+    plain-made c.requires.0 c.all_exact.result (rw (s.records, s.places, s.count) at c.all_exact.ensures) c.if-not-all_exact.false
+    (rw (c.skip.ensures.at, c.skip.ensures.count) at c.remaining.ensures.answer)

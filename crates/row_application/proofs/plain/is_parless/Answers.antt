@@ -10,20 +10,18 @@ use Rattle.matching_each.specs.EveryLaws.{parless-tests, found-by}
 use Rattle.row_application.specs.Contract.{ParlessAt}
 use Rattle.row_application.proofs.ExactLaws.{leaf-parless}
 use Rattle.row_application.proofs.plain.is_parless.Goals as goal
+use Rattle.row_application.proofs.plain.is_parless.Goals.{After-each}
 
-walked : (c : goal.After-each)
-    → (c.each.result ≡ parless (sort_at c.args.store.now.records.now c.args.store.now.places.now c.args.store.now.count c.args.k))
-    × NoteTable (ParlessAt c.args.store.now.records.now c.args.store.now.places.now c.args.store.now.count) c.each.new.seen.slots
-walked c =
-    let e = c.sorts.ensures in
-    rw (e.records, e.places, e.count) at
-    (found-by (parless-tests [] []) (λ r k q one has says. search rules) (rw (e.records, e.places, e.count) c.requires.noted) c.args.k c.each.ensures)
+walked : (c : After-each)
+    → (c.each.result ≡ parless (sort_at c.args.sorts.now.records.now c.args.sorts.now.places.now c.args.sorts.now.count c.args.k))
+    × NoteTable (ParlessAt c.args.sorts.now.records.now c.args.sorts.now.places.now c.args.sorts.now.count) c.each.new.seen.slots
+walked c = found-by (parless-tests [] []) (λ r k q one has says. search rules) c.requires.noted c.args.k c.each.ensures
 
-pub returns-then-size-eq1-clause-answer : goal.returns-then-size-eq1-clause-answer
-returns-then-size-eq1-clause-answer c = eq-eqb c.size.result 1 c.if-size-eq1.true ∙ leaf-parless c.requires.asked c.size.ensures c.if-size-eq1.true
+pub returns-then-size_at-eq1-clause-answer : goal.returns-then-size_at-eq1-clause-answer
+returns-then-size_at-eq1-clause-answer c = eq-eqb c.size_at.result 1 c.if-size_at-eq1.true ∙ leaf-parless c.requires.asked c.size_at.ensures c.if-size_at-eq1.true
 
-pub returns-else-size-eq1-clause-answer : goal.returns-else-size-eq1-clause-answer
-returns-else-size-eq1-clause-answer c = (walked c).0
+pub returns-else-size_at-eq1-clause-answer : goal.returns-else-size_at-eq1-clause-answer
+returns-else-size_at-eq1-clause-answer c = (walked c).0
 
-pub returns-else-size-eq1-clause-noted : goal.returns-else-size-eq1-clause-noted
-returns-else-size-eq1-clause-noted c = (walked c).1
+pub returns-else-size_at-eq1-clause-noted : goal.returns-else-size_at-eq1-clause-noted
+returns-else-size_at-eq1-clause-noted c = (walked c).1

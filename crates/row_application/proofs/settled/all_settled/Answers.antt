@@ -6,14 +6,12 @@ use Rattle.matching_each.specs.EveryLaws.{every_all-is}
 use Rattle.row_application.proofs.SettledLaws.{settled-tests}
 use Rattle.row_application.proofs.settled.all_settled.Goals as goal
 
-pub returns-clause-found : goal.returns-clause-found
-returns-clause-found c =
+pub returns : goal.returns
+returns c =
     let s = c.args.sorts.now in
     let x = c.args.names.now in
     let e = c.all_each.ensures (passing Settled x.params.now x.images.now) (λ r k q one has says. search rules) c.requires.noted in
-    λ f t θ i. e.answer ∙ every_all-is (settled-tests x.params.now t i) (sorts_at s.records.now s.places.now s.count s.records.now c.args.list.at c.args.list.count)
-
-pub returns-clause-noted : goal.returns-clause-noted
-returns-clause-noted c =
-    let x = c.args.names.now in
-    (c.all_each.ensures (passing Settled x.params.now x.images.now) (λ r k q one has says. search rules) c.requires.noted).noted
+    record {
+      found = λ f t θ i. e.answer ∙ every_all-is (settled-tests x.params.now t i) (sorts_at s.records.now s.places.now s.count s.records.now c.args.list.at c.args.list.count);
+      noted = e.noted;
+    }

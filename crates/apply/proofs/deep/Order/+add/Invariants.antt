@@ -8,4 +8,4 @@ abbrev pub decreases-add : goal.decreases-add
 decreases-add l = l.k
 
 abbrev pub invariant-loop-part : goal.invariant-loop-part
-invariant-loop-part l = OrderInv l.sorts.records.now l.sorts.places.now l.initial.self.seen l.initial.self.list l.sorts.count l.k l.self.seen l.self.list (numbers_left l.part-iterator)
+invariant-loop-part l = OrderInv l.entries.records.now l.entries.places.now l.initial.self.seen l.initial.self.list.items l.count l.k l.self.seen l.self.list.items (numbers_left l.part-iterator)

@@ -1,6 +1,6 @@
 -- Each turn writes the next of the names that are left.
 -- So at the end nothing is left, and the whole stands there.
-use Rattle.std.proofs.Common.{rules, arith, ◌∙◌}
+use Rattle.std.proofs.Common.{arith, ◌∙◌}
 use Rattle.printout_sort.specs.NameLaws.{put-next, next-room, put-end}
 use Rattle.printout_sort.specs.Text.{more_names}
 use Rattle.record.specs.Numbers.{numbers_left}

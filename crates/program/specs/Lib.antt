@@ -1,0 +1,2 @@
+pub mod Input
+pub mod InputLaws
