@@ -1,6 +1,6 @@
 -- The words of Heights.antt, Rows.antt and Pages.antt over the rows of a judged sheet, the windows and the buffer that is written. Definitions
 -- only.
-use Rattle.std.specs.Prelude.{ℕ, List}
+use Rattle.std.specs.Prelude.{ℕ, ◌+◌, ◌*◌, List, get_or}
 use Rattle.printout_sort.specs.declared.buffer.TextBuffer.{TextBuffer}
 use Rattle.printout.specs.declared.whole.Piece.{Piece}
 use Rattle.printout.specs.LineAsks.{row_text_at}
@@ -8,11 +8,15 @@ use Rattle.page.specs.Numbered.{row_line}
 use Rattle.page_lines.specs.declared.heights.Spot.{Spot}
 use Rattle.page_lines.specs.declared.paged.PagedRows.{PagedRows}
 use Rattle.page_lines.specs.declared.paged.Windows.{Windows}
-use Rattle.page_lines.specs.Heights.{height_in, HeightsAsk, SpotIs}
+use Rattle.page_lines.specs.Heights.{height_in, HeightAsks, HeightsAsk, SpotIs}
 use Rattle.page_lines.specs.Rows.{PageAsks, RowWindowAsks, RowLinesAsk, inferred_in, checked_in, RowsAsk, ReachedIs}
 use Rattle.page_lines.specs.Pages.{PageHas}
 
 ---------------------------------------------------------------- heights
+-- Asked of the two codes of the row t alone, and of all rows.
+abbrev pub HeightAsked : PagedRows → ℕ → Type 0
+HeightAsked p t = HeightAsks p.sizes.now (get_or p.rows.now (2 * t) 0) (get_or p.rows.now (2 * t + 1) 0)
+
 abbrev pub HeightsAsked : PagedRows → Type 0
 HeightsAsked p = HeightsAsk p.sizes.now p.rows.now p.terms
 

@@ -1,8 +1,8 @@
 // How high the rows are, by the sizes of their texts, and in which row a line of the pages stands.
-ghost use Rattle.std.specs.Prelude.{◌≡◌, ◌-◌, ◌/◌, ◌<◌, length};
+ghost use Rattle.std.specs.Prelude.{◌≡◌, ◌≤◌, ◌+◌, ◌*◌, ◌-◌, ◌/◌, length};
 ghost use Rattle.printout.specs.LineAsks.{RowKnown};
 ghost use Rattle.page_lines.specs.Heights.{length_by};
-ghost use Rattle.page_lines.specs.Words.{height_of, HeightsAsked, SpotFound};
+ghost use Rattle.page_lines.specs.Words.{height_of, HeightAsked, HeightsAsked, SpotFound};
 
 use super::line::COLUMN;
 use super::paged::PagedRows;
@@ -38,8 +38,8 @@ fn lines_below(bytes: usize) -> usize
 // How many lines the row of the term `t` has: those that the longer of its two texts needs.
 #[tactic(auto, unfolding(crate::specs::Heights::height_in))]
 pub fn row_height(page: &PagedRows<'_>, t: usize) -> usize
-    requires rows { HeightsAsked page.now }
-    requires row { t < page.now.terms }
+    requires pair { 2 * t + 2 ≤ length page.now.rows.now }
+    requires row { HeightAsked page.now t }
     ensures { result ≡ height_of page.now t }
 {
     let first = row_length(page.sizes, page.rows[2 * t]);

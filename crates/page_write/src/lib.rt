@@ -50,8 +50,7 @@ impl Lines for PageLines<'_, '_> {
 }
 
 // Writes the pages of an accepted sheet by way of a buffer that holds a line at least. All lines are written, and their bytes stand
-// behind what the output held; or a write failed, nothing was handed over after it, and the lines before it are written. Only the
-// contracts read the sheet's bytes.
+// behind what the output held; or a write failed, and then fewer. Only the contracts read the sheet's bytes.
 fn print_pieces<'a, 'w, W: Write>(
     output: &mut W,
     bytes: &'a [u8],
@@ -76,7 +75,7 @@ fn print_pieces<'a, 'w, W: Write>(
 }
 
 // Writes the pages of an accepted sheet by way of buffers of its own. All lines are written, and their bytes stand behind what the output
-// held; or a write failed, nothing was handed over after it, and the lines before it are written.
+// held; or a write failed, and then fewer.
 fn print_accepted<W: Write>(output: &mut W, sheet: &JudgedSheet<'_>) -> Written
     requires { PagesAsked sheet.now Accepted }
     ensures lines { PagedIs (judged sheet.now.bytes.now program_lengths) result }
@@ -108,8 +107,7 @@ impl Printer for Pages {
     ghost layout = { on_pages };
 
     // Writes the pages of a sheet that was judged with this outcome. All their lines are written, the one of a refused sheet too, and
-    // their bytes stand behind what the output held; or a write failed, nothing was handed over after it, and the lines before it are
-    // written.
+    // their bytes stand behind what the output held; or a write failed, and then fewer.
     fn print_judged<W: Write>(
         &self,
         output: &mut W,

@@ -50,8 +50,7 @@ impl Lines for SheetLines<'_> {
 }
 
 // Writes the lines of an accepted sheet with the kinds of its questions, by way of a buffer that holds the longest line. All lines are
-// written, and their bytes stand behind what the output held; or a write failed, nothing was handed over after it, and the lines before
-// it are written.
+// written, and their bytes stand behind what the output held; or a write failed, and then fewer.
 fn print_lines<W: Write>(
     output: &mut W,
     sheet: &JudgedSheet<'_>,
@@ -79,8 +78,7 @@ fn print_lines<W: Write>(
 }
 
 // Writes the lines of an accepted sheet with the kinds of its questions, by way of a buffer of its own, which is so large that it is kept
-// out of every other frame. All lines are written, and their bytes stand behind what the output held; or a write failed, nothing was
-// handed over after it, and the lines before it are written.
+// out of every other frame. All lines are written, and their bytes stand behind what the output held; or a write failed, and then fewer.
 #[inline(never)]
 fn print_all<W: Write>(
     output: &mut W,
@@ -97,7 +95,7 @@ fn print_all<W: Write>(
 }
 
 // Writes the lines of an accepted sheet. All lines are written, and their bytes stand behind what the output held; or a write failed,
-// nothing was handed over after it, and the lines before it are written.
+// and then fewer.
 fn print_accepted<W: Write>(output: &mut W, sheet: &JudgedSheet<'_>) -> Written
     requires { PrintAsked sheet.now Accepted }
     ensures lines { PrintedIs (judged sheet.now.bytes.now program_lengths) result }
@@ -116,8 +114,7 @@ impl Printer for Printout {
     ghost layout = { in_lines };
 
     // Writes the printout of a sheet that was judged with this outcome. All its lines are written, the one of a refused sheet too, and
-    // their bytes stand behind what the output held; or a write failed, nothing was handed over after it, and the lines before it are
-    // written.
+    // their bytes stand behind what the output held; or a write failed, and then fewer.
     fn print_judged<W: Write>(
         &self,
         output: &mut W,

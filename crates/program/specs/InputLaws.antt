@@ -1,5 +1,8 @@
--- An input that is longer than any sheet is refused for its length, and what is printed of it is the line of that refusal.
-use Rattle.std.specs.Prelude.{ℕ, ◌≡◌, ◌<◌, refl, List, length, Option, Some, None, IfSome, leb}
+-- An input that is longer than any sheet is refused for its length, and what is printed of it is the line of that refusal. And an output
+-- that was not touched holds what it held.
+use Rattle.std.specs.Prelude.{ℕ, ◌≡◌, ◌<◌, refl, List, length, Option, Some, None, Result, Ok, Err, IfSome, IfErr, leb}
+use Rattle.std.specs.Io.KnownBytes.{Keeps}
+use Rattle.std.proofs.KnownBytes.{Keeps-refl}
 use Rattle.std.proofs.Common.{ap, subst, arith, leb-true}
 use Rattle.record.specs.Cases.{by_test}
 use Rattle.reader.specs.declared.Refusal.TheVariants.{Length}
@@ -38,3 +41,8 @@ pub printed-longer : (t : Layout) (input before after : Option (List ℕ)) {w : 
     → TextAdded before after (refusal_line (refusal_number Length)) w → IfSome input (λ s. PrintedOf t s before after w)
 printed-longer t None before after h a b = tt
 printed-longer t (Some s) before after h a b = printed-long t s h a b
+
+-- Where a read failed, the output is as it was.
+pub kept-failed : {T E : Type 0} (r : Result T E) (a : Option (List ℕ)) → IfErr r (λ e. Keeps a a)
+kept-failed (Ok x) a = tt
+kept-failed (Err e) a = Keeps-refl a

@@ -1,7 +1,8 @@
 // The body of the programs: a sheet is read, judged and printed. Which program prints what is its printer.
 #![tactic(auto)]
 
-ghost use Rattle.std.specs.Prelude.{IfOk, IfSome};
+ghost use Rattle.std.specs.Io.KnownBytes.{Keeps};
+ghost use Rattle.std.specs.Prelude.{IfOk, IfErr, IfSome};
 ghost use Rattle.judge_rules.specs.Judged.{judged};
 ghost use Rattle.printout.specs.Printed.{program_lengths};
 ghost use Rattle.written.specs.Written.{text_in, TextAdded, WrittenIn};
@@ -27,8 +28,7 @@ pub struct Streams<'a> {
 }
 
 // Judges a sheet over the program's buffers, every byte of which is `fill` before, and prints what it gives. All lines of its printout, or
-// of its pages, are written, and their bytes stand behind what the output held; or a write failed, nothing was handed over after it, and
-// the lines before it are written.
+// of its pages, are written, and their bytes stand behind what the output held; or a write failed, and then fewer.
 pub fn print_sheet<W: Write, P: Printer>(
     output: &mut W,
     printer: &P,
@@ -63,13 +63,14 @@ fn read_sheet<R: Read>(input: &mut R, sheet: &mut [u8; LONGEST_SHEET]) -> io::Re
 }
 
 // Reads a sheet to its end and prints what it gives; one that is longer than any sheet is refused. How much was written; or the failure of
-// a read, and then nothing was printed. What is printed is the printout, or the pages, of all bytes that the input had.
+// a read, and then the output holds what it held. What is printed is the printout, or the pages, of all bytes that the input had.
 pub fn print_input<R: Read, W: Write, P: Printer>(
     input: &mut R,
     output: &mut W,
     printer: &P,
 ) -> io::Result<Written>
-    ensures { IfOk result (λ w. IfSome (R.remaining input.old) (λ s. PrintedOf P.layout s (W.contents output.old) (W.contents output.new) w)) }
+    ensures printed { IfOk result (λ w. IfSome (R.remaining input.old) (λ s. PrintedOf P.layout s (W.contents output.old) (W.contents output.new) w)) }
+    ensures kept { IfErr result (λ e. Keeps (W.contents output.old) (W.contents output.new)) }
 {
     let mut sheet = [0u8; LONGEST_SHEET];
     match read_sheet(input, &mut sheet)? {

@@ -50,10 +50,7 @@ fn replay_all<F: Read, W: Write, P: Printer>(file: &mut F, output: &mut W, print
 // say, and a write that fails is passed over: so the promise is that of `print_sheet`, for each sheet.
 pub fn replay<R: Files + Eprint, W: Write, P: Printer>(rt: &R, output: &mut W, printer: &P) {
     match fs::open(rt, "sheets.bin") {
-        Ok(file) => {
-            let mut file = file;
-            replay_all(&mut file, output, printer);
-        }
+        Ok(mut file) => replay_all(&mut file, output, printer),
         Err(e) => failure::tell(rt, "sheets.bin", Some(e)),
     }
 }

@@ -1,5 +1,6 @@
 // The single fields of a record, and the numbers they are made of. A method returns what it read with the next cursor, or
 // the refusal; a field whose bit does not stand in the map is 0 or empty and takes no bytes.
+// The lists of terms alone are inlined: else each result goes through memory, and judging a sheet takes a fifth longer.
 ghost use Rattle.std.specs.Prelude.{◌≡◌, ◌<◌, IfOk};
 ghost use Rattle.reader.specs.Reader.{skipped, read_byte, read_u16, read_u32, read_head, read_name, read_number, read_own, read_list, read_references, read_names, read_second, read_pairs};
 ghost use Rattle.record.specs.Kinds.{term_number};
@@ -168,6 +169,7 @@ impl Cursor {
     // The second list of a term of this kind with a list of `count`: the names of a Let, which may be any, or the index
     // terms of a ParamOp, Reference where one is not below `limit`; empty where its bit does not stand in the map.
     #[tactic(auto, unfolding(crate::specs::Reader::read_second))]
+    #[inline(always)]
     pub fn second(
         self,
         s: &[u8],
@@ -191,6 +193,7 @@ impl Cursor {
     // The pairs: PastEnd where not all their bytes are there, Value over 64, Reference where a sort is none of the `sorts`
     // sorts; empty where their bit does not stand in the map.
     #[tactic(auto, using(crate::specs::Scans::pair_sorts_are), unfolding(crate::specs::Reader::read_pairs))]
+    #[inline(always)]
     pub fn pairs(self, s: &[u8], map: usize, sorts: usize) -> Read<Span>
         ensures { result ≡ read_pairs s.now map sorts self.at }
     {

@@ -144,7 +144,9 @@ impl Past<'_> {
     }
 
     // Looks up an App of two terms or more whose head is a Par, the numbers of its sorts in `args`: the code of its row in a
-    // column, or the slot where it is to be noted; Apart for any other record.
+    // column, or the slot where it is to be noted; Apart for any other record. Inlined, since
+    // most records are none.
+    #[inline(always)]
     pub fn looked_up(
         &mut self,
         entries: Entries<'_>,

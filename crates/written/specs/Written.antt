@@ -38,6 +38,8 @@ pub record WentOn (w : Written) (next : ℕ) (r : Written) : Type 0 where
   pub stayed : r.failed ≡ true → r.lines ≡ w.lines
 
 -- WHAT THE OUTPUT HOLDS, where that is known: if no write failed, what it held before and then just this text.
+-- Where `failed` is set, nothing is said of the bytes.
+-- That a write did fail then no clause says, since std's `Write` has no word for it: the code of `hand` sets `failed` there alone.
 abbrev pub TextAdded : Option (List ℕ) → Option (List ℕ) → List ℕ → Written → Type 0
 TextAdded before after text r = r.failed ≡ false → Appends before after text
 

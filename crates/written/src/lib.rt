@@ -73,8 +73,8 @@ pub trait Printer {
     ghost layout: { Layout };
 
     // Writes what it prints of a sheet that was judged with this outcome. All lines are written, the one of a refused sheet too, and
-    // their bytes stand behind what the output held; or a write failed, nothing was handed over after it, and the lines before it are
-    // written.
+    // their bytes stand behind what the output held; or a write failed, and then fewer. No clause says that nothing is handed over after
+    // that write.
     fn print_judged<W: Write>(
         &self,
         output: &mut W,
@@ -134,8 +134,8 @@ fn hand_refusal<W: Write>(output: &mut W, e: Refusal, text: &[u8]) -> Written
 }
 
 // Writes all these lines, of which none was shown yet, piece by piece, by way of a buffer that holds any of them. All are written, and
-// their bytes stand behind what the output held; or a write failed, nothing was handed over after it, and the lines before it are
-// written.
+// their bytes stand behind what the output held; or a write failed, and then fewer. The code hands nothing over after that write; no
+// clause says so.
 pub fn write_lines<W: Write, L: Lines>(output: &mut W, lines: &mut L, out: &mut [u8]) -> Written
     requires can { L.can_show lines.old }
     requires first { L.next lines.old ≡ 0 }
