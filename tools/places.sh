@@ -107,4 +107,8 @@ together | show '5 functions that share three parameters, names and types, with 
 src | echoes '[(=,&] ?\|(\(?[a-z_][a-z_, ]*\)?|\(\))\| |\(\|\| |<[A-Z]: Fn' | show '7 lines with a closure, or with a parameter that is one'
 proofs | xargs cat | echoes . | show '8 lines of proofs/'
 proofs | echoes '/(Answers|Invariants)\.antt$' | xargs cat | echoes . | show '8 lines of them in proofs of functions (Answers.antt, Invariants.antt)'
-proofs | echoes '/Answers\.antt$' | xargs cat | echoes '= search [^ ;]+( [a-z]+ [0-9]+)?$' | show '8 answers that are `search ..` alone'
+proofs | echoes '/Answers\.antt$' | xargs perl -0777 -ne 'while (/^pub (\S+) : goal\.\S+\n(?:unfolding [^\n]*\n)?\1 [^=\n]*=\s+search [^ ;\n]+( [a-z]+ [0-9]+)?$/mg) { print "$ARGV $1\n" }' | show '8 answers that are `search ..` alone'
+proofs | echoes '/Answers\.antt$' | xargs perl -Mutf8 -CSD -0777 -ne '
+  s/^(use |--|pub )[^\n]*$//mg; s/\s+/ /g; my %seen;
+  while (/[ (](?=(\S.{44}))/g) { $seen{$1}++ }
+  print "$ARGV\n" if grep { $_ >= 3 } values %seen;' | show '8 answers files in which a phrase of 45 characters stands three times or more'

@@ -1,9 +1,11 @@
 -- The words of a substitution over whole stores: what it asks of a store that is lent, and what becomes of it.
 use Rattle.std.specs.Prelude.{ℕ, List, Result}
 use Rattle.record.specs.Sort.{Sort}
+use Rattle.record.specs.declared.span.Span.{Span}
 use Rattle.store.specs.declared.Full.{Full}
 use Rattle.store.specs.declared.Store.{Store}
-use Rattle.apply_walk.specs.Contract.{SizeAsks, SizeIs, SizesAsk, SizesAre}
+use Rattle.apply_walk.specs.declared.replacing.Replacing.{Replacing}
+use Rattle.apply_walk.specs.Contract.{SizeIs, SizesAre}
 use Rattle.apply.specs.declared.ApplyError.{ApplyError}
 use Rattle.apply.specs.Contract.{function_at, ApplyAsks, FunctionAsks, FunctionFits, AppliedIs}
 use Rattle.apply.specs.Order.{InOrderAsk, InOrderAre}
@@ -12,18 +14,12 @@ use Rattle.apply.specs.Order.{InOrderAsk, InOrderAre}
 abbrev pub function_in : Store → List ℕ → ℕ → ℕ → Sort
 function_in s l x m = function_at s.records.now s.places.now s.count l x m
 
--- The capped sizes of answers over the store s.
-abbrev pub SizeAsksOf : Store → ℕ → List ℕ → Type 0
-SizeAsksOf s k l = SizeAsks s.records.now s.places.now s.index.now s.count k l
+-- The capped sizes of answers.
+abbrev pub SizeIn : Replacing → ℕ → ℕ → Type 0
+SizeIn r k v = SizeIs r.entries.records.now r.entries.places.now r.count k r.images.now v
 
-abbrev pub SizeIn : Store → ℕ → List ℕ → ℕ → Type 0
-SizeIn s k l r = SizeIs s.records.now s.places.now s.count k l r
-
-abbrev pub SizesAskOf : Store → ℕ → ℕ → List ℕ → Type 0
-SizesAskOf s x m l = SizesAsk s.records.now s.places.now s.index.now s.count x m l
-
-abbrev pub SizesIn : Store → ℕ → ℕ → List ℕ → ℕ → Type 0
-SizesIn s x m l r = SizesAre s.records.now s.places.now s.count x m l r
+abbrev pub SizesIn : Replacing → Span → ℕ → Type 0
+SizesIn r o v = SizesAre r.entries.records.now r.entries.places.now r.count o.at o.count r.images.now v
 
 -- t is the store s with the answers of the list o, and ws' the table of answers afterwards.
 abbrev pub ListAsks : Store → List ℕ → List ℕ → List ℕ → Type 0

@@ -7,6 +7,7 @@ use super::ApplyError;
 use super::whole::{answer_sizes, make_answers};
 use apply_walk::build::{SortFields, make_fields};
 use apply_walk::lists::read_numbers;
+use apply_walk::replacing::Replacing;
 use record::kinds::SortKind;
 use record::limits::{LARGEST_PARTS, LONGEST_LIST};
 use record::span::Span;
@@ -47,7 +48,7 @@ pub fn apply_function(
     ensures applied { AppliedIn store.old (function_in store.old images.now span.at span.count) store.new result }
 {
     // The Function itself counts as one.
-    if LARGEST_PARTS < answer_sizes(store, span, images) {
+    if LARGEST_PARTS < answer_sizes(&Replacing::of(store, images), span) {
         return Err(ApplyError::TooLarge);
     }
     let from = store.count;

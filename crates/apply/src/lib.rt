@@ -11,6 +11,7 @@ ghost use Rattle.apply_walk.specs.Stores.{answer_in};
 ghost use Rattle.apply.specs.declared.ApplyError.TheVariants.{NoRoom as WithoutRoom};
 ghost use Rattle.apply.specs.Stores.{ApplyAsksOf, AppliedIn};
 
+use apply_walk::replacing::Replacing;
 use record::limits::LARGEST_TREE;
 use store::{Full, Store};
 use whole::{answer_size, make_answer};
@@ -40,7 +41,7 @@ pub fn apply(store: &mut Store<'_>, images: &[u16], k: usize) -> Result<usize, A
     ensures same { Same store.old store.new }
     ensures applied { AppliedIn store.old (answer_in store.old images.now k) store.new result }
 {
-    if LARGEST_TREE < answer_size(store, k, images) {
+    if LARGEST_TREE < answer_size(&Replacing::of(store, images), k) {
         return Err(ApplyError::TooLarge);
     }
     let from = store.count;

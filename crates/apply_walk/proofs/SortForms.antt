@@ -9,6 +9,7 @@ use native.Mathlib.Omega.{arith}
 use lib.ListN.{length, get_or}
 use lib.Dec.{eqb}
 use borrow.Author.Tests.{eqb-true, eq-eqb, ne_eqb}
+use Rattle.std.proofs.lemmas.List.{nil_from_length}
 use Rattle.record.specs.Names.{member, distinct}
 use Rattle.record.specs.Number.{numbers_at}
 use Rattle.record.specs.Sort.{Sort, Sorts, var, par, node, end, ◌then◌, count, size, sizes, parts_of}
@@ -167,7 +168,7 @@ shape-left {f} s m rs {ns} e q filled =
           record {
             no_name = s.proper.no_name;
             no_number = s.proper.no_number;
-            no_list = λ h. bare rs (e ∙ ap length (s.proper.no_list h));
+            no_list = λ h. nil_from_length rs (e ∙ ap length (s.proper.no_list h));
             no_names = λ h. q ∙ ap (left m) (s.proper.no_names h);
           };
       name = s.name;
@@ -178,10 +179,6 @@ shape-left {f} s m rs {ns} e q filled =
       few = omega (arith, ap length q, left-few m f.names, s.few);
       once = ap distinct q ∙ left-distinct m f.names s.once;
     }
-  where
-    bare : (l : List ℕ) → length l ≡ 0 → l ≡ []
-    bare [] z = refl
-    bare (a ∷ l) z = absurd (omega arith)
 
 head-one : (x : Sort) → head_of (x then end) ≡ x
 unfolding head_of

@@ -4,7 +4,7 @@ use Rattle.std.specs.Prelude.{ℕ, suc, ◌<◌, ◌≡◌, List, get_or, Result
 use Rattle.record.specs.Decode.{sort_at}
 use Rattle.store.specs.declared.Full.{Full}
 use Rattle.apply_walk.specs.Made.{Made}
-use Rattle.apply_walk.specs.Contract.{answer_at, answers_at, SizeAsks, SizesAsk, SizeIs, SizesAre, SortAsks, ReplacedIs, PartsAsk, PartsMade, PartsAre}
+use Rattle.apply_walk.specs.Contract.{answer_at, answers_at, SizeIs, SizesAre, SortAsks, ReplacedIs, PartsAsk, PartsMade, PartsAre}
 
 -- What an entry x for the sort k says of the answers made: x is 0, or one more than the number of the answer.
 abbrev pub EntrySays : List ℕ → List ℕ → ℕ → List ℕ → ℕ → ℕ → Type 0
@@ -23,16 +23,8 @@ pub record Weighed (b p : List ℕ) (n : ℕ) (l ws : List ℕ) : Type 0 where
   pub each : (k : ℕ) → Weighs b p n l k (get_or ws k 0)
 
 -- The two walks for the size, over a table that says the truth and says it afterwards.
-pub record WeighAsks (b p ix ws : List ℕ) (n k : ℕ) (l : List ℕ) : Type 0 where
-  pub asks : SizeAsks b p ix n k l
-  pub weighed : Weighed b p n l ws
-
 pub record WeighIs (b p : List ℕ) (n k : ℕ) (l ws : List ℕ) (r : ℕ) : Type 0 where
   pub is : SizeIs b p n k l r
-  pub weighed : Weighed b p n l ws
-
-pub record WeighAllAsk (b p ix ws : List ℕ) (n x m : ℕ) (l : List ℕ) : Type 0 where
-  pub asks : SizesAsk b p ix n x m l
   pub weighed : Weighed b p n l ws
 
 pub record WeighAllAre (b p : List ℕ) (n x m : ℕ) (l ws : List ℕ) (r : ℕ) : Type 0 where

@@ -6,6 +6,7 @@ pub mod Made
 pub mod Halted
 pub mod InternLaws
 pub mod Contract
+pub mod Props
 pub mod CapLaws
 pub mod Known
 pub mod KnownLaws

@@ -1,13 +1,16 @@
 -- The words of the walks over whole stores: what they ask of a store that is lent, and what becomes of it.
-use Rattle.std.specs.Prelude.{ℕ, List, Result}
+use Rattle.std.specs.Prelude.{ℕ, ◌+◌, ◌*◌, ◌≤◌, ◌<◌, List, length, Result}
+use Rattle.record.specs.Number.{u16_at}
 use Rattle.record.specs.Sort.{Sort}
 use Rattle.record.specs.Record.{Fields, sort_of}
 use Rattle.record.specs.Decode.{store_of}
+use Rattle.record.specs.declared.span.Span.{Span}
 use Rattle.store.specs.declared.Full.{Full}
 use Rattle.store.specs.declared.Store.{Store}
+use Rattle.apply_walk.specs.declared.replacing.Replacing.{Replacing}
 use Rattle.apply_walk.specs.Made.{MadeIs, FieldsMakeAsks}
 use Rattle.apply_walk.specs.Contract.{answer_at, RebuildAsks, SortAsks, ReplacedIs, PartsAsk, PartsAre}
-use Rattle.apply_walk.specs.Known.{WeighAsks, WeighIs, WeighAllAsk, WeighAllAre, KnownWalkAsks, KnownIs, KnownAllAsk, KnownAllAre}
+use Rattle.apply_walk.specs.Known.{Weighed, WeighIs, WeighAllAre, KnownWalkAsks, KnownIs, KnownAllAsk, KnownAllAre}
 
 -- The sort k of the store s with its names replaced by the table l, and the sort of the fields f over s.
 abbrev pub answer_in : Store → List ℕ → ℕ → Sort
@@ -26,18 +29,20 @@ MadeIn s x t r = MadeIs s.records.now s.places.now s.index.now s.count s.used x 
 abbrev pub RebuildAsksOf : Store → ℕ → List ℕ → List ℕ → Type 0
 RebuildAsksOf s k parts l = RebuildAsks s.records.now s.places.now s.index.now s.count s.used k parts l
 
--- The capped sizes of answers over the store s, by a table ws of sizes.
-abbrev pub WeighAsksOf : Store → List ℕ → ℕ → List ℕ → Type 0
-WeighAsksOf s ws k l = WeighAsks s.records.now s.places.now s.index.now ws s.count k l
+-- A table ws of sizes says the truth of what is replaced.
+abbrev pub WeighsTrue : Replacing → List ℕ → Type 0
+WeighsTrue r ws = Weighed r.entries.records.now r.entries.places.now r.count r.images.now ws
 
-abbrev pub WeighedIn : Store → ℕ → List ℕ → List ℕ → ℕ → Type 0
-WeighedIn s k l ws r = WeighIs s.records.now s.places.now s.count k l ws r
+-- The list lies in the records, and its numbers are of sorts.
+abbrev pub ListKnown : Replacing → Span → Type 0
+ListKnown r o = (o.at + 2 * o.count ≤ length r.entries.records.now) × ((j : ℕ) → j < o.count → u16_at r.entries.records.now (o.at + 2 * j) < r.count)
 
-abbrev pub WeighAllAskOf : Store → List ℕ → ℕ → ℕ → List ℕ → Type 0
-WeighAllAskOf s ws x m l = WeighAllAsk s.records.now s.places.now s.index.now ws s.count x m l
+-- The capped sizes of answers, and the table ws of sizes afterwards.
+abbrev pub WeighedIn : Replacing → ℕ → List ℕ → ℕ → Type 0
+WeighedIn r k ws v = WeighIs r.entries.records.now r.entries.places.now r.count k r.images.now ws v
 
-abbrev pub AllWeighedIn : Store → ℕ → ℕ → List ℕ → List ℕ → ℕ → Type 0
-AllWeighedIn s x m l ws r = WeighAllAre s.records.now s.places.now s.count x m l ws r
+abbrev pub AllWeighedIn : Replacing → Span → List ℕ → ℕ → Type 0
+AllWeighedIn r o ws v = WeighAllAre r.entries.records.now r.entries.places.now r.count o.at o.count r.images.now ws v
 
 -- t is the store s with the answer of the sort k, or with what was made of it before room ran out.
 abbrev pub SortAsksOf : Store → ℕ → List ℕ → Type 0

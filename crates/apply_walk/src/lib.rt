@@ -1,9 +1,10 @@
-// The walks of a substitution over store numbers: how large a sort is with its names replaced by a table of images, and that sort
-// made in the store that it is read from. Both go by a table of what they know already.
+// The walks of a substitution over store numbers: that a sort with its names replaced by a table of images is made in the store that
+// it is read from, by a table of what is known already. How large the answer is, `replacing` finds.
 #![tactic(auto)]
 
 pub mod build;
 pub mod lists;
+pub mod replacing;
 pub mod tables;
 
 ghost use Rattle.std.specs.Prelude.{◌≡◌, cond, ◌+◌, ◌≤◌, ◌<◌, length, get_or};
@@ -11,14 +12,13 @@ ghost use Rattle.record.specs.Kinds.{sort_number};
 ghost use Rattle.store.specs.Changes.{Same};
 ghost use Rattle.apply_walk.specs.Images.{image_number};
 ghost use Rattle.apply_walk.specs.Contract.{capped, goes};
-ghost use Rattle.apply_walk.specs.Stores.{answer_in, MadeIn, RebuildAsksOf, WeighAsksOf, WeighedIn, WeighAllAskOf, AllWeighedIn, WalkAsks, WalkedIn, WalkAllAsk, AllWalkedIn};
+ghost use Rattle.apply_walk.specs.Stores.{answer_in, MadeIn, RebuildAsksOf, WalkAsks, WalkedIn, WalkAllAsk, AllWalkedIn};
 
 use arrayvec::ArrayVec;
 use build::{SortFields, make_fields};
-use lists::{names_kept, names_left, read_numbers, same_numbers};
+use lists::{names_left, read_numbers, same_numbers};
 use record::kinds::SortKind;
 use record::limits::{LARGEST_TREE, LONGEST_LIST};
-use record::span::Span;
 use store::{Full, Store};
 use tables::{recall, remember};
 
@@ -59,46 +59,6 @@ pub fn whole_size(kind: SortKind, names: usize, sum: usize) -> usize
     } else {
         capped_at(1 + sum)
     }
-}
-
-// The tree size of the sort `k` replaced, or 4,097 for each that is larger than 4,096; from the table `weighed`, which keeps
-// the sizes of sorts with parts.
-#[cycle(applied_size_applied_sizes)]
-pub fn applied_size(store: &Store<'_>, weighed: &mut [u16], k: usize, images: &[u16]) -> usize
-    requires { WeighAsksOf store.now weighed.old k images.now }
-    ensures { WeighedIn store.now k images.now weighed.new result }
-{
-    if let Some(seen) = recall(weighed, k) {
-        return seen;
-    }
-    let e = store.entry(k);
-    if e.kind == SortKind::Var {
-        let i = image_of(images, e.name, k);
-        return store.size(i);
-    }
-    if e.parts.count == 0 {
-        return 1;
-    }
-    let sum = applied_sizes(store, weighed, e.parts, images);
-    let kept = names_kept(store.records, e.names, images);
-    let size = whole_size(e.kind, kept, sum);
-    remember(weighed, k, size);
-    size
-}
-
-// The tree sizes together of the sorts replaced that the list `parts` names, or 4,097 where that is more than 4,096; each from
-// the table `weighed`, where that keeps it.
-#[cycle(applied_size_applied_sizes)]
-pub fn applied_sizes(store: &Store<'_>, weighed: &mut [u16], parts: Span, images: &[u16]) -> usize
-    requires { WeighAllAskOf store.now weighed.old parts.at parts.count images.now }
-    ensures { AllWeighedIn store.now parts.at parts.count images.now weighed.new result }
-{
-    let mut sum = 0;
-    for k in parts.numbers(store.records) {
-        let one = applied_size(store, weighed, k, images);
-        sum = capped_at(sum + one);
-    }
-    sum
 }
 
 // The sort `k` replaced, from the numbers of its parts replaced: `k` itself where these and the names are its own; `Full`,

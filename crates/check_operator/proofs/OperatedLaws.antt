@@ -17,7 +17,7 @@ use Rattle.record.specs.Sort.{Sort, var, par, node, end, ◌then◌, array, kind
 use Rattle.record.specs.Decode.{store_of, sort_at}
 use Rattle.record.specs.Codec.{length-numbers_at}
 use Rattle.record.specs.Sizes.{count-sorts}
-use Rattle.record.specs.Cases.{and_left, and_right, or_cases, both_ways}
+use Rattle.record.specs.Cases.{and_left, and_right, or_cases, eqb_swap}
 use Rattle.record.specs.declared.SortRecord.{SortRecord}
 use Rattle.store.specs.Entry.{EntryIs, EntryHas}
 use Rattle.row_rules.specs.declared.Cause.TheVariants.{NoRank, Count, Misfit}
@@ -166,14 +166,11 @@ module _ {b p : List ℕ} {n : ℕ} {a : List ℕ} {m : ℕ} (f : ArrayOver b p 
               three = λ q.
                   subst (λ (w : Verdict). FitIs n (store_of b p n) w z) (sym (stores q))
                   (by_test (Known k) t ez (array (sort_at b p n i) (sort_at b p n e))
-                  (et ∙ ap₂ (λ (y : ℕ) (c : Bool). c) ex (eqb-swap x e) ∙ ap (eqb e) ex
+                  (et ∙ ap₂ (λ (y : ℕ) (c : Bool). c) ex (eqb_swap x e) ∙ ap (eqb e) ex
                   ∙ sym (numbers-same e (u16_at a 7) f.over.stored f.over.distinct element-known (f.over.below 2 (omega arith)))
                   ∙ ap (◌&& same (sort_at b p n e) (sort_at b p n (u16_at a 7))) (sym (eq-eqb i v (sym d))))
                   (ap sort sort-is) (λ c. array_known));
             }
-          where
-            eqb-swap : (y w : ℕ) → eqb y w ≡ eqb w y
-            eqb-swap y w = both_ways (eqb y w) (eqb w y) (λ c. eq-eqb w y (sym (eqb-true y w c))) (λ c. eq-eqb y w (sym (eqb-true w y c)))
 
 ---------------------------------------------------------------- any rule
 module _ (b p a : List ℕ) (m : ℕ) where

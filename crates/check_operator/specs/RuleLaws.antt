@@ -3,6 +3,7 @@ use Rattle.std.specs.Prelude.{ℕ, zero, suc, ◌+◌, ◌<◌, ◌≡◌, refl,
 use Rattle.std.proofs.Common.{sym, ap, ap₂, ◌∙◌, arith, le-leb, eq-eqb, eqb-true, ne_eqb, leb-true}
 use Rattle.std.proofs.lemmas.Bool.{false≢true}
 use Rattle.std.proofs.Math.Option.{Option, none as nothing, some}
+use mathlib.Core.Bool.{or-false}
 use Rattle.record.specs.Sort.{Sort, Sorts, var, par, node, end, ◌then◌, bool, int, real, array, bitvec, number_in, count, same, same_all}
 use Rattle.record.specs.SortLaws.{same_refl}
 use Rattle.record.specs.Cases.{and_left, and_right, or_cases, both_ways}
@@ -122,10 +123,6 @@ fixed-count (suc zero) a b c e = refl
 fixed-count (suc (suc zero)) a b c e = refl
 fixed-count (suc (suc (suc zero))) a b c e = refl
 fixed-count (suc (suc (suc (suc m)))) a b c e = let z = leb-true (suc (suc (suc (suc m)))) 3 e in absurd (omega arith)
-
-or-false : (a : Bool) → (a || false) ≡ a
-or-false true = refl
-or-false false = refl
 
 or_same : (a : Bool) → (a || (a || false)) ≡ a
 or_same true = refl

@@ -147,9 +147,7 @@ pub fn rule_of_vectors(op: Operator) -> Option<Rule>
 pub fn rule_of(op: usize) -> Option<Rule>
     ensures { ruled_numbers result ≡ rule_of op }
 {
-    let Ok(op) = Operator::try_from(op) else {
-        return None;
-    };
+    let op = Operator::try_from(op).ok()?;
     rule_of_theory(op)
         .or_else(|| rule_of_text(op))
         .or_else(|| rule_of_vectors(op))

@@ -113,24 +113,24 @@ body-none k bs t e = go (eqb k 3) (eqb k 2)
     go false true = ap (λ (i : ℕ). need (eqb i 1) Count (need (same t bool) Misfit (sort (only_of bs)))) e
     go false false = ap (λ (i : ℕ). need (ltb 0 i) Count (need (same t bool) Misfit (sort bool))) e
 
-module _ {b p : List ℕ} {n : ℕ} {s tbl : List ℕ} {x m : ℕ} (f : BindingsAsk b p n s tbl x m) (body : ℕ) (l : body < n) (k : ℕ) where
-  pub bound-none : m ≡ 0 → bound_body k (pair_sorts (store_of b p n) tbl s x m) (sort_at b p n body then end) ≡ refused Count
-  bound-none e = body-none k (pair_sorts (store_of b p n) tbl s x m) (sort_at b p n body) (pair-count (store_of b p n) tbl s x m ∙ e)
+module _ {b p ix : List ℕ} {n u : ℕ} {s tbl : List ℕ} {x m : ℕ} {a : List ℕ} {body : ℕ} (f : BodyAsks b p ix n u s tbl x m a body) where
+  pub bound-none : (k : ℕ) → m ≡ 0 → bound_body k (pair_sorts (store_of b p n) tbl s x m) (sort_at b p n body then end) ≡ refused Count
+  bound-none k e = body-none k (pair_sorts (store_of b p n) tbl s x m) (sort_at b p n body) (pair-count (store_of b p n) tbl s x m ∙ e)
 
   module _ (some : m ≡ 0 → ⊥) (q : ℕ) (h : KindHas b p body q) where
     body-kind : q ≡ kind_of (sort_at b p n body)
-    body-kind = h n f.usable.stored l
+    body-kind = h n f.bound.usable.stored f.known
 
     body-bool : same (sort_at b p n body) bool ≡ eqb q 3
     unfolding map_of maps
     body-bool =
-        same-swap (sort_at b p n body) bool ∙ kind-same b p n body f.usable.stored l 3 refl ∙ ap (λ (i : ℕ). eqb i 3) (sym body-kind)
+        same-swap (sort_at b p n body) bool ∙ kind-same b p n body f.bound.usable.stored f.known 3 refl ∙ ap (λ (i : ℕ). eqb i 3) (sym body-kind)
 
     some_pairs : ltb 0 (count (pair_sorts (store_of b p n) tbl s x m)) ≡ true
     some_pairs = ap (ltb 0) (pair-count (store_of b p n) tbl s x m) ∙ lt-ltb 0 m (omega (arith, some))
 
     -- Forall and Exists.
-    module _ (three : k ≡ 3 → ⊥) (two : k ≡ 2 → ⊥) where
+    module _ {k : ℕ} (three : k ≡ 3 → ⊥) (two : k ≡ 2 → ⊥) where
       quantified-on : bound_body k (pair_sorts (store_of b p n) tbl s x m) (sort_at b p n body then end) ≡ need (eqb q 3) Misfit (sort bool)
       quantified-on =
           body-other k (pair_sorts (store_of b p n) tbl s x m) (sort_at b p n body) three two
@@ -145,7 +145,7 @@ module _ {b p : List ℕ} {n : ℕ} {s tbl : List ℕ} {x m : ℕ} (f : Bindings
           ∙ ap sort (sym (same-sound (sort_at b p n body) bool (body-bool ∙ eq-eqb q 3 d)))
 
     -- Choice.
-    module _ (two : k ≡ 2) (one : m ≡ 1) where
+    module _ {k : ℕ} (two : k ≡ 2) (one : m ≡ 1) where
       choice-on : bound_body k (pair_sorts (store_of b p n) tbl s x m) (sort_at b p n body then end)
           ≡ need (eqb q 3) Misfit (sort (get_or (store_of b p n) (get_or tbl (u16_at s (x + 2)) 0) leaf))
       choice-on =
@@ -167,10 +167,10 @@ module _ {b p : List ℕ} {n : ℕ} {s tbl : List ℕ} {x m : ℕ} (f : Bindings
         only-place = let y : x + 4 * 0 + 2 ≡ x + 2 = omega arith in ap (u16_at s) y ∙ sym e
 
         pub only-in : v < length tbl
-        only-in = subst (λ (i : ℕ). i < length tbl) only-place (f.each 0 (omega arith))
+        only-in = subst (λ (i : ℕ). i < length tbl) only-place (f.bound.each 0 (omega arith))
 
         pub only-known : get_or tbl v 0 < n
-        only-known = subst (λ (i : ℕ). get_or tbl i 0 < n) only-place (f.below 0 (omega arith))
+        only-known = subst (λ (i : ℕ). get_or tbl i 0 < n) only-place (f.bound.below 0 (omega arith))
 
         pub choice-yes : q ≡ 3 → bound_body k (pair_sorts (store_of b p n) tbl s x m) (sort_at b p n body then end) ≡ sort (sort_at b p n (get_or tbl v 0))
         unfolding sort_at
@@ -179,12 +179,12 @@ module _ {b p : List ℕ} {n : ℕ} {s tbl : List ℕ} {x m : ℕ} (f : Bindings
             ∙ ap (λ (i : ℕ). sort (get_or (store_of b p n) (get_or tbl i 0) leaf)) (sym e)
 
     -- Lambda.
-    module _ (three : k ≡ 3) where
+    module _ {k : ℕ} (three : k ≡ 3) where
       pub lambda-no : q ≡ 12 → bound_body k (pair_sorts (store_of b p n) tbl s x m) (sort_at b p n body then end) ≡ refused Misfit
       lambda-no d =
           body-lambda (pair_sorts (store_of b p n) tbl s x m) (sort_at b p n body) three
           ∙ ap₂ (λ (c e : Bool). need c Count (need e Misfit (sort (function (joined (pair_sorts (store_of b p n) tbl s x m) (sort_at b p n body)))))) some_pairs
-          (stored-value b p n body f.usable.stored l (sym body-kind ∙ d))
+          (stored-value b p n body f.bound.usable.stored f.known (sym body-kind ∙ d))
 
       pub lambda-yes : (q ≡ 12 → ⊥) → bound_body k (pair_sorts (store_of b p n) tbl s x m) (sort_at b p n body then end)
           ≡ sort (function (joined (pair_sorts (store_of b p n) tbl s x m) (sort_at b p n body)))
@@ -194,7 +194,7 @@ module _ {b p : List ℕ} {n : ℕ} {s tbl : List ℕ} {x m : ℕ} (f : Bindings
           (value-kind (sort_at b p n body) (λ e. d (body-kind ∙ e)))
 
   -- Choice with another count of pairs.
-  pub choice-count : k ≡ 2 → (m ≡ 1 → ⊥) → bound_body k (pair_sorts (store_of b p n) tbl s x m) (sort_at b p n body then end) ≡ refused Count
+  pub choice-count : {k : ℕ} → k ≡ 2 → (m ≡ 1 → ⊥) → bound_body k (pair_sorts (store_of b p n) tbl s x m) (sort_at b p n body then end) ≡ refused Count
   choice-count e d =
       body-choice (pair_sorts (store_of b p n) tbl s x m) (sort_at b p n body) e
       ∙ ap (λ (c : Bool). need c Count (need (same (sort_at b p n body) bool) Misfit (sort (only_of (pair_sorts (store_of b p n) tbl s x m)))))

@@ -17,6 +17,7 @@ use Rattle.record.specs.Decode.{store_of, sort_at}
 use Rattle.record.specs.Cases.{both_ways}
 use Rattle.record.specs.declared.SortRecord.{SortRecord}
 use Rattle.store.specs.Entry.{EntryIs, EntryHas}
+use Rattle.store.specs.declared.Store.{Store}
 use Rattle.row_rules.specs.declared.Cause.{Cause}
 use Rattle.row_rules.specs.declared.Cause.TheVariants.{NoRank, Count, Misfit}
 use Rattle.row_rules.specs.Verdict.{Verdict, sort, refused, need}
@@ -60,35 +61,36 @@ module _ (s xs : List ℕ) (x : ℕ) where
   two-are m r o q h e f g =
       g ∙ ap₂ (λ (i j : Option ℕ). indices_from (i ∷ j ∷ [])) e f ∙ ap (λ (j : ℕ). indices_from (constants_in s xs x j)) (sym h)
 
-  pub indices-other : (m : ℕ) → (m ≡ 1 → ⊥) → (m ≡ 2 → ⊥) → IndicesAre s xs x m None
-  indices-other m g h = record { are = other_is m g h; small = tt }
+  first : {r : Maybe ℕ} → IndexIs s xs (x + 2 * 0) r → integer_of r ≡ index_at s xs x
+  first h = let e : x + 2 * 0 ≡ x = omega arith in h.is ∙ ap (index_at s xs) e
 
-  module _ {r : Maybe ℕ} (h : IndexIs s xs (x + 2 * 0) r) (m : ℕ) where
-    first : integer_of r ≡ index_at s xs x
-    first = let e : x + 2 * 0 ≡ x = omega arith in h.is ∙ ap (index_at s xs) e
+module _ {s xs : List ℕ} {x : ℕ} where
+  pub indices-other : {m : ℕ} → (m ≡ 1 → ⊥) → (m ≡ 2 → ⊥) → IndicesAre s xs x m None
+  indices-other {m} g h = record { are = other_is s xs x m g h; small = tt }
 
+  module _ {r : Maybe ℕ} (h : IndexIs s xs (x + 2 * 0) r) {m : ℕ} where
     pub indices-first : m ≡ 1 → r ≡ None → {z : Maybe Indices} → z ≡ None → IndicesAre s xs x m z
     indices-first d e {z} ez =
         subst (λ (y : Maybe Indices). IndicesAre s xs x m y) (sym ez)
-        (record { are = one-are m None none d (sym (ap integer_of e) ∙ first) refl; small = tt })
+        (record { are = one-are s xs x m None none d (sym (ap integer_of e) ∙ first s xs x h) refl; small = tt })
 
     pub indices-one : m ≡ 1 → (i : ℕ) → r ≡ Some i → IndicesAre s xs x m (Some (One i))
-    indices-one d i e = record { are = one-are m (Some (One i)) (some i) d (sym (ap integer_of e) ∙ first) refl; small = h.small i e }
+    indices-one d i e = record { are = one-are s xs x m (Some (One i)) (some i) d (sym (ap integer_of e) ∙ first s xs x h) refl; small = h.small i e }
 
     pub indices-wrong : m ≡ 2 → r ≡ None → {z : Maybe Indices} → z ≡ None → IndicesAre s xs x m z
     indices-wrong d e {z} ez =
         subst (λ (y : Maybe Indices). IndicesAre s xs x m y) (sym ez)
-        (record { are = two-are m None none (index_at s xs (x + 2)) d (sym (ap integer_of e) ∙ first) refl refl; small = tt })
+        (record { are = two-are s xs x m None none (index_at s xs (x + 2)) d (sym (ap integer_of e) ∙ first s xs x h) refl refl; small = tt })
 
     module _ (two : m ≡ 2) (i : ℕ) (e : r ≡ Some i) {q : Maybe ℕ} (g : IndexIs s xs (x + 2) q) where
       pub indices-second : q ≡ None → {z : Maybe Indices} → z ≡ None → IndicesAre s xs x m z
       indices-second d {z} ez =
           subst (λ (y : Maybe Indices). IndicesAre s xs x m y) (sym ez)
-          (record { are = two-are m None (some i) none two (sym (ap integer_of e) ∙ first) (sym (ap integer_of d) ∙ g.is) refl; small = tt })
+          (record { are = two-are s xs x m None (some i) none two (sym (ap integer_of e) ∙ first s xs x h) (sym (ap integer_of d) ∙ g.is) refl; small = tt })
 
       pub indices-two : (j : ℕ) → q ≡ Some j → IndicesAre s xs x m (Some (Two i j))
       indices-two j d =
-          record { are = two-are m (Some (Two i j)) (some i) (some j) two (sym (ap integer_of e) ∙ first) (sym (ap integer_of d) ∙ g.is) refl; small = tt }
+          record { are = two-are s xs x m (Some (Two i j)) (some i) (some j) two (sym (ap integer_of e) ∙ first s xs x h) (sym (ap integer_of d) ∙ g.is) refl; small = tt }
 
 ---------------------------------------------------------------- the argument
 -- One index, by the operator.
@@ -143,10 +145,18 @@ one_default ParamOp.IntToBv i s a b c d e f g = absurd (f refl)
 one_default ParamOp.RePower i s a b c d e f g = absurd (g refl)
 one_default ParamOp.ReLoop i s a b c d e f g = refl
 
+-- The index 0 of Repeat and IntToBv.
+pub one-none : (op : ParamOp) {i : ℕ} (s : Sort) → (op ≡ ParamOp.Repeat) ⊎ (op ≡ ParamOp.IntToBv) → i ≡ 0 → indexed₁ (param_number op) i s ≡ refused Count
+one-none op {i} s (inl e) z = ap₂ (λ (k : ParamOp) (j : ℕ). indexed₁ (param_number k) j s) e z
+one-none op {i} s (inr e) z = ap₂ (λ (k : ParamOp) (j : ℕ). indexed₁ (param_number k) j s) e z
+
 -- A row as it was kept.
 pub kept_row : {b p : List ℕ} {n u : ℕ} {v : Verdict} {b' p' ix' : List ℕ} {r q : Result ℕ Cause} → r ≡ q
     → AnswerIs b p n v b' p' ix' (record { verdict = q; count = n; used = u }) → AnswerIs b p n v b' p' ix' (record { verdict = r; count = n; used = u })
 kept_row {b} {p} {n} {u} {v} {b'} {p'} {ix'} {r} {q} e h = subst (λ (x : Result ℕ Cause). AnswerIs b p n v b' p' ix' (record { verdict = x; count = n; used = u })) (sym e) h
+
+pub known-of : (s : Store) {a : ℕ} → a < s.count → KnownAsks s.records.now s.places.now s.index.now s.count s.used a
+known-of s l = record { good = s.good; known = l }
 
 pub known-one : {b p ix : List ℕ} {n u i a : ℕ} → OneIndexAsks b p ix n u i a → KnownAsks b p ix n u a
 known-one f = record { good = f.good; known = f.known }
@@ -190,17 +200,11 @@ module _ {b p ix : List ℕ} {n u a : ℕ} (f : KnownAsks b p ix n u a) where
         ap (λ (t : Bool). need t Misfit (sort (bitvec (number_in S)))) v ∙ ap sort (sym (same-sound S (bitvec (number_in S)) v)))
         (λ d. ap (λ (t : Bool). need t Misfit (sort (bitvec (number_in S)))) (vector-by ∙ ne_eqb (sort_number r.kind) 9 d)))
 
-    pub repeat-none : {op i : ℕ} → op ≡ 7 → i ≡ 0 → indexed₁ op i (sort_at b p n a) ≡ refused Count
-    repeat-none {op} {i} e z = ap₂ (λ (k j : ℕ). indexed₁ k j (sort_at b p n a)) e z
-
     pub repeat-is : {op : ℕ} (i : ℕ) → op ≡ 7 → (i ≡ 0 → ⊥) → indexed₁ op i (sort_at b p n a) ≡ widened_verdict (sort_number r.kind) 9 (i * r.number)
     repeat-is {op} i e z =
         ap (λ (k : ℕ). indexed₁ k i (sort_at b p n a)) e
         ∙ ap (λ (t : Bool). new_width t (sort_at b p n a) (i * number_in (sort_at b p n a))) (lt-ltb 0 i (omega (arith, z)))
         ∙ ap₂ (λ (t : Bool) (w : ℕ). need t Misfit (sort (bitvec (i * w)))) vector-by (sym read.number)
-
-    pub int-none : {op i : ℕ} → op ≡ 9 → i ≡ 0 → indexed₁ op i (sort_at b p n a) ≡ refused Count
-    int-none {op} {i} e z = ap₂ (λ (k j : ℕ). indexed₁ k j (sort_at b p n a)) e z
 
     pub int_is : {op : ℕ} (i : ℕ) → op ≡ 9 → (i ≡ 0 → ⊥) → indexed₁ op i (sort_at b p n a) ≡ widened_verdict (sort_number r.kind) 4 i
     unfolding map_of maps

@@ -160,8 +160,8 @@ module _ {b p ix : List ℕ} {n u : ℕ} {prm imgs bnd s tbl xs : List ℕ} {r :
     pub var-inside : r.sort < length tbl
     var-inside = own-var.inside
 
-    pub var-asks : OneAsks b p n (get_or tbl r.sort 0)
-    var-asks = record { usable = good-usable b p ix n u good; known = own-var.known }
+    pub var-known : get_or tbl r.sort 0 < n
+    var-known = own-var.known
 
     pub var-is : checked smt_lib site ≡ variable_verdict (sort_at b p n (get_or tbl r.sort 0))
     var-is = checked-var site e ∙ ap variable_verdict own-var.is

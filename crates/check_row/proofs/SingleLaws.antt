@@ -10,7 +10,7 @@ use borrow.Author.Tests.{eq-eqb, eqb-true, eqb-false, ne_eqb, lt-ltb, le-ltb}
 use Rattle.record.specs.Number.{u16_at, numbers_at}
 use Rattle.record.specs.Sort.{Sort, var, par, node, end, ◌then◌, array, bitvec, kind_of, same}
 use Rattle.record.specs.SortLaws.{same_refl}
-use Rattle.record.specs.Record.{Fields, maps, map_of, leaf, sorts_of}
+use Rattle.record.specs.Record.{Fields, leaf, sorts_of}
 use Rattle.record.specs.Decode.{store_of, sort_at, Stored}
 use Rattle.record.specs.Kinds.{sort_number, term_number, as_number}
 use Rattle.record.specs.declared.kinds.AsOp.{AsOp}
@@ -36,14 +36,6 @@ use Rattle.check_row.specs.Single.{ReadIs, OverAsks, constant_verdict}
 use Rattle.check_operator.proofs.FitLaws.{numbers-same, array-two, array-sort}
 
 ---------------------------------------------------------------- constants
-pub constant-map : (k : ℕ) → k < 4 → map_of (k + 4) ≡ 1
-unfolding map_of maps
-constant-map zero l = refl
-constant-map (suc zero) l = refl
-constant-map (suc (suc zero)) l = refl
-constant-map (suc (suc (suc zero))) l = refl
-constant-map (suc (suc (suc (suc k)))) l = absurd (omega arith)
-
 -- The kinds behind the first four.
 pub kind_high : (k : TermKind) → (k ≡ TermKind.Integer → ⊥) → (k ≡ TermKind.Real → ⊥) → (k ≡ TermKind.String → ⊥) → (k ≡ TermKind.RegLan → ⊥) → 4 ≤ term_number k
 kind_high TermKind.Integer a b c d = absurd (a refl)
@@ -233,7 +225,7 @@ other-number AsOp.Const h d e = d refl
 other-number AsOp.SetEmpty h d e = absurd (omega (arith, h, e))
 other-number AsOp.SetUniverse h d e = absurd (omega (arith, h, e))
 
-module _ {b p : List ℕ} {n k : ℕ} {a : List ℕ} {m : ℕ} (f : OverAsks b p n a m) (own : OneAsks b p n k) (q : ℕ) where
+module _ {b p : List ℕ} {n k : ℕ} {a : List ℕ} {m : ℕ} (f : OverAsks b p n a m) (own : OneAsks b p n k) {q : ℕ} where
   pub qualified-other : (q ≡ 0 → ⊥) → qualified q (sort_at b p n k) (args_of b p n a m) ≡ refused NoRank
   unfolding qualified
   qualified-other h = ap (λ (c : Bool). need c NoRank (need (proper (sort_at b p n k)) Barred (constant_array (sort_at b p n k) (args_of b p n a m)))) (ne_eqb q 0 h)

@@ -1,12 +1,12 @@
 // The checked sort of an indexed operator: its index terms are named on the sheet.
-ghost use Rattle.std.specs.Prelude.{◌≡◌, ◌||◌, not, eqb};
+ghost use Rattle.std.specs.Prelude.{◌≡◌, ◌<◌, ◌||◌, not, eqb};
 ghost use Rattle.record.specs.Kinds.{sort_number, param_number};
 ghost use Rattle.store.specs.Changes.{Same};
 ghost use Rattle.store.specs.Words.{sort_in};
 ghost use Rattle.check_rules.specs.Checked.{indexed₁, indexed₂, indexing};
 ghost use Rattle.row_answer.specs.Answer.{Answered};
 ghost use Rattle.row_answer.specs.Arguments.{ConstantsAsk};
-ghost use Rattle.row_answer.specs.Words.{args_in, constants, KnownAsked};
+ghost use Rattle.row_answer.specs.Words.{args_in, constants};
 ghost use Rattle.check_row.specs.Indexed.{IndicesAre, kept_as, widened_verdict, indexed_with};
 ghost use Rattle.check_row.specs.Words.{OneIndexAsked, CheckIndexedAsked, IndexingAsked};
 
@@ -75,26 +75,16 @@ pub fn with_one(store: &mut Store<'_>, op: ParamOp, i: usize, a: usize) -> Row
             widened(store, e.kind, SortKind::BitVec, e.number + i)
         }
         ParamOp::RotateLeft | ParamOp::RotateRight => kept(a, e.kind, SortKind::BitVec),
-        ParamOp::Repeat => {
-            if i == 0 {
-                return Err(Cause::Count);
-            }
-            widened(store, e.kind, SortKind::BitVec, i * e.number)
-        }
-        ParamOp::IntToBv => {
-            if i == 0 {
-                return Err(Cause::Count);
-            }
-            widened(store, e.kind, SortKind::Int, i)
-        }
         ParamOp::RePower => kept(a, e.kind, SortKind::RegLan),
+        ParamOp::Repeat if i != 0 => widened(store, e.kind, SortKind::BitVec, i * e.number),
+        ParamOp::IntToBv if i != 0 => widened(store, e.kind, SortKind::Int, i),
         _ => Err(Cause::Count),
     }
 }
 
 // Extract i, j at the argument a: Count unless j <= i and, of a vector, i under its width; Misfit where it is no vector.
 pub fn checked_extract(store: &mut Store<'_>, i: usize, j: usize, a: usize) -> Row
-    requires { KnownAsked store.old a }
+    requires { a < store.old.count }
     ensures same { Same store.old store.new }
     ensures answer { Answered store.old (indexed₂ 0 i j (sort_in store.old a)) store.new result }
 {
@@ -113,7 +103,7 @@ pub fn checked_extract(store: &mut Store<'_>, i: usize, j: usize, a: usize) -> R
 
 // Two indices i, j at the argument a, for Extract and ReLoop; Count for another operator.
 pub fn with_two(store: &mut Store<'_>, op: ParamOp, i: usize, j: usize, a: usize) -> Row
-    requires { KnownAsked store.old a }
+    requires { a < store.old.count }
     ensures same { Same store.old store.new }
     ensures answer { Answered store.old (indexed₂ (param_number op) i j (sort_in store.old a)) store.new result }
 {
@@ -156,9 +146,7 @@ pub fn checked_indexed(
     ensures same { Same store.old store.new }
     ensures answer { Answered store.old (indexing op (constants sheet.now second) (args_in store.old args.now)) store.new result }
 {
-    let Ok(op) = ParamOp::try_from(op) else {
-        return Err(Cause::Count);
-    };
+    let op = ParamOp::try_from(op).map_err(|_| Cause::Count)?;
     if !has_ranks(op) {
         return Err(Cause::NoRank);
     }

@@ -1,8 +1,8 @@
 // The checked sort of a constant, a Var, a Let and an (as const).
-ghost use Rattle.std.specs.Prelude.{◌≡◌};
+ghost use Rattle.std.specs.Prelude.{◌≡◌, ◌<◌};
 ghost use Rattle.record.specs.Kinds.{term_number};
 ghost use Rattle.store.specs.Changes.{Same};
-ghost use Rattle.matching_tables.specs.Words.{sort_in, OneIn};
+ghost use Rattle.matching_tables.specs.Words.{sort_in};
 ghost use Rattle.check_rules.specs.Checked.{carried, qualified};
 ghost use Rattle.row_answer.specs.Answer.{Answered};
 ghost use Rattle.check_operator.specs.Contract.{ArgsAsk};
@@ -20,6 +20,7 @@ use store::entries::{Entries, Sorts};
 
 // A constant: the sort of an integer, real, string or RegLan constant, else that of a bit-vector constant, which is Barred with
 // the width 0.
+#[tactic(auto, unfolding(record::specs::Record::map_of, record::specs::Record::maps))]
 pub fn checked_constant(store: &mut Store<'_>, kind: TermKind, number: usize) -> Row
     ensures same { Same store.old store.new }
     ensures answer { Answered store.old (constant_verdict (term_number kind) number) store.new result }
@@ -36,7 +37,7 @@ pub fn checked_constant(store: &mut Store<'_>, kind: TermKind, number: usize) ->
 
 // Whether the sort k may be a Var's: no Type, ParamBitVec or BitVec 0 inside, and a Par only outermost, over a Function.
 pub fn is_carried(sorts: &Sorts<'_>, k: usize) -> bool
-    requires { OneIn sorts.now k }
+    requires { k < sorts.now.count }
     ensures { result ≡ carried (sort_in sorts.now k) }
 {
     if sorts.kind(k) != SortKind::Par {
@@ -48,7 +49,7 @@ pub fn is_carried(sorts: &Sorts<'_>, k: usize) -> bool
 
 // A Var of the sort k: that sort, or Barred.
 pub fn checked_variable(sorts: &Sorts<'_>, k: usize) -> Row
-    requires { OneIn sorts.now k }
+    requires { k < sorts.now.count }
     ensures { Reads sorts.now (variable_verdict (sort_in sorts.now k)) result }
 {
     if !is_carried(sorts, k) {

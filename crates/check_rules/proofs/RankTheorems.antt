@@ -67,21 +67,22 @@ pub one-fits-smt_lib : (n i j : ℕ) (q r : Rank) (ts : Sorts) (s u : Sort)
 one-fits-smt_lib n = one-fits (smt_lib n) (smt_lib-sound n)
 
 ---------------------------------------------------------------- the causes
+-- No rank.
+pub no_ranks : (rs : List Rank) → nonempty rs ≡ false → rs ≡ []
+no_ranks [] e = refl
+no_ranks (r ∷ rs) e = absurd (true≢false e)
+
 -- 24 exactly where the operator has no rank.
 pub unranked : (R : ℕ → List Rank) (n : ℕ) → (n ≡ 90 → ⊥) → (ts : Sorts) → operated R n ts ≡ refused NoRank ↔ R n ≡ []
 unranked R n d ts = (
   λ h. by_ranked (R n) ts
-      (λ a e. empty-list (R n) a)
+      (λ a e. no_ranks (R n) a)
       (λ a b e. other-cause refl (sym e ∙ sym (operated-ranked R n ts d) ∙ h))
       (λ a b e. other-cause refl (sym e ∙ sym (operated-ranked R n ts d) ∙ h))
       (λ a b c e. other-cause refl (sym e ∙ sym (operated-ranked R n ts d) ∙ h))
       (λ u c f e. sort-refused (sym e ∙ sym (operated-ranked R n ts d) ∙ h)),
   λ h. operated-ranked R n ts d ∙ ranked-unranked (R n) ts (ap nonempty h),
 )
-  where
-    empty-list : (rs : List Rank) → nonempty rs ≡ false → rs ≡ []
-    empty-list [] e = refl
-    empty-list (r ∷ rs) e = absurd (true≢false e)
 
 -- 25 exactly where it has ranks and none of them has this count of arguments.
 pub miscounted : (R : ℕ → List Rank) (n : ℕ) → (n ≡ 90 → ⊥) → (ts : Sorts)

@@ -24,7 +24,7 @@ use Rattle.check_rules.specs.Parts.{first, Proper, Carried, EachProper, EachValu
 use Rattle.check_rules.proofs.PartTheorems.{proper-exactly, carried-exactly, value-exactly, each_proper-exactly, each_value-exactly}
 use Rattle.check_rules.specs.Refusals.{Exactly}
 use Rattle.check_rules.specs.Rules.{HaveSorts}
-use Rattle.check_rules.proofs.RankTheorems.{same_count-number, counts-more}
+use Rattle.check_rules.proofs.RankTheorems.{no_ranks, same_count-number, counts-more}
 use Rattle.check_rules.proofs.RuleTheorems.{have-only, have-when}
 use Rattle.check_rules.proofs.RefusalLaws.{as-unranked, as-barred, as-miscounted, as-misfit, as-accepted, tests, cleaned, by_equal, parts-cause}
 
@@ -202,7 +202,7 @@ op-way R n ts S d =
     let o = operated-ranked R n ts d in
     let any : nonempty (R n) ≡ true → R n ≡ [] → ⊥ = λ a e. true≢false (sym a ∙ ap nonempty e) in
     by_ranked (R n) ts
-    (λ a e. as-unranked (o ∙ e) (λ h. h (none-there (R n) a)))
+    (λ a e. as-unranked (o ∙ e) (λ h. h (no_ranks (R n) a)))
     (λ a b e. as-miscounted (o ∙ e) (any a) _ (λ h. clash ((some_takes-exactly (R n) ts).1 h) b))
     (λ b c e. as-misfit (o ∙ e) (any (some_counts-nonempty (R n) ts b)) _ ((some_takes-exactly (R n) ts).0 b) (λ h. clash ((each_value-exactly ts).1 h.0) c))
     (λ b c f e. as-misfit (o ∙ e) (any (some_counts-nonempty (R n) ts b)) _ ((some_takes-exactly (R n) ts).0 b) (λ h. let (s, F) = h.1 in none-some (sym f ∙ some-first_fit (R n) ts s S F)))
@@ -210,10 +210,6 @@ op-way R n ts S d =
     let F = first_fit-some (R n) ts s S f in
     let b = some_counts-when (R n) F.place F.chosen ts F.listed (fit-counts F.chosen ts s (some_fit (R n) ts s S F)) in
     as-accepted s (o ∙ e) (any (some_counts-nonempty (R n) ts b)) _ ((some_takes-exactly (R n) ts).0 b) ((each_value-exactly ts).0 c, (s, F)) _)
-  where
-    none-there : (rs : List Rank) → nonempty rs ≡ false → rs ≡ []
-    none-there [] e = refl
-    none-there (r ∷ rs) e = absurd (true≢false e)
 
 -- AN OP, but 90 BvConcat: 24 exactly where the operator has no rank; else 25 exactly where none takes this count of arguments;
 -- else 26 exactly where an argument is a Par or no rank fits. Never 28 or 27.

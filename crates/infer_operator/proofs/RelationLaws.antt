@@ -9,11 +9,10 @@ use native.Mathlib.Nat.{not-suc-le-zero}
 use native.Mathlib.Decide.{dec_lt}
 use lib.ListN.{length, get_or}
 use lib.Dec.{leb}
-use borrow.Author.Tests.{ne_eqb, eqb-true, le-leb, lt-leb}
+use borrow.Author.Tests.{ne_eqb, le-leb, lt-leb}
 use denote.Enum.Bare.{sameb}
-use Rattle.std.specs.Prelude.{Option, Some, None, Ok, Err, ok_or}
+use Rattle.std.specs.Prelude.{Result, Option, Some, None, Ok, Err, ok_or}
 use Rattle.std.specs.Bool.{then_some}
-use Rattle.std.proofs.lemmas.Bool.{eqb-false}
 use Rattle.record.specs.Number.{u16_at, numbers_at}
 use Rattle.record.specs.Kinds.{sort_number}
 use Rattle.record.specs.declared.span.Span.{Span}
@@ -34,17 +33,15 @@ use Rattle.row_rules.specs.Verdict.{Verdict, sort, refused}
 use Rattle.row_rules.specs.Lists.{appended}
 use Rattle.infer_rules.specs.Inferred.{columns, backwards, all_but_last, join_of, product_of, over_columns, over_both}
 use Rattle.row_answer.specs.Arguments.{put_at, Filled, filled_more}
-use Rattle.std.specs.Iterator.{YieldsFirst}
-use Rattle.record.specs.Numbers.{numbers_left}
-use Rattle.record.specs.declared.numbers.Numbers.{Numbers}
 use Rattle.store.specs.declared.Store.{Store}
 use Rattle.store.specs.declared.entries.Entries.{Entries}
 use Rattle.row_answer.specs.declared.arguments.Args.{Args}
 use Rattle.row_answer.specs.Heads.{HeadAsks}
 use Rattle.row_answer.specs.Asks.{StoredListAsks}
 use Rattle.infer_operator.specs.Asks.{Referring, sorts_in, ReadArgumentsAsk, ArgumentsAsk, refer-rest, sorts-first}
+use Rattle.infer_operator.specs.Single.{argument_of}
 use Rattle.infer_operator.specs.Relations.{ColumnsIs, ColumnsHas, ColumnsStand, Having, BothIs, BothHas, PutHas, BackwardsIs, SideAsks}
-use Rattle.infer_operator.proofs.SingleLaws.{same-test}
+use Rattle.matching_tables.specs.KindTests.{kind-is, kind-not}
 use Rattle.infer_operator.proofs.AnswerWays.{lent, back, first-known}
 
 ---------------------------------------------------------------- the columns of a sort
@@ -103,8 +100,8 @@ module _ {b p : List ℕ} {k : ℕ} (r : SortRecord) (q : EntryHas b p k r) wher
             ∙ not-tuple r.name r.number (sort_at b p n v) (sorts_in b p n b (r.parts.at + 2) (r.parts.count - 1)) (λ y. h ((d n st (inner_below st l)).kind ∙ y))
 
         pub columns-by : (t : Bool) → t ≡ sameb the_type c.kind Tuple → ColumnsHas b p k (then_some t c.parts)
-        columns-by true e = columns-list (eqb-true (sort_number c.kind) 15 (sym (same-test c.kind Tuple) ∙ sym e))
-        columns-by false e = tuple-none (eqb-false (sort_number c.kind) 15 (sym (same-test c.kind Tuple) ∙ sym e))
+        columns-by true e = columns-list (kind-is c.kind Tuple e refl)
+        columns-by false e = tuple-none (kind-not c.kind Tuple e refl)
 
 ---------------------------------------------------------------- lists put together
 -- Equal numbers; one list behind another; a list backwards; all but its last.
@@ -201,12 +198,12 @@ module _ (b p : List ℕ) (n k : ℕ) where
 
 -- Of the first argument, whose columns were read in the entries that the store lends.
 module _ (z : Entries) (s : Store) (er : z.records.now ≡ s.records.now) (ep : z.places.now ≡ s.places.now)
-    (a : Args) (n : Numbers) (r : Option ℕ) (t : Numbers) (e : numbers_left n ≡ numbers_at a.bytes.now 3 a.count) (steps : YieldsFirst numbers_left n r t) {k : ℕ} (taken : ok_or r Panics ≡ Ok k) (h : ArgumentsAsk s a) where
+    (a : Args) {r : Result ℕ Cause} (e : r ≡ argument_of a 0) {k : ℕ} (taken : r ≡ Ok k) (h : ArgumentsAsk s a) where
   pub head-asks : HeadAsks z.records.now z.places.now k
-  head-asks = lent z s er ep (λ (b p : List ℕ). HeadAsks b p k) (s.count, record { stored = s.good.stored; known = first-known s a n r t e steps taken h })
+  head-asks = lent z s er ep (λ (b p : List ℕ). HeadAsks b p k) (s.count, record { stored = s.good.stored; known = first-known s a e taken h })
 
   pub head-columns : (v : Option Span) → ColumnsHas z.records.now z.places.now k v → ColumnsIs s.records.now s.places.now s.count (sort_at s.records.now s.places.now s.count k) v
-  head-columns v has = back z s er ep (λ (b p : List ℕ). ColumnsHas b p k v) has s.count s.good.stored (first-known s a n r t e steps taken h)
+  head-columns v has = back z s er ep (λ (b p : List ℕ). ColumnsHas b p k v) has s.count s.good.stored (first-known s a e taken h)
 
 ---------------------------------------------------------------- side by side
 abbrev side_by : Bool → ℕ → ℕ → ℕ

@@ -1,7 +1,7 @@
 -- One argument, by its place; Real among the arguments; the element of an Array; the constants that arguments are.
 use Prim.Native.Nat.{ℕ, zero, suc, ◌+◌, ◌*◌, ◌-◌, ◌≤◌, ◌<◌}
-use mathlib.Core.Path.{◌≡◌, refl, sym, ap, ap₂, subst, ◌∙◌}
-use mathlib.Core.Bool.{Bool, true, false, not, ◌||◌}
+use mathlib.Core.Path.{◌≡◌, refl, sym, ap, subst, ◌∙◌}
+use mathlib.Core.Bool.{Bool, true, false, ◌||◌}
 use mathlib.Core.List.{List, [], ◌∷◌}
 use mathlib.Core.Option.{Option}
 use mathlib.Core.Logic.{◌⊎◌, inl, inr, ⊎_elim}
@@ -12,14 +12,13 @@ use lib.Dec.{eqb}
 use borrow.Author.Tests.{ne_eqb, eqb-true}
 use Rattle.std.proofs.lemmas.Bool.{eqb-false}
 use denote.Enum.Bare.{sameb}
-use denote.Enum.Declared.{tag_of}
 use Rattle.std.specs.Prelude.{Result, Ok, Err, Option as Found, Some, None, ok_or, slice_get}
 use Rattle.std.specs.List.{list_any}
 use Rattle.record.specs.Number.{u16_at, numbers_at}
 use Rattle.record.specs.Kinds.{sort_number}
 use Rattle.record.specs.contracts.kinds.SortKind.{the_type}
 use Rattle.record.specs.declared.kinds.SortKind.{SortKind}
-use Rattle.record.specs.declared.kinds.SortKind.TheVariants.{Function, Atom, Var, Bool as Truth, Int, Real, String, RegLan, Array, BitVec, ParamBitVec, Datatype, Par, «Type», Set, Tuple}
+use Rattle.record.specs.declared.kinds.SortKind.TheVariants.{Real}
 use Rattle.record.specs.Sort.{Sort, Sorts, var, par, node, end, ◌then◌, real, kind_of, count, same}
 use Rattle.record.specs.Record.{Fields, leaf, maps, map_of, bit, leasts, least_of, sorts_of}
 use Rattle.record.specs.Decode.{fields_at, store_of, sort_at, Stored}
@@ -30,6 +29,7 @@ use Rattle.store.specs.Walk.{walk-node}
 use Rattle.record.specs.Store.{fields_of}
 use Rattle.record.specs.Sizes.{Formed, sort-formed, length-indices}
 use Rattle.record.specs.StoreLaws.{sort-node}
+use Rattle.matching_tables.specs.KindTests.{same-kinds}
 use Rattle.row_rules.specs.declared.Cause.{Cause}
 use Rattle.row_rules.specs.declared.Cause.TheVariants.{Panics}
 use Rattle.row_rules.specs.Verdict.{sort, refused}
@@ -161,46 +161,9 @@ real-test s f = go (eqb (kind_of s) 5) refl
     go true e = real_same f (eqb-true (kind_of s) 5 e)
     go false e = real-other s (eqb-false (kind_of s) 5 e)
 
--- The number of a kind is its tag, so that a test of two kinds is one of their numbers.
-tag-number : (k : SortKind) → tag_of the_type k ≡ sort_number k
-tag-number Function = refl
-tag-number Atom = refl
-tag-number Var = refl
-tag-number Truth = refl
-tag-number Int = refl
-tag-number Real = refl
-tag-number String = refl
-tag-number RegLan = refl
-tag-number Array = refl
-tag-number BitVec = refl
-tag-number ParamBitVec = refl
-tag-number Datatype = refl
-tag-number Par = refl
-tag-number «Type» = refl
-tag-number Set = refl
-tag-number Tuple = refl
-
-pub same-test : (j k : SortKind) → sameb the_type j k ≡ eqb (sort_number j) (sort_number k)
-same-test j k = ap₂ (λ (x y : ℕ). eqb x y) (tag-number j) (tag-number k)
-
--- What a test that failed says.
-not-false : (b : Bool) → false ≡ not b → b ≡ true
-not-false true e = refl
-not-false false e = cc
-
-not-true : (b : Bool) → true ≡ not b → b ≡ false
-not-true true e = cc
-not-true false e = refl
-
-pub same-kind : (j k : SortKind) → false ≡ not (sameb the_type j k) → sort_number j ≡ sort_number k
-same-kind j k e = eqb-true (sort_number j) (sort_number k) (sym (same-test j k) ∙ not-false (sameb the_type j k) e)
-
-pub other-kind : (j k : SortKind) → true ≡ not (sameb the_type j k) → sort_number j ≡ sort_number k → ⊥
-other-kind j k e = eqb-false (sort_number j) (sort_number k) (sym (same-test j k) ∙ not-true (sameb the_type j k) e)
-
 -- The test of a kind that was read.
 pub is-real : (b p : List ℕ) (n k : ℕ) → Stored b p n → k < n → (r : SortKind) → KindHas b p k (sort_number r) → sameb the_type r Real ≡ same (sort_at b p n k) real
-is-real b p n k st l r h = same-test r Real ∙ ap (λ (i : ℕ). eqb i 5) (h n st l) ∙ sym (real-test (sort_at b p n k) (stored-formed k st l))
+is-real b p n k st l r h = same-kinds r Real ∙ ap (λ (i : ℕ). eqb i 5) (h n st l) ∙ sym (real-test (sort_at b p n k) (stored-formed k st l))
 
 pub some-any : (b p : List ℕ) (n : ℕ) (ks : List ℕ) → some_real (sorts_of (store_of b p n) ks) ≡ list_any (λ k. same (sort_at b p n k) real) ks
 unfolding some_real sorts_of sort_at

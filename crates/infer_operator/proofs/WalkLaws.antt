@@ -4,7 +4,7 @@ use mathlib.Core.Path.{◌≡◌, refl, sym, ap, subst, ◌∙◌}
 use mathlib.Core.Bool.{Bool, true, false, cond, ◌&&◌}
 use mathlib.Core.List.{List, [], ◌∷◌}
 use native.Mathlib.Omega.{arith}
-use lib.ListN.{length, get_or}
+use lib.ListN.{length, get_or, drop}
 use borrow.Author.Tests.{eq-eqb, ne_eqb}
 use Rattle.record.specs.Sort.{Sort, Sorts, end, ◌then◌, kind_of, number_in}
 use Rattle.record.specs.Record.{sorts_of}
@@ -21,16 +21,13 @@ use Rattle.substitution.proofs.MatchWithLaws.{param-kind}
 use Rattle.row_rules.specs.declared.Cause.TheVariants.{Panics}
 use Rattle.row_rules.specs.Verdict.{sort, refused}
 use Rattle.infer_rules.specs.Inferred.{first_vector, concat_unknown, concat_from}
-use Rattle.std.specs.Prelude.{All, Ok, Err, Option, Some, None, ok_or}
+use Rattle.std.specs.Prelude.{All, Ok, Err, None, ok_or, slice_get}
 use Rattle.std.specs.Bool.{then_some, MatchBool}
 use Rattle.std.specs.List.{list_all, list_any, AllWithin, HoldsAt}
 use Rattle.std.proofs.lemmas.List.Sums.{list_all-from_AllPass}
 use Rattle.std.proofs.lemmas.List.Folds.{list_all_at, list_any_at, list_any_none}
-use Rattle.std.specs.Iterator.{YieldsFirst}
 use Rattle.record.specs.Number.{u16_at, numbers_at}
 use Rattle.record.specs.Codec.{length-numbers_at}
-use Rattle.record.specs.Numbers.{numbers_left}
-use Rattle.record.specs.declared.numbers.Numbers.{Numbers}
 use Rattle.store.specs.declared.Store.{Store}
 use Rattle.row_rules.specs.declared.Cause.{Cause}
 use Rattle.row_answer.specs.declared.arguments.Args.{Args}
@@ -116,21 +113,14 @@ args-known s a h e = refer-known (args-refer s.records.now s.places.now s.index.
 pub few-numbers : (s : Store) (a : Args) → ArgumentsAsk s a → {ks : List ℕ} → ks ≡ numbers_at a.bytes.now 3 a.count → length ks ≤ 64
 few-numbers s a h e = omega (arith, ap (λ (is : List ℕ). length is) e, length-numbers_at a.bytes.now 3 a.count, h.few)
 
--- The first of them, which `next` took; or there is none.
-module _ (n : Numbers) (r : Option ℕ) (t : Numbers) (steps : YieldsFirst numbers_left n r t) where
-  pub first-taken : {k : ℕ} → ok_or r Panics ≡ Ok k → numbers_left n ≡ k ∷ numbers_left t
-  first-taken {k} e = go r e steps
-    where
-      go : (o : Option ℕ) → ok_or o Panics ≡ Ok k → YieldsFirst numbers_left n o t → numbers_left n ≡ k ∷ numbers_left t
-      go (Some j) e h = let q : j ≡ k = cc in h ∙ ap (λ (i : ℕ). i ∷ numbers_left t) q
-      go None e h = cc
+-- The first of them; or there is none.
+pub first-taken : (ks : List ℕ) {k : ℕ} → ok_or (slice_get ks 0) Panics ≡ Ok k → ks ≡ k ∷ drop 1 ks
+first-taken [] e = cc
+first-taken (j ∷ ks) {k} e = let q : j ≡ k = cc in ap (λ (i : ℕ). i ∷ ks) q
 
-  pub none-taken : {c : Cause} → ok_or r Panics ≡ Err c → numbers_left n ≡ []
-  none-taken {c} e = go r e steps
-    where
-      go : (o : Option ℕ) → ok_or o Panics ≡ Err c → YieldsFirst numbers_left n o t → numbers_left n ≡ []
-      go (Some j) e h = cc
-      go None e h = h.0
+pub none-taken : (ks : List ℕ) {c : Cause} → ok_or (slice_get ks 0) Panics ≡ Err c → (ks ≡ []) × (c ≡ Panics)
+none-taken [] e = (refl, cc)
+none-taken (j ∷ ks) e = (cc, cc)
 
 ---------------------------------------------------------------- walks
 -- f of the numbers that are left is g of all, for whatever store they are of.

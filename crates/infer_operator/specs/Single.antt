@@ -1,5 +1,6 @@
 -- What looking at one argument promises.
-use Rattle.std.specs.Prelude.{ℕ, zero, suc, ◌≡◌, refl, Bool, List, Result}
+use Rattle.std.specs.Prelude.{ℕ, zero, suc, ◌≡◌, refl, Bool, List, Result, ok_or, slice_get}
+use Rattle.record.specs.Number.{numbers_at}
 use Rattle.record.specs.Sort.{Sorts, end, ◌then◌}
 use Rattle.row_rules.specs.declared.Cause.{Cause}
 use Rattle.row_rules.specs.declared.Cause.TheVariants.{Panics}
@@ -8,6 +9,7 @@ use Rattle.infer_rules.specs.Inferred.{final_of, first_of, second_of, matched, s
 use Rattle.store.specs.Good.{Good}
 use Rattle.row_answer.specs.Answer.{AnswerIs}
 use Rattle.row_answer.specs.Arguments.{ConstantsAsk}
+use Rattle.row_answer.specs.declared.arguments.Args.{Args}
 use Rattle.infer_operator.specs.Asks.{sorts_in, ArgsAsks, Known, sorts_with}
 
 -- The sort number i, and the last one behind the first i.
@@ -41,6 +43,10 @@ pub last-body : (ss : Sorts) → matched ss ≡ last_from 1 ss
 unfolding last_from
 last-body end = refl
 last-body (s then ss) = refl
+
+-- The argument number i itself.
+abbrev pub argument_of : Args → ℕ → Result ℕ Cause
+argument_of a i = ok_or (slice_get (numbers_at a.bytes.now 3 a.count) i) Panics
 
 -- Whatever good store the arguments are of.
 abbrev pub ArgumentHas : List ℕ → ℕ → ℕ → Result ℕ Cause → Type 0

@@ -65,10 +65,7 @@ pub fn family(op: Operator) -> Family
 pub fn family_of(op: usize) -> Family
     ensures { result ≡ family_of op }
 {
-    match Operator::try_from(op) {
-        Ok(op) => family(op),
-        Err(_) => Family::Truth,
-    }
+    Operator::try_from(op).map_or(Family::Truth, family)
 }
 
 // The sort that an operator of this family with n arguments has, whatever their sorts are; Written for the family that

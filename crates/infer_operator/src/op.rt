@@ -23,6 +23,7 @@ use sheet::ReadSheet;
 use store::Store;
 
 // What the families that make sets, tuples and relations answer.
+#[tactic(auto, unfolding(infer_rules::specs::Inferred::operated_by, record::specs::Record::map_of, record::specs::Record::maps, record::specs::Record::least_of, record::specs::Record::leasts, record::specs::Record::most_of, record::specs::Record::mosts, record::specs::Record::sorts_of, record::specs::Number::numbers_at))]
 pub fn gathered(store: &mut Store<'_>, family: Family, args: &mut Args<'_>) -> Row
     requires { MadeAsks store.old family args.old }
     ensures same { Same store.old store.new }
@@ -43,6 +44,7 @@ pub fn gathered(store: &mut Store<'_>, family: Family, args: &mut Args<'_>) -> R
 }
 
 // What the families that look at vectors and at single arguments answer, and those of `gathered`.
+#[tactic(auto, unfolding(infer_rules::specs::Inferred::operated_by))]
 pub fn looked(store: &mut Store<'_>, family: Family, args: &mut Args<'_>) -> Row
     requires { LookedAsks store.old family args.old }
     ensures same { Same store.old store.new }
@@ -64,6 +66,7 @@ pub fn looked(store: &mut Store<'_>, family: Family, args: &mut Args<'_>) -> Row
 
 // The inferred sort of the operator at its arguments, which the sheet names in `list`: the number of that sort, which is made
 // where it is not there yet, or the refusal that its family, a limit or the store's room gives.
+#[tactic(auto, unfolding(infer_rules::specs::Inferred::operated_by))]
 pub fn inferred_operator(
     store: &mut Store<'_>,
     sheet: &ReadSheet<'_>,

@@ -9,6 +9,7 @@ ghost use Rattle.infer_operator.specs.Asks.{ArgumentsAsk, ReadArgumentsAsk, argu
 ghost use Rattle.infer_operator.specs.Relations.{ColumnsHas, BothHas, PutColumnsAsk, PutHas, BackwardsIs, columns_in};
 ghost use Rattle.infer_operator.specs.Words.{SideAsked};
 
+use super::single::argument;
 use record::kinds::SortKind;
 use record::span::Span;
 use row_answer::arguments::Args;
@@ -62,7 +63,7 @@ pub fn transpose(store: &mut Store<'_>, args: &mut Args<'_>) -> Row
     ensures same_args { SameArgs args.old args.new }
     ensures answer { Answered store.old (transpose_of (arguments store.old args.old)) store.new result }
 {
-    let k = args.numbers().next().ok_or(Cause::Panics)?;
+    let k = argument(args, 0)?;
     let entries = store.entries();
     let columns = columns_of(entries, k).ok_or(Cause::Panics)?;
     put_backwards(entries.records, columns, args);

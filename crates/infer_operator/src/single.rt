@@ -9,7 +9,7 @@ ghost use Rattle.row_answer.specs.Answer.{Answered};
 ghost use Rattle.row_answer.specs.Heads.{HeadAsks};
 ghost use Rattle.row_answer.specs.Words.{constants};
 ghost use Rattle.infer_operator.specs.Asks.{ArgumentsAsk, ReadArgumentsAsk, KnownAsk, arguments};
-ghost use Rattle.infer_operator.specs.Single.{ArgumentHas, LastHas, RealHas, ElementHas};
+ghost use Rattle.infer_operator.specs.Single.{argument_of, ArgumentHas, LastHas, RealHas, ElementHas};
 ghost use Rattle.infer_operator.specs.Words.{WrittenAsked};
 
 use super::vectors::vector;
@@ -26,7 +26,8 @@ use store::entries::Entries;
 
 // The argument number i; Panics where there is none.
 pub fn argument(args: &Args<'_>, i: usize) -> Row
-    ensures { ArgumentHas args.now.bytes.now args.now.count i result }
+    ensures value { result ≡ argument_of args.now i }
+    ensures answer { ArgumentHas args.now.bytes.now args.now.count i result }
 {
     args.numbers().nth(i).ok_or(Cause::Panics)
 }
@@ -58,6 +59,7 @@ pub fn some_real(entries: Entries<'_>, mut numbers: Numbers<'_>) -> bool
 }
 
 // Add, Sub, Mult: Real where an argument is Real, else Int.
+#[tactic(auto, unfolding(record::specs::Record::map_of, record::specs::Record::maps))]
 pub fn sum(store: &mut Store<'_>, args: &Args<'_>) -> Row
     requires { ArgumentsAsk store.old args.now }
     ensures same { Same store.old store.new }
@@ -75,7 +77,7 @@ pub fn element(entries: Entries<'_>, args: &Args<'_>) -> Row
     requires { ReadArgumentsAsk entries.records.now entries.places.now args.now.bytes.now 3 args.now.count }
     ensures { ElementHas entries.entry.records.now entries.entry.places.now args.now.bytes.now args.now.count result }
 {
-    let k = args.numbers().next().ok_or(Cause::Panics)?;
+    let k = argument(args, 0)?;
     let array = entries.entry(k);
     if array.kind != SortKind::Array {
         return Err(Cause::Panics);
@@ -89,9 +91,9 @@ pub fn rare_list(store: &mut Store<'_>, args: &Args<'_>) -> Row
     ensures same { Same store.old store.new }
     ensures answer { Answered store.old (rare_of (arguments store.old args.now)) store.new result }
 {
-    match args.numbers().next() {
-        Some(k) => Ok(k),
-        None => variable(store, 0),
+    match argument(args, 0) {
+        Ok(k) => Ok(k),
+        Err(_) => variable(store, 0),
     }
 }
 
@@ -101,7 +103,7 @@ pub fn singleton(store: &mut Store<'_>, args: &Args<'_>) -> Row
     ensures same { Same store.old store.new }
     ensures answer { Answered store.old (singleton_of (arguments store.old args.now)) store.new result }
 {
-    let k = args.numbers().next().ok_or(Cause::Panics)?;
+    let k = argument(args, 0)?;
     set_of(store, k)
 }
 

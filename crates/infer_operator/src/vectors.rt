@@ -19,6 +19,7 @@ use store::Store;
 use store::entries::Entries;
 
 // The vector of a width; ParamBitVec where it is unknown.
+#[tactic(auto, unfolding(record::specs::Record::map_of, record::specs::Record::maps))]
 pub fn vector(store: &mut Store<'_>, width: Option<usize>) -> Row
     ensures same { Same store.old store.new }
     ensures answer { Answered store.old (vector_of width) store.new result }
@@ -46,6 +47,7 @@ pub fn scan_vectors(entries: Entries<'_>, numbers: Numbers<'_>) -> Result<Option
 }
 
 // The group of nineteen: the first vector of known width; ParamBitVec without one; Panics at another sort before it.
+#[tactic(auto, unfolding(record::specs::Record::map_of, record::specs::Record::maps))]
 pub fn first_vector(store: &mut Store<'_>, args: &Args<'_>) -> Row
     requires { ArgumentsAsk store.old args.now }
     ensures same { Same store.old store.new }

@@ -9,14 +9,15 @@ use native.Mathlib.Omega.{arith}
 use native.Mathlib.Nat.{not-suc-le-zero}
 use lib.Dec.{eqb, leb}
 use borrow.Author.Tests.{eq-eqb, ne_eqb, le-leb, lt-leb}
-use Rattle.std.specs.Prelude.{Option as Found}
+use Rattle.std.specs.Prelude.{Result, Ok, Err, Option as Found}
 use Rattle.record.specs.Number.{numbers_at}
-use Rattle.record.specs.Kinds.{param_number}
-use Rattle.record.specs.KindLaws.{param_number-same}
+use Rattle.record.specs.Kinds.{param_number, ParamDecodes}
+use Rattle.record.specs.declared.kinds.UnknownKind.{UnknownKind}
 use Rattle.record.specs.declared.kinds.ParamOp.{ParamOp}
-use Rattle.record.specs.declared.kinds.ParamOp.TheVariants.{Extract, ZeroExtend, SignExtend, RotateLeft, RotateRight, Repeat, RePower, ReLoop}
-use Rattle.record.specs.Sort.{Sort, Sorts, ◌then◌, reglan, bitvec, param_bit_vec, kind_of, number_in}
+use Rattle.record.specs.declared.kinds.ParamOp.TheVariants.{ZeroExtend, SignExtend, RotateLeft, RotateRight, Repeat}
+use Rattle.record.specs.Sort.{Sort, Sorts, ◌then◌, bitvec, param_bit_vec, kind_of, number_in}
 use Rattle.substitution.proofs.MatchWithLaws.{param-kind}
+use Rattle.row_rules.specs.declared.Cause.{Cause}
 use Rattle.row_rules.specs.declared.Cause.TheVariants.{Panics}
 use Rattle.row_rules.specs.Verdict.{Verdict, sort, refused, need}
 use Rattle.infer_rules.specs.Inferred.{extracted, resized_of, first_of, indexed}
@@ -63,14 +64,15 @@ module _ (s xs : List ℕ) (x q i : ℕ) where
       ∙ ap (extract_by i) (sym h.is)
 
 ---------------------------------------------------------------- a width by the first argument
-pub resize-known : (f : ℕ → ℕ) (t : Sort) (ss : Sorts) → kind_of t ≡ 9 → resized_of f (t then ss) ≡ sort (bitvec (f (number_in t)))
-resize-known f t ss h = rw (eq-eqb (kind_of t) 9 h) refl
+module _ (f : ℕ → ℕ) {ss : Sorts} {t : Sort} {more : Sorts} (first : ss ≡ t then more) where
+  pub resize-known : kind_of t ≡ 9 → {w : ℕ} → w ≡ number_in t → resized_of f ss ≡ sort (bitvec (f w))
+  resize-known h e = rw (first, e, eq-eqb (kind_of t) 9 h) refl
 
-pub resize-unknown : (f : ℕ → ℕ) (t : Sort) (ss : Sorts) → kind_of t ≡ 10 → resized_of f (t then ss) ≡ sort param_bit_vec
-resize-unknown f t ss h = rw (ne_eqb (kind_of t) 9 (λ (e : kind_of t ≡ 9). absurd (omega arith)), param-kind t, eq-eqb (kind_of t) 10 h) refl
+  pub resize-unknown : kind_of t ≡ 10 → resized_of f ss ≡ sort param_bit_vec
+  resize-unknown h = rw (first, ne_eqb (kind_of t) 9 (λ (e : kind_of t ≡ 9). absurd (omega arith)), param-kind t, eq-eqb (kind_of t) 10 h) refl
 
-pub resize-other : (f : ℕ → ℕ) (t : Sort) (ss : Sorts) → (kind_of t ≡ 9 → ⊥) → (kind_of t ≡ 10 → ⊥) → resized_of f (t then ss) ≡ refused Panics
-resize-other f t ss h d = rw (ne_eqb (kind_of t) 9 h, param-kind t, ne_eqb (kind_of t) 10 d) refl
+  pub resize-other : (kind_of t ≡ 9 → ⊥) → (kind_of t ≡ 10 → ⊥) → resized_of f ss ≡ refused Panics
+  resize-other h d = rw (first, ne_eqb (kind_of t) 9 h, param-kind t, ne_eqb (kind_of t) 10 d) refl
 
 ---------------------------------------------------------------- which operator
 -- Another number, another operator.
@@ -124,15 +126,20 @@ module _ {s xs : List ℕ} (x q : ℕ) (some : 0 < q) {o : Found ℕ} (h : Index
       ap (λ (is : List (Option ℕ)). indexed op is ss)
       (constants-first s xs x q some ∙ ap (λ (c : Option ℕ). c ∷ constants_in s xs (x + 2) (q - 1)) (ap (index_at s xs) e ∙ sym h.is))
 
--- Which is left when the arms told them apart.
-pub convert-only : (op : ParamOp) → Indexing (param_number op) → (op ≡ Extract → ⊥) → (op ≡ ZeroExtend → ⊥) → (op ≡ SignExtend → ⊥) → (op ≡ Repeat → ⊥) → param_number op ≡ 9
-convert-only op (extracts e) a b c d = absurd (a (param_number-same op Extract e))
-convert-only op (zeroes e) a b c d = absurd (b (param_number-same op ZeroExtend e))
-convert-only op (signs e) a b c d = absurd (c (param_number-same op SignExtend e))
-convert-only op (repeats e) a b c d = absurd (d (param_number-same op Repeat e))
-convert-only op (converts e) a b c d = e
-
 ---------------------------------------------------------------- by name
+-- The operator with the number n, or Panics where there is none.
+abbrev pub op_of : Result ParamOp UnknownKind → Result ParamOp Cause
+op_of (Ok k) = Ok k
+op_of (Err x) = Err Panics
+
+pub op-found : (n : ℕ) (o : Result ParamOp UnknownKind) → ParamDecodes n o → {r : Result ParamOp Cause} → r ≡ op_of o → {k : ParamOp} → r ≡ Ok k → param_number k ≡ n
+op-found n (Ok j) h {r} e {k} q = let z : k ≡ j = cc in ap param_number z ∙ h
+op-found n (Err x) h {r} e {k} q = cc
+
+pub op-missing : (n : ℕ) (o : Result ParamOp UnknownKind) → ParamDecodes n o → {r : Result ParamOp Cause} → r ≡ op_of o → {c : Cause} → r ≡ Err c → 12 ≤ n
+op-missing n (Ok j) h e q = cc
+op-missing n (Err x) h e q = h.1
+
 module _ {n : ℕ} {k : ParamOp} (number : param_number k ≡ n) (is : List (Option ℕ)) (ss : Sorts) where
   pub named : (q : ParamOp) → k ≡ q → indexed n is ss ≡ indexed (param_number q) is ss
   named q e = ap (λ (o : ℕ). indexed o is ss) (sym number ∙ ap param_number e)
@@ -141,16 +148,8 @@ module _ {n : ℕ} {k : ParamOp} (number : param_number k ≡ n) (is : List (Opt
   unfolding indexed
   rotates h = ⊎_elim (λ (e : k ≡ RotateLeft). named RotateLeft e) (λ (e : k ≡ RotateRight). named RotateRight e) h
 
-  pub regular : (k ≡ RePower) ⊎ (k ≡ ReLoop) → indexed n is ss ≡ sort reglan
-  unfolding indexed
-  regular h = ⊎_elim (λ (e : k ≡ RePower). named RePower e) (λ (e : k ≡ ReLoop). named ReLoop e) h
-
 -- With the first index, i.
 module _ (k : ParamOp) (i : ℕ) (is : List (Option ℕ)) (ss : Sorts) where
-  pub given-extract : k ≡ Extract → indexed (param_number k) (some i ∷ is) ss ≡ extracted (some i ∷ is)
-  unfolding indexed
-  given-extract e = named refl (some i ∷ is) ss Extract e
-
   pub given-extend : (k ≡ ZeroExtend) ⊎ (k ≡ SignExtend) → indexed (param_number k) (some i ∷ is) ss ≡ resized_of (λ w. i + w) ss
   unfolding indexed
   given-extend h = ⊎_elim (λ (e : k ≡ ZeroExtend). named refl (some i ∷ is) ss ZeroExtend e) (λ (e : k ≡ SignExtend). named refl (some i ∷ is) ss SignExtend e) h
@@ -158,7 +157,3 @@ module _ (k : ParamOp) (i : ℕ) (is : List (Option ℕ)) (ss : Sorts) where
   pub given-repeat : k ≡ Repeat → indexed (param_number k) (some i ∷ is) ss ≡ resized_of (λ w. i * w) ss
   unfolding indexed
   given-repeat e = named refl (some i ∷ is) ss Repeat e
-
-  pub given-convert : param_number k ≡ 9 → indexed (param_number k) (some i ∷ is) ss ≡ sort (bitvec i)
-  unfolding indexed
-  given-convert e = at_op (some i ∷ is) ss 9 e

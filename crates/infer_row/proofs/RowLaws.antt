@@ -22,7 +22,7 @@ use Rattle.infer_operator.specs.Asks.{ArgumentsAsk}
 use Rattle.infer_row.specs.Terms.{constant, variable, qualified, PlainTermAsks, InferComposedAsks, InferAsks}
 use Rattle.infer_row.proofs.TermLaws.{site-app}
 
-module _ (s : Store) (names : Names) (z : ReadSheet) (r : TermRecord) (a : Args) (h : InferAsks s names z r a) where
+module _ {s : Store} {names : Names} {z : ReadSheet} {r : TermRecord} {a : Args} (h : InferAsks s names z r a) where
   args-ask : ArgumentsAsk s a
   args-ask =
       record {

@@ -17,6 +17,7 @@ use store::Store;
 
 // A Binder, whose body is its argument: Bool for Forall, Exists and a number that is none's; for Choice the sort of its first
 // binding, Panics without one; for Lambda the Function of its bindings' sorts and its body's, put together in `args`.
+#[tactic(auto, unfolding(record::specs::Record::map_of, record::specs::Record::maps, infer_rules::specs::Inferred::inferred_binder))]
 pub fn inferred_binder(
     store: &mut Store<'_>,
     sheet: &ReadSheet<'_>,

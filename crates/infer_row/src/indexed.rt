@@ -19,6 +19,7 @@ use store::Store;
 
 // BvExtract's width from its second index and the first, i; ParamBitVec where it is no integer; Panics where it is missing or
 // over i.
+#[tactic(auto, unfolding(record::specs::Record::map_of, record::specs::Record::maps))]
 pub fn inferred_extract(store: &mut Store<'_>, sheet: &ReadSheet<'_>, second: Span, i: usize) -> Row
     requires { ExtractAsks sheet.now second i }
     ensures same { Same store.old store.new }
@@ -36,13 +37,14 @@ pub fn inferred_extract(store: &mut Store<'_>, sheet: &ReadSheet<'_>, second: Sp
 
 // The vector whose width is what `resize` makes of the first argument's width; ParamBitVec where that is unknown; Panics where it
 // is no vector, or missing.
+#[tactic(auto, unfolding(record::specs::Record::map_of, record::specs::Record::maps))]
 pub fn resized<F: FnOnce(usize) -> usize>(store: &mut Store<'_>, args: &Args<'_>, resize: F) -> Row
     requires asked { ArgumentsAsk store.old args.now }
     requires callable { (w : ℕ) → w ≤ 65535 → F.pre resize w }
     ensures same { Same store.old store.new }
     ensures answer { (f : ℕ → ℕ) → ((w r : ℕ) → F.post resize w r → r ≡ f w) → Answered store.old (resized_of f (arguments store.old args.now)) store.new result }
 {
-    let k = args.numbers().next().ok_or(Cause::Panics)?;
+    let k = argument(args, 0)?;
     let vector = store.entry(k);
     match vector.kind {
         SortKind::BitVec => bit_vector(store, resize(vector.number)),
@@ -52,6 +54,7 @@ pub fn resized<F: FnOnce(usize) -> usize>(store: &mut Store<'_>, args: &Args<'_>
 }
 
 // The operators that look at their first index, i: BvExtract, ZeroExtend, SignExtend, Repeat and IntToBv.
+#[tactic(auto, unfolding(infer_rules::specs::Inferred::indexed))]
 pub fn by_index(
     store: &mut Store<'_>,
     sheet: &ReadSheet<'_>,
@@ -73,6 +76,7 @@ pub fn by_index(
 }
 
 // The same operators: Panics without an index, ParamBitVec where the first is no integer constant.
+#[tactic(auto, unfolding(record::specs::Record::map_of, record::specs::Record::maps))]
 pub fn first_index(
     store: &mut Store<'_>,
     sheet: &ReadSheet<'_>,
@@ -94,6 +98,7 @@ pub fn first_index(
 }
 
 // The inferred sort of the indexed operator with this number; Panics for BvConst, and for a number that is none's.
+#[tactic(auto, unfolding(record::specs::Record::map_of, record::specs::Record::maps, infer_rules::specs::Inferred::indexed))]
 pub fn inferred_indexed(
     store: &mut Store<'_>,
     sheet: &ReadSheet<'_>,
@@ -105,9 +110,7 @@ pub fn inferred_indexed(
     ensures same { Same store.old store.new }
     ensures answer { Answered store.old (indexed op (indices sheet.now second) (arguments store.old args.now)) store.new result }
 {
-    let Ok(op) = ParamOp::try_from(op) else {
-        return Err(Cause::Panics);
-    };
+    let op = ParamOp::try_from(op).map_err(|_| Cause::Panics)?;
     match op {
         ParamOp::Extract
         | ParamOp::ZeroExtend

@@ -26,6 +26,7 @@ use store::Store;
 
 // A term whose sort needs no argument: a constant, Limit where the width of a bit vector is over 65,535; a Var and an AsOp have
 // a sort of their own, which the sheet's table names in the store.
+#[tactic(auto, unfolding(record::specs::Record::map_of, record::specs::Record::maps, infer_rules::specs::Inferred::inferred))]
 pub fn inferred_plain(store: &mut Store<'_>, sheet: &ReadSheet<'_>, term: TermRecord) -> Row
     requires { PlainTermAsks store.old sheet.now term }
     ensures same { Same store.old store.new }
@@ -42,6 +43,7 @@ pub fn inferred_plain(store: &mut Store<'_>, sheet: &ReadSheet<'_>, term: TermRe
 }
 
 // A term by its arguments: an Op, a Binder or a ParamOp; a Let, the last one; a Match, the last body, Panics without one.
+#[tactic(auto, unfolding(infer_rules::specs::Inferred::inferred))]
 pub fn inferred_composed(
     store: &mut Store<'_>,
     sheet: &ReadSheet<'_>,

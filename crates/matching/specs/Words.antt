@@ -1,14 +1,13 @@
 -- The words of the contracts over a store's sorts, the tables of names and noted pairs as they are passed; r says whether a pattern
 -- fits, and y are the names then.
-use Rattle.std.specs.Prelude.{ℕ, Bool, List}
+use Rattle.std.specs.Prelude.{ℕ, Bool}
 use Rattle.record.specs.Numbers.{numbers_left}
-use Rattle.record.specs.declared.span.Span.{Span}
 use Rattle.record.specs.declared.numbers.Numbers.{Numbers}
 use Rattle.store.specs.declared.entries.Sorts.{Sorts}
 use Rattle.matching_tables.specs.Matched.{found}
 use Rattle.matching_tables.specs.declared.names.Names.{Names}
 use Rattle.matching_tables.specs.declared.notes.Met.{Met}
-use Rattle.matching.specs.Contract.{VarAsks, VarIs, MatchAsks, MatchIs, MatchAllAsks, MatchAllIs, MatchListsAsk, MatchListsIs}
+use Rattle.matching.specs.Contract.{VarAsks, VarIs, MatchAsks, MatchIs, MatchListsAsk, MatchListsIs}
 use Rattle.matching.specs.Met.{MetBefore, MetAfter}
 use Rattle.matching.specs.Steps.{StepIs}
 use Rattle.matching.specs.declared.Step.{Step}
@@ -28,13 +27,6 @@ abbrev pub MatchAnswered : Sorts → Names → ℕ → ℕ → Names → Bool �
 MatchAnswered s x k j y r = MatchIs s.records.now s.places.now s.count x.params.now x.images.now x.bound.now x.many k j y.images.now y.bound.now (found y.many r)
 
 ---------------------------------------------------------------- two lists
-abbrev pub MatchAllAsked : Sorts → Names → List ℕ → Span → List ℕ → Span → Type 0
-MatchAllAsked s x bs u cs w = MatchAllAsks s.records.now s.places.now s.count x.params.now x.images.now x.bound.now x.many bs u.at cs w.at u.count
-
-abbrev pub MatchAllAnswered : Sorts → Names → List ℕ → Span → List ℕ → Span → Names → Bool → Type 0
-MatchAllAnswered s x bs u cs w y r =
-    MatchAllIs s.records.now s.places.now s.count x.params.now x.images.now x.bound.now x.many bs u.at cs w.at u.count y.images.now y.bound.now (found y.many r)
-
 abbrev pub ListsAsked : Sorts → Names → Numbers → Numbers → Type 0
 ListsAsked s x u w = MatchListsAsk s.records.now s.places.now s.count x.params.now x.images.now x.bound.now x.many (numbers_left u) (numbers_left w)
 

@@ -27,7 +27,7 @@ use Rattle.matching_each.specs.Every.{every, every_all, Noted, Answers, EveryFou
 use Rattle.matching_each.specs.EveryLaws.{every-parts}
 
 ---------------------------------------------------------------- a sort by its entry
-module _ {b p : List ℕ} {n k : ℕ} (a : OneAsks b p n k) (r : SortRecord) (e : EntryHas b p k r) (f : Sort → Bool) {q : Bool} (h : q ≡ f (sort_at b p n k)) where
+module _ {b p : List ℕ} {n k : ℕ} (a : OneAsks b p n k) {r : SortRecord} (e : EntryHas b p k r) (f : Sort → Bool) {q : Bool} (h : q ≡ f (sort_at b p n k)) where
   pub node-fails : q ≡ false → false ≡ every f (sort_at b p n k)
   node-fails z = sym (every-parts f (sort_at b p n k) ∙ ap (λ (t : Bool). t && every_all f (parts_of (sort_at b p n k))) (sym h ∙ z))
 
@@ -47,22 +47,22 @@ module _ {b p : List ℕ} {n k : ℕ} (a : OneAsks b p n k) (r : SortRecord) (e 
 
 -- The answer for one sort, for every test whose answers are given.
 module _ {b p : List ℕ} {n : ℕ} {says : SortRecord → Bool → Type 0} {o : List ℕ} where
-  module _ {k : ℕ} (one : OneAsks b p n k) (r : SortRecord) (h : EntryHas b p k r) {q : Bool} (s : says r q) where
+  module _ {k : ℕ} (one : OneAsks b p n k) {r : SortRecord} (h : EntryHas b p k r) {q : Bool} (s : says r q) where
     pub one-fails : q ≡ false → EachIs b p n says o k o false
-    one-fails z f a t = record { answer = node-fails one r h f (a r k q one h s) z; noted = t }
+    one-fails z f a t = record { answer = node-fails one h f (a r k q one h s) z; noted = t }
 
     module _ (z : q ≡ true) where
       pub one-alone : r.parts.count ≡ 0 → EachIs b p n says o k o true
-      one-alone c f a t = record { answer = node-alone one r h f (a r k q one h s) z c; noted = t }
+      one-alone c f a t = record { answer = node-alone one h f (a r k q one h s) z c; noted = t }
 
       module _ {o' : List ℕ} {w : Bool} (d : AllEachIs b p n says o r.parts.at r.parts.count o' w) where
         pub one-stop : w ≡ false → EachIs b p n says o k o' false
-        one-stop y f a t = let g = d f a t in record { answer = node-passes one r h f (a r k q one h s) z (sym y ∙ g.answer); noted = g.noted }
+        one-stop y f a t = let g = d f a t in record { answer = node-passes one h f (a r k q one h s) z (sym y ∙ g.answer); noted = g.noted }
 
         pub one-more : w ≡ true → {o'' : List ℕ} → NoteIs o' k o'' → EachIs b p n says o k o'' true
         one-more y {o''} u f a t =
             let g = d f a t in
-            let c = node-passes one r h f (a r k q one h s) z (sym y ∙ g.answer) in
+            let c = node-passes one h f (a r k q one h s) z (sym y ∙ g.answer) in
             record { answer = c; noted = table-put (λ (j : ℕ). every f (sort_at b p n j) ≡ true) o' k o'' g.noted (sym c) u }
 
   pub one-noted : (k i : ℕ) → get_or o i 0 ≡ k + 1 → EachIs b p n says o k o true
@@ -105,7 +105,7 @@ module _ {b p : List ℕ} {n : ℕ} {ks₀ ks : List ℕ} (v : EachGo b p n ks�
     pub go-rest : EachGo b p n ks₀ ks'
     go-rest = record { usable = v.usable; below = below-rest k ks' n low; less = omega (arith, v.less, first-size) }
 
-    module _ (r : SortRecord) (h : EntryHas b p k r) where
+    module _ {r : SortRecord} (h : EntryHas b p k r) where
       own-size : size (sort_at b p n k) ≡ 1 + sizes (sorts_at b p n b r.parts.at r.parts.count)
       own-size = entry-size b p n k each-asks.usable each-asks.known r h
 
@@ -149,16 +149,16 @@ module _ {b p : List ℕ} {n : ℕ} {f : Sort → Bool} {ks₀ o ks : List ℕ} 
     for-step g t = record { noted = t; whole = first g }
 
     -- Where the first is the last too, its parts decide the whole.
-    for-last : {ks'' : List ℕ} {q : Bool} → OneAsks b p n k → (r : SortRecord) → EntryHas b p k r → q ≡ f (sort_at b p n k) → q ≡ true → ks' ≡ []
+    for-last : {ks'' : List ℕ} {q : Bool} → OneAsks b p n k → {r : SortRecord} → EntryHas b p k r → q ≡ f (sort_at b p n k) → q ≡ true → ks' ≡ []
         → ks'' ≡ numbers_at b r.parts.at r.parts.count → EachFor b p n f ks₀ o ks''
     unfolding every sorts_of
-    for-last one r h g z l i =
+    for-last one {r} h g z l i =
         let parts = every_all f (sorts_at b p n b r.parts.at r.parts.count) in
         let none = ap (λ (w : List ℕ). every_all f (sorts_of (store_of b p n) w)) l in
         rw i
         (record {
           noted = v.noted;
-          whole = sym (and_one parts) ∙ ap (λ (t : Bool). parts && t) (sym none) ∙ first (node-passes one r h f g z refl);
+          whole = sym (and_one parts) ∙ ap (λ (t : Bool). parts && t) (sym none) ∙ first (node-passes one h f g z refl);
         })
 
 -- No bytes are left, so no numbers.
@@ -174,27 +174,27 @@ module _ {b p : List ℕ} {n : ℕ} {says : SortRecord → Bool → Type 0} {o�
   pub so-end : ks ≡ [] → (f : Sort → Bool) → Answers b p n says f → Noted b p n f o₀ → EveryFound b p n f (every_all f (sorts_of (store_of b p n) ks₀)) o true
   so-end z f a t = for-end (v f a t) z
 
-  module _ {k : ℕ} {ks' : List ℕ} (e : ks ≡ k ∷ ks') (one : OneAsks b p n k) (r : SortRecord) (h : EntryHas b p k r) {q : Bool} (s : says r q) where
+  module _ {k : ℕ} {ks' : List ℕ} (e : ks ≡ k ∷ ks') (one : OneAsks b p n k) {r : SortRecord} (h : EntryHas b p k r) {q : Bool} (s : says r q) where
     pub so-fails : q ≡ false → (f : Sort → Bool) → Answers b p n says f → Noted b p n f o₀ → EveryFound b p n f (every_all f (sorts_of (store_of b p n) ks₀)) o false
-    so-fails z f a t = for-stop (v f a t) e (node-fails one r h f (a r k q one h s) z) (v f a t).noted
+    so-fails z f a t = for-stop (v f a t) e (node-fails one h f (a r k q one h s) z) (v f a t).noted
 
     module _ (z : q ≡ true) where
       pub so-alone : r.parts.count ≡ 0 → EachSo b p n says o₀ ks₀ o ks'
-      so-alone c f a t = for-step (v f a t) e (node-alone one r h f (a r k q one h s) z c) (v f a t).noted
+      so-alone c f a t = for-step (v f a t) e (node-alone one h f (a r k q one h s) z c) (v f a t).noted
 
       pub so-last : {ks'' : List ℕ} → ks' ≡ [] → ks'' ≡ numbers_at b r.parts.at r.parts.count → EachSo b p n says o₀ ks₀ o ks''
-      so-last l i f a t = for-last (v f a t) e one r h (a r k q one h s) z l i
+      so-last l i f a t = for-last (v f a t) e one h (a r k q one h s) z l i
 
       module _ {o' : List ℕ} {w : Bool} (d : AllEachIs b p n says o r.parts.at r.parts.count o' w) where
         pub so-stop : w ≡ false → (f : Sort → Bool) → Answers b p n says f → Noted b p n f o₀ → EveryFound b p n f (every_all f (sorts_of (store_of b p n) ks₀)) o' false
         so-stop y f a t =
             let g = d f a (v f a t).noted in
-            for-stop (v f a t) e (node-passes one r h f (a r k q one h s) z (sym y ∙ g.answer)) g.noted
+            for-stop (v f a t) e (node-passes one h f (a r k q one h s) z (sym y ∙ g.answer)) g.noted
 
         pub so-more : w ≡ true → {o'' : List ℕ} → NoteIs o' k o'' → EachSo b p n says o₀ ks₀ o'' ks'
         so-more y {o''} u f a t =
             let g = d f a (v f a t).noted in
-            let c = node-passes one r h f (a r k q one h s) z (sym y ∙ g.answer) in
+            let c = node-passes one h f (a r k q one h s) z (sym y ∙ g.answer) in
             for-step (v f a t) e c (table-put (λ (j : ℕ). every f (sort_at b p n j) ≡ true) o' k o'' g.noted (sym c) u)
 
   -- A sort that is noted was found so before.

@@ -1,9 +1,10 @@
 -- A function on sorts that tests each node is `every` of its test: the law by its clauses, and known, proper, unlisted and
 -- parless by it.
-use Rattle.std.specs.Prelude.{ℕ, ◌≡◌, Bool, true, false, not, get_or, eqb}
+use Rattle.std.specs.Prelude.{ℕ, ◌≡◌, Bool, true, not, get_or, eqb}
 use Rattle.std.proofs.Math.Path.{refl, ap, ap₂}
 use Rattle.std.proofs.Common.{sym, ◌∙◌}
 use Rattle.std.proofs.Math.Bool.{◌&&◌}
+use mathlib.Core.Bool.{and-true}
 use mathlib.Core.List.{List, [], ◌∷◌}
 use Rattle.record.specs.Sort.{Sort, Sorts, var, par, node, end, ◌then◌, parts_of}
 use Rattle.record.specs.Cases.{by_test}
@@ -22,8 +23,7 @@ use Rattle.matching_tables.specs.Entered.{entry-name, entry-names}
 use Rattle.matching_each.specs.Every.{Test, Known, Proper, Unlisted, Parless, every, every_all, passing, TestLent, PassAsks, AskedOf, Answers, EachIs, AllEachIs}
 
 and_last : (t : Bool) → (t && true) ≡ t
-and_last true = refl
-and_last false = refl
+and_last t = and-true t
 
 -- Every node passes where the first does, and every node of its parts.
 pub every-parts : (f : Sort → Bool) (s : Sort) → every f s ≡ (f s && every_all f (parts_of s))

@@ -11,10 +11,7 @@ use record::kinds::SortKind;
 pub fn known(a: SortRecord) -> bool
     ensures { NodePasses Known a result }
 {
-    match a.kind {
-        SortKind::Par | SortKind::ParamBitVec => false,
-        _ => true,
-    }
+    !matches!(a.kind, SortKind::Par | SortKind::ParamBitVec)
 }
 
 // Whether it is no Par, Type, ParamBitVec or BitVec 0.

@@ -1,9 +1,9 @@
 // What is asked of sorts before matching: known (no Par, no ParamBitVec), proper (no Par, Type, ParamBitVec or BitVec 0),
 // unlisted (no listed name), and matching's premise. Each is a test of every node, with a table of the sorts found so.
-ghost use Rattle.std.specs.Prelude.{◌≡◌};
+ghost use Rattle.std.specs.Prelude.{◌≡◌, ◌<◌};
 ghost use Rattle.substitution.specs.Matching.{known};
 ghost use Rattle.substitution.specs.Premises.{proper};
-ghost use Rattle.matching_tables.specs.Words.{sort_in, OneIn};
+ghost use Rattle.matching_tables.specs.Words.{sort_in};
 ghost use Rattle.matching_each.specs.Words.{KnownSeen, UnlistedSeen, UnlistedAsked, UnlistedAnswered, PremiseAsked, PremiseAnswered};
 
 use super::each::each;
@@ -14,7 +14,7 @@ use store::entries::Sorts;
 
 // Whether the sort `k` has neither a Par nor a ParamBitVec in it.
 pub fn is_known(sorts: &Sorts<'_>, seen: &mut Seen, k: usize) -> bool
-    requires { OneIn sorts.now k × KnownSeen sorts.now seen.old }
+    requires { (k < sorts.now.count) × KnownSeen sorts.now seen.old }
     ensures { (result ≡ known (sort_in sorts.now k)) × KnownSeen sorts.now seen.new }
 {
     each(sorts, &known, seen, k)
@@ -22,7 +22,7 @@ pub fn is_known(sorts: &Sorts<'_>, seen: &mut Seen, k: usize) -> bool
 
 // Whether the sort `k` has no Par, Type, ParamBitVec or BitVec 0 in it. A sort without parts is tested by its entry, with no walk.
 pub fn is_proper(sorts: &Sorts<'_>, k: usize) -> bool
-    requires { OneIn sorts.now k }
+    requires { k < sorts.now.count }
     ensures { result ≡ proper (sort_in sorts.now k) }
 {
     let a = sorts.entry(k);

@@ -1,7 +1,7 @@
 -- The loops over names: what is done and what is left make the whole.
 use Prim.Native.Nat.{ℕ, zero, suc, ◌+◌, ◌-◌, ◌≤◌, ◌<◌}
 use mathlib.Core.Path.{◌≡◌, refl, sym, ap, subst, ◌∙◌}
-use mathlib.Core.Bool.{Bool, true, false, ◌&&◌}
+use mathlib.Core.Bool.{Bool, true, false, ◌&&◌, and-false}
 use mathlib.Core.List.{List, [], ◌∷◌}
 use native.Mathlib.Omega.{arith}
 use native.Mathlib.Decide.{ℕ_discrete}
@@ -21,10 +21,6 @@ use Rattle.substitution.specs.MatchWith.{all_members}
 use Rattle.matching_tables.specs.Tables.{times, Lists, Added}
 use Rattle.matching_tables.specs.Contract.{none_of}
 use Rattle.matching_tables.specs.TableLaws.{times-first, times-other, listed-is, listed-some, listed-none}
-
-and-false : (b : Bool) → (b && false) ≡ false
-and-false true = refl
-and-false false = refl
 
 -- Names that are left, of which v is the first.
 module _ {rest : List ℕ} {v : ℕ} {rest' : List ℕ} (e : rest ≡ v ∷ rest') where

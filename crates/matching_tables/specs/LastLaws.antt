@@ -1,8 +1,9 @@
 -- A list of parts by all but its last and the last: the sorts, their sizes, what a walk asks, and the answers of the two
 -- definitions that go along two lists (`compatible-last`, `matches-last`).
-use Rattle.std.specs.Prelude.{ℕ, zero, suc, ◌+◌, ◌*◌, ◌-◌, ◌<◌, ◌≡◌, refl, Bool, true, false, ◌&&◌, List, get_or}
+use Rattle.std.specs.Prelude.{ℕ, zero, suc, ◌+◌, ◌*◌, ◌-◌, ◌<◌, ◌≡◌, refl, Bool, true, ◌&&◌, List, get_or}
 use Rattle.std.proofs.Common.{sym, subst, ◌∙◌, arith}
 use Rattle.std.proofs.Math.Path.{ap}
+use mathlib.Core.Bool.{and-true, and_assoc}
 use Rattle.std.proofs.Math.Option.{Option, none, some}
 use Rattle.record.specs.Number.{u16_at, numbers_at}
 use Rattle.record.specs.Sort.{Sort, Sorts, end, ◌then◌, count, size, sizes}
@@ -26,12 +27,10 @@ sizes-joined end t = omega arith
 sizes-joined (s then ss) t = omega (arith, sizes-joined ss t)
 
 pub and_one : (a : Bool) → (a && true) ≡ a
-and_one true = refl
-and_one false = refl
+and_one a = and-true a
 
 and-more : (a b c : Bool) → (a && (b && c)) ≡ ((a && b) && c)
-and-more true b c = refl
-and-more false b c = refl
+and-more a b c = sym (and_assoc a b c)
 
 compatible-joined : (ps ts : Sorts) (p t : Sort) → count ps ≡ count ts → compatible_all (joined ps p) (joined ts t) ≡ (compatible_all ps ts && compatible p t)
 unfolding compatible count joined

@@ -84,7 +84,7 @@ impl Names<'_> {
         requires { name < length self.now.images.now }
         ensures { LookIs self.now.images.now name (entry_of result) }
     {
-        (self.images[name] as usize).checked_sub(1)
+        usize::from(self.images[name]).checked_sub(1)
     }
 
     // Binds an unbound name to the sort `target`, behind the names bound before.

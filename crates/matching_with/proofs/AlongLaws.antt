@@ -1,9 +1,10 @@
 -- match_with along two lists, in a loop: what is found for the pairs behind, and the pairs left, make the whole.
 use Prim.Native.Nat.{ℕ, ◌+◌, ◌≤◌, ◌<◌}
-use mathlib.Core.Path.{◌≡◌, refl, sym, ap, subst, ◌∙◌}
+use mathlib.Core.Path.{◌≡◌, sym, ap, subst, ◌∙◌}
 use mathlib.Core.List.{List, [], ◌∷◌}
 use native.Mathlib.Omega.{arith}
 use lib.ListN.{length}
+use Rattle.std.proofs.lemmas.List.{nil_from_length}
 use Rattle.record.specs.Sort.{size, sizes}
 use Rattle.record.specs.Record.{sorts_of}
 use Rattle.record.specs.Decode.{store_of, sort_at}
@@ -23,10 +24,6 @@ pub record Along (b p : List ℕ) (n : ℕ) (prm imgs bnd : List ℕ) (m : ℕ) 
   pub less : sizes (sorts_of (store_of b p n) ks₁) + sizes (sorts_of (store_of b p n) js₁) ≤ sizes (sorts_of (store_of b p n) ks) + sizes (sorts_of (store_of b p n) js)
   pub whole : (ns : List ℕ) → Lists prm ns → ListsWith b p n imgs₁ bnd₁ m₁ ks₁ js₁ ns ≡ ListsWith b p n imgs bnd m ks js ns
 
-empty : (l : List ℕ) → length l ≡ 0 → l ≡ []
-empty [] h = refl
-empty (a ∷ l) h = absurd (omega arith)
-
 module _ {b p : List ℕ} {n : ℕ} {prm imgs bnd : List ℕ} {m : ℕ} {ks js prm₁ imgs₁ bnd₁ l₁ : List ℕ} {m₁ : ℕ} {ks₁ js₁ : List ℕ} (a : Along b p n prm imgs bnd m ks js prm₁ imgs₁ bnd₁ l₁ m₁ ks₁ js₁) where
   -- What is found for the pairs left is found for all.
   along-found : {prm₂ imgs₂ bnd₂ : List ℕ} {q : Matched} → WithIs b p n prm₁ prm₂ imgs₂ bnd₂ q (ListsWith b p n imgs₁ bnd₁ m₁ ks₁ js₁)
@@ -43,10 +40,10 @@ module _ {b p : List ℕ} {n : ℕ} {prm imgs bnd : List ℕ} {m : ℕ} {ks js p
 
   -- Where one list ends, so does the other.
   pub along-end : ks₁ ≡ [] → WithIs b p n prm prm₁ imgs₁ bnd₁ (Fits m₁) (ListsWith b p n imgs bnd m ks js)
-  along-end e = both-end e (empty js₁ (a.asks.lists.even ∙ ap length e))
+  along-end e = both-end e (nil_from_length js₁ (a.asks.lists.even ∙ ap length e))
 
   pub along-ended : js₁ ≡ [] → WithIs b p n prm prm₁ imgs₁ bnd₁ (Fits m₁) (ListsWith b p n imgs bnd m ks js)
-  along-ended e = both-end (empty ks₁ (sym a.asks.lists.even ∙ ap length e)) e
+  along-ended e = both-end (nil_from_length ks₁ (sym a.asks.lists.even ∙ ap length e)) e
 
   module _ {k j : ℕ} {ks' js' : List ℕ} (ek : ks₁ ≡ k ∷ ks') (ej : js₁ ≡ j ∷ js') where
     pub along-first : WithAsks b p n prm₁ imgs₁ bnd₁ m₁ k j

@@ -8,6 +8,7 @@ use native.Mathlib.Omega.{arith}
 use lib.ListN.{length}
 use lib.Dec.{eqb}
 use borrow.Author.Tests.{eq-eqb}
+use Rattle.std.proofs.lemmas.List.{nil_from_length}
 use Rattle.record.specs.Kinds.{sort_number}
 use Rattle.record.specs.Cases.{false-second, positive}
 use Rattle.record.specs.Number.{u16_at, numbers_at}
@@ -28,10 +29,6 @@ use Rattle.matching_with.specs.declared.compatible.Compared.TheVariants.{Parts}
 use Rattle.matching_tables.specs.Entered.{sorts-end, entry-var, entry-par, entry-node, entry-body, head-same}
 use Rattle.matching_tables.specs.WalkLaws.{left_body, right-body, both-parts, both-fall, head-differs, lists-ask, below-first, below-rest}
 use Rattle.matching_tables.specs.LastLaws.{sizes-last, pair-last, pairs-others, compatible-last}
-
-empty : (l : List ℕ) → length l ≡ 0 → l ≡ []
-empty [] h = refl
-empty (a ∷ l) h = absurd (omega arith)
 
 -- The first number of a list.
 pub at-start : (b : List ℕ) (x : ℕ) {i : ℕ} → i ≡ u16_at b (x + 2 * 0) → i ≡ u16_at b x
@@ -64,10 +61,10 @@ module _ {b p : List ℕ} {n : ℕ} {ks₀ js₀ l ks js : List ℕ} (v : FitsIn
 
   -- Where one list ends, so does the other.
   pub fits-end : ks ≡ [] → true ≡ compatible_all (sorts_of (store_of b p n) ks₀) (sorts_of (store_of b p n) js₀)
-  fits-end e = both-end e (empty js (v.asks.even ∙ ap length e))
+  fits-end e = both-end e (nil_from_length js (v.asks.even ∙ ap length e))
 
   pub fits-ended : js ≡ [] → true ≡ compatible_all (sorts_of (store_of b p n) ks₀) (sorts_of (store_of b p n) js₀)
-  fits-ended e = both-end (empty ks (sym v.asks.even ∙ ap length e)) e
+  fits-ended e = both-end (nil_from_length ks (sym v.asks.even ∙ ap length e)) e
 
   module _ {k j : ℕ} {ks' js' : List ℕ} (ek : ks ≡ k ∷ ks') (ej : js ≡ j ∷ js') where
     lists : ListsAsk b p n (k ∷ ks') (j ∷ js')
@@ -113,7 +110,7 @@ module _ {b p : List ℕ} {n : ℕ} {ks₀ js₀ l ks js : List ℕ} (v : FitsIn
           }
 
 ---------------------------------------------------------------- two sorts by their entries
-module _ {b p : List ℕ} {n k j : ℕ} (a : PairAsks b p n k j) (r : SortRecord) (e : EntryHas b p k r) where
+module _ {b p : List ℕ} {n k j : ℕ} (a : PairAsks b p n k j) {r : SortRecord} (e : EntryHas b p k r) where
   pub fit-var : sort_number r.kind ≡ 2 → true ≡ compatible (sort_at b p n k) (sort_at b p n j)
   fit-var h = rw (entry-var b p n k a.usable a.left r e h) (sym (compatible-var r.name (sort_at b p n j)))
 
@@ -129,7 +126,7 @@ module _ {b p : List ℕ} {n k j : ℕ} (a : PairAsks b p n k j) (r : SortRecord
             ∙ sym (ap (λ (z : Sort). compatible z (sort_at b p n j)) (entry-par b p n k a.usable a.left r e h));
       })
 
-  module _ (q : SortRecord) (f : EntryHas b p j q) where
+  module _ {q : SortRecord} (f : EntryHas b p j q) where
     pub fit-to-var : sort_number q.kind ≡ 2 → true ≡ compatible (sort_at b p n k) (sort_at b p n j)
     fit-to-var h = rw (entry-var b p n j a.usable a.right q f h) (sym (compatible-to-var (sort_at b p n k) q.name))
 
@@ -145,44 +142,54 @@ module _ {b p : List ℕ} {n k j : ℕ} (a : PairAsks b p n k j) (r : SortRecord
               ∙ sym (ap (compatible (sort_at b p n k)) (entry-par b p n j a.usable a.right q f h));
         })
 
-    module _ (k2 : sort_number r.kind ≡ 2 → ⊥) (k12 : sort_number r.kind ≡ 12 → ⊥) (j2 : sort_number q.kind ≡ 2 → ⊥) (j12 : sort_number q.kind ≡ 12 → ⊥) {c : Bool} (g : c ≡ param_eq (sort_at b p n k) (sort_at b p n j)) where
-      -- Two nodes: param_eq, or field by field.
-      nodes : (c || eqb (sort_number r.kind) (sort_number q.kind) && eqb r.name q.name && eqb r.number q.number && compatible_all (sorts_at b p n b r.parts.at r.parts.count) (sorts_at b p n b q.parts.at q.parts.count))
-          ≡ compatible (sort_at b p n k) (sort_at b p n j)
-      unfolding compatible
-      nodes =
-          rw (g, entry-node b p n k a.usable a.left r e k2 k12, entry-node b p n j a.usable a.right q f j2 j12) refl
+-- Two nodes by their entries.
+pub record BothNodes (b p : List ℕ) (n k j : ℕ) (r q : SortRecord) : Type 0 where
+  pub pair : PairAsks b p n k j
+  pub left : EntryHas b p k r
+  pub right : EntryHas b p j q
+  pub left_var : sort_number r.kind ≡ 2 → ⊥
+  pub left_par : sort_number r.kind ≡ 12 → ⊥
+  pub right_var : sort_number q.kind ≡ 2 → ⊥
+  pub right_par : sort_number q.kind ≡ 12 → ⊥
 
-      pub fit-param : c ≡ true → true ≡ compatible (sort_at b p n k) (sort_at b p n j)
-      fit-param h = sym (rw h refl) ∙ nodes
+-- By param_eq, or field by field.
+module _ {b p : List ℕ} {n k j : ℕ} {r q : SortRecord} (v : BothNodes b p n k j r q) {c : Bool} (g : c ≡ param_eq (sort_at b p n k) (sort_at b p n j)) where
+  nodes : (c || eqb (sort_number r.kind) (sort_number q.kind) && eqb r.name q.name && eqb r.number q.number && compatible_all (sorts_at b p n b r.parts.at r.parts.count) (sorts_at b p n b q.parts.at q.parts.count))
+      ≡ compatible (sort_at b p n k) (sort_at b p n j)
+  unfolding compatible
+  nodes =
+      rw (g, entry-node b p n k v.pair.usable v.pair.left r v.left v.left_var v.left_par, entry-node b p n j v.pair.usable v.pair.right q v.right v.right_var v.right_par) refl
 
-      inside : c ≡ false → same_head r q ≡ true → compatible_all (sorts_at b p n b r.parts.at r.parts.count) (sorts_at b p n b q.parts.at r.parts.count)
-          ≡ compatible (sort_at b p n k) (sort_at b p n j)
-      inside h s =
-          let i = head-same r q s in
-          sym (rw (h, eq-eqb (sort_number r.kind) (sort_number q.kind) i.0, eq-eqb r.name q.name i.1, eq-eqb r.number q.number i.2, i.3) refl) ∙ nodes
+  pub fit-param : c ≡ true → true ≡ compatible (sort_at b p n k) (sort_at b p n j)
+  fit-param h = sym (rw h refl) ∙ nodes
 
-      pub fit-bare : c ≡ false → same_head r q ≡ true → r.parts.count ≡ 0 → true ≡ compatible (sort_at b p n k) (sort_at b p n j)
-      fit-bare h s z = fit_none b p n r.parts.at q.parts.at z ∙ inside h s
+  inside : c ≡ false → same_head r q ≡ true → compatible_all (sorts_at b p n b r.parts.at r.parts.count) (sorts_at b p n b q.parts.at r.parts.count)
+      ≡ compatible (sort_at b p n k) (sort_at b p n j)
+  inside h s =
+      let i = head-same r q s in
+      sym (rw (h, eq-eqb (sort_number r.kind) (sort_number q.kind) i.0, eq-eqb r.name q.name i.1, eq-eqb r.number q.number i.2, i.3) refl) ∙ nodes
 
-      pub fit-node : c ≡ false → same_head r q ≡ true → (r.parts.count ≡ 0 → ⊥) → FitParts b p n k j r.parts.at q.parts.at r.parts.count
-      fit-node h s z =
-          record {
-            some = positive r.parts.count z;
-            asks = both-parts a r q e f s;
-            falls = omega (arith, both-fall a r q e f s);
-            whole = inside h s;
-          }
+  pub fit-bare : c ≡ false → same_head r q ≡ true → r.parts.count ≡ 0 → true ≡ compatible (sort_at b p n k) (sort_at b p n j)
+  fit-bare h s z = fit_none b p n r.parts.at q.parts.at z ∙ inside h s
 
-      pub fit-both : c ≡ false → same_head r q ≡ true → (r.parts.count ≡ 0 → ⊥) → CompatibleIs b p n k j (Parts r.parts q.parts)
-      fit-both h s z = (fit-node h s z, sym (head-same r q s).3)
+  pub fit-node : c ≡ false → same_head r q ≡ true → (r.parts.count ≡ 0 → ⊥) → FitParts b p n k j r.parts.at q.parts.at r.parts.count
+  fit-node h s z =
+      record {
+        some = positive r.parts.count z;
+        asks = both-parts v.pair r q v.left v.right s;
+        falls = omega (arith, both-fall v.pair r q v.left v.right s);
+        whole = inside h s;
+      }
 
-      pub fit-other : c ≡ false → same_head r q ≡ false → false ≡ compatible (sort_at b p n k) (sort_at b p n j)
-      fit-other h s =
-          head-differs b p n r q s
-          (λ w. sym (rw (h, w) refl) ∙ nodes)
-          (λ d. sym (rw (h, uneven (sorts_at b p n b r.parts.at r.parts.count) (sorts_at b p n b q.parts.at q.parts.count) d)
-          (false-second (eqb (sort_number r.kind) (sort_number q.kind) && eqb r.name q.name && eqb r.number q.number) false refl)) ∙ nodes)
+  pub fit-both : c ≡ false → same_head r q ≡ true → (r.parts.count ≡ 0 → ⊥) → CompatibleIs b p n k j (Parts r.parts q.parts)
+  fit-both h s z = (fit-node h s z, sym (head-same r q s).3)
+
+  pub fit-other : c ≡ false → same_head r q ≡ false → false ≡ compatible (sort_at b p n k) (sort_at b p n j)
+  fit-other h s =
+      head-differs b p n r q s
+      (λ w. sym (rw (h, w) refl) ∙ nodes)
+      (λ d. sym (rw (h, uneven (sorts_at b p n b r.parts.at r.parts.count) (sorts_at b p n b q.parts.at q.parts.count) d)
+      (false-second (eqb (sort_number r.kind) (sort_number q.kind) && eqb r.name q.name && eqb r.number q.number) false refl)) ∙ nodes)
 
 ---------------------------------------------------------------- the walk
 -- THE LOOP over two sorts, from k₀ and j₀ to k and j: their answer is the whole answer, and the table is right.

@@ -10,6 +10,7 @@ use borrow.Author.Tests.{ne_eqb}
 use Rattle.record.specs.Cases.{by_test}
 use Rattle.record.specs.Sort.{Sort, kind_of, same}
 use Rattle.record.specs.Decode.{store_of, sort_at}
+use Rattle.store.specs.Entry.{KindHas}
 use Rattle.substitution.specs.MatchWith.{param_eq}
 use Rattle.substitution.proofs.MatchWithLaws.{param-kind, vector-kind}
 use Rattle.matching_tables.specs.Matched.{Fits, Misfits, found}
@@ -33,10 +34,11 @@ module _ {b p : List ℕ} {n i j : ℕ} (a : PairAsks b p n i j) where
       param-by (sort_at b p n i) (sort_at b p n j) true
       (same_number b p n a.usable i j a.left a.right e) refl refl
 
-  module _ (d : i ≡ j → ⊥) {k l : ℕ} (ek : k ≡ kind_of (sort_at b p n i)) (el : l ≡ kind_of (sort_at b p n j)) where
+  module _ (d : i ≡ j → ⊥) {k l : ℕ} (hk : KindHas b p i k) (hl : KindHas b p j l) where
     other : vectors false k l ≡ param_eq (sort_at b p n i) (sort_at b p n j)
     other =
-        param-by (sort_at b p n i) (sort_at b p n j) false (other-number b p n a.usable i j a.left a.right d) ek el
+        param-by (sort_at b p n i) (sort_at b p n j) false (other-number b p n a.usable i j a.left a.right d)
+        (hk n a.usable.stored a.left) (hl n a.usable.stored a.right)
 
     pub param-vector : k ≡ 10 → l ≡ 9 → true ≡ param_eq (sort_at b p n i) (sort_at b p n j)
     param-vector e f = sym (rw (e, f) refl) ∙ other

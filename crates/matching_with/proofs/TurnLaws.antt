@@ -25,7 +25,7 @@ use Rattle.matching_tables.specs.Tables.{Lists}
 use Rattle.matching_tables.specs.TableLaws.{listed-is, listed-some, listed-none}
 use Rattle.matching_tables.specs.Usable.{sorts_at, same_head, PairAsks}
 use Rattle.matching_tables.specs.Contract.{AllListed}
-use Rattle.matching_with.specs.Contract.{TurnIs, Meeting, Opened, Passed, Parted}
+use Rattle.matching_with.specs.Contract.{NodeAsks, TurnIs, Meeting, Opened, Passed, Parted}
 use Rattle.matching_tables.specs.Entered.{other-number, entry-var, entry-par, entry-node, entry-name, entry-names, entry-once, entry-own, entry-size, entry-body, head-same}
 use Rattle.matching_tables.specs.WalkLaws.{both-parts, both-fall, head-differs}
 use Rattle.substitution.proofs.MatchingLaws.{keep-none, and_none}
@@ -43,7 +43,7 @@ module _ {b p : List ℕ} {n : ℕ} (prm : List ℕ) {k j : ℕ} (a : PairAsks b
   turn-equal e ns l m =
       sym (match_with-equal ns (sort_at b p n k) m) ∙ ap (λ (i : ℕ). match_with ns (sort_at b p n k) (sort_at b p n i) m) e
 
-  module _ (d : k ≡ j → ⊥) (r : SortRecord) (e : EntryHas b p k r) where
+  module _ (d : k ≡ j → ⊥) {r : SortRecord} (e : EntryHas b p k r) where
     -- Different sorts go by the arms.
     arms : (ns : List ℕ) (m : Map) → match_arms ns (sort_at b p n k) (sort_at b p n j) m ≡ match_with ns (sort_at b p n k) (sort_at b p n j) m
     arms ns m =
@@ -85,97 +85,103 @@ module _ {b p : List ℕ} {n : ℕ} (prm : List ℕ) {k j : ℕ} (a : PairAsks b
               ∙ from (par (numbers_at b r.names.at r.names.count) (sort_at b p n (u16_at b r.parts.at))) (entry-par b p n k a.usable a.left r e h) ns m;
         }
 
-    ---------------------------------------------------------------- a node
-    module _ (k2 : sort_number r.kind ≡ 2 → ⊥) (k12 : sort_number r.kind ≡ 12 → ⊥) (q : SortRecord) (f : EntryHas b p j q) where
-      N : Sort
-      N = node (sort_number r.kind) r.name r.number (sorts_at b p n b r.parts.at r.parts.count)
+---------------------------------------------------------------- a node
+module _ {b p : List ℕ} {n : ℕ} {prm : List ℕ} {k j : ℕ} {r : SortRecord} (asks : NodeAsks b p n prm r k j) {q : SortRecord} (f : EntryHas b p j q) where
+  a : PairAsks b p n k j
+  a = asks.turn.pair
 
-      is_n : sort_at b p n k ≡ N
-      unfolding N
-      is_n = entry-node b p n k a.usable a.left r e k2 k12
+  e : EntryHas b p k r
+  e = asks.entry
 
-      -- The same with the target by its entry.
-      to : (t : Sort) → sort_at b p n j ≡ t → (ns : List ℕ) (m : Map) → match_arms ns N t m ≡ match_with ns (sort_at b p n k) (sort_at b p n j) m
-      to t z ns m = sym (ap (λ (i : Sort). match_arms ns N i m) z) ∙ from N is_n ns m
+  N : Sort
+  N = node (sort_number r.kind) r.name r.number (sorts_at b p n b r.parts.at r.parts.count)
 
-      -- A Par of the target.
-      module _ (h : sort_number q.kind ≡ 12) (c : Bool) (g : AllListed prm b q.names.at q.names.count c) where
-        opened : {ns : List ℕ} → Lists prm ns → (m : Map) → keep c (match_with ns (sort_at b p n k) (sort_at b p n (u16_at b q.parts.at)) m) ≡ match_with ns (sort_at b p n k) (sort_at b p n j) m
-        unfolding N
-        opened {ns} l m =
-            ap₂ (λ (t : Bool) (z : Sort). keep t (match_with ns z (sort_at b p n (u16_at b q.parts.at)) m)) (g ns l) is_n
-            ∙ to (par (numbers_at b q.names.at q.names.count) (sort_at b p n (u16_at b q.parts.at))) (entry-par b p n j a.usable a.right q f h) ns m
+  is_n : sort_at b p n k ≡ N
+  unfolding N
+  is_n = entry-node b p n k a.usable a.left r e asks.no_var asks.no_par
 
-        pub turn-shut : c ≡ false → TurnIs b p n prm k j Fails
-        turn-shut z ns l m = sym (rw z refl) ∙ opened l m
+  -- The same with the target by its entry.
+  to : (t : Sort) → sort_at b p n j ≡ t → (ns : List ℕ) (m : Map) → match_arms ns N t m ≡ match_with ns (sort_at b p n k) (sort_at b p n j) m
+  to t z ns m = sym (ap (λ (i : Sort). match_arms ns N i m) z) ∙ from prm a asks.differ e N is_n ns m
 
-        pub turn-through : c ≡ true → {i : ℕ} → i ≡ u16_at b q.parts.at → Passed b p n prm k j i
-        turn-through z {i} ei =
-            let o = entry-body b p n j a.usable a.right q f h in
-            record {
-              below = omega (arith, o.0);
-              falls = o.1 ∙ ap (λ (v : ℕ). 1 + size (sort_at b p n v)) (sym ei);
-              whole = λ ns l m.
-                  ap (λ (v : ℕ). match_with ns (sort_at b p n k) (sort_at b p n v) m) ei
-                  ∙ sym (rw z refl) ∙ opened l m;
-            }
+  -- A Par of the target.
+  module _ (h : sort_number q.kind ≡ 12) {c : Bool} (g : AllListed prm b q.names.at q.names.count c) where
+    opened : {ns : List ℕ} → Lists prm ns → (m : Map) → keep c (match_with ns (sort_at b p n k) (sort_at b p n (u16_at b q.parts.at)) m) ≡ match_with ns (sort_at b p n k) (sort_at b p n j) m
+    unfolding N
+    opened {ns} l m =
+        ap₂ (λ (t : Bool) (z : Sort). keep t (match_with ns z (sort_at b p n (u16_at b q.parts.at)) m)) (g ns l) is_n
+        ∙ to (par (numbers_at b q.names.at q.names.count) (sort_at b p n (u16_at b q.parts.at))) (entry-par b p n j a.usable a.right q f h) ns m
 
-      -- A target that is a node, with the test of kinds made.
-      nodes : (y : sort_number q.kind ≡ 2 → ⊥) (z : sort_number q.kind ≡ 12 → ⊥) (t : Bool) → eqb (sort_number r.kind) (sort_number q.kind) ≡ t → (ns : List ℕ) (m : Map)
-          → cond t (keep (eqb r.name q.name && eqb r.number q.number)
-          (match_all_with ns (sorts_at b p n b r.parts.at r.parts.count) (sorts_at b p n b q.parts.at q.parts.count) m))
-          (keep (param_eq (sort_at b p n k) (sort_at b p n j)) (some m))
-          ≡ match_with ns (sort_at b p n k) (sort_at b p n j) m
-      unfolding N
-      nodes y z t w ns m =
-          let v = entry-node b p n j a.usable a.right q f y z in
-          ap₂ (λ (t u : Bool). cond t (keep (eqb r.name q.name && eqb r.number q.number)
-          (match_all_with ns (sorts_at b p n b r.parts.at r.parts.count) (sorts_at b p n b q.parts.at q.parts.count) m)) (keep u (some m)))
-          (sym w) (ap₂ param_eq is_n v)
-          ∙ to (node (sort_number q.kind) q.name q.number (sorts_at b p n b q.parts.at q.parts.count)) v ns m
+    pub turn-shut : c ≡ false → TurnIs b p n prm k j Fails
+    turn-shut z ns l m = sym (rw z refl) ∙ opened l m
 
-      -- A target of another kind is decided by param_eq.
-      module _ (j12 : sort_number q.kind ≡ 12 → ⊥) (o : sort_number r.kind ≡ sort_number q.kind → ⊥) {c : Bool} (g : c ≡ param_eq (sort_at b p n k) (sort_at b p n j)) where
-        decided : (ns : List ℕ) (m : Map) → Which (sort_number q.kind) → keep c (some m) ≡ match_with ns (sort_at b p n k) (sort_at b p n j) m
-        unfolding N
-        decided ns m (is_par y) = absurd (j12 y)
-        decided ns m (is_var y) =
-            let v = entry-var b p n j a.usable a.right q f y in
-            ap (λ (t : Bool). keep t (some m)) (g ∙ ap₂ param_eq is_n v) ∙ to (var q.name) v ns m
-        decided ns m (is_node y z) = ap (λ (t : Bool). keep t (some m)) g ∙ nodes y z false (ne_eqb (sort_number r.kind) (sort_number q.kind) o) ns m
+    pub turn-through : c ≡ true → {i : ℕ} → i ≡ u16_at b q.parts.at → Passed b p n prm k j i
+    turn-through z {i} ei =
+        let o = entry-body b p n j a.usable a.right q f h in
+        record {
+          below = omega (arith, o.0);
+          falls = o.1 ∙ ap (λ (v : ℕ). 1 + size (sort_at b p n v)) (sym ei);
+          whole = λ ns l m.
+              ap (λ (v : ℕ). match_with ns (sort_at b p n k) (sort_at b p n v) m) ei
+              ∙ sym (rw z refl) ∙ opened l m;
+        }
 
-        pub turn-param : c ≡ true → TurnIs b p n prm k j Holds
-        turn-param z ns l m = sym (rw z refl) ∙ decided ns m (which (sort_number q.kind))
+  -- A target that is a node, with the test of kinds made.
+  nodes : (y : sort_number q.kind ≡ 2 → ⊥) (z : sort_number q.kind ≡ 12 → ⊥) (t : Bool) → eqb (sort_number r.kind) (sort_number q.kind) ≡ t → (ns : List ℕ) (m : Map)
+      → cond t (keep (eqb r.name q.name && eqb r.number q.number)
+      (match_all_with ns (sorts_at b p n b r.parts.at r.parts.count) (sorts_at b p n b q.parts.at q.parts.count) m))
+      (keep (param_eq (sort_at b p n k) (sort_at b p n j)) (some m))
+      ≡ match_with ns (sort_at b p n k) (sort_at b p n j) m
+  unfolding N
+  nodes y z t w ns m =
+      let v = entry-node b p n j a.usable a.right q f y z in
+      ap₂ (λ (t u : Bool). cond t (keep (eqb r.name q.name && eqb r.number q.number)
+      (match_all_with ns (sorts_at b p n b r.parts.at r.parts.count) (sorts_at b p n b q.parts.at q.parts.count) m)) (keep u (some m)))
+      (sym w) (ap₂ param_eq is_n v)
+      ∙ to (node (sort_number q.kind) q.name q.number (sorts_at b p n b q.parts.at q.parts.count)) v ns m
 
-        pub turn-kinds : c ≡ false → TurnIs b p n prm k j Fails
-        turn-kinds z ns l m = sym (rw z refl) ∙ decided ns m (which (sort_number q.kind))
+  -- A target of another kind is decided by param_eq.
+  module _ (j12 : sort_number q.kind ≡ 12 → ⊥) (o : sort_number r.kind ≡ sort_number q.kind → ⊥) {c : Bool} (g : c ≡ param_eq (sort_at b p n k) (sort_at b p n j)) where
+    decided : (ns : List ℕ) (m : Map) → Which (sort_number q.kind) → keep c (some m) ≡ match_with ns (sort_at b p n k) (sort_at b p n j) m
+    unfolding N
+    decided ns m (is_par y) = absurd (j12 y)
+    decided ns m (is_var y) =
+        let v = entry-var b p n j a.usable a.right q f y in
+        ap (λ (t : Bool). keep t (some m)) (g ∙ ap₂ param_eq is_n v) ∙ to (var q.name) v ns m
+    decided ns m (is_node y z) = ap (λ (t : Bool). keep t (some m)) g ∙ nodes y z false (ne_eqb (sort_number r.kind) (sort_number q.kind) o) ns m
 
-      -- A target of the same kind is a node: field by field, then the parts.
-      module _ (o : sort_number r.kind ≡ sort_number q.kind) where
-        fields : (ns : List ℕ) (m : Map) → keep (eqb r.name q.name && eqb r.number q.number)
-            (match_all_with ns (sorts_at b p n b r.parts.at r.parts.count) (sorts_at b p n b q.parts.at q.parts.count) m) ≡ match_with ns (sort_at b p n k) (sort_at b p n j) m
-        fields ns m = nodes (λ y. k2 (o ∙ y)) (λ y. k12 (o ∙ y)) true (eq-eqb (sort_number r.kind) (sort_number q.kind) o) ns m
+    pub turn-param : c ≡ true → TurnIs b p n prm k j Holds
+    turn-param z ns l m = sym (rw z refl) ∙ decided ns m (which (sort_number q.kind))
 
-        pub turn-other : same_head r q ≡ false → TurnIs b p n prm k j Fails
-        turn-other s ns l m =
-            head-differs b p n r q s
-            (λ w. let z : (eqb r.name q.name && eqb r.number q.number) ≡ false = rw (eq-eqb (sort_number r.kind) (sort_number q.kind) o) at w in
-            sym (rw z refl) ∙ fields ns m)
-            (λ y. sym (rw (uneven ns (sorts_at b p n b r.parts.at r.parts.count) (sorts_at b p n b q.parts.at q.parts.count) m y)
-            (keep-none (eqb r.name q.name && eqb r.number q.number))) ∙ fields ns m)
+    pub turn-kinds : c ≡ false → TurnIs b p n prm k j Fails
+    turn-kinds z ns l m = sym (rw z refl) ∙ decided ns m (which (sort_number q.kind))
 
-        pub turn-parts : same_head r q ≡ true → Parted b p n k j r.parts.at q.parts.at r.parts.count
-        unfolding N
-        turn-parts s =
-            let i = head-same r q s in
-            record {
-              pairs = both-parts a r q e f s;
-              names = ap names_of is_n;
-              parts = ap parts_of is_n;
-              less = omega (arith, entry-size b p n k a.usable a.left r e);
-              falls = both-fall a r q e f s;
-              whole = λ ns m. sym (rw (eq-eqb r.name q.name i.1, eq-eqb r.number q.number i.2, ← i.3) refl) ∙ fields ns m;
-            }
+  -- A target of the same kind is a node: field by field, then the parts.
+  module _ (o : sort_number r.kind ≡ sort_number q.kind) where
+    fields : (ns : List ℕ) (m : Map) → keep (eqb r.name q.name && eqb r.number q.number)
+        (match_all_with ns (sorts_at b p n b r.parts.at r.parts.count) (sorts_at b p n b q.parts.at q.parts.count) m) ≡ match_with ns (sort_at b p n k) (sort_at b p n j) m
+    fields ns m = nodes (λ y. asks.no_var (o ∙ y)) (λ y. asks.no_par (o ∙ y)) true (eq-eqb (sort_number r.kind) (sort_number q.kind) o) ns m
 
-        pub turn-both : same_head r q ≡ true → TurnIs b p n prm k j (Parts r.parts q.parts)
-        turn-both s = (turn-parts s, sym (head-same r q s).3)
+    pub turn-other : same_head r q ≡ false → TurnIs b p n prm k j Fails
+    turn-other s ns l m =
+        head-differs b p n r q s
+        (λ w. let z : (eqb r.name q.name && eqb r.number q.number) ≡ false = rw (eq-eqb (sort_number r.kind) (sort_number q.kind) o) at w in
+        sym (rw z refl) ∙ fields ns m)
+        (λ y. sym (rw (uneven ns (sorts_at b p n b r.parts.at r.parts.count) (sorts_at b p n b q.parts.at q.parts.count) m y)
+        (keep-none (eqb r.name q.name && eqb r.number q.number))) ∙ fields ns m)
+
+    pub turn-parts : same_head r q ≡ true → Parted b p n k j r.parts.at q.parts.at r.parts.count
+    unfolding N
+    turn-parts s =
+        let i = head-same r q s in
+        record {
+          pairs = both-parts a r q e f s;
+          names = ap names_of is_n;
+          parts = ap parts_of is_n;
+          less = omega (arith, entry-size b p n k a.usable a.left r e);
+          falls = both-fall a r q e f s;
+          whole = λ ns m. sym (rw (eq-eqb r.name q.name i.1, eq-eqb r.number q.number i.2, ← i.3) refl) ∙ fields ns m;
+        }
+
+    pub turn-both : same_head r q ≡ true → TurnIs b p n prm k j (Parts r.parts q.parts)
+    turn-both s = (turn-parts s, sym (head-same r q s).3)

@@ -92,7 +92,7 @@ added_then {prm} {us} {prm'} {ws} {prm''} a c =
     record { long = c.long ∙ a.long; each = λ v. omega (arith, a.each v, c.each v, times-append v us ws) }
 
 ---------------------------------------------------------------- a turn
-module _ {b p : List ℕ} {n : ℕ} {prm imgs bnd : List ℕ} {m k j : ℕ} (a : WithAsks b p n prm imgs bnd m k j) (l : List ℕ) (w : WithBefore b p n prm imgs bnd m l) where
+module _ {b p : List ℕ} {n : ℕ} {prm imgs bnd : List ℕ} {m k j : ℕ} (a : WithAsks b p n prm imgs bnd m k j) {l : List ℕ} (w : WithBefore b p n prm imgs bnd m l) where
   -- The parts but for the last, then the last.
   move-split : {x y c : ℕ} (d : ℕ) → c ≡ suc d → Parted b p n k j x y c → Split b p n prm imgs bnd m k j prm imgs bnd m l x y d
   move-split {x} {y} {c} d f o' =
@@ -123,17 +123,18 @@ module _ {b p : List ℕ} {n : ℕ} {prm imgs bnd : List ℕ} {m k j : ℕ} (a :
             ∙ o.whole ns (table_map (store_of b p n) imgs bnd m);
       }
 
-  module _ (z : Turn) (g : TurnIs b p n prm k j z) where
-    pub move-meets : (v : ℕ) → z ≡ Meets v → (imgs' bnd' : List ℕ) (m' : ℕ) (q : Bool) → MeetWithIs b p n imgs bnd m v j imgs' bnd' (found m' q)
+  -- By what is to be done.
+  module _ {z : Turn} where
+    pub move-meets : {v : ℕ} → z ≡ Meets v → TurnIs b p n prm k j z → (imgs' bnd' : List ℕ) (m' : ℕ) (q : Bool) → MeetWithIs b p n imgs bnd m v j imgs' bnd' (found m' q)
         → MoveIs b p n prm imgs bnd m k j prm imgs' bnd' m' l (Ends q)
-    move-meets v e imgs' bnd' m' q h =
+    move-meets {v} e g imgs' bnd' m' q h =
         let f = general-met a z g v e imgs' bnd' (found m' q) h in
         (f, with-same b p n prm imgs bnd m k j prm imgs' bnd' l (found m' q) w f)
 
-    pub move-under : (i : ℕ) (x : Span) → z ≡ Under i x → {prm' l' : List ℕ} → Added prm (numbers_at b x.at x.count) prm' → l' ≡ replicate 32 0
+    pub move-under : {i : ℕ} {x : Span} → z ≡ Under i x → TurnIs b p n prm k j z → {prm' l' : List ℕ} → Added prm (numbers_at b x.at x.count) prm' → l' ≡ replicate 32 0
         → MoveIs b p n prm imgs bnd m k j prm' imgs bnd m l' (Down i)
     unfolding count last_sort
-    move-under i x e {prm'} {l'} s f =
+    move-under {i} {x} e g {prm'} {l'} s f =
         let o = under a z g i x e in (
           record {
             added = subst (λ (us : List ℕ). Added prm us prm') (sym o.names) s;
@@ -150,8 +151,8 @@ module _ {b p : List ℕ} {n : ℕ} {prm imgs bnd : List ℕ} {m k j : ℕ} (a :
           },
         )
 
-    pub move-past : (i : ℕ) → z ≡ Past i → MoveIs b p n prm imgs bnd m k j prm imgs bnd m l (Through i)
-    move-past i e =
+    pub move-past : {i : ℕ} → z ≡ Past i → TurnIs b p n prm k j z → MoveIs b p n prm imgs bnd m k j prm imgs bnd m l (Through i)
+    move-past {i} e g =
         let o = through a z g i e in (
           record {
             added = added_none prm;
@@ -164,7 +165,7 @@ module _ {b p : List ℕ} {n : ℕ} {prm imgs bnd : List ℕ} {m k j : ℕ} (a :
           omega (arith, o.falls),
         )
 
-    module _ (x y : Span) (e : z ≡ Parts x y) where
+    module _ {x y : Span} (e : z ≡ Parts x y) (g : TurnIs b p n prm k j z) where
       pub move-empty : x.count ≡ 0 → MoveIs b p n prm imgs bnd m k j prm imgs bnd m l (Ends true)
       move-empty f = (general-empty a z g x y e f, w)
 

@@ -11,10 +11,10 @@ use borrow.Author.Tests.{eqb-true}
 use Rattle.record.specs.Cases.{by_test, by_option, none-some, some_inj, eqb-self}
 use Rattle.record.specs.Names.{member}
 use Rattle.record.specs.Sort.{Sort, Sorts, var, par, node, end, ◌then◌, same}
-use Rattle.record.specs.SortLaws.{same_refl}
 use Rattle.record.specs.Decode.{store_of, sort_at}
 use Rattle.substitution.specs.Substitution.{Map, bind, find}
 use Rattle.substitution.specs.Matching.{keep}
+use Rattle.substitution.proofs.CompatibleLaws.{param_eq-refl}
 use Rattle.substitution.proofs.MatchingLaws.{keep-test, keep-rest, and_then-middle}
 use Rattle.substitution.specs.MatchWith.{param_eq, meet_with, all_members, towards, match_with, match_all_with}
 use Rattle.matching_tables.specs.Matched.{Matched, Fits, Misfits}
@@ -26,10 +26,6 @@ use Rattle.matching_tables.specs.NoteLaws.{pairs-more, pairs-put}
 use Rattle.matching_tables.specs.Notes.{Holds}
 
 ---------------------------------------------------------------- the map found holds what was held before
-param-refl : (t : Sort) → param_eq t t ≡ true
-unfolding param_eq
-param-refl t = rw (same_refl t) refl
-
 meet-extends : (o : Option Sort) (v : ℕ) (t : Sort) (m m' : Map) → find m v ≡ o → meet_with o v t m ≡ some m' → Holds m m'
 unfolding find
 meet-extends none v t m m' q e u s f =
@@ -107,7 +103,7 @@ mutual
       (λ r. by_option (find m v)
       (λ f. let y : some (bind v t m) ≡ some m' = rw (q, r, f) at e in
       let z : find m' v ≡ some t = ap (λ (k : Map). find k v) (sym (some_inj y)) ∙ rw (eqb-self v) refl in
-      rw (q, r, g v t z, param-refl t) refl)
+      rw (q, r, g v t z, param_eq-refl t) refl)
       (λ s f. let y : keep (param_eq s t) (some m) ≡ some m' = rw (q, r, f) at e in
       let z : find m' v ≡ some s = ap (λ (k : Map). find k v) (sym (some_inj (keep-rest (param_eq s t) (some m) m' y))) ∙ f in
       rw (q, r, g v s z, keep-test (param_eq s t) (some m) m' y) refl))

@@ -1,12 +1,11 @@
 -- The words of the contracts over a store's sorts, the tables of names and noted pairs as they are passed; r says whether a pattern
 -- fits, and y are the names then.
-use Rattle.std.specs.Prelude.{ℕ, Bool, List}
+use Rattle.std.specs.Prelude.{ℕ, Bool}
 use Rattle.record.specs.Sort.{Sorts as SortList}
 use Rattle.record.specs.Record.{sorts_of}
 use Rattle.record.specs.Decode.{store_of}
 use Rattle.record.specs.Numbers.{numbers_left}
 use Rattle.record.specs.declared.SortRecord.{SortRecord}
-use Rattle.record.specs.declared.span.Span.{Span}
 use Rattle.record.specs.declared.numbers.Numbers.{Numbers}
 use Rattle.store.specs.declared.entries.Sorts.{Sorts}
 use Rattle.matching_tables.specs.Contract.{TestAsks}
@@ -16,7 +15,7 @@ use Rattle.matching_tables.specs.Usable.{ListsAsk}
 use Rattle.matching_tables.specs.declared.names.Names.{Names}
 use Rattle.matching_tables.specs.declared.notes.Met.{Met}
 use Rattle.matching_with.specs.Compared.{CompatibleIs}
-use Rattle.matching_with.specs.Contract.{MeetWithAsks, MeetWithIs, NodeAsks, TurnIs, WithAsks, WithAllAsks, WithListsAsk, WithIs, PairWith, PairsWith, ListsWith}
+use Rattle.matching_with.specs.Contract.{MeetWithAsks, MeetWithIs, NodeAsks, TurnIs, WithAsks, WithListsAsk, WithIs, PairWith, ListsWith}
 use Rattle.matching_with.specs.Met.{WithBefore, WithAfter, CompatibleAt}
 use Rattle.matching_with.specs.Way.{CloseAsks, CloseIs, MoveIs, WalkIs}
 use Rattle.matching_with.specs.declared.Turn.{Turn}
@@ -66,14 +65,6 @@ abbrev pub Closed : Sorts → Names → ℕ → ℕ → Names → Type 0
 Closed s x k i y = CloseIs s.records.now s.places.now s.count x.params.now k i y.params.now
 
 ---------------------------------------------------------------- two lists
-abbrev pub WithAllAsked : Sorts → Names → List ℕ → Span → List ℕ → Span → Type 0
-WithAllAsked s x bs u cs w = WithAllAsks s.records.now s.places.now s.count x.params.now x.images.now x.bound.now x.many bs u.at cs w.at u.count
-
-abbrev pub WithAllAnswered : Sorts → Names → List ℕ → Span → List ℕ → Span → Names → Bool → Type 0
-WithAllAnswered s x bs u cs w y r =
-    WithIs s.records.now s.places.now s.count x.params.now y.params.now y.images.now y.bound.now (found y.many r)
-    (PairsWith s.records.now s.places.now s.count x.images.now x.bound.now x.many bs u.at cs w.at u.count)
-
 abbrev pub ListsAsked : Sorts → Names → Numbers → Numbers → Type 0
 ListsAsked s x u w = WithListsAsk s.records.now s.places.now s.count x.params.now x.images.now x.bound.now x.many (numbers_left u) (numbers_left w)
 

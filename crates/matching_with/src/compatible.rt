@@ -1,10 +1,10 @@
 // Sort::is_compatible of src/ast/sort.rs, with Sort::param_eq. A walk notes in `met` which pairs of parts are compatible,
 // and goes down no pair that is noted there. It calls itself only for a part that is not the last of its list: with the
 // last part, and with the body of a Par, it goes on in a loop.
-ghost use Rattle.std.specs.Prelude.{◌≡◌};
+ghost use Rattle.std.specs.Prelude.{◌≡◌, ◌<◌};
 ghost use Rattle.substitution.specs.MatchWith.{param_eq};
 ghost use Rattle.substitution.specs.Compatible.{compatible, compatible_all};
-ghost use Rattle.matching_tables.specs.Words.{sort_in, PairIn};
+ghost use Rattle.matching_tables.specs.Words.{sort_in};
 ghost use Rattle.matching_with.specs.Words.{sorts_in, ListsIn, CompatibleMet, FitTaken};
 
 use matching_tables::heads::same_head;
@@ -29,7 +29,7 @@ pub enum Compared {
 
 // Sort::param_eq: two sorts are equal, or one is a ParamBitVec and the other a vector.
 pub fn param_eq(sorts: &Sorts<'_>, p: usize, t: usize) -> bool
-    requires { PairIn sorts.now p t }
+    requires { (p < sorts.now.count) × (t < sorts.now.count) }
     ensures { result ≡ param_eq (sort_in sorts.now p) (sort_in sorts.now t) }
 {
     if p == t {
@@ -46,7 +46,7 @@ pub fn param_eq(sorts: &Sorts<'_>, p: usize, t: usize) -> bool
 // Whether two sorts are compatible: a Var fits everything; a Par on the left is opened before one on the right; two
 // others fit by param_eq, or field by field.
 pub fn is_compatible(sorts: &Sorts<'_>, p: usize, t: usize) -> bool
-    requires { PairIn sorts.now p t }
+    requires { (p < sorts.now.count) × (t < sorts.now.count) }
     ensures { result ≡ compatible (sort_in sorts.now p) (sort_in sorts.now t) }
 {
     compatible_past(sorts, &mut Met::new(), p, t)
@@ -56,7 +56,7 @@ pub fn is_compatible(sorts: &Sorts<'_>, p: usize, t: usize) -> bool
 // and no parts. `Fails`: their heads differ. `On`: one is a Par, which is opened, on the left before the right. `Parts`: they
 // have the same head, and parts.
 pub fn next_fit(sorts: &Sorts<'_>, met: &Met, p: usize, t: usize) -> Compared
-    requires { PairIn sorts.now p t × CompatibleMet sorts.now met.now }
+    requires { (p < sorts.now.count) × (t < sorts.now.count) × CompatibleMet sorts.now met.now }
     ensures { FitTaken sorts.now p t result }
 {
     let a = sorts.entry(p);
@@ -91,7 +91,7 @@ pub fn next_fit(sorts: &Sorts<'_>, met: &Met, p: usize, t: usize) -> Compared
 // As `is_compatible`, past the pairs noted in `met`.
 #[cycle(compatible_past)]
 pub fn compatible_past(sorts: &Sorts<'_>, met: &mut Met, p: usize, t: usize) -> bool
-    requires { PairIn sorts.now p t × CompatibleMet sorts.now met.old }
+    requires { (p < sorts.now.count) × (t < sorts.now.count) × CompatibleMet sorts.now met.old }
     ensures answer { result ≡ compatible (sort_in sorts.now p) (sort_in sorts.now t) }
     ensures noted { CompatibleMet sorts.now met.new }
 {

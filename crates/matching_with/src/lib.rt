@@ -2,9 +2,8 @@
 // in a loop, so that only a part that is not the last of its list takes stack.
 #![tactic(auto)]
 
-ghost use Rattle.std.specs.Prelude.{◌≡◌};
 ghost use Rattle.matching_tables.specs.Names.{SameNames, SameParams, SameMap};
-ghost use Rattle.matching_with.specs.Words.{MeetWithAsked, MeetWithAnswered, TurnAsked, TurnTaken, NodeAsked, MoveTaken, CloseAsked, Closed, WithAsked, WithAnswered, WithRight, WithKept, WalkTaken, ListsAsked, ListsAnswered, WithAllAsked, WithAllAnswered};
+ghost use Rattle.matching_with.specs.Words.{MeetWithAsked, MeetWithAnswered, TurnAsked, TurnTaken, NodeAsked, MoveTaken, CloseAsked, Closed, WithAsked, WithAnswered, WithRight, WithKept, WalkTaken, ListsAsked, ListsAnswered};
 
 use compatible::param_eq;
 use matching_tables::heads::same_head;
@@ -252,27 +251,16 @@ pub fn all_with(
     true
 }
 
-// Whether each pattern whose number stands in the span `list` of `patterns` fits the target in its place in the span `other` of
-// `targets`, with one map for all. The names listed are as they were.
+// Whether each of the patterns fits the target in its place, with one map for all. The names listed are as they were.
 pub fn match_all_with(
     sorts: &Sorts<'_>,
     names: &mut Names<'_>,
-    patterns: &[u8],
-    list: Span,
-    targets: &[u8],
-    other: Span,
+    patterns: Numbers<'_>,
+    targets: Numbers<'_>,
 ) -> bool
-    requires asks { WithAllAsked sorts.now names.old patterns.now list targets.now other }
-    requires even { other.count ≡ list.count }
-    ensures answer { WithAllAnswered sorts.now names.old patterns.now list targets.now other names.new result }
+    requires { ListsAsked sorts.now names.old patterns targets }
+    ensures answer { ListsAnswered sorts.now names.old patterns.entry targets.entry names.new result }
     ensures same { SameNames names.old names.new }
 {
-    let mut met = Met::new();
-    all_with(
-        sorts,
-        names,
-        &mut met,
-        list.numbers(patterns),
-        other.numbers(targets),
-    )
+    all_with(sorts, names, &mut Met::new(), patterns, targets)
 }

@@ -17,7 +17,7 @@ use Rattle.page_lines.specs.RowLaws.{row-line-is}
 
 ---------------------------------------------------------------- what is asked
 -- The rows have their sizes in the table.
-pub heights-ask : {b p z rows : List ℕ} {t : ℕ} {stack one two : List ℕ} → PageAsks b p z rows t stack one two → HeightsAsk z rows t
+pub heights-ask : {b p z rows : List ℕ} {t : ℕ} → PageAsks b p z rows t → HeightsAsk z rows t
 heights-ask a =
     record {
       terms = a.judged.terms;
@@ -26,8 +26,8 @@ heights-ask a =
     }
 
 -- A row's text can be had in windows.
-pub window-asks : {b p z rows : List ℕ} {t : ℕ} {stack one two : List ℕ} (i n : ℕ) (d o : List ℕ) → PageAsks b p z rows t stack one two → i < 2 * t → n ≤ 1024
-    → length d ≡ length stack → window_room ≤ length o → RowWindowAsks b p z (get_or rows i 0) (36 * n) d o
+pub window-asks : {b p z rows : List ℕ} {t : ℕ} (i n : ℕ) (d o : List ℕ) → PageAsks b p z rows t → i < 2 * t → n ≤ 1024
+    → 4096 ≤ length d → window_room ≤ length o → RowWindowAsks b p z (get_or rows i 0) (36 * n) d o
 window-asks {b} {p} {rows = rows} i n d o a h few e r =
     let j = a.judged in
     record {
@@ -38,24 +38,10 @@ window-asks {b} {p} {rows = rows} i n d o a h few e r =
             known = j.row i h u;
             asks = text-asks b p a.many (get_or rows i 0) j.stored (j.row i h u) (j.small (get_or rows i 0) (j.row i h u));
             short = a.short;
-            deep = omega (arith, a.deep);
+            deep = e;
             fits = omega arith;
           };
       fits = omega arith;
-    }
-
--- The buffers may change, but for their lengths.
-pub page-asks : {b p z rows : List ℕ} {t : ℕ} {stack one two : List ℕ} (d f g : List ℕ) → PageAsks b p z rows t stack one two → length d ≡ length stack
-    → length f ≡ length one → length g ≡ length two → PageAsks b p z rows t d f g
-page-asks d f g a u v w =
-    record {
-      many = a.many;
-      judged = a.judged;
-      table = a.table;
-      short = a.short;
-      deep = omega (arith, a.deep);
-      first = omega (arith, a.first);
-      second = omega (arith, a.second);
     }
 
 ---------------------------------------------------------------- the steps
@@ -96,7 +82,7 @@ behind-on t row line high s h g u =
     (λ q. ap (λ (x : Spot). x.line) (g.next (ltb-false line high q)))
 
 module _ {b p z rows : List ℕ} {t row₀ line₀ : ℕ} {o : List ℕ} {row line : ℕ} {o₁ : List ℕ} {e : ℕ} (g : Going b p z rows t row₀ line₀ o row line o₁ e) (h : row < t)
-    {stack one two : List ℕ} (a : PageAsks b p z rows t stack one two) {high n : ℕ} (is : high ≡ height_in z rows row) (most : n ≤ high - line) {s : Spot}
+    (a : PageAsks b p z rows t) {high n : ℕ} (is : high ≡ height_in z rows row) (most : n ≤ high - line) {s : Spot}
     (on : GoneOn row (line + n) high s) where
   inside : line < high
   inside = omega (arith, g.spot.inside h)

@@ -35,7 +35,7 @@ padding-is n = refl
 pub spot-within : {z rows : List ℕ} {t n : ℕ} {s : Spot} → SpotIs z rows t n s → Within z rows t s.row s.line
 spot-within a = record { last = a.last; inside = a.inside }
 
-module _ {b p z rows : List ℕ} {t : ℕ} {stack one two : List ℕ} (a : PageAsks b p z rows t stack one two) {from : ℕ} {s : Spot} (at : SpotIs z rows t from s)
+module _ {b p z rows : List ℕ} {t : ℕ} (a : PageAsks b p z rows t) {from : ℕ} {s : Spot} (at : SpotIs z rows t from s)
     {o o₁ : List ℕ} {r : Reached} (g : ReachedIs b p z rows t s o o₁ r) where
   -- The number of the line that is reached, and of the end of all rows.
   abbrev next : ℕ

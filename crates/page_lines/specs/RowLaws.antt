@@ -1,8 +1,11 @@
 -- Laws of the rows: sizes and heights by the table are those of the texts; windows and their pieces; lines of a row in the pages.
 use Prim.Native.Nat.{ℕ, zero, suc, ◌+◌, ◌*◌, ◌-◌, ◌/◌, ◌≤◌, ◌<◌}
-use Rattle.std.specs.Prelude.{◌≡◌, length, get_or, take, drop, leb, ltb}
+use Rattle.std.specs.Prelude.{◌≡◌, length, get_or, take, drop, leb, ltb, Option, Some, None, unwrap_or}
+use Rattle.std.specs.Borrow.{Bor}
+use Rattle.std.specs.Slice.{IsGetRangeResult}
+use Rattle.std.proofs.lemmas.List.{drop-take}
 use Rattle.std.proofs.Math.Path.{refl, ap₂}
-use Rattle.std.proofs.Common.{sym, ap, subst, ◌∙◌, arith, add-one, length-append, drop_of_length-le, get_or-take, drop-drop, length-take-le, ltb-true, ltb-false}
+use Rattle.std.proofs.Common.{sym, ap, subst, ◌∙◌, arith, add-one, length-append, drop_of_length-le, get_or-take, drop-drop, length-drop, length-take-le, take_all, ltb-true, ltb-false}
 use mathlib.Core.List.{List, [], ◌++◌, append-nil}
 use native.Mathlib.Decide.{dec_lt}
 use Rattle.record.specs.Sort.{Sort}
@@ -23,12 +26,11 @@ use Rattle.page.proofs.NumberedLaws.{page-row}
 use Rattle.page_window.specs.declared.Window.{Window}
 use Rattle.page_lines.specs.Heights.{length_by, height_by, height_in}
 use Rattle.page_lines.specs.HeightLaws.{length-sort, length-refused}
-use Rattle.page_lines.specs.Line.{piece}
 use Rattle.page_lines.specs.LineRoomLaws.{decimal-few}
 use Rattle.page_lines.specs.LinesLaws.{lines-shift, lines_long}
 use Rattle.page_window.specs.Window.{SizesAre, WindowIs}
 use Rattle.page_window.specs.WindowLaws.{window-piece}
-use Rattle.page_lines.specs.Rows.{RowsJudged, inferred_in, checked_in, seen, NextPiece, window_line, number_of}
+use Rattle.page_lines.specs.Rows.{RowsJudged, inferred_in, checked_in, seen, window_line, number_of}
 
 ---------------------------------------------------------------- how large heights are
 -- Entries of a table of u32s.
@@ -120,42 +122,26 @@ refused-window b p code skip want {o} {o'} {e} h w =
 pub refused-short : (code : ℕ) → code < 4294967296 → length (refusal_text (code / 65536)) ≤ 6
 refused-short code h = omega (arith, refusal-length (code / 65536), decimal-few (code / 65536) (omega arith))
 
--- Where the next piece starts.
-past : (l : List ℕ) (n end : ℕ) → end ≤ n → drop n (take end l) ≡ []
-past l n end h = drop_of_length-le (take end l) {i = n} (omega (arith, take_short end l))
+-- What a buffer has from a window's lead up to its end is what stands in the window; nothing does where it ends before its lead.
+pub part_seen : (o : List ℕ) (w : Window) → w.end ≤ length o → (r : Option (Bor (List ℕ))) (none : Bor (List ℕ)) → none.now ≡ []
+    → IsGetRangeResult o w.lead w.end r → (unwrap_or r none).now ≡ seen o w
+part_seen o w within (Some x) none e g =
+    let q : w.lead + (w.end - w.lead) ≡ w.end = omega (arith, g.0.0) in
+    g.0.2 ∙ sym (drop-take w.lead (w.end - w.lead) o) ∙ ap (λ (n : ℕ). drop w.lead (take n o)) q
+part_seen o w within None none e g =
+    e ∙ sym (drop_of_length-le (take w.end o) {i = w.lead} (omega (arith, g.0, length-take-le w.end o within)))
 
-pub next-none : (from end : ℕ) → end ≤ from → NextPiece from end from
-next-none from end h l = past l from end h ∙ sym (ap (drop 36) (past l from end h))
-
-pub next_last : (from end : ℕ) → from < end → end - from < 36 → NextPiece from end end
-next_last from end h u l =
-    past l end end (omega arith) ∙ sym (drop-drop 36 from (take end l) ∙ past l (from + 36) end (omega arith))
-
-pub next_more : (from end : ℕ) → NextPiece from end (from + 36)
-next_more from end l = sym (drop-drop 36 from (take end l))
-
--- Any of them, by the bounds of where it starts.
-pub next_is : (from end r : ℕ) → (end ≤ from → r ≡ from) → (from < end → r ≤ end) → r ≤ from + 36 → (from < end → r < end → r ≡ from + 36) → NextPiece from end r
-next_is from end r none high short full = go (dec_lt from end) (dec_lt r end)
-  where
-    go : Dec (from < end) → Dec (r < end) → NextPiece from end r
-    go (no h) d = let e = none (omega arith) in rw e (next-none from end (omega arith))
-    go (yes h) (yes k) = let e = full h k in rw e (next_more from end)
-    go (yes h) (no k) =
-        let u = high h in
-        let e : r ≡ end = omega arith in
-        eq-or-lt-end (dec_lt (end - from) 36) e h
-      where
-        eq-or-lt-end : Dec (end - from < 36) → r ≡ end → from < end → NextPiece from end r
-        eq-or-lt-end (yes l) e h = rw e (next_last from end h l)
-        eq-or-lt-end (no l) e h = let q : r ≡ from + 36 = omega arith in rw q (next_more from end)
-
--- A piece further, in a text of which k pieces are behind.
-pub pieces-on : (from end r : ℕ) (l : List ℕ) (k : ℕ) (a : List ℕ) → NextPiece from end r → drop from (take end l) ≡ drop (36 * k) a
-    → drop r (take end l) ≡ drop (36 * (k + 1)) a
-pieces-on from end r l k a f e =
+-- A piece further, in a text of which k pieces are behind: at most as much of it as a column holds is left out.
+pub pieces-on : (a : List ℕ) (k : ℕ) {s : List ℕ} {n : ℕ} → s ≡ drop (36 * k) a → n ≤ 36 → n ≤ length s → (n < 36 → length s ≤ n)
+    → take (length s - n) (drop n s) ≡ drop (36 * (k + 1)) a
+pieces-on a k {s} {n} e few within whole =
     let z : 36 * k + 36 ≡ 36 * (k + 1) = omega arith in
-    f l ∙ ap (drop 36) e ∙ drop-drop 36 (36 * k) a ∙ ap (λ (n : ℕ). drop n a) z
+    take_all (length s - n) (drop n s) (omega (arith, length-drop n s))
+    ∙ go (dec_lt n 36) ∙ ap (drop 36) e ∙ drop-drop 36 (36 * k) a ∙ ap (λ (i : ℕ). drop i a) z
+  where
+    go : Dec (n < 36) → drop n s ≡ drop 36 s
+    go (yes h) = drop_of_length-le s {i = n} (whole h) ∙ sym (drop_of_length-le s {i = 36} (omega (arith, whole h)))
+    go (no h) = let q : n ≡ 36 = omega arith in ap (λ (i : ℕ). drop i s) q
 
 pub pieces-start : (a : List ℕ) → a ≡ drop (36 * 0) a
 pieces-start a = refl
@@ -165,12 +151,12 @@ pub window-lines-none : (f : ℕ → List ℕ) (o : List ℕ) (to : ℕ) → to 
 unfolding lines_from
 window-lines-none f o to h = wrote_none o to h
 
-pub window-lines-more : (t i : ℕ) (one : List ℕ) (x p : ℕ) (two : List ℕ) (y q : ℕ) (a b : List ℕ) (k : ℕ) {o : List ℕ} {to : ℕ} {o₁ : List ℕ} {e : ℕ} {o₂ : List ℕ} {d : ℕ}
-    → drop x (take p one) ≡ drop (36 * k) a → drop y (take q two) ≡ drop (36 * k) b → Wrote o to (lines_from (window_line t i a b) 0 k) o₁ e
-    → Wrote o₁ e (line_of (number_on t (i + k)) (piece one x p) (piece two y q) ++ ascii "\n") o₂ d
+pub window-lines-more : (t i : ℕ) (a b : List ℕ) (k : ℕ) {one two o : List ℕ} {to : ℕ} {o₁ : List ℕ} {e : ℕ} {o₂ : List ℕ} {d : ℕ}
+    → one ≡ drop (36 * k) a → two ≡ drop (36 * k) b → Wrote o to (lines_from (window_line t i a b) 0 k) o₁ e
+    → Wrote o₁ e (line_of (number_on t (i + k)) (take 36 one) (take 36 two) ++ ascii "\n") o₂ d
     → Wrote o to (lines_from (window_line t i a b) 0 (k + 1)) o₂ d
 unfolding window_line
-window-lines-more t i one x p two y q a b k f g v w =
+window-lines-more t i a b k f g v w =
     let line = window_line t i a b in
     let z : k ≡ 0 + k = omega arith in
     let s = ap₂ (λ (u r : List ℕ). line_of (number_on t (i + k)) (take 36 u) (take 36 r) ++ ascii "\n") f g ∙ ap line z in

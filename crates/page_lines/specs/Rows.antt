@@ -33,31 +33,21 @@ checked_in b p rows t = row_text_at b p (get_or rows (2 * t + 1) 0)
 abbrev pub window_room : ℕ
 window_room = 36 * 1024 + window_slack
 
--- The rows of a judged sheet with the table z of the sizes of its texts, and lent buffers for a walk and two windows.
-pub record PageAsks (b p z rows : List ℕ) (t : ℕ) (stack one two : List ℕ) : Type 0 where
+-- The rows of a judged sheet with the table z of the sizes of its texts.
+pub record PageAsks (b p z rows : List ℕ) (t : ℕ) : Type 0 where
   pub many : ℕ
   pub judged : RowsJudged b p rows t many
   pub table : SizesAre b p many z
   pub short : length b ≤ 65536
-  pub deep : 4096 ≤ length stack
-  pub first : window_room ≤ length one
-  pub second : window_room ≤ length two
 
 ---------------------------------------------------------------- windows
 pub record RowWindowAsks (b p z : List ℕ) (code want : ℕ) (stack o : List ℕ) : Type 0 where
   pub sort : code < 65536 → WindowAsks b p z code want stack o
   pub fits : want + window_slack ≤ length o
 
--- What stands in a buffer from a place on up to an end, and so in a window.
-abbrev pub cut_text : List ℕ → ℕ → ℕ → List ℕ
-cut_text o from end = drop from (take end o)
-
+-- What stands in a window.
 abbrev pub seen : List ℕ → Window → List ℕ
-seen o w = cut_text o w.lead w.end
-
--- r is where the piece behind the one at `from` starts, of every text that ends at `end`.
-abbrev pub NextPiece : ℕ → ℕ → ℕ → Type 0
-NextPiece from end r = (l : List ℕ) → drop r (take end l) ≡ drop 36 (drop from (take end l))
+seen o w = drop w.lead (take w.end o)
 
 ---------------------------------------------------------------- lines of a row
 -- The line of the row t with the number i + k, of texts that start with their piece i.
@@ -65,9 +55,9 @@ unfoldable pub window_line : ℕ → ℕ → List ℕ → List ℕ → ℕ → L
 unfolding line_of decimal
 window_line t i a b k = line_of (number_on t (i + k)) (piece_on k a) (piece_on k b) ++ ascii "\n"
 
-pub record RowLinesAsk (b p z rows : List ℕ) (t i n : ℕ) (stack one two o : List ℕ) (to : ℕ) : Type 0 where
+pub record RowLinesAsk (b p z rows : List ℕ) (t i n : ℕ) (o : List ℕ) (to : ℕ) : Type 0 where
   pub count : ℕ
-  pub page : PageAsks b p z rows count stack one two
+  pub page : PageAsks b p z rows count
   pub row : t < count
   pub low : i + n ≤ 4294967296
   pub few : n ≤ 1024
@@ -95,8 +85,8 @@ pub record Within (z rows : List ℕ) (t row line : ℕ) : Type 0 where
   pub last : row ≤ t
   pub inside : row < t → line < height_in z rows row
 
-pub record RowsAsk (b p z rows : List ℕ) (t : ℕ) (from : Spot) (stack one two : List ℕ) : Type 0 where
-  pub page : PageAsks b p z rows t stack one two
+pub record RowsAsk (b p z rows : List ℕ) (t : ℕ) (from : Spot) : Type 0 where
+  pub page : PageAsks b p z rows t
   pub spot : Within z rows t from.row from.line
 
 -- The lines of the rows from one line on up to another are written, from the start of the buffer on: those of the pages, over any store

@@ -1,5 +1,4 @@
--- The words of Heights.antt, Rows.antt and Pages.antt over the rows of a judged sheet, the windows and the buffer that is written. Definitions
--- only.
+-- The words of Heights.antt, Rows.antt and Pages.antt over the rows of a judged sheet and the buffer that is written. Definitions only.
 use Rattle.std.specs.Prelude.{ℕ, ◌+◌, ◌*◌, List, get_or}
 use Rattle.printout_sort.specs.declared.buffer.TextBuffer.{TextBuffer}
 use Rattle.printout.specs.declared.whole.Piece.{Piece}
@@ -7,7 +6,6 @@ use Rattle.printout.specs.LineAsks.{row_text_at}
 use Rattle.page.specs.Numbered.{row_line}
 use Rattle.page_lines.specs.declared.heights.Spot.{Spot}
 use Rattle.page_lines.specs.declared.paged.PagedRows.{PagedRows}
-use Rattle.page_lines.specs.declared.paged.Windows.{Windows}
 use Rattle.page_lines.specs.Heights.{height_in, HeightAsks, HeightsAsk, SpotIs}
 use Rattle.page_lines.specs.Rows.{PageAsks, RowWindowAsks, RowLinesAsk, inferred_in, checked_in, RowsAsk, ReachedIs}
 use Rattle.page_lines.specs.Pages.{PageHas}
@@ -37,11 +35,11 @@ row_line_in p t i = row_line t (inferred_in p.entries.records.now p.entries.plac
 abbrev pub RowWindowAsked : PagedRows → ℕ → ℕ → List ℕ → List ℕ → Type 0
 RowWindowAsked p code want stack o = RowWindowAsks p.entries.records.now p.entries.places.now p.sizes.now code want stack o
 
-abbrev pub RowLinesAsked : PagedRows → ℕ → ℕ → ℕ → Windows → TextBuffer → Type 0
-RowLinesAsked p t i n w o = RowLinesAsk p.entries.records.now p.entries.places.now p.sizes.now p.rows.now t i n w.stack.now w.one.now w.two.now o.bytes.now o.end
+abbrev pub RowLinesAsked : PagedRows → Spot → ℕ → TextBuffer → Type 0
+RowLinesAsked p from n o = RowLinesAsk p.entries.records.now p.entries.places.now p.sizes.now p.rows.now from.row from.line n o.bytes.now o.end
 
-abbrev pub RowsAsked : PagedRows → Spot → Windows → Type 0
-RowsAsked p from w = RowsAsk p.entries.records.now p.entries.places.now p.sizes.now p.rows.now p.terms from w.stack.now w.one.now w.two.now
+abbrev pub RowsAsked : PagedRows → Spot → Type 0
+RowsAsked p from = RowsAsk p.entries.records.now p.entries.places.now p.sizes.now p.rows.now p.terms from
 
 -- The lines from `from` on up to the line r are written.
 abbrev pub RowsPut : PagedRows → Spot → TextBuffer → TextBuffer → Spot → Type 0
@@ -49,8 +47,8 @@ RowsPut p from o o' r =
     ReachedIs p.entries.records.now p.entries.places.now p.sizes.now p.rows.now p.terms from o.bytes.now o'.bytes.now (record { row = r.row; line = r.line; end = o'.end })
 
 ---------------------------------------------------------------- pages
-abbrev pub PageAsked : PagedRows → Windows → Type 0
-PageAsked p w = PageAsks p.entries.records.now p.entries.places.now p.sizes.now p.rows.now p.terms w.stack.now w.one.now w.two.now
+abbrev pub PageAsked : PagedRows → Type 0
+PageAsked p = PageAsks p.entries.records.now p.entries.places.now p.sizes.now p.rows.now p.terms
 
 abbrev pub PageShown : PagedRows → ℕ → List ℕ → List ℕ → Piece → Type 0
 PageShown p from o o' r = PageHas p.entries.records.now p.entries.places.now p.rows.now p.terms from o o' r

@@ -1,12 +1,13 @@
 // A line of a page: the number column, two columns of text, and the newline. Each `put_..` function writes where there is room.
-ghost use Rattle.std.specs.Prelude.{◌++◌, ◌+◌, ◌*◌, ◌≤◌, ◌<◌, length};
+ghost use Rattle.std.specs.Prelude.{◌++◌, ◌+◌, ◌*◌, ◌≤◌, ◌<◌, length, take};
 ghost use Rattle.printout_sort.specs.Text.{ascii};
 ghost use Rattle.printout_sort.specs.Buffer.{Puts, Same};
 ghost use Rattle.printout.specs.Whole.{lines_from};
 ghost use Rattle.page.specs.Page.{blanks, filled, line_of};
 ghost use Rattle.page.specs.Numbered.{number_on, blank_line};
-ghost use Rattle.page_lines.specs.Line.{piece, PieceEnd, LineRoom};
+ghost use Rattle.page_lines.specs.Line.{LineRoom};
 
+use super::heights::Spot;
 use printout_sort::buffer::{TextBuffer, digits};
 
 // A blank.
@@ -35,63 +36,42 @@ pub fn put_blanks(n: usize, out: &mut TextBuffer<'_>)
     out.end = end;
 }
 
-// Writes the number column of the line `i` of the row `t`: its number right-justified on the first line, blanks below.
-pub fn put_number(t: usize, i: usize, out: &mut TextBuffer<'_>)
-    requires { (t < 100000) × (out.old.end + 6 ≤ length out.old.bytes.now) }
+// Writes the number column of the line `at`: its row's number right-justified on the row's first line, blanks below.
+pub fn put_number(at: Spot, out: &mut TextBuffer<'_>)
+    requires { (at.row < 100000) × (out.old.end + 6 ≤ length out.old.bytes.now) }
     ensures same { Same out.old out.new }
-    ensures put { Puts out.old (number_on t i) out.new }
+    ensures put { Puts out.old (number_on at.row at.line) out.new }
 {
-    if i == 0 {
-        put_blanks(NUMBER - digits(t), out);
-        out.put_decimal(t);
+    if at.line == 0 {
+        put_blanks(NUMBER - digits(at.row), out);
+        out.put_decimal(at.row);
     } else {
         put_blanks(NUMBER, out);
     }
 }
 
-// Where the piece of a text that stands in a column ends: at most a column behind `from`, and at most at `end`.
-fn piece_end(from: usize, end: usize) -> usize
-    requires { from ≤ end }
-    ensures { PieceEnd from end result }
-{
-    from.saturating_add(COLUMN).min(end)
-}
-
-// Writes a column: the bytes of `src` from `from` on up to `end`, at most a column of them, and blanks that fill it.
-pub fn put_column(src: &[u8], from: usize, end: usize, out: &mut TextBuffer<'_>)
-    requires { (end ≤ length src.now) × (out.old.end + 36 ≤ length out.old.bytes.now) }
+// Writes a column: the bytes of `src`, at most a column of them, and blanks that fill it.
+pub fn put_column(src: &[u8], out: &mut TextBuffer<'_>)
+    requires { out.old.end + 36 ≤ length out.old.bytes.now }
     ensures same { Same out.old out.new }
-    ensures put { Puts out.old (filled 36 (piece src.now from end)) out.new }
+    ensures put { Puts out.old (filled 36 (take 36 src.now)) out.new }
 {
-    if end <= from {
-        put_blanks(COLUMN, out);
-        return;
-    }
-    let upto = piece_end(from, end);
-    out.put(&src[from..upto]);
-    put_blanks(COLUMN - (upto - from), out);
+    let piece = &src[..COLUMN.min(src.len())];
+    out.put(piece);
+    put_blanks(COLUMN - piece.len(), out);
 }
 
-// What stands in a column of some lines: the text's bytes from `from` on up to `end`.
-#[derive(Clone, Copy)]
-pub struct Cut<'a> {
-    pub text: &'a [u8],
-    pub from: usize,
-    pub end: usize,
-}
-
-// Writes a line: the number column of the line `i` of the row `t`, a blank, the column of `one`, a blank, the column of `two`, a
-// newline.
-pub fn put_line(t: usize, i: usize, one: &Cut<'_>, two: &Cut<'_>, out: &mut TextBuffer<'_>)
-    requires { LineRoom t one.now.text.now one.now.end two.now.text.now two.now.end out.old.bytes.now out.old.end }
+// Writes the line `at`: its number column, a blank, the column of `one`, a blank, the column of `two`, a newline.
+pub fn put_line(at: Spot, one: &[u8], two: &[u8], out: &mut TextBuffer<'_>)
+    requires { LineRoom at.row out.old.bytes.now out.old.end }
     ensures same { Same out.old out.new }
-    ensures put { Puts out.old (line_of (number_on t i) (piece one.now.text.now one.now.from one.now.end) (piece two.now.text.now two.now.from two.now.end) ++ ascii "\n") out.new }
+    ensures put { Puts out.old (line_of (number_on at.row at.line) (take 36 one.now) (take 36 two.now) ++ ascii "\n") out.new }
 {
-    put_number(t, i, out);
+    put_number(at, out);
     out.put_byte(BLANK);
-    put_column(one.text, one.from, one.end, out);
+    put_column(one, out);
     out.put_byte(BLANK);
-    put_column(two.text, two.from, two.end, out);
+    put_column(two, out);
     out.put_byte(b'\n');
 }
 

@@ -35,7 +35,7 @@ pub fn show_pages(
     windows: &mut Windows<'_>,
     out: &mut [u8],
 ) -> Piece
-    requires { PageAsked page.now windows.old }
+    requires { PageAsked page.now }
     ensures { PageShown page.now from out.old out.new result }
 {
     let mut text = TextBuffer { bytes: out, end: 0 };

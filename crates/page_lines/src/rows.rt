@@ -3,11 +3,11 @@ ghost use Rattle.std.specs.Prelude.{◌≡◌, ◌≤◌, ◌<◌, ◌+◌, ◌*
 ghost use Rattle.printout_sort.specs.Buffer.{Same, Puts};
 ghost use Rattle.printout.specs.Whole.{lines_from};
 ghost use Rattle.page_window.specs.Window.{WindowIs};
-ghost use Rattle.page_lines.specs.Rows.{NextPiece, window_line, cut_text, StretchIs, GoneOn};
+ghost use Rattle.page_lines.specs.Rows.{window_line, seen, StretchIs, GoneOn};
 ghost use Rattle.page_lines.specs.Words.{row_text_in, row_line_in, RowWindowAsked, RowLinesAsked, RowsAsked, RowsPut};
 
 use super::heights::{Spot, row_height};
-use super::line::{COLUMN, Cut, LINE, put_line};
+use super::line::{COLUMN, LINE, put_line};
 use super::paged::{PagedRows, Windows};
 use page_window::{Window, sort_window};
 use printout::lines::{put_refusal, row_of};
@@ -44,75 +44,54 @@ fn row_window(
     }
 }
 
-// Where the next piece of a text that ends at `end` starts, behind the one at `from`; at its end, where none is left.
-fn next_piece(from: usize, end: usize) -> usize
-    ensures { NextPiece from end result }
-{
-    from.saturating_add(COLUMN).min(end).max(from)
-}
-
-// Writes `n` lines of the row `t`, from its line `i` on; their pieces are the next ones of two texts.
-fn window_lines(
-    t: usize,
-    i: usize,
-    n: usize,
-    first: Cut<'_>,
-    second: Cut<'_>,
-    out: &mut TextBuffer<'_>,
-)
-    requires few { t < 100000 }
-    requires low { i + n ≤ 4294967296 }
-    requires ends { (first.end ≤ length first.text.now) × (second.end ≤ length second.text.now) }
+// Writes `n` lines of the row of `from`, from that line on; their pieces are the next ones of two texts.
+fn window_lines(from: Spot, n: usize, first: &[u8], second: &[u8], out: &mut TextBuffer<'_>)
+    requires few { from.row < 100000 }
+    requires low { from.line + n ≤ 4294967296 }
     requires fits { out.old.end + 81 * n ≤ length out.old.bytes.now }
     ensures same { Same out.old out.new }
-    ensures put { Puts out.old (lines_from (window_line t i (cut_text first.entry.text.now first.entry.from first.entry.end) (cut_text second.entry.text.now second.entry.from second.entry.end)) 0 n) out.new }
+    ensures put { Puts out.old (lines_from (window_line from.row from.line first.now second.now) 0 n) out.new }
 {
-    let mut x = first.from;
-    let mut y = second.from;
+    let mut one = first;
+    let mut two = second;
     for done in 0..n {
-        put_line(
-            t,
-            i + done,
-            &Cut { from: x, ..first },
-            &Cut { from: y, ..second },
-            out,
-        );
-        x = next_piece(x, first.end);
-        y = next_piece(y, second.end);
+        let line = from.line + done;
+        put_line(Spot { line, ..from }, one, two, out);
+        one = &one[COLUMN.min(one.len())..];
+        two = &two[COLUMN.min(two.len())..];
     }
 }
 
-// Writes `n` lines of the row `t`, from its line `i` on.
+// What stands in a window of these bytes; nothing where it ends before its lead.
+fn seen(bytes: &[u8], window: Window) -> &[u8]
+    requires { window.end ≤ length bytes.now }
+    ensures { result.now ≡ seen bytes.now window }
+{
+    bytes.get(window.lead..window.end).unwrap_or(&[])
+}
+
+// Writes `n` lines of the row of `from`, from that line on.
 fn row_lines(
     page: &PagedRows<'_>,
-    t: usize,
-    i: usize,
+    from: Spot,
     n: usize,
     windows: &mut Windows<'_>,
     out: &mut TextBuffer<'_>,
 )
-    requires { RowLinesAsked page.now t i n windows.old out.old }
+    requires { RowLinesAsked page.now from n out.old }
     ensures same { Same out.old out.new }
-    ensures put { Puts out.old (lines_from (row_line_in page.now t) i n) out.new }
+    ensures put { Puts out.old (lines_from (row_line_in page.now from.row) from.line n) out.new }
 {
-    let skip = COLUMN * i;
+    let skip = COLUMN * from.line;
     let want = COLUMN * n;
     let stack = &mut *windows.stack;
     let one = &mut *windows.one;
     let two = &mut *windows.two;
-    let first = row_window(page, page.rows[2 * t], skip, want, stack, one);
-    let second = row_window(page, page.rows[2 * t + 1], skip, want, stack, two);
-    let left = Cut {
-        text: one,
-        from: first.lead,
-        end: first.end,
-    };
-    let right = Cut {
-        text: two,
-        from: second.lead,
-        end: second.end,
-    };
-    window_lines(t, i, n, left, right, out);
+    let first = row_window(page, page.rows[2 * from.row], skip, want, stack, one);
+    let second = row_window(page, page.rows[2 * from.row + 1], skip, want, stack, two);
+    let left = seen(one, first);
+    let right = seen(two, second);
+    window_lines(from, n, left, right, out);
 }
 
 // How many lines of a row are written next, of those that are left of it: as many as fit `room` bytes and a pair of windows.
@@ -122,16 +101,18 @@ fn stretch(left: usize, room: usize) -> usize
     left.min(room / LINE).min(STRETCH)
 }
 
-// The line behind some lines of a row: the next of the row, or the first of the next row.
-fn gone_on(row: usize, line: usize, high: usize) -> Spot
-    requires { row < 4096 }
-    ensures { GoneOn row line high result }
+// The line `n` lines on from `at`, in a row of `high` lines: a line of the row, or the first of the next row.
+fn gone_on(at: Spot, n: usize, high: usize) -> Spot
+    requires few { at.row < 4096 }
+    requires within { at.line + n ≤ high }
+    ensures { GoneOn at.row (at.line + n) high result }
 {
+    let line = at.line + n;
     if line < high {
-        return Spot { row, line };
+        return Spot { line, ..at };
     }
     Spot {
-        row: row + 1,
+        row: at.row + 1,
         line: 0,
     }
 }
@@ -144,7 +125,7 @@ pub fn put_rows(
     out: &mut TextBuffer<'_>,
 ) -> Spot
     requires empty { out.old.end ≡ 0 }
-    requires asks { RowsAsked page.now from windows.old }
+    requires asks { RowsAsked page.now from }
     ensures same { Same out.old out.new }
     ensures reached { RowsPut page.now from out.old out.new result }
 {
@@ -155,8 +136,8 @@ pub fn put_rows(
         if n == 0 {
             break;
         }
-        row_lines(page, at.row, at.line, n, windows, out);
-        at = gone_on(at.row, at.line + n, high);
+        row_lines(page, at, n, windows, out);
+        at = gone_on(at, n, high);
     }
     at
 }

@@ -30,7 +30,7 @@ use Rattle.page.specs.Page.{pages, table_lines, paged}
 use Rattle.page.specs.Numbered.{page_line, page_count, page_line_of}
 use Rattle.page.proofs.NumberedLaws.{lines-paged}
 use Rattle.page_window.specs.Window.{SizesAsk}
-use Rattle.page_lines.specs.Rows.{RowsJudged, window_room, PageAsks}
+use Rattle.page_lines.specs.Rows.{RowsJudged, PageAsks}
 use Rattle.page_text.specs.PageText.{PageTextIs, KnownIs, RaisedIs, PageStore, PageSizesAre}
 
 ---------------------------------------------------------------- what judging leaves
@@ -109,10 +109,8 @@ sizes-ask {b} {p} {m = m} z j r =
       room = r;
     }
 
-pub page-asks-of : {s b p w z : List ℕ} {t : ℕ} (stack one two : List ℕ) → PageSizesAre s b p w z t → 4096 ≤ length stack → window_room ≤ length one
-    → window_room ≤ length two → PageAsks b p z w t stack one two
-page-asks-of stack one two a d f g =
-    record { many = a.known; judged = a.judged; table = a.table; short = a.short; deep = d; first = f; second = g }
+pub page-asks-of : {s b p w z : List ℕ} {t : ℕ} → PageSizesAre s b p w z t → PageAsks b p z w t
+page-asks-of a = record { many = a.known; judged = a.judged; table = a.table; short = a.short }
 
 ---------------------------------------------------------------- the lines
 -- The same lines.

@@ -1,7 +1,7 @@
 -- The table of text sizes is made from the first sort on: each size is the sort's own pieces and, from the table, those of its parts.
 use Rattle.std.specs.Prelude.{ℕ, zero, suc, ◌+◌, ◌*◌, ◌-◌, ◌≤◌, ◌<◌, ◌≡◌, refl, List, [], ◌∷◌, length, get_or, set}
 use Rattle.std.proofs.Common.{sym, ap, subst, ⊎_elim, arith, eq-or-lt_of_le, length-set, get_or-set_same, get_or-set_other}
-use Rattle.record.specs.Codec.{length-numbers_at}
+use Rattle.record.specs.Codec.{length-numbers_at, numbers_more}
 use Rattle.record.specs.Number.{u16_at, numbers_at}
 use Rattle.record.specs.Sort.{size, sizes}
 use Rattle.record.specs.Entries.{stored-first}
@@ -16,13 +16,6 @@ use Rattle.page_window.specs.Sizes.{parts_total, PartsAsk, Measured, SortSizeAsk
 -- One more than the numbers of 32 bits.
 abbrev wide : ℕ
 wide = 4294967296
-
-numbers_more : (b : List ℕ) (x m : ℕ) → 0 < m → numbers_at b x m ≡ u16_at b x ∷ numbers_at b (x + 2) (m - 1)
-unfolding numbers_at
-numbers_more b x zero h = absurd (omega arith)
-numbers_more b x (suc m) h =
-    let e : m ≡ suc m - 1 = omega arith in
-    ap (λ (i : ℕ). u16_at b x ∷ numbers_at b (x + 2) i) e
 
 total-more : (z b : List ℕ) (x m : ℕ) → 0 < m
     → parts_total z (numbers_at b x m) ≡ 1 + get_or z (u16_at b x) 0 + parts_total z (numbers_at b (x + 2) (m - 1))

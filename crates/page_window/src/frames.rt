@@ -73,10 +73,7 @@ impl Frame {
         requires { form_in self.slot < 17 }
         ensures { form_number result ≡ form_in self.slot }
     {
-        match SortKind::try_from(self.slot as usize % LEFT_UNIT) {
-            Ok(kind) => Form::Of(kind),
-            Err(_) => Form::BareAtom,
-        }
+        SortKind::try_from(self.slot as usize % LEFT_UNIT).map_or(Form::BareAtom, Form::Of)
     }
 
     // The frame when its first part is done.

@@ -7,7 +7,7 @@ ghost use Rattle.printout.specs.Printed.{program_lengths};
 ghost use Rattle.page.specs.Page.{paged};
 ghost use Rattle.page_text.specs.Words.{PagesAsked};
 ghost use Rattle.written.specs.Written.{on_pages, PagedIs, TextAdded};
-ghost use Rattle.page_write.specs.Words.{PiecesAsked, PageLinesAsked};
+ghost use Rattle.page_write.specs.Words.{PageLinesAsked};
 
 use page_lines::line::LINE;
 use page_lines::paged::{PagedRows, Windows};
@@ -40,38 +40,13 @@ impl Lines for PageLines<'_, '_> {
 
     ghost next = { λ l. l.next };
 
-    ghost can_show = { λ l. PageLinesAsked l.bytes.now l.page l.windows };
+    ghost can_show = { λ l. PageLinesAsked l.bytes.now l.page };
 
     fn show(&mut self, out: &mut [u8]) -> Piece {
         let piece = show_pages(&self.page, self.next, &mut self.windows, out);
         self.next = piece.next;
         piece
     }
-}
-
-// Writes the pages of an accepted sheet by way of a buffer that holds a line at least. All lines are written, and their bytes stand
-// behind what the output held; or a write failed, and then fewer. Only the contracts read the sheet's bytes.
-fn print_pieces<'a, 'w, W: Write>(
-    output: &mut W,
-    bytes: &'a [u8],
-    page: PagedRows<'a>,
-    stack: &'w mut [u32],
-    one: &'w mut [u8],
-    two: &'w mut [u8],
-    out: &mut [u8],
-) -> Written
-    requires { PiecesAsked bytes.now page stack.old one.old two.old out.old }
-    ensures lines { PagedIs (judged bytes.now program_lengths) result }
-    ensures bytes { TextAdded (W.contents output.old) (W.contents output.new) (paged (judged bytes.now program_lengths)) result }
-{
-    let windows = Windows { stack, one, two };
-    let mut lines = PageLines {
-        bytes,
-        page,
-        windows,
-        next: 0,
-    };
-    write_lines(output, &mut lines, out)
 }
 
 // Writes the pages of an accepted sheet by way of buffers of its own. All lines are written, and their bytes stand behind what the output
@@ -88,15 +63,18 @@ fn print_accepted<W: Write>(output: &mut W, sheet: &JudgedSheet<'_>) -> Written
     let mut out = [0u8; OUT_ROOM];
     let terms = page_sizes(sheet, &mut sizes);
     let page = PagedRows::new(sheet.entries, &sizes, sheet.rows, terms);
-    print_pieces(
-        output,
-        sheet.bytes,
+    let windows = Windows {
+        stack: &mut stack,
+        one: &mut one,
+        two: &mut two,
+    };
+    let mut lines = PageLines {
+        bytes: sheet.bytes,
         page,
-        &mut stack,
-        &mut one,
-        &mut two,
-        &mut out,
-    )
+        windows,
+        next: 0,
+    };
+    write_lines(output, &mut lines, &mut out)
 }
 
 // The printer of pages.

@@ -1,5 +1,5 @@
 -- What writing rows, answers and lines asks and gives.
-use Rattle.std.specs.Prelude.{ℕ, suc, ◌+◌, ◌≤◌, ◌<◌, ◌≡◌, cond, List, ◌∷◌, ◌++◌, length, eqb, Result, Ok, Err}
+use Rattle.std.specs.Prelude.{ℕ, suc, ◌+◌, ◌<◌, ◌≡◌, cond, List, ◌∷◌, ◌++◌, length, eqb, Result, Ok, Err}
 use Rattle.record.specs.Decode.{store_of}
 use Rattle.printout_sort.specs.Text.{ascii, decimal}
 use Rattle.printout_sort.specs.Wrote.{Wrote}
@@ -54,16 +54,14 @@ abbrev pub QuestionHas : List ℕ → List ℕ → ℕ → ℕ → ℕ → List 
 QuestionHas b p q kind code o to o' r =
     (n : ℕ) → ((kind ≡ 0 → ⊥) → RowKnown n code) → ShownIs o to (question_line (store_of b p n) q kind code) o' r
 
-pub record TermLineAsks (b p : List ℕ) (t i c : ℕ) (o : List ℕ) (to : ℕ) : Type 0 where
+pub record TermLineAsks (b p : List ℕ) (t i c : ℕ) : Type 0 where
   pub number : t < 100000
   pub inferred : RowAsks b p i
   pub checked : RowAsks b p c
-  pub within : to ≤ length o
 
-pub record QuestionLineAsks (b p : List ℕ) (q kind code : ℕ) (o : List ℕ) (to : ℕ) : Type 0 where
+pub record QuestionLineAsks (b p : List ℕ) (q kind code : ℕ) : Type 0 where
   pub number : q < 100000
   pub answer : AnswerAsks b p kind code
-  pub within : to ≤ length o
 
 -- "Tk " and "Qk ": a mark, a number and a blank.
 unfoldable pub label_text : ℕ → ℕ → List ℕ

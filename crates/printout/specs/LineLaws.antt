@@ -9,7 +9,7 @@ use Rattle.printout_sort.specs.Wrote.{Wrote, wrote_as, total, TextRoom}
 use Rattle.printout_sort.specs.Trees.{tree_at}
 use Rattle.printout_sort.specs.TreeLaws.{tree-at}
 use Rattle.printout.specs.Lines.{refusal_text, refusal_line, row_text, answer_text, term_line, question_line}
-use Rattle.printout.specs.LineAsks.{To, Full, row_text_at, answer_text_at, no_or_yes, RowKnown, TermLineAsks, TermHas, QuestionLineAsks, QuestionHas, label_text, term_line_at, question_line_at}
+use Rattle.printout.specs.LineAsks.{To, Full, row_text_at, answer_text_at, no_or_yes, RowKnown, TermHas, QuestionHas, label_text, term_line_at, question_line_at}
 
 pub refusal-length : (n : ℕ) → length (refusal_text n) ≡ 1 + length (decimal n)
 unfolding refusal_text
@@ -110,14 +110,14 @@ term-length b p t i c =
     )
 
 -- It does not fit, or there is room for its pieces.
-module _ {b p o : List ℕ} {t i c to : ℕ} (a : TermLineAsks b p t i c o to) {d x y r : ℕ} (ed : d ≡ length (decimal t)) (ex : x ≡ length (row_text_at b p i))
+module _ (b p : List ℕ) (t i c : ℕ) {o : List ℕ} {to : ℕ} (f : to ≤ length o) {d x y r : ℕ} (ed : d ≡ length (decimal t)) (ex : x ≡ length (row_text_at b p i))
     (ey : y ≡ length (row_text_at b p c)) (er : r ≡ length o - to) where
   pub term-full : r < 4 + d + x + y → TermHas b p t i c o to o Full
   term-full h n ki kc = (refl, omega (arith, term-length b p t i c, ap length (term-at b p n t i c ki kc)))
 
   pub term-room : 4 + d + x + y ≤ r → TextRoom o to (label_text 84 t ∷ row_text_at b p i ∷ ascii " " ∷ row_text_at b p c ∷ ascii "\n" ∷ [])
   unfolding total
-  term-room h = record { fits = omega (arith, label-length 84 t, a.within) }
+  term-room h = record { fits = omega (arith, label-length 84 t) }
 
 pub term-wrote : (b p : List ℕ) (t i c : ℕ) {o : List ℕ} {to : ℕ} {o' : List ℕ} {e : ℕ}
     → Wrote o to (label_text 84 t ++ (row_text_at b p i ++ (ascii " " ++ (row_text_at b p c ++ ascii "\n")))) o' e → TermHas b p t i c o to o' (To e)
@@ -141,14 +141,14 @@ question-length b p q kind code =
       length-append (answer_text_at b p kind code) (ascii "\n"),
     )
 
-module _ {b p o : List ℕ} {q kind code to : ℕ} (a : QuestionLineAsks b p q kind code o to) {d x r : ℕ} (ed : d ≡ length (decimal q))
+module _ (b p : List ℕ) (q kind code : ℕ) {o : List ℕ} {to : ℕ} (f : to ≤ length o) {d x r : ℕ} (ed : d ≡ length (decimal q))
     (ex : x ≡ length (answer_text_at b p kind code)) (er : r ≡ length o - to) where
   pub question-full : r < 3 + d + x → QuestionHas b p q kind code o to o Full
   question-full h n k = (refl, omega (arith, question-length b p q kind code, ap length (question-at b p n q kind code k)))
 
   pub question-room : 3 + d + x ≤ r → TextRoom o to (label_text 81 q ∷ answer_text_at b p kind code ∷ ascii "\n" ∷ [])
   unfolding total
-  question-room h = record { fits = omega (arith, label-length 81 q, a.within) }
+  question-room h = record { fits = omega (arith, label-length 81 q) }
 
 pub question-wrote : (b p : List ℕ) (q kind code : ℕ) {o : List ℕ} {to : ℕ} {o' : List ℕ} {e : ℕ}
     → Wrote o to (label_text 81 q ++ (answer_text_at b p kind code ++ ascii "\n")) o' e → QuestionHas b p q kind code o to o' (To e)

@@ -31,11 +31,10 @@ pub record Judged (b p rows kinds answers : List ℕ) (t q n : ℕ) : Type 0 whe
   pub row : (i : ℕ) → i < 2 * t → RowKnown n (get_or rows i 0)
   pub answer : (i : ℕ) → i < q → (get_or kinds i 0 ≡ 0 → ⊥) → RowKnown n (get_or answers i 0)
 
-pub record LineAsks (b p rows kinds answers : List ℕ) (t q k : ℕ) (o : List ℕ) (to : ℕ) : Type 0 where
+pub record LineAsks (b p rows kinds answers : List ℕ) (t q k : ℕ) : Type 0 where
   pub many : ℕ
   pub judged : Judged b p rows kinds answers t q many
   pub number : k < t + q
-  pub within : to ≤ length o
 
 abbrev pub LineHas : List ℕ → List ℕ → List ℕ → List ℕ → List ℕ → ℕ → ℕ → ℕ → List ℕ → ℕ → List ℕ → Shown → Type 0
 LineHas b p rows kinds answers t q k o to o' r =

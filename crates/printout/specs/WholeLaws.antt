@@ -26,25 +26,21 @@ module _ (b p rows kinds answers : List ℕ) (t q : ℕ) where
   row-asks : (n : ℕ) → Judged b p rows kinds answers t q n → (code : ℕ) → RowKnown n code → RowAsks b p code
   row-asks n j code known h = text-asks b p n code j.stored (known h) (j.small code (known h))
 
-  pub term-line-asks : (k : ℕ) (o : List ℕ) (to : ℕ) → LineAsks b p rows kinds answers t q k o to → k < t
-      → TermLineAsks b p k (get_or rows (2 * k) 0) (get_or rows (2 * k + 1) 0) o to
-  term-line-asks k o to h l =
+  pub term-line-asks : (k : ℕ) → LineAsks b p rows kinds answers t q k → k < t → TermLineAsks b p k (get_or rows (2 * k) 0) (get_or rows (2 * k + 1) 0)
+  term-line-asks k h l =
       let j = h.judged in
       record {
         number = omega (arith, j.few);
         inferred = row-asks h.many j (get_or rows (2 * k) 0) (j.row (2 * k) (omega arith));
         checked = row-asks h.many j (get_or rows (2 * k + 1) 0) (j.row (2 * k + 1) (omega arith));
-        within = h.within;
       }
 
-  pub question-line-asks : (k : ℕ) (o : List ℕ) (to : ℕ) → LineAsks b p rows kinds answers t q k o to → t ≤ k
-      → QuestionLineAsks b p (k - t) (get_or kinds (k - t) 0) (get_or answers (k - t) 0) o to
-  question-line-asks k o to h l =
+  pub question-line-asks : (k : ℕ) → LineAsks b p rows kinds answers t q k → t ≤ k → QuestionLineAsks b p (k - t) (get_or kinds (k - t) 0) (get_or answers (k - t) 0)
+  question-line-asks k h l =
       let j = h.judged in
       record {
         number = omega (arith, h.number, j.fewer);
         answer = λ z. row-asks h.many j (get_or answers (k - t) 0) (j.answer (k - t) (omega (arith, h.number)) z);
-        within = h.within;
       }
 
   pub term-line-has : (k : ℕ) (o : List ℕ) (to : ℕ) (o' : List ℕ) (r : Shown) → k < t → TermHas b p k (get_or rows (2 * k) 0) (get_or rows (2 * k + 1) 0) o to o' r
@@ -93,8 +89,8 @@ module _ (b p rows kinds answers : List ℕ) (t q from : ℕ) (a : PieceAsks b p
       }
 
   module _ (o' : List ℕ) (k to : ℕ) (s : Showing b p rows kinds answers t q from o o' k to) where
-    pub showing-asks : k < t + q → LineAsks b p rows kinds answers t q k o' to
-    showing-asks h = record { many = a.many; judged = a.judged; number = h; within = s.within }
+    pub showing-asks : k < t + q → LineAsks b p rows kinds answers t q k
+    showing-asks h = record { many = a.many; judged = a.judged; number = h }
 
     pub showing-step : (o'' : List ℕ) (e : ℕ) → k < t + q → LineHas b p rows kinds answers t q k o' to o'' (To e) → Showing b p rows kinds answers t q from o o'' (k + 1) e
     showing-step o'' e h w =

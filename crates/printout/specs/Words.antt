@@ -7,9 +7,9 @@ use Rattle.printout.specs.declared.whole.Piece.{Piece}
 use Rattle.printout.specs.LineAsks.{shown}
 use Rattle.printout.specs.Whole.{LineAsks, LineHas, PieceAsks, PieceHas}
 
--- The line with the number k of the sheet s can be shown behind what the buffer holds; and the call that left r showed it.
-abbrev pub LineAsked : Printable → ℕ → TextBuffer → Type 0
-LineAsked s k o = LineAsks s.entries.records.now s.entries.places.now s.rows.now s.kinds.now s.answers.now s.totals.terms s.totals.questions k o.bytes.now o.end
+-- The line with the number k of the sheet s can be shown; and the call that left r showed it behind what the buffer held.
+abbrev pub LineAsked : Printable → ℕ → Type 0
+LineAsked s k = LineAsks s.entries.records.now s.entries.places.now s.rows.now s.kinds.now s.answers.now s.totals.terms s.totals.questions k
 
 abbrev pub LineShown : Printable → ℕ → TextBuffer → TextBuffer → Result (Unit {0}) NoRoom → Type 0
 LineShown s k o o' r = LineHas s.entries.records.now s.entries.places.now s.rows.now s.kinds.now s.answers.now s.totals.terms s.totals.questions k o.bytes.now o.end o'.bytes.now (shown o'.end r)

@@ -6,6 +6,7 @@ use record::limits::{
     LONGEST_RECORD, LONGEST_SHEET, MOST_QUESTIONS, MOST_SORT_RECORDS, MOST_SORTS, MOST_TERMS, ROWS,
 };
 use sheet::read_sheet;
+use sheet::tables::SheetTables;
 use store::slots::INDEX_LENGTH;
 
 // How many terms and questions a sheet has.
@@ -21,7 +22,7 @@ fn put_kinds(sheet: &[u8], asked: &[u16], many: usize, kinds: &mut [u8])
     ensures { KindsPut sheet.now asked.now many kinds.old kinds.new }
 {
     for (q, at) in asked[..many].iter().enumerate() {
-        kinds[q] = sheet[*at as usize + 1];
+        kinds[q] = sheet[usize::from(*at) + 1];
     }
 }
 
@@ -35,10 +36,13 @@ pub fn question_kinds(sheet: &[u8], kinds: &mut [u8]) -> Totals
     let mut records = [0u8; LONGEST_SHEET];
     let mut places = [0u32; MOST_SORTS];
     let mut index = [0u16; INDEX_LENGTH];
-    let mut table = [0u16; MOST_SORT_RECORDS];
-    let mut starts = [0u16; MOST_TERMS];
     let mut asked = [0u16; MOST_QUESTIONS];
-    let mut scratch = [0u8; LONGEST_RECORD];
+    let mut tables = SheetTables {
+        table: &mut [0u16; MOST_SORT_RECORDS],
+        terms: &mut [0u16; MOST_TERMS],
+        questions: &mut asked,
+        scratch: &mut [0u8; LONGEST_RECORD],
+    };
     let read = read_sheet(
         sheet,
         &mut records,
@@ -46,10 +50,7 @@ pub fn question_kinds(sheet: &[u8], kinds: &mut [u8]) -> Totals
         ROWS,
         MOST_QUESTIONS,
         &mut index,
-        &mut table,
-        &mut starts,
-        &mut asked,
-        &mut scratch,
+        &mut tables,
     );
     match read {
         Ok(counts) => {

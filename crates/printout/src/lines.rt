@@ -63,11 +63,11 @@ fn no_or_yes(code: u32) -> &'static [u8]
 }
 
 // The length of the text of an answer to a question of this kind.
-fn answer_text_size(entries: Entries<'_>, kind: u8, code: u32) -> usize
+fn answer_text_size(entries: Entries<'_>, kind: usize, code: u32) -> usize
     requires { AnswerAsks entries.records.now entries.places.now kind code }
     ensures { (result ≡ length (answer_text_at entries.entry.records.now entries.entry.places.now kind code)) × (result ≤ sort_room) }
 {
-    if kind == QuestionKind::Compatible as u8 {
+    if kind == QuestionKind::Compatible as usize {
         no_or_yes(code).len()
     } else {
         row_size(entries, code)
@@ -75,13 +75,13 @@ fn answer_text_size(entries: Entries<'_>, kind: u8, code: u32) -> usize
 }
 
 // Writes the text of an answer to a question of this kind: no or yes whether two sorts are compatible, else as a row.
-fn put_answer(entries: Entries<'_>, kind: u8, code: u32, out: &mut TextBuffer<'_>)
+fn put_answer(entries: Entries<'_>, kind: usize, code: u32, out: &mut TextBuffer<'_>)
     requires asks { AnswerAsks entries.records.now entries.places.now kind code }
     requires room { HasRoom out.old (answer_text_at entries.records.now entries.places.now kind code) }
     ensures same { Same out.old out.new }
     ensures put { Puts out.old (answer_text_at entries.entry.records.now entries.entry.places.now kind code) out.new }
 {
-    if kind == QuestionKind::Compatible as u8 {
+    if kind == QuestionKind::Compatible as usize {
         out.put(no_or_yes(code));
     } else {
         put_row(entries, code, out);
@@ -107,7 +107,7 @@ pub fn term_line(
     checked: u32,
     out: &mut TextBuffer<'_>,
 ) -> Result<(), NoRoom>
-    requires { TermLineAsks entries.records.now entries.places.now t inferred checked out.old.bytes.now out.old.end }
+    requires { TermLineAsks entries.records.now entries.places.now t inferred checked }
     ensures same { Same out.old out.new }
     ensures end { OnErr result (out.new.end ≡ out.old.end) }
     ensures line { TermHas entries.entry.records.now entries.entry.places.now t inferred checked out.old.bytes.now out.old.end out.new.bytes.now (shown out.new.end result) }
@@ -129,11 +129,11 @@ pub fn term_line(
 pub fn question_line(
     entries: Entries<'_>,
     q: usize,
-    kind: u8,
+    kind: usize,
     code: u32,
     out: &mut TextBuffer<'_>,
 ) -> Result<(), NoRoom>
-    requires { QuestionLineAsks entries.records.now entries.places.now q kind code out.old.bytes.now out.old.end }
+    requires { QuestionLineAsks entries.records.now entries.places.now q kind code }
     ensures same { Same out.old out.new }
     ensures end { OnErr result (out.new.end ≡ out.old.end) }
     ensures line { QuestionHas entries.entry.records.now entries.entry.places.now q kind code out.old.bytes.now out.old.end out.new.bytes.now (shown out.new.end result) }
@@ -150,7 +150,7 @@ pub fn question_line(
 
 // Writes the line of a refused sheet; or NoRoom, where it does not fit, and the buffer is as it was.
 pub fn refusal_line(number: usize, out: &mut TextBuffer<'_>) -> Result<(), NoRoom>
-    requires { (number < 100000) × (out.old.end ≤ length out.old.bytes.now) }
+    requires { number < 100000 }
     ensures same { Same out.old out.new }
     ensures end { OnErr result (out.new.end ≡ out.old.end) }
     ensures line { ShownIs out.old.bytes.now out.old.end (refusal_line number) out.new.bytes.now (shown out.new.end result) }

@@ -29,7 +29,7 @@ pub struct Piece {
 // Writes the line with the number k, the terms' lines first, then the questions'; or NoRoom, where it does not fit, and the buffer is as it
 // was.
 fn line(sheet: &Printable<'_>, k: usize, out: &mut TextBuffer<'_>) -> Result<(), NoRoom>
-    requires { LineAsked sheet.now k out.old }
+    requires { LineAsked sheet.now k }
     ensures same { Same out.old out.new }
     ensures end { OnErr result (out.new.end ≡ out.old.end) }
     ensures line { LineShown sheet.now k out.old out.new result }
@@ -41,7 +41,8 @@ fn line(sheet: &Printable<'_>, k: usize, out: &mut TextBuffer<'_>) -> Result<(),
         return term_line(sheet.entries, k, inferred, checked, out);
     }
     let q = k - terms;
-    question_line(sheet.entries, q, sheet.kinds[q], sheet.answers[q], out)
+    let kind = usize::from(sheet.kinds[q]);
+    question_line(sheet.entries, q, kind, sheet.answers[q], out)
 }
 
 // Writes the lines from the number `from` on into an empty buffer, as many as fit; the number of the next line.

@@ -7,11 +7,12 @@ ghost use Rattle.printout_sort.specs.Text.{decimal, name_text, more_names};
 use record::span::Span;
 use store::buffers::copy_at;
 
-// A lent buffer of text: what is written next stands from `end` on.
+// A lent buffer of text: what is written next stands from `end` on, which lies in it or is its end.
 #[derive(Drop)]
 pub struct TextBuffer<'a> {
     pub bytes: &'a mut [u8],
     pub end: usize,
+    pub ghost fits: { end ≤ length bytes.now },
 }
 
 impl TextBuffer<'_> {
@@ -19,7 +20,6 @@ impl TextBuffer<'_> {
 
     // How many bytes are left behind what is written.
     pub fn room(&self) -> usize
-        requires { self.now.end ≤ length self.now.bytes.now }
         ensures { result ≡ length self.now.bytes.now - self.now.end }
     {
         self.bytes.len() - self.end
@@ -52,7 +52,7 @@ impl TextBuffer<'_> {
         ensures same { Same self.old self.new }
         ensures put { Puts self.old (decimal v) self.new }
     {
-        let end = self.end + digit_count(v);
+        let end = self.end + digits(v);
         put_digits(&mut self.bytes[self.end..end], v);
         self.end = end;
     }
@@ -85,19 +85,11 @@ impl TextBuffer<'_> {
     }
 }
 
-// How many digits a number has: one more than the power of ten that it reaches; 0 has one too.
-fn digit_count(v: usize) -> usize
-    ensures { result ≡ length (decimal v) }
+// How many digits a number has: one more than the power of ten that it reaches; 0 has one too. At most five, where it is under 100,000.
+pub fn digits(v: usize) -> usize
+    ensures { (result ≡ length (decimal v)) × (v < 100000 → result ≤ 5) }
 {
     v.checked_ilog10().unwrap_or(0) as usize + 1
-}
-
-// How many digits a number under 100,000 has: at most five.
-pub fn digits(v: usize) -> usize
-    requires { v < 100000 }
-    ensures { (result ≡ length (decimal v)) × (result ≤ 5) }
-{
-    digit_count(v)
 }
 
 // Writes the digits of a number into a slice as long as they are: the last one first, at the slice's end.

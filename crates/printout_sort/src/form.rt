@@ -97,9 +97,6 @@ impl Form {
     pub fn frame_size(self) -> usize
         ensures { result ≡ get_or frames (form_number self) 0 }
     {
-        match self.close() {
-            Some(_) => self.word().len() + 1,
-            None => self.word().len(),
-        }
+        self.word().len() + usize::from(self.close().is_some())
     }
 }

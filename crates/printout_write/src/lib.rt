@@ -26,7 +26,7 @@ fn line_buffer() -> [u8; LINE_ROOM] {
 }
 
 // The lines of an accepted sheet from the number `next` on. Only the contracts read the sheet's bytes.
-#[derive(Drop)]
+#[derive(Clone, Copy)]
 struct SheetLines<'a> {
     bytes: &'a [u8],
     printable: Printable<'a>,

@@ -26,11 +26,8 @@ fn replay_next<F: Read, W: Write, P: Printer>(
     let mut head = [0u8; 4];
     file.read_exact(&mut head)?;
     let length = u32::from_le_bytes(head) as usize;
-    if LONGEST < length {
-        return Err(ErrorKind::InvalidData.into());
-    }
     let mut buffer = [0u8; LONGEST];
-    let sheet = &mut buffer[..length];
+    let sheet = buffer.get_mut(..length).ok_or(ErrorKind::InvalidData)?;
     file.read_exact(sheet)?;
     let _ = writeln!(output, "# {k}");
     let _ = print_sheet(output, printer, sheet, DIRT);

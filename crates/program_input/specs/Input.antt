@@ -1,5 +1,5 @@
 -- What a call of read gave, and what is promised of the bytes that were read. Definitions only.
-use Rattle.std.specs.Prelude.{ℕ, zero, suc, ◌+◌, ◌≤◌, ◌<◌, List, [], length, take, drop, Option, Some, None, Result, Ok, Err}
+use Rattle.std.specs.Prelude.{ℕ, zero, suc, ◌≤◌, ◌<◌, List, [], length, take, Option, Some, None, Result, Ok, Err}
 use Rattle.std.specs.Io.KnownBytes.{Consumes, IsAtEnd}
 
 -- A count of bytes: none is the end of the input.
@@ -12,18 +12,18 @@ abbrev pub told : {E : Type 0} → Result ℕ E → Result (Option ℕ) E
 told (Ok n) = Ok (counted n)
 told (Err e) = Err e
 
--- Bytes that were read from a place on lie in the buffer, and there is one at least.
-abbrev pub ReadWithin : {E : Type 0} → ℕ → ℕ → Result (Option ℕ) E → Type 0
-ReadWithin from room (Ok (Some n)) = (0 < n) × (from + n ≤ room)
-ReadWithin from room (Ok None) = Unit {0}
-ReadWithin from room (Err e) = Unit {0}
+-- Bytes that were read lie in a slice with so much room, and there is one at least.
+abbrev pub ReadWithin : {E : Type 0} → ℕ → Result (Option ℕ) E → Type 0
+ReadWithin room (Ok (Some n)) = (0 < n) × (n ≤ room)
+ReadWithin room (Ok None) = Unit {0}
+ReadWithin room (Err e) = Unit {0}
 
--- What reading into the buffer b from a place on did to the bytes that the reader had left, where they are known: it took those that now
--- stand there; at the end of the input none was left.
-abbrev pub ReadFrom : {E : Type 0} → ℕ → Option (List ℕ) → Option (List ℕ) → List ℕ → Result (Option ℕ) E → Type 0
-ReadFrom from old new b (Ok (Some n)) = Consumes old new (take n (drop from b))
-ReadFrom from old new b (Ok None) = Consumes old new [] × IsAtEnd new
-ReadFrom from old new b (Err e) = Unit {0}
+-- What reading into the slice b did to the bytes that the reader had left, where they are known: it took those that now stand at its start;
+-- at the end of the input none was left.
+abbrev pub ReadFrom : {E : Type 0} → Option (List ℕ) → Option (List ℕ) → List ℕ → Result (Option ℕ) E → Type 0
+ReadFrom old new b (Ok (Some n)) = Consumes old new (take n b)
+ReadFrom old new b (Ok None) = Consumes old new [] × IsAtEnd new
+ReadFrom old new b (Err e) = Unit {0}
 
 -- THE FIRST n BYTES OF THE BUFFER ARE THE NEXT ONES OF THE INPUT, where these are known, and where the buffer is not full, all of them.
 pub record InputRead (old new : Option (List ℕ)) (b : List ℕ) (n : ℕ) : Type 0 where

@@ -1,12 +1,20 @@
 -- What two reads into a buffer did, one after the other.
-use Rattle.std.specs.Prelude.{ℕ, ◌+◌, ◌≡◌, List, ◌++◌, take, drop, Option}
-use Rattle.std.proofs.Common.{ap, sym, subst, ◌∙◌}
+use Rattle.std.specs.Prelude.{ℕ, ◌+◌, ◌≤◌, ◌≡◌, refl, List, ◌++◌, length, take, drop, Option}
+use Rattle.std.proofs.Common.{ap₂, arith, sym, subst, ◌∙◌, drop_at, length-take-le}
 use Rattle.std.proofs.Math.Seq.{take-add}
+use Rattle.std.proofs.lemmas.List.{take-append-le}
+use Rattle.std.proofs.lemmas.Slice.{take-put_mid_below}
 use Rattle.std.specs.Io.KnownBytes.{Consumes}
 use Rattle.std.proofs.KnownBytes.{Consumes-trans}
+use borrow.Rule.Slice.PartMut.{put_mid, post_of}
 
--- A further read, behind the first n bytes of the buffer, which stay.
-pub read-more : (a b c : Option (List ℕ)) (o o' : List ℕ) (n m : ℕ) → Consumes a b (take n o) → take n o' ≡ take n o → Consumes b c (take m (drop n o'))
-    → Consumes a c (take (n + m) o')
-read-more a b c o o' n m h e k =
-    subst (Consumes a c) (ap (λ (x : List ℕ). x ++ take m (drop n o')) (sym e) ∙ sym (take-add n m o')) (Consumes-trans a b c _ _ h k)
+-- A further read, into the part y of the buffer behind its first n bytes.
+pub read-more : (a b c : Option (List ℕ)) (o y : List ℕ) (n k m : ℕ) → n ≤ length o → m ≤ length y → Consumes a b (take n o) → Consumes b c (take m y)
+    → Consumes a c (take (n + m) (put_mid n k o y))
+read-more a b c o y n k m h l p q =
+    let whole = put_mid n k o y in
+    let e : take (n + m) whole ≡ take n o ++ take m y =
+    take-add n m whole
+    ∙ ap₂ (λ (s t : List ℕ). s ++ take m t) (take-put_mid_below n k o y n (omega arith) h) (drop_at (take n o) (y ++ post_of n k o) n (length-take-le n o h))
+    ∙ ap₂ (λ (s t : List ℕ). s ++ t) refl (take-append-le m y (post_of n k o) l) in
+    subst (Consumes a c) (sym e) (Consumes-trans a b c _ _ p q)

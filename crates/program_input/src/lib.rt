@@ -1,7 +1,7 @@
 // The input of a program, read whole into a lent buffer. A read that fails is told from the end of the input.
 #![tactic(auto)]
 
-ghost use Rattle.std.specs.Prelude.{◌≡◌, ◌<◌, ◌≤◌, length, take, IfOk};
+ghost use Rattle.std.specs.Prelude.{◌≡◌, ◌<◌, ◌≤◌, length, IfOk};
 ghost use Rattle.program_input.specs.Input.{told, ReadWithin, ReadFrom, InputRead};
 
 use std::io;
@@ -17,19 +17,14 @@ pub fn told(read: io::Result<usize>) -> io::Result<Option<usize>>
     }
 }
 
-// Reads once into the buffer from the place `from` on, which lies in it: how many bytes that gave, one at least, or none at the end of the
-// input; or the read's failure. What stands before that place stays, and the bytes are the next ones of the input.
-pub fn read_once<R: Read>(
-    reader: &mut R,
-    buffer: &mut [u8],
-    from: usize,
-) -> io::Result<Option<usize>>
-    requires { from < length buffer.old }
-    ensures within { ReadWithin from (length buffer.new) result }
-    ensures front { take from buffer.new ≡ take from buffer.old }
-    ensures bytes { ReadFrom from (R.remaining reader.old) (R.remaining reader.new) buffer.new result }
+// Reads once into the slice, which is not empty: how many bytes that gave, one at least, or none at the end of the input; or the read's
+// failure. The bytes are the next ones of the input, and stand at the start of the slice.
+pub fn read_once<R: Read>(reader: &mut R, rest: &mut [u8]) -> io::Result<Option<usize>>
+    requires { 0 < length rest.old }
+    ensures within { ReadWithin (length rest.new) result }
+    ensures bytes { ReadFrom (R.remaining reader.old) (R.remaining reader.new) rest.new result }
 {
-    told(reader.read(&mut buffer[from..]))
+    told(reader.read(rest))
 }
 
 // Reads until the buffer is full or the input is at its end: how many bytes of the input stand at the start of the buffer, all that there
@@ -40,7 +35,7 @@ pub fn read_input<R: Read>(reader: &mut R, buffer: &mut [u8]) -> io::Result<usiz
 {
     let mut done = 0;
     while done < buffer.len() {
-        match read_once(reader, buffer, done)? {
+        match read_once(reader, &mut buffer[done..])? {
             Some(n) => done += n,
             None => return Ok(done),
         }

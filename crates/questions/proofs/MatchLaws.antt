@@ -52,9 +52,9 @@ module _ {b p ix : List ℕ} {n u : ℕ} {prm imgs bnd : List ℕ} {k j i : ℕ}
   pub plain-asks : PlainAsks b p n prm imgs bnd 0 k j
   plain-asks = record { pair = pair-asks; table = h.table; mapped = cleared-mapped b p n imgs bnd h.cleared }
 
-  pub listed-barred : (t : Bool) → PremiseIs b p n prm k j t → not t ≡ true → {r : Answer} → r ≡ refusing Barred n u
+  pub listed-barred : {t : Bool} → PremiseIs b p n prm k j t → not t ≡ true → {r : Answer} → r ≡ refusing Barred n u
       → ListedIs b p n prm imgs bnd k j i b p ix imgs bnd r
-  listed-barred t q e {r} d =
+  listed-barred {t} q e {r} d =
       record {
         answer = λ vs ls.
             judged-as (match-barred vs (sort_at b p n k) (sort_at b p n j) (sort_at b p n i) (sym (not-true t e) ∙ q vs ls))
@@ -64,7 +64,7 @@ module _ {b p ix : List ℕ} {n u : ℕ} {prm imgs bnd : List ℕ} {k j i : ℕ}
       }
 
   -- After matching, whatever it found.
-  module _ (l m : List ℕ) (x : Matched) (w : PlainIs b p n prm imgs bnd 0 k j l m x) where
+  module _ {l m : List ℕ} {x : Matched} (w : PlainIs b p n prm imgs bnd 0 k j l m x) where
     told : Told prm (listed prm)
     told v = refl
 
@@ -73,34 +73,34 @@ module _ {b p ix : List ℕ} {n u : ℕ} {prm imgs bnd : List ℕ} {k j i : ℕ}
         subst (λ (y : Map). Answered b p n l m x (matches (listed_in vs) (sort_at b p n k) (sort_at b p n j) y)) (cleared-map (store_of b p n) imgs bnd)
         (w (listed_in vs) (listed-is prm vs ls))
 
-    pub fits-mapped : (c : ℕ) → x ≡ Fits c → Mapped b p n l m c
-    fits-mapped c e = (subst (λ (y : Matched). Answered b p n l m y (matches (listed prm) (sort_at b p n k) (sort_at b p n j) (table_map (store_of b p n) imgs bnd 0))) e (w (listed prm) told)).mapped
+    pub fits-mapped : {c : ℕ} → x ≡ Fits c → Mapped b p n l m c
+    fits-mapped e = (subst (λ (y : Matched). Answered b p n l m y (matches (listed prm) (sort_at b p n k) (sort_at b p n j) (table_map (store_of b p n) imgs bnd 0))) e (w (listed prm) told)).mapped
 
-    pub misfits-tabled : (c : ℕ) → x ≡ Misfits c → Tabled l m c
-    misfits-tabled c e = (subst (λ (y : Matched). Answered b p n l m y (matches (listed prm) (sort_at b p n k) (sort_at b p n j) (table_map (store_of b p n) imgs bnd 0))) e (w (listed prm) told)).mapped.tabled
+    pub misfits-tabled : {c : ℕ} → x ≡ Misfits c → Tabled l m c
+    misfits-tabled e = (subst (λ (y : Matched). Answered b p n l m y (matches (listed prm) (sort_at b p n k) (sort_at b p n j) (table_map (store_of b p n) imgs bnd 0))) e (w (listed prm) told)).mapped.tabled
 
-    pub result-asks : (c : ℕ) → x ≡ Fits c → ReplaceAsks b p ix n u i l
-    result-asks c e =
-        let d = fits-mapped c e in
+    pub result-asks : {c : ℕ} → x ≡ Fits c → ReplaceAsks b p ix n u i l
+    result-asks e =
+        let d = fits-mapped e in
         record { ready = record { good = h.good; table = record { long = d.tabled.names; below = d.below } }; known = h.result }
 
-    module _ (t : Bool) (q : PremiseIs b p n prm k j t) (o : not t ≡ false) {l' m' : List ℕ} (z : Cleared l' m') where
-      pub listed-fits : (c : ℕ) → x ≡ Fits c → (b' p' ix' : List ℕ) (r : Answer) → InstanceIs b p n l i b' p' ix' r
+    module _ {t : Bool} (q : PremiseIs b p n prm k j t) (o : not t ≡ false) {l' m' : List ℕ} (z : Cleared l' m') where
+      pub listed-fits : {c : ℕ} → x ≡ Fits c → (b' p' ix' : List ℕ) (r : Answer) → InstanceIs b p n l i b' p' ix' r
           → ListedIs b p n prm imgs bnd k j i b' p' ix' l' m' r
-      listed-fits c e b' p' ix' r a =
+      listed-fits {c} e b' p' ix' r a =
           let θ = table_map (store_of b p n) l m c in
           record {
             answer = λ vs ls.
                 judged-as
                 (match_by vs (sort_at b p n k) (sort_at b p n j) (sort_at b p n i) true (some θ) (sym (not-false t o) ∙ q vs ls)
                 (subst (λ (y : Matched). Answered b p n l m y (matches (listed_in vs) (sort_at b p n k) (sort_at b p n j) empty)) e (found-by ls)).result)
-                (a θ (mapped-images b p n l m c (fits-mapped c e)));
+                (a θ (mapped-images b p n l m c (fits-mapped e)));
             images = cleared-images imgs bnd l' m' h.cleared z;
             bound = cleared-bound imgs bnd l' m' h.cleared z;
           }
 
-      pub listed-misfits : (c : ℕ) → x ≡ Misfits c → {r : Answer} → r ≡ refusing NoAssignment n u → ListedIs b p n prm imgs bnd k j i b p ix l' m' r
-      listed-misfits c e {r} d =
+      pub listed-misfits : {c : ℕ} → x ≡ Misfits c → {r : Answer} → r ≡ refusing NoAssignment n u → ListedIs b p n prm imgs bnd k j i b p ix l' m' r
+      listed-misfits e {r} d =
           record {
             answer = λ vs ls.
                 judged-as

@@ -53,23 +53,23 @@ QuestionAnswered s x d q t y w =
     QuestionIs s.records.now s.places.now s.count x.params.now x.images.now x.bound.now d.bytes.now d.table.now q t.records.now t.places.now t.index.now y.params.now y.images.now y.bound.now (word t w)
 
 ---------------------------------------------------------------- questions at their places
--- m sorts are the sheet's.
-abbrev pub AtAsked : Store → Names → ReadSheet → ℕ → ℕ → Type 0
-AtAsked s x d m i =
-    AtAsks s.records.now s.places.now s.index.now s.count s.used x.params.now x.images.now x.bound.now d.bytes.now d.table.now m i
+-- The one whose record stands at i.
+abbrev pub AtAsked : Store → Names → ReadSheet → ℕ → Type 0
+AtAsked s x d i =
+    AtAsks s.records.now s.places.now s.index.now s.count s.used x.params.now x.images.now x.bound.now d.bytes.now d.table.now d.sorts i
 
-abbrev pub AtAnswered : Store → Names → ReadSheet → ℕ → ℕ → Store → Names → ℕ → Type 0
-AtAnswered s x d m i t y w =
-    AtIs s.records.now s.places.now s.count x.params.now x.images.now x.bound.now d.bytes.now d.table.now m i t.records.now t.places.now t.index.now y.params.now y.images.now y.bound.now (word t w)
+abbrev pub AtAnswered : Store → Names → ReadSheet → ℕ → Store → Names → ℕ → Type 0
+AtAnswered s x d i t y w =
+    AtIs s.records.now s.places.now s.count x.params.now x.images.now x.bound.now d.bytes.now d.table.now d.sorts i t.records.now t.places.now t.index.now y.params.now y.images.now y.bound.now (word t w)
 
 abbrev pub counts_of : Store → Counts
 counts_of t = record { count = t.count; used = t.used }
 
 -- Those at the places ys, into the list an.
-abbrev pub AllAsked : Store → Names → ReadSheet → ℕ → List ℕ → List ℕ → Type 0
-AllAsked s x d m ys an =
-    AllAsks s.records.now s.places.now s.index.now s.count s.used x.params.now x.images.now x.bound.now d.bytes.now d.table.now m ys (length ys) an
+abbrev pub AllAsked : Store → Names → ReadSheet → List ℕ → List ℕ → Type 0
+AllAsked s x d ys an =
+    AllAsks s.records.now s.places.now s.index.now s.count s.used x.params.now x.images.now x.bound.now d.bytes.now d.table.now d.sorts ys (length ys) an
 
-abbrev pub AllAnswered : Store → Names → ReadSheet → ℕ → List ℕ → List ℕ → Store → Names → List ℕ → Type 0
-AllAnswered s x d m ys an t y an' =
-    AllIs s.records.now s.places.now s.count x.params.now x.images.now x.bound.now d.bytes.now d.table.now m ys (length ys) an t.records.now t.places.now t.index.now y.params.now y.images.now y.bound.now an' (counts_of t)
+abbrev pub AllAnswered : Store → Names → ReadSheet → List ℕ → List ℕ → Store → Names → List ℕ → Type 0
+AllAnswered s x d ys an t y an' =
+    AllIs s.records.now s.places.now s.count x.params.now x.images.now x.bound.now d.bytes.now d.table.now d.sorts ys (length ys) an t.records.now t.places.now t.index.now y.params.now y.images.now y.bound.now an' (counts_of t)

@@ -16,10 +16,10 @@ pub fn answer_at(
     sheet: &ReadSheet<'_>,
     at: usize,
 ) -> u32
-    requires { AtAsked store.old names.old sheet.now sheet.now.sorts at }
+    requires { AtAsked store.old names.old sheet.now at }
     ensures same { Same store.old store.new }
     ensures names { SameNames names.old names.new }
-    ensures answer { AtAnswered store.old names.old sheet.now sheet.now.sorts at store.new names.new result }
+    ensures answer { AtAnswered store.old names.old sheet.now at store.new names.new result }
 {
     let (question, _) = (Cursor { at }).question(sheet.bytes, sheet.sorts).unwrap();
     answer_question(store, names, sheet, question)
@@ -33,12 +33,12 @@ pub fn answer_all(
     asked: &[u16],
     answers: &mut [u32],
 )
-    requires { AllAsked store.old names.old sheet.now sheet.now.sorts asked.now answers.old }
+    requires { AllAsked store.old names.old sheet.now asked.now answers.old }
     ensures same { Same store.old store.new }
     ensures names { SameNames names.old names.new }
-    ensures answers { AllAnswered store.old names.old sheet.now sheet.now.sorts asked.now answers.old store.new names.new answers.new }
+    ensures answers { AllAnswered store.old names.old sheet.now asked.now answers.old store.new names.new answers.new }
 {
     for (q, at) in asked.iter().enumerate() {
-        answers[q] = answer_at(store, names, sheet, *at as usize);
+        answers[q] = answer_at(store, names, sheet, usize::from(*at));
     }
 }

@@ -5,12 +5,11 @@ pub mod all;
 pub mod images;
 pub mod matched;
 
-ghost use Rattle.std.specs.Prelude.{◌≡◌};
+ghost use Rattle.std.specs.Prelude.{◌≡◌, ◌<◌};
 ghost use Rattle.store.specs.Changes.{Same};
 ghost use Rattle.matching_tables.specs.Names.{SameNames};
-ghost use Rattle.record.specs.Decode.{sort_at};
 ghost use Rattle.substitution.specs.Compatible.{compatible};
-ghost use Rattle.matching_tables.specs.Usable.{PairAsks};
+ghost use Rattle.matching_tables.specs.Words.{sort_in};
 ghost use Rattle.judge_rules.specs.Questions.{yes_no};
 ghost use Rattle.questions.specs.Words.{QuestionAsked, QuestionAnswered};
 
@@ -27,8 +26,8 @@ use store::entries::Sorts;
 
 // Question 0: 1 where the two sorts are compatible, else 0.
 pub fn answer_compatible(sorts: &Sorts<'_>, p: usize, t: usize) -> u32
-    requires { PairAsks sorts.now.records.now sorts.now.places.now sorts.now.count p t }
-    ensures { result ≡ yes_no (compatible (sort_at sorts.now.records.now sorts.now.places.now sorts.now.count p) (sort_at sorts.now.records.now sorts.now.places.now sorts.now.count t)) }
+    requires { (p < sorts.now.count) × (t < sorts.now.count) }
+    ensures { result ≡ yes_no (compatible (sort_in sorts.now p) (sort_in sorts.now t)) }
 {
     u32::from(is_compatible(sorts, p, t))
 }

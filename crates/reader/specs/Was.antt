@@ -1,6 +1,7 @@
 -- What a field that was read tells: its value, where it stands, and where the next one starts.
 use Rattle.std.specs.Prelude.{ℕ, zero, suc, ◌+◌, ◌*◌, ◌≤◌, ◌<◌, ◌≡◌, refl, Bool, true, false, cond, ◌||◌, List, [], ◌∷◌, length, get_or, leb, ltb, eqb, T, Option, Some, None, Result, Ok, Err}
 use Rattle.std.proofs.Common.{sym, ap, ap₂, ◌∙◌, arith, not-suc-le-zero, leb-true, ltb-true}
+use mathlib.Core.Bool.{or-true}
 use Rattle.record.specs.Number.{u16_at, u32_at, numbers_at}
 use Rattle.record.specs.Names.{distinct}
 use Rattle.record.specs.Record.{bit}
@@ -20,12 +21,13 @@ use Rattle.reader.specs.Reader.{Read, demand, then_read, of_kind, gave, got, spa
 pub no-value : {V B : Type 0} {e : Refusal} {v : V} → ◌≡◌ {A = Result V Refusal} (Err e) (Ok v) → B
 no-value h = let z : ◌≡◌ {A = ℕ} 0 1 = cc in absurd (omega arith)
 
--- A CHAIN TAKEN APART: the value v at its end comes from what each step goes on to.
-module _ {V B : Type 0} {v : V} where
-  pub by-need : {fail go : Result V Refusal} (t : Bool) → demand t fail go ≡ Ok v → (fail ≡ Ok v → B) → (t ≡ true → go ≡ Ok v → B) → B
-  by-need true h f g = g refl h
-  by-need false h f g = f h
+-- A CHAIN TAKEN APART: the answer v of a test comes from its refusal or from what goes on, and each way gives B.
+pub by-need : {A B : Type 0} {v fail go : A} (t : Bool) → demand t fail go ≡ v → (fail ≡ v → B) → (t ≡ true → go ≡ v → B) → B
+by-need true h f g = g refl h
+by-need false h f g = f h
 
+-- The value v at the end of a chain comes from what each of its steps goes on to.
+module _ {V B : Type 0} {v : V} where
   pub by-read : {A : Type 0} (go : A → ℕ → Result V Refusal) (o : Read A) → then_read o go ≡ Ok v
       → ((a : A) (c : Cursor) → o ≡ gave a c → go a c.at ≡ Ok v → B) → B
   by-read go (Ok r) h g = g r.0 r.1 refl h
@@ -260,10 +262,6 @@ pub names-were : (s : List ℕ) (m least most x : ℕ) {l : Span} {c : Cursor} �
     → ListWas s (bit 64 m) least most x l.at l.count c × (distinct (numbers_at s l.at l.count) ≡ true)
 unfolding read_names distinct
 names-were s m least most x r = tested s least most x distinct Value refl (bit 64 m) r
-
-or-true : (a : Bool) → (a || true) ≡ true
-or-true true = refl
-or-true false = refl
 
 pub second-was : (s : List ℕ) (m k n limit x : ℕ) {l : Span} {c : Cursor} → read_second s m k n limit x ≡ gave l c
     → ListWas s (bit 64 m) (second_least_of k n) (second_most_of k n) x l.at l.count c × ((eqb k 9 || all_below limit (numbers_at s l.at l.count)) ≡ true)

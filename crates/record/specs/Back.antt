@@ -22,7 +22,8 @@ use Rattle.record.specs.SortLists.{Once, Ordered, memb_all, parts_in, index-foun
 use Rattle.record.specs.StoreLaws.{sort-agree}
 use Rattle.record.specs.Sizes.{Formed, AllFormed, formed-shape, record-of-size}
 
-sorts-back : (st : List Sort) (ss : Sorts) → memb_all ss st ≡ true → sorts_of st (indices_of ss st) ≡ ss
+-- THE REFERENCES OF A LIST OF SORTS STAND FOR IT, over a store that has them.
+pub sorts-back : (st : List Sort) (ss : Sorts) → memb_all ss st ≡ true → sorts_of st (indices_of ss st) ≡ ss
 unfolding memb_all sorts_of indices_of
 sorts-back st end m = refl
 sorts-back st (s then ss) m =
@@ -40,7 +41,7 @@ sort-back st (node k a w ss) h m =
 
 -- The references of a sort's record are below m, where those of every sort that may be a part are.
 module _ (st ts : List Sort) (m : ℕ) (low : (s : Sort) → memb s ts ≡ true → index_of s st < m) where
-  indices-below : (ss : Sorts) → memb_all ss ts ≡ true → (j : ℕ) → j < length (indices_of ss st) → get_or (indices_of ss st) j 0 < m
+  pub indices-below : (ss : Sorts) → memb_all ss ts ≡ true → (j : ℕ) → j < length (indices_of ss st) → get_or (indices_of ss st) j 0 < m
   unfolding memb_all indices_of
   indices-below end h j o = absurd (not-suc-le-zero o)
   indices-below (s then ss) h zero o = low s (and_left (memb s ts) (memb_all ss ts) h)

@@ -1,9 +1,12 @@
 -- Small laws of Bool, Option and numbers that the laws of sorts, substitution, matching and rows use: taking tests apart, and cases that keep
 -- their equation.
-use Rattle.std.specs.Prelude.{ℕ, zero, suc, ◌<◌, ◌≡◌, refl, Bool, true, false, not, ◌&&◌, ◌||◌, eqb}
+use Rattle.std.specs.Prelude.{ℕ, zero, suc, ◌<◌, ◌≡◌, refl, Bool, true, false, ◌&&◌, ◌||◌, eqb}
 use Rattle.std.proofs.Common.{sym, true≢false, arith, eq-eqb, eqb-true}
 use Rattle.std.proofs.lemmas.Bool.{false≢true}
 use Rattle.std.proofs.Math.Option.{Option, none, some}
+-- A conjunction of two tests that hold holds, and one with a false side is false. A disjunction holds if one of its sides does.
+-- A test whose negation held failed; one whose negation failed held. A test that does not hold is false.
+pub use Rattle.std.proofs.lemmas.Bool.{and_from as and-true, and_left as false-first, and_right as false-second, or_left as or-first, or_right as or-second, not-true, not-false, false_from_ne_true as not-true-false}
 
 -- Both sides of a conjunction that holds; `search conj` finds them where they are nested.
 pub and_left : (a b : Bool) → (a && b) ≡ true → a ≡ true
@@ -16,9 +19,6 @@ and_right false b e = absurd (false≢true e)
 
 pub ruleset conj = (and_left, and_right)
 
-pub and-true : (a b : Bool) → a ≡ true → b ≡ true → (a && b) ≡ true
-and-true a b p q = rw (p, q)
-
 -- The three sides of a conjunction of three.
 pub three : (a b c : Bool) → (a && b && c) ≡ true → (a ≡ true) × (b ≡ true) × (c ≡ true)
 three true true c e = (refl, refl, e)
@@ -29,15 +29,6 @@ three false b c e = absurd (false≢true e)
 pub three-right : (a b c : Bool) → (a && (b && c)) ≡ true → (a ≡ true) × (b ≡ true) × (c ≡ true)
 three-right a b c e = let f = and_right a (b && c) e in (and_left a (b && c) e, and_left b c f, and_right b c f)
 
--- A conjunction with a false side is false.
-pub false-first : (a b : Bool) → a ≡ false → (a && b) ≡ false
-false-first true b e = absurd (true≢false e)
-false-first false b e = refl
-
-pub false-second : (a b : Bool) → b ≡ false → (a && b) ≡ false
-false-second true b e = e
-false-second false b e = refl
-
 -- Both sides of a disjunction that fails.
 pub or_left : (a b : Bool) → (a || b) ≡ false → a ≡ false
 or_left true b e = e
@@ -47,15 +38,7 @@ pub or_right : (a b : Bool) → (a || b) ≡ false → b ≡ false
 or_right true b e = absurd (true≢false e)
 or_right false b e = e
 
--- A disjunction holds if one of its sides does, and then one of them does.
-pub or-first : (a b : Bool) → a ≡ true → (a || b) ≡ true
-or-first true b e = refl
-or-first false b e = absurd (false≢true e)
-
-pub or-second : (a b : Bool) → b ≡ true → (a || b) ≡ true
-or-second true b e = refl
-or-second false b e = e
-
+-- If a disjunction holds, one of its sides does.
 pub or_cases : {C : Type 0} (a b : Bool) → (a || b) ≡ true → (a ≡ true → C) → (b ≡ true → C) → C
 or_cases true b e f g = f refl
 or_cases false b e f g = g e
@@ -76,15 +59,6 @@ last-two false false false = refl
 pub said-twice : (a : Bool) → (a || false || false || a) ≡ a
 said-twice true = refl
 said-twice false = refl
-
--- A test whose negation held failed; one whose negation failed held.
-pub not-true : (a : Bool) → not a ≡ true → a ≡ false
-not-true true e = sym e
-not-true false e = refl
-
-pub not-false : (a : Bool) → not a ≡ false → a ≡ true
-not-false true e = refl
-not-false false e = sym e
 
 -- A test cannot both hold and fail.
 pub clash : {C : Type 0} {a : Bool} → a ≡ true → a ≡ false → C
@@ -119,11 +93,6 @@ none-some {A} {C} {x} e = let z : true ≡ false = cc in absurd (true≢false z)
 
 pub some_inj : {A : Type 0} {x y : A} → some x ≡ some y → x ≡ y
 some_inj {A} {x} {y} e = cc
-
--- A test that does not hold is false.
-pub not-true-false : (a : Bool) → (a ≡ true → ⊥) → a ≡ false
-not-true-false true h = absurd (h refl)
-not-true-false false h = refl
 
 -- A number below the next one and other than this one is below this one.
 pub below_other : (a b : ℕ) → a < suc b → (a ≡ b → ⊥) → a < b

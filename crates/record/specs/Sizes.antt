@@ -1,6 +1,7 @@
 -- How long records are: the bytes of a record by its fields and by its sort, at most 266; the size of a record's sort.
 use Rattle.std.specs.Prelude.{ℕ, suc, ◌+◌, ◌*◌, ◌≤◌, ◌<◌, ◌≡◌, refl, Bool, true, false, List, [], ◌∷◌, ◌++◌, length, get_or, leb}
 use Rattle.std.proofs.Common.{sym, ap, subst, ◌∙◌, arith, length-append, leb→le}
+use Rattle.std.proofs.lemmas.List.{nil_from_length}
 use Rattle.record.specs.Sort.{Sort, Sorts, var, par, node, end, ◌then◌, count, size, sizes}
 use Rattle.record.specs.Record.{Fields, bit, maps, map_of, mosts, most_of, name_bytes, number_bytes, list_bytes, record_bytes, leaf, sorts_of, sort_of}
 use Rattle.record.specs.Store.{given, record_size, index_of, indices_of, fields_of, record_of}
@@ -122,7 +123,7 @@ pub shape-list : (f : Fields) → Shape f → (l : List ℕ) → length l ≡ le
 shape-list f s l e =
     record {
       known = s.known;
-      proper = record { no_name = s.proper.no_name; no_number = s.proper.no_number; no_list = λ h. none l (e ∙ ap length (s.proper.no_list h)); no_names = s.proper.no_names };
+      proper = record { no_name = s.proper.no_name; no_number = s.proper.no_number; no_list = λ h. nil_from_length l (e ∙ ap length (s.proper.no_list h)); no_names = s.proper.no_names };
       name = s.name;
       number = s.number;
       least = omega (arith, s.least, e);
@@ -131,10 +132,6 @@ shape-list f s l e =
       few = s.few;
       once = s.once;
     }
-  where
-    none : (l : List ℕ) → length l ≡ 0 → l ≡ []
-    none [] q = refl
-    none (a ∷ l) q = absurd (omega arith)
 
 pub formed-shape : (st : List Sort) (s : Sort) → Formed s → Shape (fields_of st s)
 unfolding fields_of

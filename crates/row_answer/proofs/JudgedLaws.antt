@@ -1,11 +1,11 @@
 -- Whether the rows of a list are refusals, by the test of each.
 use Rattle.std.specs.Prelude.{◌≡◌, ℕ, zero, suc, ◌+◌, ◌*◌, ◌<◌, Bool, true, false, List, [], ◌∷◌, length, get_or, ltb}
 use Rattle.std.specs.List.{list_all}
-use Rattle.std.proofs.Common.{arith, not-suc-le-zero, ltb-true, ltb-false, sym, ap, true≢false}
+use Rattle.std.proofs.Common.{arith, not-suc-le-zero, ltb-true, ltb-false, sym, true≢false}
 use Rattle.record.specs.Number.{numbers_at}
-use Rattle.record.specs.Codec.{length-numbers_at, number_at}
+use Rattle.record.specs.Codec.{length-numbers_at}
 use Rattle.record.specs.Cases.{and_left, and_right, by_test}
-use Rattle.row_answer.specs.Arguments.{row_at, JudgedIs, judged-clear, judged-hit}
+use Rattle.row_answer.specs.Arguments.{number-row, JudgedIs, judged-clear, judged-hit}
 
 -- An entry of a list that is not one of those that all pass.
 record Fails (p : ℕ → Bool) (is : List ℕ) : Type 0 where
@@ -29,21 +29,17 @@ module _ (sheet : List ℕ) (at n : ℕ) (rows : List ℕ) (column : ℕ) where
   abbrev low : ℕ → Bool
   low t = ltb (get_or rows (2 * t + column) 0) 65536
 
-  -- the number in a place of the list is that of the sheet there
-  row-there : (j : ℕ) → j < n → get_or rows (2 * get_or (numbers_at sheet at n) j 0 + column) 0 ≡ row_at sheet at rows column j
-  row-there j l = ap (λ (i : ℕ). get_or rows (2 * i + column) 0) (number_at sheet at n j l)
-
   judged-case : (r : Bool) → list_all low (numbers_at sheet at n) ≡ r → JudgedIs sheet at n rows column r
   judged-case true a =
       judged-clear sheet at n rows column
       (λ j l.
       let o = all-pass low (numbers_at sheet at n) a j (omega (arith, length-numbers_at sheet at n)) in
-      omega (arith, row-there j l, ltb-true (get_or rows (2 * get_or (numbers_at sheet at n) j 0 + column) 0) 65536 o))
+      omega (arith, number-row sheet at n rows column j l, ltb-true (get_or rows (2 * get_or (numbers_at sheet at n) j 0 + column) 0) 65536 o))
   judged-case false a =
       let o = one-fails low (numbers_at sheet at n) a in
       let l : o.place < n = omega (arith, o.low, length-numbers_at sheet at n) in
       judged-hit sheet at n rows column o.place l
-      (omega (arith, row-there o.place l, ltb-false (get_or rows (2 * get_or (numbers_at sheet at n) o.place 0 + column) 0) 65536 o.fails))
+      (omega (arith, number-row sheet at n rows column o.place l, ltb-false (get_or rows (2 * get_or (numbers_at sheet at n) o.place 0 + column) 0) 65536 o.fails))
 
   pub judged-by : (r : Bool) → r ≡ list_all low (numbers_at sheet at n) → JudgedIs sheet at n rows column r
   judged-by r e = judged-case r (sym e)

@@ -38,7 +38,7 @@ module _ (st : List Sort) (a : List ℕ) (x m : ℕ) (h : 64 < m) where
   relation-over = over-inner 15 0 0 (sorts_of st (numbers_at a x m)) long-list
 
 -- Numbers whose bytes agree.
-numbers-same : (a : List ℕ) (x : ℕ) (b : List ℕ) (y m : ℕ) → ((i : ℕ) → i < 2 * m → get_or a (x + i) 0 ≡ get_or b (y + i) 0) → numbers_at a x m ≡ numbers_at b y m
+pub numbers-same : (a : List ℕ) (x : ℕ) (b : List ℕ) (y m : ℕ) → ((i : ℕ) → i < 2 * m → get_or a (x + i) 0 ≡ get_or b (y + i) 0) → numbers_at a x m ≡ numbers_at b y m
 unfolding numbers_at u16_at
 numbers-same a x b y zero h = refl
 numbers-same a x b y (suc m) h =

@@ -142,7 +142,8 @@ module _ (st : List Sort) (rows : List ℕ) (column : ℕ) where
   sorts-hit (i ∷ is) (suc j) l h = ap (consed (row_sort st rows column i)) (sorts-hit is j (omega arith) h) ∙ consed-none (row_sort st rows column i)
 
 module _ (sheet : List ℕ) (at n : ℕ) (rows : List ℕ) (column : ℕ) where
-  number-row : (j : ℕ) → j < n → get_or rows (2 * get_or (numbers_at sheet at n) j 0 + column) 0 ≡ row_at sheet at rows column j
+  -- The row of the term in a place of the list.
+  pub number-row : (j : ℕ) → j < n → get_or rows (2 * get_or (numbers_at sheet at n) j 0 + column) 0 ≡ row_at sheet at rows column j
   number-row j l = ap (λ (i : ℕ). get_or rows (2 * i + column) 0) (number_at sheet at n j l)
 
   all-clear : ((j : ℕ) → j < n → row_at sheet at rows column j < 65536) → (st : List Sort) → arguments_of st sheet at n rows column ≡ some (sorts_of st (codes_of rows column (numbers_at sheet at n)))

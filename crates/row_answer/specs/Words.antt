@@ -11,7 +11,7 @@ use Rattle.sheet.specs.declared.ReadSheet.{ReadSheet}
 use Rattle.row_rules.specs.declared.Cause.{Cause}
 use Rattle.row_answer.specs.declared.arguments.Args.{Args}
 use Rattle.row_answer.specs.Answer.{answer}
-use Rattle.row_answer.specs.Asks.{MakeAsks, LeafAsks, VariableAsks, KnownAsks, StoredListAsks, ListedAsks, RemainingAsks, SetOverAsks, OverIs}
+use Rattle.row_answer.specs.Asks.{MakeAsks, LeafAsks, VariableAsks, StoredListAsks, ListedAsks, RemainingAsks, SetOverAsks, OverIs}
 use Rattle.row_answer.specs.Arguments.{LambdaAsks, bound_numbers, constants_in}
 
 ---------------------------------------------------------------- sorts
@@ -43,10 +43,7 @@ LeafAsked s kind = LeafAsks s.records.now s.places.now s.index.now s.count s.use
 abbrev pub VariableAsked : Store → ℕ → Type 0
 VariableAsked s name = VariableAsks s.records.now s.places.now s.index.now s.count s.used name
 
--- A sort of the store is lent, or one that was made last over n sorts.
-abbrev pub KnownAsked : Store → ℕ → Type 0
-KnownAsked s k = KnownAsks s.records.now s.places.now s.index.now s.count s.used k
-
+-- A sort that was made last over n sorts.
 abbrev pub SetOverAsked : Store → ℕ → ℕ → Type 0
 SetOverAsked s k n = SetOverAsks s.records.now s.places.now s.index.now s.count s.used k n
 

@@ -1,11 +1,12 @@
 // The arguments of a term: the numbers of their sorts from the rows before it, and the sorts of bindings, put together in a
 // lent array; and integer constants.
-ghost use Rattle.std.specs.Prelude.{◌≡◌, ◌+◌, ◌*◌, ◌≤◌, ◌<◌, ◌-◌, IfSome, true, length, get_or, take, drop, set};
+ghost use Rattle.std.specs.Prelude.{◌≡◌, ◌+◌, ◌*◌, ◌≤◌, ◌<◌, ◌-◌, IfSome, OnOk, IfErr, is_ok, length, get_or, take, drop, set};
 ghost use Rattle.record.specs.Codec.{Bytes};
 ghost use Rattle.record.specs.Decode.{written};
 ghost use Rattle.record.specs.Kinds.{sort_number};
 ghost use Rattle.record.specs.Number.{u16_at, numbers_at};
 ghost use Rattle.record.specs.Numbers.{numbers_left};
+ghost use Rattle.row_rules.specs.declared.Cause.TheVariants.{Below};
 ghost use Rattle.row_answer.specs.Arguments.{column_number, GatherAsks, GatherIs, JudgedAsks, JudgedIs, PutNumberAsks, put_at, BindingsAsks, BindingsAre, ConstantAsks, integer_of, integer_at, IndexAsks, IndexIs};
 
 use super::MAP_LIST;
@@ -14,6 +15,7 @@ use record::limits::REFUSED;
 use record::numbers::Numbers;
 use record::span::Span;
 use record::{u16_at, u32_at};
+use row_rules::Cause;
 use sheet::ReadSheet;
 use store::buffers::copy_at;
 
@@ -137,22 +139,29 @@ impl Args<'_> {
     }
 
     // Writes the sorts of the terms that the sheet names in `list`, by their rows in a column, in place of what was there;
-    // false where one of these rows is refused.
-    pub fn gather(&mut self, sheet: &[u8], list: Span, rows: &[u32], column: Column) -> bool
+    // Below where one of these rows is refused.
+    pub fn gather(
+        &mut self,
+        sheet: &[u8],
+        list: Span,
+        rows: &[u32],
+        column: Column,
+    ) -> Result<(), Cause>
         requires { GatherAsks sheet.now list.at list.count rows.now (column_number column) self.old.bytes.now }
         ensures same { SameArgs self.old self.new }
-        ensures count { result ≡ true → self.new.count ≡ list.count }
-        ensures gathered { GatherIs sheet.now list.at list.count rows.now (column_number column) self.new.bytes.now result }
+        ensures count { OnOk result (self.new.count ≡ list.count) }
+        ensures cause { IfErr result (λ e. e ≡ Below) }
+        ensures gathered { GatherIs sheet.now list.at list.count rows.now (column_number column) self.new.bytes.now (is_ok result) }
     {
         self.clear();
         for t in list.numbers(sheet) {
             let k = row_of(rows, t, column);
             if REFUSED <= k {
-                return false;
+                return Err(Cause::Below);
             }
             self.push(k);
         }
-        true
+        Ok(())
     }
 
     // Writes the store numbers of the sorts of pairs of the sheet in place of what was there.

@@ -1,5 +1,6 @@
 // Answers made over numbers of the store. Lists of arguments and of parts are put together in a lent array from byte 3 on,
 // where the list of a Function, Set or Tuple record stands.
+ghost use Rattle.std.specs.Prelude.{◌<◌};
 ghost use Rattle.record.specs.Kinds.{sort_number};
 ghost use Rattle.record.specs.Sort.{node, set, tuple, function};
 ghost use Rattle.record.specs.Record.{sort_of};
@@ -10,7 +11,7 @@ ghost use Rattle.row_rules.specs.Verdict.{sort};
 ghost use Rattle.row_rules.specs.Lists.{remaining, joined};
 ghost use Rattle.row_answer.specs.Answer.{Answered};
 ghost use Rattle.row_answer.specs.Args.{SameArgs};
-ghost use Rattle.row_answer.specs.Words.{args_in, parts_in, bound_in, MakeAsked, KnownAsked, SetOverAsked, StoredListAsked, ListedAsked, RemainingAsked, LambdaAsked, SetOver};
+ghost use Rattle.row_answer.specs.Words.{args_in, parts_in, bound_in, MakeAsked, SetOverAsked, StoredListAsked, ListedAsked, RemainingAsked, LambdaAsked, SetOver};
 
 use super::arguments::Args;
 use super::{MAP_LIST, make};
@@ -38,7 +39,7 @@ pub fn listed(store: &mut Store<'_>, kind: SortKind, list: &mut Args<'_>) -> Row
 
 // The Set of the sort k.
 pub fn set_of(store: &mut Store<'_>, k: usize) -> Row
-    requires { KnownAsked store.old k }
+    requires { k < store.old.count }
     ensures same { Same store.old store.new }
     ensures answer { Answered store.old (sort (set (sort_in store.old k))) store.new result }
 {

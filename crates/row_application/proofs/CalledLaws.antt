@@ -16,10 +16,11 @@ use Rattle.substitution.specs.Matching.{matches_all, listed_in}
 use Rattle.matching_tables.specs.Matched.{Matched, Fits, Misfits, found}
 use Rattle.matching_tables.specs.MapLaws.{found-fits, found-misfits}
 use Rattle.matching_tables.specs.Tables.{Told, listed, Lists, Added, table_map}
-use Rattle.matching_tables.specs.TableLaws.{listed-is, added-back, cleared-map, cleared-images, cleared-bound}
+use Rattle.matching_tables.specs.TableLaws.{listed-is, added-back, cleared-map, cleared-mapped, cleared-images, cleared-bound}
 use Rattle.matching_tables.specs.Usable.{sorts_at}
 use Rattle.matching_tables.specs.Contract.{AddAsks, Answered}
-use Rattle.matching.specs.Contract.{MatchAllIs}
+use Rattle.matching.specs.Contract.{MatchAllIs, MatchListsAsk, MatchListsIs}
+use Rattle.matching_tables.specs.WalkLaws.{lists-ask}
 use Rattle.matching_tables.specs.Entered.{good-usable}
 use Rattle.row_rules.specs.declared.Cause.TheVariants.{Count, Misfit, Unassigned}
 use Rattle.row_rules.specs.Verdict.{Verdict, sort, refused, need}
@@ -37,7 +38,7 @@ use Rattle.std.specs.Prelude.{Result, ⊤}
 use Rattle.row_rules.specs.declared.Cause.{Cause}
 use Rattle.row_application.specs.Words.{call_in}
 use Rattle.row_application.proofs.AppLaws.{app-refused}
-use Rattle.row_application.proofs.ListLaws.{count_at, firsts_at, others-at, refs-behind}
+use Rattle.row_application.proofs.ListLaws.{count_at, firsts_at, others-at, refs-behind, refs-part}
 use Rattle.row_application.proofs.SettledLaws.{settled-remaining}
 use Rattle.row_application.proofs.TableLaws.{add-asks, listed-names}
 
@@ -129,27 +130,56 @@ module _ {b p : List ℕ} {n : ℕ} {prm imgs bnd : List ℕ} {x m : ℕ} {a : L
         }
 
 ---------------------------------------------------------------- the same, over what is known of the spans
+-- The arguments fit, with q names bound; behind as many sorts of the list there are m' from x' on.
+pub record FitMatched (b p : List ℕ) (n : ℕ) (prm imgs bnd : List ℕ) (x m : ℕ) (a : List ℕ) (k : ℕ) (prm' l d : List ℕ) (q x' m' : ℕ) : Type 0 where
+  pub asks : AppFitAsks b p n prm imgs bnd x m a k
+  pub matched : MatchAllIs b p n prm imgs bnd 0 b x a 5 k l d (Fits q)
+  pub params : prm' ≡ prm
+  pub place : x' ≡ x + 2 * k
+  pub many : m' ≡ m - k
+
 module _ {b p : List ℕ} {n : ℕ} {prm imgs bnd : List ℕ} {x m : ℕ} {a : List ℕ} {k : ℕ} (h : AppFitAsks b p n prm imgs bnd x m a k) {z y j : ℕ} (ez : z ≡ 0) (ey : y ≡ 5) (ej : j ≡ k)
-    {l d : List ℕ} (q : ℕ) (t : Bool) (w : MatchAllIs b p n prm imgs bnd z b x a y j l d (found q t)) where
-  match-is : MatchAllIs b p n prm imgs bnd 0 b x a 5 k l d (found q t)
-  match-is = rw (ez, ey, ej) at w
+    {ks js : List ℕ} (ek : ks ≡ numbers_at b x j) (ea : js ≡ numbers_at a y j) where
+  pub match-asked : MatchListsAsk b p n prm imgs bnd z ks js
+  match-asked =
+      rw (ez, ek, ea, ey, ej)
+      (record {
+        lists = lists-ask (record { usable = h.usable; left = refs-part k h.list h.fewer; right = h.args });
+        table = h.table;
+        mapped = cleared-mapped b p n imgs bnd h.cleared;
+      })
 
-  pub fit-misfits : t ≡ false → AppFitIs b p n prm x m a k l d (Fails Misfit q)
-  fit-misfits e = fit-fails h l d (found q t) match-is q (found-misfits q e)
+  module _ {l d : List ℕ} (q : ℕ) (t : Bool) (w : MatchListsIs b p n prm imgs bnd z ks js l d (found q t)) where
+    match-is : MatchAllIs b p n prm imgs bnd 0 b x a 5 k l d (found q t)
+    match-is = rw (ez, ek, ea, ey, ej) at w
 
-  module _ (e : t ≡ true) {prm' : List ℕ} (ep : prm' ≡ prm) {x' m' : ℕ} (ex : x' ≡ x + 2 * k) (em : m' ≡ m - k) where
-    pub settled-asked : SettledAllAsks b p n prm' l x' m'
-    settled-asked = rw (ep, ex, em) (settled-asks h l d (found q t) match-is q (found-fits q e))
+    pub fit-misfits : t ≡ false → AppFitIs b p n prm x m a k l d (Fails Misfit q)
+    fit-misfits e = fit-fails h l d (found q t) match-is q (found-misfits q e)
 
-    module _ {r : Bool} (g : SettledAllIs b p n prm' l x' m' r) where
-      settled-is : SettledAllIs b p n prm l (x + 2 * k) (m - k) r
-      settled-is = rw (ep, ex, em) at g
+    pub fit-matched : t ≡ true → {prm' : List ℕ} {x' m' : ℕ} → prm' ≡ prm → x' ≡ x + 2 * k → m' ≡ m - k → FitMatched b p n prm imgs bnd x m a k prm' l d q x' m'
+    fit-matched e ep ex em =
+        record {
+          asks = h;
+          matched = subst (λ (r : Matched). MatchAllIs b p n prm imgs bnd 0 b x a 5 k l d r) (found-fits q e) match-is;
+          params = ep;
+          place = ex;
+          many = em;
+        }
 
-      pub fit-open : r ≡ false → AppFitIs b p n prm x m a k l d (Fails Unassigned q)
-      fit-open o = fit-unsettled h l d (found q t) match-is q (found-fits q e) r settled-is o
+-- What remains of them, looked through.
+module _ {b p : List ℕ} {n : ℕ} {prm imgs bnd : List ℕ} {x m : ℕ} {a : List ℕ} {k : ℕ} {prm' l d : List ℕ} {q x' m' : ℕ} (f : FitMatched b p n prm imgs bnd x m a k prm' l d q x' m') where
+  pub settled-asked : SettledAllAsks b p n prm' l x' m'
+  settled-asked = rw (f.params, f.place, f.many) (settled-asks f.asks l d (Fits q) f.matched q refl)
 
-      pub fit-done : r ≡ true → AppFitIs b p n prm x m a k l d (Settled q)
-      fit-done o = fit-settled h l d (found q t) match-is q (found-fits q e) r settled-is o
+  module _ {r : Bool} (g : SettledAllIs b p n prm' l x' m' r) where
+    settled-is : SettledAllIs b p n prm l (x + 2 * k) (m - k) r
+    settled-is = rw (f.params, f.place, f.many) at g
+
+    pub fit-open : r ≡ false → AppFitIs b p n prm x m a k l d (Fails Unassigned q)
+    fit-open o = fit-unsettled f.asks l d (Fits q) f.matched q refl r settled-is o
+
+    pub fit-done : r ≡ true → AppFitIs b p n prm x m a k l d (Settled q)
+    fit-done o = fit-settled f.asks l d (Fits q) f.matched q refl r settled-is o
 
 ---------------------------------------------------------------- listing the names and taking them off
 module _ {b p : List ℕ} {n : ℕ} {prm imgs bnd : List ℕ} {f : Callee} {a : List ℕ} {k : ℕ} (h : FittedAsks b p n prm imgs bnd f a k) where

@@ -4,6 +4,7 @@ use mathlib.Core.Path.{◌≡◌, refl, sym, ap, ap₂, subst, ◌∙◌}
 use mathlib.Core.Bool.{Bool, true, false, ◌&&◌}
 use mathlib.Core.List.{List, [], ◌∷◌}
 use Rattle.std.proofs.Common.{◌⊎◌, inl, inr}
+use Rattle.std.proofs.lemmas.List.{nil_from_length}
 use mathlib.Core.Option.{Option, none, some}
 use native.Mathlib.Omega.{arith}
 use native.Mathlib.Nat.{not-suc-le-zero}
@@ -59,10 +60,6 @@ pub record ExactRun (b p : List ℕ) (n x : ℕ) (a : List ℕ) (k : ℕ) (xs ys
   pub rest : (f : ℕ → Bool) → NoNames f
       → matches_all f (sorts_of (store_of b p n) xs) (sorts_of (store_of b p n) ys) empty ≡ matches_all f (sorts_at b p n b x k) (sorts_at b p n a 5 k) empty
 
-no_numbers : (xs : List ℕ) → length xs ≡ 0 → xs ≡ []
-no_numbers [] e = refl
-no_numbers (v ∷ xs) e = absurd (omega arith)
-
 pub exact-start : {b p ix : List ℕ} {n x : ℕ} {a : List ℕ} {k : ℕ} → ExactAsks b p ix n x a k → ExactRun b p n x a k (numbers_at b x k) (numbers_at a 5 k)
 exact-start {b} {p} {ix} {n} {x} {a} {k} h =
     record {
@@ -79,8 +76,8 @@ module _ {b p : List ℕ} {n x : ℕ} {a : List ℕ} {k : ℕ} {xs ys : List ℕ
   exact-ended ex ey f q = sym (h.rest f q) ∙ ap₂ (λ (r s : List ℕ). matches_all f (sorts_of (store_of b p n) r) (sorts_of (store_of b p n) s) empty) ex ey
 
   pub exact-end : (xs ≡ []) ⊎ (ys ≡ []) → ExactIs b p n x a k true
-  exact-end (inl e) = exact-ended e (no_numbers ys (sym h.even ∙ ap length e))
-  exact-end (inr e) = exact-ended (no_numbers xs (h.even ∙ ap length e)) e
+  exact-end (inl e) = exact-ended e (nil_from_length ys (sym h.even ∙ ap length e))
+  exact-end (inr e) = exact-ended (nil_from_length xs (h.even ∙ ap length e)) e
 
   module _ {i o : ℕ} {xs' ys' : List ℕ} (e : xs ≡ i ∷ xs') (g : ys ≡ o ∷ ys') where
     pub known-first : i < n

@@ -132,133 +132,139 @@ module _ {b p ix : List ℕ} {n u : ℕ} {prm imgs bnd a : List ℕ} {m : ℕ} (
   pub applied-none : m ≡ 0 → inferred_app (sorts_at b p n a 3 m) ≡ refused Panics
   applied-none e = ap inferred_app (sorts-end b p n a 3 m e)
 
-  -- With a head, by its number.
-  module _ (more : 0 < m) {i : ℕ} (e : i ≡ u16_at a 3) where
-    known : i < n
-    known = subst (◌< n) (sym e) (h.below 0 more)
+-- An App with a head of the store number i, and what `head_of` gave of it.
+pub record HeadFound (b p ix : List ℕ) (n u : ℕ) (prm imgs bnd a : List ℕ) (m i : ℕ) (r : Option Callee) : Type 0 where
+  pub asks : AppAsks b p ix n u prm imgs bnd a m
+  pub more : 0 < m
+  pub number : i ≡ u16_at a 3
+  pub head : HeadHas b p i r
 
-    abbrev ts : Sorts
-    ts = sorts_at b p n a 5 (m - 1)
+-- With a head, by its number.
+module _ {b p ix : List ℕ} {n u : ℕ} {prm imgs bnd a : List ℕ} {m i : ℕ} {r : Option Callee} (o : HeadFound b p ix n u prm imgs bnd a m i r) where
+  known : i < n
+  known = subst (◌< n) (sym o.number) (o.asks.below 0 o.more)
 
-    sorts-head : sorts_at b p n a 3 m ≡ sort_at b p n i then ts
-    sorts-head = sorts-more b p n a 3 m more ∙ ap (λ (j : ℕ). sort_at b p n j then ts) (sym e)
+  abbrev ts : Sorts
+  ts = sorts_at b p n a 5 (m - 1)
 
-    by-applied : inferred_app (sorts_at b p n a 3 m) ≡ applied_of (head_in (sort_at b p n i)) ts
-    by-applied = ap inferred_app sorts-head ∙ applied-head (sort_at b p n i) ts
+  sorts-head : sorts_at b p n a 3 m ≡ sort_at b p n i then ts
+  sorts-head = sorts-more b p n a 3 m o.more ∙ ap (λ (j : ℕ). sort_at b p n j then ts) (sym o.number)
 
-    by-called : 2 ≤ m → checked_app (sorts_at b p n a 3 m) ≡ called_of (head_in (sort_at b p n i)) ts
-    unfolding checked_app
-    by-called l =
-        let next : ts ≡ sort_at b p n (u16_at a 5) then sorts_at b p n a 7 (m - 1 - 1) = sorts-more b p n a 5 (m - 1) (omega arith) in
-        ap checked_app (sorts-head ∙ ap (sort_at b p n i then◌) next)
-        ∙ ap (called (λ v. parameters (sort_at b p n i) v) (function_list (sort_at b p n i))) (sym next) ∙ called-head (sort_at b p n i) ts
+  by-applied : inferred_app (sorts_at b p n a 3 m) ≡ applied_of (head_in (sort_at b p n i)) ts
+  by-applied = ap inferred_app sorts-head ∙ applied-head (sort_at b p n i) ts
 
-    module _ (r : Option Callee) (w : HeadHas b p i r) where
-      is : HeadIs b p n i r
-      is = w n h.good.stored known
+  by-called : 2 ≤ m → checked_app (sorts_at b p n a 3 m) ≡ called_of (head_in (sort_at b p n i)) ts
+  unfolding checked_app
+  by-called l =
+      let next : ts ≡ sort_at b p n (u16_at a 5) then sorts_at b p n a 7 (m - 1 - 1) = sorts-more b p n a 5 (m - 1) (omega arith) in
+      ap checked_app (sorts-head ∙ ap (sort_at b p n i then◌) next)
+      ∙ ap (called (λ v. parameters (sort_at b p n i) v) (function_list (sort_at b p n i))) (sym next) ∙ called-head (sort_at b p n i) ts
 
-      pub app-other : 2 ≤ m → r ≡ None → checked_app (sorts_at b p n a 3 m) ≡ refused Misfit
-      app-other l g = by-called l ∙ ap (λ (z : Headed). called_of z ts) (subst (HeadIs b p n i) g is)
+  is : HeadIs b p n i r
+  is = o.head n o.asks.good.stored known
 
-      pub applied-other : r ≡ None → inferred_app (sorts_at b p n a 3 m) ≡ refused Panics
-      applied-other g = by-applied ∙ ap (λ (z : Headed). applied_of z ts) (subst (HeadIs b p n i) g is)
+  pub app-other : 2 ≤ m → r ≡ None → checked_app (sorts_at b p n a 3 m) ≡ refused Misfit
+  app-other l g = by-called l ∙ ap (λ (z : Headed). called_of z ts) (subst (HeadIs b p n i) g is)
 
-      module _ (f : Callee) (g : r ≡ Some f) where
-        function : FunctionIs b p n i f
-        function = subst (HeadIs b p n i) g is
+  pub applied-other : r ≡ None → inferred_app (sorts_at b p n a 3 m) ≡ refused Panics
+  applied-other g = by-applied ∙ ap (λ (z : Headed). applied_of z ts) (subst (HeadIs b p n i) g is)
 
-        abbrev ss : Sorts
-        ss = callee_sorts b p n f
+  module _ {f : Callee} (g : r ≡ Some f) where
+    function : FunctionIs b p n i f
+    function = subst (HeadIs b p n i) g is
 
-        refs : Refs b f.list.at f.list.count n
-        refs = record { within = function.list; below = λ j l. omega (arith, function.below j l, known) }
+    abbrev ss : Sorts
+    ss = callee_sorts b p n f
 
-        -- A head with parameters is a Par of the store, so the tables have all names.
-        named_blank : (q : ℕ) → head_in (sort_at b p n i) ≡ head_over (numbers_at b f.names.at q) ss → (q ≡ 0 → ⊥) → Blank prm imgs bnd
-        unfolding numbers_at
-        named_blank zero e d = absurd (d refl)
-        named_blank (suc q) e d = lent-under h.tables i (numbers_at b f.names.at (suc q)) ss e
+    refs : Refs b f.list.at f.list.count n
+    refs = record { within = function.list; below = λ j l. omega (arith, function.below j l, known) }
 
-        pub called-asks : CalledAsks b p ix n u prm imgs bnd f a (m - 1)
-        called-asks =
-            record {
-              good = h.good;
-              blank = named_blank f.names.count function.head;
-              list = refs;
-              few = function.few;
-              names = function.names;
-              named = function.named;
-              args = refs-args a n m h.few h.room h.below;
-            }
+    -- A head with parameters is a Par of the store, so the tables have all names.
+    named_blank : (q : ℕ) → head_in (sort_at b p n i) ≡ head_over (numbers_at b f.names.at q) ss → (q ≡ 0 → ⊥) → Blank prm imgs bnd
+    unfolding numbers_at
+    named_blank zero e d = absurd (d refl)
+    named_blank (suc q) e d = lent-under o.asks.tables i (numbers_at b f.names.at (suc q)) ss e
 
-        pub app-called : 2 ≤ m → checked_app (sorts_at b p n a 3 m) ≡ called (listed_in (callee_names b f)) (some ss) ts
-        app-called l = by-called l ∙ ap (λ (z : Headed). called_of z ts) function.head ∙ called-over (callee_names b f) ss ts
+    pub called-asks : CalledAsks b p ix n u prm imgs bnd f a (m - 1)
+    called-asks =
+        record {
+          good = o.asks.good;
+          blank = named_blank f.names.count function.head;
+          list = refs;
+          few = function.few;
+          names = function.names;
+          named = function.named;
+          args = refs-args a n m o.asks.few o.asks.room o.asks.below;
+        }
 
-        -- More arguments than sorts, a plain head, a head under a Par.
-        counted : (v : Verdict) → need (leb (count ts) (count ss)) Panics v ≡ need (leb (m - 1) f.list.count) Panics v
-        counted v =
-            ap₂ (λ (i j : ℕ). need (leb i j) Panics v) (count_at (store_of b p n) a 5 (m - 1)) (count_at (store_of b p n) b f.list.at f.list.count)
+    pub app-called : 2 ≤ m → checked_app (sorts_at b p n a 3 m) ≡ called (listed_in (callee_names b f)) (some ss) ts
+    app-called l = by-called l ∙ ap (λ (z : Headed). called_of z ts) function.head ∙ called-over (callee_names b f) ss ts
 
-        by-head : inferred_app (sorts_at b p n a 3 m) ≡ applied_of (head_over (callee_names b f) ss) ts
-        by-head = by-applied ∙ ap (λ (z : Headed). applied_of z ts) function.head
+    -- More arguments than sorts, a plain head, a head under a Par.
+    counted : (v : Verdict) → need (leb (count ts) (count ss)) Panics v ≡ need (leb (m - 1) f.list.count) Panics v
+    counted v =
+        ap₂ (λ (i j : ℕ). need (leb i j) Panics v) (count_at (store_of b p n) a 5 (m - 1)) (count_at (store_of b p n) b f.list.at f.list.count)
 
-        over-many : (vs : List ℕ) → f.list.count < m - 1 → applied_of (head_over vs ss) ts ≡ refused Panics
-        unfolding plain_app parametric_app
-        over-many [] l =
-            counted (sort (remaining (others ss ts)))
-            ∙ ap (λ (t : Bool). need t Panics (sort (remaining (others ss ts)))) (lt-leb (m - 1) f.list.count l)
-        over-many (v ∷ vs) l =
-            let s = substituted (remaining (others ss ts)) (match_all_with (v ∷ vs) (firsts ss ts) ts empty) in
-            counted s ∙ ap (λ (t : Bool). need t Panics s) (lt-leb (m - 1) f.list.count l)
+    by-head : inferred_app (sorts_at b p n a 3 m) ≡ applied_of (head_over (callee_names b f) ss) ts
+    by-head = by-applied ∙ ap (λ (z : Headed). applied_of z ts) function.head
 
-        pub applied-many : f.list.count < m - 1 → inferred_app (sorts_at b p n a 3 m) ≡ refused Panics
-        applied-many l = by-head ∙ over-many (callee_names b f) l
+    over-many : (vs : List ℕ) → f.list.count < m - 1 → applied_of (head_over vs ss) ts ≡ refused Panics
+    unfolding plain_app parametric_app
+    over-many [] l =
+        counted (sort (remaining (others ss ts)))
+        ∙ ap (λ (t : Bool). need t Panics (sort (remaining (others ss ts)))) (lt-leb (m - 1) f.list.count l)
+    over-many (v ∷ vs) l =
+        let s = substituted (remaining (others ss ts)) (match_all_with (v ∷ vs) (firsts ss ts) ts empty) in
+        counted s ∙ ap (λ (t : Bool). need t Panics s) (lt-leb (m - 1) f.list.count l)
 
-        module _ (l : m - 1 ≤ f.list.count) where
-          pub remaining-asks : RemainingAsks b p ix n u a (f.list.at + 2 * (m - 1)) (f.list.count - (m - 1))
-          remaining-asks =
-              let behind = refs-behind (m - 1) refs l in
-              record {
-                good = h.good;
-                room = omega (arith, h.room);
-                within = behind.within;
-                below = behind.below;
-                few = omega (arith, function.few);
-              }
+    pub applied-many : f.list.count < m - 1 → inferred_app (sorts_at b p n a 3 m) ≡ refused Panics
+    applied-many l = by-head ∙ over-many (callee_names b f) l
 
-          pub applied-rest : f.names.count ≡ 0 → inferred_app (sorts_at b p n a 3 m) ≡ sort (rest_at b p n f.list.at f.list.count (m - 1))
-          unfolding plain_app
-          applied-rest z =
-              by-head ∙ applied_plain b f.names.at f.names.count ss ts z ∙ counted (sort (remaining (others ss ts)))
-              ∙ ap (λ (t : Bool). need t Panics (sort (remaining (others ss ts)))) (le-leb (m - 1) f.list.count l)
-              ∙ ap (λ (o : Sorts). sort (remaining o)) (others-at (store_of b p n) b f.list.at f.list.count a 5 (m - 1) l)
+    module _ (l : m - 1 ≤ f.list.count) where
+      pub remaining-asks : RemainingAsks b p ix n u a (f.list.at + 2 * (m - 1)) (f.list.count - (m - 1))
+      remaining-asks =
+          let behind = refs-behind (m - 1) refs l in
+          record {
+            good = o.asks.good;
+            room = omega (arith, o.asks.room);
+            within = behind.within;
+            below = behind.below;
+            few = omega (arith, function.few);
+          }
 
-          pub parametric-asks : (f.names.count ≡ 0 → ⊥) → ParametricAsks b p ix n u prm imgs bnd f a (m - 1)
-          parametric-asks d =
-              record {
-                called = called-asks;
-                parameters = d;
-                fewer = l;
-                small =
-                    omega (
-                      arith,
-                      over-sizes (callee_names b f) ss,
-                      ap sizes_in function.head,
-                      head-sizes (sort_at b p n i),
-                      h.good.sized.small i known,
-                    );
-              }
+      pub applied-rest : f.names.count ≡ 0 → inferred_app (sorts_at b p n a 3 m) ≡ sort (rest_at b p n f.list.at f.list.count (m - 1))
+      unfolding plain_app
+      applied-rest z =
+          by-head ∙ applied_plain b f.names.at f.names.count ss ts z ∙ counted (sort (remaining (others ss ts)))
+          ∙ ap (λ (t : Bool). need t Panics (sort (remaining (others ss ts)))) (le-leb (m - 1) f.list.count l)
+          ∙ ap (λ (o : Sorts). sort (remaining o)) (others-at (store_of b p n) b f.list.at f.list.count a 5 (m - 1) l)
 
-          pub applied-parametric : (f.names.count ≡ 0 → ⊥) → inferred_app (sorts_at b p n a 3 m) ≡ substituted_at b p n f a (m - 1)
-          unfolding parametric_app
-          applied-parametric z =
-              let vs = callee_names b f in
-              let s = substituted (remaining (others ss ts)) (match_all_with vs (firsts ss ts) ts empty) in
-              by-head ∙ applied-under b f.names.at f.names.count ss ts z ∙ counted s ∙ ap (λ (t : Bool). need t Panics s) (le-leb (m - 1) f.list.count l)
-              ∙ ap₂ (λ (o e : Sorts). substituted (remaining o) (match_all_with vs e ts empty))
-              (others-at (store_of b p n) b f.list.at f.list.count a 5 (m - 1) l)
-              (firsts_at (store_of b p n) b f.list.at f.list.count a 5 (m - 1) l)
+      pub parametric-asks : (f.names.count ≡ 0 → ⊥) → ParametricAsks b p ix n u prm imgs bnd f a (m - 1)
+      parametric-asks d =
+          record {
+            called = called-asks;
+            parameters = d;
+            fewer = l;
+            small =
+                omega (
+                  arith,
+                  over-sizes (callee_names b f) ss,
+                  ap sizes_in function.head,
+                  head-sizes (sort_at b p n i),
+                  o.asks.good.sized.small i known,
+                );
+          }
 
-        -- No room for the inferred verdict is none for the head's.
-        pub app-crowded : (t : Bool) → AppCrowded t b p n a m → CalledCrowded t b p n f a (m - 1)
-        app-crowded t x e d l ln y z = ap (outcome ln (store_of b p n)) (sym (applied-parametric l d)) ∙ x e ln y z
+      pub applied-parametric : (f.names.count ≡ 0 → ⊥) → inferred_app (sorts_at b p n a 3 m) ≡ substituted_at b p n f a (m - 1)
+      unfolding parametric_app
+      applied-parametric z =
+          let vs = callee_names b f in
+          let s = substituted (remaining (others ss ts)) (match_all_with vs (firsts ss ts) ts empty) in
+          by-head ∙ applied-under b f.names.at f.names.count ss ts z ∙ counted s ∙ ap (λ (t : Bool). need t Panics s) (le-leb (m - 1) f.list.count l)
+          ∙ ap₂ (λ (o e : Sorts). substituted (remaining o) (match_all_with vs e ts empty))
+          (others-at (store_of b p n) b f.list.at f.list.count a 5 (m - 1) l)
+          (firsts_at (store_of b p n) b f.list.at f.list.count a 5 (m - 1) l)
+
+    -- No room for the inferred verdict is none for the head's.
+    pub app-crowded : (t : Bool) → AppCrowded t b p n a m → CalledCrowded t b p n f a (m - 1)
+    app-crowded t x e d l ln y z = ap (outcome ln (store_of b p n)) (sym (applied-parametric l d)) ∙ x e ln y z

@@ -5,6 +5,7 @@ use mathlib.Core.List.{List}
 use mathlib.Core.Option.{Option}
 use native.Mathlib.Omega.{arith}
 use Rattle.record.specs.Codec.{length-numbers_at}
+use Rattle.record.specs.Number.{numbers_at}
 use Rattle.record.specs.Sort.{sizes}
 use Rattle.record.specs.Decode.{store_of}
 use Rattle.substitution.specs.Substitution.{Map}
@@ -16,7 +17,8 @@ use Rattle.matching_tables.specs.Tables.{Lists, Added, Mapped}
 use Rattle.matching_tables.specs.TableLaws.{lists-roomy, added-back, cleared-mapped, cleared-map}
 use Rattle.matching_tables.specs.Usable.{sorts_at}
 use Rattle.matching_tables.specs.Contract.{count_of}
-use Rattle.matching_with.specs.Contract.{WithAllAsks, WithIs, PairsWith}
+use Rattle.matching_with.specs.Contract.{WithListsAsk, WithIs, PairsWith, ListsWith}
+use Rattle.matching_tables.specs.WalkLaws.{lists-ask}
 use Rattle.matching_tables.specs.Contract.{matched_map as found_by}
 use Rattle.row_rules.specs.declared.Cause.TheVariants.{Panics}
 use Rattle.row_rules.specs.Verdict.{Verdict}
@@ -36,11 +38,11 @@ module _ {b p : List ℕ} {n : ℕ} {prm imgs bnd : List ℕ} {f : Callee} {a : 
     lists : Lists o vs
     lists = fitted-lists h.fitted t
 
-    pub with-asks : WithAllAsks b p n o imgs bnd 0 b f.list.at a 5 k
+    with-asks : WithListsAsk b p n o imgs bnd 0 (numbers_at b f.list.at k) (numbers_at a 5 k)
     with-asks =
         let g = h.fitted.fit in
         record {
-          pairs = record { usable = g.usable; left = refs-part k g.list g.fewer; right = g.args };
+          lists = lists-ask (record { usable = g.usable; left = refs-part k g.list g.fewer; right = g.args });
           table = lists.table;
           room =
               lists-roomy o vs (sizes (sorts_at b p n b f.list.at k)) lists
@@ -78,13 +80,14 @@ module _ {b p : List ℕ} {n : ℕ} {prm imgs bnd : List ℕ} {f : Callee} {a : 
 
 ---------------------------------------------------------------- the same, over what is known of the tables and the spans
 module _ {b p : List ℕ} {n : ℕ} {prm imgs bnd : List ℕ} {f : Callee} {a : List ℕ} {k : ℕ} (h : PatternsAsk b p n prm imgs bnd f a k) {o : List ℕ} (t : Added prm (callee_names b f) o)
-    {imgs₁ bnd₁ : List ℕ} {z y j : ℕ} (ei : imgs₁ ≡ imgs) (eb : bnd₁ ≡ bnd) (ez : z ≡ 0) (ey : y ≡ 5) (ej : j ≡ k) where
-  pub with-asked : WithAllAsks b p n o imgs₁ bnd₁ z b f.list.at a y j
-  with-asked = rw (ei, eb, ez, ey, ej) (with-asks h t)
+    {imgs₁ bnd₁ : List ℕ} {z y j : ℕ} (ei : imgs₁ ≡ imgs) (eb : bnd₁ ≡ bnd) (ez : z ≡ 0) (ey : y ≡ 5) (ej : j ≡ k)
+    {ks js : List ℕ} (ek : ks ≡ numbers_at b f.list.at j) (ea : js ≡ numbers_at a y j) where
+  pub with-asked : WithListsAsk b p n o imgs₁ bnd₁ z ks js
+  with-asked = rw (ei, eb, ez, ek, ea, ey, ej) (with-asks h t)
 
-  module _ {o' l d : List ℕ} (q : ℕ) (g : Bool) (w : WithIs b p n o o' l d (found q g) (PairsWith b p n imgs₁ bnd₁ z b f.list.at a y j)) where
+  module _ {o' l d : List ℕ} (q : ℕ) (g : Bool) (w : WithIs b p n o o' l d (found q g) (ListsWith b p n imgs₁ bnd₁ z ks js)) where
     with-is : WithIs b p n o o' l d (found q g) (PairsWith b p n imgs bnd 0 b f.list.at a 5 k)
-    with-is = rw (ei, eb, ez, ey, ej) at w
+    with-is = rw (ei, eb, ez, ek, ea, ey, ej) at w
 
     module _ {prm' : List ℕ} (v : Added prm' (callee_names b f) o') {l' d' : List ℕ} {q' : ℕ} (el : l' ≡ l) (ed : d' ≡ d) (eq : q' ≡ q) where
       pub pattern-fits : g ≡ true → CallIs (substituted_at b p n f a k) b p n prm f k prm' l' d' (Settled q')

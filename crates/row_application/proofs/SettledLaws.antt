@@ -1,7 +1,7 @@
 -- Whether every listed name left is bound: a test of every node, by the tables.
 use Prim.Native.Nat.{ℕ, zero, suc}
 use mathlib.Core.Path.{◌≡◌, refl, sym, ap, ◌∙◌}
-use mathlib.Core.Bool.{Bool, true, false, not, ◌&&◌}
+use mathlib.Core.Bool.{Bool, not, and-true}
 use mathlib.Core.List.{List}
 use native.Mathlib.Omega.{arith}
 use lib.ListN.{get_or}
@@ -38,12 +38,8 @@ settled-tests {st} prm {imgs} {f} {θ} t i =
     }
 
 ---------------------------------------------------------------- what remains of a list is settled as its sorts are
-pub and_last : (t : Bool) → t ≡ (t && true)
-and_last true = refl
-and_last false = refl
-
 pub settled-remaining : (f : ℕ → Bool) (θ : Map) (ss : Sorts) → settled f θ (remaining ss) ≡ settled_all f θ ss
 unfolding settled
 settled-remaining f θ end = refl
-settled-remaining f θ (s then end) = and_last (settled f θ s)
+settled-remaining f θ (s then end) = sym (and-true (settled f θ s))
 settled-remaining f θ (s then (r then rs)) = refl

@@ -4,7 +4,7 @@ use Rattle.std.proofs.Common.{MatchBool}
 use Rattle.std.proofs.Math.Decide.{dec_lt}
 use Prim.Native.Nat.{ℕ, zero, suc, ◌+◌, ◌*◌, ◌-◌, ◌≤◌, ◌<◌}
 use mathlib.Core.Path.{◌≡◌, refl, sym, ap, subst, ◌∙◌}
-use mathlib.Core.Bool.{Bool, true, false, not, ◌&&◌}
+use mathlib.Core.Bool.{Bool, true, false, not, ◌&&◌, and-true}
 use mathlib.Core.List.{List}
 use mathlib.Core.Option.{Option, some}
 use native.Mathlib.Omega.{arith}
@@ -42,7 +42,6 @@ use Rattle.row_application.proofs.DeliveredLaws.{call-bound}
 use Rattle.row_application.proofs.BothLaws.{no_own, withs-fit}
 use Rattle.row_application.proofs.ListLaws.{refs-behind}
 use Rattle.row_application.proofs.NearLaws.{withs-alike}
-use Rattle.row_application.proofs.SettledLaws.{and_last}
 
 ---------------------------------------------------------------- the variable of a name
 module _ {b p : List ℕ} {n k : ℕ} (h : OneAsks b p n k) (v : ℕ) {r : SortRecord} (e : EntryHas b p k r) where
@@ -85,7 +84,7 @@ module _ (b p : List ℕ) (n : ℕ) (l d : List ℕ) where
 parless-remaining : (ss : Sorts) → parless (remaining ss) ≡ parless_all ss
 unfolding parless
 parless-remaining end = refl
-parless-remaining (s then end) = and_last (parless s)
+parless-remaining (s then end) = sym (and-true (parless s))
 parless-remaining (s then (r then rs)) = refl
 
 module _ (b p : List ℕ) (n : ℕ) (l d : List ℕ) (m x y : ℕ) {t : Bool} (g : t ≡ owned (table_map (store_of b p n) l d m)) where
@@ -142,7 +141,7 @@ module _ (b p : List ℕ) (n : ℕ) (f : Callee) (a : List ℕ) (k : ℕ) (l d :
   either-inferred j o e =
       by_test (parless_all left)
       (λ q. parless-inferred j q e)
-      (λ q. settled-inferred j (and_last (owned (table_map st l d j)) ∙ ap (λ (t : Bool). owned (table_map st l d j) && not t) (sym q) ∙ o) e)
+      (λ q. settled-inferred j (sym (and-true (owned (table_map st l d j))) ∙ ap (λ (t : Bool). owned (table_map st l d j) && not t) (sym q) ∙ o) e)
 
   -- THE CALL HAS THE OUTCOME OF THE VERDICT.
   alike : (t : Bool) (c : Call) → FoundBy st l d (fitted names b p n f.list.at a k) c → verdict_of ≡ call_of st l d rest c → (t ≡ true → Crowded b p n (substituted_at b p n f a k))

@@ -32,8 +32,9 @@ pub fn fit_listed(
 {
     let arguments = args.rest();
     let n = arguments.count;
-    let first = Span { count: n, ..list };
-    if !matches_all(sorts, names, sorts.records, first, args.bytes, arguments) {
+    let patterns = Span { count: n, ..list }.numbers(sorts.records);
+    let targets = arguments.numbers(args.bytes);
+    if !matches_all(sorts, names, patterns, targets) {
         return Err(Cause::Misfit);
     }
     if !all_settled(sorts, names, &mut Seen::new(), list.skip(n)) {

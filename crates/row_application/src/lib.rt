@@ -41,9 +41,7 @@ pub fn checked_app(
     if args.count < 2 {
         return Err(Cause::Count);
     }
-    let Some(callee) = head_of(store.entries(), args.number(0)) else {
-        return Err(Cause::Misfit);
-    };
+    let callee = head_of(store.entries(), args.number(0)).ok_or(Cause::Misfit)?;
     called(store, names, callee, args, crowded)
 }
 
@@ -61,9 +59,7 @@ pub fn inferred_app(store: &mut Store<'_>, names: &mut Names<'_>, args: &mut Arg
         return Err(Cause::Panics);
     }
     let n = args.count - 1;
-    let Some(callee) = head_of(store.entries(), args.number(0)) else {
-        return Err(Cause::Panics);
-    };
+    let callee = head_of(store.entries(), args.number(0)).ok_or(Cause::Panics)?;
     if callee.list.count < n {
         return Err(Cause::Panics);
     }

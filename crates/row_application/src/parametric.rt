@@ -26,13 +26,15 @@ pub fn match_arguments(
     ensures call { PatternsFound sorts.now names.old callee args.now names.new result }
 {
     let arguments = args.rest();
-    let patterns = Span {
+    let first = Span {
         count: arguments.count,
         ..callee.list
     };
+    let patterns = first.numbers(sorts.records);
+    let targets = arguments.numbers(args.bytes);
     names.start();
     names.list(sorts.records, callee.names);
-    let fits = match_all_with(sorts, names, sorts.records, patterns, args.bytes, arguments);
+    let fits = match_all_with(sorts, names, patterns, targets);
     names.unlist(sorts.records, callee.names);
     if fits { Ok(()) } else { Err(Cause::Panics) }
 }

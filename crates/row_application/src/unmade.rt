@@ -5,7 +5,6 @@ ghost use Rattle.std.specs.Prelude.{◌≡◌, ◌<◌, not, ◌&&◌, get_or};
 ghost use Rattle.record.specs.Sort.{var, same};
 ghost use Rattle.record.specs.Decode.{sort_at};
 ghost use Rattle.substitution.specs.Premises.{parless_all};
-ghost use Rattle.matching_tables.specs.Usable.{OneAsks};
 ghost use Rattle.row_application.specs.Words.{OwnAsked, RestAsked, own_in, owned_in, rest_sorts, call_in, unmade_in};
 
 use matching_each::each::all_each;
@@ -19,7 +18,7 @@ use store::entries::Sorts;
 
 // Whether the sort `k` is the variable of this name.
 pub fn is_var(sorts: &Sorts<'_>, k: usize, name: usize) -> bool
-    requires { OneAsks sorts.now.records.now sorts.now.places.now sorts.now.count k }
+    requires { k < sorts.now.count }
     ensures { result ≡ same (sort_at sorts.now.records.now sorts.now.places.now sorts.now.count k) (var name) }
 {
     let entry = sorts.entry(k);

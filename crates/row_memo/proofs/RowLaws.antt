@@ -178,25 +178,25 @@ module _ {column : ℕ} {b p ix : List ℕ} {n u : ℕ} {prm imgs bnd s tbl xs r
   st = store_of b p n
 
   -- A part has no row.
-  pub row_below : {key : List ℕ} {t : Bool} {w : Answer} → t ≡ false → PartsJudgedIs s rows column r key t → w ≡ refusing Below n u
+  pub row_below : {key : List ℕ} {w : Answer} → PartsJudgedIs s rows column r key false → w ≡ refusing Below n u
       → PastIs column b p n prm imgs bnd s tbl xs rows r b p ix prm imgs bnd w ws
-  row_below off d e = record { row = below_row off d h.asks.good e; past = subst (λ (x : Answer). PastOf b p x.count ws) (sym e) h.past }
+  row_below d e = record { row = below_row refl d h.asks.good e; past = subst (λ (x : Answer). PastOf b p x.count ws) (sym e) h.past }
 
   -- The parts are gathered: their numbers stand in key.
-  module _ {key : List ℕ} (long : length key ≡ length a) {t : Bool} (on : t ≡ true) (d : PartsJudgedIs s rows column r key t) where
+  module _ {key : List ℕ} (long : length key ≡ length a) (d : PartsJudgedIs s rows column r key true) where
     abbrev numbers : List ℕ
     numbers = numbers_at key 3 r.list.count
 
     pub site-asks : SiteAsks b p ix n u prm imgs bnd s tbl xs r key
-    site-asks = parts-site h.asks long on d
+    site-asks = parts-site h.asks long refl d
 
     pub look-asks : column ≤ 1 → LookAsks b p r key column
     look-asks side =
         let few = count-few h.asks.standing in
-        record { side = side; count = n; stored = h.asks.good.stored; below = d.below on n tbl xs h.asks.standing; few = few; within = omega (arith, long, h.asks.room, few) }
+        record { side = side; count = n; stored = h.asks.good.stored; below = d.below refl n tbl xs h.asks.standing; few = few; within = omega (arith, long, h.asks.room, few) }
 
     verdict-is : term_number r.kind ≡ 6 → term_verdict (column_verdict column) st s tbl xs rows column r ≡ judging_app column (sorts_of st numbers)
-    verdict-is k = d.judged on (column_verdict column) st tbl xs ∙ app-verdict column (site_over st s tbl xs key r) k
+    verdict-is k = d.judged refl (column_verdict column) st tbl xs ∙ app-verdict column (site_over st s tbl xs key r) k
 
     module _ {ws' : List ℕ} {q : Look} (l : LookedIs r key column ws ws' q) where
       past-less : PastOf b p n ws'
@@ -257,7 +257,7 @@ module _ {column : ℕ} {b p ix : List ℕ} {n u : ℕ} {prm imgs bnd s tbl xs r
         verdict = term_verdict (column_verdict column) st s tbl xs rows column r
 
         row_is : TermIs (column_verdict column) column b p n prm imgs bnd s tbl xs rows r b' p' ix' prm' imgs' bnd' w
-        row_is = site-row on d i
+        row_is = site-row refl d i
 
         code-small : (v : Result ℕ Cause) → w.verdict ≡ v → code_of v < code_end
         code-small (Ok k) e = omega (arith, (answer-number b p n verdict b' p' ix' w row_is.answer k e).1)
@@ -266,7 +266,7 @@ module _ {column : ℕ} {b p ix : List ℕ} {n u : ℕ} {prm imgs bnd s tbl xs r
         numbers-below : (j : ℕ) → j < length numbers → get_or numbers j 0 < length st
         numbers-below j o =
             let m : j < r.list.count = omega (arith, length-numbers_at key 3 r.list.count) in
-            omega (arith, number_at key 3 r.list.count j m, d.below on n tbl xs h.asks.standing j m, store_of-length b p n)
+            omega (arith, number_at key 3 r.list.count j m, d.below refl n tbl xs h.asks.standing j m, store_of-length b p n)
 
         new_told : term_number r.kind ≡ 6 → AppTold (judging_app column) (length b') (length p') st' numbers (code_of w.verdict)
         new_told k =

@@ -19,7 +19,7 @@ use record::kinds::TermKind;
 use row_answer::arguments::{Args, Column};
 use row_application::checked_app;
 use row_parts::parts_judged;
-use row_rules::{Cause, Row};
+use row_rules::Row;
 use row_slots::{Look, Past, row_again};
 use sheet::ReadSheet;
 use store::Store;
@@ -121,9 +121,7 @@ pub fn row<J: Judge>(
     ensures row { RowIs J.column store.old names.old sheet.now rows.now term store.new names.new result past.new }
 {
     let column = J::column();
-    if !parts_judged(sheet.bytes, rows, column, term, args) {
-        return Err(Cause::Below);
-    }
+    parts_judged(sheet.bytes, rows, column, term, args)?;
     let look = past.looked_up(store.entries(), term, args, column);
     if let Look::Noted(code) = look {
         return row_again(code);

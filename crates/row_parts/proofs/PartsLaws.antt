@@ -27,25 +27,25 @@ module _ (s rows : List ℕ) (column : ℕ) (r : TermRecord) (a : List ℕ) wher
   over J st tbl xs o i = over_parts J (term_number r.kind) r.number (own_over st tbl r) (bindings_over st tbl s r) (constants_over s xs r) (indices_over s xs r) o i
 
   -- A row of the list is refused.
-  pub parts-lacking : (t : Bool) → t ≡ false → GatherIs s r.list.at r.list.count rows column a t → PartsJudgedIs s rows column r a false
+  pub parts-lacking : GatherIs s r.list.at r.list.count rows column a false → PartsJudgedIs s rows column r a false
   unfolding term_verdict
-  parts-lacking t d g =
+  parts-lacking g =
       record {
         judged = λ e. absurd (false≢true e);
         below = λ e. absurd (false≢true e);
-        lacking = λ e J st tbl xs. ap (λ (o : Option Sorts). over J st tbl xs o (index_sorts st s r rows column)) (g.lacking d st);
+        lacking = λ e J st tbl xs. ap (λ (o : Option Sorts). over J st tbl xs o (index_sorts st s r rows column)) (g.lacking refl st);
       }
 
-  -- None is: t is the test of the list's rows.
-  module _ (t : Bool) (on : t ≡ true) (g : GatherIs s r.list.at r.list.count rows column a t) (side : column ≤ 1) where
+  -- None is.
+  module _ (g : GatherIs s r.list.at r.list.count rows column a true) (side : column ≤ 1) where
     known : (n : ℕ) (tbl xs : List ℕ) → Standing n s tbl xs rows r → (j : ℕ) → j < r.list.count → u16_at a (3 + 2 * j) < n
-    known n tbl xs h = gathered-known s r.list.at r.list.count rows column a t g on side h.term n h.known h.was.references
+    known n tbl xs h = gathered-known s r.list.at r.list.count rows column a true g refl side h.term n h.known h.was.references
 
     -- The list has its numbers, and the index terms some sorts js.
     both : (J : Site → Verdict) (st : List Sort) (tbl xs : List ℕ) (js : Sorts) → index_sorts st s r rows column ≡ some js
         → term_verdict J st s tbl xs rows column r ≡ J (site_over st s tbl xs a r)
     unfolding term_verdict
-    both J st tbl xs js e = ap₂ (over J st tbl xs) (g.sorts on st) e
+    both J st tbl xs js e = ap₂ (over J st tbl xs) (g.sorts refl st) e
 
     -- No index terms are asked.
     pub parts-plain : (term_number r.kind ≡ 11 → ⊥) → PartsJudgedIs s rows column r a true

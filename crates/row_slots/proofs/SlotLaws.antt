@@ -1,6 +1,6 @@
 -- The slots of the table: what is recalled there is said, an opened slot says nothing, and a note leaves the other slots as they were.
-use Prim.Native.Nat.{ℕ, zero, suc, ◌+◌, ◌*◌, ◌-◌, ◌/◌, ◌%◌, ◌≤◌, ◌<◌}
-use mathlib.Core.Path.{◌≡◌, refl, sym, ap, ap₂, subst, ◌∙◌}
+use Prim.Native.Nat.{ℕ, ◌+◌, ◌*◌, ◌-◌, ◌/◌, ◌%◌, ◌≤◌, ◌<◌}
+use mathlib.Core.Path.{◌≡◌, sym, ap, ap₂, subst, ◌∙◌}
 use mathlib.Core.Bool.{Bool, true, false}
 use mathlib.Core.List.{List, [], ◌∷◌}
 use mathlib.Core.Logic.{inl, inr}
@@ -18,26 +18,13 @@ use Rattle.record.specs.Append.{written-before, written_in, written_after, lengt
 use Rattle.record.specs.Cases.{by_test}
 use Rattle.std.specs.Prelude.{Option, None, Some, MatchOption}
 use Rattle.std.proofs.lemmas.Bool.{false≢true}
+use Rattle.row_answer.proofs.ListLaws.{numbers-same}
 use Rattle.row_slots.specs.Slots.{code_end, slot_size, column_of, slot_number, code_at, PastSays, PastSlotAt, PastSlotAsks, RecalledIs, OpenedIs, SlotNoteAsks, SlotNotedIs}
 
 -- Numbers whose bytes agree.
 u16-same : (l m : List ℕ) (x y : ℕ) → get_or l x 0 ≡ get_or m y 0 → get_or l (x + 1) 0 ≡ get_or m (y + 1) 0 → u16_at l x ≡ u16_at m y
 unfolding u16_at
 u16-same l m x y e f = ap₂ (λ (i j : ℕ). i + j * 256) e f
-
-numbers-same : (l m : List ℕ) (x y n : ℕ) → ((i : ℕ) → i < 2 * n → get_or l (x + i) 0 ≡ get_or m (y + i) 0) → numbers_at l x n ≡ numbers_at m y n
-unfolding numbers_at
-numbers-same l m x y zero h = refl
-numbers-same l m x y (suc n) h =
-    let ex : x + 0 ≡ x = omega arith in
-    let ey : y + 0 ≡ y = omega arith in
-    ap₂ (λ (i : ℕ) (is : List ℕ). i ∷ is)
-    (u16-same l m x y (sym (ap (λ (k : ℕ). get_or l k 0) ex) ∙ h 0 (omega arith) ∙ ap (λ (k : ℕ). get_or m k 0) ey) (h 1 (omega arith)))
-    (numbers-same l m (x + 2) (y + 2) n
-    (λ i o.
-    let fx : x + 2 + i ≡ x + (2 + i) = omega arith in
-    let fy : y + (2 + i) ≡ y + 2 + i = omega arith in
-    ap (λ (k : ℕ). get_or l k 0) fx ∙ h (2 + i) (omega arith) ∙ ap (λ (k : ℕ). get_or m k 0) fy))
 
 -- The bytes of a part of a list.
 part_at : (l : List ℕ) (x k i : ℕ) → i < k → get_or (take k (drop x l)) i 0 ≡ get_or l (x + i) 0
@@ -58,7 +45,7 @@ recalled-is {ws} {a} {n} {at} {v} h en key ev small =
           record {
             full = λ z. absurd (omega (arith, count, z, h.key.some));
             few = omega (arith, count, h.key.few);
-            terms = numbers-same a ws 3 (at + 4) n same ∙ ap₂ (λ (x m : ℕ). numbers_at ws (x + 4) m) ei (sym count);
+            terms = numbers-same a 3 ws (at + 4) n same ∙ ap₂ (λ (x m : ℕ). numbers_at ws (x + 4) m) ei (sym count);
             code = ev ∙ ap (code_at ws) ei;
           },
     )
@@ -96,7 +83,7 @@ says-kept ws ws' slot key c s h =
       few = omega (arith, en, s.few);
       terms =
           s.terms
-          ∙ numbers-same ws' ws (at + 4) (at + 4) (get_or ws' at 0) (λ i o. byte (at + 4 + i) (4 + i) (omega (arith, s.few)) (omega arith))
+          ∙ numbers-same ws' (at + 4) ws (at + 4) (get_or ws' at 0) (λ i o. byte (at + 4 + i) (4 + i) (omega (arith, s.few)) (omega arith))
           ∙ ap (numbers_at ws (at + 4)) en;
       code =
           s.code
@@ -162,7 +149,7 @@ module _ {ws : List ℕ} {at : ℕ} {a : List ℕ} {n : ℕ} (h : PastSlotAsks w
               here = record { slot = h.here.slot; place = h.here.place; room = omega (arith, filled-long, h.here.room) };
               some = h.key.some;
               few = h.key.few;
-              terms = numbers-same filled a (at + 4) 3 n filled-terms;
+              terms = numbers-same filled (at + 4) a 3 n filled-terms;
             };
         less = λ slot key c s.
             by_test (eqb slot h.here.slot)
@@ -220,7 +207,7 @@ module _ {ws : List ℕ} {at n c : ℕ} (h : SlotNoteAsks ws at n c) (bytes : Li
       inr (
         z,
         s.terms ∙ ap (λ (x : ℕ). numbers_at coded (x + 4) (get_or coded x 0)) z ∙ ap (numbers_at coded (at + 4)) coded-count
-            ∙ numbers-same coded ws (at + 4) (at + 4) n (λ y o. coded-far (at + 4 + y) (omega arith)),
+            ∙ numbers-same coded (at + 4) ws (at + 4) n (λ y o. coded-far (at + 4 + y) (omega arith)),
         s.code ∙ ap (code_at coded) z ∙ coded-is,
       ))
       (λ q. inl (other-said coded h.here coded-early (λ y o. coded-far y (omega arith)) slot key d s (eqb-false slot h.here.slot q)))

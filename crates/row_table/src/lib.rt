@@ -56,11 +56,11 @@ pub fn term_rows(
     t: usize,
     past: &mut Past<'_>,
 )
-    requires asked { TurnAsked store.old names.old sheet.now sheet.now.sorts rows.old t }
+    requires asked { TurnAsked store.old names.old sheet.now rows.old t }
     requires past { PastTrue store.old past.old }
     ensures same { Same store.old store.new }
     ensures names { SameNames names.old names.new }
-    ensures rows { TurnWritten store.old names.old sheet.now sheet.now.sorts rows.old t store.new names.new rows.new }
+    ensures rows { TurnWritten store.old names.old sheet.now rows.old t store.new names.new rows.new }
     ensures past { PastTrue store.new past.new }
     ensures same_past { SamePast past.old past.new }
 {
@@ -80,11 +80,11 @@ pub fn rows_past(
     rows: &mut [u32],
     past: &mut Past<'_>,
 )
-    requires asked { RowsAsked store.old names.old sheet.now sheet.now.sorts terms rows.old }
+    requires asked { RowsAsked store.old names.old sheet.now terms rows.old }
     requires past { PastTrue store.old past.old }
     ensures same { Same store.old store.new }
     ensures names { SameNames names.old names.new }
-    ensures rows { RowsWritten store.old names.old sheet.now sheet.now.sorts terms rows.old store.new names.new rows.new }
+    ensures rows { RowsWritten store.old names.old sheet.now terms rows.old store.new names.new rows.new }
     ensures past { PastTrue store.new past.new }
     ensures same_past { SamePast past.old past.new }
 {
@@ -102,10 +102,10 @@ pub fn rows_all(
     terms: usize,
     rows: &mut [u32],
 )
-    requires { RowsAsked store.old names.old sheet.now sheet.now.sorts terms rows.old }
+    requires { RowsAsked store.old names.old sheet.now terms rows.old }
     ensures same { Same store.old store.new }
     ensures names { SameNames names.old names.new }
-    ensures rows { RowsWritten store.old names.old sheet.now sheet.now.sorts terms rows.old store.new names.new rows.new }
+    ensures rows { RowsWritten store.old names.old sheet.now terms rows.old store.new names.new rows.new }
 {
     if names.params.len() < NAMES {
         let mut bytes = [0u8; 1];

@@ -1,11 +1,12 @@
 -- The words of the contracts over a store that is lent where a sheet is read: s before, t afterwards.
-use Rattle.std.specs.Prelude.{ℕ, List, Result}
+use Rattle.std.specs.Prelude.{ℕ, ◌≡◌, List, Result}
 use Rattle.reader.specs.declared.Cursor.{Cursor}
 use Rattle.reader.specs.declared.Refusal.{Refusal}
 use Rattle.store.specs.declared.Store.{Store}
 use Rattle.sheet.specs.Contract.{AddSortAsks, AddSortIs, NextSortAsks, NextSortIs, ReadSortsAsks, ReadSortsIs, ReadRecordsAsks, ReadRecordsIs}
 use Rattle.sheet.specs.declared.Header.{Header}
 use Rattle.sheet.specs.declared.SheetCounts.{SheetCounts}
+use Rattle.sheet.specs.declared.tables.SheetTables.{SheetTables}
 
 -- The sort of the record r, number i of its sheet, is to be added; it was, or was refused.
 abbrev pub AddAsked : Store → List ℕ → List ℕ → ℕ → Type 0
@@ -30,10 +31,17 @@ abbrev pub AllSortsRead : List ℕ → Store → ℕ → Store → List ℕ → 
 AllSortsRead z s m t tbl' rec' q =
     ReadSortsIs z s.records.now s.places.now m t.records.now t.places.now t.index.now tbl' rec' t.count t.used q
 
--- All records of the sheet z are to be read; they were, or one was refused.
-abbrev pub RecordsAsked : List ℕ → Store → List ℕ → List ℕ → List ℕ → List ℕ → Header → Type 0
-RecordsAsked z s tbl xs ys rec h = ReadRecordsAsks z s.records.now s.places.now s.index.now s.count s.used tbl xs ys rec h
+-- w are the tables that v was.
+abbrev pub SameTables : SheetTables → SheetTables → Type 0
+SameTables v w =
+    (w.table.ghost_name ≡ v.table.ghost_name) × (w.terms.ghost_name ≡ v.terms.ghost_name) × (w.questions.ghost_name ≡ v.questions.ghost_name)
+    × (w.scratch.ghost_name ≡ v.scratch.ghost_name)
 
-abbrev pub AllRecordsRead : List ℕ → Store → Header → Store → List ℕ → List ℕ → List ℕ → Result SheetCounts Refusal → Type 0
-AllRecordsRead z s h t tbl' xs' ys' q =
-    ReadRecordsIs z s.records.now s.places.now h t.records.now t.places.now t.index.now tbl' xs' ys' q
+-- All records of the sheet z are to be read; they were, or one was refused.
+abbrev pub RecordsAsked : List ℕ → Store → SheetTables → Header → Type 0
+RecordsAsked z s w h =
+    ReadRecordsAsks z s.records.now s.places.now s.index.now s.count s.used w.table.now w.terms.now w.questions.now w.scratch.now h
+
+abbrev pub AllRecordsRead : List ℕ → Store → Header → Store → SheetTables → Result SheetCounts Refusal → Type 0
+AllRecordsRead z s h t w q =
+    ReadRecordsIs z s.records.now s.places.now h t.records.now t.places.now t.index.now w.table.now w.terms.now w.questions.now q

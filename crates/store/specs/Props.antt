@@ -11,7 +11,7 @@ unfolding Stands
 Stands-prop [] b x = Unit-prop
 Stands-prop (a ∷ s) b x = ×_prop (hlevel props) (Stands-prop s b (x + 1))
 
-Stored-prop : (b p : List ℕ) (n : ℕ) → IsProp (Stored b p n)
+pub Stored-prop : (b p : List ℕ) (n : ℕ) → IsProp (Stored b p n)
 Stored-prop b p n = hlevel (props, Stands-prop)
 
 Distinct-prop : (b p : List ℕ) (n : ℕ) → IsProp (Distinct b p n)

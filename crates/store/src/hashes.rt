@@ -26,7 +26,7 @@ pub fn hash_by(rec: &[u8], one: u32, two: u32) -> usize
     let Some(last) = rec.last() else {
         return 0;
     };
-    let mut low = *last as u32;
+    let mut low = u32::from(*last);
     let mut high: u32 = 0;
     for v in (Numbers { bytes: rec }) {
         let x = low.wrapping_add(v as u32).wrapping_mul(one);

@@ -14,7 +14,7 @@ use Rattle.reader.specs.declared.Refusal.{Refusal}
 use Rattle.sheet.specs.Sheet.{Lengths, Sheet, Reading, TermFields, QuestionFields, read_sheet}
 use Rattle.sheet.specs.Sheet.Reading.{read_refused as unread, got}
 use Rattle.sheet.specs.Trees.{trees_of}
-use Rattle.sheet.specs.Contract.{term_read_at, terms_at, question_read_at, questions_at, sheet_in, each_at, QuestionStands, SheetStands, SheetAccepted, ReadSheetAsks}
+use Rattle.sheet.specs.Contract.{term_read_at, terms_at, question_read_at, questions_at, sheet_in, each_at, QuestionStands, SheetStands, SheetAccepted}
 use Rattle.sheet.specs.Stands.{each-length, zeros-all}
 use Rattle.sheet.specs.declared.SheetCounts.{SheetCounts}
 use Rattle.store.specs.Good.{Good, good-bytes, good-places}
@@ -58,17 +58,6 @@ blank-tables =
             images = zeros-all 65536;
             bound = zeros-all 4096;
           };
-    }
-
-pub own-tables : ReadSheetAsks (replicate 13312 0) (replicate 2048 0) (replicate 4096 0) (replicate 1024 0) (replicate 266 0)
-own-tables =
-    record {
-      index = length-replicate {A = ℕ} 13312 0;
-      table = length-replicate {A = ℕ} 2048 0;
-      terms = length-replicate {A = ℕ} 4096 0;
-      questions = length-replicate {A = ℕ} 1024 0;
-      scratch = length-replicate {A = ℕ} 266 0;
-      empty = zeros-all 13312;
     }
 
 ---------------------------------------------------------------- the judgement by what was read
@@ -256,18 +245,23 @@ lengths-same b p rw an b₁ p₁ rw₁ an₁ eb ep er ea =
 -- WHAT THE READER PROMISES of an accepted sheet is what its judgement asks.
 pub accepted-ask : {s : List ℕ} (b p : List ℕ) {rw an : List ℕ} → ClearedAsks rw an → {b₁ p₁ ix tbl xs ys : List ℕ} {c : SheetCounts}
     → SheetAccepted s (lengths_of b p rw an) b₁ p₁ ix tbl xs ys c
-    → length tbl ≡ length {A = ℕ} (replicate 2048 0) → length xs ≡ length {A = ℕ} (replicate 4096 0) → length ys ≡ length {A = ℕ} (replicate 1024 0)
+    → length tbl ≡ 2048 → length xs ≡ 4096 → length ys ≡ 1024
     → AcceptedAsks s b₁ p₁ ix tbl xs ys c rw an
 accepted-ask {s} b p {rw} {an} z {b₁} {p₁} {ix} {tbl} {xs} {ys} {c} a et ex ey =
     record {
       accepted =
           subst (λ (l : Lengths). SheetAccepted s l b₁ p₁ ix tbl xs ys c)
           (lengths-same b₁ p₁ rw an b p rw an (sym a.long) (sym a.wide) refl refl) a;
-      table = et ∙ length-replicate {A = ℕ} 2048 0;
-      terms = ex ∙ length-replicate {A = ℕ} 4096 0;
-      questions = ey ∙ length-replicate {A = ℕ} 1024 0;
+      table = et;
+      terms = ex;
+      questions = ey;
       cleared = z;
     }
+
+-- The same of tables that hold the same numbers.
+pub accepted-moved : {s b p ix tbl xs ys tbl' xs' ys' rw an : List ℕ} {c : SheetCounts} → AcceptedAsks s b p ix tbl xs ys c rw an → tbl' ≡ tbl → xs' ≡ xs → ys' ≡ ys
+    → AcceptedAsks s b p ix tbl' xs' ys' c rw an
+accepted-moved h e f g = rw (e, f, g) h
 
 -- A REFUSED SHEET, whose two buffers of the store are zeroed again.
 pub refused-is : (s b p : List ℕ) {rw an : List ℕ} → ClearedAsks rw an → (e : Refusal) (b₁ p₁ : List ℕ) {b₂ p₂ : List ℕ}

@@ -13,6 +13,7 @@ use named::{judge_named, uses_names};
 use reader::Refusal;
 use record::limits::{LONGEST_RECORD, MOST_QUESTIONS, MOST_SORT_RECORDS, MOST_TERMS};
 use row_table::rows_all;
+use sheet::tables::SheetTables;
 use sheet::{ReadSheet, SheetCounts, read_sheet};
 use store::Store;
 use store::slots::INDEX_LENGTH;
@@ -61,7 +62,12 @@ pub fn judge_cleared(
     let mut table = [0u16; MOST_SORT_RECORDS];
     let mut starts = [0u16; MOST_TERMS];
     let mut asked = [0u16; MOST_QUESTIONS];
-    let mut scratch = [0u8; LONGEST_RECORD];
+    let mut tables = SheetTables {
+        table: &mut table,
+        terms: &mut starts,
+        questions: &mut asked,
+        scratch: &mut [0u8; LONGEST_RECORD],
+    };
     let read = read_sheet(
         sheet,
         records,
@@ -69,10 +75,7 @@ pub fn judge_cleared(
         rows.len(),
         answers.len(),
         &mut index,
-        &mut table,
-        &mut starts,
-        &mut asked,
-        &mut scratch,
+        &mut tables,
     );
     match read {
         Ok(counts) => {

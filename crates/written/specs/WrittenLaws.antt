@@ -1,9 +1,10 @@
 -- What a write of lines gives, case by case; and what the count of written lines says of the bytes that were handed over: they grow by
 -- the text of each write.
-use Rattle.std.specs.Prelude.{ℕ, ◌+◌, ◌-◌, ◌<◌, ◌≤◌, ◌≡◌, refl, Bool, true, false, List, [], ◌++◌, length, take, ltb, Option}
+use Rattle.std.specs.Prelude.{ℕ, ◌+◌, ◌-◌, ◌<◌, ◌≤◌, ◌≡◌, refl, true, false, List, [], ◌++◌, length, take, ltb, Option}
 use Rattle.std.specs.Io.KnownBytes.{Appends}
 use Rattle.std.proofs.KnownBytes.{Appends-nil, Appends-trans}
 use Rattle.std.proofs.Common.{sym, ap, subst, ◌∙◌, append-nil, arith, ltb-true, ltb-false}
+use Rattle.std.proofs.lemmas.Bool.{both_ways}
 use Rattle.record.specs.Cases.{by_test}
 use Rattle.reader.specs.declared.Refusal.{Refusal}
 use Rattle.reader.specs.Reader.{refusal_number}
@@ -24,9 +25,6 @@ use Rattle.page.specs.Numbered.{page_line_of}
 use Rattle.page.proofs.NumberedLaws.{lines-paged}
 use Rattle.written.specs.declared.Written.{Written}
 use Rattle.written.specs.Written.{none_written, handed, NextLines, HandAsks, WentOn, WrittenAll, TextAdded, Layout, in_lines, on_pages, count_in, line_in, text_in}
-
-not-both : (b : Bool) → b ≡ false → b ≡ true → ⊥
-not-both b f t = let z : ◌≡◌ {A = ℕ} 0 1 = cc in omega arith
 
 ---------------------------------------------------------------- the line of a refused sheet
 -- It is the next one where nothing is written,
@@ -89,11 +87,11 @@ refused-text e o o' r a long =
 ---------------------------------------------------------------- what is promised
 -- A write took all,
 pub took-all : (w : Written) (next : ℕ) → WentOn w next (record { lines = next; failed = false })
-took-all w next = record { took = λ e. refl; stayed = λ e. absurd (not-both false refl e) }
+took-all w next = record { took = λ e. refl; stayed = λ e. absurd (both_ways false refl e) }
 
 -- or it failed.
 pub took-less : (w : Written) (next : ℕ) → WentOn w next (record { lines = w.lines; failed = true })
-took-less w next = record { took = λ e. absurd (not-both true e refl); stayed = λ e. refl }
+took-less w next = record { took = λ e. absurd (both_ways true e refl); stayed = λ e. refl }
 
 -- With the write of its one line a printout is written, or that write failed.
 pub one_written : (r : Written) → WentOn none_written 1 r → WrittenAll 1 r
@@ -101,11 +99,11 @@ one_written r g = record { whole = g.took; part = λ x. omega (arith, g.stayed x
 
 -- Where the lines written are as many as there are, all are,
 pub written-whole : {count : ℕ} (r : Written) → r.failed ≡ false → r.lines ≡ count → WrittenAll count r
-written-whole r f e = record { whole = λ x. e; part = λ x. absurd (not-both r.failed f x) }
+written-whole r f e = record { whole = λ x. e; part = λ x. absurd (both_ways r.failed f x) }
 
 -- and where a write of further lines failed, one is left.
 pub written-part : {count : ℕ} (w : Written) (next : ℕ) (r : Written) → WentOn w next r → r.failed ≡ true → w.lines < count → WrittenAll count r
-written-part w next r g t h = record { whole = λ x. absurd (not-both r.failed x t); part = λ x. omega (arith, g.stayed x) }
+written-part w next r g t h = record { whole = λ x. absurd (both_ways r.failed x t); part = λ x. omega (arith, g.stayed x) }
 
 ---------------------------------------------------------------- what follows of the bytes
 -- AT FIRST NO BYTE IS HANDED OVER,

@@ -6,7 +6,7 @@ use Rattle.row_rules.specs.declared.Cause.TheVariants.{NoRank}
 use Rattle.row_answer.specs.AnswerLaws.{judged-as}
 use Rattle.row_parts.specs.Site.{site_over}
 use Rattle.check_operator.proofs.RowLaws.{refused_row}
-use Rattle.check_row.proofs.KindLaws.{checked-constant, checked-match, five_kinds, known-args, let-asks, app-is, op-is, binder-asks, binder-kind, let-is, index-asks, index-kind, var-inside, var-asks, var-is, as-inside, as_asks, as_is}
+use Rattle.check_row.proofs.KindLaws.{checked-constant, checked-match, five_kinds, known-args, let-asks, app-is, op-is, binder-asks, binder-kind, let-is, index-asks, index-kind, var-inside, var-known, var-is, as-inside, as_asks, as_is}
 use Rattle.check_row.proofs.check.Goals as goal
 
 pub returns-in-Integer-clause-answer : goal.returns-in-Integer-clause-answer
@@ -21,7 +21,7 @@ bounds-sheet-term c = var-inside c.requires.site c.requires.count (ap term_numbe
 
 pub checked_variable-requires : goal.checked_variable-requires
 checked_variable-requires c =
-    rw (c.sorts.ensures.records, c.sorts.ensures.places, c.sorts.ensures.count) (var-asks c.requires.site c.requires.count (ap term_number c.in-Var.is))
+    rw c.sorts.ensures.count (var-known c.requires.site c.requires.count (ap term_number c.in-Var.is))
 
 pub returns-in-Var-clause-answer : goal.returns-in-Var-clause-answer
 returns-in-Var-clause-answer c =

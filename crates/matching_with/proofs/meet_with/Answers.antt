@@ -23,7 +23,7 @@ pub returns-in-None-clause-answer : goal.returns-in-None-clause-answer
 returns-in-None-clause-answer c = with-free c.requires (sym c.look_up.ensures.entry ∙ ap entry_of c.in-None.is) c.bind.ensures.bound
 
 pub param_eq-requires : goal.param_eq-requires
-param_eq-requires c = with-pair c.requires (sym c.look_up.ensures.entry ∙ ap entry_of c.in-Some.is)
+param_eq-requires c = let a = with-pair c.requires (sym c.look_up.ensures.entry ∙ ap entry_of c.in-Some.is) in (a.left, a.right)
 
 pub returns-in-Some-clause-answer : goal.returns-in-Some-clause-answer
 returns-in-Some-clause-answer c = with-image c.requires (sym c.look_up.ensures.entry ∙ ap entry_of c.in-Some.is) c.param_eq.ensures

@@ -19,12 +19,12 @@ is_listed-requires c =
 pub returns-then-is_listed : goal.returns-then-is_listed
 returns-then-is_listed c =
     let prm = c.args.names.now.params.now in
-    turn-meets prm c.requires.pair c.if-p-t.false c.entry-a.result c.entry-a.ensures (ap sort_number c.in-Var.is) (look-some prm c.entry-a.result.name c.is_listed.ensures c.if-is_listed.true)
+    turn-meets prm c.requires.pair c.if-p-t.false c.entry-a.ensures (ap sort_number c.in-Var.is) (look-some prm c.entry-a.result.name c.is_listed.ensures c.if-is_listed.true)
 
 pub returns-else-is_listed : goal.returns-else-is_listed
 returns-else-is_listed c =
     let prm = c.args.names.now.params.now in
-    turn-unlisted prm c.requires.pair c.if-p-t.false c.entry-a.result c.entry-a.ensures (ap sort_number c.in-Var.is) (look-none prm c.entry-a.result.name c.is_listed.ensures c.if-is_listed.false)
+    turn-unlisted prm c.requires.pair c.if-p-t.false c.entry-a.ensures (ap sort_number c.in-Var.is) (look-none prm c.entry-a.result.name c.is_listed.ensures c.if-is_listed.false)
 
 pub get-requires : goal.get-requires
 get-requires c =
@@ -36,4 +36,4 @@ get-requires c =
 pub returns-in-Par : goal.returns-in-Par
 returns-in-Par c =
     let r = c.entry-a.result in
-    turn-under c.args.names.now.params.now c.requires.pair c.if-p-t.false r c.entry-a.ensures (ap sort_number c.in-Par.is) (at-start c.args.sorts.now.records.now r.parts.at c.get.ensures.value)
+    turn-under c.args.names.now.params.now c.requires.pair c.if-p-t.false c.entry-a.ensures (ap sort_number c.in-Par.is) (at-start c.args.sorts.now.records.now r.parts.at c.get.ensures.value)

@@ -22,36 +22,30 @@ get-requires c =
 
 pub returns-then-all_listed : goal.returns-then-all_listed
 returns-then-all_listed c =
-    let z = c.requires in
     let q = c.entry-c.result in
-    turn-through c.args.names.now.params.now z.turn.pair z.differ c.args.a z.entry z.no_var z.no_par q c.entry-c.ensures (kind-is q.kind SortPar c.eq.ensures c.if-eq.true) c.all_listed.result c.all_listed.ensures c.if-all_listed.true (at-start c.args.sorts.now.records.now q.parts.at c.get.ensures.value)
+    turn-through c.requires c.entry-c.ensures (kind-is q.kind SortPar c.eq.ensures c.if-eq.true) c.all_listed.ensures c.if-all_listed.true (at-start c.args.sorts.now.records.now q.parts.at c.get.ensures.value)
 
 pub returns-then-eq : goal.returns-then-eq
 returns-then-eq c =
-    let z = c.requires in
     let q = c.entry-c.result in
-    turn-shut c.args.names.now.params.now z.turn.pair z.differ c.args.a z.entry z.no_var z.no_par q c.entry-c.ensures (kind-is q.kind SortPar c.eq.ensures c.if-eq.true) c.all_listed.result c.all_listed.ensures c.if-all_listed.false
+    turn-shut c.requires c.entry-c.ensures (kind-is q.kind SortPar c.eq.ensures c.if-eq.true) c.all_listed.ensures c.if-all_listed.false
 
 pub returns-then-param_eq : goal.returns-then-param_eq
 returns-then-param_eq c =
-    let z = c.requires in
     let q = c.entry-c.result in
-    turn-param c.args.names.now.params.now z.turn.pair z.differ c.args.a z.entry z.no_var z.no_par q c.entry-c.ensures (kind-not q.kind SortPar c.eq.ensures c.if-eq.false) (kinds-differ c.args.a.kind q.kind c.ne.ensures c.if-ne.true) c.param_eq.ensures c.if-param_eq.true
+    turn-param c.requires c.entry-c.ensures (kind-not q.kind SortPar c.eq.ensures c.if-eq.false) (kinds-differ c.args.a.kind q.kind c.ne.ensures c.if-ne.true) c.param_eq.ensures c.if-param_eq.true
 
 pub returns-then-ne : goal.returns-then-ne
 returns-then-ne c =
-    let z = c.requires in
     let q = c.entry-c.result in
-    turn-kinds c.args.names.now.params.now z.turn.pair z.differ c.args.a z.entry z.no_var z.no_par q c.entry-c.ensures (kind-not q.kind SortPar c.eq.ensures c.if-eq.false) (kinds-differ c.args.a.kind q.kind c.ne.ensures c.if-ne.true) c.param_eq.ensures c.if-param_eq.false
+    turn-kinds c.requires c.entry-c.ensures (kind-not q.kind SortPar c.eq.ensures c.if-eq.false) (kinds-differ c.args.a.kind q.kind c.ne.ensures c.if-ne.true) c.param_eq.ensures c.if-param_eq.false
 
 pub returns-then-same_head : goal.returns-then-same_head
 returns-then-same_head c =
-    let z = c.requires in
     let q = c.entry-c.result in
-    turn-both c.args.names.now.params.now z.turn.pair z.differ c.args.a z.entry z.no_var z.no_par q c.entry-c.ensures (kinds-same c.args.a.kind q.kind c.ne.ensures c.if-ne.false) (sym c.same_head.ensures ∙ c.if-same_head.true)
+    turn-both c.requires c.entry-c.ensures (kinds-same c.args.a.kind q.kind c.ne.ensures c.if-ne.false) (sym c.same_head.ensures ∙ c.if-same_head.true)
 
 pub returns : goal.returns
 returns c =
-    let z = c.requires in
     let q = c.entry-c.result in
-    turn-other c.args.names.now.params.now z.turn.pair z.differ c.args.a z.entry z.no_var z.no_par q c.entry-c.ensures (kinds-same c.args.a.kind q.kind c.ne.ensures c.if-ne.false) (sym c.same_head.ensures ∙ c.if-same_head.false)
+    turn-other c.requires c.entry-c.ensures (kinds-same c.args.a.kind q.kind c.ne.ensures c.if-ne.false) (sym c.same_head.ensures ∙ c.if-same_head.false)

@@ -1,7 +1,5 @@
 -- The bytes read so far stay where they are, and the next ones stand behind them.
-use Rattle.std.proofs.Common.{ℕ, Option, Some, arith, subst, drop, take}
-use Rattle.std.specs.Io.KnownBytes.{Consumes}
-use Rattle.program_input.specs.Input.{ReadFrom, ReadWithin}
+use Rattle.std.proofs.Common.{arith}
 use Rattle.program_input.specs.InputLaws.{read-more}
 use Rattle.program_input.proofs.read_input.Goals as goal
 
@@ -12,6 +10,6 @@ loop-done-preserved g c =
     let w = rw c.in-Some.is at e.within in
     let b = rw c.in-Some.is at e.bytes in
     record {
-      within = w.1;
-      bytes = read-more _ _ _ _ _ l.done c.in-Some.n l.invariant.bytes e.front b;
+      within = omega (arith, w.1);
+      bytes = read-more _ _ _ _ _ l.done _ c.in-Some.n l.invariant.within w.1 l.invariant.bytes b;
     }

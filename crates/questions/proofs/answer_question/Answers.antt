@@ -9,8 +9,8 @@ use Rattle.questions.proofs.answer_question.Goals as goal
 
 pub answer_compatible-requires : goal.answer_compatible-requires
 answer_compatible-requires c =
-    let e = c.sorts.ensures in
-    rw (e.records, e.places, e.count) (pair-asked c.requires (ap question_number c.in-Compatible.is) c.sort_at-p.ensures c.sort_at-t.ensures)
+    let a = pair-asked c.requires (ap question_number c.in-Compatible.is) c.sort_at-p.ensures c.sort_at-t.ensures in
+    rw c.sorts.ensures.count (a.left, a.right)
 
 pub returns-in-Compatible-clause-answer : goal.returns-in-Compatible-clause-answer
 returns-in-Compatible-clause-answer c =

@@ -2,8 +2,18 @@
 -- Where all pass, only the records are left.
 use Rattle.std.proofs.Common.{arith}
 use mathlib.Core.Path.{◌∙◌}
-use Rattle.sheet.proofs.HeaderLaws.{length-under, length_over, sorts-over, terms-over, questions-over, rows_few, answers-few, records-left, records-counts}
+use Rattle.sheet.proofs.HeaderLaws.{CountsFew, length-under, length_over, sorts-over, terms-over, questions-over, rows_few, answers-few, records-left, records-counts}
 use Rattle.sheet.proofs.read_header.Goals as goal
+use Rattle.sheet.proofs.read_header.Goals.{Else-questions-gt-MOST_QUESTIONS}
+
+-- The three counts passed their tests.
+few : (c : Else-questions-gt-MOST_QUESTIONS) → CountsFew c.args.s.now
+few c =
+    record {
+      sorts = omega (arith, c.if-sorts-gt-MOST_SORT_RECORDS.false, c.u16_at-sorts.ensures.value);
+      terms = omega (arith, c.if-terms-gt-MOST_TERMS.false, c.u16_at-terms.ensures.value);
+      questions = omega (arith, c.if-questions-gt-MOST_QUESTIONS.false, c.u16_at-questions.ensures.value);
+    }
 
 pub returns-then-s-lt-HEADER_LENGTH : goal.returns-then-s-lt-HEADER_LENGTH
 returns-then-s-lt-HEADER_LENGTH c = let s = c.args.s.now in
@@ -27,11 +37,11 @@ returns-then-questions-gt-MOST_QUESTIONS c = let s = c.args.s.now in
 
 pub returns-then-rows-terms : goal.returns-then-rows-terms
 returns-then-rows-terms c = let s = c.args.s.now in
-    λ l er ea. rows_few s l c.if-s-lt-HEADER_LENGTH.false c.if-s-gt-LONGEST_SHEET.false (omega (arith, c.if-sorts-gt-MOST_SORT_RECORDS.false, c.u16_at-sorts.ensures.value)) (omega (arith, c.if-terms-gt-MOST_TERMS.false, c.u16_at-terms.ensures.value)) (omega (arith, c.if-questions-gt-MOST_QUESTIONS.false, c.u16_at-questions.ensures.value)) (omega (arith, c.if-rows-terms.true, c.u16_at-terms.ensures.value, er))
+    λ l er ea. rows_few s l c.if-s-lt-HEADER_LENGTH.false c.if-s-gt-LONGEST_SHEET.false (few (goal.at.returns-then-rows-terms c).Else-questions-gt-MOST_QUESTIONS) (omega (arith, c.if-rows-terms.true, c.u16_at-terms.ensures.value, er))
 
 pub returns-then-answers-questions : goal.returns-then-answers-questions
 returns-then-answers-questions c = let s = c.args.s.now in
-    λ l er ea. answers-few s l c.if-s-lt-HEADER_LENGTH.false c.if-s-gt-LONGEST_SHEET.false (omega (arith, c.if-sorts-gt-MOST_SORT_RECORDS.false, c.u16_at-sorts.ensures.value)) (omega (arith, c.if-terms-gt-MOST_TERMS.false, c.u16_at-terms.ensures.value)) (omega (arith, c.if-questions-gt-MOST_QUESTIONS.false, c.u16_at-questions.ensures.value)) (omega (arith, c.if-answers-questions.true, c.u16_at-questions.ensures.value, ea))
+    λ l er ea. answers-few s l c.if-s-lt-HEADER_LENGTH.false c.if-s-gt-LONGEST_SHEET.false (few (goal.at.returns-then-answers-questions c).Else-questions-gt-MOST_QUESTIONS) (omega (arith, c.if-answers-questions.true, c.u16_at-questions.ensures.value, ea))
 
 pub returns : goal.returns
 returns c = let s = c.args.s.now in
@@ -47,7 +57,7 @@ returns c = let s = c.args.s.now in
       lent_rows = c.if-rows-terms.false;
       lent_answers = c.if-answers-questions.false;
       result = λ l er ea.
-          records-left s l c.if-s-lt-HEADER_LENGTH.false c.if-s-gt-LONGEST_SHEET.false (omega (arith, c.if-sorts-gt-MOST_SORT_RECORDS.false, c.u16_at-sorts.ensures.value)) (omega (arith, c.if-terms-gt-MOST_TERMS.false, c.u16_at-terms.ensures.value)) (omega (arith, c.if-questions-gt-MOST_QUESTIONS.false, c.u16_at-questions.ensures.value)) (omega (arith, c.if-rows-terms.false, c.u16_at-terms.ensures.value, er))
+          records-left s l c.if-s-lt-HEADER_LENGTH.false c.if-s-gt-LONGEST_SHEET.false (few (goal.at.returns c).Else-questions-gt-MOST_QUESTIONS) (omega (arith, c.if-rows-terms.false, c.u16_at-terms.ensures.value, er))
           (omega (arith, c.if-answers-questions.false, c.u16_at-questions.ensures.value, ea))
           ∙ records-counts s l c.u16_at-sorts.ensures.value c.u16_at-terms.ensures.value c.u16_at-questions.ensures.value;
     }

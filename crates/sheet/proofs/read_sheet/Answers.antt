@@ -5,8 +5,8 @@ use Rattle.sheet.proofs.read_sheet.Goals as goal
 
 pub invariant_of-store : goal.invariant_of-store
 invariant_of-store c =
-    record { good = (records-ask c.args.records.now c.args.places.now c.requires c.in_ok-header.ensures (c.fill.ensures.after (λ y e. e)) (c.fill-2.ensures.after (λ y e. e))).sorts.state.good }
+    record { good = (records-ask c.args.records.now c.args.places.now c.requires.long c.requires.empty c.args.tables.now c.in_ok-header.ensures (c.fill.ensures.after (λ y e. e)) (c.fill-2.ensures.after (λ y e. e))).sorts.state.good }
 
 pub read_records-requires : goal.read_records-requires
 read_records-requires c =
-    records-ask c.args.records.now c.args.places.now c.requires c.in_ok-header.ensures (c.fill.ensures.after (λ y e. e)) (c.fill-2.ensures.after (λ y e. e))
+    records-ask c.args.records.now c.args.places.now c.requires.long c.requires.empty c.args.tables.now c.in_ok-header.ensures (c.fill.ensures.after (λ y e. e)) (c.fill-2.ensures.after (λ y e. e))

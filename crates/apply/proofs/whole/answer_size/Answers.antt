@@ -4,5 +4,5 @@ use Rattle.apply.proofs.whole.answer_size.Goals as goal
 
 pub applied_size-requires-2 : goal.applied_size-requires-2
 applied_size-requires-2 c =
-    let s = c.args.store.now in
-    record { asks = c.requires; weighed = weighed-none s.records.now s.places.now s.count c.args.images.now 4096 }
+    let r = c.args.replacing.now in
+    record { known = c.requires; weighed = weighed-none r.entries.records.now r.entries.places.now r.count r.images.now 4096 }

@@ -4,5 +4,5 @@ use Rattle.apply.proofs.whole.answer_sizes.Goals as goal
 
 pub applied_sizes-requires : goal.applied_sizes-requires
 applied_sizes-requires c =
-    let s = c.args.store.now in
-    record { asks = c.requires; weighed = weighed-none s.records.now s.places.now s.count c.args.images.now 4096 }
+    let r = c.args.replacing.now in
+    record { list = c.requires; weighed = weighed-none r.entries.records.now r.entries.places.now r.count r.images.now 4096 }

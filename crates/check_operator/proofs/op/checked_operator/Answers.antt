@@ -9,6 +9,12 @@ use Rattle.check_operator.specs.Contract.{FitHas}
 use Rattle.check_operator.proofs.RowLaws.{refused_row}
 use Rattle.check_operator.proofs.OperatedLaws.{no-rank, no-count, no_value, rule-asks, misfit, fit_is}
 use Rattle.check_operator.proofs.op.checked_operator.Goals as goal
+use Rattle.check_operator.proofs.op.checked_operator.Goals.{After-all_values}
+
+-- Whether all arguments are values, by the store itself.
+values : (c : After-all_values)
+    → ValuesHave c.args.store.now.records.now c.args.store.now.places.now c.args.args.now.bytes.now 3 c.args.args.now.count c.all_values.result
+values c = rw (c.entries-entries.ensures.records, c.entries-entries.ensures.places, c.span.ensures.at, c.span.ensures.count) at c.all_values.ensures
 
 pub returns-in_err-rule-clause-answer : goal.returns-in_err-rule-clause-answer
 returns-in_err-rule-clause-answer c = refused_row c.args.store.now NoRank (no-rank c.requires c.args.op (search rules)) (search rules)
@@ -22,11 +28,9 @@ returns-then-not-counts-clause-answer c =
 pub returns-then-not-all_values-clause-answer : goal.returns-then-not-all_values-clause-answer
 returns-then-not-all_values-clause-answer c =
     let s = c.args.store.now in
-    let a = c.args.args.now in
     let r = c.in_ok-rule.rule in
     let e : rule_numbers r ≡ rule_of c.args.op = search rules in
-    let v : ValuesHave s.records.now s.places.now a.bytes.now 3 a.count c.all_values.result =
-    rw (c.entries-entries.ensures.records, c.entries-entries.ensures.places, c.span.ensures.at, c.span.ensures.count) at c.all_values.ensures in
+    let v = values (goal.at.returns-then-not-all_values-clause-answer c).After-all_values in
     refused_row s Misfit (no_value c.requires c.args.op r e c.counts.ensures c.if-not-counts.false c.all_values.result v c.if-not-all_values.true) refl
 
 pub fit_rule-requires : goal.fit_rule-requires
@@ -41,8 +45,7 @@ returns-in_err-made-clause-answer c =
     let a = c.args.args.now in
     let r = c.in_ok-rule.rule in
     let e : rule_numbers r ≡ rule_of c.args.op = search rules in
-    let v : ValuesHave s.records.now s.places.now a.bytes.now 3 a.count c.all_values.result =
-    rw (c.entries-entries.ensures.records, c.entries-entries.ensures.places, c.span.ensures.at, c.span.ensures.count) at c.all_values.ensures in
+    let v = values (goal.at.returns-in_err-made-clause-answer c).After-all_values in
     let h : FitHas s.records.now s.places.now a.bytes.now a.count (rule_numbers r) c.fit_rule.result =
     rw (c.entries-entries.ensures.records, c.entries-entries.ensures.places) at c.fit_rule.ensures in
     refused_row s Misfit
@@ -55,8 +58,7 @@ returns-clause-answer c =
     let a = c.args.args.now in
     let r = c.in_ok-rule.rule in
     let e : rule_numbers r ≡ rule_of c.args.op = search rules in
-    let v : ValuesHave s.records.now s.places.now a.bytes.now 3 a.count c.all_values.result =
-    rw (c.entries-entries.ensures.records, c.entries-entries.ensures.places, c.span.ensures.at, c.span.ensures.count) at c.all_values.ensures in
+    let v = values (goal.at.returns-clause-answer c).After-all_values in
     let h : FitHas s.records.now s.places.now a.bytes.now a.count (rule_numbers r) c.fit_rule.result =
     rw (c.entries-entries.ensures.records, c.entries-entries.ensures.places) at c.fit_rule.ensures in
     judged-as

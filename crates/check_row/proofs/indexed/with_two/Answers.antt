@@ -6,12 +6,12 @@ use Rattle.record.specs.KindLaws.{param_number-same}
 use Rattle.record.specs.declared.kinds.ParamOp.TheVariants.{Extract, ReLoop}
 use Rattle.row_rules.specs.declared.Cause.TheVariants.{Count}
 use Rattle.check_operator.proofs.RowLaws.{refused_row}
-use Rattle.check_row.proofs.IndexedLaws.{loop-is, two-other, kept_row}
+use Rattle.check_row.proofs.IndexedLaws.{known-of, loop-is, two-other, kept_row}
 use Rattle.check_row.proofs.indexed.with_two.Goals as goal
 
 pub returns-in-ReLoop-clause-answer : goal.returns-in-ReLoop-clause-answer
 returns-in-ReLoop-clause-answer c =
-    kept_row c.kept.ensures (loop-is c.requires c.entry.result c.entry.ensures c.args.i c.args.j (ap param_number c.in-ReLoop.is))
+    kept_row c.kept.ensures (loop-is (known-of c.args.store.now c.requires) c.entry.result c.entry.ensures c.args.i c.args.j (ap param_number c.in-ReLoop.is))
 
 pub returns-in_default : goal.returns-in_default
 returns-in_default c =

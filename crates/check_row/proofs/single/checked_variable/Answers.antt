@@ -17,4 +17,4 @@ pub returns : goal.returns
 returns c =
     let s = c.args.sorts.now in
     let k = sort_at s.records.now s.places.now s.count c.args.k in
-    reads-known c.args.k (need-taken (sort k) (carried k) c.is_carried.ensures c.if-not-is_carried.false) c.requires.known refl
+    reads-known c.args.k (need-taken (sort k) (carried k) c.is_carried.ensures c.if-not-is_carried.false) c.requires refl

@@ -9,7 +9,7 @@ use Rattle.infer_operator.proofs.single.constant_width.Goals as goal
 pub returns-then-list-lt2-clause-answer : goal.returns-then-list-lt2-clause-answer
 returns-then-list-lt2-clause-answer c =
     let z = c.args.sheet.now in
-    answer-panics c.args.store.now (written_none z.bytes.now z.starts.now c.args.list.at c.args.list.count c.if-list-lt2.true)
+    answer-panics c.args.store.now (written_none _ _ _ _ c.if-list-lt2.true)
 
 pub index_at-requires : goal.index_at-requires
 index_at-requires c =
@@ -19,4 +19,4 @@ index_at-requires c =
 pub returns-clause-answer : goal.returns-clause-answer
 returns-clause-answer c =
     let z = c.args.sheet.now in
-    judged-as (width-second z.bytes.now z.starts.now c.args.list.at c.args.list.count c.if-list-lt2.false c.index_at.ensures) c.vector.ensures.answer
+    judged-as (width-second _ _ _ _ c.if-list-lt2.false c.index_at.ensures) c.vector.ensures.answer

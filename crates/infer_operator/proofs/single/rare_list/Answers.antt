@@ -1,19 +1,13 @@
 -- The first argument; or none.
-use Rattle.std.proofs.Common.{ap}
-use Rattle.std.specs.Prelude.{ok_or}
-use Rattle.row_rules.specs.declared.Cause.TheVariants.{Panics}
 use Rattle.infer_rules.specs.Inferred.{rare_of}
 use Rattle.row_answer.specs.AnswerLaws.{judged-as}
 use Rattle.infer_operator.proofs.AnswerWays.{answer-sort, first-known, first-then, first-missing}
 use Rattle.infer_operator.proofs.single.rare_list.Goals as goal
 
-pub returns-in-Some-clause-answer : goal.returns-in-Some-clause-answer
-returns-in-Some-clause-answer c =
-    let taken = ap (λ o. ok_or o Panics) c.in-Some.is in
-    answer-sort c.args.store.now c.in-Some.k (first-known c.args.store.now c.args.args.now c.numbers.result c.next.result c.next.new.self c.numbers.ensures c.next.ensures.steps taken c.requires)
-    (first-then c.args.store.now c.args.args.now c.numbers.result c.next.result c.next.new.self c.numbers.ensures c.next.ensures.steps taken rare_of)
+pub returns-in-Ok-clause-answer : goal.returns-in-Ok-clause-answer
+returns-in-Ok-clause-answer c =
+    let e = c.argument.ensures.value in
+    answer-sort c.args.store.now c.in-Ok.k (first-known c.args.store.now c.args.args.now e c.in-Ok.is c.requires) (first-then c.args.store.now c.args.args.now e c.in-Ok.is rare_of)
 
-pub returns-in-None-clause-answer : goal.returns-in-None-clause-answer
-returns-in-None-clause-answer c =
-    let missing = ap (λ o. ok_or o Panics) c.in-None.is in
-    judged-as (first-missing c.args.store.now c.args.args.now c.numbers.result c.next.result c.next.new.self c.numbers.ensures c.next.ensures.steps missing rare_of) c.variable.ensures.answer
+pub returns-in-Err-clause-answer : goal.returns-in-Err-clause-answer
+returns-in-Err-clause-answer c = judged-as (first-missing c.args.store.now c.args.args.now c.argument.ensures.value c.in-Err.is rare_of) c.variable.ensures.answer

@@ -1,3 +1,4 @@
+-- The walk ends at a vector of known width and at a sort that is no vector; it goes on behind a vector of unknown width.
 use Rattle.std.proofs.Common.{◌∙◌}
 use Rattle.record.specs.declared.kinds.SortKind.TheVariants.{BitVec, ParamBitVec}
 use Rattle.infer_rules.specs.Inferred.{first_vector}

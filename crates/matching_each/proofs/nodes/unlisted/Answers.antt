@@ -1,13 +1,10 @@
 -- A Var by its entry.
-use Rattle.std.proofs.Common.{◌≡◌, [], Bool, true, false, refl, ap, sym, ◌∙◌, not}
+use Rattle.std.proofs.Common.{[], ap, sym, ◌∙◌, not}
+use mathlib.Core.Bool.{not-not}
 use Rattle.record.specs.Kinds.{sort_number}
 use Rattle.matching_tables.specs.Entered.{entry-var}
 use Rattle.matching_each.specs.Every.{Unlisted, passing}
 use Rattle.matching_each.proofs.nodes.unlisted.Goals as goal
-
-not-not : (t : Bool) → not (not t) ≡ t
-not-not true = refl
-not-not false = refl
 
 pub returns-in-Var : goal.returns-in-Var
 returns-in-Var c p n k o e =

@@ -11,7 +11,7 @@ use Rattle.matching_each.proofs.premises.in_premise.Goals.{then-is_known, else-i
 pub is_known-requires : goal.is_known-requires
 is_known-requires c =
     let s = c.args.sorts.now in
-    ((record { usable = c.requires.pair.usable; known = c.requires.pair.left }), subst (NoteTable (KnownAt s.records.now s.places.now s.count)) (sym c.new-seen.ensures) (table_none (KnownAt s.records.now s.places.now s.count)))
+    (c.requires.pair.left, subst (NoteTable (KnownAt s.records.now s.places.now s.count)) (sym c.new-seen.ensures) (table_none (KnownAt s.records.now s.places.now s.count)))
 
 pub is_unlisted-requires : goal.is_unlisted-requires
 is_unlisted-requires c =

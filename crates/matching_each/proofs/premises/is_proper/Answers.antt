@@ -1,6 +1,7 @@
 -- A sort without parts by its entry; any other by the walk from an empty table, by the law of its test.
 use Rattle.std.proofs.Common.{rules, [], ℕ, ◌≡◌, ◌∙◌, sym, subst, true}
 use Rattle.matching_tables.specs.Notes.{NoteTable}
+use Rattle.matching_tables.specs.Words.{one-in}
 use Rattle.record.specs.Decode.{sort_at}
 use Rattle.substitution.specs.Premises.{proper}
 use Rattle.matching_tables.specs.NoteLaws.{table_none}
@@ -12,8 +13,12 @@ use Rattle.matching_each.proofs.premises.is_proper.Goals as goal
 pub returns-then-a-eq0 : goal.returns-then-a-eq0
 returns-then-a-eq0 c =
     let s = c.args.sorts.now in
-    let h = c.proper.ensures s.records.now s.places.now s.count c.args.k c.requires c.entry-a.ensures in
-    node-only c.requires c.entry-a.result c.entry-a.ensures (passing Proper [] []) h c.if-a-eq0.true ∙ every-is (proper-tests [] []) (sort_at s.records.now s.places.now s.count c.args.k)
+    let one = one-in s c.requires in
+    let h = c.proper.ensures s.records.now s.places.now s.count c.args.k one c.entry-a.ensures in
+    node-only one c.entry-a.ensures (passing Proper [] []) h c.if-a-eq0.true ∙ every-is (proper-tests [] []) (sort_at s.records.now s.places.now s.count c.args.k)
+
+pub each-requires : goal.each-requires
+each-requires c = record { one = one-in c.args.sorts.now c.requires; asked = λ r k one h. search rules }
 
 pub returns : goal.returns
 returns c =

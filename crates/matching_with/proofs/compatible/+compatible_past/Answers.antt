@@ -6,7 +6,8 @@ pub all_compatible-compatible_past-requires : goal.all_compatible-compatible_pas
 all_compatible-compatible_past-requires t c =
     let v = c.loop-p.invariant.2 in
     let e = c.in-Some.ensures.steps in
-    (omega (arith, fits-fall v e.0 e.1), (fits-first v e.0 e.1, v.noted))
+    let a = fits-first v e.0 e.1 in
+    (omega (arith, fits-fall v e.0 e.1), (a.left, a.right, v.noted))
 
 pub all_compatible-returns-then-not-compatible_past-clause-answer : goal.all_compatible-returns-then-not-compatible_past-clause-answer
 all_compatible-returns-then-not-compatible_past-clause-answer t c =

@@ -9,4 +9,4 @@ pub compatible_past-requires : goal.compatible_past-requires
 compatible_past-requires c =
     let s = c.args.sorts.now in
     let G = CompatibleAt s.records.now s.places.now s.count in
-    (c.requires, subst (Pairs G) (sym c.new.ensures) (pairs-none G))
+    (c.requires.0, c.requires.1, subst (Pairs G) (sym c.new.ensures) (pairs-none G))

@@ -12,7 +12,7 @@ put_decimal-requires c =
     let w = c.put_blanks.ensures.put in
     omega (arith, c.requires.1, w.next, wrote-long w, blanks-long (6 - c.digits.result), c.digits.ensures.0, c.digits.ensures.1)
 
-pub returns-then-i-eq0-clause-put : goal.returns-then-i-eq0-clause-put
-returns-then-i-eq0-clause-put c =
-    let e = ap (λ (k : ℕ). blanks (6 - k) ++ decimal c.args.t) c.digits.ensures.0 in
-    wrote_as (number-first _ _ c.if-i-eq0.true) (wrote_as e (wrote-more c.put_blanks.ensures.put c.put_decimal.ensures.put))
+pub returns-then-at-eq0-clause-put : goal.returns-then-at-eq0-clause-put
+returns-then-at-eq0-clause-put c =
+    let e = ap (λ (k : ℕ). blanks (6 - k) ++ decimal c.args.at.row) c.digits.ensures.0 in
+    wrote_as (number-first _ _ c.if-at-eq0.true) (wrote_as e (wrote-more c.put_blanks.ensures.put c.put_decimal.ensures.put))

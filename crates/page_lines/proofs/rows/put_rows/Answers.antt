@@ -12,19 +12,9 @@ row_lines-requires c =
     let l = c.loop-at in
     let g = l.invariant.1 in
     let f = c.stretch-n.ensures in
-    let p = c.requires.asks.page in
     record {
       count = s.terms;
-      page =
-          record {
-            many = p.many;
-            judged = p.judged;
-            table = p.table;
-            short = p.short;
-            deep = l.windows.deep;
-            first = l.windows.first;
-            second = l.windows.second;
-          };
+      page = c.requires.asks.page;
       row = c.loop-at-test.true;
       low =
           omega (arith, f.most, height-most s.sizes.now s.rows.now l.at.row s.sizes32 s.rows32, c.row_height-high.ensures, g.spot.inside c.loop-at-test.true);

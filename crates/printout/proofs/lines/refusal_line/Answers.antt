@@ -9,12 +9,12 @@ pub returns-then-room-digits-clause-line : goal.returns-then-room-digits-clause-
 returns-then-room-digits-clause-line c = (refl, omega (arith, c.room.ensures, c.if-room-digits.true, c.digits.ensures.0, refusal-line-length c.args.number))
 
 pub put_refusal-requires : goal.put_refusal-requires
-put_refusal-requires c = omega (arith, c.room.ensures, c.if-room-digits.false, c.digits.ensures.0, refusal-length c.args.number, c.requires.1)
+put_refusal-requires c = omega (arith, c.room.ensures, c.if-room-digits.false, c.digits.ensures.0, refusal-length c.args.number, c.args.out.now.fits)
 
 pub put_byte-requires : goal.put_byte-requires
 put_byte-requires c =
     let w = c.put_refusal.ensures.put in
-    omega (arith, c.room.ensures, c.if-room-digits.false, c.digits.ensures.0, refusal-length c.args.number, c.requires.1, w.next, wrote-long w)
+    omega (arith, c.room.ensures, c.if-room-digits.false, c.digits.ensures.0, refusal-length c.args.number, c.args.out.now.fits, w.next, wrote-long w)
 
 pub returns-clause-line : goal.returns-clause-line
 returns-clause-line c = wrote_as (refusal-line _) (wrote-more c.put_refusal.ensures.put c.put_byte.ensures.put)

@@ -5,27 +5,27 @@ use Rattle.printout.specs.LineLaws.{term-full, term-room, term-wrote}
 use Rattle.printout.proofs.lines.term_line.Goals as goal
 
 pub returns-then-room-digits-clause-line : goal.returns-then-room-digits-clause-line
-returns-then-room-digits-clause-line c = term-full c.requires c.digits.ensures.0 c.row_size-one.ensures.0 c.row_size-two.ensures.0 c.room.ensures c.if-room-digits.true
+returns-then-room-digits-clause-line c = term-full _ _ _ _ _ c.args.out.now.fits c.digits.ensures.0 c.row_size-one.ensures.0 c.row_size-two.ensures.0 c.room.ensures c.if-room-digits.true
 
 pub put_label-requires : goal.put_label-requires
-put_label-requires c = room-now (term-room c.requires c.digits.ensures.0 c.row_size-one.ensures.0 c.row_size-two.ensures.0 c.room.ensures c.if-room-digits.false)
+put_label-requires c = room-now (term-room _ _ _ _ _ c.args.out.now.fits c.digits.ensures.0 c.row_size-one.ensures.0 c.row_size-two.ensures.0 c.room.ensures c.if-room-digits.false)
 
 pub put_row-requires-clause-room : goal.put_row-requires-clause-room
-put_row-requires-clause-room c = room-now (room-then (term-room c.requires c.digits.ensures.0 c.row_size-one.ensures.0 c.row_size-two.ensures.0 c.room.ensures c.if-room-digits.false) c.put_label.ensures.put)
+put_row-requires-clause-room c = room-now (room-then (term-room _ _ _ _ _ c.args.out.now.fits c.digits.ensures.0 c.row_size-one.ensures.0 c.row_size-two.ensures.0 c.room.ensures c.if-room-digits.false) c.put_label.ensures.put)
 
 pub put_byte-requires : goal.put_byte-requires
 put_byte-requires c =
-    room-now (room-then (room-then (term-room c.requires c.digits.ensures.0 c.row_size-one.ensures.0 c.row_size-two.ensures.0 c.room.ensures c.if-room-digits.false) c.put_label.ensures.put) c.put_row.ensures.put)
+    room-now (room-then (room-then (term-room _ _ _ _ _ c.args.out.now.fits c.digits.ensures.0 c.row_size-one.ensures.0 c.row_size-two.ensures.0 c.room.ensures c.if-room-digits.false) c.put_label.ensures.put) c.put_row.ensures.put)
 
 pub put_row-requires-2-clause-room : goal.put_row-requires-2-clause-room
 put_row-requires-2-clause-room c =
-    let first = term-room c.requires c.digits.ensures.0 c.row_size-one.ensures.0 c.row_size-two.ensures.0 c.room.ensures c.if-room-digits.false in
+    let first = term-room _ _ _ _ _ c.args.out.now.fits c.digits.ensures.0 c.row_size-one.ensures.0 c.row_size-two.ensures.0 c.room.ensures c.if-room-digits.false in
     let r = room-then (room-then first c.put_label.ensures.put) c.put_row.ensures.put in
     room-now (room-then r c.put_byte.ensures.put)
 
 pub put_byte-requires-2 : goal.put_byte-requires-2
 put_byte-requires-2 c =
-    let first = term-room c.requires c.digits.ensures.0 c.row_size-one.ensures.0 c.row_size-two.ensures.0 c.room.ensures c.if-room-digits.false in
+    let first = term-room _ _ _ _ _ c.args.out.now.fits c.digits.ensures.0 c.row_size-one.ensures.0 c.row_size-two.ensures.0 c.room.ensures c.if-room-digits.false in
     let r = room-then (room-then first c.put_label.ensures.put) c.put_row.ensures.put in
     room-now (room-then (room-then r c.put_byte.ensures.put) c.put_row-2.ensures.put)
 

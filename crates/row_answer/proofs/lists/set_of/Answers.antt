@@ -10,13 +10,13 @@ use Rattle.row_answer.proofs.lists.set_of.Goals as goal
 
 pub make-requires : goal.make-requires
 make-requires c =
-    let e = two-bytes c.args.k (omega (arith, c.requires.known, c.requires.good.indexed.count)) c.to_le_bytes.ensures in
-    rw (e.0, e.1) (record { good = c.requires.good; fresh = set-fresh c.args.k c.args.store.now.count c.requires.known })
+    let e = two-bytes c.args.k (omega (arith, c.args.store.now.good.indexed.count)) c.to_le_bytes.ensures in
+    rw (e.0, e.1) (record { good = c.args.store.now.good; fresh = set-fresh c.args.k c.args.store.now.count c.requires })
 
 pub returns-clause-answer : goal.returns-clause-answer
 unfolding sort_at
 returns-clause-answer c =
     let s = c.args.store.now in
-    let e = two-bytes c.args.k (omega (arith, c.requires.known, c.requires.good.indexed.count)) c.to_le_bytes.ensures in
+    let e = two-bytes c.args.k (omega (arith, c.args.store.now.good.indexed.count)) c.to_le_bytes.ensures in
     let made = rw (e.0, e.1) at c.make.ensures.answer in
     judged-as (ap sort (sym (set-sort c.args.k (store_of s.records.now s.places.now s.count)))) made

@@ -6,26 +6,30 @@ use Prim.Native.Nat.{◌-◌}
 use mathlib.Core.Path.{sym, ◌∙◌}
 use lib.Seq.{length-take-le}
 use Rattle.sheet.proofs.SortLaws.{translate-asks, add-asks, next-is, next-refused}
+use Rattle.sheet.specs.Contract.{TranslateAsks}
 use Rattle.sheet.proofs.sorts.next_sort.Goals as goal
+use Rattle.sheet.proofs.sorts.next_sort.Goals.{In_ok-sort}
 
-pub translate-requires : goal.translate-requires
-translate-requires c = let a = c.args in
+-- What writing the record that was read over store numbers needs.
+asks : (c : In_ok-sort)
+    → TranslateAsks c.args.s.now c.args.cursor.at c.in_ok-sort.after.at c.in_ok-sort.sort.parts.at c.in_ok-sort.sort.parts.count c.args.table.now c.args.scratch.now
+asks c = let a = c.args in
     translate-asks a.s.now (λ j. omega (arith, c.type_inv.s j)) a.cursor.at c.requires _ _ (sym c.sort.ensures ∙ c.in_ok-sort.was)
 
+pub translate-requires : goal.translate-requires
+translate-requires c = asks (goal.at.translate-requires c).In_ok-sort
+
 pub slice_bounds-add_sort-count : goal.slice_bounds-add_sort-count
-slice_bounds-add_sort-count c = let a = c.args in
-    let ta = translate-asks a.s.now (λ j. omega (arith, c.type_inv.s j)) a.cursor.at c.requires _ _ (sym c.sort.ensures ∙ c.in_ok-sort.was) in
+slice_bounds-add_sort-count c = let ta = asks (goal.at.slice_bounds-add_sort-count c).In_ok-sort in
     omega (arith, ta.ends)
 
 pub slice_bounds-add_sort-end : goal.slice_bounds-add_sort-end
-slice_bounds-add_sort-end c = let a = c.args in
-    let ta = translate-asks a.s.now (λ j. omega (arith, c.type_inv.s j)) a.cursor.at c.requires _ _ (sym c.sort.ensures ∙ c.in_ok-sort.was) in
+slice_bounds-add_sort-end c = let ta = asks (goal.at.slice_bounds-add_sort-end c).In_ok-sort in
     omega (arith, ta.ends, ta.room, c.translate.ensures.long)
 
 pub slice_bounds-add_sort-length : goal.slice_bounds-add_sort-length
-slice_bounds-add_sort-length c = let a = c.args in
-    let ta = translate-asks a.s.now (λ j. omega (arith, c.type_inv.s j)) a.cursor.at c.requires _ _ (sym c.sort.ensures ∙ c.in_ok-sort.was) in
-    sym (length-take-le (c.in_ok-sort.after.at - a.cursor.at) c.translate.new.rec (omega (arith, ta.ends, ta.room, c.translate.ensures.long)))
+slice_bounds-add_sort-length c = let ta = asks (goal.at.slice_bounds-add_sort-length c).In_ok-sort in
+    sym (length-take-le (c.in_ok-sort.after.at - c.args.cursor.at) c.translate.new.rec (omega (arith, ta.ends, ta.room, c.translate.ensures.long)))
 
 pub add_sort-requires : goal.add_sort-requires
 add_sort-requires c = let a = c.args in

@@ -10,7 +10,7 @@ returns-in_default c = sym (hash-none c.args.one c.args.two c.args.rec.now (omeg
 pub loop-v-init : goal.loop-v-init
 loop-v-init c =
     let r = c.args.rec.now in
-    rw c.into_iter-v-iterator.ensures.into_iter_gives
+    rw (c.into_iter-v-iterator.ensures.into_iter_gives, c.from-low.ensures)
     (hash-start c.args.one c.args.two r (λ i. omega (arith, c.type_inv.rec i)) (sym (get_or_from_slice_get r (length r - 1) c.in-Some.last.now 0 (sym c.in-Some.ensures.value))))
 
 pub overflow_cast-x : goal.overflow_cast-x

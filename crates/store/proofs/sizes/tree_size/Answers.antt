@@ -1,10 +1,13 @@
 use Rattle.std.proofs.Common.{ℕ, ◌+◌, List, arith, ap, ◌∙◌}
 use Rattle.record.specs.Numbers.{numbers_left}
-use Rattle.store.proofs.EntryLaws.{sum_of, tree-place, tree-has, sum-start, sum-known, sum_step, sum-end}
+use Rattle.store.proofs.EntryLaws.{sum_of, tree-place, tree-known, tree-has, sum-start, sum-known, sum_step, sum-end}
 use Rattle.store.proofs.sizes.tree_size.Goals as goal
 
-pub record_at-requires : goal.record_at-requires
-record_at-requires c = tree-place c.requires
+pub record_at-requires-clause-placed : goal.record_at-requires-clause-placed
+record_at-requires-clause-placed c = tree-place c.requires
+
+pub record_at-requires-clause-known : goal.record_at-requires-clause-known
+record_at-requires-clause-known c = tree-known c.requires
 
 pub loop-k-init : goal.loop-k-init
 loop-k-init c = sum-start c.requires c.record_at.ensures (ap numbers_left c.into_iter-k-iterator.ensures.into_iter_gives ∙ c.numbers-k-items.ensures)

@@ -5,4 +5,4 @@ use Rattle.printout_sort.specs.Wrote.{wrote_part}
 use Rattle.printout_sort.proofs.buffer.TextBuffer.put_decimal.Goals as goal
 
 pub returns-clause-put : goal.returns-clause-put
-returns-clause-put c = wrote_part c.put_digits.ensures c.digit_count.ensures (omega (arith, c.requires))
+returns-clause-put c = wrote_part c.put_digits.ensures c.digits.ensures.0 (omega (arith, c.requires))

@@ -2,8 +2,6 @@
 -- So at the end nothing is left, and the whole stands there.
 use Rattle.std.proofs.Common.{arith, ◌∙◌}
 use Rattle.printout_sort.specs.NameLaws.{put-next, next-room, put-end}
-use Rattle.printout_sort.specs.Text.{more_names}
-use Rattle.record.specs.Numbers.{numbers_left}
 use Rattle.printout_sort.specs.Wrote.{wrote-more, wrote-long, left_step}
 use Rattle.printout_sort.proofs.buffer.TextBuffer.put_names.Goals as goal
 
@@ -20,7 +18,7 @@ put_name-requires c =
 pub loop-name-preserved : goal.loop-name-preserved
 loop-name-preserved c =
     let e = c.in-Some.ensures.steps in (
-      left_step (more_names (numbers_left c.next.new.self)) (put-next c.loop-name.invariant.0 e) (wrote-more c.put_byte.ensures.put c.put_name.ensures.put),
+      left_step _ (put-next c.loop-name.invariant.0 e) (wrote-more c.put_byte.ensures.put c.put_name.ensures.put),
       c.put_name.ensures.same ∙ c.put_byte.ensures.same ∙ c.loop-name.invariant.1,
     )
 

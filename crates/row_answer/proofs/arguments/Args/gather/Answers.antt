@@ -70,7 +70,7 @@ loop-t-preserved c =
 pub returns-clause-count : goal.returns-clause-count
 returns-clause-count c =
     let l = c.loop-t in
-    λ e. l.invariant.count
+    l.invariant.count
     ∙ done (goal.at.returns-clause-count c).In-None
 
 pub returns-clause-gathered : goal.returns-clause-gathered

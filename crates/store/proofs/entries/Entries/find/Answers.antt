@@ -11,11 +11,6 @@ offset_bounds-index-slot c = omega (arith, (c.loop-k.invariant c.requires.0 c.re
 pub bounds-index-slot : goal.bounds-index-slot
 bounds-index-slot c = omega (arith, (c.loop-k.invariant c.requires.0 c.requires.1).low, c.requires.1.indexed.table)
 
-pub overflow_cast-index : goal.overflow_cast-index
-overflow_cast-index c = let l = c.loop-k in
-    let asks = c.requires.1 in
-    omega (arith, find-low asks l.rest l.deep (l.invariant c.requires.0 asks), asks.indexed.count)
-
 pub record_is-requires : goal.record_is-requires
 record_is-requires c = let l = c.loop-k in
     let asks = c.requires.1 in
