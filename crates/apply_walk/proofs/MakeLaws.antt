@@ -15,8 +15,6 @@ use Rattle.record.specs.StoreLaws.{store_of-length}
 use Rattle.record.specs.Sizes.{most-few}
 use Rattle.record.specs.Entries.{store-ordered, sort-parts}
 use Rattle.store.specs.Contract.{InternAsks, InternedIs}
-use Rattle.store.specs.Entry.{TreeAsks, TreeHas}
-use Rattle.store.specs.Walk.{tree-asks}
 use Rattle.store.specs.declared.Full.{Full}
 use Rattle.apply_walk.specs.Draft.{FieldsFit}
 use Rattle.apply_walk.specs.Made.{FieldsMakeAsks, MadeIs}
@@ -33,19 +31,14 @@ make-fit {b} {p} {ix} {n} {u} {f} a =
     }
 
 module _ {b p ix : List ℕ} {n u : ℕ} {f : Fields} (a : FieldsMakeAsks b p ix n u f) {r : List ℕ} (e : r ≡ record_bytes f) where
-  rec-fresh : Fresh r n
+  pub rec-fresh : Fresh r n
   rec-fresh = subst (λ (s : List ℕ). Fresh s n) (sym e) (fresh-of f n a.shape a.below)
 
   sort-is : sort_of (store_of b p n) (fields_at r 0) ≡ sort_of (store_of b p n) f
   sort-is = ap (sort_of (store_of b p n)) (ap (λ (s : List ℕ). fields_at s 0) e ∙ fresh-fields f a.shape)
 
-  pub make-tree : TreeAsks ix r
-  make-tree = tree-asks ix r n a.good.indexed.table a.good.indexed.count rec-fresh
-
-  pub make-intern : (w : ℕ) → TreeHas ix r w → InternAsks b p ix n u r w
-  make-intern w h =
-      let e = h b p n a.good.sized rec-fresh.below in
-      record { good = a.good; fresh = rec-fresh; weight = e; small = omega (arith, e, ap size sort-is, a.small) }
+  pub make-intern : (w : ℕ) → w ≡ size (sort_of (store_of b p n) (fields_at r 0)) → InternAsks b p ix n u r w
+  make-intern w h = record { good = a.good; fresh = rec-fresh; weight = h; small = omega (arith, h, ap size sort-is, a.small) }
 
   added_is : add_once (store_of b p n) (sort_of (store_of b p n) (fields_at r 0)) ≡ intern (sort_of (store_of b p n) f) (store_of b p n)
   added_is =

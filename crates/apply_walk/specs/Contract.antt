@@ -5,9 +5,10 @@ use Rattle.record.specs.Number.{u16_at, numbers_at}
 use Rattle.record.specs.Sort.{Sort, Sorts, size, sizes, kind_of, parts_of}
 use Rattle.record.specs.Record.{sorts_of}
 use Rattle.record.specs.Store.{intern, intern_all, indices_of}
-use Rattle.record.specs.Decode.{store_of, sort_at, Stored}
+use Rattle.record.specs.Decode.{store_of, sort_at}
 use Rattle.record.specs.SortLists.{memb_all}
-use Rattle.store.specs.Good.{Good, Sized, Kept}
+use Rattle.store.specs.Good.{Good, Kept}
+use Rattle.store.specs.Entry.{SizedStore}
 use Rattle.store.specs.declared.Full.{Full}
 use Rattle.substitution.specs.Substitution.{apply, apply_all}
 use Rattle.apply_walk.specs.Images.{images_of, ImageTable}
@@ -30,19 +31,17 @@ abbrev pub answers_at : List ℕ → List ℕ → ℕ → List ℕ → List ℕ 
 answers_at b p n l vs = apply_all (images_of (store_of b p n) l) (sorts_of (store_of b p n) vs)
 
 -- A store that is only read, and a table of images in it.
-pub record ReadStore (b p ix : List ℕ) (n : ℕ) (l : List ℕ) : Type 0 where
-  pub stored : Stored b p n
-  pub sized : Sized b p ix n
-  pub index : length ix ≡ 13312
+pub record ReadStore (b p : List ℕ) (n u : ℕ) (l : List ℕ) : Type 0 where
+  pub whole : SizedStore b p n u
   pub count : n ≤ 4096
   pub table : ImageTable l n
 
-pub record SizeAsks (b p ix : List ℕ) (n k : ℕ) (l : List ℕ) : Type 0 where
-  pub reading : ReadStore b p ix n l
+pub record SizeAsks (b p : List ℕ) (n u k : ℕ) (l : List ℕ) : Type 0 where
+  pub reading : ReadStore b p n u l
   pub known : k < n
 
-pub record SizesAsk (b p ix : List ℕ) (n x m : ℕ) (l : List ℕ) : Type 0 where
-  pub reading : ReadStore b p ix n l
+pub record SizesAsk (b p : List ℕ) (n u x m : ℕ) (l : List ℕ) : Type 0 where
+  pub reading : ReadStore b p n u l
   pub within : x + 2 * m ≤ length b
   pub below : (j : ℕ) → j < m → u16_at b (x + 2 * j) < n
 

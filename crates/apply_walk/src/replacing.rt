@@ -11,16 +11,15 @@ use record::kinds::SortKind;
 use record::span::Span;
 use store::Store;
 use store::entries::Entries;
-use store::sizes::size_at;
 
 // A store that is only read, and a table of images in it.
 #[derive(Clone, Copy)]
 pub struct Replacing<'a> {
     pub entries: Entries<'a>,
-    pub index: &'a [u16],
     pub count: usize,
+    pub used: usize,
     pub images: &'a [u16],
-    pub ghost reading: { ReadStore entries.records.now entries.places.now index.now count images.now } by { ReadStore-prop entries.records.now entries.places.now index.now count images.now },
+    pub ghost reading: { ReadStore entries.records.now entries.places.now count used images.now } by { ReadStore-prop entries.records.now entries.places.now count used images.now },
 }
 
 impl<'a> Replacing<'a> {
@@ -36,8 +35,8 @@ impl<'a> Replacing<'a> {
     {
         Replacing {
             entries: store.entries(),
-            index: store.index,
             count: store.count,
+            used: store.used,
             images,
         }
     }
@@ -56,7 +55,7 @@ impl<'a> Replacing<'a> {
         let e = self.entries.entry(k);
         if e.kind == SortKind::Var {
             let i = image_of(self.images, e.name, k);
-            return size_at(self.index, i);
+            return self.entries.size(self.count, self.used, i);
         }
         if e.parts.count == 0 {
             return 1;

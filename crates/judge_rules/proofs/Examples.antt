@@ -1,6 +1,6 @@
--- Worked examples, by computation from the definitions: K2 to K11 of document 01 as one table, every term kind, and every
--- refusal of a sheet.
-use Rattle.std.specs.Prelude.{ℕ, ◌≡◌, refl, List, [], ◌∷◌}
+-- Worked examples, by computation from the definitions: K2 to K11 of document 01 as one table, every term kind, every refusal of a
+-- sheet, and tree sizes that are written on it.
+use Rattle.std.specs.Prelude.{ℕ, ◌≡◌, refl, List, [], ◌∷◌, ◌++◌, replicate}
 use Rattle.record.specs.Sort.{Sort, Sorts, var, par, end, ◌then◌, function, bool, int, real, string, array, bitvec, param_bit_vec, type, set, tuple}
 use Rattle.sheet.specs.Sheet.{Lengths, Binding}
 use Rattle.row_rules.specs.declared.Cause.TheVariants.{Below, Panics, NoRank, Count, Misfit, Unassigned, Barred, NoAssignment}
@@ -10,7 +10,7 @@ use Rattle.infer_rules.specs.Inferred.{infer}
 use Rattle.check_rules.specs.Ranks.{smt_lib}
 use Rattle.check_rules.specs.Checked.{check}
 use Rattle.judge_rules.specs.Questions.{match_answer, apply_answer}
-use Rattle.judge_rules.specs.Judged.{judged, outcome_number}
+use Rattle.judge_rules.specs.Judged.{judged, outcome_number, records_after, places_after}
 
 ---------------------------------------------------------------- terms by their kinds
 abbrev pub integer : ℕ → Term
@@ -168,3 +168,54 @@ pub refusal_table :
     ≡ 1 ∷ 2 ∷ 3 ∷ 4 ∷ 5 ∷ 6 ∷ 7 ∷ 8 ∷ 9 ∷ 10 ∷ []
 unfolding judged
 refusal_table = refl
+
+---------------------------------------------------------------- written tree sizes (document 02, A.6)
+-- 34: Int with the size 2, though no place is lent, and though the record behind it has no bit 1; the Set of it with the size 1. 9: a
+-- tree of 8,191 with the size 1. 10: Int with its size 1, and no place. 3: a size cut short. 4: bit 128 on a term, and on a question.
+pub size_table :
+    outcome_of (1 ∷ 0 ∷ 0 ∷ 0 ∷ 0 ∷ 0 ∷ 129 ∷ 4 ∷ 2 ∷ 0 ∷ []) (lent 0 8192)
+    ∷ outcome_of (2 ∷ 0 ∷ 0 ∷ 0 ∷ 0 ∷ 0 ∷ 129 ∷ 4 ∷ 2 ∷ 0 ∷ 2 ∷ []) (lent 4096 8192)
+    ∷ outcome_of (2 ∷ 0 ∷ 0 ∷ 0 ∷ 0 ∷ 0 ∷ 1 ∷ 4 ∷ 145 ∷ 14 ∷ 1 ∷ 0 ∷ 0 ∷ 1 ∷ 0 ∷ []) (lent 4096 8192)
+    ∷ outcome_of (13 ∷ 0 ∷ 0 ∷ 0 ∷ 0 ∷ 0 ∷ 1 ∷ 4 ∷ doubling 0 (doubling 1 (doubling 2 (doubling 3 (doubling 4 (doubling 5
+    (doubling 6 (doubling 7 (doubling 8 (doubling 9 (doubling 10 (145 ∷ 8 ∷ 2 ∷ 11 ∷ 0 ∷ 11 ∷ 0 ∷ 1 ∷ 0 ∷ [])))))))))))) (lent 4096 8192)
+    ∷ outcome_of (1 ∷ 0 ∷ 0 ∷ 0 ∷ 0 ∷ 0 ∷ 129 ∷ 4 ∷ 1 ∷ 0 ∷ []) (lent 0 8192)
+    ∷ outcome_of (1 ∷ 0 ∷ 0 ∷ 0 ∷ 0 ∷ 0 ∷ 129 ∷ 4 ∷ 1 ∷ []) (lent 4096 8192)
+    ∷ outcome_of (0 ∷ 0 ∷ 1 ∷ 0 ∷ 0 ∷ 0 ∷ 129 ∷ 1 ∷ 1 ∷ 0 ∷ []) (lent 4096 8192)
+    ∷ outcome_of (1 ∷ 0 ∷ 0 ∷ 0 ∷ 1 ∷ 0 ∷ 1 ∷ 4 ∷ 145 ∷ 0 ∷ 2 ∷ 0 ∷ 0 ∷ 0 ∷ 0 ∷ 1 ∷ 0 ∷ []) (lent 4096 8192)
+    ∷ []
+    ≡ 34 ∷ 34 ∷ 34 ∷ 9 ∷ 10 ∷ 3 ∷ 4 ∷ 4 ∷ []
+unfolding judged
+size_table = refl
+
+-- The lent records and places after a sheet without terms and questions, given its sort records.
+abbrev pub stored : ℕ → ℕ → ℕ → List ℕ → List ℕ
+stored sorts records places s =
+    let l : Lengths = record { records = records; places = places; rows = 0; answers = 0 } in
+    let j = judged (sorts ∷ 0 ∷ 0 ∷ 0 ∷ 0 ∷ 0 ∷ s) l in
+    records_after l j ++ places_after l j
+
+-- Int twice and the Set of the second, the size written on the first, on the others, on none: one store of two sorts.
+pub mixed_table :
+    stored 3 12 3 (129 ∷ 4 ∷ 1 ∷ 0 ∷ 1 ∷ 4 ∷ 17 ∷ 14 ∷ 1 ∷ 1 ∷ 0 ∷ [])
+    ∷ stored 3 12 3 (1 ∷ 4 ∷ 129 ∷ 4 ∷ 1 ∷ 0 ∷ 145 ∷ 14 ∷ 1 ∷ 1 ∷ 0 ∷ 2 ∷ 0 ∷ [])
+    ∷ stored 3 12 3 (1 ∷ 4 ∷ 1 ∷ 4 ∷ 17 ∷ 14 ∷ 1 ∷ 1 ∷ 0 ∷ [])
+    ∷ []
+    ≡ (129 ∷ 4 ∷ 1 ∷ 0 ∷ 145 ∷ 14 ∷ 1 ∷ 0 ∷ 0 ∷ 2 ∷ 0 ∷ 0 ∷ 0 ∷ 4 ∷ 0 ∷ [])
+    ∷ (129 ∷ 4 ∷ 1 ∷ 0 ∷ 145 ∷ 14 ∷ 1 ∷ 0 ∷ 0 ∷ 2 ∷ 0 ∷ 0 ∷ 0 ∷ 4 ∷ 0 ∷ [])
+    ∷ (129 ∷ 4 ∷ 1 ∷ 0 ∷ 145 ∷ 14 ∷ 1 ∷ 0 ∷ 0 ∷ 2 ∷ 0 ∷ 0 ∷ 0 ∷ 4 ∷ 0 ∷ [])
+    ∷ []
+unfolding judged records_after places_after
+mixed_table = refl
+
+-- (par (n1 n2) Int), with the size 2 behind its names, or without: it takes 12 bytes; in one byte less it is 10, and all is zero.
+pub par_table :
+    stored 2 16 2 (129 ∷ 4 ∷ 1 ∷ 0 ∷ 209 ∷ 12 ∷ 1 ∷ 0 ∷ 0 ∷ 2 ∷ 1 ∷ 0 ∷ 2 ∷ 0 ∷ 2 ∷ 0 ∷ [])
+    ∷ stored 2 16 2 (1 ∷ 4 ∷ 81 ∷ 12 ∷ 1 ∷ 0 ∷ 0 ∷ 2 ∷ 1 ∷ 0 ∷ 2 ∷ 0 ∷ [])
+    ∷ stored 2 15 2 (1 ∷ 4 ∷ 81 ∷ 12 ∷ 1 ∷ 0 ∷ 0 ∷ 2 ∷ 1 ∷ 0 ∷ 2 ∷ 0 ∷ [])
+    ∷ []
+    ≡ (129 ∷ 4 ∷ 1 ∷ 0 ∷ 209 ∷ 12 ∷ 1 ∷ 0 ∷ 0 ∷ 2 ∷ 1 ∷ 0 ∷ 2 ∷ 0 ∷ 2 ∷ 0 ∷ 0 ∷ 4 ∷ [])
+    ∷ (129 ∷ 4 ∷ 1 ∷ 0 ∷ 209 ∷ 12 ∷ 1 ∷ 0 ∷ 0 ∷ 2 ∷ 1 ∷ 0 ∷ 2 ∷ 0 ∷ 2 ∷ 0 ∷ 0 ∷ 4 ∷ [])
+    ∷ replicate 17 0
+    ∷ []
+unfolding judged records_after places_after
+par_table = refl

@@ -1,3 +1,5 @@
+pub mod AnyRoomLaws
+pub mod BeforeTheorems
 pub mod CarriedLaws
 pub mod CauseTheorems
 pub mod Examples

@@ -10,5 +10,6 @@ pub mod Printed
 pub mod Kinds
 pub mod KindLaws
 pub mod Sheets
+pub mod Before
 pub mod LineExamples
 pub mod Words

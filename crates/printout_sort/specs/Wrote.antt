@@ -1,12 +1,11 @@
 -- Texts that are written into a buffer at a place: one, one after the other, and what is left of one.
-use Rattle.std.specs.Prelude.{ℕ, suc, ◌+◌, ◌-◌, ◌≤◌, ◌<◌, ◌≡◌, refl, List, [], ◌∷◌, ◌++◌, length, take, drop, set}
-use Rattle.std.proofs.Common.{sym, ap, ap₂, subst, ◌∙◌, append_assoc, arith, add-one, length-append, take_at, drop_at, drop-drop, length-take-le}
-use Rattle.std.proofs.lemmas.List.{set_split}
+use Rattle.std.specs.Prelude.{ℕ, ◌+◌, ◌-◌, ◌≤◌, ◌<◌, ◌≡◌, refl, List, [], ◌∷◌, ◌++◌, length, set}
+use Rattle.std.proofs.Common.{ap, ap₂, subst, ◌∙◌, arith, length-append}
 use Rattle.std.proofs.lemmas.Slice.{put_mid-paste}
-use Rattle.std.proofs.Math.Seq.{append_snoc, paste-zero, take-length}
+use Rattle.std.proofs.Math.Seq.{paste-zero, take-length}
 use borrow.Rule.Slice.PartMut.{put_mid}
 use Rattle.record.specs.Decode.{written}
-use Rattle.record.specs.Append.{length-written}
+use Rattle.record.specs.Append.{length-written, written_one, written-more}
 
 -- o' is the buffer o with the text t from `to` on, where it fits, and e is the place behind it.
 pub record Wrote (o : List ℕ) (to : ℕ) (t o' : List ℕ) (e : ℕ) : Type 0 where
@@ -17,26 +16,6 @@ pub record Wrote (o : List ℕ) (to : ℕ) (t o' : List ℕ) (e : ℕ) : Type 0 
 pub written_none : (o : List ℕ) (u : ℕ) → o ≡ written o u []
 unfolding written
 written_none o u = paste-zero o u []
-
-written_one : (o : List ℕ) (u v : ℕ) → u < length o → set o u v ≡ written o u (v ∷ [])
-unfolding written
-written_one o u v h =
-    set_split o u v h ∙ sym (append_snoc (take u o) v (drop (suc u) o))
-    ∙ ap (λ (k : ℕ). take u o ++ (v ∷ []) ++ drop k o) (sym (add-one u))
-
-written-more : (o : List ℕ) (u : ℕ) (s t : List ℕ) → u + length s ≤ length o → written (written o u s) (u + length s) t ≡ written o u (s ++ t)
-unfolding written
-written-more o u s t h =
-    let n = u + length s in
-    let front = take u o ++ s in
-    let w = front ++ drop n o in
-    let e : length front ≡ n = omega (arith, length-append (take u o) s, length-take-le u o (omega arith)) in
-    let a : take n w ≡ front = take_at front (drop n o) n e in
-    let d : drop (n + length t) w ≡ drop (n + length t) o =
-    sym (drop-drop (length t) n w) ∙ ap (drop (length t)) (drop_at front (drop n o) n e) ∙ drop-drop (length t) n o in
-    let k : n + length t ≡ u + length (s ++ t) = omega (arith, length-append s t) in
-    ap₂ (λ (x y : List ℕ). x ++ t ++ y) a d
-    ∙ ap₂ (λ (x : List ℕ) (j : ℕ). x ++ drop j o) (append_assoc (take u o) s t) k
 
 pub wrote_none : (o : List ℕ) (to : ℕ) → to ≤ length o → Wrote o to [] o to
 wrote_none o to h = record { is = written_none o to; next = omega arith; fits = omega arith }

@@ -52,6 +52,7 @@ refusal-small Refusal.Reference = omega arith
 refusal-small Refusal.Trailing = omega arith
 refusal-small Refusal.Lent = omega arith
 refusal-small Refusal.TreeSize = omega arith
+refusal-small Refusal.WrittenSize = omega arith
 refusal-small Refusal.Store = omega arith
 
 -- So its line is short.

@@ -1,5 +1,6 @@
 -- Records read by the definitions, computed: the order of refusals where two of them apply, and records that are accepted.
-use Rattle.std.specs.Prelude.{◌≡◌, refl, [], ◌∷◌, replicate, Err}
+use Rattle.std.specs.Prelude.{◌≡◌, refl, [], ◌∷◌, replicate, Some, None, Err}
+use Rattle.record.specs.declared.kinds.SortKind.TheVariants.{Int, Par}
 use Rattle.record.specs.declared.kinds.TermKind.TheVariants.{Op, Let}
 use Rattle.record.specs.declared.kinds.QuestionKind.TheVariants.{Compatible}
 use Rattle.reader.specs.declared.Refusal.TheVariants.{PastEnd, Map, Value, Reference}
@@ -40,6 +41,52 @@ array-one = refl
 par-itself : read_sort (81 ∷ 12 ∷ 1 ∷ 3 ∷ 0 ∷ []) 3 0 ≡ Err Reference
 unfolding read_sort
 par-itself = refl
+
+-- document 02, A.6: Int without its size, and with it behind the kind; one byte of the size is there, or none: 3
+int-plain : read_sort (1 ∷ 4 ∷ []) 0 0 ≡ got (record { fields = record { kind = Int; name = 0; number = 0; parts = span 2 0; names = span 2 0 }; size = None }) 2
+unfolding read_sort
+int-plain = refl
+
+int-sized : read_sort (129 ∷ 4 ∷ 1 ∷ 0 ∷ []) 0 0 ≡ got (record { fields = record { kind = Int; name = 0; number = 0; parts = span 2 0; names = span 2 0 }; size = Some 1 }) 4
+unfolding read_sort
+int-sized = refl
+
+int_cut : read_sort (129 ∷ 4 ∷ 1 ∷ []) 0 0 ≡ Err PastEnd
+unfolding read_sort
+int_cut = refl
+
+int-bare : read_sort (129 ∷ 4 ∷ []) 0 0 ≡ Err PastEnd
+unfolding read_sort
+int-bare = refl
+
+-- the size of a Par stands behind its names: (par (7) Int), 2; the names are judged before a missing size is
+par-sized : read_sort (209 ∷ 12 ∷ 1 ∷ 0 ∷ 0 ∷ 1 ∷ 7 ∷ 0 ∷ 2 ∷ 0 ∷ []) 1 0
+    ≡ got (record { fields = record { kind = Par; name = 0; number = 0; parts = span 3 1; names = span 6 1 }; size = Some 2 }) 10
+unfolding read_sort
+par-sized = refl
+
+par-twice : read_sort (209 ∷ 12 ∷ 1 ∷ 0 ∷ 0 ∷ 2 ∷ 7 ∷ 0 ∷ 7 ∷ 0 ∷ []) 1 0 ≡ Err Value
+unfolding read_sort
+par-twice = refl
+
+-- a wrong size is read like any other: whether it is the sort's is asked later, 34
+int-wrong : read_sort (129 ∷ 4 ∷ 255 ∷ 255 ∷ []) 0 0
+    ≡ got (record { fields = record { kind = Int; name = 0; number = 0; parts = span 2 0; names = span 2 0 }; size = Some 65535 }) 4
+unfolding read_sort
+int-wrong = refl
+
+-- beside bit 128 the map is still exactly the kind's, 4; a term or a question with bit 128: 4
+bool-sized : read_sort (131 ∷ 3 ∷ 1 ∷ 0 ∷ 1 ∷ 0 ∷ []) 0 0 ≡ Err Map
+unfolding read_sort
+bool-sized = refl
+
+real-sized : read_term (129 ∷ 1 ∷ 1 ∷ 0 ∷ []) 0 0 0 ≡ Err Map
+unfolding read_term
+real-sized = refl
+
+equal-sized : read_question (145 ∷ 0 ∷ 2 ∷ 0 ∷ 0 ∷ 0 ∷ 0 ∷ 1 ∷ 0 ∷ []) 1 0 ≡ Err Map
+unfolding read_question
+equal-sized = refl
 
 -- AsOp 3 with nothing behind its number: 5; a Let whose first list is empty: 5, before the second is missed
 as-op-3 : read_term (29 ∷ 12 ∷ 3 ∷ 0 ∷ 0 ∷ 0 ∷ []) 1 0 0 ≡ Err Value

@@ -1,11 +1,10 @@
 -- Reading one record field by field, with document 01's order of refusals: "map byte 3, bit 1 missing 4, kind byte 3,
 -- other 4; per field, all its bytes, 3, 5, 6". A field whose bit does not stand is 0 or empty and takes no bytes.
-use Rattle.std.specs.Prelude.{◌≡◌, ℕ, zero, suc, ◌+◌, ◌*◌, Bool, true, false, cond, ◌&&◌, ◌||◌, List, [], ◌∷◌, length, get_or, leb, ltb, eqb, Option, Some, None, Result, Ok, Err}
+use Rattle.std.specs.Prelude.{◌≡◌, ℕ, zero, suc, ◌+◌, ◌*◌, ◌%◌, Bool, true, false, cond, ◌&&◌, ◌||◌, List, [], ◌∷◌, length, get_or, leb, ltb, eqb, Option, Some, None, Result, Ok, Err}
 use Rattle.record.specs.Number.{u16_at, u32_at, numbers_at}
 use Rattle.record.specs.Names.{distinct}
 use Rattle.record.specs.Record.{bit, map_of, least_of, most_of}
 use Rattle.record.specs.Kinds.{sort_number, sort_kind, term_number, term_kind, question_number, question_kind}
-use Rattle.record.specs.declared.SortRecord.{SortRecord}
 use Rattle.record.specs.declared.kinds.SortKind.{SortKind}
 use Rattle.record.specs.declared.kinds.TermKind.{TermKind}
 use Rattle.record.specs.declared.kinds.QuestionKind.{QuestionKind}
@@ -13,13 +12,14 @@ use Rattle.record.specs.declared.kinds.UnknownKind.{UnknownKind}
 use Rattle.record.specs.declared.span.Span.{Span}
 use Rattle.reader.specs.Tables.{term_map_of, term_number_of, term_least_of, term_most_of, second_least_of, second_most_of, question_map_of, question_least_of, question_most_of, names_least_of, names_most_of}
 use Rattle.reader.specs.declared.Refusal.{Refusal}
-use Rattle.reader.specs.declared.Refusal.TheVariants.{Length, Header, PastEnd, Map, Value, Reference, Trailing, Lent, TreeSize, Store}
+use Rattle.reader.specs.declared.Refusal.TheVariants.{Length, Header, PastEnd, Map, Value, Reference, Trailing, Lent, TreeSize, WrittenSize, Store}
 use Rattle.reader.specs.declared.Cursor.{Cursor}
 use Rattle.reader.specs.declared.Head.{Head}
+use Rattle.reader.specs.declared.SheetSort.{SheetSort}
 use Rattle.reader.specs.declared.TermRecord.{TermRecord}
 use Rattle.reader.specs.declared.QuestionRecord.{QuestionRecord}
 
--- Document 01's numbers of the causes for which a sheet is refused.
+-- The documents' numbers of the causes for which a sheet is refused; 34 is of document 02, A.6.
 abbrev pub refusal_number : Refusal → ℕ
 refusal_number Length = 1
 refusal_number Header = 2
@@ -30,6 +30,7 @@ refusal_number Reference = 6
 refusal_number Trailing = 7
 refusal_number Lent = 8
 refusal_number TreeSize = 9
+refusal_number WrittenSize = 34
 refusal_number Store = 10
 
 -- What the conversions give: the number of a refusal, and the refusal of an unknown kind.
@@ -182,22 +183,29 @@ read_pairs s m sorts x =
     (got (span y n) (y + 4 * n))))))
     (got (span x 0) x)
 
--- THE SORT RECORD with the number i at x; it may name the i sorts before it.
-unfoldable pub read_sort_fields : List ℕ → ℕ → SortKind → ℕ → ℕ → Read SortRecord
-unfolding read_name read_number read_references read_names least_of most_of
+-- Bit 128 of a sort record (document 02, A.6): the tree size that it says, a u16, last among its fields.
+unfoldable pub read_size : List ℕ → ℕ → ℕ → Read (Option ℕ)
+unfolding read_u16 bit
+read_size s m x = cond (bit 128 m) (then_read (read_u16 s x) (λ v y. got (Some v) y)) (got None x)
+
+-- THE SORT RECORD with the number i at x; it may name the i sorts before it. Bit 128 "may stand on a sort record or not": the
+-- other bits of its map are its kind's.
+unfoldable pub read_sort_fields : List ℕ → ℕ → SortKind → ℕ → ℕ → Read SheetSort
+unfolding read_name read_number read_references read_names read_size least_of most_of
 read_sort_fields s m k i x =
     then_read (read_name s m x) (λ a x3.
     then_read (read_number s m 65535 x3) (λ w x4.
     then_read (read_references s m (least_of (sort_number k)) (most_of (sort_number k)) i x4) (λ l x5.
     then_read (read_names s m 1 64 x5) (λ ns x6.
-    got (record { kind = k; name = a; number = w; parts = l; names = ns }) x6))))
+    then_read (read_size s m x6) (λ z x7.
+    got (record { fields = record { kind = k; name = a; number = w; parts = l; names = ns }; size = z }) x7)))))
 
-unfoldable pub read_sort : List ℕ → ℕ → ℕ → Read SortRecord
+unfoldable pub read_sort : List ℕ → ℕ → ℕ → Read SheetSort
 unfolding read_head read_sort_fields map_of
 read_sort s i x =
     then_read (read_head s x) (λ h y.
     of_kind (sort_kind h.kind) (λ k.
-    demand (eqb h.map (map_of (sort_number k))) (Err Map) (read_sort_fields s h.map k i y)))
+    demand (eqb (h.map % 128) (map_of (sort_number k))) (Err Map) (read_sort_fields s h.map k i y)))
 
 -- THE TERM RECORD with the number t at x, on a sheet of `sorts` sorts; it may name the t terms before it.
 unfoldable pub read_term_fields : List ℕ → ℕ → TermKind → ℕ → ℕ → ℕ → Read TermRecord

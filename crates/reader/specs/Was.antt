@@ -15,7 +15,7 @@ use Rattle.reader.specs.declared.Refusal.{Refusal}
 use Rattle.reader.specs.declared.Refusal.TheVariants.{PastEnd, Value, Reference}
 use Rattle.reader.specs.declared.Cursor.{Cursor}
 use Rattle.reader.specs.declared.Head.{Head}
-use Rattle.reader.specs.Reader.{Read, demand, then_read, of_kind, gave, got, span, all_below, pair_sorts_at, read_byte, read_u16, read_u32, read_head, read_name, read_number, read_own, read_list, read_references, read_names, read_second, read_pairs}
+use Rattle.reader.specs.Reader.{Read, demand, then_read, of_kind, gave, got, span, all_below, pair_sorts_at, read_byte, read_u16, read_u32, read_head, read_name, read_number, read_own, read_list, read_references, read_names, read_second, read_pairs, read_size}
 
 -- A refusal is no value.
 pub no-value : {V B : Type 0} {e : Refusal} {v : V} → ◌≡◌ {A = Result V Refusal} (Err e) (Ok v) → B
@@ -317,6 +317,38 @@ pairs-by s sorts x true r =
 pub pairs-were : (s : List ℕ) (m sorts x : ℕ) {l : Span} {c : Cursor} → read_pairs s m sorts x ≡ gave l c → PairsWere s (bit 32 m) sorts x l.at l.count c
 unfolding read_pairs
 pairs-were s m sorts x r = pairs-by s sorts x (bit 32 m) r
+
+-- A TREE SIZE THAT WAS READ, or that is not there: what the two bytes at x say where the bit t stands, and how many bytes it takes
+abbrev pub size_said : Bool → List ℕ → ℕ → Option ℕ
+size_said true s x = Some (u16_at s x)
+size_said false s x = None
+
+abbrev pub said_width : Option ℕ → ℕ
+said_width None = 0
+said_width (Some z) = 2
+
+pub record SizeWas (s : List ℕ) (t : Bool) (x : ℕ) (w : Option ℕ) (c : Cursor) : Type 0 where
+  pub value : w ≡ size_said t s x
+  pub next : c.at ≡ x + said_width w
+  pub inside : x ≤ length s → c.at ≤ length s
+
+size-by : (s : List ℕ) (x : ℕ) {w : Option ℕ} {c : Cursor} (t : Bool)
+    → cond t (then_read (read_u16 s x) (λ v y. got (Some v) y)) (got None x) ≡ gave w c → SizeWas s t x w c
+size-by s x false r =
+    record { value = sym (read-value r); next = omega (arith, read-next r, ap said_width (read-value r)); inside = λ h. omega (arith, read-next r) }
+size-by s x true r =
+    by-read _ (read_u16 s x) r
+    (λ v d p q.
+    let n = u16-was s x p in
+    record {
+      value = sym (read-value q) ∙ ap Some n.value;
+      next = omega (arith, n.next, read-next q, ap said_width (read-value q));
+      inside = λ h. omega (arith, n.inside h, read-next q);
+    })
+
+pub size-was : (s : List ℕ) (m x : ℕ) {w : Option ℕ} {c : Cursor} → read_size s m x ≡ gave w c → SizeWas s (bit 128 m) x w c
+unfolding read_size
+size-was s m x r = size-by s x (bit 128 m) r
 
 -- WHAT A TEST OF ALL NUMBERS SAYS OF EACH
 pub all-below-each : (i : ℕ) (vs : List ℕ) → all_below i vs ≡ true → (j : ℕ) → j < length vs → get_or vs j 0 < i

@@ -2,7 +2,7 @@
 // the refusal; a field whose bit does not stand in the map is 0 or empty and takes no bytes.
 // The lists of terms alone are inlined: else each result goes through memory, and judging a sheet takes a fifth longer.
 ghost use Rattle.std.specs.Prelude.{◌≡◌, ◌<◌, IfOk};
-ghost use Rattle.reader.specs.Reader.{skipped, read_byte, read_u16, read_u32, read_head, read_name, read_number, read_own, read_list, read_references, read_names, read_second, read_pairs};
+ghost use Rattle.reader.specs.Reader.{skipped, read_byte, read_u16, read_u32, read_head, read_name, read_number, read_own, read_list, read_references, read_names, read_second, read_pairs, read_size};
 ghost use Rattle.record.specs.Kinds.{term_number};
 
 use super::scans::{all_below, is_distinct, pairs_below};
@@ -12,7 +12,7 @@ use record::kinds::TermKind;
 use record::limits::LONGEST_LIST;
 use record::span::Span;
 use record::tables::{
-    KIND_BIT, LIST_BIT, NAME_BIT, NAMES_BIT, NUMBER_BIT, PAIRS_BIT, SORT_BIT, has_bit,
+    KIND_BIT, LIST_BIT, NAME_BIT, NAMES_BIT, NUMBER_BIT, PAIRS_BIT, SIZE_BIT, SORT_BIT, has_bit,
 };
 use record::{u16_at, u32_at};
 
@@ -211,5 +211,18 @@ impl Cursor {
             return Err(Refusal::Reference);
         }
         Ok((pairs, next))
+    }
+
+    // The tree size that a sort record says, or PastEnd where not both its bytes are there; none where its bit does not
+    // stand in the map.
+    #[tactic(auto, unfolding(crate::specs::Reader::read_size))]
+    pub fn size(self, s: &[u8], map: usize) -> Read<Option<usize>>
+        ensures { result ≡ read_size s.now map self.at }
+    {
+        if !has_bit(map, SIZE_BIT) {
+            return Ok((None, self));
+        }
+        let (size, next) = self.u16(s)?;
+        Ok((Some(size), next))
     }
 }

@@ -10,32 +10,35 @@ pub mod tables;
 
 ghost use Rattle.reader.specs.Reader.{Numbered, RefusedForMap};
 
+use record::SortRecord;
 use record::kinds::{QuestionKind, TermKind, UnknownKind};
 use record::span::Span;
 
-// Why a sheet is refused; `u32::from` gives document 01's number of each.
+// Why a sheet is refused, with the documents' numbers.
 #[derive(Clone, Copy, Debug, PartialEq, Eq)]
 pub enum Refusal {
     // The sheet is under 6 or over 65,536 bytes.
-    Length,
+    Length = 1,
     // A count of the header is over its limit.
-    Header,
+    Header = 2,
     // A record runs past the end.
-    PastEnd,
+    PastEnd = 3,
     // The bit of the kind is missing, the kind unknown, or the bit map not the kind's.
-    Map,
+    Map = 4,
     // A list length, a number or a name list is outside what its kind takes.
-    Value,
+    Value = 5,
     // A reference is not to an earlier record.
-    Reference,
+    Reference = 6,
     // Bytes stand after the last record.
-    Trailing,
+    Trailing = 7,
     // Fewer rows than 2 T or fewer answers than Q are lent.
-    Lent,
+    Lent = 8,
     // A sort's tree size is over 4,096.
-    TreeSize,
+    TreeSize = 9,
+    // The tree size that a sort record says is not its sort's.
+    WrittenSize = 34,
     // The store cannot hold the sheet's sorts.
-    Store,
+    Store = 10,
 }
 
 impl From<UnknownKind> for Refusal {
@@ -50,9 +53,9 @@ impl From<UnknownKind> for Refusal {
 impl From<Refusal> for u32 {
     ghost from_gives = { Numbered };
 
-    // The number of the refusal, 1 to 10.
+    // The number of the refusal: 1 to 10, or 34.
     fn from(refusal: Refusal) -> Self {
-        refusal as u32 + 1
+        refusal as u32
     }
 }
 
@@ -70,6 +73,13 @@ pub type Read<T> = Result<(T, Cursor), Refusal>;
 pub struct Head {
     pub map: usize,
     pub kind: usize,
+}
+
+// A sort record of a sheet, and the tree size that it says; it says none where bit 128 does not stand in its map.
+#[derive(Clone, Copy, Debug, PartialEq, Eq)]
+pub struct SheetSort {
+    pub fields: SortRecord,
+    pub size: Option<usize>,
 }
 
 // The fields of a term record: its list, its pairs and its second list come last.

@@ -7,41 +7,42 @@ use super::tables::{
     Limits, names_limits, question_limits, question_map_of, sort_limits, term_limits, term_map_of,
     term_number_of,
 };
-use super::{Cursor, QuestionRecord, Read, Refusal, TermRecord};
+use super::{Cursor, QuestionRecord, Read, Refusal, SheetSort, TermRecord};
 use record::SortRecord;
 use record::kinds::{QuestionKind, SortKind, TermKind};
 use record::limits::LARGEST_WIDTH;
-use record::tables::map_of;
+use record::tables::{SIZE_BIT, map_of};
 
 impl Cursor {
     // The fields behind the kind of a sort record that may name the sorts below `index`, or the first refusal.
     #[tactic(auto, unfolding(crate::specs::Reader::read_sort_fields))]
-    fn sort_fields(self, s: &[u8], map: usize, kind: SortKind, index: usize) -> Read<SortRecord>
+    fn sort_fields(self, s: &[u8], map: usize, kind: SortKind, index: usize) -> Read<SheetSort>
         ensures { result ≡ read_sort_fields s.now map kind index self.at }
     {
         let (name, next) = self.name(s, map)?;
         let (number, next) = next.number(s, map, LARGEST_WIDTH)?;
         let (parts, next) = next.references(s, map, sort_limits(kind), index)?;
         let (names, next) = next.names(s, map, Limits::SOME)?;
-        let sort = SortRecord {
+        let (size, next) = next.size(s, map)?;
+        let fields = SortRecord {
             kind,
             name,
             number,
             parts,
             names,
         };
-        Ok((sort, next))
+        Ok((SheetSort { fields, size }, next))
     }
 
     // The sort record with the number `index`, which may name the sorts below it: Map where the kind is unknown or the bit
-    // map is not the kind's.
+    // map, without bit 128, is not the kind's.
     #[tactic(auto, unfolding(crate::specs::Reader::read_sort))]
-    pub fn sort(self, s: &[u8], index: usize) -> Read<SortRecord>
+    pub fn sort(self, s: &[u8], index: usize) -> Read<SheetSort>
         ensures { result ≡ read_sort s.now index self.at }
     {
         let (head, next) = self.head(s)?;
         let kind = SortKind::try_from(head.kind)?;
-        if head.map != map_of(kind) {
+        if head.map % SIZE_BIT != map_of(kind) {
             return Err(Refusal::Map);
         }
         next.sort_fields(s, head.map, kind, index)

@@ -1,5 +1,5 @@
--- BYTES DECODE BACK: any list of distinct well-formed sorts, parts before wholes, is the store of its own buffers. So
--- the bytes and places that the definitions write determine the sorts.
+-- BYTES DECODE BACK: any list of distinct well-formed sorts, parts before wholes, is the store of its own buffers, and each of
+-- their records carries the tree size of its sort. So the bytes and places that the definitions write determine the sorts.
 use Prim.Native.Nat.{ℕ, zero, suc, ◌+◌, ◌-◌, ◌≤◌, ◌<◌}
 use Rattle.std.specs.Prelude.{◌≡◌, take, drop, replicate}
 use Rattle.std.proofs.Math.Path.{refl, sym, ap₂}
@@ -10,12 +10,12 @@ use native.Mathlib.Omega.{arith}
 use Rattle.std.proofs.Math.Nat.{zero-add}
 use Rattle.std.proofs.Math.ListN.{length, get_or, get_or-append}
 use Rattle.std.proofs.Math.Seq.{get_or-take, take-length}
-use Rattle.record.specs.Sort.{Sort, Sorts, var, par, node, end, ◌then◌}
+use Rattle.record.specs.Sort.{Sort, Sorts, var, par, node, end, ◌then◌, size}
 use Rattle.record.specs.Record.{leaf, sorts_of, sort_of}
 use Rattle.record.specs.Store.{memb, index_of, indices_of, fields_of, record_of, records_of, offsets_of, padded, store_bytes, store_places, record_size, bytes_of}
-use Rattle.record.specs.Decode.{fields_at, Below, Stands, store_of}
+use Rattle.record.specs.Decode.{fields_at, size_at, Below, Stands, store_of}
 use Rattle.record.specs.Bytes.{stands-move, stands-each, stands_same}
-use Rattle.record.specs.Codec.{decoded}
+use Rattle.record.specs.Codec.{decoded-sized, size-read}
 use Rattle.record.specs.Forms.{sort-var, sort-par, sort-other}
 use Rattle.record.specs.Cases.{and_left, and_right}
 use Rattle.record.specs.SortLists.{Once, Ordered, memb_all, parts_in, index-found, index-starts, parts-starts}
@@ -112,14 +112,25 @@ module _ (records places : ℕ) (st : List Sort) (once : Once st) (ordered : Ord
       get_or-append (offsets_of st 0 st) (replicate (places - length (offsets_of st 0 st)) 0) 0 m (omega (arith, length-offsets st st 0))
       ∙ offset_at st st 0 m formed l ∙ zero-add (bytes_of (take m st))
 
-  fields-at : (m : ℕ) → m < length st → fields_at (store_bytes records st) (get_or (store_places places st) m 0) ≡ fields_of st (get_or st m leaf)
-  unfolding store_bytes padded record_of AllFormed
-  fields-at m l =
-      decoded (fields_of st (get_or st m leaf)) (store_bytes records st) (get_or (store_places places st) m 0)
-      (formed-shape st (get_or st m leaf) (formed m l)).proper
-      (stands-move (record_of st (get_or st m leaf)) (store_bytes records st) (bytes_of (take m st)) (get_or (store_places places st) m 0)
+  -- The record of each sort stands at its place.
+  stands_at : (m : ℕ) → m < length st → Stands (record_of st (get_or st m leaf)) (store_bytes records st) (get_or (store_places places st) m 0)
+  unfolding store_bytes padded
+  stands_at m l =
+      stands-move (record_of st (get_or st m leaf)) (store_bytes records st) (bytes_of (take m st)) (get_or (store_places places st) m 0)
       (sym (place_at m l))
-      (record-stands st st (replicate (records - length (records_of st st)) 0) m formed l))
+      (record-stands st st (replicate (records - length (records_of st st)) 0) m formed l)
+
+  fields-at : (m : ℕ) → m < length st → fields_at (store_bytes records st) (get_or (store_places places st) m 0) ≡ fields_of st (get_or st m leaf)
+  unfolding record_of AllFormed
+  fields-at m l =
+      decoded-sized (size (get_or st m leaf)) (fields_of st (get_or st m leaf)) (store_bytes records st) (get_or (store_places places st) m 0)
+      (formed-shape st (get_or st m leaf) (formed m l)).proper (stands_at m l)
+
+  -- THE SIZE IN EVERY RECORD OF A STORE IS THE TREE SIZE OF ITS SORT.
+  pub sizes-back : (m : ℕ) → m < length st → size_at (store_bytes records st) (get_or (store_places places st) m 0) ≡ size (get_or st m leaf)
+  unfolding record_of
+  sizes-back m l =
+      size-read (size (get_or st m leaf)) (fields_of st (get_or st m leaf)) (store_bytes records st) (get_or (store_places places st) m 0) (stands_at m l)
 
   store-from : (m : ℕ) → m ≤ length st → store_of (store_bytes records st) (store_places places st) m ≡ take m st
   unfolding store_of AllFormed Ordered

@@ -1,10 +1,10 @@
 -- How the lent buffers of a store are read back: the fields that the bytes at a place stand for, the sorts of a
 -- store of n records, and when records and stores are well formed. `Store.antt` has the other direction.
-use Rattle.std.specs.Prelude.{ℕ, zero, suc, ◌+◌, ◌*◌, ◌<◌, ◌≤◌, ◌≡◌, Bool, true, false, List, [], ◌∷◌, ◌++◌, length, get_or, take, drop}
+use Rattle.std.specs.Prelude.{ℕ, zero, suc, ◌+◌, ◌*◌, ◌%◌, ◌<◌, ◌≤◌, ◌≡◌, Bool, true, false, List, [], ◌∷◌, ◌++◌, length, get_or, take, drop}
 use Rattle.record.specs.Names.{distinct}
 use Rattle.record.specs.Number.{u16_at, u32_at, numbers_at}
-use Rattle.record.specs.Sort.{Sort}
-use Rattle.record.specs.Record.{Fields, map_of, bit, least_of, most_of, record_bytes, leaf, sort_of}
+use Rattle.record.specs.Sort.{Sort, size}
+use Rattle.record.specs.Record.{Fields, map_of, bit, least_of, most_of, behind_map, record_bytes, sized_bytes, leaf, sort_of}
 use Rattle.record.specs.Store.{given, bytes_of}
 
 -- A list field at x, if its bit stands, and how many bytes it takes.
@@ -48,6 +48,10 @@ unfoldable pub fields_at : List ℕ → ℕ → Fields
 unfolding fields_by
 fields_at b x = fields_by (get_or b x 0) b x
 
+-- THE SIZE THAT THE RECORD AT A PLACE CARRIES, behind its other fields; 0 where bit 128 does not stand.
+unfoldable pub size_at : List ℕ → ℕ → ℕ
+size_at b x = given (bit 128 (get_or b x 0)) (u16_at b (end_place (get_or b x 0) b x))
+
 -- Fields with none that the map of the kind leaves out.
 pub record ProperFields (f : Fields) : Type 0 where
   pub no_name : bit 2 (map_of f.kind) ≡ false → f.name ≡ 0
@@ -76,18 +80,23 @@ unfoldable pub Stands : List ℕ → List ℕ → ℕ → Type 0
 Stands [] b x = Unit {0}
 Stands (a ∷ s) b x = (a ≡ get_or b x 0) × Stands s b (x + 1)
 
--- The record of f lies whole at x, and its references are below n.
+-- The bit map m is that of the kind k, with bit 128 or without it.
+abbrev pub MapOf : ℕ → ℕ → Type 0
+MapOf m k = m % 128 ≡ map_of k
+
+-- The record of f lies at x, up to a size that it may carry, and its references are below n.
 pub record Lies (f : Fields) (b : List ℕ) (x n : ℕ) : Type 0 where
   pub within : x + length (record_bytes f) ≤ length b
-  pub stands : Stands (record_bytes f) b x
+  pub map : MapOf (get_or b x 0) f.kind
+  pub stands : Stands (behind_map f) b (x + 1)
   pub shape : Shape f
   pub below : Below f n
 
--- A whole record lies at x.
+-- A record lies at x.
 abbrev pub Held : List ℕ → ℕ → ℕ → Type 0
 Held b x n = Lies (fields_at b x) b x n
 
--- Bytes that are one whole record, to be appended to a store of n sorts.
+-- Bytes that are one whole record without a size, to be appended to a store of n sorts.
 pub record Fresh (r : List ℕ) (n : ℕ) : Type 0 where
   pub whole : record_bytes (fields_at r 0) ≡ r
   pub shape : Shape (fields_at r 0)
@@ -113,10 +122,20 @@ pub record Stored (b p : List ℕ) (n : ℕ) : Type 0 where
 unfoldable pub Distinct : List ℕ → List ℕ → ℕ → Type 0
 Distinct b p n = (i j : ℕ) → i < n → j < n → fields_at b (get_or p i 0) ≡ fields_at b (get_or p j 0) → i ≡ j
 
--- The records of the first n sorts lie in the first u bytes.
+-- The records of the first n sorts lie, with their sizes, in the first u bytes.
 pub record Packed (b p : List ℕ) (n u : ℕ) : Type 0 where
   pub used : u ≤ length b
-  pub each : (k : ℕ) → k < n → get_or p k 0 + length (record_bytes (fields_at b (get_or p k 0))) ≤ u
+  pub each : (k : ℕ) → k < n → get_or p k 0 + (length (record_bytes (fields_at b (get_or p k 0))) + 2) ≤ u
+
+-- The record at x stands whole, with the tree size of the sort t.
+pub record Carries (b : List ℕ) (x : ℕ) (t : Sort) : Type 0 where
+  pub within : x + (length (record_bytes (fields_at b x)) + 2) ≤ length b
+  pub stands : Stands (sized_bytes (size t) (fields_at b x)) b x
+
+-- THE SIZES OF A STORE of n sorts: each record carries the tree size of its sort, none over document 01's limit.
+pub record Sized (b p : List ℕ) (n : ℕ) : Type 0 where
+  pub each : (k : ℕ) → k < n → Carries b (get_or p k 0) (sort_at b p n k)
+  pub small : (k : ℕ) → k < n → size (sort_at b p n k) ≤ 4096
 
 -- They lie back to back from 0 on: each place is how many bytes the sorts before it take.
 unfoldable pub Running : List ℕ → List ℕ → ℕ → Type 0

@@ -4,7 +4,7 @@ use Rattle.std.proofs.Common.{sym, ap, ap₂, subst, ◌∙◌, ⊎_elim, arith,
 use Rattle.std.proofs.lemmas.List.{take-append-le}
 use Rattle.std.proofs.Math.Seq.{take-length}
 use Rattle.record.specs.Sort.{Sort}
-use Rattle.record.specs.Record.{Fields, leaf, sorts_of, sort_of}
+use Rattle.record.specs.Record.{Fields, record_bytes, leaf, sorts_of, sort_of}
 use Rattle.record.specs.Store.{record_size, bytes_of}
 use Rattle.record.specs.Decode.{fields_at, Shape, Below, store_of, sort_at, Stored, Packed, Running}
 use Rattle.record.specs.Forms.{Which, is_var, is_par, is_node, which, sort-var, sort-par, sort-other, par-one}
@@ -35,8 +35,8 @@ store-starts b p m n l = (
 pub bytes-grow : (b p : List ℕ) (m n : ℕ) → m ≤ n → bytes_of (store_of b p m) ≤ bytes_of (store_of b p n)
 bytes-grow b p m n l = starts-bytes (store_of b p m) (store_of b p n) (store-starts b p m n l)
 
--- At most 266 bytes a sort.
-pub store-short : (b p : List ℕ) (n : ℕ) → Stored b p n → (m : ℕ) → m ≤ n → bytes_of (store_of b p m) ≤ 266 * m
+-- At most 268 bytes a sort.
+pub store-short : (b p : List ℕ) (n : ℕ) → Stored b p n → (m : ℕ) → m ≤ n → bytes_of (store_of b p m) ≤ 268 * m
 unfolding store_of bytes_of
 store-short b p n s zero l = omega arith
 store-short b p n s (suc m) l =
@@ -95,6 +95,19 @@ running-packed b p n u s packed total run m l =
             record-size (store_of b p k) (fields_at b (get_or p k 0)) (s.each k (omega arith)).shape,
           );
     }
+
+-- WHERE A RECORD ENDS, with its size: at the next one's place, and the last at the bytes in use.
+module _ (b p : List ℕ) (n u : ℕ) (s : Stored b p n) (run : Running b p n) (total : u ≡ bytes_of (store_of b p n)) (k : ℕ) (l : k < n) where
+  ends_at : get_or p k 0 + (length (record_bytes (fields_at b (get_or p k 0))) + 2) ≡ bytes_of (store_of b p (suc k))
+  unfolding Running
+  ends_at = omega (arith, run k l, bytes-step b p k, record-size (store_of b p k) (fields_at b (get_or p k 0)) (s.each k l).shape)
+
+  pub ends_next : k + 1 < n → get_or p k 0 + (length (record_bytes (fields_at b (get_or p k 0))) + 2) ≡ get_or p (k + 1) 0
+  unfolding Running
+  ends_next h = let e : suc k ≡ k + 1 = omega arith in ends_at ∙ ap (λ (i : ℕ). bytes_of (store_of b p i)) e ∙ sym (run (k + 1) h)
+
+  pub ends_last : n ≤ k + 1 → get_or p k 0 + (length (record_bytes (fields_at b (get_or p k 0))) + 2) ≡ u
+  ends_last h = let e : suc k ≡ n = omega arith in ends_at ∙ ap (λ (i : ℕ). bytes_of (store_of b p i)) e ∙ sym total
 
 pub stored-first : (b p : List ℕ) (m n : ℕ) → m ≤ n → Stored b p n → Stored b p m
 stored-first b p m n l s = record { placed = omega (arith, s.placed); each = λ k h. s.each k (omega arith) }

@@ -1,5 +1,5 @@
 -- A sort record (document 01, "Sort records and the store"): its fields, its bytes, and the sort it stands for.
-use Rattle.std.specs.Prelude.{ℕ, ◌/◌, ◌%◌, Bool, true, false, cond, List, [], ◌∷◌, ◌++◌, length, get_or, eqb}
+use Rattle.std.specs.Prelude.{ℕ, ◌+◌, ◌/◌, ◌%◌, Bool, true, false, cond, List, [], ◌∷◌, ◌++◌, length, get_or, eqb}
 use Rattle.record.specs.Number.{u16_bytes, u32_bytes, numbers_bytes}
 use Rattle.record.specs.Sort.{Sort, Sorts, var, par, node, end, ◌then◌}
 
@@ -52,15 +52,24 @@ abbrev pub list_bytes : Bool → List ℕ → List ℕ
 list_bytes true vs = length vs ∷ numbers_bytes vs
 list_bytes false vs = []
 
--- THE BYTES OF A RECORD: the bit map of its kind, the kind, then only the fields whose bit stands, lowest bit first.
-unfoldable pub record_bytes : Fields → List ℕ
-unfolding map_of bit numbers_bytes
-record_bytes f =
-    map_of f.kind ∷ f.kind
+-- What stands behind the bit map of a record: its kind, then only the fields whose bit stands, lowest bit first.
+abbrev pub behind_map : Fields → List ℕ
+behind_map f =
+    f.kind
     ∷ (name_bytes (bit 2 (map_of f.kind)) f.name
     ++ (number_bytes (bit 4 (map_of f.kind)) f.number
     ++ (list_bytes (bit 16 (map_of f.kind)) f.list
     ++ list_bytes (bit 64 (map_of f.kind)) f.names)))
+
+-- THE BYTES OF A RECORD: the bit map of its kind, the kind and the fields.
+unfoldable pub record_bytes : Fields → List ℕ
+unfolding map_of bit numbers_bytes
+record_bytes f = map_of f.kind ∷ behind_map f
+
+-- THE BYTES OF A RECORD THAT CARRIES ITS TREE SIZE z (document 02, A.6): "in two bytes under bit 128, last among its fields".
+unfoldable pub sized_bytes : ℕ → Fields → List ℕ
+unfolding map_of bit numbers_bytes
+sized_bytes z f = (map_of f.kind + 128) ∷ (behind_map f ++ u16_bytes z)
 
 -- What stands for a sort that is not there; no reference of an accepted record needs it.
 abbrev pub leaf : Sort

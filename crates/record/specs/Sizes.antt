@@ -1,4 +1,5 @@
--- How long records are: the bytes of a record by its fields and by its sort, at most 266; the size of a record's sort.
+-- How long records are: the bytes of a record by its fields and by its sort, at most 266, or 268 with its size; the size of a
+-- record's sort.
 use Rattle.std.specs.Prelude.{ℕ, suc, ◌+◌, ◌*◌, ◌≤◌, ◌<◌, ◌≡◌, refl, Bool, true, false, List, [], ◌∷◌, ◌++◌, length, get_or, leb}
 use Rattle.std.proofs.Common.{sym, ap, subst, ◌∙◌, arith, length-append, leb→le}
 use Rattle.std.proofs.lemmas.List.{nil_from_length}
@@ -7,7 +8,7 @@ use Rattle.record.specs.Record.{Fields, bit, maps, map_of, mosts, most_of, name_
 use Rattle.record.specs.Store.{given, record_size, index_of, indices_of, fields_of, record_of}
 use Rattle.record.specs.Decode.{fields, Shape}
 use Rattle.record.specs.Table.{at}
-use Rattle.record.specs.Codec.{length-numbers, length-name, length-number, fields-equal}
+use Rattle.record.specs.Codec.{length-numbers, length-name, length-number, fields-equal, sized-length}
 use Rattle.record.specs.Forms.{Which, is_var, is_par, is_node, which, sort-var, sort-par, sort-other, par-one, par-name, par-number, var-list, var-number, var-names, other-names, no-names}
 
 -- A list of references has as many sorts.
@@ -57,23 +58,28 @@ size-par k ns e = ap (λ (i : ℕ). size_by i 1 ns) e ∙ omega arith
 size-other : (k l ns : ℕ) → k < 16 → (k ≡ 12 → ⊥) → size_by k l ns ≡ 2 + given (bit 2 (map_of k)) 2 + given (bit 4 (map_of k)) 4 + given (bit 16 (map_of k)) (1 + 2 * l)
 size-other k l ns h q = omega (arith, ap (λ (t : Bool). given t (1 + 2 * ns)) (no-names k h q))
 
--- The bytes of a record are those of its sort.
-pub record-size : (st : List Sort) (f : Fields) → Shape f → record_size (sort_of st f) ≡ length (record_bytes f)
+-- The bytes of a record with its size are those of its sort.
+pub record-size : (st : List Sort) (f : Fields) → Shape f → record_size (sort_of st f) ≡ length (record_bytes f) + 2
 unfolding record_size
 record-size st f s = go (which f.kind)
   where
-    go : Which f.kind → record_size (sort_of st f) ≡ length (record_bytes f)
+    go : Which f.kind → record_size (sort_of st f) ≡ length (record_bytes f) + 2
     go (is_var e) =
-        ap record_size (sort-var st f e) ∙ sym (record-length f ∙ size-var f.kind (length f.list) (length f.names) e)
+        ap record_size (sort-var st f e)
+        ∙ omega (arith, record-length f ∙ size-var f.kind (length f.list) (length f.names) e)
     go (is_par e) =
         ap record_size (sort-par st f e)
-        ∙ sym (record-length f ∙ ap (λ (i : ℕ). size_by f.kind i (length f.names)) (par-one f s e)
-        ∙ size-par f.kind (length f.names) e)
+        ∙ omega (
+          arith,
+          record-length f ∙ ap (λ (i : ℕ). size_by f.kind i (length f.names)) (par-one f s e) ∙ size-par f.kind (length f.names) e,
+        )
     go (is_node p q) =
         ap record_size (sort-other st f p q)
-        ∙ ap (λ (i : ℕ). 2 + given (bit 2 (map_of f.kind)) 2 + given (bit 4 (map_of f.kind)) 4 + given (bit 16 (map_of f.kind)) (1 + 2 * i))
-        (count-sorts st f.list)
-        ∙ sym (record-length f ∙ size-other f.kind (length f.list) (length f.names) s.known q)
+        ∙ omega (
+          arith,
+          ap (λ (i : ℕ). given (bit 16 (map_of f.kind)) (1 + 2 * i)) (count-sorts st f.list),
+          record-length f ∙ size-other f.kind (length f.list) (length f.names) s.known q,
+        )
 
 -- No list of sorts is longer than 64.
 abbrev few-most : ℕ → ℕ → Bool
@@ -180,14 +186,21 @@ sort-formed st f s = go (which f.kind)
         })
 
 -- THE LENGTH OF THE RECORD OF A WELL-FORMED SORT, whatever the store.
+fields-size : (st : List Sort) (s : Sort) → Formed s → length (record_bytes (fields_of st s)) + 2 ≡ record_size s
+unfolding fields_of record_size
+fields-size st (var v) h = omega (arith, record-length (fields_of st (var v)) ∙ size-var 2 0 0 refl)
+fields-size st (par ns b) h = omega (arith, record-length (fields_of st (par ns b)) ∙ size-par 12 (length ns) refl)
+fields-size st (node k a w ss) h =
+    omega (
+      arith,
+      record-length (fields_of st (node k a w ss))
+          ∙ size-other k (length (indices_of ss st)) 0 h.shape.known (λ e. absurd (omega (arith, h.shape.some e))),
+      ap (λ (i : ℕ). given (bit 16 (map_of k)) (1 + 2 * i)) (length-indices ss st),
+    )
+
 pub record-of-size : (st : List Sort) (s : Sort) → Formed s → length (record_of st s) ≡ record_size s
-unfolding fields_of record_of record_size
-record-of-size st (var v) h = record-length (fields_of st (var v)) ∙ size-var 2 0 0 refl
-record-of-size st (par ns b) h = record-length (fields_of st (par ns b)) ∙ size-par 12 (length ns) refl
-record-of-size st (node k a w ss) h =
-    record-length (fields_of st (node k a w ss))
-    ∙ size-other k (length (indices_of ss st)) 0 h.shape.known (λ e. absurd (omega (arith, h.shape.some e)))
-    ∙ ap (λ (i : ℕ). 2 + given (bit 2 (map_of k)) 2 + given (bit 4 (map_of k)) 4 + given (bit 16 (map_of k)) (1 + 2 * i)) (length-indices ss st)
+unfolding record_of
+record-of-size st s h = sized-length (size s) (fields_of st s) ∙ fields-size st s h
 
 -- Every sort of the list is well formed.
 unfoldable pub AllFormed : List Sort → Type 0

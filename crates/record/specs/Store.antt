@@ -1,8 +1,9 @@
 -- The store (document 01, "Sort records and the store"; storage.rs): each distinct sort once, in first-made
--- order, parts first from left to right, as records back to back with their byte offsets beside them.
+-- order, parts first from left to right, as records back to back with their byte offsets beside them. Each record
+-- carries the tree size of its sort (document 02, A.6).
 use Rattle.std.specs.Prelude.{ℕ, suc, ◌+◌, ◌*◌, ◌-◌, Bool, true, false, cond, ◌&&◌, ◌||◌, List, [], ◌∷◌, ◌++◌, length, replicate, leb}
-use Rattle.record.specs.Sort.{Sort, Sorts, var, par, node, end, ◌then◌, same, count}
-use Rattle.record.specs.Record.{Fields, map_of, bit, record_bytes}
+use Rattle.record.specs.Sort.{Sort, Sorts, var, par, node, end, ◌then◌, same, count, size}
+use Rattle.record.specs.Record.{Fields, map_of, bit, sized_bytes}
 
 -- Whether a sort is among those of a store.
 unfoldable pub memb : Sort → List Sort → Bool
@@ -46,10 +47,10 @@ fields_of st (var v) = record { kind = 2; name = v; number = 0; list = []; names
 fields_of st (par ns b) = record { kind = 12; name = 0; number = 0; list = index_of b st ∷ []; names = ns }
 fields_of st (node k a w ss) = record { kind = k; name = a; number = w; list = indices_of ss st; names = [] }
 
--- The record of a sort of a store.
+-- The record of a sort of a store: "each store record now carries its tree size".
 unfoldable pub record_of : List Sort → Sort → List ℕ
-unfolding fields_of record_bytes
-record_of st s = record_bytes (fields_of st s)
+unfolding fields_of size sized_bytes
+record_of st s = sized_bytes (size s) (fields_of st s)
 
 -- The records of some sorts of a store, back to back, and their offsets from x on.
 unfoldable pub records_of : List Sort → List Sort → List ℕ
@@ -82,10 +83,10 @@ given false v = 0
 
 unfoldable pub record_size : Sort → ℕ
 unfolding map_of bit count
-record_size (var v) = 4
-record_size (par ns b) = 6 + 2 * length ns
+record_size (var v) = 6
+record_size (par ns b) = 8 + 2 * length ns
 record_size (node k a w ss) =
-    2 + given (bit 2 (map_of k)) 2 + given (bit 4 (map_of k)) 4 + given (bit 16 (map_of k)) (1 + 2 * count ss)
+    4 + given (bit 2 (map_of k)) 2 + given (bit 4 (map_of k)) 4 + given (bit 16 (map_of k)) (1 + 2 * count ss)
 
 unfoldable pub bytes_of : List Sort → ℕ
 unfolding record_size

@@ -9,12 +9,12 @@ use native.Mathlib.Omega.{arith}
 use Rattle.std.proofs.Math.ListN.{length, get_or, take}
 use Rattle.std.proofs.lemmas.List.{length-replicate, get_or-replicate}
 use Rattle.std.proofs.Math.Seq.{take-add, take-suc}
-use Rattle.record.specs.Sort.{Sort}
-use Rattle.record.specs.Record.{Fields, record_bytes, leaf, sorts_of, sort_of}
+use Rattle.record.specs.Sort.{Sort, size}
+use Rattle.record.specs.Record.{Fields, record_bytes, sized_bytes, leaf, sorts_of, sort_of}
 use Rattle.record.specs.Store.{index_of, indices_of, fields_of, record_of, records_of, offsets_of, padded, store_bytes, store_places, bytes_of}
-use Rattle.record.specs.Decode.{fields_at, Shape, Below, store_of, sort_at, Stored, Distinct, Packed, Running, Zeros}
+use Rattle.record.specs.Decode.{fields_at, Shape, Below, store_of, sort_at, Stored, Distinct, Packed, Sized, Running, Zeros}
 use Rattle.record.specs.Bytes.{stands-part}
-use Rattle.record.specs.Codec.{fields-equal}
+use Rattle.record.specs.Codec.{fields-equal, sized-length}
 use Rattle.record.specs.Forms.{Which, is_var, is_par, is_node, which, sort-var, sort-par, sort-other, var-number, var-list, var-names, par-name, par-number, par-one, other-names, one-element}
 use Rattle.record.specs.SortLists.{Once, index_at, bytes-append}
 use Rattle.record.specs.StoreLaws.{store_of-length, sort-made, sort-node, sorts-one}
@@ -74,22 +74,22 @@ offsets-append st (t ∷ ss) x s =
     ∙ ap (λ (i : ℕ). offsets_of st (x + length (record_of st t)) ss ++ (i ∷ [])) e)
 
 module _ (b p : List ℕ) (n : ℕ) (stored : Stored b p n) (distinct : Distinct b p n) where
-  -- The record of an entry is its bytes.
-  pub record-back : (k : ℕ) → k < n → record_of (store_of b p n) (sort_at b p n k) ≡ record_bytes (fields_at b (get_or p k 0))
+  -- The record of an entry is its bytes, with the tree size of its sort.
+  pub record-back : (k : ℕ) → k < n → record_of (store_of b p n) (sort_at b p n k) ≡ sized_bytes (size (sort_at b p n k)) (fields_at b (get_or p k 0))
   unfolding record_of
   record-back k l =
       let st = store_of b p n in
-      ap (λ (s : Sort). record_bytes (fields_of st s)) (sort-node b p n k stored l)
-      ∙ ap record_bytes
-      (fields_back st (store-once b p n stored distinct) (fields_at b (get_or p k 0)) (stored.each k l).shape
+      ap (sized_bytes (size (sort_at b p n k)))
+      (ap (fields_of st) (sort-node b p n k stored l)
+      ∙ fields_back st (store-once b p n stored distinct) (fields_at b (get_or p k 0)) (stored.each k l).shape
       (λ j h. omega (arith, (stored.each k l).below j h, store_of-length b p n)))
 
   -- And so is that of the sort that was made there.
-  made-back : (k : ℕ) → k < n → record_of (store_of b p n) (sort_of (store_of b p k) (fields_at b (get_or p k 0))) ≡ record_bytes (fields_at b (get_or p k 0))
+  made-back : (k : ℕ) → k < n → record_of (store_of b p n) (sort_of (store_of b p k) (fields_at b (get_or p k 0))) ≡ sized_bytes (size (sort_at b p n k)) (fields_at b (get_or p k 0))
   made-back k l = sym (ap (record_of (store_of b p n)) (sort-made b p k n l)) ∙ record-back k l
 
   -- How many bytes the first m sorts take.
-  pub bytes_next : (m : ℕ) → m < n → bytes_of (store_of b p (suc m)) ≡ bytes_of (store_of b p m) + length (record_bytes (fields_at b (get_or p m 0)))
+  pub bytes_next : (m : ℕ) → m < n → bytes_of (store_of b p (suc m)) ≡ bytes_of (store_of b p m) + (length (record_bytes (fields_at b (get_or p m 0))) + 2)
   unfolding store_of
   bytes_next m l =
       omega (
@@ -98,19 +98,21 @@ module _ (b p : List ℕ) (n : ℕ) (stored : Stored b p n) (distinct : Distinct
         record-size (store_of b p m) (fields_at b (get_or p m 0)) (stored.each m l).shape,
       )
 
-  module _ (running : Running b p n) where
+  module _ (running : Running b p n) (sized : Sized b p n) where
     records-from : (m : ℕ) → m ≤ n → take (bytes_of (store_of b p m)) b ≡ records_of (store_of b p n) (store_of b p m)
     unfolding store_of bytes_of records_of Running
     records-from zero l = refl
     records-from (suc m) l =
         let f = fields_at b (get_or p m 0) in
+        let z = sized_bytes (size (sort_at b p n m)) f in
         let st = store_of b p n in
         let e : get_or p m 0 ≡ bytes_of (store_of b p m) = running m (omega arith) in
-        ap (λ (i : ℕ). take i b) (bytes_next m (omega arith))
-        ∙ take-add (bytes_of (store_of b p m)) (length (record_bytes f)) b
+        let o : length z ≡ length (record_bytes f) + 2 = sized-length (size (sort_at b p n m)) f in
+        ap (λ (i : ℕ). take i b) (bytes_next m (omega arith) ∙ ap (λ (i : ℕ). bytes_of (store_of b p m) + i) (sym o))
+        ∙ take-add (bytes_of (store_of b p m)) (length z) b
         ∙ ap₂ (λ (x y : List ℕ). x ++ y) (records-from m (omega arith))
-        (subst (λ (i : ℕ). take (length (record_bytes f)) (drop i b) ≡ record_bytes f) e
-        (sym (stands-part (record_bytes f) b (get_or p m 0) (stored.each m (omega arith)).within (stored.each m (omega arith)).stands))
+        (subst (λ (i : ℕ). take (length z) (drop i b) ≡ z) e
+        (sym (stands-part z b (get_or p m 0) (omega (arith, o, (sized.each m (omega arith)).within)) (sized.each m (omega arith)).stands))
         ∙ sym (made-back m (omega arith)))
         ∙ sym (records-append st (store_of b p m) (sort_of (store_of b p m) f))
 
@@ -121,7 +123,7 @@ module _ (b p : List ℕ) (n : ℕ) (stored : Stored b p n) (distinct : Distinct
     bytes-within : (m : ℕ) → m ≤ n → bytes_of (store_of b p m) ≤ length b
     unfolding store_of bytes_of Running
     bytes-within zero l = omega arith
-    bytes-within (suc m) l = omega (arith, bytes_next m (omega arith), running m (omega arith), (stored.each m (omega arith)).within)
+    bytes-within (suc m) l = omega (arith, bytes_next m (omega arith), running m (omega arith), (sized.each m (omega arith)).within)
 
     records-long : (m : ℕ) → m ≤ n → length (records_of (store_of b p n) (store_of b p m)) ≡ bytes_of (store_of b p m)
     records-long m l = sym (ap length (records-from m l)) ∙ length-take-le (bytes_of (store_of b p m)) b (bytes-within m l)
@@ -156,14 +158,14 @@ zeros-padded l n h z =
 
 -- THE LENT BUFFERS, whole.
 module _ (b p : List ℕ) (n u : ℕ) (stored : Stored b p n) (distinct : Distinct b p n) (running : Running b p n)
-    (packed : Packed b p n u) (total : u ≡ bytes_of (store_of b p n)) where
+    (sized : Sized b p n) (packed : Packed b p n u) (total : u ≡ bytes_of (store_of b p n)) where
   pub whole-bytes : Zeros b u → b ≡ store_bytes (length b) (store_of b p n)
   unfolding store_bytes
   whole-bytes z =
       zeros-padded b u packed.used z
-      ∙ ap (padded (length b)) (sym (records-are b p n stored distinct running u total))
+      ∙ ap (padded (length b)) (sym (records-are b p n stored distinct running sized u total))
 
   pub whole-places : Zeros p n → p ≡ store_places (length p) (store_of b p n)
   unfolding store_places
   whole-places z =
-      zeros-padded p n stored.placed z ∙ ap (padded (length p)) (sym (offsets_are b p n stored distinct running))
+      zeros-padded p n stored.placed z ∙ ap (padded (length p)) (sym (offsets_are b p n stored distinct running sized))

@@ -18,10 +18,13 @@ pub const ROWS: usize = 2 * MOST_TERMS;
 // The most entries of a list.
 pub const LONGEST_LIST: usize = 64;
 
-// The bytes of a sort record: with every field, and with one list alone.
+// The bytes of a sort record without its tree size: with every field, and with one list alone.
 pub const LONGEST_RECORD: usize = 266;
 
 pub const LONGEST_LISTED: usize = 131;
+
+// The bytes of a tree size in a record.
+pub const SIZE_LENGTH: usize = 2;
 
 // The largest width of a vector, the largest tree of a sort, and what its parts' trees may be together.
 pub const LARGEST_WIDTH: usize = 65535;

@@ -6,7 +6,7 @@ ghost use Rattle.record.specs.Kinds.{sort_number};
 use super::kinds::SortKind;
 
 // The weights of the bits of a map, in the order of the fields: the kind, the name, the number, a term's own sort, the list, a
-// term's pairs, and the names or the second list of a term.
+// term's pairs, the names or the second list of a term, and the tree size of a sort.
 pub const KIND_BIT: usize = 1;
 
 pub const NAME_BIT: usize = 2;
@@ -20,6 +20,8 @@ pub const LIST_BIT: usize = 16;
 pub const PAIRS_BIT: usize = 32;
 
 pub const NAMES_BIT: usize = 64;
+
+pub const SIZE_BIT: usize = 128;
 
 // Whether the bit of this weight stands in the map.
 #[tactic(auto, unfolding(crate::specs::Record::bit))]

@@ -13,10 +13,8 @@ use Rattle.record.specs.Decode.{fields_at, store_of, sort_at}
 use Rattle.record.specs.StoreLaws.{store_of-length}
 use Rattle.record.specs.SortLists.{Starts, starts-self, starts-intern, memb-at, intern-known}
 use Rattle.record.specs.Entries.{store-ordered}
-use Rattle.store.specs.Entry.{TreeAsks, TreeHas}
 use Rattle.store.specs.Contract.{InternedIs, Holds, UndoIs}
 use Rattle.store.specs.declared.Full.{Full as NoRoom}
-use Rattle.store.specs.Walk.{tree-asks}
 use Rattle.store.specs.Grown.{holds-intern}
 use Rattle.row_rules.specs.declared.Cause.{Cause}
 use Rattle.row_rules.specs.declared.Cause.TheVariants.{Limit, Full}
@@ -42,13 +40,7 @@ module _ {b p ix : List ℕ} {n u k : ℕ} (asks : LeafAsks b p ix n u k) {v : �
 
 -- MAKE: w is what `tree_size` gave.
 module _ {b p ix : List ℕ} {n u : ℕ} {r : List ℕ} (asks : MakeAsks b p ix n u r) where
-  pub size-asks : TreeAsks ix r
-  size-asks = tree-asks ix r n asks.good.indexed.table asks.good.indexed.count asks.fresh
-
-  module _ (w : ℕ) (has : TreeHas ix r w) where
-    weight : w ≡ size (sort_of (store_of b p n) (fields_at r 0))
-    weight = has b p n asks.good.sized asks.fresh.below
-
+  module _ (w : ℕ) (weight : w ≡ size (sort_of (store_of b p n) (fields_at r 0))) where
     pub make-over : 4096 < w → AnswerIs b p n (sort (sort_of (store_of b p n) (fields_at r 0))) b p ix (refusing Limit n u)
     make-over h =
         let t = sort_of (store_of b p n) (fields_at r 0) in

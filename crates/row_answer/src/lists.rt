@@ -92,7 +92,8 @@ pub fn relation(store: &mut Store<'_>, list: &mut Args<'_>) -> Row
 }
 
 // What is left of a Function's list, the sorts that the store names in `left`: the last one by itself, or the Function of what
-// remains, put together in `list`.
+// remains, put together in `list`. Inlined, since each App calls it twice, mostly for the last sort alone.
+#[inline(always)]
 pub fn remaining(store: &mut Store<'_>, list: &mut Args<'_>, left: Span) -> Row
     requires { RemainingAsked store.old list.old left }
     ensures same { Same store.old store.new }

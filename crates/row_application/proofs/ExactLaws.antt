@@ -6,6 +6,7 @@ use mathlib.Core.List.{List, [], ◌∷◌}
 use Rattle.std.proofs.Common.{◌⊎◌, inl, inr}
 use Rattle.std.proofs.lemmas.List.{nil_from_length}
 use mathlib.Core.Option.{Option, none, some}
+use Rattle.std.specs.Prelude.{Option as Maybe, Some, None}
 use native.Mathlib.Omega.{arith}
 use native.Mathlib.Nat.{not-suc-le-zero}
 use lib.ListN.{length, get_or}
@@ -17,7 +18,6 @@ use Rattle.record.specs.Decode.{Shape, Below, store_of, sort_at, Stored}
 use Rattle.record.specs.Forms.{Which, is_var, is_par, is_node, which, sort-var, sort-par, sort-other, par-one}
 use Rattle.record.specs.Cases.{and_left}
 use Rattle.record.specs.StoreLaws.{sort-node, sorts-one}
-use Rattle.store.specs.Entry.{SizeHas}
 use Rattle.store.specs.Walk.{size-pos}
 use Rattle.substitution.specs.Substitution.{Map, empty}
 use Rattle.substitution.proofs.SubstitutionLaws.{apply-empty}
@@ -32,7 +32,7 @@ use Rattle.row_answer.specs.Answer.{Answer}
 use Rattle.row_answer.specs.Answer.{AnswerIs, refusing}
 use Rattle.row_answer.specs.AnswerLaws.{judged-as, answered-as, made-refused}
 use Rattle.row_answer.specs.Asks.{RemainingAsks}
-use Rattle.row_application.specs.Contract.{NoNames, ParlessAsks, ExactAsks, ExactIs, PlainAppAsks, PlainAppIs, rest_at, delivered_at}
+use Rattle.row_application.specs.Contract.{NoNames, ExactAsks, ExactIs, PlainAppAsks, PlainAppIs, rest_at, delivered_at}
 use Rattle.row_answer.proofs.ValueLaws.{refs-all}
 use Rattle.row_application.proofs.ListLaws.{refs-behind}
 use Rattle.row_application.proofs.PlainLaws.{fits-itself, fits-other, fits-par, values-fit, settled_plain}
@@ -47,8 +47,16 @@ small-parless (par ns b) e = let z = size-pos b in absurd (omega arith)
 small-parless (node k a w end) e = refl
 small-parless (node k a w (s then ss)) e = let z = size-pos s in absurd (omega arith)
 
-pub leaf-parless : {b p ix : List ℕ} {n k : ℕ} → ParlessAsks b p ix n k → {v : ℕ} → SizeHas ix k v → v ≡ 1 → true ≡ parless (sort_at b p n k)
-leaf-parless {b} {p} {ix} {n} {k} a h e = small-parless (sort_at b p n k) (sym (h b p n a.sized a.one.known) ∙ e)
+pub leaf-parless : (s : Sort) {v : ℕ} → v ≡ size s → v ≡ 1 → true ≡ parless s
+leaf-parless s {v} h e = small-parless s (sym h ∙ e)
+
+-- The sort that was asked about last, if one was, is free of Par.
+abbrev pub LastFree : List ℕ → List ℕ → ℕ → Maybe ℕ → Type 0
+LastFree b p n None = Unit {0}
+LastFree b p n (Some k) = parless (sort_at b p n k) ≡ true
+
+pub last-free : (b p : List ℕ) (n : ℕ) {o : Maybe ℕ} {k : ℕ} → LastFree b p n o → o ≡ Some k → parless (sort_at b p n k) ≡ true
+last-free b p n h e = subst (LastFree b p n) e h
 
 ---------------------------------------------------------------- the arguments, one after another
 -- What is left, the numbers xs and ys, decides the whole.
@@ -60,8 +68,8 @@ pub record ExactRun (b p : List ℕ) (n x : ℕ) (a : List ℕ) (k : ℕ) (xs ys
   pub rest : (f : ℕ → Bool) → NoNames f
       → matches_all f (sorts_of (store_of b p n) xs) (sorts_of (store_of b p n) ys) empty ≡ matches_all f (sorts_at b p n b x k) (sorts_at b p n a 5 k) empty
 
-pub exact-start : {b p ix : List ℕ} {n x : ℕ} {a : List ℕ} {k : ℕ} → ExactAsks b p ix n x a k → ExactRun b p n x a k (numbers_at b x k) (numbers_at a 5 k)
-exact-start {b} {p} {ix} {n} {x} {a} {k} h =
+pub exact-start : {b p : List ℕ} {n u x : ℕ} {a : List ℕ} {k : ℕ} → ExactAsks b p n u x a k → ExactRun b p n x a k (numbers_at b x k) (numbers_at a 5 k)
+exact-start {b} {p} {n} {u} {x} {a} {k} h =
     record {
       usable = h.pairs.usable;
       even = length-numbers_at b x k ∙ sym (length-numbers_at a 5 k);

@@ -5,7 +5,8 @@ use Rattle.std.proofs.Math.Option.{Option, some}
 use Rattle.record.specs.Number.{u16_at}
 use Rattle.record.specs.Sort.{Sort, Sorts, var, same, sizes}
 use Rattle.record.specs.Decode.{store_of, sort_at, Zeros}
-use Rattle.store.specs.Good.{Good, Sized}
+use Rattle.store.specs.Good.{Good}
+use Rattle.store.specs.Entry.{SizedStore}
 use Rattle.sheet.specs.Sheet.{Lengths}
 use Rattle.substitution.specs.Substitution.{Map, empty, bind, apply}
 use Rattle.substitution.specs.Matching.{keep, matches_all, listed_in}
@@ -162,21 +163,19 @@ pub record FittedIs (b p : List ℕ) (n : ℕ) (prm : List ℕ) (f : Callee) (a 
 abbrev pub NoNames : (ℕ → Bool) → Type 0
 NoNames f = (v : ℕ) → f v ≡ false
 
--- A sort of a store whose tree sizes the index has.
-pub record ParlessAsks (b p ix : List ℕ) (n k : ℕ) : Type 0 where
+-- A sort of a store whose records carry their tree sizes.
+pub record ParlessAsks (b p : List ℕ) (n u k : ℕ) : Type 0 where
   pub one : OneAsks b p n k
-  pub sized : Sized b p ix n
-  pub index : length ix ≡ 13312
+  pub sized : SizedStore b p n u
 
 -- What is noted of a sort: no Par stands in it.
 abbrev pub ParlessAt : List ℕ → List ℕ → ℕ → ℕ → Type 0
 ParlessAt b p n k = parless (sort_at b p n k) ≡ true
 
 -- k arguments, and as many sorts of a head's list.
-pub record ExactAsks (b p ix : List ℕ) (n x : ℕ) (a : List ℕ) (k : ℕ) : Type 0 where
+pub record ExactAsks (b p : List ℕ) (n u x : ℕ) (a : List ℕ) (k : ℕ) : Type 0 where
   pub pairs : PairsAsk b p n b x a 5 k
-  pub sized : Sized b p ix n
-  pub index : length ix ≡ 13312
+  pub sized : SizedStore b p n u
 
 -- THE ARGUMENTS FIT, AND NOTHING IS BOUND, or they do not.
 abbrev pub ExactIs : List ℕ → List ℕ → ℕ → ℕ → List ℕ → ℕ → Bool → Type 0

@@ -85,14 +85,14 @@ Delivered s x f k c t y r =
     × (y.many ≡ 0)
 
 ---------------------------------------------------------------- a head without parameters
-abbrev pub ParlessAsked : Sorts → List ℕ → ℕ → Type 0
-ParlessAsked s ix k = ParlessAsks s.records.now s.places.now ix s.count k
+abbrev pub ParlessAsked : Sorts → ℕ → ℕ → Type 0
+ParlessAsked s u k = ParlessAsks s.records.now s.places.now s.count u k
 
 abbrev pub ParlessNotes : Sorts → List ℕ → Type 0
 ParlessNotes s seen = NoteTable (ParlessAt s.records.now s.places.now s.count) seen
 
-abbrev pub ExactAsked : Sorts → List ℕ → Span → Args → Type 0
-ExactAsked s ix l a = ExactAsks s.records.now s.places.now ix s.count l.at a.bytes.now l.count × (a.count ≡ l.count + 1)
+abbrev pub ExactAsked : Sorts → ℕ → Span → Args → Type 0
+ExactAsked s u l a = ExactAsks s.records.now s.places.now s.count u l.at a.bytes.now l.count × (a.count ≡ l.count + 1)
 
 abbrev pub ExactFound : Sorts → Span → Args → Bool → Type 0
 ExactFound s l a r = ExactIs s.records.now s.places.now s.count l.at a.bytes.now l.count r

@@ -17,30 +17,35 @@ use row_answer::lists::remaining;
 use row_rules::{Cause, Row};
 use store::Store;
 use store::entries::Sorts;
-use store::sizes::size_at;
 
 // Whether no Par stands in the sort `k`. One of tree size 1 has no parts and is no Par, and needs no walk.
-pub fn is_parless(sorts: &Sorts<'_>, index: &[u16], seen: &mut Seen, k: usize) -> bool
-    requires asked { ParlessAsked sorts.now index.now k }
+pub fn is_parless(sorts: &Sorts<'_>, used: usize, seen: &mut Seen, k: usize) -> bool
+    requires asked { ParlessAsked sorts.now used k }
     requires noted { ParlessNotes sorts.now seen.old.slots }
     ensures answer { result ≡ parless (sort_at sorts.now.records.now sorts.now.places.now sorts.now.count k) }
     ensures noted { ParlessNotes sorts.now seen.new.slots }
 {
-    size_at(index, k) == 1 || each(sorts, &parless, seen, k)
+    sorts.entries().size(sorts.count, used, k) == 1 || each(sorts, &parless, seen, k)
 }
 
-// Whether the arguments are the first sorts that the store names in `list`, and no Par stands in them.
-pub fn all_exact(sorts: &Sorts<'_>, index: &[u16], list: Span, args: &Args<'_>) -> bool
-    requires { ExactAsked sorts.now index.now list args.now }
+// Whether the arguments are the first sorts that the store names in `list`, and no Par stands in them. A sort that stands again behind
+// itself is asked about once.
+pub fn all_exact(sorts: &Sorts<'_>, used: usize, list: Span, args: &Args<'_>) -> bool
+    requires { ExactAsked sorts.now used list args.now }
     ensures { ExactFound sorts.now list args.now result }
 {
     let mut seen = Seen::new();
     let wanted = list.numbers(sorts.records);
     let arguments = args.rest().numbers(args.bytes);
+    let mut last = None;
     for (sort, argument) in wanted.zip(arguments) {
-        if sort != argument || !is_parless(sorts, index, &mut seen, sort) {
+        if sort != argument {
             return false;
         }
+        if last != Some(sort) && !is_parless(sorts, used, &mut seen, sort) {
+            return false;
+        }
+        last = Some(sort);
     }
     true
 }
@@ -54,8 +59,8 @@ pub fn checked_plain(store: &mut Store<'_>, list: Span, args: &Args<'_>) -> Row
 {
     let n = args.count - 1;
     let first = Span { count: n, ..list };
-    let read = &*store;
-    if !all_exact(&read.sorts(), read.index, first, args) {
+    let used = store.used;
+    if !all_exact(&store.sorts(), used, first, args) {
         return Err(Cause::Misfit);
     }
     let mut bytes = [0u8; LONGEST_LISTED];

@@ -1,5 +1,5 @@
 -- The words of the contracts over a store that is lent where a sheet is read: s before, t afterwards.
-use Rattle.std.specs.Prelude.{ℕ, ◌≡◌, List, Result}
+use Rattle.std.specs.Prelude.{ℕ, ◌≡◌, List, Option, Result}
 use Rattle.reader.specs.declared.Cursor.{Cursor}
 use Rattle.reader.specs.declared.Refusal.{Refusal}
 use Rattle.store.specs.declared.Store.{Store}
@@ -8,12 +8,12 @@ use Rattle.sheet.specs.declared.Header.{Header}
 use Rattle.sheet.specs.declared.SheetCounts.{SheetCounts}
 use Rattle.sheet.specs.declared.tables.SheetTables.{SheetTables}
 
--- The sort of the record r, number i of its sheet, is to be added; it was, or was refused.
+-- The sort of the record r, number i of its sheet, is to be added; it was, or was refused. w is what its record says of its size.
 abbrev pub AddAsked : Store → List ℕ → List ℕ → ℕ → Type 0
 AddAsked s r tbl i = AddSortAsks s.records.now s.places.now s.index.now s.count s.used r tbl i
 
-abbrev pub Added : Store → List ℕ → List ℕ → ℕ → Store → List ℕ → Result (Unit {0}) Refusal → Type 0
-Added s r tbl i t tbl' q = AddSortIs s.records.now s.places.now s.count r tbl i t.records.now t.places.now t.index.now tbl' t.count t.used q
+abbrev pub Added : Store → List ℕ → Option ℕ → List ℕ → ℕ → Store → List ℕ → Result (Unit {0}) Refusal → Type 0
+Added s r w tbl i t tbl' q = AddSortIs s.records.now s.places.now s.count r w tbl i t.records.now t.places.now t.index.now tbl' t.count t.used q
 
 -- The sort record i, at x of the sheet z, is to be read; it was, or was refused.
 abbrev pub NextAsked : Store → List ℕ → List ℕ → ℕ → Type 0

@@ -2,11 +2,10 @@
 ghost use Rattle.std.specs.Prelude.{◌≡◌, ◌+◌, ◌≤◌, ◌<◌, length};
 ghost use Rattle.record.specs.Number.{u16_at};
 ghost use Rattle.record.specs.Kinds.{sort_number};
-ghost use Rattle.store.specs.Entry.{EntryHas, KindHas, SizeHas, TreeAsks, TreeHas};
+ghost use Rattle.store.specs.Entry.{EntryHas, KindHas};
 
 use super::Store;
 use super::entries::{Entries, Sorts};
-use super::sizes::{size_at, tree_size};
 use record::SortRecord;
 use record::kinds::SortKind;
 
@@ -58,21 +57,5 @@ impl Store<'_> {
         ensures upper_bound { result < 65536 }
     {
         self.entries().number(at)
-    }
-
-    // The tree size of the sort `k`, from the table.
-    pub fn size(&self, k: usize) -> usize
-        requires { k < 4096 }
-        ensures { SizeHas self.now.index.now k result }
-    {
-        size_at(self.index, k)
-    }
-
-    // The tree size of the sort of a record that is over the store: 1 and the sizes of its references.
-    pub fn tree_size(&self, rec: &[u8]) -> usize
-        requires { TreeAsks self.now.index.now rec.now }
-        ensures { TreeHas self.now.index.now rec.now result }
-    {
-        tree_size(self.index, rec)
     }
 }

@@ -4,11 +4,13 @@ use Prim.Native.Nat.{ℕ, zero, suc, ◌+◌, ◌*◌, ◌-◌, ◌≤◌, ◌<�
 use mathlib.Core.Path.{◌≡◌, refl, sym, ap, ap₂, subst, ◌∙◌}
 use mathlib.Core.List.{List, ◌∷◌, ◌++◌}
 use native.Mathlib.Omega.{arith}
-use lib.ListN.{length, take, drop, replicate, length-drop, length-replicate}
+use lib.ListN.{length, get_or, take, drop, replicate, length-drop, length-replicate}
 use lib.Seq.{ext_get_or, get_or-drop, get_or-take, length-take-le}
 use Rattle.record.specs.Sort.{Sort, size}
+use Rattle.record.specs.Record.{leaf}
+use Rattle.record.specs.Codec.{size-read}
 use Rattle.record.specs.Store.{padded, store_bytes, store_places}
-use Rattle.record.specs.Decode.{store_of, sort_at, Stored, Zeros}
+use Rattle.record.specs.Decode.{fields_at, store_of, sort_at, Stored, Zeros}
 use Rattle.record.specs.StoreLaws.{store_of-length}
 use Rattle.reader.specs.declared.Refusal.{Refusal}
 use Rattle.sheet.specs.Sheet.{Lengths, Sheet, Reading, TermFields, QuestionFields, read_sheet}
@@ -67,12 +69,16 @@ judged-by s l r e = ap (judged_sheet smt_lib l) e
 
 -- A good store is read back.
 reads-good : {b p ix : List ℕ} {n u : ℕ} → Good b p ix n u → (st : List Sort) → store_of b p n ≡ st → Reads b p st
+unfolding sort_at
 reads-good {b} {p} {ix} {n} {u} g st e =
     let c : n ≡ length st = sym (store_of-length b p n) ∙ ap length e in
     record {
       stored = subst (λ (m : ℕ). Stored b p m) c g.stored;
       back = subst (λ (m : ℕ). store_of b p m ≡ st) c e;
       small = subst (λ (m : ℕ). (k : ℕ) → k < m → size (sort_at b p m k) ≤ 4096) c g.sized.small;
+      sizes = λ k l.
+          size-read (size (sort_at b p n k)) (fields_at b (get_or p k 0)) b (get_or p k 0) (g.sized.each k (omega (arith, c))).stands
+          ∙ ap (λ (x : List Sort). size (get_or x k leaf)) e;
     }
 
 -- The promise for a judgement that is known.

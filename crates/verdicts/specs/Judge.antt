@@ -1,8 +1,9 @@
 -- What the entry point promises: its outcome, and the four lent buffers at exit over their whole length, are those of `judged`.
-use Rattle.std.specs.Prelude.{ℕ, ◌≤◌, ◌<◌, ◌≡◌, refl, List, length, replicate, Result, Ok, Err, ⊤}
+use Rattle.std.specs.Prelude.{ℕ, ◌≤◌, ◌<◌, ◌≡◌, refl, List, length, get_or, replicate, Result, Ok, Err, ⊤}
 use Rattle.std.proofs.Common.{ap, ◌∙◌}
 use Rattle.record.specs.Sort.{Sort, size}
-use Rattle.record.specs.Decode.{store_of, sort_at, Stored}
+use Rattle.record.specs.Record.{leaf}
+use Rattle.record.specs.Decode.{size_at, store_of, sort_at, Stored}
 use Rattle.reader.specs.Reader.{refusal_number}
 use Rattle.reader.specs.declared.Refusal.{Refusal}
 use Rattle.sheet.specs.Sheet.{Lengths}
@@ -34,11 +35,13 @@ abbrev pub number_of_outcome : Outcome → ℕ
 number_of_outcome (Ok u) = 0
 number_of_outcome (Err e) = refusal_number e
 
--- THE STORE IS READ BACK: the records at the places are well formed, they are the sorts st, and no tree passes 4,096.
+-- THE STORE IS READ BACK: the records at the places are well formed, they are the sorts st, no tree passes 4,096, and each record
+-- carries the tree size of its sort.
 pub record Reads (b p : List ℕ) (st : List Sort) : Type 0 where
   pub stored : Stored b p (length st)
   pub back : store_of b p (length st) ≡ st
   pub small : (k : ℕ) → k < length st → size (sort_at b p (length st) k) ≤ 4096
+  pub sizes : (k : ℕ) → k < length st → size_at b (get_or p k 0) ≡ size (get_or st k leaf)
 
 abbrev pub ReadsBack : Judgement → List ℕ → List ℕ → Type 0
 ReadsBack (sheet_refused e) b p = Unit {0}

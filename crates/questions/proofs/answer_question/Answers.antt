@@ -1,11 +1,19 @@
 -- Each kind is one case of the definition.
 -- The tables of names are those that were lent.
-use mathlib.Core.Path.{ap, refl}
+use Rattle.std.proofs.Common.{◌+◌, ◌*◌, ◌≡◌, arith, ap, refl}
 use Rattle.record.specs.Kinds.{question_number}
 use Rattle.row_answer.specs.Answer.{answer}
 use Rattle.row_answer.specs.AnswerLaws.{answer-code}
 use Rattle.questions.proofs.WordLaws.{pair-asked, answered-0, answered-1, answered-2}
 use Rattle.questions.proofs.answer_question.Goals as goal
+
+pub sort_at-p-requires : goal.sort_at-p-requires
+sort_at-p-requires c =
+    let q = c.args.question in
+    let h = c.requires.asked in
+    let two = c.requires.two (ap question_number c.in-Compatible.is) in
+    let first : q.list.at + 2 * 0 ≡ q.list.at = omega arith in
+    record { within = omega (arith, h.within, two); inside = rw first at (h.inside 0 (omega (arith, two))) }
 
 pub answer_compatible-requires : goal.answer_compatible-requires
 answer_compatible-requires c =

@@ -6,7 +6,7 @@ use Rattle.verdicts.proofs.JudgeLaws.{accepted-ask, accepted-moved, refused-is, 
 use Rattle.verdicts.proofs.judge_cleared.Goals as goal
 
 pub read_sheet-read-requires-clause-empty : goal.read_sheet-read-requires-clause-empty
-read_sheet-read-requires-clause-empty c = zeros-all 13312
+read_sheet-read-requires-clause-empty c = zeros-all 9216
 
 pub judge_accepted-requires : goal.judge_accepted-requires
 judge_accepted-requires c =

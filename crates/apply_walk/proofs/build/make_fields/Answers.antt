@@ -1,13 +1,13 @@
 -- The record is the one of these fields, and interning it interns their sort.
 use Rattle.std.proofs.Common.{◌∙◌}
-use Rattle.apply_walk.proofs.MakeLaws.{make-fit, make-tree, make-intern, make-made}
+use Rattle.apply_walk.proofs.MakeLaws.{make-fit, rec-fresh, make-intern, make-made}
 use Rattle.apply_walk.proofs.build.make_fields.Goals as goal
 
 pub put_fields-requires-clause-fit : goal.put_fields-requires-clause-fit
 put_fields-requires-clause-fit c = make-fit c.requires
 
 pub tree_size-weight-requires : goal.tree_size-weight-requires
-tree_size-weight-requires c = make-tree c.requires (c.as_slice-record.ensures.value ∙ c.put_fields.ensures)
+tree_size-weight-requires c = rec-fresh c.requires (c.as_slice-record.ensures.value ∙ c.put_fields.ensures)
 
 pub intern-requires : goal.intern-requires
 intern-requires c = make-intern c.requires (c.as_slice-record.ensures.value ∙ c.put_fields.ensures) c.tree_size-weight.result c.tree_size-weight.ensures

@@ -2,10 +2,18 @@
 use Rattle.std.proofs.Common.{◌≡◌, ◌&&◌, eqb, eqb-true, ap, ◌∙◌, arith}
 use Rattle.record.specs.Decode.{sort_at}
 use Rattle.record.specs.Sort.{kind_of}
+use Rattle.store.specs.Walk.{entry-asks}
 use Rattle.check_operator.proofs.ArgumentLaws.{arg-below}
 use Rattle.check_operator.proofs.FitLaws.{fit-over, and_then, and_else, concat-fits, concat-small}
 use Rattle.check_operator.proofs.op.fit_concat.Goals as goal
 use Rattle.check_operator.proofs.op.fit_concat.Goals.{then-is_kind, else-is_kind}
+
+pub entry-requires-2 : goal.entry-requires-2
+entry-requires-2 c =
+    let z = c.args.entries in
+    let o = c.requires.args.over in
+    let two = eqb-true c.args.args.now.count 2 c.requires.counted in
+    entry-asks z.records.now z.places.now c.requires.args.many c.number-b.result o.stored (arg-below o 1 (omega (arith, two)) c.number-b.ensures.value)
 
 pub overflow_add-entry : goal.overflow_add-entry
 overflow_add-entry c =

@@ -15,7 +15,7 @@ kinds-put : {s ys zs kinds kinds' : List ℕ} {n : ℕ} → KindsPut s zs n kind
 kinds-put h e = rw e at h
 
 pub read_sheet-read-requires-clause-empty : goal.read_sheet-read-requires-clause-empty
-read_sheet-read-requires-clause-empty c = zeros-all 13312
+read_sheet-read-requires-clause-empty c = zeros-all 9216
 
 pub put_kinds-requires : goal.put_kinds-requires
 put_kinds-requires c =

@@ -17,11 +17,16 @@ walked : (c : After-each)
     × NoteTable (ParlessAt c.args.sorts.now.records.now c.args.sorts.now.places.now c.args.sorts.now.count) c.each.new.seen.slots
 walked c = found-by (parless-tests [] []) (λ r k q one has says. search rules) c.requires.noted c.args.k c.each.ensures
 
-pub returns-then-size_at-eq1-clause-answer : goal.returns-then-size_at-eq1-clause-answer
-returns-then-size_at-eq1-clause-answer c = eq-eqb c.size_at.result 1 c.if-size_at-eq1.true ∙ leaf-parless c.requires.asked c.size_at.ensures c.if-size_at-eq1.true
+pub returns-then-size-eq1-clause-answer : goal.returns-then-size-eq1-clause-answer
+returns-then-size-eq1-clause-answer c =
+    let s = c.args.sorts.now in
+    let a = c.requires.asked in
+    let is = rw (c.entries.ensures.records, c.entries.ensures.places) at c.size.ensures in
+    eq-eqb c.size.result 1 c.if-size-eq1.true
+    ∙ leaf-parless (sort_at s.records.now s.places.now s.count c.args.k) is c.if-size-eq1.true
 
-pub returns-else-size_at-eq1-clause-answer : goal.returns-else-size_at-eq1-clause-answer
-returns-else-size_at-eq1-clause-answer c = (walked c).0
+pub returns-else-size-eq1-clause-answer : goal.returns-else-size-eq1-clause-answer
+returns-else-size-eq1-clause-answer c = (walked c).0
 
-pub returns-else-size_at-eq1-clause-noted : goal.returns-else-size_at-eq1-clause-noted
-returns-else-size_at-eq1-clause-noted c = (walked c).1
+pub returns-else-size-eq1-clause-noted : goal.returns-else-size-eq1-clause-noted
+returns-else-size-eq1-clause-noted c = (walked c).1

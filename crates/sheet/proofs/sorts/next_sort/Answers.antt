@@ -2,7 +2,7 @@
 -- The record over store numbers stands for the same sort as the sheet's record over the sheet's sorts.
 use Rattle.std.proofs.Common.{arith}
 use Rattle.std.proofs.lemmas.Result.{err_from_is_err_and}
-use Prim.Native.Nat.{◌-◌}
+use Prim.Native.Nat.{◌+◌, ◌*◌, ◌-◌}
 use mathlib.Core.Path.{sym, ◌∙◌}
 use lib.Seq.{length-take-le}
 use Rattle.sheet.proofs.SortLaws.{translate-asks, add-asks, next-is, next-refused}
@@ -12,9 +12,17 @@ use Rattle.sheet.proofs.sorts.next_sort.Goals.{In_ok-sort}
 
 -- What writing the record that was read over store numbers needs.
 asks : (c : In_ok-sort)
-    → TranslateAsks c.args.s.now c.args.cursor.at c.in_ok-sort.after.at c.in_ok-sort.sort.parts.at c.in_ok-sort.sort.parts.count c.args.table.now c.args.scratch.now
+    → TranslateAsks c.args.s.now c.args.cursor.at (c.in_ok-sort.sort.fields.names.at + 2 * c.in_ok-sort.sort.fields.names.count) c.in_ok-sort.sort.fields.parts.at c.in_ok-sort.sort.fields.parts.count c.args.table.now c.args.scratch.now
 asks c = let a = c.args in
     translate-asks a.s.now (λ j. omega (arith, c.type_inv.s j)) a.cursor.at c.requires _ _ (sym c.sort.ensures ∙ c.in_ok-sort.was)
+
+pub overflow_mul-end : goal.overflow_mul-end
+overflow_mul-end c = let ta = asks (goal.at.overflow_mul-end c).In_ok-sort in
+    omega (arith, ta.within)
+
+pub overflow_add-end : goal.overflow_add-end
+overflow_add-end c = let ta = asks (goal.at.overflow_add-end c).In_ok-sort in
+    omega (arith, ta.within)
 
 pub translate-requires : goal.translate-requires
 translate-requires c = asks (goal.at.translate-requires c).In_ok-sort
@@ -29,7 +37,7 @@ slice_bounds-add_sort-end c = let ta = asks (goal.at.slice_bounds-add_sort-end c
 
 pub slice_bounds-add_sort-length : goal.slice_bounds-add_sort-length
 slice_bounds-add_sort-length c = let ta = asks (goal.at.slice_bounds-add_sort-length c).In_ok-sort in
-    sym (length-take-le (c.in_ok-sort.after.at - c.args.cursor.at) c.translate.new.rec (omega (arith, ta.ends, ta.room, c.translate.ensures.long)))
+    sym (length-take-le (c.in_ok-sort.sort.fields.names.at + 2 * c.in_ok-sort.sort.fields.names.count - c.args.cursor.at) c.translate.new.rec (omega (arith, ta.ends, ta.room, c.translate.ensures.long)))
 
 pub add_sort-requires : goal.add_sort-requires
 add_sort-requires c = let a = c.args in

@@ -1,5 +1,5 @@
--- The first bytes of `rec` are the record with store numbers for its references.
--- The record is copied whole, and its references are written anew where they stand.
+-- The first bytes of `rec` are the record with store numbers for its references, and no size.
+-- The fields are copied whole, bit 128 is taken off the map, and the references are written anew where they stand.
 use Rattle.sheet.proofs.TranslateLaws.{translate-mid, translate-end}
 use Rattle.sheet.proofs.sorts.translate.Goals as goal
 

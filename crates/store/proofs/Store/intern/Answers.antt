@@ -3,7 +3,7 @@
 use Rattle.std.proofs.Common.{refl}
 use Rattle.std.proofs.lemmas.Result.{err_from_is_err_and}
 use Rattle.store.specs.Good.{good-short}
-use Rattle.store.proofs.InternLaws.{intern-searched, slot-low, found-holds, made_holds, full-means}
+use Rattle.store.proofs.InternLaws.{intern-searched, rec-plain, slot-low, found-holds, made_holds, full-means}
 use Rattle.store.proofs.Store.intern.Goals as goal
 
 pub push-requires : goal.push-requires
@@ -14,6 +14,8 @@ push-requires c = let s = c.args.self.now in
       short = good-short s.records.now s.places.now s.index.now s.count s.used c.requires.good;
       table = c.requires.good.indexed.table;
       count = c.requires.good.indexed.count;
+      some = (rec-plain c.requires).0;
+      plain = (rec-plain c.requires).1;
       weight = c.requires.small;
       slot = slot-low c.requires none;
     }

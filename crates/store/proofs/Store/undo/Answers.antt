@@ -9,23 +9,19 @@ pub returns-then-count-from-clause-undone : goal.returns-then-count-from-clause-
 returns-then-count-from-clause-undone c = (undo-none c.requires c.if-count-from.true, omega (arith, c.requires.order, c.if-count-from.true))
 
 pub invariant_of-self-2 : goal.invariant_of-self-2
-invariant_of-self-2 c = let i = c.requires.good.indexed in
-    let some = c.if-count-from.false in
+invariant_of-self-2 c = let some = c.if-count-from.false in
     let is =
     undo-cut c.requires some
     (part-cleared (c.fill.ensures.after (λ y e. e)) refl (undo-room c.requires some))
     (part-cleared (c.fill-2.ensures.after (λ y e. e)) refl (undo-wide c.requires some))
-    c.cut_slots.ensures
-    (part-cleared (c.fill-3.ensures.after (λ y e. e)) (omega arith) (omega (arith, c.cut_slots.ensures.long, some, i.table, i.count))) in
+    c.cut_slots.ensures in
     record { good = is.cut.good }
 
 pub returns-clause-undone : goal.returns-clause-undone
-returns-clause-undone c = let i = c.requires.good.indexed in
-    let some = c.if-count-from.false in (
-      undo-cut c.requires some
-          (part-cleared (c.fill.ensures.after (λ y e. e)) refl (undo-room c.requires some))
-          (part-cleared (c.fill-2.ensures.after (λ y e. e)) refl (undo-wide c.requires some))
-          c.cut_slots.ensures
-          (part-cleared (c.fill-3.ensures.after (λ y e. e)) (omega arith) (omega (arith, c.cut_slots.ensures.long, some, i.table, i.count))),
-      refl,
-    )
+returns-clause-undone c = let some = c.if-count-from.false in (
+  undo-cut c.requires some
+      (part-cleared (c.fill.ensures.after (λ y e. e)) refl (undo-room c.requires some))
+      (part-cleared (c.fill-2.ensures.after (λ y e. e)) refl (undo-wide c.requires some))
+      c.cut_slots.ensures,
+  refl,
+)

@@ -12,7 +12,7 @@ use Rattle.apply_walk.specs.KnownLaws.{weighed-is, weighed-set}
 use Rattle.apply_walk.proofs.SizeLaws.{sum-start, sum-asks, sum_more, sum-end, size-image, size-leaf, sizes-asks, size-falls, size-whole}
 use Rattle.apply_walk.proofs.replacing.Replacing.+applied_size_applied_sizes.Goals as goal
 
-asked : (r : Replacing) {k : ℕ} → k < r.count → SizeAsks r.entries.records.now r.entries.places.now r.index.now r.count k r.images.now
+asked : (r : Replacing) {k : ℕ} → k < r.count → SizeAsks r.entries.records.now r.entries.places.now r.count r.used k r.images.now
 asked r h = record { reading = r.reading; known = h }
 
 pub applied_size-returns-in-Some : goal.applied_size-returns-in-Some
@@ -22,7 +22,7 @@ applied_size-returns-in-Some t c =
 
 pub applied_size-returns-then-eq : goal.applied_size-returns-then-eq
 applied_size-returns-then-eq t c =
-    record { is = size-image (asked c.args.self.now c.requires.known) c.entry-e.result c.entry-e.ensures (search rules) c.image_of-i.ensures c.size_at.result c.size_at.ensures; weighed = c.requires.weighed }
+    record { is = size-image (asked c.args.self.now c.requires.known) c.entry-e.result c.entry-e.ensures (search rules) c.image_of-i.ensures c.size.ensures; weighed = c.requires.weighed }
 
 pub applied_size-returns-then-e-eq0 : goal.applied_size-returns-then-e-eq0
 applied_size-returns-then-e-eq0 t c =

@@ -16,4 +16,4 @@ abbrev pub decreases-applied_sizes : goal.decreases-applied_sizes
 decreases-applied_sizes l = 2 * sizes (sorts_of (store_of l.self.now.entries.records.now l.self.now.entries.places.now l.self.now.count) (numbers_at l.self.now.entries.records.now l.parts.at l.parts.count)) + 1
 
 abbrev pub invariant-applied_sizes-loop-k : goal.invariant-applied_sizes-loop-k
-invariant-applied_sizes-loop-k l = WeighInv l.self.entries.records.now l.self.entries.places.now l.self.index.now l.self.count l.self.images.now (numbers_at l.self.entries.records.now l.fn.parts.at l.fn.parts.count) (numbers_left l.k-iterator) l.weighed l.sum
+invariant-applied_sizes-loop-k l = WeighInv l.self.entries.records.now l.self.entries.places.now l.self.count l.self.used l.self.images.now (numbers_at l.self.entries.records.now l.fn.parts.at l.fn.parts.count) (numbers_left l.k-iterator) l.weighed l.sum
