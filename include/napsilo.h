@@ -26,8 +26,9 @@ extern "C" {
 #define NAPSILO_SHEET 65536
 
 /*
- * Lengths of the four buffers, in entries, that are enough for every sheet: with these no sheet is refused with 8 or 10. The
- * program lends the same, so that rows and answers are those that it prints.
+ * Lengths of the four buffers, in entries, that the program lends, so that rows and answers are those that it prints. With these no
+ * sheet is refused with 8, and with 10 only one of more than 61,446 bytes: in the store each sort takes two bytes more than on a sheet
+ * that does not say its tree size.
  */
 #define NAPSILO_RECORDS 65536
 #define NAPSILO_PLACES 4096
@@ -65,10 +66,11 @@ extern "C" {
  *    8  fewer rows than two a term or fewer answers than questions are lent
  *    9  a sort's tree size is over 4,096
  *   10  the store cannot hold the sheet's sorts
+ *   34  the tree size that a sort record says is not the sort's
  * Nothing else is returned.
  *
  * Accepted, T terms and Q questions:
- *   records  the store: the record of each distinct sort once, back to back
+ *   records  the store: the record of each distinct sort once, with its tree size (bit 128, two bytes at its end), back to back
  *   places   where each of these records starts
  *   rows     of term k the inferred row at 2k and the checked row at 2k + 1
  *   answers  of question k the answer at k; of a question for compatibility 1 or 0, which is no store number

@@ -12,7 +12,7 @@ import struct
 import subprocess
 import sys
 
-from sheets import APP, APPLY, COMPATIBLE, FUN, INTEGER, LEAF, MATCH, OP, PAR, SET, TUPLE, TVAR, VAR, sheet, u16
+from sheets import APP, APPLY, COMPATIBLE, FUN, INTEGER, LEAF, MATCH, OP, PAR, SET, SIZED, TUPLE, TVAR, VAR, sheet, u16
 
 TOP = os.path.join(os.path.dirname(os.path.abspath(__file__)), "..")
 WIDTH, PAGE = 36, 60
@@ -154,10 +154,22 @@ def below():
 
 
 def full():
-    """A sheet of nearly 65,536 bytes, so that the answer of an App finds no room in the store."""
+    """A sheet whose sorts nearly fill the store, 136 bytes each but for the first ones, so that the answer of an App finds no room."""
     sorts = [LEAF(4), VAR(1), TUPLE(*[1] * 64), FUN(1, 2), PAR([1], 3)]
-    sorts += [PAR(range(i, i + 64), 0) for i in range(2, 489)]
+    sorts += [PAR(range(i, i + 64), 0) for i in range(2, 482)]
     return sheet(sorts, [TVAR(1, 4), INTEGER(0), APP(0, 1), TVAR(2, 5), APP(2, 1)])
+
+
+def over(names):
+    """Sorts that fill the program's store but for what a Par of so many names takes: with 54 to the last byte, with one more it is too much."""
+    sorts = [LEAF(4)] + [PAR(range(i, i + 64), 0) for i in range(1, 482)] + [PAR(range(names), 0)]
+    return sheet(sorts, [INTEGER(7), LEAF(1)])
+
+
+def sized(right):
+    """Sorts with their tree sizes written and without, a variable of each; the last size is right or is not."""
+    sorts = [LEAF(4), SIZED(LEAF(4), 1), SIZED(TUPLE(0, 1, 1), 4), SET(2), SIZED(PAR([1, 2], 3), 6), SIZED(FUN(2, 4), 11 if right else 10)]
+    return sheet(sorts, [TVAR(1, sort) for sort in range(len(sorts))])
 
 
 def made():
@@ -183,6 +195,10 @@ def made():
     yield lengths([28996], False)
     yield below()
     yield full()
+    yield over(54)
+    yield over(55)
+    yield sized(True)
+    yield sized(False)
     # As many terms as a sheet holds.
     yield ints(4096)
 

@@ -27,6 +27,8 @@ SET = lambda r: bytes([17, 14]) + items([r])
 ARRAY = lambda a, b: bytes([17, 8]) + items([a, b])
 TUPLE = lambda *l: bytes([17, 15]) + items(l)
 BV = lambda w: bytes([5, 9]) + struct.pack("<I", w)
+# A sort record with this tree size written.
+SIZED = lambda record, size: bytes([record[0] | 128]) + record[1:] + u16(size)
 
 # terms
 INTEGER = lambda v: bytes([5, 0]) + struct.pack("<I", v)
@@ -42,7 +44,7 @@ MATCH = lambda p, t, r, names: bytes([81, 1]) + items([p, t, r]) + items(names)
 APPLY = lambda s, names, images: bytes([81, 2]) + items([s] + images) + items(names)
 
 
-# The store's hash (crates/store/src/hashes.rt): two halves of 32 bits, a step for each two bytes. Its products are undone by UNLOW and UNHIGH.
+# The store's hash (crates/store/src/hashes.rt), over the record without its size: two halves of 32 bits, a step for each two bytes. Its products are undone by UNLOW and UNHIGH.
 MASK = 0xFFFFFFFF
 LOW, HIGH = 1640531527, 1540483477
 UNLOW, UNHIGH = pow(LOW, -1, 1 << 32), pow(HIGH, -1, 1 << 32)

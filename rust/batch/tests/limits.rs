@@ -193,7 +193,7 @@ fn more_sorts_than_a_sheet_holds() {
     }
 }
 
-/// A head whose result is this long a chain of Pars with 64 names each, of which each takes 134 bytes in the store.
+/// A head whose result is this long a chain of Pars with 64 names each, of which each takes 136 bytes in the store.
 fn great_head(batch: &mut Batch, length: usize) -> BatchTerm {
     let names: Vec<_> = (0..64).map(|number| batch.name(&format!("a{number}"))).collect();
     let b = batch.name("b");
@@ -263,6 +263,24 @@ fn room() {
     assert_eq!(verdicts.inferred(other), Err(Refused::Row(Cause::Full)));
     assert_eq!(verdicts.inferred(above), BELOW);
     assert!(verdicts.inferred(fine).is_ok());
+}
+
+#[test]
+fn sorts_that_a_sheet_holds_and_its_store_does_not() {
+    // Chains of Pars with 64 names: 134 bytes each on the sheet, 136 in the store. Two of 243 fit one sheet, whose store cannot hold them.
+    let Start { mut batch, int, bool, .. } = start();
+    let names: Vec<_> = (0..64).map(|number| batch.name(&format!("a{number}"))).collect();
+    let mut chain = |leaf: BatchSort, length: usize| {
+        (0..length).fold(leaf, |part, _| batch.sort(&SortNode::Par(names.clone(), part)))
+    };
+    let chains = [chain(int, 243), chain(bool, 243)];
+    let longer = chain(int, 487);
+    let name = batch.name("y");
+    let [one, two, over] = [chains[0], chains[1], longer].map(|sort| batch.term(TermNode::Var(name, sort)));
+    let barred = Err(Refused::Row(Cause::Barred));
+    assert_rows(&mut batch, &[(one, [Ok(chains[0]), barred]), (two, [Ok(chains[1]), barred])]);
+    // Alone on a sheet it is refused as that sheet is.
+    assert_rows(&mut batch, &[(over, [Err(Refused::Sheet(Refusal::Store)); 2])]);
 }
 
 #[test]

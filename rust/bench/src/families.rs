@@ -383,7 +383,7 @@ fn applications(most: usize, seed: u64) -> Vec<u8> {
 }
 
 /// Parametric functions over elements (pools 0 to 7), sets of them (8 to 15) and arrays of them (16 to 23).
-fn parametric(most: usize, seed: u64) -> Vec<u8> {
+pub fn parametric(most: usize, seed: u64) -> Vec<u8> {
     let mut make = Make::new(most, seed);
     let kinds = if most < 64 { 1 } else { 8 };
     let mut elements = vec![make.sort(SortRecord::Int)];

@@ -33,7 +33,8 @@ mod system;
 
 use beside::Trial;
 use beside::random::Random;
-use families::FAMILIES;
+use compare::sizes;
+use families::{FAMILIES, parametric};
 use measure::in_turn;
 use napsilo::{Lent, judge_into};
 use pool::Decoded;
@@ -83,6 +84,11 @@ fn cases() -> Vec<Case> {
         ("worst: 4,000 Bools, 1,900 sorts in one bucket", special::collisions(1_900, 4_000)),
         ("worst: 1 Bool, 2,047 sorts in one bucket", special::collisions(2_047, 1)),
         ("worst: 20 heads give 4,033 nodes, 2,000 sorts in one bucket", special::great_collisions(20)),
+        ("480 sorts of 64 parts", special::wide_sorts()),
+        ("240 lambdas of 63 bindings", special::wide_lambdas()),
+        ("parametric applications, 4,096 terms, sizes written", sizes::all(&parametric(4_096, 1))),
+        ("480 sorts of 64 parts, sizes written", sizes::all(&special::wide_sorts())),
+        ("worst: 1 Bool, 2,047 sorts in one bucket, sizes written", sizes::all(&special::collisions(2_047, 1))),
         ("an empty sheet", vec![0; 6]),
     ] {
         cases.push(Case::new(name, sheet));
@@ -188,10 +194,18 @@ fn measure_turns(object: &str, runs: usize, text: &str) -> Option<()> {
     println!("| case | other, least | median | this, least | median | by least | by median |");
     println!("|---|---|---|---|---|---|---|");
     for case in cases().into_iter().filter(|case| case.name.contains(text)) {
+        // Another build's store may have other bytes, and it may refuse what is newer than it is.
+        let mut refused = false;
         for sheet in &case.sheets {
             let (mut theirs, mut ours) = (Buffers::new(case.lent), Buffers::new(case.lent));
-            assert_eq!(other.judge(sheet, &mut theirs), judge(sheet, &mut ours));
-            assert!(theirs == ours, "{}: other buffers", case.name);
+            refused |= other.judge(sheet, &mut theirs) != 0;
+            assert_eq!(judge(sheet, &mut ours), 0);
+            let same = theirs.rows == ours.rows && theirs.answers == ours.answers;
+            assert!(refused || same, "{}: other rows or answers", case.name);
+        }
+        if refused {
+            println!("| {} | refused | | | | | |", case.name);
+            continue;
         }
         let mut before = judging(&case, |sheet, buffers| other.judge(sheet, buffers));
         let (before, after) = in_turn(runs, &mut *before, &mut *library(&case));

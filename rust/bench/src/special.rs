@@ -1,7 +1,7 @@
 //! Other sheets: small ones, deep and wide sorts, questions, and what is worst for the library.
 
 use crate::families::{FAMILIES, Make};
-use napsilo::{Name, Operator, QuestionRecord, SortId, SortRecord, TermId, TermRecord};
+use napsilo::{Binder, Name, Operator, QuestionRecord, SortId, SortRecord, TermId, TermRecord};
 
 /// The seed of these sheets.
 const SEED: u64 = 5;
@@ -13,6 +13,41 @@ const PARAMETER: Name = Name::new(1);
 pub fn small(count: u64) -> Vec<Vec<u8>> {
     let families = FAMILIES.iter().cycle();
     (0..count).zip(families).map(|(seed, (_, family))| family(8, seed)).collect()
+}
+
+/// Adds small sorts of several kinds: leaves, arrays and tuples of them, and Pars over these.
+fn small_sorts(make: &mut Make) -> Vec<SortId> {
+    let leaves: Vec<SortId> = (1..=6).map(|width| make.sort(SortRecord::BitVec(width))).collect();
+    let mut all = leaves.clone();
+    for leaf in leaves {
+        let array = make.sort(SortRecord::Array(leaf, all[0]));
+        let tuple = make.sort(SortRecord::Tuple(&[leaf, array]));
+        all.extend([array, tuple, make.sort(SortRecord::Par(&[PARAMETER, Name::new(2)], tuple))]);
+    }
+    all
+}
+
+/// Sorts alone: tuples of 64 small sorts, whose sizes the library sums for each.
+pub fn wide_sorts() -> Vec<u8> {
+    let mut make = Make::new(0, SEED);
+    let small = small_sorts(&mut make);
+    for _ in 0..480 {
+        let parts: Vec<SortId> = (0..64).map(|_| *make.random.of(&small)).collect();
+        make.sort(SortRecord::Tuple(&parts));
+    }
+    make.sheet.finish().into_bytes()
+}
+
+/// Lambdas of 63 bindings, of which each has a function sort of 64 parts that is new in the store.
+pub fn wide_lambdas() -> Vec<u8> {
+    let mut make = Make::new(0, SEED);
+    let sorts: Vec<SortId> = (1..=16).map(|width| make.sort(SortRecord::BitVec(width))).collect();
+    let body = make.var(sorts[0]);
+    for _ in 0..240 {
+        let bindings: Vec<(Name, SortId)> = (1..64).map(|name| (Name::new(name), *make.random.of(&sorts))).collect();
+        make.term(TermRecord::Binder(Binder::Lambda, &bindings, body));
+    }
+    make.sheet.finish().into_bytes()
 }
 
 /// A chain of singletons: the sort of the last term is nested so deeply.

@@ -5,7 +5,7 @@
 //! text and one of its pages are asked for twice in the same way.
 
 use crate::random::Random;
-use crate::{Difference, Writer, differ, lengths};
+use crate::{ByNumber, Difference, Writer, differ, lengths};
 use compare::random::{Source, lent, sheet};
 use napsilo::{Lent, PAGE_LINE, Refusal, judge_into, page_into, print_into};
 
@@ -105,11 +105,11 @@ impl Piece {
 }
 
 /// Judges so many small random sheets, each with lent lengths round what it needs; how many of them have each number.
-pub fn on_small(sheets: usize, seed: u64) -> Result<[usize; 11], Difference> {
+pub fn on_small(sheets: usize, seed: u64) -> Result<ByNumber, Difference> {
     let (mut random, mut source) = (Random::new(seed), Source::new(seed));
     // Numbers of its own, so that the sheets of a seed do not depend on what is asked of their texts.
     let mut of_text = Random::new(!seed);
-    let mut numbers = [0; 11];
+    let mut numbers = ByNumber::default();
     let mut judged = 0;
     while judged < sheets {
         let sheet = sheet(&mut source).into_boxed_slice();

@@ -137,7 +137,9 @@ fn guarded(arguments: &[String]) -> ExitCode {
     let sheets = usize::try_from(number(0, 1_000)).expect("64 bits");
     match oracle::on_stack(|| beside::guarded::on_small(sheets, number(1, 1))) {
         Ok(numbers) => {
-            println!("{sheets} sheets, by number from 0 to 10: {numbers:?}\nno difference");
+            let met = numbers.iter().enumerate().filter(|(_, count)| **count != 0);
+            let met: Vec<String> = met.map(|(number, count)| format!("{number}: {count}")).collect();
+            println!("{sheets} sheets, by number: {}\nno difference", met.join(", "));
             ExitCode::SUCCESS
         }
         Err(difference) => {
@@ -168,13 +170,21 @@ fn explain(arguments: &[String]) -> ExitCode {
     }
 }
 
-/// A random sheet: one in 500 fills the store, one in 50 has great sorts, one in 20 applications that were there before.
+/// A random sheet: one in 500 fills the store, one in 500 its bytes, one in 50 has great sorts, one in 50 sorts past the limit and a wrong tree
+/// size, one in 20 applications that were there before. In three of ten tree sizes are written, and a wrong one in one of ten.
 fn random_sheet(random: &mut Random, at: u64) -> Vec<u8> {
-    match at % 500 {
+    let sheet = match at % 500 {
         0 => make::crowded(random),
+        250 => make::heavy(random),
         by if by % 50 == 1 => make::large(random),
+        by if by % 50 == 26 => make::over(random),
         by if by % 20 == 2 => make::repeated(random),
         _ => make::sheet(random),
+    };
+    match random.under(10) {
+        0..3 => make::sized(random, &sheet),
+        3 => make::wrong(random, &sheet),
+        _ => sheet,
     }
 }
 

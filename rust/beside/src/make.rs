@@ -4,6 +4,7 @@
 //! arguments by their sorts. What the library says steers the making only; every sheet is compared as a whole afterwards.
 
 use crate::random::Random;
+use compare::sizes;
 use napsilo::{
     Binder, Name, Operator, ParamOperator, QualifiedOperator, QuestionRecord, SheetWriter, Sort, SortId, SortRecord,
     TermId, TermRecord,
@@ -83,15 +84,59 @@ pub fn crowded(random: &mut Random) -> Vec<u8> {
     sheet.finish().into_bytes()
 }
 
+/// A sheet whose sort records nearly fill it: with two bytes more for each, the store cannot hold them all, or just not what the terms need.
+pub fn heavy(random: &mut Random) -> Vec<u8> {
+    const FITS: &str = "under the limits";
+    let mut sheet = SheetWriter::new();
+    let [int, bool] = [SortRecord::Int, SortRecord::Bool].map(|sort| sheet.add_sort(sort).expect(FITS));
+    // Each takes 134 bytes on the sheet and 136 in the store, which has room for 481.
+    for first in 0..470 + u16::try_from(random.under(17)).expect("few") {
+        let names: Vec<Name> = (first..first + 64).map(Name::new).collect();
+        sheet.add_sort(SortRecord::Par(&names, int)).expect(FITS);
+    }
+    let leaf = sheet.add_term(TermRecord::Var(Name::new(1), bool)).expect(FITS);
+    let mut last = leaf;
+    for _ in 0..random.under(10) {
+        let term = match random.under(3) {
+            0 => TermRecord::Op(Operator::SetSingleton, &[last]),
+            1 => TermRecord::Op(Operator::Tuple, &[leaf, last, leaf]),
+            _ => TermRecord::Binder(Binder::Lambda, &[(Name::new(2), bool)], last),
+        };
+        last = sheet.add_term(term).expect(FITS);
+    }
+    sheet.finish().into_bytes()
+}
+
+/// A copy of a sheet with tree sizes in some of its sort records; now and then a wrong one, one cut short, or one where none may stand.
+pub fn sized(random: &mut Random, sheet: &[u8]) -> Vec<u8> {
+    sizes::some(sheet, &mut |bound| random.under(bound))
+}
+
+/// A copy of a sheet with one wrong tree size.
+pub fn wrong(random: &mut Random, sheet: &[u8]) -> Vec<u8> {
+    sizes::wrong(sheet, &mut |bound| random.under(bound))
+}
+
 /// A sheet with sorts of great tree sizes, some of them or of what is made of them past the limit.
 pub fn large(random: &mut Random) -> Vec<u8> {
+    let most = *random.of(&[1_500, 2_100, 4_096, 4_096, 4_200]);
+    up_to(random, most)
+}
+
+/// A sheet like these on which mostly some sort is past the limit, and one sort has a wrong tree size.
+pub fn over(random: &mut Random) -> Vec<u8> {
+    let sheet = up_to(random, 9_000);
+    wrong(random, &sheet)
+}
+
+/// A sheet with sorts of tree sizes up to this one.
+fn up_to(random: &mut Random, most: usize) -> Vec<u8> {
     let mut sheet = SheetWriter::new();
     let name = Name::new(1);
     let mut add = |sort: SortRecord<'_>| sheet.add_sort(sort).expect("under the limits");
     let var = add(SortRecord::Var(name));
     let int = add(SortRecord::Int);
     let mut sorts = vec![(var, 1), (int, 1)];
-    let most = *random.of(&[1_500, 2_100, 4_096, 4_096, 4_200]);
     let mut size = 1;
     while sorts.len() < 40 {
         let (last, of_last) = sorts[sorts.len() - 1];

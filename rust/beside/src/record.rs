@@ -60,6 +60,9 @@ impl Recorder {
                 0 => sheet(&mut self.source),
                 _ => make::sheet(&mut self.random),
             };
+            if self.made % 2 == 1 && self.random.percent(50) {
+                sheet = make::sized(&mut self.random, &sheet);
+            }
             if self.random.percent(20) && !sheet.is_empty() {
                 sheet = make::damaged(&mut self.random, &sheet);
             }

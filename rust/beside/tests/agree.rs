@@ -16,11 +16,19 @@ fn library_model_and_carcara_agree() {
             trial.sheet(&sheet, &mut random, 2)?;
             let damaged = make::damaged(&mut random, &sheet);
             trial.sheet(&damaged, &mut random, 1)?;
+            let sized = make::sized(&mut random, &sheet);
+            trial.sheet(&sized, &mut random, 1)?;
+            let wrong = make::wrong(&mut random, &sheet);
+            trial.sheet(&wrong, &mut random, 2)?;
         }
         Ok(())
     });
     println!("{}", trial.summary());
     assert_eq!(done, Ok::<(), String>(()));
+    // A written size is wrong, cut short, or stands where none may.
+    assert!([34, 3, 4].iter().all(|number| trial.sheets[*number] > 0));
+    // With little room a wrong one is told, or a sort before it without room.
+    assert!([34, 10].iter().all(|number| trial.lent[*number] > 0));
     // Each cause is met, and enough terms fit.
     assert!(trial.checked[0] * 3 > trial.checked.iter().sum());
     for number in [20, 21] {
@@ -43,6 +51,36 @@ fn shown<T: Debug + Display>(operators: &[T]) -> Vec<(String, String)> {
 /// The names of the cases alone.
 fn named<T: Debug>(operators: &[T]) -> Vec<String> {
     operators.iter().map(|operator| format!("{operator:?}")).collect()
+}
+
+#[test]
+fn sorts_past_the_limit_with_sizes() {
+    let mut trial = Trial::default();
+    let mut random = Random::new(9);
+    let done = oracle::on_stack(|| {
+        (0..60).try_for_each(|_| {
+            let sheet = make::over(&mut random);
+            trial.sheet(&sheet, &mut random, 1)
+        })
+    });
+    println!("{}", trial.summary());
+    assert_eq!(done, Ok::<(), String>(()));
+    assert!(trial.sheets[9] > 10 && trial.sheets[34] > 10);
+}
+
+#[test]
+fn a_store_that_is_nearly_full() {
+    let mut trial = Trial::default();
+    let mut random = Random::new(34);
+    let done = oracle::on_stack(|| {
+        (0..12).try_for_each(|_| {
+            let sheet = make::heavy(&mut random);
+            trial.sheet(&sheet, &mut random, 0)
+        })
+    });
+    println!("{}", trial.summary());
+    assert_eq!(done, Ok::<(), String>(()));
+    assert!(trial.sheets[0] > 0 && trial.sheets[10] > 0);
 }
 
 #[test]

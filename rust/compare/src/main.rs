@@ -54,7 +54,7 @@ fn agree(sheets: u64, seed: u64, program: Option<&Path>) -> io::Result<bool> {
     let mut counts = Counts { differences: counts.differences, ..Counts::default() };
     let mut source = Source::new(seed);
     for _ in 0..sheets {
-        counts.compare(&random::sheet(&mut source), program)?;
+        counts.compare(&random::sheet_or_wrong(&mut source), program)?;
     }
     println!("Random sheets:\n{}", counts.summary());
     for difference in counts.differences.iter().take(10) {
@@ -68,7 +68,7 @@ fn pages(sheets: u64, seed: u64, program: &Path) -> io::Result<bool> {
     let mut all = Vec::new();
     sweep::sheets(&mut |sheet| all.push(sheet.to_vec()));
     let mut source = Source::new(seed);
-    let random = std::iter::repeat_with(|| random::sheet(&mut source)).zip(0..sheets);
+    let random = std::iter::repeat_with(|| random::sheet_or_wrong(&mut source)).zip(0..sheets);
     let mut compared = 0;
     for sheet in all.into_iter().chain(random.map(|(sheet, _)| sheet)) {
         if let Some(difference) = compare_pages(&sheet, program)? {
@@ -99,7 +99,7 @@ fn write_program(sheets: u64, seed: u64) -> io::Result<()> {
     let mut out = BufWriter::new(io::stdout().lock());
     let mut source = Source::new(seed);
     for _ in 0..sheets {
-        vectors::printout(&mut out, &random::sheet(&mut source))?;
+        vectors::printout(&mut out, &random::sheet_or_wrong(&mut source))?;
     }
     out.flush()
 }
@@ -109,7 +109,7 @@ fn write_library(sheets: u64, seed: u64) -> io::Result<()> {
     let mut out = BufWriter::new(io::stdout().lock());
     let mut source = Source::new(seed);
     for _ in 0..sheets {
-        let sheet = random::sheet(&mut source);
+        let sheet = random::sheet_or_wrong(&mut source);
         let lent = random::lent(&mut source, &sheet);
         vectors::buffers(&mut out, &sheet, lent)?;
     }

@@ -1,5 +1,6 @@
-//! Random sheets: general ones, ones about parametric functions and matching, and broken ones.
+//! Random sheets: general ones, ones about parametric functions and matching, some of both with tree sizes written, and broken ones.
 
+use crate::sizes;
 use crate::writer::{Fields, Writer};
 use model::reader::{self, Lent};
 
@@ -75,6 +76,9 @@ pub fn sheet(source: &mut Source) -> Vec<u8> {
         false => parametric(source),
     };
     let mut bytes = writer.bytes();
+    if source.chance(30) {
+        bytes = sizes::some(&bytes, &mut |bound| source.under(bound));
+    }
     match source.under(100) {
         0..4 => bytes.truncate(source.under(bytes.len() + 1)),
         4..16 => {
@@ -88,6 +92,15 @@ pub fn sheet(source: &mut Source) -> Vec<u8> {
         _ => (),
     }
     bytes
+}
+
+/// A random sheet as [`sheet`] makes them, one in eight with a wrong tree size.
+pub fn sheet_or_wrong(source: &mut Source) -> Vec<u8> {
+    let sheet = sheet(source);
+    match source.under(8) {
+        0 => sizes::wrong(&sheet, &mut |bound| source.under(bound)),
+        _ => sheet,
+    }
 }
 
 /// Adds random questions about the sorts of a sheet.
@@ -289,7 +302,8 @@ pub fn lent(source: &mut Source, sheet: &[u8]) -> [usize; 4] {
         return [records, places, 2 * count(2), count(4)];
     };
     let judged = model::judge(sheet, all.records, all.places, all.rows, all.answers);
-    let bytes = judged.records.iter().rposition(|byte| *byte != 0).map_or(0, |last| last + 1);
+    // A store ends in a size, whose high byte is mostly 0.
+    let bytes = judged.records.iter().rposition(|byte| *byte != 0).map_or(0, |last| last + 2);
     let sorts = judged.places.iter().rposition(|place| *place != 0).map_or(1, |last| last + 1);
     let room = |source: &mut Source, least: usize, needed: usize| match source.under(20) {
         0 => source.from(0, least),

@@ -21,7 +21,7 @@ fn on_random_sheets() {
         let mut counts = Counts::default();
         let mut source = Source::new(1);
         for _ in 0..4_000 {
-            let sheet = random::sheet(&mut source);
+            let sheet = random::sheet_or_wrong(&mut source);
             counts.compare(&sheet, None).expect("no program is run");
         }
         counts

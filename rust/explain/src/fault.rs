@@ -9,6 +9,10 @@ use std::fmt;
 /// The length of the header.
 const HEADER: usize = 6;
 
+/// The fields of a record: the bit of the map, the bytes that it has in any case, and the bytes of each entry where the first one counts them.
+const FIELDS: [(u8, usize, usize); 8] =
+    [(1, 1, 0), (2, 2, 0), (4, 4, 0), (8, 2, 0), (16, 1, 2), (32, 1, 4), (64, 1, 2), (128, 2, 0)];
+
 /// The parts of a sheet: what a record of it is called, and how many there may be.
 const PARTS: [(&str, usize); 3] = [("sort", MOST_SORTS), ("term", MOST_TERMS), ("question", MOST_QUESTIONS)];
 
@@ -46,7 +50,7 @@ fn counts(sheet: &[u8]) -> [usize; 3] {
 fn behind(sheet: &[u8], at: usize) -> Option<usize> {
     let map = *sheet.get(at)?;
     let mut at = at + 1;
-    for (bit, fixed, entry) in [(1, 1, 0), (2, 2, 0), (4, 4, 0), (8, 2, 0), (16, 1, 2), (32, 1, 4), (64, 1, 2)] {
+    for (bit, fixed, entry) in FIELDS {
         if map & bit != 0 {
             let count = if entry == 0 { 0 } else { usize::from(*sheet.get(at)?) };
             at += fixed + count * entry;
@@ -162,6 +166,21 @@ mod tests {
             assert_eq!(fault(&sheet[..at]), place, "without a map");
             assert_eq!(fault(&sheet[..at + 1]), place, "without a kind");
         });
+    }
+
+    #[test]
+    fn records_with_their_sizes() {
+        // Int, a set of it and a term, the size of the set being right, wrong and cut short.
+        let sheet = |size: &[u8], behind: &[u8]| {
+            let sorts = [129, 4, 1, 0, 145, 14, 1, 0, 0];
+            [&[2, 0, 1, 0, 0, 0], sorts.as_slice(), size, behind].concat()
+        };
+        let set = Place::Record { part: "sort", number: 1, at: 10 };
+        assert_eq!(fault(&sheet(&[3, 0], &[1, 1])), set);
+        assert_eq!(fault(&sheet(&[2], &[])), set);
+        assert_eq!(fault(&sheet(&[2, 0], &[1, 99])), Place::Record { part: "term", number: 0, at: 17 });
+        assert_eq!(fault(&sheet(&[2, 0], &[129, 1, 1, 0])), Place::Record { part: "term", number: 0, at: 17 });
+        assert_eq!(fault(&sheet(&[2, 0], &[1, 1, 1])), Place::Behind { at: 19, length: 20 });
     }
 
     #[test]

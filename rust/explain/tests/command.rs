@@ -148,6 +148,9 @@ fn refused_sheets_say_why_and_where() {
     assert_eq!(why("00 00 01 00 00 00 01"), told(3, "a record runs past the end: term 0, which starts at byte 6"));
     let reference = "01 00 01 00 00 00 01 04 0b 05 01 00 01 00";
     assert_eq!(why(reference), told(6, "a reference is not to an earlier record: term 0, which starts at byte 8"));
+    let size = "02 00 00 00 00 00 81 04 01 00 91 0e 01 00 00 03 00";
+    let words = "a tree size that is written in a sort record is not the sort's: sort 1, which starts at byte 10";
+    assert_eq!(why(size), told(34, words));
     assert_eq!(why("00 00 00 00 00 00 00"), told(7, "bytes stand after the last record: from byte 6 on, of 7"));
     let longest = vec![0; 70_000];
     assert_eq!(said(&run(&[], &longest[..65_537])), told(1, "the sheet is under 6 or over 65,536 bytes: it is longer"));

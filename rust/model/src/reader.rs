@@ -1,8 +1,10 @@
 //! Sheets: the reader and the order of its refusals.
 //!
 //! A sheet's length comes first (1), then the counts (2), then the lent rows and answers (8), then the records one after the other (3 to 6,
-//! and after each sort record 9 and 10), then the end (7). Of a record: the map byte (3), its lowest bit (4), the kind byte (3), kind and
+//! and after each sort record 9, 34 and 10), then the end (7). Of a record: the map byte (3), its lowest bit (4), the kind byte (3), kind and
 //! map (4); then each field by itself: all its bytes (3), its length, number or names (5), its references (6).
+//!
+//! A sort record may have its tree size written, under bit 128 and last among its fields; it is held to the tree and used for nothing else.
 
 use crate::sort::{KINDS, LARGEST, LONGEST, Sort, Tree};
 use crate::store::Store;
@@ -31,6 +33,8 @@ pub enum Refusal {
     Tree = 9,
     /// The store can't hold the sorts.
     Store = 10,
+    /// A written tree size is not the sort's.
+    Written = 34,
 }
 
 /// The lengths of the lent buffers.
@@ -83,7 +87,7 @@ pub struct Sheet {
     pub questions: Vec<Question>,
 }
 
-/// The map of each kind of sort.
+/// The map of each kind of sort, without the bit of the tree size.
 pub const SORT_MAPS: [u8; 16] = [17, 19, 3, 1, 1, 1, 1, 1, 17, 5, 1, 19, 81, 1, 17, 17];
 
 /// The map of each kind of term.
@@ -106,6 +110,8 @@ pub mod field {
     pub const PAIRS: u8 = 32;
     /// The second list.
     pub const SECOND: u8 = 64;
+    /// The tree size, of a sort record alone.
+    pub const SIZE: u8 = 128;
 }
 
 /// What is read so far.
@@ -174,12 +180,12 @@ impl<'a> Cursor<'a> {
         Ok(number)
     }
 
-    /// A record's map and kind.
-    fn head(&mut self, maps: &[u8]) -> Result<(u8, u8), Refusal> {
+    /// A record's map and kind. The map is the kind's; of the bits in `free` any may stand beside it.
+    fn head(&mut self, maps: &[u8], free: u8) -> Result<(u8, u8), Refusal> {
         let map = self.byte()?;
         expect(map % 2 == 1, Refusal::Map)?;
         let kind = self.byte()?;
-        expect(maps.get(usize::from(kind)) == Some(&map), Refusal::Map)?;
+        expect(maps.get(usize::from(kind)) == Some(&(map & !free)), Refusal::Map)?;
         Ok((map, kind))
     }
 }
@@ -215,8 +221,9 @@ pub fn read(sheet: &[u8], lent: &Lent) -> Result<(Sheet, Store), Refusal> {
     let mut store = Store::new(lent.records, lent.places);
     let mut sorts: Vec<Tree> = Vec::new();
     for _ in 0..sort_count {
-        let sort = sort(&mut cursor, &sorts)?;
+        let (sort, written) = sort(&mut cursor, &sorts)?;
         expect(sort.size() <= LARGEST, Refusal::Tree)?;
+        expect(written.is_none_or(|size| u64::from(size) == sort.size()), Refusal::Written)?;
         store.put(&sort).ok_or(Refusal::Store)?;
         sorts.push(sort);
     }
@@ -232,9 +239,9 @@ pub fn read(sheet: &[u8], lent: &Lent) -> Result<(Sheet, Store), Refusal> {
     Ok((Sheet { terms, questions }, store))
 }
 
-/// Reads a sort record.
-fn sort(cursor: &mut Cursor, sorts: &[Tree]) -> Result<Tree, Refusal> {
-    let (map, kind) = cursor.head(&SORT_MAPS)?;
+/// Reads a sort record: the sort, and the tree size that is written if one is.
+fn sort(cursor: &mut Cursor, sorts: &[Tree]) -> Result<(Tree, Option<u16>), Refusal> {
+    let (map, kind) = cursor.head(&SORT_MAPS, field::SIZE)?;
     let (mut name, mut width, mut parts, mut names) = (0, 0, Vec::new(), Vec::new());
     if map & field::NAME != 0 {
         name = cursor.short()?;
@@ -253,13 +260,17 @@ fn sort(cursor: &mut Cursor, sorts: &[Tree]) -> Result<Tree, Refusal> {
     if map & field::SECOND != 0 {
         names = cursor.distinct(|count| count >= 1)?;
     }
+    let mut written = None;
+    if map & field::SIZE != 0 {
+        written = Some(cursor.short()?);
+    }
     let parts = parts.into_iter().map(|number| sorts[number].clone()).collect();
-    Ok(Sort::new(KINDS[usize::from(kind)], name, width.into(), parts, names))
+    Ok((Sort::new(KINDS[usize::from(kind)], name, width.into(), parts, names), written))
 }
 
 /// Reads the term record with this number.
 fn term(cursor: &mut Cursor, own: usize, sorts: &[Tree]) -> Result<Term, Refusal> {
-    let (map, kind) = cursor.head(&TERM_MAPS)?;
+    let (map, kind) = cursor.head(&TERM_MAPS, 0)?;
     let mut term = Term { kind, number: 0, sort: None, list: Vec::new(), bindings: Vec::new(), indices: Vec::new() };
     if map & field::NAME != 0 {
         cursor.short()?;
@@ -302,7 +313,7 @@ fn term(cursor: &mut Cursor, own: usize, sorts: &[Tree]) -> Result<Term, Refusal
 
 /// Reads a question.
 fn question(cursor: &mut Cursor, sorts: &[Tree]) -> Result<Question, Refusal> {
-    let (map, kind) = cursor.head(&QUESTION_MAPS)?;
+    let (map, kind) = cursor.head(&QUESTION_MAPS, 0)?;
     let allowed = |count| match kind {
         0 => count == 2,
         1 => count == 3,

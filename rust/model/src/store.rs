@@ -1,4 +1,4 @@
-//! The store: each distinct sort once, as records back to back.
+//! The store: each distinct sort once, as records back to back, each with its tree size.
 
 use crate::reader::{SORT_MAPS, field};
 use crate::sort::{Sort, Tree};
@@ -79,7 +79,7 @@ impl Store {
 /// The record of a sort whose parts have these store numbers.
 fn record(sort: &Sort, parts: &[u16]) -> Vec<u8> {
     let kind = sort.kind as u8;
-    let map = SORT_MAPS[usize::from(kind)];
+    let map = SORT_MAPS[usize::from(kind)] | field::SIZE;
     let mut record = vec![map, kind];
     if map & field::NAME != 0 {
         record.extend(sort.name.to_le_bytes());
@@ -94,6 +94,8 @@ fn record(sort: &Sort, parts: &[u16]) -> Vec<u8> {
     if map & field::SECOND != 0 {
         list(&mut record, &sort.names);
     }
+    let size = u16::try_from(sort.size()).expect("a tree size within its limit");
+    record.extend(size.to_le_bytes());
     record
 }
 

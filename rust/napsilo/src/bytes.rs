@@ -25,6 +25,8 @@ pub struct Record {
     pub pairs: Vec<(u16, u16)>,
     /// The second list.
     pub second: Vec<u16>,
+    /// The tree size that is written in a sort record, if one is.
+    pub size: Option<u16>,
 }
 
 /// The records of a sheet, part by part.
@@ -86,6 +88,9 @@ impl Bytes<'_> {
         if map & 64 != 0 {
             record.second = self.list()?;
         }
+        if map & 128 != 0 {
+            record.size = Some(self.short()?);
+        }
         Some(record)
     }
 }
@@ -108,18 +113,26 @@ pub fn trees(records: &[Record]) -> Option<Vec<Arc<Sort>>> {
     Some(sorts)
 }
 
-/// The sorts of the store: records back to back, their offsets in the places, zeros behind in both.
+/// The sorts of the store: records back to back, each with its tree size, their offsets in the places, zeros behind in both.
 pub fn store(records: &[u8], places: &[u32]) -> Option<Vec<Arc<Sort>>> {
     let mut bytes = Bytes(records);
     let mut sorts: Vec<Arc<Sort>> = Vec::new();
+    let mut sizes: Vec<u16> = Vec::new();
     // A record's bit map is not 0.
     while bytes.0.first().is_some_and(|map| *map != 0) {
         let offset = records.len() - bytes.0.len();
         if usize::try_from(*places.get(sorts.len())?).ok()? != offset {
             return None;
         }
-        let sort = sort(&bytes.record()?, &sorts)?;
+        let record = bytes.record()?;
+        let sort = sort(&record, &sorts)?;
+        let part = |number: &u16| sizes.get(usize::from(*number)).copied();
+        let size = record.list.iter().try_fold(1_u16, |sum, number| sum.checked_add(part(number)?))?;
+        if record.size != Some(size) {
+            return None;
+        }
         sorts.push(Arc::new(sort));
+        sizes.push(size);
     }
     let behind = bytes.0.iter().all(|byte| *byte == 0);
     let unused = places[sorts.len()..].iter().all(|place| *place == 0);
@@ -156,4 +169,36 @@ fn sort(record: &Record, earlier: &[Arc<Sort>]) -> Option<Sort> {
         15 => Sort::Tuple(parts()?),
         _ => return None,
     })
+}
+
+#[cfg(test)]
+mod tests {
+    use super::*;
+
+    /// The records of Int and of a set of it, with this size of the set, and two zeros.
+    fn of_set(size: u8) -> Vec<u8> {
+        vec![129, 4, 1, 0, 145, 14, 1, 0, 0, size, 0, 0, 0]
+    }
+
+    #[test]
+    fn a_store_has_right_sizes() {
+        let sorts = store(&of_set(2), &[0, 4, 0]).expect("it is a store");
+        assert_eq!(sorts.iter().map(ToString::to_string).collect::<Vec<_>>(), ["Int", "(Set Int)"]);
+        for wrong in [0, 1, 3, 255] {
+            assert_eq!(store(&of_set(wrong), &[0, 4, 0]), None);
+        }
+        // A record without its size, a place that is not the record's, a size that is cut off, a list where the kind has none.
+        assert_eq!(store(&[1, 4, 0], &[0]), None);
+        assert_eq!(store(&of_set(2), &[0, 5, 0]), None);
+        assert_eq!(store(&of_set(2)[..10], &[0, 4]), None);
+        assert_eq!(store(&[145, 4, 1, 7, 0, 1, 0], &[0]), None);
+    }
+
+    #[test]
+    fn records_are_read_with_and_without_sizes() {
+        let sheet = [2, 0, 0, 0, 0, 0, 129, 4, 1, 0, 17, 14, 1, 0, 0];
+        let read = records(&sheet).expect("all records are there");
+        assert_eq!(read.sorts.iter().map(|sort| sort.size).collect::<Vec<_>>(), [Some(1), None]);
+        assert_eq!(records(&sheet[..9]), None);
+    }
 }

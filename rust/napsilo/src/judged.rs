@@ -19,7 +19,8 @@ pub struct Lent {
 }
 
 impl Lent {
-    /// What the program lends: enough for every sheet, so that 8 and 10 do not happen.
+    /// What the program lends: enough rows and answers for every sheet, so that 8 does not happen. Each sort takes two bytes more in the
+    /// store than in a record without its size, so 10 happens only to a sheet of more than 61,446 bytes.
     pub const PROGRAM: Lent = Lent { records: 65_536, places: 4_096, rows: 8_192, answers: 1_024 };
 }
 

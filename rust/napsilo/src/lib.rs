@@ -59,11 +59,12 @@
 //! # The parts of this crate
 //!
 //! - [`SheetWriter`] builds a sheet. It refuses exactly what the library's reader would refuse for a count, a length, a number, a name or
-//!   a reference ([`WriteError`]). [`SheetWriter::sort`] and [`SheetWriter::term`] add equal ones once.
+//!   a reference ([`WriteError`]). [`SheetWriter::sort`] and [`SheetWriter::term`] add equal ones once. [`SheetWriter::write_sizes`] has it write
+//!   the tree size in each sort record that follows, for the library to test.
 //! - [`SortId`], [`TermId`] and [`QuestionId`] belong to the writer that gave them and to its sheets. Another writer, and the judgement of
 //!   another sheet ([`ForeignId`]), refuse them.
 //! - [`judge`], [`judge_with`] and [`judge_into`] call the library: with the program's buffers, with buffers of other lengths, into
-//!   buffers of the caller's. A sheet is [`Judged`] or refused ([`Refusal`], 1 to 10); a row is a [`Sort`] or refused ([`Cause`], 20 to 29).
+//!   buffers of the caller's. A sheet is [`Judged`] or refused ([`Refusal`], 1 to 10 and 34); a row is a [`Sort`] or refused ([`Cause`], 20 to 29).
 //!   They run on the caller's stack and start no thread; [`STACK`] bytes are enough for every sheet.
 //! - [`Judged::explain`] says why a checked row is refused, and [`Judged::explain_inferred`] why an inferred one is: the term that is refused
 //!   for its own sake, the argument, its sort and the sort that was asked for ([`Explanation`]).

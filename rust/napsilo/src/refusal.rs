@@ -53,7 +53,7 @@ macro_rules! refusals {
 }
 
 refusals! {
-    /// Why a whole sheet is refused (1 to 10).
+    /// Why a whole sheet is refused (1 to 10, and 34).
     Refusal {
         Length = 1, "the sheet is under 6 or over 65,536 bytes";
         Header = 2, "a count of the header is over its limit";
@@ -65,6 +65,7 @@ refusals! {
         Lent = 8, "fewer rows than two a term or fewer answers than questions are lent";
         TreeSize = 9, "a sort's tree size is over 4,096";
         Store = 10, "the store cannot hold the sheet's sorts";
+        WrittenSize = 34, "a tree size that is written in a sort record is not the sort's";
     }
 }
 

@@ -81,8 +81,8 @@ fn taken(sheet: &[u8]) -> (usize, usize) {
     let judged = judge(sheet).unwrap();
     let records = run.records.look();
     let last = records.iter().rposition(|byte| *byte != 0);
-    // The last record may end in zeros; it has at most six of them here.
-    (last.map_or(0, |at| at + 7), judged.store().len())
+    // The last record ends in its size, whose high byte is 0 here.
+    (last.map_or(0, |at| at + 2), judged.store().len())
 }
 
 /// All that is promised of a run without a look at what the verdicts are.
@@ -124,6 +124,8 @@ fn sheets() -> Vec<Vec<u8>> {
         // A parametric head at an integer: 27.
         "040003000000 03020100 03020200 11000200000100 510c010200020100 0200
          0b0509000300 050007000000 11060200000100",
+        // Int and a set of it, with their sizes and without, and a variable of the set.
+        "040001000000 81040100 0104 910e0100000200 110e010100 0b0509000300",
     ]
     .map(bytes)
     .to_vec()
@@ -223,7 +225,7 @@ fn just_enough() {
 #[test]
 fn damaged_sheets() {
     let lent = Lent { records: 40, places: 5, rows: 8, answers: 3 };
-    let mut by_number = [0; 11];
+    let mut by_number = [0; 35];
     let mut count = |said: Result<(), Refusal>| {
         by_number[said.err().map_or(0, |refusal| refusal.number() as usize)] += 1;
     };
@@ -252,4 +254,6 @@ fn damaged_sheets() {
         assert_eq!(run.said, Err(Refusal::Trailing));
     }
     println!("by refusal, accepted first: {by_number:?}");
+    // A map with bit 128 has two bytes of what follows for a size.
+    assert!(by_number[34] > 0);
 }

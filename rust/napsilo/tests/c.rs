@@ -70,7 +70,7 @@ fn the_examples() {
         assert_eq!(done.status.code(), Some(i32::from(refused)), "{}", file.display());
         files += 1;
     }
-    assert_eq!(files, 3);
+    assert_eq!(files, 4);
 }
 
 #[test]
@@ -89,7 +89,7 @@ fn every_recorded_refusal_of_a_sheet() {
         assert_eq!(done.status.code(), Some(2));
         seen.push(vector.text.clone());
     }
-    assert_eq!(seen.len(), 8, "1 to 7 and 9: {seen:?}");
+    assert_eq!(seen.len(), 9, "1 to 7, 9 and 34: {seen:?}");
 }
 
 #[test]

@@ -291,7 +291,7 @@ fn limits() {
     let mut small = SheetWriter::new();
     let constant = small.add_term(TermRecord::Integer(1)).unwrap();
     let sum = small.add_term(TermRecord::Op(Operator::Equals, &[constant, constant])).unwrap();
-    let lent = Lent { records: 2, places: 1, ..Lent::PROGRAM };
+    let lent = Lent { records: 4, places: 1, ..Lent::PROGRAM };
     let judged = judge_with(&small.finish(), lent).unwrap();
     let text = |explanation: Option<Explanation>| explanation.unwrap().to_string();
     let reason = "T1 (= 1 1): the store cannot hold the answer's sorts";

@@ -1,4 +1,4 @@
-//! The writer refuses exactly what the reader refuses with 1, 2, 5 and 6.
+//! The writer refuses exactly what the reader refuses with 1, 2, 5 and 6, and the tree sizes that it writes are right.
 
 mod common;
 
@@ -69,6 +69,26 @@ fn refusal_of(error: WriteError) -> Option<Refusal> {
         WriteError::ForeignSort(_) | WriteError::ForeignTerm(_) => Some(Refusal::Reference),
         _ => error.refusal(),
     }
+}
+
+/// The tree size of a sort record by those of the sorts before it; what is not there counts 0, and what does not fit is the greatest number.
+fn tree_size(record: &[u8], sizes: &[u16]) -> u16 {
+    let has = |bit: u8, length: usize| if record[0] & bit != 0 { length } else { 0 };
+    let list = match record[0] & 16 {
+        0 => &[],
+        _ => &record[2 + has(2, 2) + has(4, 4)..],
+    };
+    let numbers =
+        list.get(1..).unwrap_or_default().chunks_exact(2).take(list.first().map_or(0, |count| (*count).into()));
+    let part = |pair: &[u8]| sizes.get(usize::from(u16::from_le_bytes([pair[0], pair[1]]))).copied().unwrap_or(0);
+    numbers.fold(1, |sum: u16, pair| sum.saturating_add(part(pair)))
+}
+
+/// A sort record with its tree size.
+fn with_size(mut record: Vec<u8>, size: u16) -> Vec<u8> {
+    record[0] |= 128;
+    record.extend(size.to_le_bytes());
+    record
 }
 
 /// A part of a sheet with a record to add to it.
@@ -292,11 +312,15 @@ impl Source {
 /// Random records, each of which the writer and the reader must see in the same way, behind those that both took.
 #[test]
 fn the_writer_refuses_what_the_reader_refuses() {
-    let mut counts = [0_usize; 11];
+    let mut counts = [0_usize; 35];
     for seed in 1..=60 {
         let mut source = Source { random: Random::new(seed), sorts: 0, terms: 0 };
         let (mut writer, mut raw) = (SheetWriter::new(), Raw::default());
+        let mut sizes = Vec::new();
         for _ in 0..60 {
+            // No sizes, sizes in all sort records, sizes in some.
+            let sized = [false, true, source.random.once_in(2)][usize::try_from(seed % 3).expect("small")];
+            writer.write_sizes(sized);
             let before = writer.clone();
             source.sorts = writer.sorts();
             source.terms = writer.terms();
@@ -306,7 +330,12 @@ fn the_writer_refuses_what_the_reader_refuses() {
                 _ => source.add_question(&mut writer),
             };
             let mut with = raw.clone();
-            with.parts[attempt.part].push(attempt.record);
+            let size = tree_size(&attempt.record, &sizes);
+            let record = match sized && attempt.part == 0 {
+                true => with_size(attempt.record, size),
+                false => attempt.record,
+            };
+            with.parts[attempt.part].push(record);
             let sheet = with.sheet();
             let read = outcome(&sheet);
             counts[read.err().map_or(0, |refusal| refusal.number() as usize)] += 1;
@@ -314,6 +343,9 @@ fn the_writer_refuses_what_the_reader_refuses() {
                 (Ok(()), Ok(())) => {
                     assert_eq!(hex(&writer.finish()), hex(&sheet));
                     raw = with;
+                    if attempt.part == 0 {
+                        sizes.push(size);
+                    }
                 }
                 // Tree sizes are the library's business; such a sort is taken back here.
                 (Ok(()), Err(Refusal::TreeSize)) => writer = before,
@@ -444,6 +476,63 @@ fn trees() {
     writer.sort(&wide).unwrap();
     assert_eq!(writer.sorts(), 3 + 99);
     assert_eq!(outcome(&writer.finish()), Err(Refusal::TreeSize));
+}
+
+#[test]
+fn sizes() {
+    let mut writer = SheetWriter::new();
+    let int = writer.add_sort(SortRecord::Int).unwrap();
+    writer.write_sizes(true);
+    let pair = writer.add_sort(SortRecord::Array(int, int)).unwrap();
+    // Names count nothing, and stand before the size.
+    let par = writer.add_sort(SortRecord::Par(&[n(1), n(2)], pair)).unwrap();
+    // A sort that is there is not added again, with its size or without.
+    assert_eq!(writer.sort(&Sort::Int), Ok(int));
+    writer.write_sizes(false);
+    let tree = Sort::Array(Arc::new(Sort::Int), Arc::new(Sort::Int));
+    assert_eq!(writer.sort(&tree), Ok(pair));
+    let set = writer.add_sort(SortRecord::Set(par)).unwrap();
+    writer.write_sizes(true);
+    writer.add_sort(SortRecord::Tuple(&[set, set, int])).unwrap();
+    let records = "0104 9108 02 0000 0000 0300 d10c 01 0100 02 0100 0200 0400 110e 01 0200 910f 03 0300 0300 0000 0c00";
+    let sheet = writer.finish();
+    assert_eq!(hex(&sheet), format!("050000000000{}", records.replace(' ', "")));
+    assert_eq!(outcome(&sheet), Ok(()));
+    // One that is not the sort's: the last one, more and less.
+    for wrong in [0x0b, 0x0d, 0] {
+        let mut other = sheet.to_vec();
+        let at = other.len() - 2;
+        other[at] = wrong;
+        assert_eq!(outcome(&other), Err(Refusal::WrittenSize));
+    }
+    // The store has them all, each distinct sort once, so the sheet with all sizes has its bytes.
+    let mut all = SheetWriter::new();
+    all.write_sizes(true);
+    all.sort(&tree).unwrap();
+    let mut records = vec![0; all.length() - 6];
+    napsilo::judge_into(&all.finish(), &mut records, &mut [0; 2], &mut [], &mut []).unwrap();
+    assert_eq!(hex(&records), hex(&all.finish()[6..]));
+    // A size counts for the length of a sheet.
+    let mut full = filled(MOST_BYTES - 3);
+    full.write_sizes(true);
+    assert_eq!(full.add_sort(SortRecord::Int), Err(WriteError::TooLong));
+    full.write_sizes(false);
+    assert!(full.add_sort(SortRecord::Int).is_ok());
+}
+
+#[test]
+fn sizes_past_the_limit() {
+    // 4,095 nodes, then 8,191, and on until no number of two bytes holds the size: 9 comes before the size.
+    let mut writer = SheetWriter::new();
+    writer.write_sizes(true);
+    let mut last = writer.add_sort(SortRecord::Int).unwrap();
+    for level in 1..30 {
+        last = writer.add_sort(SortRecord::Array(last, last)).unwrap();
+        let size = u16::try_from((2_u32 << level) - 1).unwrap_or(u16::MAX);
+        assert!(writer.finish().ends_with(&size.to_le_bytes()));
+        let expected = if level < 12 { Ok(()) } else { Err(Refusal::TreeSize) };
+        assert_eq!(outcome(&writer.finish()), expected);
+    }
 }
 
 #[test]

@@ -338,7 +338,7 @@ fn names_that_look_like_something_else() {
 
 #[test]
 fn numbers_of_refusals() {
-    for (number, refusal) in (1..=10).zip(Refusal::ALL) {
+    for (number, refusal) in (1..=10).chain([34]).zip(Refusal::ALL) {
         assert_eq!(refusal.number(), number);
         assert_eq!(Refusal::from_number(number), Some(*refusal));
     }
@@ -346,8 +346,10 @@ fn numbers_of_refusals() {
         assert_eq!(cause.number(), number);
         assert_eq!(Cause::from_number(number), Some(*cause));
     }
-    assert_eq!((Refusal::ALL.len(), Cause::ALL.len()), (10, 10));
-    assert_eq!(Refusal::from_number(11), None);
+    assert_eq!((Refusal::ALL.len(), Cause::ALL.len()), (11, 10));
+    assert_eq!((Refusal::from_number(11), Refusal::from_number(33)), (None, None));
     assert_eq!(Cause::from_number(19), None);
     assert_eq!(Cause::NoRank.to_string(), "24: the operator has no rank");
+    let written = "34: a tree size that is written in a sort record is not the sort's";
+    assert_eq!(Refusal::WrittenSize.to_string(), written);
 }

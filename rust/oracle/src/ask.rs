@@ -66,14 +66,16 @@ pub struct Built {
     sizes: Sizes,
 }
 
-/// Builds the sorts and terms of a sheet in a fresh pool; nothing if a sort of the sheet passes the greatest tree size.
+/// Builds the sorts and terms of a sheet in a fresh pool; nothing if a sort of the sheet passes the greatest tree size, or is written to have
+/// another one than it has.
 pub fn build(sheet: &Sheet) -> Option<Built> {
     let mut pool = Pool::new();
     let mut sizes = Sizes::new();
     let mut sorts: Vec<Rc<Sort>> = Vec::new();
     for record in &sheet.sorts {
         let sort = pool.add_sort(sort(record, &sorts, &name));
-        (size(&mut sizes, &sort) <= LARGEST).then_some(())?;
+        let size = size(&mut sizes, &sort);
+        (size <= LARGEST && record.size.is_none_or(|written| u64::from(written) == size)).then_some(())?;
         sorts.push(sort);
     }
     let mut terms: Vec<Option<Rc<Term>>> = Vec::new();
@@ -95,7 +97,7 @@ pub fn build(sheet: &Sheet) -> Option<Built> {
     Some(Built { pool, sorts, terms, rows, sizes })
 }
 
-/// Asks for all rows and answers of a sheet; nothing if a sort of the sheet passes the greatest tree size.
+/// Asks for all rows and answers of a sheet; nothing if a sort of the sheet passes the greatest tree size, or is written to have another one.
 pub fn ask(sheet: &Sheet) -> Option<Said> {
     let Built { mut pool, sorts, rows, mut sizes, .. } = build(sheet)?;
     let answers = sheet.questions.iter().map(|record| answer(record, &sorts, &mut pool, &mut sizes)).collect();

@@ -19,6 +19,8 @@ pub struct Record {
     pub pairs: Vec<(u16, u16)>,
     /// The second list: names, or numbers of terms.
     pub second: Vec<u16>,
+    /// The tree size that is written in a sort record, if one is.
+    pub size: Option<u16>,
 }
 
 /// The records of a sheet.
@@ -40,6 +42,9 @@ const TERM_MAPS: [u8; 13] = [5, 1, 1, 1, 5, 11, 17, 21, 53, 81, 17, 85, 29];
 
 /// Bit maps of the questions, by kind.
 const QUESTION_MAPS: [u8; 3] = [17, 81, 81];
+
+/// The bit of a written tree size, which sort records alone may have.
+const SIZE: u8 = 128;
 
 /// The longest list.
 pub const LONGEST: usize = 64;
@@ -79,11 +84,11 @@ impl Bytes<'_> {
         (0..count).map(|_| Some((self.short()?, self.short()?))).collect()
     }
 
-    /// A record whose bit map is its kind's.
-    fn record(&mut self, maps: &[u8]) -> Option<Record> {
+    /// A record whose bit map is its kind's; of the bits in `free` any may stand beside it.
+    fn record(&mut self, maps: &[u8], free: u8) -> Option<Record> {
         let map = self.byte()?;
         let mut record = Record { kind: self.byte()?, ..Record::default() };
-        (maps.get(usize::from(record.kind)) == Some(&map)).then_some(())?;
+        (maps.get(usize::from(record.kind)) == Some(&(map & !free))).then_some(())?;
         if map & 2 != 0 {
             record.name = self.short()?;
         }
@@ -101,6 +106,9 @@ impl Bytes<'_> {
         }
         if map & 64 != 0 {
             record.second = self.list()?;
+        }
+        if map & SIZE != 0 {
+            record.size = Some(self.short()?);
         }
         Some(record)
     }
@@ -156,7 +164,7 @@ fn question_stands(record: &Record, sorts: usize) -> bool {
     lengths && distinct(&record.second) && under(&record.list, sorts)
 }
 
-/// Reads a sheet; nothing if it is not well-formed. The tree sizes of its sorts are not judged here.
+/// Reads a sheet; nothing if it is not well-formed. The tree sizes of its sorts, and what is written of them, are not judged here.
 pub fn read(bytes: &[u8]) -> Option<Sheet> {
     (bytes.len() <= 65_536).then_some(())?;
     let mut bytes = Bytes(bytes);
@@ -165,17 +173,17 @@ pub fn read(bytes: &[u8]) -> Option<Sheet> {
     (sorts <= 2_048 && terms <= 4_096 && questions <= 1_024).then_some(())?;
     let mut sheet = Sheet::default();
     for own in 0..sorts {
-        let record = bytes.record(&SORT_MAPS)?;
+        let record = bytes.record(&SORT_MAPS, SIZE)?;
         sort_stands(&record, own).then_some(())?;
         sheet.sorts.push(record);
     }
     for own in 0..terms {
-        let record = bytes.record(&TERM_MAPS)?;
+        let record = bytes.record(&TERM_MAPS, 0)?;
         term_stands(&record, own, sorts).then_some(())?;
         sheet.terms.push(record);
     }
     for _ in 0..questions {
-        let record = bytes.record(&QUESTION_MAPS)?;
+        let record = bytes.record(&QUESTION_MAPS, 0)?;
         question_stands(&record, sorts).then_some(())?;
         sheet.questions.push(record);
     }

@@ -8,6 +8,9 @@ use crate::{Buffers, Printed, text};
 /// The page.
 const PAGE: &str = "docs/FORMAT.md";
 
+/// The example files that the page takes apart.
+pub const TAKEN_APART: [&str; 3] = ["examples/k1.sheet", "examples/session.sheet", "examples/sizes.sheet"];
+
 /// The lengths that the program lends: bytes of records, places, rows, answers.
 const PROGRAM: [usize; 4] = [65_536, 4_096, 8_192, 1_024];
 
@@ -108,7 +111,8 @@ pub fn all_numbers() -> Vec<Row> {
 
 /// The examples of the page with their printouts.
 pub fn printed() -> Vec<Printed> {
-    let mut all = vec![taken_apart("examples/k1.sheet"), taken_apart("examples/session.sheet"), every_kind(), texts()];
+    let mut all: Vec<Printed> = TAKEN_APART.map(taken_apart).to_vec();
+    all.extend([every_kind(), texts()]);
     for row in all_numbers() {
         if let [hex] = quoted(&row[3])[..] {
             let lines = one(&row[4]).split(" / ").map(|line| format!("{line}\n"));

@@ -1,11 +1,11 @@
 //! docs/FORMAT.md agrees with the example files and with itself. What its sheets give is tried by rust/model and rust/napsilo.
 
-use recorded::format::{all_numbers, every_kind, quoted, taken_apart};
+use recorded::format::{TAKEN_APART, all_numbers, every_kind, quoted, taken_apart};
 use recorded::{hex, read};
 
 #[test]
 fn the_sheets_taken_apart_are_the_files() {
-    for file in ["examples/k1.sheet", "examples/session.sheet"] {
+    for file in TAKEN_APART {
         assert_eq!(hex(&taken_apart(file).sheet), hex(&read(file)), "{file}");
     }
     assert_eq!(hex(&every_kind().sheet), hex(&read("examples/kinds.sheet")));
@@ -24,12 +24,12 @@ fn every_number_has_an_example_that_shows_it() {
         shown.push(number);
     }
     shown.dedup();
-    assert_eq!(shown, (1..=10).chain(20..=29).collect::<Vec<u32>>());
+    assert_eq!(shown, (1..=10).chain(20..=29).chain([34]).collect::<Vec<u32>>());
 }
 
 #[test]
 fn the_recorded_files_are_whole() {
-    assert!(recorded::printed().len() > 1_160);
-    assert!(recorded::buffers().len() > 221);
-    assert_eq!(recorded::paged().len(), 100);
+    assert!(recorded::printed().len() > 1_717);
+    assert!(recorded::buffers().len() > 240);
+    assert_eq!(recorded::paged().len(), 104);
 }

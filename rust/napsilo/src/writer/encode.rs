@@ -5,14 +5,35 @@ use crate::{GREATEST_WIDTH, Name, SortId, TermId};
 
 /// A record with what the reader would refuse it for: the first fault in the order of the fields.
 pub(super) struct Record {
+    /// The bytes without a written tree size.
     pub(super) bytes: Vec<u8>,
+    /// The tree size that is to be written in it, if one is.
+    pub(super) size: Option<u16>,
     pub(super) fault: Option<WriteError>,
 }
+
+/// The bit of a map for the tree size.
+const SIZE_BIT: u8 = 128;
 
 impl Record {
     /// A record with this bit map and kind.
     fn new(map: u8, kind: u8) -> Self {
-        Record { bytes: vec![map, kind], fault: None }
+        Record { bytes: vec![map, kind], size: None, fault: None }
+    }
+
+    /// The length on the sheet.
+    pub(super) fn length(&self) -> usize {
+        self.bytes.len() + self.size.map_or(0, |_| 2)
+    }
+
+    /// Adds the bytes to a sheet's: with a size its bit in the map, and the size last.
+    pub(super) fn put(&self, sheet: &mut Vec<u8>) {
+        let at = sheet.len();
+        sheet.extend(&self.bytes);
+        if let Some(size) = self.size {
+            sheet[at] |= SIZE_BIT;
+            sheet.extend(size.to_le_bytes());
+        }
     }
 
     /// Keeps a fault if it is the first.
@@ -71,8 +92,20 @@ impl SheetWriter {
         record.list(ids.iter().map(|id| id.number())).fault(self.no_term(ids.iter().copied()))
     }
 
-    /// The record of a sort.
+    /// The tree size of a sort over its parts. One that does not fit is the greatest number, which is over the limit as well.
+    pub(super) fn tree_size(&self, sort: SortRecord<'_>) -> u16 {
+        let size = |part: SortId| self.sizes.get(part.index()).copied().unwrap_or(0);
+        sort.parts().fold(1, |sum: u16, part| sum.saturating_add(size(part)))
+    }
+
+    /// The record of a sort, with its tree size if sizes are written.
     pub(super) fn sort_record(&self, sort: SortRecord<'_>) -> Record {
+        let size = self.sized.then(|| self.tree_size(sort));
+        Record { size, ..self.plain_record(sort) }
+    }
+
+    /// The record of a sort without its tree size.
+    fn plain_record(&self, sort: SortRecord<'_>) -> Record {
         let plain = |kind| Record::new(1, kind);
         let parts = |kind, ids| self.sort_list(Record::new(17, kind), ids);
         let named = |kind, name: Name, ids| self.sort_list(Record::new(19, kind).short(name.number()), ids);

@@ -20,7 +20,7 @@ const HEADER: usize = 6;
 ///
 /// Sorts, terms and questions may be added in turns; each part of the sheet keeps its order. A record that the reader would refuse (1, 2,
 /// 5 or 6) is not added, and the writer is left as it was. So a finished sheet is refused only for the tree size of a sort (9), or for
-/// what is lent (8, 10).
+/// what is lent (8, 10). Tree sizes that it writes are right, so 34 does not happen.
 ///
 /// The ids that it gives are its own: another writer and the judgement of another sheet refuse them. A copy ([`Clone`]) takes the ids that
 /// were given before it was made; what is added to either afterwards is its own.
@@ -28,6 +28,10 @@ const HEADER: usize = 6;
 pub struct SheetWriter {
     /// The records of each part.
     parts: [Part; 3],
+    /// The tree size of each sort, up to the greatest number.
+    sizes: Vec<u16>,
+    /// Whether the tree size is written in each sort record that follows.
+    sized: bool,
     /// Whose they are.
     origin: Origin,
 }
@@ -39,14 +43,14 @@ struct Part {
     count: u16,
     /// They themselves.
     bytes: Vec<u8>,
-    /// The number of the first record with these bytes; not kept for questions.
+    /// The number of the first record with these bytes, a written size apart; not kept for questions.
     known: HashMap<Vec<u8>, u16>,
 }
 
 impl Default for SheetWriter {
     /// A writer of a sheet without records.
     fn default() -> Self {
-        SheetWriter { parts: Default::default(), origin: Origin::new() }
+        SheetWriter { parts: Default::default(), sizes: Vec::new(), sized: false, origin: Origin::new() }
     }
 }
 
@@ -54,7 +58,8 @@ impl Clone for SheetWriter {
     /// A writer with the same records, which takes the ids given so far. It gives ids of its own.
     fn clone(&self) -> Self {
         let counts = self.parts.each_ref().map(|part| part.count);
-        SheetWriter { parts: self.parts.clone(), origin: self.origin.copied(counts) }
+        let (parts, sizes) = (self.parts.clone(), self.sizes.clone());
+        SheetWriter { parts, sizes, sized: self.sized, origin: self.origin.copied(counts) }
     }
 }
 
@@ -62,6 +67,14 @@ impl SheetWriter {
     /// A writer of a sheet without records.
     pub fn new() -> Self {
         Self::default()
+    }
+
+    /// Says whether the tree size is written in each sort record that follows, two bytes under bit 128. A new writer writes none.
+    ///
+    /// The library tests a written size, and every row is as without it. Sorts that were added before stay as they are, and equal sorts
+    /// are one also where one has its size and the other has not.
+    pub fn write_sizes(&mut self, written: bool) {
+        self.sized = written;
     }
 
     /// The number of sorts added.
@@ -103,8 +116,9 @@ impl SheetWriter {
 
     /// Adds a sort, also one that is there already.
     pub fn add_sort(&mut self, sort: SortRecord<'_>) -> Result<SortId, WriteError> {
-        let record = self.sort_record(sort);
+        let (record, size) = (self.sort_record(sort), self.tree_size(sort));
         let number = self.add(SORTS, record)?;
+        self.sizes.push(size);
         Ok(SortId::of(&self.origin, number))
     }
 
@@ -117,6 +131,7 @@ impl SheetWriter {
             part.count = before.0;
             part.bytes.truncate(before.1);
             part.known.retain(|_, number| *number < before.0);
+            self.sizes.truncate(usize::from(before.0));
         }
         added
     }
@@ -165,7 +180,7 @@ impl SheetWriter {
 
     /// Adds a record to a part, unless the reader would refuse it; gives its number.
     fn add(&mut self, part: usize, record: Record) -> Result<u16, WriteError> {
-        if self.length() + record.bytes.len() > MOST_BYTES {
+        if self.length() + record.length() > MOST_BYTES {
             return Err(WriteError::TooLong);
         }
         let (most, over) = [
@@ -183,7 +198,7 @@ impl SheetWriter {
         }
         let number = part.count;
         part.count += 1;
-        part.bytes.extend(&record.bytes);
+        record.put(&mut part.bytes);
         if keeps {
             part.known.entry(record.bytes).or_insert(number);
         }
@@ -193,8 +208,12 @@ impl SheetWriter {
     /// Adds a tree: the parts of each sort before it, from left to right.
     fn add_tree(&mut self, sort: &Sort) -> Result<SortId, WriteError> {
         try_fold(sort, |node, ids: &[SortId]| {
-            let record = self.sort_record(tree_record(node, ids));
+            let sort = tree_record(node, ids);
+            let (record, size) = (self.sort_record(sort), self.tree_size(sort));
             let number = self.add_once(SORTS, record)?;
+            if usize::from(number) == self.sizes.len() {
+                self.sizes.push(size);
+            }
             Ok(SortId::of(&self.origin, number))
         })
     }

@@ -39,6 +39,20 @@ pub enum SortRecord<'a> {
     Tuple(&'a [SortId]),
 }
 
+impl SortRecord<'_> {
+    /// The parts from left to right.
+    pub(super) fn parts(&self) -> impl Iterator<Item = SortId> {
+        let (first, second, list): (_, _, &[SortId]) = match *self {
+            SortRecord::Function(list) | SortRecord::Tuple(list) => (None, None, list),
+            SortRecord::Atom(_, list) | SortRecord::Datatype(_, list) => (None, None, list),
+            SortRecord::Array(index, element) => (Some(index), Some(element), &[]),
+            SortRecord::Par(_, part) | SortRecord::Set(part) => (Some(part), None, &[]),
+            _ => (None, None, &[]),
+        };
+        first.into_iter().chain(second).chain(list.iter().copied())
+    }
+}
+
 /// A term to be added to a sheet: its kind with its parts, which were added before.
 #[derive(Debug, Clone, Copy, PartialEq, Eq)]
 pub enum TermRecord<'a> {
