@@ -59,7 +59,7 @@ extern "C" {
  *    1  it is under 6 or over 65,536 bytes
  *    2  a count of the header is over its limit
  *    3  a record runs past the end
- *    4  no kind, an unknown kind, or a bit map that is not the kind's
+ *    4  no kind, an unknown kind, or a bit map that is not the kind's; bit 128 in a term or a question
  *    5  a list's length, a number or names that the kind does not take
  *    6  a reference to no earlier record
  *    7  bytes after the last record

@@ -53,33 +53,30 @@ fn named<T: Debug>(operators: &[T]) -> Vec<String> {
     operators.iter().map(|operator| format!("{operator:?}")).collect()
 }
 
-#[test]
-fn sorts_past_the_limit_with_sizes() {
+/// What came of so many sheets of a seed, each over the program's buffers and over `others` lent lengths; no difference.
+fn tried(seed: u64, count: usize, others: usize, make: fn(&mut Random) -> Vec<u8>) -> Trial {
     let mut trial = Trial::default();
-    let mut random = Random::new(9);
+    let mut random = Random::new(seed);
     let done = oracle::on_stack(|| {
-        (0..60).try_for_each(|_| {
-            let sheet = make::over(&mut random);
-            trial.sheet(&sheet, &mut random, 1)
+        (0..count).try_for_each(|_| {
+            let sheet = make(&mut random);
+            trial.sheet(&sheet, &mut random, others)
         })
     });
     println!("{}", trial.summary());
     assert_eq!(done, Ok::<(), String>(()));
+    trial
+}
+
+#[test]
+fn sorts_past_the_limit_with_sizes() {
+    let trial = tried(9, 60, 1, make::over);
     assert!(trial.sheets[9] > 10 && trial.sheets[34] > 10);
 }
 
 #[test]
 fn a_store_that_is_nearly_full() {
-    let mut trial = Trial::default();
-    let mut random = Random::new(34);
-    let done = oracle::on_stack(|| {
-        (0..12).try_for_each(|_| {
-            let sheet = make::heavy(&mut random);
-            trial.sheet(&sheet, &mut random, 0)
-        })
-    });
-    println!("{}", trial.summary());
-    assert_eq!(done, Ok::<(), String>(()));
+    let trial = tried(34, 12, 0, make::heavy);
     assert!(trial.sheets[0] > 0 && trial.sheets[10] > 0);
 }
 
