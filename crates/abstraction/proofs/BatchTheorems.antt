@@ -35,7 +35,8 @@ use Rattle.abstraction.specs.AbstractionTest.{same_fields, keeps_constants, no_b
 use Rattle.abstraction.proofs.TestTheorems.{keeps-exactly, fields-sound, no-bindings, no-numbers}
 use Rattle.abstraction.specs.Names.{Renames, renamed_verdict, renamed_sort, renamed_records}
 use Rattle.abstraction.proofs.NameTheorems.{NamesFree, names-inferred, names-checked, smt_lib-plain, bounded-renamed, verdict-renamed, referring-renamed, term-renamed, verdict-back}
-use Rattle.abstraction.proofs.LimitLaws.{bounded, bounded-given, bounded-cause, bounded-limit, checked-never-limit, inferred-never-limit, bounded-able}
+use Rattle.judge_rules.proofs.BoundedLaws.{bounded}
+use Rattle.abstraction.proofs.LimitLaws.{bounded-given, bounded-cause, bounded-limit, checked-never-limit, inferred-never-limit, bounded-able}
 use Rattle.abstraction.proofs.FullLaws.{judged-says}
 use Rattle.abstraction.specs.SheetTest.{var_of, copy_of, pairwise, follows, Told, by_row, by_part}
 
@@ -233,7 +234,7 @@ module _ (R : ℕ → List Rank) (column : ℕ) (col : column < 2) (A : Abstract
       verdict-back ρ N (verdict_of J (term_at ws g)) v (sym (same-verdict ρ N g) ∙ x)
   told-right (by_part g p c m b) = part-refused J ws refs g p c m (told-right b)
 
--- So of the two columns, over document 01's ranks: a sort that is told is the term's own, and so is a cause other than 20 and 22; 22 says that the
+-- So of the two columns, over the ranks of the table: a sort that is told is the term's own, and so is a cause other than 20 and 22; 22 says that the
 -- term's own sort passes a limit, and 20 that a part is refused, by 22 or for another cause.
 module _ (ws : List TermFields) (refs : referring ws ≡ true) (g : ℕ) where
   pub told-checked-verdict : (v : Verdict) → Told smt_lib 1 ws g v → verdict_of (bounded (checked smt_lib)) (term_at ws g) ≡ v

@@ -19,7 +19,7 @@ use Rattle.row_rules.specs.Lists.{firsts, others, remaining, joined, binding_sor
 use Rattle.row_rules.specs.Term.{Site}
 use Rattle.check_rules.specs.Rank.{Rank, vector, first_fit, some_counts}
 use Rattle.check_rules.proofs.RankSound.{Sound}
-use Rattle.check_rules.specs.Checked.{carried, value, values, parameters, function_list, settled, settled_all, delivered, called, checked_app, concatenation, nonempty, ranked, operated, only_of, bound_body, binder, inner_of, letting, new_width, indexed₁, indexed₂, indexed_by, indexed_on, indexing, constant_array, qualified, checked}
+use Rattle.check_rules.specs.Checked.{carried, value, values, parameters, function_list, settled, settled_all, delivered, called, checked_app, nonempty, ranked, operated, only_of, bound_body, binder, inner_of, letting, new_width, indexed₁, indexed₂, indexed_by, indexed_on, indexing, constant_array, qualified, checked}
 use Rattle.abstraction.specs.Names.{Renames, new_names, renamed, renamed_all, renamed_verdict, renamed_sort, renamed_sorts, renamed_bindings}
 use Rattle.abstraction.proofs.NameLaws.{renamed_map, renamed_found, need-renamed, cond-renamed, leaf-renamed, node-renamed, same-renamed, same-stays, member-renamed, count-renamed, number-renamed, proper-renamed, proper_all-renamed, firsts-renamed, others-renamed, remaining-renamed, last-renamed, joined-renamed, bindings-renamed, bound-renamed, apply-renamed, matches_all-renamed}
 use Rattle.abstraction.proofs.RankNames.{unnamed_ranks, PlainRanks, vector-renamed, counts-renamed, first_fit-renamed}
@@ -115,15 +115,6 @@ module _ (ρ : ℕ → ℕ) (N : Renames ρ) where
   leaf-sort : (k w : ℕ) → sort (node k 0 w end) ≡ renamed_verdict ρ (sort (node k 0 w end))
   leaf-sort k w = ap sort (sym (leaf-renamed ρ N k w))
 
-  concat-renamed : (ts : Sorts) → concatenation (renamed_all ρ ts) ≡ renamed_verdict ρ (concatenation ts)
-  unfolding concatenation renamed
-  concat-renamed end = refl
-  concat-renamed (a then end) = refl
-  concat-renamed (a then (b then end)) =
-      need-renamed ρ (vector a && vector b) _ Misfit _ _ (ap₂ ◌&&◌ (vector-renamed ρ N a) (vector-renamed ρ N b))
-      (bitvec-renamed (number_in a + number_in b) (number_in (renamed ρ a) + number_in (renamed ρ b)) (ap₂ ◌+◌ (number-renamed ρ N a) (number-renamed ρ N b)))
-  concat-renamed (a then (b then (c then ss))) = refl
-
   cause-renamed : (o : Option Sort) (c : Cause) → or_cause (renamed_sort ρ o) c ≡ renamed_verdict ρ (or_cause o c)
   cause-renamed none c = refl
   cause-renamed (some s) c = refl
@@ -138,7 +129,7 @@ module _ (ρ : ℕ → ℕ) (N : Renames ρ) where
 
   operated-renamed : (R : ℕ → List Rank) → PlainRanks R → (n : ℕ) (ts : Sorts) → operated R n (renamed_all ρ ts) ≡ renamed_verdict ρ (operated R n ts)
   unfolding operated
-  operated-renamed R P n ts = cond-renamed ρ (eqb n 90) _ _ _ _ (concat-renamed ts) (ranked-renamed (R n) ts (P.sounds n) (P.nameless n))
+  operated-renamed R P n ts = ranked-renamed (R n) ts (P.sounds n) (P.nameless n)
 
   ---------------------------------------------------------------- Binder, Let
   only-renamed : (ss : Sorts) → sort (only_of (renamed_all ρ ss)) ≡ renamed_verdict ρ (sort (only_of ss))

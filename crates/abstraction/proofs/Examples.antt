@@ -112,12 +112,12 @@ without-sort-refused : taken 1 (
 unfolding taken
 without-sort-refused = refl
 
--- The variable has the part's inferred sort, and the part has no checked one: an Add of an Int and a Real is inferred Real and checked 26, so what
--- stands over it is 20, and its abstraction Bool.
-abbrev pub mixed : Term
-mixed = term 7 0 10 bool (five also half also stop) [] [] stop
+-- The variable has the part's inferred sort, and the part has no checked one: an IntDiv of an Int and a Real is inferred Int and checked 26, so
+-- what stands over it is 20, and its abstraction Bool.
+abbrev pub divided : Term
+divided = term 7 0 13 bool (five also half also stop) [] [] stop
 
-inferred-sort : (infer mixed ≡ sort real) × (checks (mixed ∷ equal mixed half ∷ equal (stand_in 9 real) half ∷ []) ≡ refused Misfit ∷ refused Below ∷ sort bool ∷ [])
+inferred-sort : (infer divided ≡ sort int) × (checks (divided ∷ equal divided five ∷ equal (stand_in 9 int) five ∷ []) ≡ refused Misfit ∷ refused Below ∷ sort bool ∷ [])
 unfolding infer checks
 inferred-sort = (refl, refl)
 

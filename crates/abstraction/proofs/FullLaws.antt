@@ -15,7 +15,7 @@ use Rattle.row_rules.specs.declared.Cause.{Cause}
 use Rattle.row_rules.specs.declared.Cause.TheVariants.{Below, Full}
 use Rattle.row_rules.specs.Verdict.{Verdict, sort, refused, number_of}
 use Rattle.row_rules.specs.Term.{Site, term_at, verdict_of}
-use Rattle.row_rules.specs.Meaning.{Means, without}
+use Rattle.row_rules.specs.Meaning.{Means, without, is_full}
 use Rattle.row_rules.specs.FreeLaws.{record_at, names_term, AtOrBelow, itself, below, named-below, without-exactly}
 use Rattle.row_rules.proofs.OutcomeLaws.{refusal-large, means-sort, room-few}
 use Rattle.infer_rules.specs.Inferred.{inferred}
@@ -26,9 +26,8 @@ use Rattle.judge_rules.specs.Judged.{accepted, judged_by}
 use Rattle.judge_rules.proofs.RowLaws.{judging, rows_new, rows-old}
 use Rattle.judge_rules.proofs.JudgedLaws.{told, judged-store}
 use Rattle.judge_rules.proofs.GivenLaws.{given_below}
+use Rattle.judge_rules.proofs.BoundedLaws.{bounded, judged-bounded}
 use Rattle.judge_rules.proofs.CauseTheorems.{one-cause, row_below, row-missing, inferred-never, checked-never}
-use Rattle.abstraction.specs.SheetTest.{is_full}
-use Rattle.abstraction.proofs.LimitLaws.{bounded, judged-bounded}
 use Rattle.abstraction.specs.SheetTest.{RowSays}
 
 ---------------------------------------------------------------- one row

@@ -14,7 +14,7 @@ use Rattle.substitution.specs.Substitution.{Map, empty, bind, find, bound, left,
 use Rattle.substitution.specs.Matching.{keep, and_then, meet, matches, matches_all}
 use Rattle.substitution.specs.Premises.{proper, proper_all}
 use Rattle.row_rules.specs.declared.Cause.{Cause}
-use Rattle.row_rules.specs.Verdict.{Verdict, sort, need}
+use Rattle.row_rules.specs.Verdict.{Verdict, need}
 use Rattle.row_rules.specs.Lists.{firsts, others, remaining, last_of, joined, appended, binding_sorts}
 use Rattle.abstraction.specs.Names.{Renames, new_names, renamed, renamed_all, renamed_verdict, renamed_sort, renamed_bindings}
 

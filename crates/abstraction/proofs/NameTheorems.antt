@@ -24,14 +24,14 @@ use Rattle.check_rules.specs.Checked.{check}
 use Rattle.judge_rules.proofs.RowLaws.{judging}
 use Rattle.abstraction.specs.Names.{Renames, new_names, renamed, renamed_all, renamed_verdict, renamed_sorts, renamed_bindings, renamed_term, renamed_terms, renamed_fields, renamed_records}
 use Rattle.row_rules.specs.declared.Cause.TheVariants.{Limit}
-use Rattle.abstraction.proofs.LimitLaws.{bounded}
+use Rattle.judge_rules.proofs.BoundedLaws.{bounded}
 use Rattle.abstraction.proofs.NameLaws.{need-renamed, count-renamed, leaf-renamed, same-renamed}
 use Rattle.abstraction.proofs.RankNames.{PlainRanks, smt_lib-nameless}
 use Rattle.abstraction.proofs.CheckedNames.{renamed_site, checked-renamed}
 use Rattle.abstraction.proofs.InferredNames.{inferred-renamed}
 
 -- What the law asks of a column: its verdict on a record does not mind the names. The inferred column meets it whatever the ranks are, the
--- checked one over sound ranks without names, as document 01's are.
+-- checked one over sound ranks without names, as those of the table are.
 abbrev pub NamesFree : (ℕ → List Rank) → ℕ → Type 0
 NamesFree R column = (ρ : ℕ → ℕ) → Renames ρ → (z : Site) → judging R column (renamed_site ρ z) ≡ renamed_verdict ρ (judging R column z)
 

@@ -1,23 +1,25 @@
 -- Ranks under new names: they have no names but their own parameters, so what fits still fits, and the result is renamed.
-use Rattle.std.specs.Prelude.{ℕ, ◌-◌, ◌≡◌, Bool, ◌&&◌, eqb, leb}
+use Rattle.std.specs.Prelude.{ℕ, ◌+◌, ◌≡◌, Bool, ◌&&◌, eqb, leb}
 use Rattle.std.proofs.Math.Path.{refl, ap}
 use Rattle.std.proofs.Common.{sym, ap₂, ◌∙◌, eqb-true}
 use Rattle.std.proofs.Math.Bool.{true, false}
 use Rattle.std.proofs.lemmas.Bool.{false≢true}
-use mathlib.Core.List.{List, [], ◌∷◌}
+use mathlib.Core.List.{List, [], ◌∷◌, ◌++◌}
 use Rattle.std.proofs.Math.Option.{Option, none, some}
-use Rattle.record.specs.Sort.{Sort, Sorts, var, par, node, end, ◌then◌, bitvec, number_in, same}
-use Rattle.record.specs.Cases.{and_left, and_right, and-true, three, by_test, by_option}
+use Rattle.record.specs.Sort.{Sort, Sorts, var, par, node, end, ◌then◌, int, real, bitvec, number_in, same}
+use Rattle.record.specs.Cases.{and_left, and_right, conj, and-true, three, by_test, by_option}
 use Rattle.substitution.specs.Substitution.{Map, empty, bind, find, bound, apply, apply_all, occurs_any}
 use Rattle.substitution.specs.Matching.{keep, and_then, meet, matches, matches_all}
 use Rattle.substitution.proofs.MatchingLaws.{match_all-binds}
-use Rattle.substitution.specs.Premises.{proper, parless_all}
-use Rattle.check_rules.specs.Rank.{Rank, rank, repeated, stretched, patterns, same_count, counts, vector, vectors_in, every_name, rank_answer, fit, or_next, first_fit, some_counts}
-use Rattle.check_rules.specs.RankLaws.{closed, closed_all, patterns-occurs, well_rank}
+use Rattle.substitution.specs.Premises.{proper, parless_all, ground, ground_all}
+use Rattle.check_rules.specs.Forms.{Form, concat, mixed, takes_count, takes, when, join_vectors, numbers, stands, computes}
+use Rattle.check_rules.specs.FormLaws.{well_form}
+use Rattle.check_rules.specs.Rank.{Rank, rank, computed, repeated, stretched, patterns, same_count, counts, vector, vectors_in, every_name, rank_answer, fit, or_next, first_fit, some_counts}
+use Rattle.check_rules.specs.RankLaws.{closed, closed_all, patterns-occurs, well_rank, stretched-same}
 use Rattle.check_rules.proofs.RankSound.{Sound}
-use Rattle.check_rules.specs.Ranks.{RankTable, done, row, ranks_in, standard, smt_lib}
+use Rattle.check_rules.specs.Ranks.{RankTable, done, row, enlarged, ranks_in, standard, smt_lib}
 use Rattle.abstraction.specs.Names.{Renames, renamed, renamed_all, renamed_sort}
-use Rattle.abstraction.proofs.NameLaws.{eqb-names, leaf-renamed, same-renamed, same-stays, number-renamed}
+use Rattle.abstraction.proofs.NameLaws.{eqb-names, count-renamed, leaf-renamed, same-renamed, same-stays, number-renamed}
 
 ---------------------------------------------------------------- ranks without names
 -- No node of a sort has a name.
@@ -31,10 +33,17 @@ unfoldable mutual
   unnamed_all end = true
   unnamed_all (s then ss) = unnamed s && unnamed_all ss
 
-unfoldable pub unnamed_ranks : List Rank → Bool
+-- No name stands in a rank, or in the result that a form has.
+unfoldable pub unnamed_rank : Rank → Bool
 unfolding unnamed
+unnamed_rank (rank rep vs ps r) = unnamed_all ps && unnamed r
+unnamed_rank (computed concat) = true
+unnamed_rank (computed (mixed r)) = unnamed r
+
+unfoldable pub unnamed_ranks : List Rank → Bool
+unfolding unnamed_rank
 unnamed_ranks [] = true
-unnamed_ranks (rank rep vs ps r ∷ rs) = (unnamed_all ps && unnamed r) && unnamed_ranks rs
+unnamed_ranks (r ∷ rs) = unnamed_rank r && unnamed_ranks rs
 
 -- What the law asks of ranks: they are sound, and no name stands in them.
 pub record PlainRanks (R : ℕ → List Rank) : Type 0 where
@@ -45,6 +54,7 @@ unfoldable unnamed_table : RankTable → Bool
 unfolding unnamed_ranks
 unnamed_table done = true
 unnamed_table (row a b rs t) = unnamed_ranks rs && unnamed_table t
+unnamed_table (enlarged a b rs qs t) = unnamed_ranks (rs ++ qs) && unnamed_table t
 
 table-nameless : (t : RankTable) (n : ℕ) → unnamed_table t ≡ true → unnamed_ranks (ranks_in t n) ≡ true
 unfolding unnamed_table unnamed_ranks ranks_in
@@ -53,6 +63,10 @@ table-nameless (row a b rs t) n e =
     by_test (leb a n && leb n b)
     (λ q. rw q (and_left (unnamed_ranks rs) (unnamed_table t) e))
     (λ q. rw q (table-nameless t n (and_right (unnamed_ranks rs) (unnamed_table t) e)))
+table-nameless (enlarged a b rs qs t) n e =
+    by_test (leb a n && leb n b)
+    (λ q. rw q (and_left (unnamed_ranks (rs ++ qs)) (unnamed_table t) e))
+    (λ q. rw q (table-nameless t n (and_right (unnamed_ranks (rs ++ qs)) (unnamed_table t) e)))
 
 pub smt_lib-nameless : (n : ℕ) → unnamed_ranks (smt_lib n) ≡ true
 unfolding smt_lib standard unnamed_table
@@ -164,21 +178,13 @@ module _ (ρ : ℕ → ℕ) (N : Renames ρ) where
   vectors_in-images (bind v s m) = rw (vector-renamed s, vectors_in-images m) refl
 
   -- Only the count of the arguments chooses the patterns.
-  repeated-count : (p : Sort) (ts : Sorts) → repeated p (renamed_all ρ ts) ≡ repeated p ts
-  unfolding repeated renamed
-  repeated-count p end = refl
-  repeated-count p (t then ts) = ap (p then◌) (repeated-count p ts)
-
-  stretched-count : (ps ts : Sorts) → stretched ps (renamed_all ρ ts) ≡ stretched ps ts
-  unfolding stretched renamed
-  stretched-count end ts = refl
-  stretched-count (p then end) end = refl
-  stretched-count (p then end) (t then ts) = ap (p then◌) (repeated-count p ts)
-  stretched-count (p then (q then ps)) end = refl
-  stretched-count (p then (q then ps)) (t then ts) = ap (p then◌) (stretched-count (q then ps) ts)
+  names-count : (ts : Sorts) → same_count (renamed_all ρ ts) ts ≡ true
+  unfolding same_count renamed
+  names-count end = refl
+  names-count (t then ts) = names-count ts
 
   patterns-count : (rep : Bool) (ps ts : Sorts) → patterns rep ps (renamed_all ρ ts) ≡ patterns rep ps ts
-  patterns-count true ps ts = stretched-count ps ts
+  patterns-count true ps ts = stretched-same ps (renamed_all ρ ts) ts (names-count ts)
   patterns-count false ps ts = refl
 
   same-count : (ps ts : Sorts) → same_count ps (renamed_all ρ ts) ≡ same_count ps ts
@@ -188,10 +194,67 @@ module _ (ρ : ℕ → ℕ) (N : Renames ρ) where
   same-count (p then ps) end = refl
   same-count (p then ps) (t then ts) = same-count ps ts
 
+  rank-counts : (r : Rank) (ts : Sorts) → counts r (renamed_all ρ ts) ≡ counts r ts
+  unfolding counts takes
+  rank-counts (rank rep vs ps r) ts = rw (patterns-count rep ps ts) (same-count (patterns rep ps ts) ts)
+  rank-counts (computed f) ts = ap (takes_count f) (count-renamed ρ N ts)
+
   pub counts-renamed : (rs : List Rank) (ts : Sorts) → some_counts rs (renamed_all ρ ts) ≡ some_counts rs ts
-  unfolding some_counts counts
+  unfolding some_counts
   counts-renamed [] ts = refl
-  counts-renamed (rank rep vs ps r ∷ rs) ts = rw (patterns-count rep ps ts, same-count (patterns rep ps ts) ts, counts-renamed rs ts) refl
+  counts-renamed (r ∷ rs) ts = rw (rank-counts r ts, counts-renamed rs ts) refl
+
+  -- A sort without variables and names stays; so Int and Real are among renamed sorts where they were.
+  mutual
+    unfolding ground renamed unnamed
+
+    still : (s : Sort) → ground s ≡ true → unnamed s ≡ true → renamed ρ s ≡ s
+    still (var v) g u = absurd (false≢true g)
+    still (par ns b) g u = absurd (false≢true g)
+    still (node k a w ss) g u =
+        let z = eqb-true a 0 (and_left (eqb a 0) (unnamed_all ss) u) in
+        let y : ρ a ≡ a = ap ρ z ∙ N.zero-stays ∙ sym z in
+        ap₂ (λ (i : ℕ) (rs : Sorts). node k i w rs) y (still_all ss (search conj) (and_right (eqb a 0) (unnamed_all ss) u))
+
+    still_all : (ss : Sorts) → ground_all ss ≡ true → unnamed_all ss ≡ true → renamed_all ρ ss ≡ ss
+    still_all end g u = refl
+    still_all (s then ss) g u =
+        ap₂ (λ (x : Sort) (xs : Sorts). x then xs)
+        (still s (and_left (ground s) (ground_all ss) g) (and_left (unnamed s) (unnamed_all ss) u))
+        (still_all ss (and_right (ground s) (ground_all ss) g) (and_right (unnamed s) (unnamed_all ss) u))
+
+  leaf-same : (s : Sort) (k : ℕ) → same (renamed ρ s) (node k 0 0 end) ≡ same s (node k 0 0 end)
+  leaf-same s k = same-stays ρ N s (node k 0 0 end) (leaf-renamed ρ N k 0)
+
+  numbers-renamed : (ts : Sorts) → numbers (renamed_all ρ ts) ≡ numbers ts
+  unfolding numbers renamed
+  numbers-renamed end = refl
+  numbers-renamed (t then ts) = rw (leaf-same t 4, leaf-same t 5, numbers-renamed ts) refl
+
+  stands-renamed : (k : ℕ) (ts : Sorts) → stands (node k 0 0 end) (renamed_all ρ ts) ≡ stands (node k 0 0 end) ts
+  unfolding stands renamed
+  stands-renamed k end = refl
+  stands-renamed k (t then ts) = rw (leaf-same t k, stands-renamed k ts) refl
+
+  -- What a form gives is renamed with its arguments.
+  when-renamed : (b : Bool) (r s : Sort) → s ≡ renamed ρ r → when b s ≡ renamed_sort ρ (when b r)
+  when-renamed true r s e = ap some e
+  when-renamed false r s e = refl
+
+  join-renamed : (a b : Sort) → join_vectors (renamed ρ a) (renamed ρ b) ≡ renamed_sort ρ (join_vectors a b)
+  join-renamed a b =
+      rw (vector-renamed a, vector-renamed b, number-renamed ρ N a, number-renamed ρ N b)
+      (when-renamed (vector a && vector b) (bitvec (number_in a + number_in b)) _ (sym (leaf-renamed ρ N 9 (number_in a + number_in b))))
+
+  form-renamed : (f : Form) (ts : Sorts) → well_form f ≡ true → unnamed_rank (computed f) ≡ true → computes f (renamed_all ρ ts) ≡ renamed_sort ρ (computes f ts)
+  unfolding computes renamed well_form unnamed_rank
+  form-renamed concat end w u = refl
+  form-renamed concat (a then end) w u = refl
+  form-renamed concat (a then (b then end)) w u = join-renamed a b
+  form-renamed concat (a then (b then (c then ss))) w u = refl
+  form-renamed (mixed r) ts w u =
+      rw (numbers-renamed ts, stands-renamed 4 ts, stands-renamed 5 ts)
+      (when-renamed (numbers ts && stands int ts && stands real ts) r r (sym (still r (and_left (ground r) (proper r) w) u)))
 
   -- A rank that fits still fits, one that does not still does not.
   fit-renamed : (rep vs : Bool) (ps : Sorts) (r : Sort) (ts : Sorts) → closed ps r ≡ true → unnamed_all ps ≡ true → unnamed r ≡ true
@@ -211,13 +274,15 @@ module _ (ρ : ℕ → ℕ) (N : Renames ρ) where
   or-renamed none p = refl
   or-renamed (some s) p = refl
 
+  rank-renamed : (r : Rank) (ts : Sorts) → well_rank r ≡ true → unnamed_rank r ≡ true → fit r (renamed_all ρ ts) ≡ renamed_sort ρ (fit r ts)
+  unfolding fit well_rank unnamed_rank
+  rank-renamed (rank rep vs ps r) ts w u =
+      fit-renamed rep vs ps r ts (three (closed ps r) (proper r) (parless_all ps) w).0 (and_left (unnamed_all ps) (unnamed r) u) (and_right (unnamed_all ps) (unnamed r) u)
+  rank-renamed (computed f) ts w u = form-renamed f ts w u
+
   pub first_fit-renamed : (rs : List Rank) (ts : Sorts) → Sound rs → unnamed_ranks rs ≡ true → first_fit rs (renamed_all ρ ts) ≡ renamed_sort ρ (first_fit rs ts)
-  unfolding first_fit unnamed_ranks well_rank
+  unfolding first_fit unnamed_ranks
   first_fit-renamed [] ts S u = refl
-  first_fit-renamed (rank rep vs ps r ∷ rs) ts S u =
-      let w = and_left (unnamed_all ps && unnamed r) (unnamed_ranks rs) u in
-      rw (
-        fit-renamed rep vs ps r ts (three (closed ps r) (proper r) (parless_all ps) S.0).0 (and_left (unnamed_all ps) (unnamed r) w) (and_right (unnamed_all ps) (unnamed r) w),
-        first_fit-renamed rs ts S.2 (and_right (unnamed_all ps && unnamed r) (unnamed_ranks rs) u),
-      )
-      (or-renamed (fit (rank rep vs ps r) ts) (first_fit rs ts))
+  first_fit-renamed (r ∷ rs) ts S u =
+      rw (rank-renamed r ts S.0 (and_left (unnamed_rank r) (unnamed_ranks rs) u), first_fit-renamed rs ts S.2 (and_right (unnamed_rank r) (unnamed_ranks rs) u))
+      (or-renamed (fit r ts) (first_fit rs ts))

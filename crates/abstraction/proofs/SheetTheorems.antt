@@ -52,7 +52,7 @@ module _ (R : ℕ → List Rank) (s : List ℕ) (l : Lengths) (h : Sheet) (st : 
       let (go, back) = refused-over-free R s l h st rows answers e column col t low c f in
       (λ k. sym (abstraction (judging R column) column C a) ∙ go k, λ v. back (abstraction (judging R column) column C a ∙ v))
 
----------------------------------------------------------------- the two columns, over document 01's ranks
+---------------------------------------------------------------- the two columns, over the ranks of the table
 module _ (s : List ℕ) (l : Lengths) (h : Sheet) (st : List Sort) (rows answers : List ℕ)
     (e : judged s l ≡ accepted h st rows answers) (w : Term) (t : ℕ) (low : t < length h.terms) where
   -- THE CHECKED ROW of an abstraction, by `check` of the whole term,

@@ -10,17 +10,13 @@ use Rattle.row_rules.specs.declared.Cause.{Cause}
 use Rattle.row_rules.specs.declared.Cause.TheVariants.{Below, Full}
 use Rattle.row_rules.specs.Verdict.{Verdict, sort, refused, number_of}
 use Rattle.row_rules.specs.Term.{constants_at}
-use Rattle.row_rules.specs.Meaning.{without}
+use Rattle.row_rules.specs.Meaning.{without, is_full}
 use Rattle.row_rules.specs.FreeLaws.{record_at, names_term}
 use Rattle.check_rules.specs.Rank.{Rank}
 use Rattle.judge_rules.specs.Judged.{accepted, judged_by}
 use Rattle.abstraction.specs.Abstraction.{reads_arguments, reads_indices}
 use Rattle.abstraction.specs.Names.{Renames, renamed_verdict, renamed_sort, renamed_records}
 use Rattle.abstraction.specs.AbstractionTest.{same_fields, keeps_constants, no_bindings, no_numbers}
-
--- The code of a row that is refused for want of room.
-abbrev pub is_full : ℕ → Bool
-is_full code = eqb code (number_of Full * 65536)
 
 -- The whole terms are a list of records ws, the latest first, of any length, each over earlier ones; `known` gives for a whole term the sort that
 -- it is known to have in a column.

@@ -24,8 +24,9 @@ use Rattle.record.specs.Decode.{store_of, sort_at}
 use Rattle.record.specs.Codec.{length-numbers_at}
 use Rattle.record.specs.StoreLaws.{sorts-one}
 use Rattle.record.specs.Cases.{false-second}
+use Rattle.check_rules.specs.Forms.{all_same}
 use Rattle.check_rules.specs.Checked.{only_of}
-use Rattle.check_operator.specs.Rule.{plain_sort, fixed_of, all_same}
+use Rattle.check_operator.specs.Rule.{plain_sort, fixed_of}
 use Rattle.check_operator.specs.Numbered.{kind_in}
 use Rattle.check_operator.specs.Contract.{arg_at, Over, args_of, KindIs}
 use Rattle.check_operator.specs.KindLaws.{kind-same}
@@ -66,7 +67,7 @@ get-number a m k d l = at-place a 3 m k d l
     at-place s x (suc n) zero e l = let q : x ≡ x + 2 * 0 = omega arith in ap (u16_at s) q
     at-place s x (suc n) (suc j) e l = let q : x + 2 + 2 * j ≡ x + 2 * suc j = omega arith in at-place s (x + 2) n j e (omega arith) ∙ ap (u16_at s) q
 
-within-list : (a : List ℕ) (m k : ℕ) → k < length (numbers_at a 3 m) → k < m
+pub within-list : (a : List ℕ) (m k : ℕ) → k < length (numbers_at a 3 m) → k < m
 within-list a m k l = omega (arith, length-numbers_at a 3 m)
 
 -- An argument that a scan came to is one of the store.

@@ -14,8 +14,8 @@ use Rattle.record.specs.Number.{u16_at, numbers_at}
 use Rattle.record.specs.Kinds.{sort_number}
 use Rattle.record.specs.KindLaws.{sort_number-same}
 use Rattle.record.specs.declared.kinds.SortKind.{SortKind}
-use Rattle.record.specs.declared.kinds.SortKind.TheVariants.{Bool as SortBool, Int as SortInt, Real as SortReal, BitVec as SortBitVec}
-use Rattle.record.specs.Sort.{Sort, Sorts, node, end, ◌then◌, bool, int, real, array, bitvec, kind_of, number_in, same, same_all}
+use Rattle.record.specs.declared.kinds.SortKind.TheVariants.{Bool as SortBool, BitVec as SortBitVec}
+use Rattle.record.specs.Sort.{Sort, Sorts, node, end, ◌then◌, bool, array, bitvec, kind_of, number_in, same, same_all}
 use Rattle.record.specs.SortLaws.{same-sound, same-complete, same-swap}
 use Rattle.record.specs.Record.{Fields, bit, maps, map_of, leasts, least_of, mosts, most_of, sorts_of}
 use Rattle.record.specs.Decode.{fields_at, store_of, sort_at, Stored, Distinct}
@@ -26,12 +26,13 @@ use Rattle.record.specs.declared.SortRecord.{SortRecord}
 use Rattle.store.specs.Entry.{EntryIs, EntryHas}
 use Rattle.store.specs.Walk.{walk-node}
 use Rattle.row_rules.specs.declared.Cause.TheVariants.{Misfit}
-use Rattle.row_rules.specs.Verdict.{Verdict, sort, need}
+use Rattle.row_rules.specs.Verdict.{sort, need}
+use Rattle.check_rules.specs.Forms.{all_same}
 use Rattle.check_rules.specs.Rank.{vector}
 use Rattle.check_rules.specs.Checked.{only_of}
 use Rattle.check_operator.specs.declared.op.Fit.{Fit}
 use Rattle.check_operator.specs.declared.op.Fit.TheVariants.{Known, Plain, Width}
-use Rattle.check_operator.specs.Rule.{Rule, All, Numbers, Equal, Choose, Vectors, Concat, plain_sort, numbers_result, vectors_result, all_same, choosing, concatenated, fitted, plain_kind, one_or_two, well_rule, counts_for}
+use Rattle.check_operator.specs.Rule.{Rule, All, Equal, Choose, Vectors, Concat, plain_sort, numbers_result, vectors_result, choosing, concatenated, fitted, plain_kind, one_or_two, well_rule, counts_for}
 use Rattle.check_operator.specs.Numbered.{kind_in, plain_result, result_number, fixed_numbers}
 use Rattle.check_operator.specs.Contract.{Over, args_of, KindIs, SameHas, fit_verdict, fits_verdict, FitOk, FitsOk, FitIs, FitAsks, FitHas}
 use Rattle.check_operator.specs.KindLaws.{vector-small, kind-vector, kind-same}
@@ -87,7 +88,7 @@ module _ (b p : List ℕ) (n : ℕ) (a : List ℕ) where
   first-arg (suc m) l = refl
 
 ---------------------------------------------------------------- the kind of a result
-result-is : (o : Option SortKind) (k : SortKind) → map_of (sort_number k) ≡ 1 → eqb (result_number o) 0 || plain_kind (result_number o) ≡ true
+pub result-is : (o : Option SortKind) (k : SortKind) → map_of (sort_number k) ≡ 1 → eqb (result_number o) 0 || plain_kind (result_number o) ≡ true
     → (map_of (sort_number (unwrap_or o k)) ≡ 1) × (plain_sort (sort_number (unwrap_or o k)) ≡ numbers_result (result_number o) (plain_sort (sort_number k)))
 unfolding map_of maps
 result-is None k e h = (e, refl)
@@ -162,37 +163,6 @@ module _ {b p : List ℕ} {n : ℕ} {a : List ℕ} {m : ℕ} where
     fixed-fits t h e =
         by_test (Plain r) t e (plain_sort (sort_number r)) (h ∙ sym (ap (λ (ss : Sorts). same_all ss (args_of b p n a m)) (fixed-plain ks few))) refl
         (λ q. plain_map (sort_number r) (and_right (plain_kind (kind_in ks 2)) _ (and_right (plain_kind (kind_in ks 1)) _ (and_right (plain_kind (kind_in ks 0)) _ rest))))
-
-  -- All Int or all Real.
-  module _ (r : Option SortKind) (f : FitOver b p n a m (Numbers 1 (result_number r))) where
-    numbers-well : eqb (result_number r) 0 || plain_kind (result_number r) ≡ true
-    unfolding well_rule
-    numbers-well = and_right (one_or_two 1) (eqb (result_number r) 0 || plain_kind (result_number r)) f.well
-
-    pub numbers-int : (t : Bool) → KindsAre b p n a m 4 t → t ≡ true → {k : SortKind} → k ≡ unwrap_or r SortInt → FitFor b p n a m (Numbers 1 (result_number r)) (Some (Plain k))
-    unfolding fitted map_of maps
-    numbers-int t h e {k} q =
-        let g = result-is r SortInt refl numbers-well in
-        subst (λ (i : SortKind). FitFor b p n a m (Numbers 1 (result_number r)) (Some (Plain i))) (sym q)
-        (subst (λ (c : Bool). FitIs n (store_of b p n) (cond c (sort (numbers_result (result_number r) int)) (need (all_same real (args_of b p n a m)) Misfit (sort (numbers_result (result_number r) real)))) (Some (Plain (unwrap_or r SortInt))))
-        (sym e ∙ h refl) (record { is = ap sort g.1; ok = g.0 }))
-
-    module _ (t : Bool) (h : KindsAre b p n a m 4 t) (e : t ≡ false) (u : Bool) (i : KindsAre b p n a m 5 u) where
-      second : fitted (Numbers 1 (result_number r)) (args_of b p n a m) ≡ need u Misfit (sort (numbers_result (result_number r) real))
-      unfolding fitted map_of maps
-      second =
-          ap₂ (λ (c d : Bool). cond c (sort (numbers_result (result_number r) int)) (need d Misfit (sort (numbers_result (result_number r) real)))) (sym (h refl) ∙ e) (sym (i refl))
-
-      pub numbers-real : u ≡ true → {k : SortKind} → k ≡ unwrap_or r SortReal → FitFor b p n a m (Numbers 1 (result_number r)) (Some (Plain k))
-      unfolding map_of maps
-      numbers-real d {k} q =
-          let g = result-is r SortReal refl numbers-well in
-          subst (λ (j : SortKind). FitFor b p n a m (Numbers 1 (result_number r)) (Some (Plain j))) (sym q)
-          (subst (λ (v : Verdict). FitIs n (store_of b p n) v (Some (Plain (unwrap_or r SortReal)))) (sym second)
-          (fits (numbers_result (result_number r) real) (sym d) (ap sort g.1) g.0))
-
-      pub numbers-no : u ≡ false → FitFor b p n a m (Numbers 1 (result_number r)) None
-      numbers-no d = subst (λ (v : Verdict). FitIs n (store_of b p n) v None) (sym second) (no_fit (numbers_result (result_number r) real) (sym d))
 
   -- Bool A A.
   pub choose-fits : Over b p n a m → m ≡ 3 → (c : ℕ) → c ≡ u16_at a 5 → {i j : ℕ} → i ≡ u16_at a 3 → j ≡ u16_at a 7 → (t : Bool) → t ≡ (eqb (kind_of (sort_at b p n i)) 3 && eqb j c) → (x : Option Fit) → x ≡ then_some t (Known c)

@@ -17,14 +17,16 @@ use Rattle.record.specs.Sort.{Sort, var, par, node, end, ◌then◌, array, kind
 use Rattle.record.specs.Decode.{store_of, sort_at}
 use Rattle.record.specs.Codec.{length-numbers_at}
 use Rattle.record.specs.Sizes.{count-sorts}
-use Rattle.record.specs.Cases.{and_left, and_right, or_cases, eqb_swap}
+use Rattle.record.specs.Cases.{and_left, and_right, or_cases, eqb_swap, by_test as test}
 use Rattle.record.specs.declared.SortRecord.{SortRecord}
 use Rattle.store.specs.Entry.{EntryIs, EntryHas}
 use Rattle.row_rules.specs.declared.Cause.TheVariants.{NoRank, Count, Misfit}
 use Rattle.row_rules.specs.Verdict.{Verdict, sort, refused, need}
 use Rattle.check_rules.specs.Ranks.{smt_lib}
 use Rattle.check_rules.specs.Checked.{values, operated}
-use Rattle.row_answer.specs.Values.{ValuesHave}
+use Rattle.check_rules.specs.Forms.{numbers}
+use Rattle.check_rules.specs.FormLaws.{numbers-only}
+use Rattle.check_rules.proofs.NumberTheorems.{numbers-values}
 use Rattle.check_operator.specs.declared.rule.Rule.{Rule as Given}
 use Rattle.check_operator.specs.declared.rule.Arity.{Arity}
 use Rattle.check_operator.specs.declared.rule.Arity.TheVariants.{Exactly, AtLeast}
@@ -33,7 +35,7 @@ use Rattle.check_operator.specs.declared.op.Fit.TheVariants.{Known}
 use Rattle.check_operator.specs.Rule.{Rule, Unranked, Numbers, Select, Store, Vectors, counts_for, selecting, storing, ruled_select, stored, fitted, is_ranked, ruled, rule_of, plain_kind, one_or_two, well_rule}
 use Rattle.check_operator.specs.Numbered.{result_number, vectors_numbers, rule_numbers}
 use Rattle.check_operator.specs.RuleLaws.{operated-ruled, well-rule}
-use Rattle.check_operator.specs.Contract.{Over, args_of, KindIs, fit_verdict, fits_verdict, FitsOk, FitIs, FitAsks, FitHas, ArrayAsks, ArrayIs, DeliverFitAsks, CheckOperatorAsks, args-refs}
+use Rattle.check_operator.specs.Contract.{Over, args_of, KindIs, fit_verdict, fits_verdict, FitsOk, FitIs, FitAsks, FitHas, TestsValues, ArrayAsks, ArrayIs, DeliverFitAsks, CheckOperatorAsks}
 use Rattle.check_operator.proofs.FitLaws.{by_test, numbers-same, two-args, three-args, array-two, array-sort}
 
 ---------------------------------------------------------------- arrays
@@ -213,6 +215,20 @@ module _ (b p a : List ℕ) (m : ℕ) where
   vectors_has (Exactly l) o t h = h
   vectors_has (AtLeast l) o t h = h
 
+---------------------------------------------------------------- values
+module _ {b p a : List ℕ} {m : ℕ} where
+  -- Numbers are values.
+  pub numbers_tested : (l r : ℕ) → TestsValues b p a m (Numbers l r) true
+  unfolding fitted
+  numbers_tested l r n o =
+      test (numbers (args_of b p n a m))
+      (λ e. rw (e, numbers-values (args_of b p n a m) (numbers-only (args_of b p n a m) e)) refl)
+      (λ e. rw e (go (values (args_of b p n a m))))
+    where
+      go : (c : Bool) → need c Misfit (refused Misfit) ≡ refused Misfit
+      go true = refl
+      go false = refl
+
 ---------------------------------------------------------------- the answer
 -- A rule of the code has ranks.
 ranked : (r : Given) → is_ranked (rule_numbers r) ≡ true
@@ -264,12 +280,12 @@ module _ {b p ix : List ℕ} {n u : ℕ} {a : List ℕ} {m : ℕ} (f : CheckOper
               counted = sym et ∙ on;
             }
 
-        module _ (v : Bool) (ev : ValuesHave b p a 3 m v) where
+        module _ (v : Bool) (ev : TestsValues b p a m (rule_numbers g) v) where
           by_values : operated smt_lib op (args_of b p n a m) ≡ need v Misfit (fitted (rule_numbers g) (args_of b p n a m))
           by_values =
               by-count
-              ∙ ap₂ (λ (x y : Bool). need x Count (need y Misfit (fitted (rule_numbers g) (args_of b p n a m)))) (sym et ∙ on)
-              (sym (ev n args_over.stored (args-refs b p a n m f.within args_over)))
+              ∙ ap (λ (c : Bool). need c Count (need (values (args_of b p n a m)) Misfit (fitted (rule_numbers g) (args_of b p n a m)))) (sym et ∙ on)
+              ∙ ev n args_over
 
           pub no_value : v ≡ false → operated smt_lib op (args_of b p n a m) ≡ refused Misfit
           no_value e = by_values ∙ ap (λ (x : Bool). need x Misfit (fitted (rule_numbers g) (args_of b p n a m))) e

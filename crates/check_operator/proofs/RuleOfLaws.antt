@@ -1,9 +1,9 @@
 -- The rule of a number that is no operator's.
 use Rattle.std.specs.Prelude.{◌≡◌, ℕ, ◌<◌, ◌≤◌, Bool, true, false, ◌&&◌, cond, leb, refl}
-use Rattle.std.proofs.Common.{arith, ap, ap₂, ◌∙◌, ne_eqb, leb-true}
+use Rattle.std.proofs.Common.{arith, ap, ◌∙◌, leb-true}
 use Rattle.std.proofs.lemmas.Bool.{lt-leb}
 use Rattle.record.specs.Cases.{and_left, and_right, false-second}
-use Rattle.check_operator.specs.Rule.{Rule, Unranked, Concat, Rules, none, range, rules_in, rules, rule_of}
+use Rattle.check_operator.specs.Rule.{Unranked, Rules, none, range, rules_in, rules, rule_of}
 
 -- Each range of the table ends by m.
 unfoldable ends_by : Rules → ℕ → Bool
@@ -20,5 +20,4 @@ past-end (range a b r t) m n e l =
 
 pub rule_past : (n : ℕ) → 135 ≤ n → rule_of n ≡ Unranked
 unfolding rule_of rules ends_by
-rule_past n l =
-    ap₂ (λ (c : Bool) (r : Rule). cond c Concat r) (ne_eqb n 90 (λ e. absurd (omega arith))) (past-end rules 134 n refl (omega arith))
+rule_past n l = past-end rules 134 n refl (omega arith)

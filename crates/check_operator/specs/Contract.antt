@@ -9,12 +9,13 @@ use Rattle.store.specs.Good.{Good}
 use Rattle.store.specs.declared.entries.Entries.{Entries}
 use Rattle.matching_tables.specs.Usable.{Refs}
 use Rattle.row_rules.specs.declared.Cause.TheVariants.{Misfit}
-use Rattle.row_rules.specs.Verdict.{Verdict, sort, refused}
-use Rattle.check_rules.specs.Checked.{only_of}
+use Rattle.row_rules.specs.Verdict.{Verdict, sort, refused, need}
+use Rattle.check_rules.specs.Forms.{all_same}
+use Rattle.check_rules.specs.Checked.{values, only_of}
 use Rattle.row_answer.specs.declared.arguments.Args.{Args}
 use Rattle.check_operator.specs.declared.op.Fit.{Fit}
 use Rattle.check_operator.specs.declared.op.Fit.TheVariants.{Known, Plain, Width}
-use Rattle.check_operator.specs.Rule.{Rule, Select, Store, plain_sort, all_same, counts_for, fitted, well_rule}
+use Rattle.check_operator.specs.Rule.{Rule, Select, Store, plain_sort, counts_for, fitted, well_rule}
 
 -- The store number of the argument j.
 abbrev pub arg_at : List ℕ → ℕ → ℕ
@@ -85,6 +86,11 @@ pub record FitAsks (b p a : List ℕ) (m : ℕ) (r : Rule) : Type 0 where
 abbrev pub FitHas : List ℕ → List ℕ → List ℕ → ℕ → Rule → Option Fit → Type 0
 FitHas b p a m rule r = (n : ℕ) → Over b p n a m → FitIs n (store_of b p n) (fitted rule (args_of b p n a m)) r
 
+-- For a rule the test r may stand for the one that no argument is a Par: the verdict is the same.
+abbrev pub TestsValues : List ℕ → List ℕ → List ℕ → ℕ → Rule → Bool → Type 0
+TestsValues b p a m rule r =
+    (n : ℕ) → Over b p n a m → need (values (args_of b p n a m)) Misfit (fitted rule (args_of b p n a m)) ≡ need r Misfit (fitted rule (args_of b p n a m))
+
 -- Two arguments or three, for Select and Store.
 pub record ArrayAsks (b p a : List ℕ) (m : ℕ) : Type 0 where
   pub args : ArgsAsk b p a m
@@ -114,3 +120,6 @@ RuleAsks e a rule = FitAsks e.records.now e.places.now a.bytes.now a.count rule
 
 abbrev pub RuleFits : Entries → Args → Rule → Option Fit → Type 0
 RuleFits e a rule r = FitHas e.records.now e.places.now a.bytes.now a.count rule r
+
+abbrev pub ValuesFor : Entries → Args → Rule → Bool → Type 0
+ValuesFor e a rule r = TestsValues e.records.now e.places.now a.bytes.now a.count rule r

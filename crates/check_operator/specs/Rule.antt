@@ -5,8 +5,9 @@ use Rattle.record.specs.Sort.{Sort, Sorts, var, par, node, end, ◌then◌, bool
 use Rattle.record.specs.Record.{map_of}
 use Rattle.row_rules.specs.declared.Cause.TheVariants.{NoRank, Count, Misfit}
 use Rattle.row_rules.specs.Verdict.{Verdict, sort, refused, need}
-use Rattle.check_rules.specs.Rank.{Rank, rank, vector}
-use Rattle.check_rules.specs.Ranks.{x, y, one, two, one_rank, more}
+use Rattle.check_rules.specs.Forms.{concat, vector, numbers, stands, sum_of, all_same}
+use Rattle.check_rules.specs.Rank.{Rank, rank, computed}
+use Rattle.check_rules.specs.Ranks.{x, y, one, two, one_rank, more, mixture}
 use Rattle.check_rules.specs.Checked.{values, only_of}
 
 ---------------------------------------------------------------- rules
@@ -18,7 +19,7 @@ pub data Rule : Type 0 where
   All : (kind result : ℕ) → Rule
   -- as many as the first number says, at most three, of the next three kinds, those left out Bool; the last kind is the result's
   Fixed : (many a b c result : ℕ) → Rule
-  -- at least so many, one or two, all Int or all Real; the result is of this kind, 0 where it is theirs
+  -- at least so many, one or two, each Int or Real; the result is of this kind, 0 where it is Real if one of them is Real, else Int
   Numbers : (least result : ℕ) → Rule
   Equal : Rule
   Choose : Rule
@@ -46,7 +47,7 @@ as_many_of zero s = two s
 as_many_of (suc zero) s = one s
 as_many_of (suc (suc m)) s = two s
 
--- The result: theirs, or the sort of a kind; of vectors, 9 stands for one bit.
+-- The result: this sort, or the sort of a kind; of vectors, 9 stands for one bit.
 abbrev pub numbers_result : ℕ → Sort → Sort
 numbers_result zero s = s
 numbers_result (suc r) s = plain_sort (suc r)
@@ -54,18 +55,27 @@ numbers_result (suc r) s = plain_sort (suc r)
 abbrev pub vectors_result : ℕ → Sort → Sort
 vectors_result r s = cond (eqb r 0) s (cond (eqb r 9) (bitvec 1) (plain_sort r))
 
--- THE RANKS that a rule stands for; Concat has a rule of its own.
+-- Numbers of one sort, and the ranks of all three: all Int, all Real, and mixed. Where the result is Real, 5, all Real stands first.
+abbrev pub number_rank : ℕ → ℕ → Sort → Rank
+number_rank m r s = rank true false (as_many_of m s) (numbers_result r s)
+
+abbrev pub number_ranks : ℕ → ℕ → List Rank
+number_ranks m r =
+    cond (eqb r 5) (number_rank m r real ∷ number_rank m r int ∷ mixture (numbers_result r real))
+    (number_rank m r int ∷ number_rank m r real ∷ mixture (numbers_result r real))
+
+-- THE RANKS that a rule stands for.
 unfoldable pub ranks_of : Rule → List Rank
 ranks_of Unranked = []
 ranks_of (All k r) = more (two (plain_sort k)) (plain_sort r)
 ranks_of (Fixed m a b c r) = one_rank (fixed_of m a b c) (plain_sort r)
-ranks_of (Numbers m r) = rank true false (as_many_of m int) (numbers_result r int) ∷ rank true false (as_many_of m real) (numbers_result r real) ∷ []
+ranks_of (Numbers m r) = number_ranks m r
 ranks_of Equal = more (two x) bool
 ranks_of Choose = one_rank (bool then x then x then end) x
 ranks_of Select = one_rank (array x y then x then end) y
 ranks_of Store = one_rank (array x y then x then y then end) (array x y)
 ranks_of (Vectors m o r) = rank (eqb o 1) true (as_many_of m x) (vectors_result r x) ∷ []
-ranks_of Concat = []
+ranks_of Concat = computed concat ∷ []
 
 ---------------------------------------------------------------- the rule of an operator
 -- The rules of the operators from a first to a last number.
@@ -88,7 +98,7 @@ rules =
     (range 11 11 (Numbers 1 0)
     (range 12 12 (Numbers 2 0)
     (range 13 13 (All 4 4)
-    (range 14 14 (All 5 5)
+    (range 14 14 (Numbers 2 5)
     (range 15 15 (Fixed 2 4 4 3 4)
     (range 16 16 (Fixed 1 4 3 3 4)
     (range 17 20 (Numbers 2 3)
@@ -123,25 +133,20 @@ rules =
     (range 81 84 (Vectors 2 1 0)
     (range 85 88 (Vectors 2 0 0)
     (range 89 89 (Vectors 2 0 3)
+    (range 90 90 Concat
     (range 91 94 (Vectors 2 0 0)
     (range 95 95 (Vectors 2 0 9)
     (range 96 100 (Vectors 2 0 0)
     (range 101 107 (Vectors 2 0 3)
     (range 108 109 (Vectors 1 0 4)
-    none))))))))))))))))))))))))))))))))))))))))))))))))
+    none)))))))))))))))))))))))))))))))))))))))))))))))))
 
 -- THE RULE of the operator n.
 unfoldable pub rule_of : ℕ → Rule
 unfolding rules_in rules
-rule_of n = cond (eqb n 90) Concat (rules_in rules n)
+rule_of n = rules_in rules n
 
 ---------------------------------------------------------------- the verdict of a rule
--- Every sort of a list is this one.
-unfoldable pub all_same : Sort → Sorts → Bool
-unfolding same
-all_same s end = true
-all_same s (t then ts) = same s t && all_same s ts
-
 -- A rule has this count of arguments.
 abbrev pub counts_for : Rule → ℕ → Bool
 counts_for Unranked n = false
@@ -200,11 +205,11 @@ concatenated (a then (b then (c then ts))) = refused Misfit
 
 -- What a rule gives at arguments of its count, none of them a Par.
 unfoldable pub fitted : Rule → Sorts → Verdict
-unfolding same all_same
+unfolding same all_same numbers stands
 fitted Unranked ts = refused Misfit
 fitted (All k r) ts = need (all_same (plain_sort k) ts) Misfit (sort (plain_sort r))
 fitted (Fixed m a b c r) ts = need (same_all (fixed_of m a b c) ts) Misfit (sort (plain_sort r))
-fitted (Numbers m r) ts = cond (all_same int ts) (sort (numbers_result r int)) (need (all_same real ts) Misfit (sort (numbers_result r real)))
+fitted (Numbers m r) ts = need (numbers ts) Misfit (sort (numbers_result r (sum_of ts)))
 fitted Equal ts = need (all_same (only_of ts) ts) Misfit (sort bool)
 fitted Choose ts = choosing ts
 fitted Select ts = ruled_select ts

@@ -1,30 +1,44 @@
 -- The verdict of an operator by its ranks is that of its rule, proved for each kind of rule.
-use Rattle.std.specs.Prelude.{ℕ, zero, suc, ◌+◌, ◌<◌, ◌≡◌, refl, Bool, true, false, cond, ◌&&◌, ◌||◌, List, eqb, leb}
-use Rattle.std.proofs.Common.{sym, ap, ap₂, ◌∙◌, arith, le-leb, eq-eqb, eqb-true, ne_eqb, leb-true}
-use Rattle.std.proofs.lemmas.Bool.{false≢true}
+use Rattle.std.specs.Prelude.{ℕ, zero, suc, ◌+◌, ◌≤◌, ◌<◌, ◌≡◌, ◌⊎◌, refl, Bool, true, false, cond, ◌&&◌, ◌||◌, List, ◌∷◌, ◌++◌, eqb, leb, ltb}
+use Rattle.std.proofs.Common.{sym, ap, ap₂, ◌∙◌, inl, inr, arith, le-leb, eq-eqb, eqb-true, ne_eqb, leb-true}
+use Rattle.std.proofs.Math.Bool.{not}
+use Rattle.std.proofs.lemmas.Bool.{false≢true, leb-false, le-ltb}
 use Rattle.std.proofs.Math.Option.{Option, none as nothing, some}
 use mathlib.Core.Bool.{or-false}
 use Rattle.record.specs.Sort.{Sort, Sorts, var, par, node, end, ◌then◌, bool, int, real, array, bitvec, number_in, count, same, same_all}
 use Rattle.record.specs.SortLaws.{same_refl}
-use Rattle.record.specs.Cases.{and_left, and_right, or_cases, both_ways}
+use Rattle.record.specs.Cases.{and_left, and_right, or_cases, both_ways, by_test}
 use Rattle.substitution.specs.Substitution.{Map, empty, bind, find, apply}
 use Rattle.substitution.specs.Matching.{matches, matches_all, keep, and_then}
 use Rattle.row_rules.specs.declared.Cause.TheVariants.{NoRank, Count, Misfit}
 use Rattle.row_rules.specs.Verdict.{Verdict, sort, refused, need, or_cause}
-use Rattle.check_rules.specs.Rank.{Rank, repeated, stretched, patterns, same_count, counts, vector, vectors_in, every_name, rank_answer, fit, first_fit, some_counts, or_next}
-use Rattle.check_rules.specs.Ranks.{RankTable, done, row, ranks_in, standard, smt_lib, x, y, one, two}
-use Rattle.check_rules.specs.Checked.{value, values, only_of, nonempty, ranked, concatenation, operated}
+use Rattle.check_rules.specs.Forms.{takes, when, vector, numbers, stands, computes, sum_of, all_same}
+use Rattle.check_rules.specs.FormLaws.{ints-are, reals-are}
+use Rattle.check_rules.specs.Rank.{Rank, repeated, stretched, patterns, same_count, counts, vectors_in, every_name, rank_answer, fit, first_fit, some_counts, or_next}
+use Rattle.check_rules.specs.Ranks.{RankTable, done, row, enlarged, ranks_in, standard, smt_lib, x, y, one, two, mixture}
+use Rattle.check_rules.specs.Checked.{values, only_of, nonempty, ranked, operated}
 use Rattle.check_rules.proofs.RankTheorems.{repeated-count}
-use Rattle.check_operator.specs.Rule.{Rule, Unranked, All, Fixed, Numbers, Equal, Choose, Select, Store, Vectors, Concat, Rules, none, range, rules_in, rules, rule_of, plain_sort, fixed_of, as_many_of, numbers_result, vectors_result, ranks_of, well_rule, all_same, counts_for, choosing, selecting, storing, ruled_select, stored, fitted, is_ranked, ruled, one_or_two}
+use Rattle.check_operator.specs.Rule.{Rule, Unranked, All, Fixed, Numbers, Equal, Choose, Select, Store, Vectors, Concat, Rules, none, range, rules_in, rules, rule_of, plain_sort, fixed_of, as_many_of, number_rank, number_ranks, numbers_result, vectors_result, ranks_of, well_rule, counts_for, choosing, selecting, storing, ruled_select, stored, concatenated, fitted, is_ranked, ruled, one_or_two}
 
--- The table of ranks is the table of rules.
+-- The table of ranks, its enlarged rows put together, is the table of rules.
+unfoldable plain_table : RankTable → RankTable
+plain_table done = done
+plain_table (row a b rs t) = row a b rs (plain_table t)
+plain_table (enlarged a b rs qs t) = row a b (rs ++ qs) (plain_table t)
+
+ranks-plain : (t : RankTable) (n : ℕ) → ranks_in t n ≡ ranks_in (plain_table t) n
+unfolding ranks_in plain_table
+ranks-plain done n = refl
+ranks-plain (row a b rs t) n = ap (cond (leb a n && leb n b) rs) (ranks-plain t n)
+ranks-plain (enlarged a b rs qs t) n = ap (cond (leb a n && leb n b) (rs ++ qs)) (ranks-plain t n)
+
 unfoldable ranks_table : Rules → RankTable
 unfolding ranks_of
 ranks_table none = done
 ranks_table (range a b r t) = row a b (ranks_of r) (ranks_table t)
 
-tables : ranks_table rules ≡ standard
-unfolding ranks_table rules standard ranks_of
+tables : ranks_table rules ≡ plain_table standard
+unfolding ranks_table plain_table rules standard ranks_of
 tables = refl
 
 ranks-pick : (b : Bool) (r s : Rule) → cond b (ranks_of r) (ranks_of s) ≡ ranks_of (cond b r s)
@@ -37,27 +51,15 @@ ranks-in none n = refl
 ranks-in (range a b r t) n = ap (cond (leb a n && leb n b) (ranks_of r)) (ranks-in t n) ∙ ranks-pick (leb a n && leb n b) r (rules_in t n)
 
 -- The ranks of every operator are those of its rule.
-pub ranks-are : (n : ℕ) → smt_lib n ≡ ranks_of (rules_in rules n)
-unfolding smt_lib
-ranks-are n = sym (ap (λ (t : RankTable). ranks_in t n) tables) ∙ ranks-in rules n
+pub ranks-are : (n : ℕ) → smt_lib n ≡ ranks_of (rule_of n)
+unfolding smt_lib rule_of
+ranks-are n = ranks-plain standard n ∙ sym (ap (λ (t : RankTable). ranks_in t n) tables) ∙ ranks-in rules n
 
--- Every rule of the table is well formed, and none is Concat.
-abbrev has_ranks : Rule → Bool
-has_ranks Unranked = true
-has_ranks (All k r) = true
-has_ranks (Fixed m a b c r) = true
-has_ranks (Numbers m r) = true
-has_ranks Equal = true
-has_ranks Choose = true
-has_ranks Select = true
-has_ranks Store = true
-has_ranks (Vectors m o r) = true
-has_ranks Concat = false
-
+-- Every rule of the table is well formed.
 unfoldable all_well : Rules → Bool
 unfolding well_rule
 all_well none = true
-all_well (range a b r t) = well_rule r && (has_ranks r && all_well t)
+all_well (range a b r t) = well_rule r && all_well t
 
 all-well : all_well rules ≡ true
 unfolding all_well rules well_rule
@@ -67,27 +69,16 @@ well-pick : (b : Bool) (r s : Rule) → well_rule r ≡ true → well_rule s ≡
 well-pick true r s p q = p
 well-pick false r s p q = q
 
-ranks-left : (b : Bool) (r s : Rule) → has_ranks r ≡ true → has_ranks s ≡ true → has_ranks (cond b r s) ≡ true
-ranks-left true r s p q = p
-ranks-left false r s p q = q
-
 well-in : (t : Rules) (n : ℕ) → all_well t ≡ true → well_rule (rules_in t n) ≡ true
 unfolding all_well rules_in well_rule
 well-in none n e = refl
 well-in (range a b r t) n e =
-    well-pick (leb a n && leb n b) r (rules_in t n) (and_left (well_rule r) (has_ranks r && all_well t) e)
-    (well-in t n (and_right (has_ranks r) (all_well t) (and_right (well_rule r) (has_ranks r && all_well t) e)))
-
-has_in : (t : Rules) (n : ℕ) → all_well t ≡ true → has_ranks (rules_in t n) ≡ true
-unfolding all_well rules_in
-has_in none n e = refl
-has_in (range a b r t) n e =
-    let f = and_right (well_rule r) (has_ranks r && all_well t) e in
-    ranks-left (leb a n && leb n b) r (rules_in t n) (and_left (has_ranks r) (all_well t) f) (has_in t n (and_right (has_ranks r) (all_well t) f))
+    well-pick (leb a n && leb n b) r (rules_in t n) (and_left (well_rule r) (all_well t) e)
+    (well-in t n (and_right (well_rule r) (all_well t) e))
 
 pub well-rule : (n : ℕ) → well_rule (rule_of n) ≡ true
 unfolding rule_of
-well-rule n = well-pick (eqb n 90) Concat (rules_in rules n) (unfold well_rule in refl) (well-in rules n all-well)
+well-rule n = well-in rules n all-well
 
 ---------------------------------------------------------------- counts
 two-count : (p : Sort) (ts : Sorts) → same_count (stretched (two p) ts) ts ≡ leb 2 (count ts)
@@ -124,9 +115,16 @@ fixed-count (suc (suc zero)) a b c e = refl
 fixed-count (suc (suc (suc zero))) a b c e = refl
 fixed-count (suc (suc (suc (suc m)))) a b c e = let z = leb-true (suc (suc (suc (suc m)))) 3 e in absurd (omega arith)
 
-or_same : (a : Bool) → (a || (a || false)) ≡ a
-or_same true = refl
-or_same false = refl
+-- All of one sort, of another, or more than one: as many as of one sort.
+least_some : (m n : ℕ) → one_or_two m ≡ true → (leb m n || (leb m n || (ltb 1 n || false))) ≡ leb m n
+least_some m n e =
+    by_test (leb m n)
+    (λ h. rw h refl)
+    (λ h. rw (h, le-ltb 1 n (under (or_cases (eqb m 1) (eqb m 2) e (λ q. inl (eqb-true m 1 q)) (λ q. inr (eqb-true m 2 q))) (leb-false m n h))) refl)
+  where
+    under : (m ≡ 1) ⊎ (m ≡ 2) → n < m → n ≤ 1
+    under (inl q) l = omega arith
+    under (inr q) l = omega arith
 
 least-count : (m : ℕ) (s : Sort) (ts : Sorts) → one_or_two m ≡ true → same_count (stretched (as_many_of m s) ts) ts ≡ leb m (count ts)
 least-count zero s ts e = absurd (false≢true e)
@@ -150,22 +148,25 @@ vectors-count true m s ts e = least-count m s ts e
 vectors-count false m s ts e = exact-count m s ts e
 
 -- A rule has the counts of its ranks.
-rule-counts : (r : Rule) (ts : Sorts) → has_ranks r ≡ true → well_rule r ≡ true → some_counts (ranks_of r) ts ≡ counts_for r (count ts)
-unfolding some_counts counts ranks_of well_rule
-rule-counts Unranked ts h w = refl
-rule-counts (All k r) ts h w = or-false (same_count (stretched (two (plain_sort k)) ts) ts) ∙ two-count (plain_sort k) ts
-rule-counts (Fixed m a b c r) ts h w =
+rule-counts : (r : Rule) (ts : Sorts) → well_rule r ≡ true → some_counts (ranks_of r) ts ≡ counts_for r (count ts)
+unfolding some_counts counts takes ranks_of well_rule
+rule-counts Unranked ts w = refl
+rule-counts (All k r) ts w = or-false (same_count (stretched (two (plain_sort k)) ts) ts) ∙ two-count (plain_sort k) ts
+rule-counts (Fixed m a b c r) ts w =
     or-false (same_count (fixed_of m a b c) ts) ∙ same-count (fixed_of m a b c) ts ∙ ap (eqb (count ts)) (fixed-count m a b c (and_left (leb m 3) _ w))
-rule-counts (Numbers m r) ts h w =
+rule-counts (Numbers m r) ts w =
     let e = and_left (one_or_two m) _ w in
-    ap₂ (λ (a b : Bool). a || (b || false)) (least-count m int ts e) (least-count m real ts e) ∙ or_same (leb m (count ts))
-rule-counts Equal ts h w = or-false (same_count (stretched (two x) ts) ts) ∙ two-count x ts
-rule-counts Choose ts h w = or-false (same_count (bool then x then x then end) ts) ∙ counted (bool then x then x then end) ts 3 (unfold count in refl)
-rule-counts Select ts h w = or-false (same_count (array x y then x then end) ts) ∙ counted (array x y then x then end) ts 2 (unfold count in refl)
-rule-counts Store ts h w = or-false (same_count (array x y then x then y then end) ts) ∙ counted (array x y then x then y then end) ts 3 (unfold count in refl)
-rule-counts (Vectors m o r) ts h w =
+    let some = λ (a b : Bool). a || (b || (ltb 1 (count ts) || false)) in
+    by_test (eqb r 5)
+    (λ q. rw q (ap₂ some (least-count m real ts e) (least-count m int ts e) ∙ least_some m (count ts) e))
+    (λ q. rw q (ap₂ some (least-count m int ts e) (least-count m real ts e) ∙ least_some m (count ts) e))
+rule-counts Equal ts w = or-false (same_count (stretched (two x) ts) ts) ∙ two-count x ts
+rule-counts Choose ts w = or-false (same_count (bool then x then x then end) ts) ∙ counted (bool then x then x then end) ts 3 (unfold count in refl)
+rule-counts Select ts w = or-false (same_count (array x y then x then end) ts) ∙ counted (array x y then x then end) ts 2 (unfold count in refl)
+rule-counts Store ts w = or-false (same_count (array x y then x then y then end) ts) ∙ counted (array x y then x then y then end) ts 3 (unfold count in refl)
+rule-counts (Vectors m o r) ts w =
     or-false (same_count (patterns (eqb o 1) (as_many_of m x) ts) ts) ∙ vectors-count (eqb o 1) m x ts (and_left (one_or_two m) _ w)
-rule-counts Concat ts h w = absurd (false≢true h)
+rule-counts Concat ts w = or-false (eqb (count ts) 2)
 
 ---------------------------------------------------------------- fits
 and-then-keep : (b : Bool) (m : Map) (f : Map → Option Map) → and_then (keep b (some m)) f ≡ keep b (f m)
@@ -367,36 +368,88 @@ unfolding apply
 numbers-result zero k = refl
 numbers-result (suc r) k = refl
 
-by_two : (b c : Bool) (m : Map) (r s : Sort) (o q : Option Map) → o ≡ keep b (some m) → q ≡ keep c (some m)
-    → or_cause (or_next (rank_answer false r o) (or_next (rank_answer false s q) nothing)) Misfit ≡ cond b (sort (apply m r)) (need c Misfit (sort (apply m s)))
-by_two true c m r s o q e f = rw e refl
-by_two false true m r s o q e f = rw (e, f) refl
-by_two false false m r s o q e f = rw (e, f) refl
+-- A rank of numbers fits where all are of its sort.
+number-fits : (m r k : ℕ) (ts : Sorts) → one_or_two m ≡ true → leb m (count ts) ≡ true
+    → fit (number_rank m r (plain_sort k)) ts ≡ when (all_same (plain_sort k) ts) (numbers_result r (plain_sort k))
+unfolding fit
+number-fits m r k ts w e =
+    ap (rank_answer false (numbers_result r (plain_sort k))) (least-matches m k ts empty w e)
+    ∙ go (all_same (plain_sort k) ts)
+  where
+    go : (b : Bool) → rank_answer false (numbers_result r (plain_sort k)) (keep b (some empty)) ≡ when b (numbers_result r (plain_sort k))
+    go true = ap some (numbers-result r k)
+    go false = refl
+
+-- All Int, all Real, or mixed, in the order of the ranks: each Int or Real.
+int_first : (n i r : Bool) (f : Sort → Sort)
+    → or_cause (or_next (when (n && not r) (f int)) (or_next (when (n && not i) (f real)) (or_next (when (n && i && r) (f real)) nothing))) Misfit ≡ need n Misfit (sort (f (cond r real int)))
+int_first false i r f = refl
+int_first true i false f = refl
+int_first true false true f = refl
+int_first true true true f = refl
+
+real_first : (n i r : Bool) (s : Sort)
+    → or_cause (or_next (when (n && not i) s) (or_next (when (n && not r) s) (or_next (when (n && i && r) s) nothing))) Misfit ≡ need n Misfit (sort s)
+real_first false i r s = refl
+real_first true false r s = refl
+real_first true true false s = refl
+real_first true true true s = refl
+
+numbers-fit : (m r : ℕ) (ts : Sorts) → one_or_two m ≡ true → leb m (count ts) ≡ true
+    → or_cause (first_fit (number_ranks m r) ts) Misfit ≡ need (numbers ts) Misfit (sort (numbers_result r (sum_of ts)))
+unfolding first_fit fit computes
+numbers-fit m r ts w e = by_test (eqb r 5) (λ q. rw (eqb-true r 5 q) real-result) (λ q. rw q other)
+  where
+    mix : Sort → Option Sort
+    mix s = when (numbers ts && stands int ts && stands real ts) s
+
+    ints : (k : ℕ) → fit (number_rank m k int) ts ≡ when (numbers ts && not (stands real ts)) (numbers_result k int)
+    ints k = number-fits m k 4 ts w e ∙ ap (λ (b : Bool). when b (numbers_result k int)) (ints-are ts)
+
+    reals : (k : ℕ) → fit (number_rank m k real) ts ≡ when (numbers ts && not (stands int ts)) (numbers_result k real)
+    reals k = number-fits m k 5 ts w e ∙ ap (λ (b : Bool). when b (numbers_result k real)) (reals-are ts)
+
+    real-result : or_cause (first_fit (number_ranks m 5) ts) Misfit ≡ need (numbers ts) Misfit (sort real)
+    real-result =
+        ap₂ (λ (o p : Option Sort). or_cause (or_next o (or_next p (or_next (mix real) nothing))) Misfit) (reals 5) (ints 5)
+        ∙ real_first (numbers ts) (stands int ts) (stands real ts) real
+
+    other : or_cause (first_fit (number_rank m r int ∷ number_rank m r real ∷ mixture (numbers_result r real)) ts) Misfit ≡ need (numbers ts) Misfit (sort (numbers_result r (sum_of ts)))
+    other =
+        ap₂ (λ (o p : Option Sort). or_cause (or_next o (or_next p (or_next (mix (numbers_result r real)) nothing))) Misfit) (ints r) (reals r)
+        ∙ int_first (numbers ts) (stands int ts) (stands real ts) (numbers_result r)
+
+-- A rank of a form that looks at two arguments.
+concat-fit : (ts : Sorts) → or_cause (first_fit (ranks_of Concat) ts) Misfit ≡ concatenated ts
+unfolding ranks_of first_fit fit computes
+concat-fit end = refl
+concat-fit (a then end) = refl
+concat-fit (a then (b then end)) = go (vector a && vector b)
+  where
+    go : (c : Bool) → or_cause (or_next (when c (bitvec (number_in a + number_in b))) nothing) Misfit ≡ need c Misfit (sort (bitvec (number_in a + number_in b)))
+    go true = refl
+    go false = refl
+concat-fit (a then (b then (c then ts))) = refl
 
 -- A RULE FITS as its ranks do.
-rule_fits : (r : Rule) (ts : Sorts) → has_ranks r ≡ true → well_rule r ≡ true → counts_for r (count ts) ≡ true → or_cause (first_fit (ranks_of r) ts) Misfit ≡ fitted r ts
+rule_fits : (r : Rule) (ts : Sorts) → well_rule r ≡ true → counts_for r (count ts) ≡ true → or_cause (first_fit (ranks_of r) ts) Misfit ≡ fitted r ts
 unfolding first_fit fit ranks_of fitted well_rule apply
-rule_fits Unranked ts h w e = refl
-rule_fits (All k r) ts h w e =
+rule_fits Unranked ts w e = refl
+rule_fits (All k r) ts w e =
     by_one (all_same (plain_sort k) ts) empty (plain_sort r) (matches_all every_name (stretched (two (plain_sort k)) ts) ts empty) (least-matches 2 k ts empty refl e)
-rule_fits (Fixed m a b c r) ts h w e =
+rule_fits (Fixed m a b c r) ts w e =
     by_one (same_all (fixed_of m a b c) ts) empty (plain_sort r) (matches_all every_name (fixed_of m a b c) ts empty) (fixed-matches every_name empty m a b c ts)
-rule_fits (Numbers m r) ts h w e =
-    let q = and_left (one_or_two m) _ w in
-    by_two (all_same int ts) (all_same real ts) empty (numbers_result r int) (numbers_result r real)
-    (matches_all every_name (stretched (as_many_of m int) ts) ts empty) (matches_all every_name (stretched (as_many_of m real) ts) ts empty)
-    (least-matches m 4 ts empty q e) (least-matches m 5 ts empty q e)
-    ∙ ap₂ (λ (s t : Sort). cond (all_same int ts) (sort s) (need (all_same real ts) Misfit (sort t))) (numbers-result r 4) (numbers-result r 5)
-rule_fits Equal ts h w e =
+rule_fits (Numbers m r) ts w e = numbers-fit m r ts (and_left (one_or_two m) _ w) e
+rule_fits Equal ts w e =
     by_one (all_same (only_of ts) ts) (bind 0 (only_of ts) empty) bool (matches_all every_name (stretched (two x) ts) ts empty) (vector-matches true 2 ts refl e)
-rule_fits Choose ts h w e = choose-fits ts e
-rule_fits Select ts h w e = selected-fits ts e
-rule_fits Store ts h w e = stored-fits ts e
-rule_fits (Vectors m o r) ts h w e =
+rule_fits Choose ts w e = choose-fits ts e
+rule_fits Select ts w e = selected-fits ts e
+rule_fits Store ts w e = stored-fits ts e
+rule_fits (Vectors m o r) ts w e =
     by-vector (all_same (only_of ts) ts) (only_of ts) (vectors_result r x) (matches_all every_name (patterns (eqb o 1) (as_many_of m x) ts) ts empty)
     (vector-matches (eqb o 1) m ts (and_left (one_or_two m) _ w) e)
     ∙ ap (λ (s : Sort). need (vector (only_of ts) && all_same (only_of ts) ts) Misfit (sort s)) (vector-result (eqb r 0) (eqb r 9) r (only_of ts))
-rule_fits Concat ts h w e = absurd (false≢true h)
+rule_fits Concat ts w e = concat-fit ts
 
 ---------------------------------------------------------------- the verdict
 need-last : (b c : Bool) (v w : Verdict) → (b ≡ true → v ≡ w) → need b Count (need c Misfit v) ≡ need b Count (need c Misfit w)
@@ -404,57 +457,27 @@ need-last true true v w h = h refl
 need-last true false v w h = refl
 need-last false c v w h = refl
 
-is-ranked : (r : Rule) → has_ranks r ≡ true → nonempty (ranks_of r) ≡ is_ranked r
+is-ranked : (r : Rule) → nonempty (ranks_of r) ≡ is_ranked r
 unfolding ranks_of
-is-ranked Unranked h = refl
-is-ranked (All k r) h = refl
-is-ranked (Fixed m a b c r) h = refl
-is-ranked (Numbers m r) h = refl
-is-ranked Equal h = refl
-is-ranked Choose h = refl
-is-ranked Select h = refl
-is-ranked Store h = refl
-is-ranked (Vectors m o r) h = refl
-is-ranked Concat h = absurd (false≢true h)
+is-ranked Unranked = refl
+is-ranked (All k r) = refl
+is-ranked (Fixed m a b c r) = refl
+is-ranked (Numbers m r) = by_test (eqb r 5) (λ q. rw q refl) (λ q. rw q refl)
+is-ranked Equal = refl
+is-ranked Choose = refl
+is-ranked Select = refl
+is-ranked Store = refl
+is-ranked (Vectors m o r) = refl
+is-ranked Concat = refl
 
-rule-ranked : (r : Rule) (ts : Sorts) → has_ranks r ≡ true → well_rule r ≡ true → ranked (ranks_of r) ts ≡ ruled r ts
+rule-ranked : (r : Rule) (ts : Sorts) → well_rule r ≡ true → ranked (ranks_of r) ts ≡ ruled r ts
 unfolding ranked ruled
-rule-ranked r ts h w =
-    ap₂ (λ (a b : Bool). need a NoRank (need b Count (need (values ts) Misfit (or_cause (first_fit (ranks_of r) ts) Misfit)))) (is-ranked r h) (rule-counts r ts h w)
+rule-ranked r ts w =
+    ap₂ (λ (a b : Bool). need a NoRank (need b Count (need (values ts) Misfit (or_cause (first_fit (ranks_of r) ts) Misfit)))) (is-ranked r) (rule-counts r ts w)
     ∙ ap (need (is_ranked r) NoRank)
-    (need-last (counts_for r (count ts)) (values ts) (or_cause (first_fit (ranks_of r) ts) Misfit) (fitted r ts) (λ e. rule_fits r ts h w e))
-
--- 90 BvConcat: a vector is no Par.
-and-false : (b : Bool) (v : Verdict) → need (b && false) Misfit v ≡ refused Misfit
-and-false true v = refl
-and-false false v = refl
-
-vector-values : (a b : Sort) (v : Verdict) → need (vector a && vector b) Misfit v ≡ need (value a && (value b && true)) Misfit (need (vector a && vector b) Misfit v)
-unfolding same
-vector-values (par ns c) b v = refl
-vector-values (var u) (var n) v = refl
-vector-values (var u) (par ns c) v = refl
-vector-values (var u) (node l d z rs) v = refl
-vector-values (node k a w ss) (var n) v = refl
-vector-values (node k a w ss) (par ns c) v = and-false (vector (node k a w ss)) v
-vector-values (node k a w ss) (node l d z rs) v = refl
-
-concat-ruled : (ts : Sorts) → concatenation ts ≡ ruled Concat ts
-unfolding concatenation ruled count fitted values
-concat-ruled end = refl
-concat-ruled (a then end) = refl
-concat-ruled (a then (b then end)) = vector-values a b (sort (bitvec (number_in a + number_in b)))
-concat-ruled (a then (b then (c then ts))) =
-    sym (ap (λ (t : Bool). need t Count (need (values (a then b then c then ts)) Misfit (refused Misfit)))
-    (ne_eqb (suc (suc (suc (count ts)))) 2 (λ e. absurd (omega arith))))
+    (need-last (counts_for r (count ts)) (values ts) (or_cause (first_fit (ranks_of r) ts) Misfit) (fitted r ts) (λ e. rule_fits r ts w e))
 
 -- THE VERDICT OF AN OPERATOR is that of its rule.
 pub operated-ruled : (n : ℕ) (ts : Sorts) → operated smt_lib n ts ≡ ruled (rule_of n) ts
-unfolding operated rule_of
-operated-ruled n ts =
-    ap (λ (rs : List Rank). cond (eqb n 90) (concatenation ts) (ranked rs ts)) (ranks-are n)
-    ∙ pick (eqb n 90) (rules_in rules n) (has_in rules n all-well) (well-in rules n all-well)
-  where
-    pick : (b : Bool) (r : Rule) → has_ranks r ≡ true → well_rule r ≡ true → cond b (concatenation ts) (ranked (ranks_of r) ts) ≡ ruled (cond b Concat r) ts
-    pick true r h w = concat-ruled ts
-    pick false r h w = rule-ranked r ts h w
+unfolding operated
+operated-ruled n ts = ap (λ (rs : List Rank). ranked rs ts) (ranks-are n) ∙ rule-ranked (rule_of n) ts (well-rule n)

@@ -10,7 +10,7 @@ ghost use Rattle.row_answer.specs.Heads.{HeadAsks};
 ghost use Rattle.row_answer.specs.Words.{args_in};
 ghost use Rattle.check_operator.specs.Rule.{All, Numbers, Equal, Choose, Vectors, Concat};
 ghost use Rattle.check_operator.specs.Numbered.{result_number, fixed_numbers, rule_numbers};
-ghost use Rattle.check_operator.specs.Contract.{ArgsAsk, KindIs, KindsHave, SameHas, RuleAsks, RuleFits, ArrayAsks, ArrayHas, fit_verdict};
+ghost use Rattle.check_operator.specs.Contract.{ArgsAsk, KindIs, KindsHave, SameHas, RuleAsks, RuleFits, ValuesFor, ArrayAsks, ArrayHas, fit_verdict};
 ghost use Rattle.check_operator.specs.Words.{DeliverFitAsked, CheckOperatorAsked};
 
 use super::rule::{Rule, counts, rule_of};
@@ -76,18 +76,21 @@ pub fn fit_fixed(
     fits.then_some(Fit::Plain(res))
 }
 
-// All Int or all Real; the result is of this kind, or theirs.
+// Each Int or Real, in one pass; the result is of this kind, or Real if one of them is Real, else Int. None where an argument is
+// of another kind.
 pub fn fit_numbers(entries: Entries<'_>, args: &Args<'_>, res: Option<SortKind>) -> Option<Fit>
     requires { RuleAsks entries args.now (Numbers 1 (result_number res)) }
     ensures { RuleFits entries.entry args.now (Numbers 1 (result_number res)) result }
 {
-    if all_kind(entries, args, SortKind::Int) {
-        return Some(Fit::Plain(res.unwrap_or(SortKind::Int)));
+    let mut sum = SortKind::Int;
+    for k in args.numbers() {
+        match entries.kind(k) {
+            SortKind::Int => {}
+            SortKind::Real => sum = SortKind::Real,
+            _ => return None,
+        }
     }
-    if all_kind(entries, args, SortKind::Real) {
-        return Some(Fit::Plain(res.unwrap_or(SortKind::Real)));
-    }
-    None
+    Some(Fit::Plain(res.unwrap_or(sum)))
 }
 
 // All of one sort gives Bool.
@@ -176,6 +179,18 @@ pub fn fit_rule(entries: Entries<'_>, rule: Rule, args: &Args<'_>) -> Option<Fit
     }
 }
 
+// Whether none of the arguments is a Par; true for numbers, whose fit finds it out: what is Int or Real is none.
+#[tactic(auto, using(crate::proofs::OperatedLaws::numbers_tested))]
+pub fn values_for(entries: Entries<'_>, rule: Rule, args: &Args<'_>) -> bool
+    requires { ArgsAsk entries.records.now entries.places.now args.now.bytes.now args.now.count }
+    ensures { ValuesFor entries.entry args.now (rule_numbers rule) result }
+{
+    match rule {
+        Rule::Numbers(_, _) => true,
+        _ => all_values(entries, args.bytes, args.span()),
+    }
+}
+
 // The answer of a fit: its sort, made where it is not in the store.
 pub fn delivered_fit(store: &mut Store<'_>, made: Fit) -> Row
     requires { DeliverFitAsked store.old made }
@@ -201,7 +216,7 @@ pub fn checked_operator(store: &mut Store<'_>, op: usize, args: &Args<'_>) -> Ro
         return Err(Cause::Count);
     }
     let entries = store.entries();
-    if !all_values(entries, args.bytes, args.span()) {
+    if !values_for(entries, rule, args) {
         return Err(Cause::Misfit);
     }
     let made = fit_rule(entries, rule, args).ok_or(Cause::Misfit)?;

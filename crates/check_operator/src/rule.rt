@@ -34,7 +34,7 @@ pub enum Rule {
     All(SortKind, SortKind),
     // One of each of these kinds, in their order, at most three; the last kind is the result's.
     Fixed(&'static [SortKind], SortKind),
-    // At least so many, one or two, all Int or all Real; the result is of this kind, or of theirs.
+    // At least so many, one or two, each Int or Real; the result is of this kind, or Real if one of them is Real, else Int.
     Numbers(usize, Option<SortKind>),
     // Two or more of one sort; the result is Bool.
     Equal,
@@ -65,7 +65,7 @@ pub fn rule_of_theory(op: Operator) -> Option<Rule>
         Add | Mult => Some(Rule::Numbers(2, None)),
         Sub => Some(Rule::Numbers(1, None)),
         IntDiv => Some(Rule::All(Int, Int)),
-        RealDiv => Some(Rule::All(Real, Real)),
+        RealDiv => Some(Rule::Numbers(2, Some(Real))),
         Mod => Some(Rule::Fixed(&[Int, Int], Int)),
         Abs => Some(Rule::Fixed(&[Int], Int)),
         LessThan | GreaterThan | LessEq | GreaterEq => Some(Rule::Numbers(2, Some(Bool))),

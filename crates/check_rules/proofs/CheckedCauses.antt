@@ -21,7 +21,7 @@ use Rattle.check_rules.proofs.FitLaws.{operated-ranked, by_ranked, sort-refused}
 use Rattle.check_rules.specs.Rules.{HaveSorts}
 use Rattle.check_rules.proofs.RuleTheorems.{have-only, have-when}
 use Rattle.check_rules.proofs.RefusalLaws.{refused-inj, by_equal}
-use Rattle.check_rules.proofs.RefusalTheorems.{constant-refusals, vector-refusals, var-refusals, binder-refusals, let-refusals, as-refusals, concat-refusals}
+use Rattle.check_rules.proofs.RefusalTheorems.{constant-refusals, vector-refusals, var-refusals, binder-refusals, let-refusals, as-refusals}
 use Rattle.check_rules.proofs.IndexRefusals.{index-refusals}
 
 -- What holds of 24 to 27 holds of every cause of an App and of an operator.
@@ -52,9 +52,9 @@ module _ (O : Cause → Type 0) (unranked : O NoRank) (miscounted : O Count) (mi
   application-told (g then end) h = told h miscounted
   application-told (g then (t then ts)) h = called-told (λ v. parameters g v) (function_list g) (t then ts) h
 
-  operated-told : (R : ℕ → List Rank) (n : ℕ) (ts : Sorts) → (n ≡ 90 → ⊥) → operated R n ts ≡ refused c → O c
-  operated-told R n ts d h =
-      let o = operated-ranked R n ts d in
+  operated-told : (R : ℕ → List Rank) (n : ℕ) (ts : Sorts) → operated R n ts ≡ refused c → O c
+  operated-told R n ts h =
+      let o = operated-ranked R n ts in
       by_ranked (R n) ts
       (λ a e. told (sym (o ∙ e) ∙ h) unranked)
       (λ a b e. told (sym (o ∙ e) ∙ h) miscounted)
@@ -72,7 +72,7 @@ checked-causes R z c h =
     (λ q4 d4. by_equal z.kind 5 (λ q e. (var-refusals R z e).nothing-else c h)
     (λ q5 d5. by_equal z.kind 6 (λ q e. application-told (λ x. (24 ≤ number_of x) × (number_of x ≤ 28)) (omega arith, omega arith) (omega arith, omega arith) (omega arith, omega arith) (omega arith, omega arith) c z.args (rw e at h))
     (λ q6 d6. by_equal z.kind 7
-    (λ q e. by_equal z.number 90 (λ r n. (concat-refusals R z e n).nothing-else c h) (λ r d. operated-told (λ x. (24 ≤ number_of x) × (number_of x ≤ 28)) (omega arith, omega arith) (omega arith, omega arith) (omega arith, omega arith) (omega arith, omega arith) c R z.number z.args d (rw e at h)))
+    (λ q e. operated-told (λ x. (24 ≤ number_of x) × (number_of x ≤ 28)) (omega arith, omega arith) (omega arith, omega arith) (omega arith, omega arith) (omega arith, omega arith) c R z.number z.args (rw e at h))
     (λ q7 d7. by_equal z.kind 8 (λ q e. (binder-refusals R z e).nothing-else c h)
     (λ q8 d8. by_equal z.kind 9 (λ q e. (let-refusals R z e).nothing-else c h)
     (λ q9 d9. by_equal z.kind 11 (λ q e. (index-refusals R z e).nothing-else c h)

@@ -1,8 +1,8 @@
 -- When a rank fits, in terms of assignments: the map that matching finds is an assignment of the rank's variables, and every
 -- assignment that turns its argument sorts into the actual ones is found.
 use Rattle.std.specs.Prelude.{ℕ, zero, suc, ◌≡◌, Bool, true, false, ◌&&◌, List, [], ◌∷◌, eqb}
+use Rattle.std.proofs.Common.{sym, ap, ◌∙◌, true≢false, eqb-true}
 use Rattle.std.proofs.Math.Path.{refl}
-use Rattle.std.proofs.Common.{sym, ap, ◌∙◌, true≢false, eqb-true, ne_eqb}
 use Rattle.std.proofs.lemmas.Bool.{false≢true, eqb-false}
 use Rattle.std.proofs.Math.Option.{none, some}
 use Rattle.record.specs.Sort.{Sort, Sorts, var, par, node, end, ◌then◌, bitvec, number_in, same}
@@ -16,9 +16,10 @@ use Rattle.substitution.proofs.MatchingLaws.{keep-rest, and_then-middle, matchin
 use Rattle.row_rules.specs.declared.Cause.{Cause}
 use Rattle.row_rules.specs.declared.Cause.TheVariants.{NoRank, Count, Misfit}
 use Rattle.row_rules.specs.Verdict.{sort, refused, or_cause, number_of}
-use Rattle.check_rules.specs.Rank.{Rank, rank, repeated, stretched, patterns, same_count, counts, vector, vectors_in, every_name, rank_answer, fit, first_fit, some_counts}
-use Rattle.check_rules.specs.RankLaws.{closed, closed_all, patterns-occurs, vector-is, well_rank}
+use Rattle.check_rules.specs.Rank.{Rank, rank, repeated, stretched, patterns, same_count, counts, vector, vectors_in, every_name, rank_answer, fit, first_fit, some_counts, computed}
+use Rattle.check_rules.specs.RankLaws.{closed, closed_all, patterns-occurs, vector-is, well_rank, patterns-parless}
 use Rattle.check_rules.proofs.RankSound.{Sound}
+use Rattle.check_rules.specs.FormLaws.{computes-only, computes-when, computes-count}
 use Rattle.check_rules.specs.Fits.{Fits, rank_at, SomeFits}
 use Rattle.check_rules.specs.Checked.{values, nonempty, ranked, operated}
 
@@ -74,26 +75,6 @@ stretched-only v (p then (q then ps)) (t then ts) o =
 pub patterns-only : (rep : Bool) (v : ℕ) (ps ts : Sorts) → occurs_any v (patterns rep ps ts) ≡ true → occurs_any v ps ≡ true
 patterns-only true v ps ts o = stretched-only v ps ts o
 patterns-only false v ps ts o = o
-
-pub repeated-parless : (p : Sort) (ts : Sorts) → parless p ≡ true → parless_all (repeated p ts) ≡ true
-unfolding repeated parless
-repeated-parless p end e = refl
-repeated-parless p (t then ts) e = and-true (parless p) (parless_all (repeated p ts)) e (repeated-parless p ts e)
-
-pub stretched-parless : (ps ts : Sorts) → parless_all ps ≡ true → parless_all (stretched ps ts) ≡ true
-unfolding stretched parless
-stretched-parless end ts e = refl
-stretched-parless (p then end) end e = e
-stretched-parless (p then end) (t then ts) e =
-    let z = and_left (parless p) true e in and-true (parless p) (parless_all (repeated p ts)) z (repeated-parless p ts z)
-stretched-parless (p then (q then ps)) end e = e
-stretched-parless (p then (q then ps)) (t then ts) e =
-    and-true (parless p) (parless_all (stretched (q then ps) ts)) (and_left (parless p) (parless_all (q then ps)) e)
-    (stretched-parless (q then ps) ts (and_right (parless p) (parless_all (q then ps)) e))
-
-pub patterns-parless : (rep : Bool) (ps ts : Sorts) → parless_all ps ≡ true → parless_all (patterns rep ps ts) ≡ true
-patterns-parless true ps ts e = stretched-parless ps ts e
-patterns-parless false ps ts e = e
 
 -- Patterns that match are as many as the arguments.
 pub match-count : (l : ℕ → Bool) (ps ts : Sorts) (m m' : Map) → matches_all l ps ts m ≡ some m' → same_count ps ts ≡ true
@@ -175,6 +156,7 @@ fit-fits (rank rep vs ps r) ts s e h =
           (λ t f. (number_in t, unfold apply in rw f (vector-is t (vectors-find m v t (vm b) f))));
       result = am;
     })
+fit-fits (computed f) ts s e h = computes-only f ts s h
 
 -- And an assignment makes the test succeed: matching finds it, on the variables of the arguments, and the result has no other.
 pub fits-fit : (r : Rank) (ts : Sorts) (s : Sort) → well_rank r ≡ true → Fits r ts s → fit r ts ≡ some s
@@ -189,6 +171,7 @@ fits-fit (rank rep vs ps r) ts s e F =
     rw f (answer-when vs r m s
     (λ b. match_all-vectors (patterns rep ps ts) ts empty m θ f F.turns
     (λ v o. let (w, q) = F.widths b v (patterns-only rep v ps ts o) in vector-when (apply θ (var v)) w q) refl) a)
+fits-fit (computed f) ts s e F = computes-when f ts s F
 
 -- A rank that fits has this count of arguments.
 pub fit-counts : (r : Rank) (ts : Sorts) (s : Sort) → fit r ts ≡ some s → counts r ts ≡ true
@@ -197,6 +180,7 @@ fit-counts (rank rep vs ps r) ts s h =
     by_option (matches_all every_name (patterns rep ps ts) ts empty)
     (λ q. let z : rank_answer vs r none ≡ some s = rw q at h in none-some z)
     (λ m q. match-count every_name (patterns rep ps ts) ts empty m q)
+fit-counts (computed f) ts s h = computes-count f ts s (computes-only f ts s h)
 
 ---------------------------------------------------------------- lists of ranks
 pub sound-well : (rs : List Rank) (i : ℕ) (r : Rank) → Sound rs → rank_at rs i ≡ some r → well_rank r ≡ true
@@ -285,6 +269,6 @@ by_ranked rs ts unranked miscounted parametric misfit good =
     (λ b. miscounted a b (ranked-miscounted rs ts a b)))
     (λ a. unranked a (ranked-unranked rs ts a))
 
-pub operated-ranked : (R : ℕ → List Rank) (n : ℕ) (ts : Sorts) → (n ≡ 90 → ⊥) → operated R n ts ≡ ranked (R n) ts
+pub operated-ranked : (R : ℕ → List Rank) (n : ℕ) (ts : Sorts) → operated R n ts ≡ ranked (R n) ts
 unfolding operated
-operated-ranked R n ts h = rw (ne_eqb n 90 h) refl
+operated-ranked R n ts = refl

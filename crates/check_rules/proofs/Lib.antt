@@ -1,10 +1,17 @@
+pub mod AddedTheorems
 pub mod AppExamples
 pub mod AppRefusals
 pub mod AppTheorems
 pub mod CheckedCauses
+pub mod Disjoint
+pub mod DisjointLaws
 pub mod FitLaws
 pub mod IndexRefusals
 pub mod Kept
+pub mod MixedExamples
+pub mod More
+pub mod NumberRefusals
+pub mod NumberTheorems
 pub mod ParlessTheorems
 pub mod PartTheorems
 pub mod RankSound

@@ -5,22 +5,24 @@ use Rattle.std.proofs.lemmas.Bool.{false≢true}
 use Rattle.std.proofs.Math.Option.{Option, none, some}
 use Rattle.std.proofs.Math.Dec.{eqb}
 use Rattle.record.specs.Sort.{Sort, Sorts, var, par, node, end, ◌then◌, bool, int, reglan, array, number_in, count, same}
-use Rattle.record.specs.Cases.{and_left, conj, and-true, by_test, by_option, none-some, some_inj}
+use Rattle.record.specs.Cases.{and_left, and_right, conj, and-true, by_test, by_option, none-some, some_inj}
 use Rattle.substitution.specs.Substitution.{Map, empty, bind, find, apply, apply_all}
 use Rattle.substitution.proofs.SubstitutionLaws.{proper-parless}
 use Rattle.substitution.specs.Matching.{matches, matches_all}
 use Rattle.substitution.proofs.MatchingLaws.{keep-rest, and_then-middle}
-use Rattle.substitution.specs.Premises.{proper, proper_all, parless, parless_all}
+use Rattle.substitution.specs.Premises.{proper, proper_all, parless, parless_all, ground}
 use Rattle.row_rules.specs.declared.Cause.TheVariants.{NoRank, Count, Misfit, Unassigned, Barred}
 use Rattle.row_rules.specs.Verdict.{sort, or_cause}
 use Rattle.row_rules.specs.Lists.{firsts, others, remaining, binding_sorts}
 use Rattle.row_rules.specs.Term.{Site}
 use Rattle.row_rules.specs.Parless.{ParlessVerdict, ParlessSite}
 use Rattle.row_rules.proofs.ParlessLaws.{parless-cond, parless-need, parless-others, parless-remaining, parless-last, parless-joined}
-use Rattle.check_rules.specs.Rank.{Rank, rank, vector, vectors_in, patterns, every_name, rank_answer, fit, first_fit, some_counts}
+use Rattle.check_rules.specs.Forms.{Form, concat, mixed, Computes, vector}
+use Rattle.check_rules.specs.FormLaws.{well_form, computes-only}
+use Rattle.check_rules.specs.Rank.{Rank, rank, computed, vectors_in, patterns, every_name, rank_answer, fit, first_fit, some_counts}
 use Rattle.check_rules.specs.RankLaws.{well_rank}
 use Rattle.check_rules.proofs.RankSound.{Sound}
-use Rattle.check_rules.specs.Checked.{carried, value, values, settled, called, checked_app, concatenation, nonempty, ranked, operated, only_of, bound_body, binder, inner_of, letting, new_width, indexed₁, indexed₂, indexed_by, indexed_on, indexing, constant_array, qualified, checked}
+use Rattle.check_rules.specs.Checked.{carried, value, values, settled, called, checked_app, nonempty, ranked, operated, only_of, bound_body, binder, inner_of, letting, new_width, indexed₁, indexed₂, indexed_by, indexed_on, indexing, constant_array, qualified, checked}
 
 ---------------------------------------------------------------- maps
 -- No image of a map has a Par.
@@ -75,6 +77,12 @@ mutual
       match_all-parless l ps ts k m' (search conj) (match-parless l p t m k (search conj) d g) r
 
 ---------------------------------------------------------------- operators
+-- What a form gives holds no Par.
+form-parless : (f : Form) (ts : Sorts) (s : Sort) → well_form f ≡ true → Computes f ts s → parless s ≡ true
+unfolding well_form parless
+form-parless concat ts s w h = let (i, j, e, r) = h in rw r refl
+form-parless (mixed t) ts s w h = let (a, b, c, e) = h in rw e (proper-parless t (and_right (ground t) (proper t) w))
+
 fit-parless : (r : Rank) (ts : Sorts) (s : Sort) → well_rank r ≡ true → parless_all ts ≡ true → fit r ts ≡ some s → parless s ≡ true
 unfolding fit well_rank parless_map
 fit-parless (rank rep vs ps r) ts s e p h =
@@ -88,6 +96,7 @@ fit-parless (rank rep vs ps r) ts s e p h =
         (λ w. let z : some (apply m r) ≡ some s = rw w at k in rw (← some_inj z) d)
         (λ w. let z : none ≡ some s = rw w at k in none-some z)
     go false m k d = rw (← some_inj k) d
+fit-parless (computed f) ts s e p h = form-parless f ts s e (computes-only f ts s h)
 
 first-parless : (rs : List Rank) (ts : Sorts) → Sound rs → parless_all ts ≡ true → ParlessVerdict (or_cause (first_fit rs ts) Misfit)
 unfolding first_fit
@@ -99,13 +108,6 @@ ranked-parless : (rs : List Rank) (ts : Sorts) → Sound rs → parless_all ts �
 unfolding ranked
 ranked-parless rs ts w h =
     parless-need (nonempty rs) NoRank _ (parless-need (some_counts rs ts) Count _ (parless-need (values ts) Misfit _ (first-parless rs ts w h)))
-
-concat-parless : (ts : Sorts) → ParlessVerdict (concatenation ts)
-unfolding concatenation parless
-concat-parless end = tt
-concat-parless (a then end) = tt
-concat-parless (a then (b then end)) = parless-need (vector a && vector b) Misfit _ refl
-concat-parless (a then (b then (c then ss))) = tt
 
 ---------------------------------------------------------------- App
 called-parless : (l : ℕ → Bool) (ss ts : Sorts) → parless_all ss ≡ true → parless_all ts ≡ true → ParlessVerdict (called l (some ss) ts)
@@ -199,7 +201,7 @@ array-parless (node k n w (i then (e then end))) (a then end) h =
 array-parless (node k n w (i then (e then (r then rs)))) (a then end) h = tt
 
 ---------------------------------------------------------------- every record
--- For all sound ranks, document 01's among them (`smt_lib-sound`).
+-- For all sound ranks, those of the table among them (`smt_lib-sound`).
 pub checked-parless : (R : ℕ → List Rank) → ((n : ℕ) → Sound (R n)) → (z : Site) → ParlessSite z → ParlessVerdict (checked R z)
 unfolding checked parless
 checked-parless R S z h =
@@ -211,7 +213,7 @@ checked-parless R S z h =
     (parless-cond (eqb z.kind 5) _ _ (parless-need (carried z.own) Barred _ h.own)
     (parless-cond (eqb z.kind 6) _ _ (application-parless z.args h.args)
     (parless-cond (eqb z.kind 7) _ _
-    (unfold operated in parless-cond (eqb z.number 90) _ _ (concat-parless z.args) (ranked-parless (R z.number) z.args (S z.number) h.args))
+    (unfold operated in ranked-parless (R z.number) z.args (S z.number) h.args)
     (parless-cond (eqb z.kind 8) _ _
     (unfold binder in parless-need (proper_all (binding_sorts z.bindings)) Barred _ (body-parless z.number (binding_sorts z.bindings) z.args h.bindings h.args))
     (parless-cond (eqb z.kind 9) _ _

@@ -1,44 +1,45 @@
 -- WHAT A LABORATORY MAY RELY ON OF OPERATORS: an operator term is accepted exactly when some rank of the operator fits the sorts
 -- of its arguments, that rank is the only one, and each cause of refusal stands exactly where document 01 puts it. Stated for
--- all sound ranks, and then for document 01's.
-use Rattle.std.specs.Prelude.{ℕ, zero, suc, ◌+◌, ◌≤◌, ◌≡◌, refl, ◌↔◌, ◌⊎◌, Bool, true, false, ◌&&◌, List, [], ◌∷◌}
-use Rattle.std.proofs.Common.{sym, ap, ◌∙◌, inl, inr, ⊎_elim, true≢false, arith}
-use Rattle.std.proofs.lemmas.Bool.{false≢true}
+-- all sound ranks, and then for those of the table.
+use Rattle.std.specs.Prelude.{ℕ, zero, suc, ◌+◌, ◌≤◌, ◌≡◌, refl, ◌↔◌, ◌⊎◌, Bool, true, false, List, [], ◌∷◌}
+use Rattle.std.proofs.Common.{sym, ap, ◌∙◌, inl, inr, ⊎_elim, true≢false, arith, subst, eqb-true, ne_eqb, eq-eqb}
+use Rattle.std.proofs.lemmas.Bool.{false≢true, eqb-false}
 use Rattle.std.proofs.Math.Option.{some}
-use Rattle.record.specs.Sort.{Sort, Sorts, end, ◌then◌, bitvec, number_in, count, same}
-use Rattle.record.specs.Cases.{and_left, and_right, eqb-self, by_test, by_option, none-some, some_inj, clash}
+use Rattle.record.specs.Sort.{Sort, Sorts, end, ◌then◌, bitvec, count}
+use Rattle.record.specs.Cases.{by_test, by_option, none-some, some_inj, clash, or_left, or_cases}
 use Rattle.row_rules.specs.declared.Cause.TheVariants.{NoRank, Count, Misfit}
 use Rattle.row_rules.specs.Verdict.{sort, refused}
 use Rattle.row_rules.proofs.OutcomeLaws.{refused-sort, sort-inj}
-use Rattle.check_rules.specs.Rank.{Rank, rank, repeated, stretched, same_count, counts, vector, first_fit, some_counts}
+use Rattle.check_rules.specs.Rank.{Rank, rank, repeated, stretched, same_count, counts, first_fit, some_counts, computed}
 use Rattle.check_rules.specs.Ranks.{smt_lib}
-use Rattle.check_rules.specs.RankLaws.{vector-is}
-use Rattle.check_rules.proofs.RankSound.{Sound, smt_lib-sound}
+use Rattle.check_rules.specs.RankLaws.{well_rank}
+use Rattle.check_rules.proofs.RankSound.{Sound, smt_lib-sound, alone-sound}
 use Rattle.check_rules.specs.Fits.{Fits, rank_at, SomeFits}
 use Rattle.check_rules.proofs.FitLaws.{sound-well, fits-fit, fit-counts, first_fit-when, some_counts-when, first_fit-some, some_fit, some-first_fit, sort-refused, other-cause, ranked-unranked, ranked-miscounted, ranked-par, ranked-values, by_ranked, operated-ranked}
-use Rattle.check_rules.specs.Checked.{values, concatenation, nonempty, operated}
+use Rattle.check_rules.specs.Checked.{values, nonempty, operated}
+use Rattle.check_rules.specs.Forms.{concat, takes}
 
 ---------------------------------------------------------------- accepted exactly when some rank fits
 -- AN OPERATOR TERM IS ACCEPTED with the sort s exactly when no argument is a Par and some rank of the operator fits the
--- arguments' sorts with the result s. 90 BvConcat is below.
-pub rank-accepted : (R : ℕ → List Rank) (n : ℕ) → Sound (R n) → (n ≡ 90 → ⊥) → (ts : Sorts) (s : Sort)
+-- arguments' sorts with the result s. This is so of every operator.
+pub rank-accepted : (R : ℕ → List Rank) (n : ℕ) → Sound (R n) → (ts : Sorts) (s : Sort)
     → operated R n ts ≡ sort s ↔ (values ts ≡ true) × SomeFits (R n) ts s
-rank-accepted R n S d ts s = (
+rank-accepted R n S ts s = (
   λ h. by_ranked (R n) ts
-      (λ a e. refused-sort (sym e ∙ sym (operated-ranked R n ts d) ∙ h))
-      (λ a b e. refused-sort (sym e ∙ sym (operated-ranked R n ts d) ∙ h))
-      (λ a b e. refused-sort (sym e ∙ sym (operated-ranked R n ts d) ∙ h))
-      (λ a b c e. refused-sort (sym e ∙ sym (operated-ranked R n ts d) ∙ h))
-      (λ u c f e. let z : sort u ≡ sort s = sym e ∙ sym (operated-ranked R n ts d) ∙ h in
+      (λ a e. refused-sort (sym e ∙ sym (operated-ranked R n ts) ∙ h))
+      (λ a b e. refused-sort (sym e ∙ sym (operated-ranked R n ts) ∙ h))
+      (λ a b e. refused-sort (sym e ∙ sym (operated-ranked R n ts) ∙ h))
+      (λ a b c e. refused-sort (sym e ∙ sym (operated-ranked R n ts) ∙ h))
+      (λ u c f e. let z : sort u ≡ sort s = sym e ∙ sym (operated-ranked R n ts) ∙ h in
       (c, first_fit-some (R n) ts s S (f ∙ ap some (sort-inj z)))),
   λ g. let F = g.1 in
       let b = some_counts-when (R n) F.place F.chosen ts F.listed (fit-counts F.chosen ts s (some_fit (R n) ts s S F)) in
-      operated-ranked R n ts d ∙ ranked-values (R n) ts b g.0 ∙ rw (some-first_fit (R n) ts s S F) refl,
+      operated-ranked R n ts ∙ ranked-values (R n) ts b g.0 ∙ rw (some-first_fit (R n) ts s S F) refl,
 )
 
-pub accepted-smt_lib : (n : ℕ) → (n ≡ 90 → ⊥) → (ts : Sorts) (s : Sort)
+pub accepted-smt_lib : (n : ℕ) (ts : Sorts) (s : Sort)
     → operated smt_lib n ts ≡ sort s ↔ (values ts ≡ true) × SomeFits (smt_lib n) ts s
-accepted-smt_lib n d ts s = rank-accepted smt_lib n (smt_lib-sound n) d ts s
+accepted-smt_lib n ts s = rank-accepted smt_lib n (smt_lib-sound n) ts s
 
 ---------------------------------------------------------------- at most one rank fits
 -- Two ranks of an operator that fit the same sorts are one entry of its list: by induction over the list; a fit of the first
@@ -73,41 +74,41 @@ no_ranks [] e = refl
 no_ranks (r ∷ rs) e = absurd (true≢false e)
 
 -- 24 exactly where the operator has no rank.
-pub unranked : (R : ℕ → List Rank) (n : ℕ) → (n ≡ 90 → ⊥) → (ts : Sorts) → operated R n ts ≡ refused NoRank ↔ R n ≡ []
-unranked R n d ts = (
+pub unranked : (R : ℕ → List Rank) (n : ℕ) (ts : Sorts) → operated R n ts ≡ refused NoRank ↔ R n ≡ []
+unranked R n ts = (
   λ h. by_ranked (R n) ts
       (λ a e. no_ranks (R n) a)
-      (λ a b e. other-cause refl (sym e ∙ sym (operated-ranked R n ts d) ∙ h))
-      (λ a b e. other-cause refl (sym e ∙ sym (operated-ranked R n ts d) ∙ h))
-      (λ a b c e. other-cause refl (sym e ∙ sym (operated-ranked R n ts d) ∙ h))
-      (λ u c f e. sort-refused (sym e ∙ sym (operated-ranked R n ts d) ∙ h)),
-  λ h. operated-ranked R n ts d ∙ ranked-unranked (R n) ts (ap nonempty h),
+      (λ a b e. other-cause refl (sym e ∙ sym (operated-ranked R n ts) ∙ h))
+      (λ a b e. other-cause refl (sym e ∙ sym (operated-ranked R n ts) ∙ h))
+      (λ a b c e. other-cause refl (sym e ∙ sym (operated-ranked R n ts) ∙ h))
+      (λ u c f e. sort-refused (sym e ∙ sym (operated-ranked R n ts) ∙ h)),
+  λ h. operated-ranked R n ts ∙ ranked-unranked (R n) ts (ap nonempty h),
 )
 
 -- 25 exactly where it has ranks and none of them has this count of arguments.
-pub miscounted : (R : ℕ → List Rank) (n : ℕ) → (n ≡ 90 → ⊥) → (ts : Sorts)
+pub miscounted : (R : ℕ → List Rank) (n : ℕ) (ts : Sorts)
     → operated R n ts ≡ refused Count ↔ (nonempty (R n) ≡ true) × (some_counts (R n) ts ≡ false)
-miscounted R n d ts = (
+miscounted R n ts = (
   λ h. by_ranked (R n) ts
-      (λ a e. other-cause refl (sym e ∙ sym (operated-ranked R n ts d) ∙ h))
+      (λ a e. other-cause refl (sym e ∙ sym (operated-ranked R n ts) ∙ h))
       (λ a b e. (a, b))
-      (λ a b e. other-cause refl (sym e ∙ sym (operated-ranked R n ts d) ∙ h))
-      (λ a b c e. other-cause refl (sym e ∙ sym (operated-ranked R n ts d) ∙ h))
-      (λ u c f e. sort-refused (sym e ∙ sym (operated-ranked R n ts d) ∙ h)),
-  λ h. operated-ranked R n ts d ∙ ranked-miscounted (R n) ts h.0 h.1,
+      (λ a b e. other-cause refl (sym e ∙ sym (operated-ranked R n ts) ∙ h))
+      (λ a b c e. other-cause refl (sym e ∙ sym (operated-ranked R n ts) ∙ h))
+      (λ u c f e. sort-refused (sym e ∙ sym (operated-ranked R n ts) ∙ h)),
+  λ h. operated-ranked R n ts ∙ ranked-miscounted (R n) ts h.0 h.1,
 )
 
 -- 26 exactly where some rank has this count, and an argument is a Par or no rank fits.
-pub misfit : (R : ℕ → List Rank) (n : ℕ) → Sound (R n) → (n ≡ 90 → ⊥) → (ts : Sorts)
+pub misfit : (R : ℕ → List Rank) (n : ℕ) → Sound (R n) → (ts : Sorts)
     → operated R n ts ≡ refused Misfit ↔ (some_counts (R n) ts ≡ true) × ((values ts ≡ false) ⊎ ((s : Sort) → SomeFits (R n) ts s → ⊥))
-misfit R n S d ts = (
+misfit R n S ts = (
   λ h. by_ranked (R n) ts
-      (λ a e. other-cause refl (sym e ∙ sym (operated-ranked R n ts d) ∙ h))
-      (λ a b e. other-cause refl (sym e ∙ sym (operated-ranked R n ts d) ∙ h))
+      (λ a e. other-cause refl (sym e ∙ sym (operated-ranked R n ts) ∙ h))
+      (λ a b e. other-cause refl (sym e ∙ sym (operated-ranked R n ts) ∙ h))
       (λ a b e. (a, inl b))
       (λ a b c e. (a, inr (λ s F. none-some (sym c ∙ some-first_fit (R n) ts s S F))))
-      (λ u c f e. sort-refused (sym e ∙ sym (operated-ranked R n ts d) ∙ h)),
-  λ h. operated-ranked R n ts d ∙
+      (λ u c f e. sort-refused (sym e ∙ sym (operated-ranked R n ts) ∙ h)),
+  λ h. operated-ranked R n ts ∙
       by_test (values ts)
       (λ v. ranked-values (R n) ts h.0 v ∙
       by_option (first_fit (R n) ts)
@@ -137,66 +138,79 @@ counts-more vs p end r (t then ts) = (λ e. omega arith, λ e. repeated-count p 
 counts-more vs p (q then ps) r end = (λ e. absurd (false≢true e), λ e. absurd (omega arith))
 counts-more vs p (q then ps) r (t then ts) = let (f, g) = counts-more vs q ps r ts in (λ e. let z = f e in omega arith, λ e. g (omega arith))
 
+---------------------------------------------------------------- operators with one rank
+-- Most operators have one rank. Accepted exactly when no argument is a Par and this rank fits.
+pub alone-fits : (r : Rank) (ts : Sorts) (s : Sort) → SomeFits (r ∷ []) ts s ↔ Fits r ts s
+unfolding rank_at
+alone-fits r ts s = (
+  λ F. chosen F.place F.chosen F.listed F.fits,
+  λ f. record { place = 0; chosen = r; listed = refl; fits = f },
+)
+  where
+    chosen : (i : ℕ) (q : Rank) → rank_at (r ∷ []) i ≡ some q → Fits q ts s → Fits r ts s
+    chosen zero q l f = subst (λ (z : Rank). Fits z ts s) (sym (some_inj l)) f
+    chosen (suc i) q l f = none-some l
+
+pub alone-accepted : (R : ℕ → List Rank) (n : ℕ) (r : Rank) → R n ≡ r ∷ [] → well_rank r ≡ true → (ts : Sorts) (s : Sort)
+    → operated R n ts ≡ sort s ↔ (values ts ≡ true) × Fits r ts s
+alone-accepted R n r e w ts s =
+    let S : Sound (R n) = subst Sound (sym e) (alone-sound r w) in
+    let A = rank-accepted R n S ts s in (
+      λ h. let (v, F) = A.0 h in (v, (alone-fits r ts s).0 (subst (λ (rs : List Rank). SomeFits rs ts s) e F)),
+      λ g. A.1 (g.0, subst (λ (rs : List Rank). SomeFits rs ts s) (sym e) ((alone-fits r ts s).1 g.1)),
+    )
+
+-- 25 exactly where the rank does not have this count of arguments.
+pub alone-miscounted : (R : ℕ → List Rank) (n : ℕ) (r : Rank) → R n ≡ r ∷ [] → (ts : Sorts) → operated R n ts ≡ refused Count ↔ counts r ts ≡ false
+unfolding some_counts
+alone-miscounted R n r e ts =
+    let M = miscounted R n ts in (
+      λ h. or_left (counts r ts) false (rw e at (M.0 h).1),
+      λ g. M.1 (rw e refl, rw (e, g) refl),
+    )
+
+-- 26 exactly where it has, and an argument is a Par or the rank does not fit.
+pub alone-misfit : (R : ℕ → List Rank) (n : ℕ) (r : Rank) → R n ≡ r ∷ [] → well_rank r ≡ true → (ts : Sorts)
+    → operated R n ts ≡ refused Misfit ↔ (counts r ts ≡ true) × ((values ts ≡ false) ⊎ ((s : Sort) → Fits r ts s → ⊥))
+unfolding some_counts
+alone-misfit R n r e w ts =
+    let S : Sound (R n) = subst Sound (sym e) (alone-sound r w) in
+    let M = misfit R n S ts in (
+      λ h. let (c, d) = M.0 h in (
+        or_cases (counts r ts) false (rw e at c) (λ q. q) (λ q. absurd (false≢true q)),
+        ⊎_elim (λ v. inl v) (λ g. inr (λ s f. g s (subst (λ (rs : List Rank). SomeFits rs ts s) (sym e) ((alone-fits r ts s).1 f)))) d,
+      ),
+      λ g. M.1 (
+        rw (e, g.0) refl,
+        ⊎_elim (λ v. inl v) (λ k. inr (λ s F. k s ((alone-fits r ts s).0 (subst (λ (rs : List Rank). SomeFits rs ts s) e F)))) g.1,
+      ),
+    )
+
 ---------------------------------------------------------------- 90 BvConcat
 -- Accepted exactly when there are two arguments, both vectors; the width is the sum of theirs.
-pub concat-accepted : (R : ℕ → List Rank) (ts : Sorts) (s : Sort)
-    → operated R 90 ts ≡ sort s ↔ ((i : ℕ) × (j : ℕ) × (ts ≡ bitvec i then bitvec j then end) × (s ≡ bitvec (i + j)))
-unfolding operated concatenation same
-concat-accepted R ts s = (λ h. only ts h, λ g. let (i, j, e, f) = g in rw (e, f) (both i j))
-  where
-    only : (ts : Sorts) → concatenation ts ≡ sort s → (i : ℕ) × (j : ℕ) × (ts ≡ bitvec i then bitvec j then end) × (s ≡ bitvec (i + j))
-    only end h = refused-sort h
-    only (a then end) h = refused-sort h
-    only (a then (b then end)) h =
-        by_test (vector a && vector b)
-        (λ q. let z : sort (bitvec (number_in a + number_in b)) ≡ sort s = rw q at h in
-        let ea = vector-is a (and_left (vector a) (vector b) q) in
-        let eb = vector-is b (and_right (vector a) (vector b) q) in
-        let e : a then b then end ≡ bitvec (number_in a) then bitvec (number_in b) then end = cc in
-        (number_in a, number_in b, e, sym (sort-inj z)))
-        (λ q. refused-sort (rw q at h))
-    only (a then (b then (c then ss))) h = refused-sort h
-
-    both : (i j : ℕ) → concatenation (bitvec i then bitvec j then end) ≡ sort (bitvec (i + j))
-    both i j = rw (eqb-self i, eqb-self j) refl
+pub concat-accepted : (ts : Sorts) (s : Sort)
+    → operated smt_lib 90 ts ≡ sort s ↔ ((i : ℕ) × (j : ℕ) × (ts ≡ bitvec i then bitvec j then end) × (s ≡ bitvec (i + j)))
+unfolding smt_lib well_rank values
+concat-accepted ts s =
+    let A = alone-accepted smt_lib 90 (computed concat) refl refl ts s in
+    (λ h. (A.0 h).1, λ g. A.1 (let (i, j, e, f) = g in rw e refl, g))
 
 -- 25 exactly where there are not two.
-pub concat-miscounted : (R : ℕ → List Rank) (ts : Sorts) → operated R 90 ts ≡ refused Count ↔ (count ts ≡ 2 → ⊥)
-unfolding operated concatenation count
-concat-miscounted R ts = (λ h c. only ts h c, λ g. when ts g)
-  where
-    only : (ts : Sorts) → concatenation ts ≡ refused Count → count ts ≡ 2 → ⊥
-    only end h c = omega arith
-    only (a then end) h c = omega arith
-    only (a then (b then end)) h c =
-        by_test (vector a && vector b) (λ q. sort-refused (rw q at h)) (λ q. let z : refused Misfit ≡ refused Count = rw q at h in other-cause refl z)
-    only (a then (b then (d then ss))) h c = omega arith
-
-    when : (ts : Sorts) → (count ts ≡ 2 → ⊥) → concatenation ts ≡ refused Count
-    when end g = refl
-    when (a then end) g = refl
-    when (a then (b then end)) g = absurd (g refl)
-    when (a then (b then (d then ss))) g = refl
+pub concat-miscounted : (ts : Sorts) → operated smt_lib 90 ts ≡ refused Count ↔ (count ts ≡ 2 → ⊥)
+unfolding smt_lib counts takes
+concat-miscounted ts =
+    let M = alone-miscounted smt_lib 90 (computed concat) refl ts in
+    (λ h. eqb-false (count ts) 2 (M.0 h), λ g. M.1 (ne_eqb (count ts) 2 g))
 
 -- 26 exactly where there are two and not both are vectors.
-pub concat-misfit : (R : ℕ → List Rank) (ts : Sorts)
-    → operated R 90 ts ≡ refused Misfit ↔ (count ts ≡ 2) × ((i j : ℕ) → ts ≡ bitvec i then bitvec j then end → ⊥)
-unfolding operated concatenation count
-concat-misfit R ts = (λ h. (only ts h, λ i j e. sort-refused (sym ((concat-accepted R ts (bitvec (i + j))).1 (i, j, e, refl)) ∙ h)), λ g. when ts g.0 g.1)
-  where
-    only : (ts : Sorts) → concatenation ts ≡ refused Misfit → count ts ≡ 2
-    only end h = other-cause refl h
-    only (a then end) h = other-cause refl h
-    only (a then (b then end)) h = refl
-    only (a then (b then (d then ss))) h = other-cause refl h
-
-    when : (ts : Sorts) → count ts ≡ 2 → ((i j : ℕ) → ts ≡ bitvec i then bitvec j then end → ⊥) → concatenation ts ≡ refused Misfit
-    when end c g = absurd (omega arith)
-    when (a then end) c g = absurd (omega arith)
-    when (a then (b then end)) c g =
-        by_test (vector a && vector b)
-        (λ q. let ea = vector-is a (and_left (vector a) (vector b) q) in
-        let eb = vector-is b (and_right (vector a) (vector b) q) in
-        let e : a then b then end ≡ bitvec (number_in a) then bitvec (number_in b) then end = cc in absurd (g (number_in a) (number_in b) e))
-        (λ q. rw q refl)
-    when (a then (b then (d then ss))) c g = absurd (omega arith)
+pub concat-misfit : (ts : Sorts)
+    → operated smt_lib 90 ts ≡ refused Misfit ↔ (count ts ≡ 2) × ((i j : ℕ) → ts ≡ bitvec i then bitvec j then end → ⊥)
+unfolding smt_lib well_rank counts takes values
+concat-misfit ts =
+    let M = alone-misfit smt_lib 90 (computed concat) refl refl ts in (
+      λ h. let (c, d) = M.0 h in (
+        eqb-true (count ts) 2 c,
+        λ i j e. ⊎_elim (λ v. let z : true ≡ false = rw e at v in true≢false z) (λ k. k (bitvec (i + j)) (i, j, e, refl)) d,
+      ),
+      λ g. M.1 (eq-eqb (count ts) 2 g.0, inr (λ s f. let (i, j, e, r) = f in g.1 i j e)),
+    )

@@ -92,6 +92,30 @@ as-accepted s e a p c f x = record {
   nothing-else = λ c h. sort-refused (sym e ∙ h);
 }
 
+-- The same conditions in other words: what is asked of the sorts may be put otherwise where the count is right.
+pub exactly-same : {v : Verdict} {A P C F X B D G : Type 0} → Exactly v A P C F X → A ↔ B → C ↔ D → (C → F ↔ G) → Exactly v B P D G X
+exactly-same e a c f = record {
+  unranked = (λ h b. e.unranked.0 h (a.1 b), λ n. e.unranked.1 (λ x. n (a.0 x)));
+  barred = (λ h. let (x, p) = e.barred.0 h in (a.0 x, p), λ h. e.barred.1 (a.1 h.0, h.1));
+  miscounted = (
+    λ h. let (x, p, n) = e.miscounted.0 h in (a.0 x, p, λ d. n (c.1 d)),
+    λ h. let (b, p, n) = h in e.miscounted.1 (a.1 b, p, λ y. n (c.0 y)),
+  );
+  misfit = (
+    λ h. let (x, p, y, n) = e.misfit.0 h in (a.0 x, p, c.0 y, λ g. n ((f y).1 g)),
+    λ h. let (b, p, d, n) = h in e.misfit.1 (a.1 b, p, c.1 d, λ z. n ((f (c.1 d)).0 z)),
+  );
+  unassigned = (
+    λ h. let (x, p, y, z, n) = e.unassigned.0 h in (a.0 x, p, c.0 y, (f y).0 z, n),
+    λ h. let (b, p, d, g, n) = h in e.unassigned.1 (a.1 b, p, c.1 d, (f (c.1 d)).1 g, n),
+  );
+  accepted = (
+    λ h. let (x, p, y, z, w) = e.accepted.0 h in (a.0 x, p, c.0 y, (f y).0 z, w),
+    λ h. let (b, p, d, g, w) = h in e.accepted.1 (a.1 b, p, c.1 d, (f (c.1 d)).1 g, w),
+  );
+  nothing-else = e.nothing-else;
+}
+
 -- A test of counts, then one of sorts, each of which says its condition.
 pub tests : (q r : Bool) (s : Sort) {v : Verdict} {A P C F : Type 0} → v ≡ need q Count (need r Misfit (sort s)) → A → P
     → (q ≡ true ↔ C) → (r ≡ true ↔ F) → Exactly v A P C F Unit

@@ -4,9 +4,9 @@ use Rattle.std.specs.Prelude.{ℕ, suc, ◌+◌, ◌≤◌, ◌<◌, ◌≡◌, 
 use Rattle.std.proofs.Common.{sym, ap, ◌∙◌, true≢false, arith, eqb-true, eq-eqb, ltb-true, lt-ltb}
 use Rattle.std.proofs.lemmas.Bool.{false≢true}
 use Rattle.std.proofs.Math.Option.{some}
-use Rattle.record.specs.Sort.{Sort, Sorts, var, par, node, end, ◌then◌, function, bool, int, real, string, reglan, array, bitvec, number_in, count, same}
-use Rattle.record.specs.SortLaws.{same-sound, same-complete, same_refl}
-use Rattle.record.specs.Cases.{and_left, and_right, and-true, by_test, none-some, clash, positive}
+use Rattle.record.specs.Sort.{Sort, Sorts, var, par, node, end, ◌then◌, function, bool, int, real, string, reglan, array, bitvec, count, same}
+use Rattle.record.specs.SortLaws.{same-sound, same-complete}
+use Rattle.record.specs.Cases.{and_left, and_right, and-true, or_cases, by_test, none-some, clash, positive}
 use Rattle.sheet.specs.Sheet.{Binding}
 use Rattle.substitution.specs.Premises.{proper, proper_all}
 use Rattle.row_rules.specs.declared.Cause.{Cause}
@@ -14,19 +14,20 @@ use Rattle.row_rules.specs.declared.Cause.TheVariants.{Below}
 use Rattle.row_rules.specs.Verdict.{refused}
 use Rattle.row_rules.specs.Lists.{last_of, joined, binding_sorts}
 use Rattle.row_rules.specs.Term.{Site, Terms, term, constants_of, verdict_of, verdicts_of}
-use Rattle.check_rules.specs.Rank.{Rank, rank, stretched, counts, vector as is_vector, some_counts}
-use Rattle.check_rules.specs.RankLaws.{vector-is}
-use Rattle.check_rules.proofs.RankSound.{Sound}
+use Rattle.check_rules.specs.Forms.{Form, concat, mixed, takes}
+use Rattle.check_rules.specs.Rank.{Rank, rank, computed, stretched, counts, some_counts}
+use Rattle.check_rules.specs.Ranks.{smt_lib}
+use Rattle.check_rules.proofs.RankSound.{Sound, smt_lib-sound}
 use Rattle.check_rules.specs.Fits.{rank_at, SomeFits}
-use Rattle.check_rules.specs.Checked.{carried, value, values, only_of, binder, letting, constant_array, qualified, concatenation, nonempty, operated, checked, check}
+use Rattle.check_rules.specs.Checked.{carried, value, values, only_of, binder, letting, constant_array, qualified, nonempty, operated, checked, check}
 use Rattle.check_rules.proofs.FitLaws.{some_counts-nonempty, first_fit-some, some-first_fit, some_counts-when, fit-counts, some_fit, operated-ranked, by_ranked}
 use Rattle.check_rules.specs.Parts.{first, Proper, Carried, EachProper, EachValue}
 use Rattle.check_rules.proofs.PartTheorems.{proper-exactly, carried-exactly, value-exactly, each_proper-exactly, each_value-exactly}
 use Rattle.check_rules.specs.Refusals.{Exactly}
 use Rattle.check_rules.specs.Rules.{HaveSorts}
-use Rattle.check_rules.proofs.RankTheorems.{no_ranks, same_count-number, counts-more}
+use Rattle.check_rules.proofs.RankTheorems.{no_ranks, same_count-number, counts-more, alone-fits}
 use Rattle.check_rules.proofs.RuleTheorems.{have-only, have-when}
-use Rattle.check_rules.proofs.RefusalLaws.{as-unranked, as-barred, as-miscounted, as-misfit, as-accepted, tests, cleaned, by_equal, parts-cause}
+use Rattle.check_rules.proofs.RefusalLaws.{as-unranked, as-barred, as-miscounted, as-misfit, as-accepted, exactly-same, tests, cleaned, by_equal, parts-cause}
 
 ---------------------------------------------------------------- constants, Var, Match
 -- An INTEGER, REAL, STRING OR REGLAN CONSTANT is never refused.
@@ -160,10 +161,16 @@ as-refusals R z k = rw k (
     )
 
 ---------------------------------------------------------------- Op
--- A RANK TAKES k ARGUMENTS: as many as it prints, or more where it has a last one that repeats; and some rank of a list does.
+-- A RANK TAKES k ARGUMENTS: as many as it prints, or more where it has a last one that repeats; a form says its own counts. And some
+-- rank of a list does.
+abbrev pub FormTakes : Form → ℕ → Type 0
+FormTakes concat k = k ≡ 2
+FormTakes (mixed r) k = 2 ≤ k
+
 pub data Takes (k : ℕ) : Rank → Type 0 where
   exact : {rep vs : Bool} {ps : Sorts} {r : Sort} → count ps ≡ k → Takes k (rank rep vs ps r)
   more : {vs : Bool} {p : Sort} {ps : Sorts} {r : Sort} → count (p then ps) ≤ k → Takes k (rank true vs (p then ps) r)
+  form : {f : Form} → FormTakes f k → Takes k (computed f)
 
 abbrev pub SomeTakes : List Rank → ℕ → Type 0
 SomeTakes rs k = (place : ℕ) × (r : Rank) × (rank_at rs place ≡ some r) × Takes k r
@@ -173,10 +180,14 @@ unfolding counts stretched
 counts-takes (rank false vs ps r) ts e = exact ((same_count-number ps ts).0 e)
 counts-takes (rank true vs end r) ts e = exact ((same_count-number end ts).0 e)
 counts-takes (rank true vs (p then ps) r) ts e = more ((counts-more vs p ps r ts).0 e)
+counts-takes (computed concat) ts e = form (eqb-true (count ts) 2 (unfold takes in e))
+counts-takes (computed (mixed r)) ts e = form (ltb-true 1 (count ts) (unfold takes in e))
 
 takes-counts : {r : Rank} (ts : Sorts) → Takes (count ts) r → counts r ts ≡ true
 unfolding counts stretched count
 takes-counts ts (more {vs} {p} {ps} {r} l) = (counts-more vs p ps r ts).1 l
+takes-counts ts (form {f = concat} e) = unfold takes in eq-eqb (count ts) 2 e
+takes-counts ts (form {f = mixed r} l) = unfold takes in lt-ltb 1 (count ts) l
 takes-counts ts (exact {rep} {vs} {ps} {r} e) = alike rep ps e
   where
     alike : (rep : Bool) (ps : Sorts) → count ps ≡ count ts → counts (rank rep vs ps r) ts ≡ true
@@ -185,7 +196,7 @@ takes-counts ts (exact {rep} {vs} {ps} {r} e) = alike rep ps e
     alike true (p then ps) e = (counts-more vs p ps r ts).1 (omega arith)
 
 -- The test of counts says this.
-some_takes-exactly : (rs : List Rank) (ts : Sorts) → some_counts rs ts ≡ true ↔ SomeTakes rs (count ts)
+pub some_takes-exactly : (rs : List Rank) (ts : Sorts) → some_counts rs ts ≡ true ↔ SomeTakes rs (count ts)
 unfolding some_counts rank_at
 some_takes-exactly rs ts = (there rs, λ T. let (i, r, l, t) = T in some_counts-when rs i r ts l (takes-counts ts t))
   where
@@ -196,10 +207,10 @@ some_takes-exactly rs ts = (there rs, λ T. let (i, r, l, t) = T in some_counts-
         (λ q. (0, r, refl, counts-takes r ts q))
         (λ q. let (i, o, l, t) = there rs (rw q at e) in (suc i, o, l, t))
 
-op-way : (R : ℕ → List Rank) (n : ℕ) (ts : Sorts) → Sound (R n) → (n ≡ 90 → ⊥)
+op-way : (R : ℕ → List Rank) (n : ℕ) (ts : Sorts) → Sound (R n)
     → Exactly (operated R n ts) (R n ≡ [] → ⊥) Unit (SomeTakes (R n) (count ts)) (EachValue ts × ((s : Sort) × SomeFits (R n) ts s)) Unit
-op-way R n ts S d =
-    let o = operated-ranked R n ts d in
+op-way R n ts S =
+    let o = operated-ranked R n ts in
     let any : nonempty (R n) ≡ true → R n ≡ [] → ⊥ = λ a e. true≢false (sym a ∙ ap nonempty e) in
     by_ranked (R n) ts
     (λ a e. as-unranked (o ∙ e) (λ h. h (no_ranks (R n) a)))
@@ -211,33 +222,37 @@ op-way R n ts S d =
     let b = some_counts-when (R n) F.place F.chosen ts F.listed (fit-counts F.chosen ts s (some_fit (R n) ts s S F)) in
     as-accepted s (o ∙ e) (any (some_counts-nonempty (R n) ts b)) _ ((some_takes-exactly (R n) ts).0 b) ((each_value-exactly ts).0 c, (s, F)) _)
 
--- AN OP, but 90 BvConcat: 24 exactly where the operator has no rank; else 25 exactly where none takes this count of arguments;
+-- AN OP: 24 exactly where the operator has no rank; else 25 exactly where none takes this count of arguments;
 -- else 26 exactly where an argument is a Par or no rank fits. Never 28 or 27.
-pub op-refusals : (R : ℕ → List Rank) (z : Site) → Sound (R z.number) → z.kind ≡ 7 → (z.number ≡ 90 → ⊥)
+pub op-refusals : (R : ℕ → List Rank) (z : Site) → Sound (R z.number) → z.kind ≡ 7
     → Exactly (checked R z) (R z.number ≡ [] → ⊥) Unit (SomeTakes (R z.number) (count z.args))
     (EachValue z.args × ((s : Sort) × SomeFits (R z.number) z.args s)) Unit
 unfolding checked
-op-refusals R z S k d = rw k (op-way R z.number z.args S d)
+op-refusals R z S k = rw k (op-way R z.number z.args S)
 
 -- 90 BvConcat: 25 exactly where it has not two arguments; else 26 exactly where they are not two vectors of known width.
-pub concat-refusals : (R : ℕ → List Rank) (z : Site) → z.kind ≡ 7 → z.number ≡ 90
-    → Exactly (checked R z) Unit Unit (count z.args ≡ 2) ((i : ℕ) × (j : ℕ) × (z.args ≡ bitvec i then bitvec j then end)) Unit
-unfolding checked operated concatenation count
-concat-refusals R z k n = rw (k, n) (way z.args)
+pub concat-refusals : (z : Site) → z.kind ≡ 7 → z.number ≡ 90
+    → Exactly (checked smt_lib z) Unit Unit (count z.args ≡ 2) ((i : ℕ) × (j : ℕ) × (z.args ≡ bitvec i then bitvec j then end)) Unit
+unfolding smt_lib some_counts counts takes values
+concat-refusals z k n =
+    exactly-same (op-refusals smt_lib z (smt_lib-sound z.number) k)
+    (λ h. tt, λ h. rw n (λ e. true≢false (ap nonempty e)))
+    (rw n (one-takes z.args))
+    (λ c. rw n (two-vectors z.args))
   where
-    way : (ts : Sorts) → Exactly (concatenation ts) Unit Unit (count ts ≡ 2) ((i : ℕ) × (j : ℕ) × (ts ≡ bitvec i then bitvec j then end)) Unit
-    way end = as-miscounted refl _ _ (λ h. omega arith)
-    way (a then end) = as-miscounted refl _ _ (λ h. omega (arith, h))
-    way (a then (b then end)) =
-        tests true (is_vector a && is_vector b) (bitvec (number_in a + number_in b)) refl _ _ (λ h. refl, λ h. refl) (
-          λ h. let e = vector-is a (and_left (is_vector a) (is_vector b) h) in
-              let f = vector-is b (and_right (is_vector a) (is_vector b) h) in (number_in a, number_in b, cc),
-          λ h. let (i, j, e) = h in
-              let f : a ≡ bitvec i = cc in
-              let g : b ≡ bitvec j = cc in
-              rw (f, g) (and-true (is_vector (bitvec i)) (is_vector (bitvec j)) (same_refl (bitvec i)) (same_refl (bitvec j))),
+    one-takes : (ts : Sorts) → SomeTakes (computed concat ∷ []) (count ts) ↔ (count ts ≡ 2)
+    one-takes ts =
+        let S = some_takes-exactly (computed concat ∷ []) ts in (
+          λ T. eqb-true (count ts) 2 (or_cases (eqb (count ts) 2) false (S.1 T) (λ q. q) (λ q. absurd (false≢true q))),
+          λ e. S.0 (rw (eq-eqb (count ts) 2 e) refl),
         )
-    way (a then (b then (c then ss))) = as-miscounted refl _ _ (λ h. omega (arith, h))
+
+    two-vectors : (ts : Sorts) → (EachValue ts × ((s : Sort) × SomeFits (computed concat ∷ []) ts s)) ↔ ((i : ℕ) × (j : ℕ) × (ts ≡ bitvec i then bitvec j then end))
+    two-vectors ts = (
+      λ h. let (i, j, e, r) = (alone-fits (computed concat) ts h.1.0).0 h.1.1 in (i, j, e),
+      λ h. let (i, j, e) = h in
+          ((each_value-exactly ts).0 (rw e refl), (bitvec (i + j), (alone-fits (computed concat) ts (bitvec (i + j))).1 (i, j, e, refl))),
+    )
 
 ---------------------------------------------------------------- terms
 -- A TERM IS REFUSED for a cause other than 20 exactly where its parts have sorts by the rules and the record with these is refused for it.

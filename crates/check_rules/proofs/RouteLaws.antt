@@ -141,7 +141,7 @@ pub routes : (R : ℕ → List Rank) → ((n : ℕ) → Sound (R n)) → (σ : M
 unfolding check
 routes R S σ t s e u h = (verdict-kept R S σ t s e u h).moved
 
--- And so for the ranks of document 01.
+-- And so for the ranks of the table.
 pub routes-smt_lib : (σ : Map) (t : Term) (s : Sort) → proper_map σ ≡ true → clear_term σ t ≡ true
     → check smt_lib t ≡ sort s → check smt_lib (replace σ t) ≡ sort (apply σ s)
 routes-smt_lib = routes smt_lib smt_lib-sound

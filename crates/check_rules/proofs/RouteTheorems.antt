@@ -224,6 +224,6 @@ routes-allowed R S σ t s A h =
     let c = parameters-term τ t (λ n e. once-touches n τ o (same n ∙ A.replaced n e) (λ v r f. A.inside n e v r (sym (same v) ∙ f))) in
     ap (check R) (sym (replace-agree τ σ t same)) ∙ routes R S τ t s p c h ∙ ap sort (apply-agree τ σ s (λ v e. same v))
 
--- And so for the ranks of document 01.
+-- And so for the ranks of the table.
 pub routes-allowed-smt_lib : (σ : Map) (t : Term) (s : Sort) → Allowed σ t → check smt_lib t ≡ sort s → check smt_lib (replace σ t) ≡ sort (apply σ s)
 routes-allowed-smt_lib = routes-allowed smt_lib smt_lib-sound

@@ -1,8 +1,8 @@
 -- THE CHECKED VERDICT IS A SORT EXACTLY BY THE RULES of Rules: for every record, and by induction for every term. The tests of
 -- Checked are taken apart one after the other, each giving a premise of a rule; and the premises make the tests pass.
 use Rattle.std.specs.Prelude.{ℕ, suc, ◌+◌, ◌*◌, ◌-◌, ◌<◌, ◌≡◌, ◌↔◌, Bool, true, false, not, ◌&&◌, ◌||◌, List, [], ◌∷◌, eqb, leb, ltb}
-use Rattle.std.proofs.Math.Path.{refl}
 use Rattle.std.proofs.Common.{sym, ap, ◌∙◌, inl, inr, arith, add-one, eqb-true, ne_eqb, leb-true, ltb-true, lt-ltb}
+use Rattle.std.proofs.Math.Path.{refl}
 use Rattle.std.proofs.lemmas.Bool.{false≢true, eqb-false}
 use Rattle.std.proofs.Math.Option.{Option, none, some}
 use Rattle.record.specs.Sort.{Sort, Sorts, var, par, node, end, ◌then◌, function, bool, int, reglan, array, bitvec, number_in, count, same}
@@ -27,10 +27,10 @@ use Rattle.check_rules.proofs.Kept.{carried_all}
 use Rattle.check_rules.proofs.RouteLaws.{verdicts-kept, parts, besides-parts}
 use Rattle.check_rules.proofs.PartTheorems.{proper-exactly, each_proper-exactly, carried-exactly, value-exactly, each_value-exactly}
 use Rattle.check_rules.specs.Fits.{one_of}
-use Rattle.check_rules.proofs.RankTheorems.{rank-accepted, concat-accepted}
+use Rattle.check_rules.proofs.RankTheorems.{rank-accepted}
 use Rattle.check_rules.proofs.AppTheorems.{called-accepted, called-plain}
 use Rattle.check_rules.proofs.Widths.{checked-extend-width, rotate-width, checked-repeat-width, extract-accepted, int-width}
-use Rattle.check_rules.specs.Rules.{Applied, parametric, plain, Operated, by_rank, concat, Binds, quantifier, choice, lambda, Indexes, extract, extend, rotate, repeat, int_to_bv, power, loop, Rule, integer_constant, real_constant, string_constant, reglan_constant, vector_constant, variable, by_app, by_op, by_binder, by_let, by_index, by_const, HasSort, HaveSorts}
+use Rattle.check_rules.specs.Rules.{Applied, parametric, plain, Operated, by_rank, Binds, quantifier, choice, lambda, Indexes, extract, extend, rotate, repeat, int_to_bv, power, loop, Rule, integer_constant, real_constant, string_constant, reglan_constant, vector_constant, variable, by_app, by_op, by_binder, by_let, by_index, by_const, HasSort, HaveSorts}
 
 ---------------------------------------------------------------- tests taken apart
 pub need-sort : (b : Bool) (c : Cause) (v : Verdict) (s : Sort) → need b c v ≡ sort s → (b ≡ true) × (v ≡ sort s)
@@ -79,14 +79,10 @@ applied-when ts s c (plain a w ss (t then rs) e any few given turns result) =
 
 ---------------------------------------------------------------- Op
 pub operated-only : (R : ℕ → List Rank) (n : ℕ) (ts : Sorts) (s : Sort) → Sound (R n) → operated R n ts ≡ sort s → Operated R n ts s
-operated-only R n ts s S h =
-    by_test (eqb n 90)
-    (λ q. let z = eqb-true n 90 q in let (i, j, e, f) = (concat-accepted R ts s).0 (rw z at h) in concat i j z e f)
-    (λ q. let d = eqb-false n 90 q in let (v, F) = (rank-accepted R n S d ts s).0 h in by_rank d ((each_value-exactly ts).0 v) F)
+operated-only R n ts s S h = let (v, F) = (rank-accepted R n S ts s).0 h in by_rank ((each_value-exactly ts).0 v) F
 
 pub operated-when : (R : ℕ → List Rank) (n : ℕ) (ts : Sorts) (s : Sort) → Sound (R n) → Operated R n ts s → operated R n ts ≡ sort s
-operated-when R n ts s S (by_rank d v F) = (rank-accepted R n S d ts s).1 ((each_value-exactly ts).1 v, F)
-operated-when R n ts s S (concat i j z e f) = rw z ((concat-accepted R ts s).1 (i, j, e, f))
+operated-when R n ts s S (by_rank v F) = (rank-accepted R n S ts s).1 ((each_value-exactly ts).1 v, F)
 
 ---------------------------------------------------------------- Binder
 -- One binding is the whole list.

@@ -1,13 +1,13 @@
 -- The two routes, one rule of the checked verdict after the other: where a rule gives a sort, it gives the replaced sort on
 -- replaced arguments. Each law follows the `need`s of its definition.
 use Rattle.std.specs.Prelude.{ℕ, suc, ◌+◌, ◌-◌, ◌*◌, ◌<◌, ◌≡◌, refl, Bool, true, false, not, cond, ◌&&◌, ◌||◌, List, [], ◌∷◌, eqb, leb, ltb}
-use Rattle.std.proofs.Common.{sym, ap, ◌∙◌, true≢false, arith, mul-pos, eqb-true, ne_eqb, ltb-true}
-use Rattle.std.proofs.lemmas.Bool.{false≢true, eqb-false}
+use Rattle.std.proofs.Common.{sym, ap, ◌∙◌, true≢false, arith, mul-pos, eqb-true, ltb-true}
+use Rattle.std.proofs.lemmas.Bool.{false≢true}
 use Rattle.std.proofs.Math.Option.{Option, none, some}
 use Rattle.record.specs.Names.{member}
 use Rattle.record.specs.Sort.{Sort, Sorts, var, par, node, end, ◌then◌, function, bool, int, reglan, array, bitvec, number_in, count, same}
 use Rattle.record.specs.SortLaws.{same-sound, same-complete}
-use Rattle.record.specs.Cases.{and_left, and_right, conj, and-true, or_left, or_right, not-true, eqb-self, by_test, by_option, none-some}
+use Rattle.record.specs.Cases.{and_left, conj, and-true, or_left, or_right, not-true, eqb-self, by_test, by_option, none-some}
 use Rattle.substitution.specs.Substitution.{Map, empty, find, bound, apply, apply_all, through, occurs, occurs_any}
 use Rattle.substitution.proofs.SubstitutionLaws.{image-untouched, image-proper, apply-proper, apply_all-proper, find-through, apply-apply, left-untouched, count-applied}
 use Rattle.substitution.specs.Premises.{touches, untouched, clear, clear_all, proper, proper_all, proper_map}
@@ -21,8 +21,9 @@ use Rattle.row_rules.proofs.OutcomeLaws.{refused-sort}
 use Rattle.check_rules.specs.Rank.{Rank, vector, first_fit, some_counts}
 use Rattle.check_rules.specs.RankLaws.{some_counts-moved, vector-is, vector-still}
 use Rattle.check_rules.proofs.RankSound.{Sound, first_fit-moved, first_fit-proper}
-use Rattle.check_rules.specs.Checked.{carried, value, values, settled, settled_all, called, checked_app, concatenation, nonempty, ranked, operated, only_of, bound_body, binder, inner_of, letting, new_width, indexed₁, indexed₂, indexed_by, indexed_on, indexing, constant_array, qualified}
+use Rattle.check_rules.specs.Checked.{carried, value, values, settled, settled_all, called, checked_app, nonempty, ranked, operated, only_of, bound_body, binder, inner_of, letting, new_width, indexed₁, indexed₂, indexed_by, indexed_on, indexing, constant_array, qualified}
 use Rattle.check_rules.proofs.Kept.{StepKept, need-kept, cond-kept, kept, carried_all, carried-value, carried-values, proper-value, values_moved, last_of-moved, last_of-proper}
+use Rattle.check_rules.specs.FormLaws.{width-proper, proper-positive}
 
 ---------------------------------------------------------------- operators
 -- Ranks: the counts stay, values stay values, and the rank that fits is the one that fits.
@@ -37,18 +38,9 @@ ranked-kept σ rs ts s e c w =
     (λ f. refused-sort (rw f at h))
     (λ r f. kept σ r s _ (first_fit-proper rs ts r w (carried-values ts c v) f) (rw (first_fit-moved σ rs ts r w f) refl) (rw f at h)))))
 
--- A vector of positive width is proper, and a proper vector has positive width.
-pub width-proper : (w : ℕ) → 0 < w → proper (bitvec w) ≡ true
-unfolding proper
-width-proper w h = rw (ne_eqb w 0 (λ q. omega arith)) refl
-
+-- A proper vector has positive width.
 pub proper-width : (s : Sort) → vector s ≡ true → proper s ≡ true → 0 < number_in s
-unfolding proper
-proper-width s v e =
-    let h : proper (bitvec (number_in s)) ≡ true = ap proper (sym (vector-is s v)) ∙ e in
-    by_test (eqb (number_in s) 0)
-    (λ q. let z : false ≡ true = rw q at h in absurd (false≢true z))
-    (λ q. let n : number_in s ≡ 0 → ⊥ = eqb-false (number_in s) 0 q in omega (arith, n))
+proper-width s v e = proper-positive (number_in s) (ap proper (sym (vector-is s v)) ∙ e)
 
 -- An argument that is a vector is proper, and stays a vector.
 pub vector-proper : (s : Sort) → carried s ≡ true → vector s ≡ true → proper s ≡ true
@@ -57,29 +49,11 @@ vector-proper s c v = carried-value s c (ap value (vector-is s v))
 pub vector-moved : (σ : Map) (s : Sort) → vector s ≡ true → vector (apply σ s) ≡ true
 vector-moved σ s v = rw (vector-still σ s v) v
 
--- BvConcat: two vectors stay as they are.
-pub concatenation-kept : (σ : Map) (ts : Sorts) (s : Sort) → carried_all ts ≡ true
-    → concatenation ts ≡ sort s → StepKept σ s (concatenation (apply_all σ ts))
-unfolding concatenation apply carried_all
-concatenation-kept σ end s c h = refused-sort h
-concatenation-kept σ (a then end) s c h = refused-sort h
-concatenation-kept σ (a then (b then end)) s c h =
-    need-kept σ s (vector a && vector b) (vector (apply σ a) && vector (apply σ b)) Misfit _ _
-    (λ q. and-true (vector (apply σ a)) (vector (apply σ b)) (vector-moved σ a (search conj)) (vector-moved σ b (search conj)))
-    (λ q.
-    let va = and_left (vector a) (vector b) q in
-    let vb = and_right (vector a) (vector b) q in
-    let wa = proper-width a va (vector-proper a (search conj) va) in
-    kept σ (bitvec (number_in a + number_in b)) s _ (width-proper (number_in a + number_in b) (omega arith)) (rw (vector-still σ a va, vector-still σ b vb) refl))
-    h
-concatenation-kept σ (a then (b then (d then ss))) s c h = refused-sort h
-
 -- Every operator, by its number.
 pub operated-kept : (R : ℕ → List Rank) → ((n : ℕ) → Sound (R n)) → (σ : Map) (n : ℕ) (ts : Sorts) (s : Sort) → proper_map σ ≡ true → carried_all ts ≡ true
     → operated R n ts ≡ sort s → StepKept σ s (operated R n (apply_all σ ts))
 unfolding operated
-operated-kept R S σ n ts s e c =
-    cond-kept σ s (eqb n 90) _ _ _ _ (concatenation-kept σ ts s c) (ranked-kept σ (R n) ts s e c (S n))
+operated-kept R S σ n ts s e c = ranked-kept σ (R n) ts s e c (S n)
 
 ---------------------------------------------------------------- application
 -- The lists that App takes apart, replaced: parts of the replaced list; and parts of a proper list are proper.

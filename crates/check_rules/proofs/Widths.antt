@@ -11,7 +11,7 @@ use Rattle.substitution.specs.Substitution.{empty, bind, apply, apply_all, occur
 use Rattle.row_rules.specs.declared.Cause.TheVariants.{Count, Misfit}
 use Rattle.row_rules.specs.Verdict.{sort, refused, need}
 use Rattle.row_rules.proofs.OutcomeLaws.{refused-sort, sort-inj}
-use Rattle.check_rules.specs.Rank.{Rank, rank, repeated, stretched}
+use Rattle.check_rules.specs.Rank.{Rank, rank, repeated, stretched, computed}
 use Rattle.check_rules.specs.Ranks.{x, one, two, smt_lib}
 use Rattle.check_rules.specs.Fits.{rank_at}
 use Rattle.check_rules.specs.Checked.{values, ranked, operated, indexing}
@@ -26,6 +26,8 @@ same_bool false b = not b
 
 abbrev pub is_rank : Rank → Rank → Bool
 is_rank (rank a b ps p) (rank c d qs q) = same_bool a c && (same_bool b d && (same_all ps qs && same p q))
+is_rank (rank a b ps p) (computed f) = false
+is_rank (computed f) q = false
 
 unfoldable pub only : Rank → List Rank → Bool
 unfolding same
@@ -53,6 +55,8 @@ is_rank-sound (rank a b ps p) (rank c d qs q) e =
     let zb = same_bool-sound b d (and_left (same_bool b d) (same_all ps qs && same p q) e1) in
     let zp = same_all-sound ps qs (and_left (same_all ps qs) (same p q) e2) in
     let zr = same-sound p q (and_right (same_all ps qs) (same p q) e2) in cc
+is_rank-sound (rank a b ps p) (computed f) e = absurd (false≢true e)
+is_rank-sound (computed f) q e = absurd (false≢true e)
 
 pub only-sound : (r : Rank) (rs : List Rank) → only r rs ≡ true → rs ≡ r ∷ []
 unfolding only
@@ -100,7 +104,6 @@ pub two-widths : (n w v : ℕ) → TwoPlace n → operated smt_lib n (bitvec w t
 unfolding apply
 two-widths n w v a =
     operated-ranked smt_lib n (bitvec w then bitvec v then end)
-    (⊎_elim (λ b e. omega arith) (⊎_elim (λ b e. omega arith) (λ b e. omega arith)) a)
     ∙ ⊎_elim (λ e. rw e (pair-widths true x w v)) (λ e. rw e (pair-widths false x w v)) (two-place n a)
 
 -- THE SAME-WIDTH OPERATORS give a vector of width w on two vectors of width w,
@@ -132,7 +135,7 @@ many-widths n k w a b =
     let θ = bind 0 (bitvec w) empty in
     let e : smt_lib n ≡ many ∷ [] = shared many 81 4 n refl a (omega arith) in
     let c : 2 + k ≡ suc (suc k) = omega arith in
-    rw c ((accepted-smt_lib n (λ e. omega arith) (bitvec w then bitvec w then copies k (bitvec w)) (bitvec w)).1 (
+    rw c ((accepted-smt_lib n (bitvec w then bitvec w then copies k (bitvec w)) (bitvec w)).1 (
       copies-values (suc (suc k)) w,
       record {
         place = 0;
@@ -151,7 +154,7 @@ many-widths n k w a b =
 pub one_width : (n w : ℕ) → 79 ≤ n → n ≤ 80 → operated smt_lib n (bitvec w then end) ≡ sort (bitvec w)
 unfolding share ranked apply
 one_width n w a b =
-    operated-ranked smt_lib n (bitvec w then end) (λ e. omega arith)
+    operated-ranked smt_lib n (bitvec w then end)
     ∙ rw (shared (rank false true (one x) x) 79 2 n refl a (omega arith), eqb-self w) refl
 
 -- The comparisons 89 and 101 to 107 give Bool on equal widths, else 26.
@@ -161,13 +164,13 @@ compared n w v a =
     let r = rank false true (two x) bool in
     let e : smt_lib n ≡ r ∷ [] =
     ⊎_elim (λ q. shared r 89 1 n refl (omega arith) (omega arith)) (λ q. shared r 101 7 n refl q.0 (omega arith)) a in
-    operated-ranked smt_lib n (bitvec w then bitvec v then end) (⊎_elim (λ b e. omega arith) (λ b e. omega arith) a)
+    operated-ranked smt_lib n (bitvec w then bitvec v then end)
     ∙ rw e (pair-widths false bool w v)
 
 ---------------------------------------------------------------- BvConcat and the indexed operators
 -- BvConcat gives the sum of the widths.
-pub concat-width : (R : ℕ → List Rank) (w v : ℕ) → operated R 90 (bitvec w then bitvec v then end) ≡ sort (bitvec (w + v))
-concat-width R w v = (concat-accepted R (bitvec w then bitvec v then end) (bitvec (w + v))).1 (w, v, refl, refl)
+pub concat-width : (w v : ℕ) → operated smt_lib 90 (bitvec w then bitvec v then end) ≡ sort (bitvec (w + v))
+concat-width w v = (concat-accepted (bitvec w then bitvec v then end) (bitvec (w + v))).1 (w, v, refl, refl)
 
 -- ZeroExtend (3) and SignExtend (4) by i give w + i.
 pub checked-extend-width : (n w i : ℕ) → ((n ≡ 3) ⊎ (n ≡ 4)) → indexing n (some i ∷ []) (bitvec w then end) ≡ sort (bitvec (w + i))

@@ -1,5 +1,5 @@
 -- The checked sort of one record (document 01, "Checked"), with its causes in the order 20, 24, 28, 25, 26, 27. The ranks are a
--- parameter R; document 01's are `smt_lib`.
+-- parameter R; those of the table are `smt_lib`.
 use Rattle.std.specs.Prelude.{ℕ, suc, ◌+◌, ◌*◌, ◌-◌, Bool, true, false, not, cond, ◌&&◌, ◌||◌, List, [], ◌∷◌, eqb, leb, ltb}
 use Rattle.std.proofs.Math.Option.{Option, none, some}
 use Rattle.record.specs.Names.{member}
@@ -84,14 +84,6 @@ checked_app (h then end) = refused Count
 checked_app (h then (t then ts)) = called (λ v. parameters h v) (function_list h) (t then ts)
 
 ---------------------------------------------------------------- Op
--- 90 BvConcat: two vectors of known width.
-unfoldable pub concatenation : Sorts → Verdict
-unfolding same
-concatenation end = refused Count
-concatenation (a then end) = refused Count
-concatenation (a then (b then end)) = need (vector a && vector b) Misfit (sort (bitvec (number_in a + number_in b)))
-concatenation (a then (b then (c then ss))) = refused Count
-
 abbrev pub nonempty : List Rank → Bool
 nonempty [] = false
 nonempty (r ∷ rs) = true
@@ -102,8 +94,8 @@ unfolding some_counts first_fit values
 ranked rs ts = need (nonempty rs) NoRank (need (some_counts rs ts) Count (need (values ts) Misfit (or_cause (first_fit rs ts) Misfit)))
 
 unfoldable pub operated : (ℕ → List Rank) → ℕ → Sorts → Verdict
-unfolding concatenation ranked
-operated R n ts = cond (eqb n 90) (concatenation ts) (ranked (R n) ts)
+unfolding ranked
+operated R n ts = ranked (R n) ts
 
 ---------------------------------------------------------------- Binder, Let
 -- "Quantifiers and Choice have a Bool body, Choice one binding, quantifiers, Lambda and Let one or more"; "Lambda gives its

@@ -83,7 +83,7 @@ pub applied :
 unfolding verdicts
 applied = refl
 
--- Op: counts, equality of sorts and no conversion between Int and Real; a Par as an argument gets 26 (K2, K3, K4, K5, K10).
+-- Op: counts, equality of sorts, Int and Real mixed only where document 02 says so; a Par as an argument gets 26 (K2, K3, K4, K5, K10).
 pub operators :
     verdicts (
     op 83 end ∷ op 90 end ∷ op 83 (bitvec 8 then int then end) ∷ op 115 end ∷ op 133 (set int then set int then end)
@@ -95,7 +95,7 @@ pub operators :
     ∷ refused Misfit ∷ sort bool ∷ sort bool ∷ refused Misfit
     ∷ sort reglan ∷ sort int ∷ refused Count
     ∷ refused Count ∷ refused Misfit
-    ∷ refused Misfit ∷ refused Misfit ∷ refused Misfit ∷ refused Misfit ∷ sort real ∷ []
+    ∷ sort real ∷ refused Misfit ∷ sort real ∷ refused Misfit ∷ sort real ∷ []
 unfolding verdicts
 operators = refl
 

@@ -1,5 +1,5 @@
--- When a rank fits the sorts of arguments, and when a function takes them, as document 01 says it: some assignment. Definitions
--- only; that the tests of Rank and Checked are this is proved in RankTheorems and AppTheorems.
+-- When a rank fits the sorts of arguments, and when a function takes them, as document 01 says it: some assignment, or a form
+-- of document 02. Definitions only; that the tests of Rank and Checked are this is proved in RankTheorems and AppTheorems.
 use Rattle.std.specs.Prelude.{ℕ, zero, suc, ◌<◌, ◌≡◌, Bool, true, false, List, [], ◌∷◌}
 use Rattle.std.proofs.Math.Option.{Option, none, some}
 use Rattle.record.specs.Names.{member}
@@ -7,31 +7,24 @@ use Rattle.record.specs.Sort.{Sort, Sorts, var, bitvec, count}
 use Rattle.substitution.specs.Substitution.{Map, apply, apply_all, occurs, occurs_any}
 use Rattle.substitution.specs.Matching.{Within}
 use Rattle.row_rules.specs.Lists.{firsts, others, remaining}
-use Rattle.check_rules.specs.Rank.{Rank, rank, patterns}
+use Rattle.check_rules.specs.Rank.{Rank, rank, patterns, computed}
 use Rattle.check_rules.specs.Parts.{EachValue}
+use Rattle.check_rules.specs.Forms.{Computes}
 
 ---------------------------------------------------------------- ranks
--- The argument sorts of a rank: its last one as often as the actual arguments ask, and as they are printed; whether its variables
--- stand for vectors; its result.
-abbrev pub patterns_for : Rank → Sorts → Sorts
-patterns_for (rank rep vs ps r) ts = patterns rep ps ts
-
-abbrev pub rank_arguments : Rank → Sorts
-rank_arguments (rank rep vs ps r) = ps
-
-abbrev pub over_vectors : Rank → Bool
-over_vectors (rank rep vs ps r) = vs
-
-abbrev pub result_of : Rank → Sort
-result_of (rank rep vs ps r) = r
-
--- A RANK FITS the sorts ts with the result s: an assignment of its variables turns its argument sorts into ts and its result
--- into s; in a rank over vectors each variable stands for a vector of some width.
-pub record Fits (r : Rank) (ts : Sorts) (s : Sort) : Type 0 where
+-- A rank of patterns fits the sorts ts with the result s: an assignment of its variables turns its argument sorts, the last one as
+-- often as the actual arguments ask, into ts and its result into s; in a rank over vectors each variable stands for a vector of some
+-- width.
+pub record Assigns (repeats vectors : Bool) (ps : Sorts) (r : Sort) (ts : Sorts) (s : Sort) : Type 0 where
   pub assignment : Map
-  pub turns : apply_all assignment (patterns_for r ts) ≡ ts
-  pub widths : over_vectors r ≡ true → (v : ℕ) → occurs_any v (rank_arguments r) ≡ true → (w : ℕ) × (apply assignment (var v) ≡ bitvec w)
-  pub result : apply assignment (result_of r) ≡ s
+  pub turns : apply_all assignment (patterns repeats ps ts) ≡ ts
+  pub widths : vectors ≡ true → (v : ℕ) → occurs_any v ps ≡ true → (w : ℕ) × (apply assignment (var v) ≡ bitvec w)
+  pub result : apply assignment r ≡ s
+
+-- A RANK FITS the sorts ts with the result s: by an assignment, or as its form computes it.
+abbrev pub Fits : Rank → Sorts → Sort → Type 0
+Fits (rank rep vs ps r) ts s = Assigns rep vs ps r ts s
+Fits (computed f) ts s = Computes f ts s
 
 -- The rank with the number i in the list of an operator's ranks.
 unfoldable pub rank_at : List Rank → ℕ → Option Rank

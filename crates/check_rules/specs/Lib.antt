@@ -1,3 +1,4 @@
+pub mod Forms
 pub mod Rank
 pub mod Ranks
 pub mod Checked
@@ -6,5 +7,7 @@ pub mod CheckedExamples
 pub mod Parts
 pub mod Fits
 pub mod Rules
+pub mod FormLaws
 pub mod RankLaws
 pub mod Refusals
+pub mod Added

@@ -1,14 +1,18 @@
 -- Ranks: what arguments an operator takes and what sort it then has; when a rank fits.
 use Rattle.std.specs.Prelude.{ℕ, Bool, true, false, cond, ◌&&◌, ◌||◌, List, [], ◌∷◌}
 use Rattle.std.proofs.Math.Option.{Option, none, some}
-use Rattle.record.specs.Sort.{Sort, Sorts, end, ◌then◌, bitvec, number_in, same}
+use Rattle.record.specs.Sort.{Sort, Sorts, end, ◌then◌, same}
 use Rattle.substitution.specs.Substitution.{Map, empty, bind, apply}
 use Rattle.substitution.specs.Matching.{matches_all}
+use Rattle.check_rules.specs.Forms.{Form, takes, computes}
+pub use Rattle.check_rules.specs.Forms.{vector}
 
 -- A rank as the theories of SMT-LIB print it: the sorts of the arguments, whether the last one may repeat, and the sort of the
 -- result. Every variable in it is the rank's own parameter; in a vector rank each stands for a vector of some known width.
+-- Where arguments or result are no pattern, a form says both.
 pub data Rank : Type 0 where
   rank : (repeats vectors : Bool) → (arguments : Sorts) → (result : Sort) → Rank
+  computed : Form → Rank
 
 -- The last argument of a rank as often as the actual arguments ask.
 unfoldable pub repeated : Sort → Sorts → Sorts
@@ -35,12 +39,9 @@ same_count (p then ps) end = false
 same_count (p then ps) (t then ts) = same_count ps ts
 
 unfoldable pub counts : Rank → Sorts → Bool
-unfolding stretched same_count
+unfolding stretched same_count takes
 counts (rank rep vs ps r) ts = same_count (patterns rep ps ts) ts
-
--- A vector of known width.
-abbrev pub vector : Sort → Bool
-vector s = same s (bitvec (number_in s))
+counts (computed f) ts = takes f ts
 
 unfoldable pub vectors_in : Map → Bool
 unfolding same
@@ -57,10 +58,11 @@ rank_answer true r (some m) = cond (vectors_in m) (some (apply m r)) none
 rank_answer false r (some m) = some (apply m r)
 
 -- A RANK FITS the sorts of arguments where some assignment of its parameters turns its argument sorts into them; its result is
--- then the assignment applied.
+-- then the assignment applied. A form fits where it computes a sort.
 unfoldable pub fit : Rank → Sorts → Option Sort
-unfolding stretched matches_all apply vectors_in
+unfolding stretched matches_all apply vectors_in computes
 fit (rank rep vs ps r) ts = rank_answer vs r (matches_all every_name (patterns rep ps ts) ts empty)
+fit (computed f) ts = computes f ts
 
 -- The first rank of an operator that fits; at most one does.
 abbrev pub or_next : Option Sort → Option Sort → Option Sort

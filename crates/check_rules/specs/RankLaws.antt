@@ -5,30 +5,46 @@ use Rattle.std.proofs.Common.{sym, ap, ◌∙◌}
 use Rattle.std.proofs.Math.Bool.{true, false}
 use Rattle.std.proofs.lemmas.Bool.{false≢true}
 use Rattle.std.proofs.Math.Option.{none, some}
-use Rattle.record.specs.Sort.{Sort, Sorts, var, par, node, end, ◌then◌, bitvec, number_in}
-use Rattle.record.specs.SortLaws.{same-sound}
-use Rattle.record.specs.Cases.{and_left, conj, and-true, by_test, by_option, none-some, some_inj}
+use Rattle.record.specs.Sort.{Sort, Sorts, var, par, node, end, ◌then◌}
+use Rattle.record.specs.Cases.{and_left, conj, and-true, by_test, by_option, none-some, some_inj, and_right}
 use Rattle.substitution.specs.Substitution.{Map, empty, bind, find, bound, apply, apply_all, through, occurs, occurs_any}
 use Rattle.substitution.proofs.SubstitutionLaws.{apply-proper, find-through}
 use Rattle.substitution.specs.Premises.{proper, proper_all, proper_map, parless, parless_all}
 use Rattle.substitution.specs.Matching.{matches_all}
 use Rattle.substitution.proofs.MatchingLaws.{match_all-binds, match_all-proper, match_all-target-moved}
-use Rattle.check_rules.specs.Rank.{Rank, rank, repeated, stretched, patterns, same_count, counts, vector, vectors_in, every_name, rank_answer, fit, some_counts}
+use Rattle.check_rules.specs.Rank.{Rank, rank, repeated, stretched, patterns, same_count, counts, vector, vectors_in, every_name, rank_answer, fit, some_counts, computed}
+use Rattle.check_rules.specs.FormLaws.{takes_moved, well_form, computes-only, computes-when, computes-moved, computes-proper}
+pub use Rattle.check_rules.specs.FormLaws.{vector-is}
 
 ---------------------------------------------------------------- only the count of the arguments chooses the patterns
+-- Only the count of the arguments chooses a rank's patterns.
+pub repeated-same : (p : Sort) (ts us : Sorts) → same_count ts us ≡ true → repeated p ts ≡ repeated p us
+unfolding repeated same_count
+repeated-same p end end e = refl
+repeated-same p end (u then us) e = absurd (false≢true e)
+repeated-same p (t then ts) end e = absurd (false≢true e)
+repeated-same p (t then ts) (u then us) e = ap (p then◌) (repeated-same p ts us e)
+
+pub stretched-same : (ps ts us : Sorts) → same_count ts us ≡ true → stretched ps ts ≡ stretched ps us
+unfolding stretched same_count
+stretched-same end ts us e = refl
+stretched-same (p then end) end end e = refl
+stretched-same (p then end) end (u then us) e = absurd (false≢true e)
+stretched-same (p then end) (t then ts) end e = absurd (false≢true e)
+stretched-same (p then end) (t then ts) (u then us) e = ap (p then◌) (repeated-same p ts us e)
+stretched-same (p then (q then ps)) end end e = refl
+stretched-same (p then (q then ps)) end (u then us) e = absurd (false≢true e)
+stretched-same (p then (q then ps)) (t then ts) end e = absurd (false≢true e)
+stretched-same (p then (q then ps)) (t then ts) (u then us) e = ap (p then◌) (stretched-same (q then ps) ts us e)
+
 -- Replacing changes no count, so a rank has the same patterns for replaced arguments.
-pub repeated-moved : (σ : Map) (p : Sort) (ts : Sorts) → repeated p (apply_all σ ts) ≡ repeated p ts
-unfolding repeated apply
-repeated-moved σ p end = refl
-repeated-moved σ p (t then ts) = ap (p then◌) (repeated-moved σ p ts)
+pub count-stays : (σ : Map) (ts : Sorts) → same_count (apply_all σ ts) ts ≡ true
+unfolding same_count apply
+count-stays σ end = refl
+count-stays σ (t then ts) = count-stays σ ts
 
 pub stretched-moved : (σ : Map) (ps ts : Sorts) → stretched ps (apply_all σ ts) ≡ stretched ps ts
-unfolding stretched apply
-stretched-moved σ end ts = refl
-stretched-moved σ (p then end) end = refl
-stretched-moved σ (p then end) (t then ts) = ap (p then◌) (repeated-moved σ p ts)
-stretched-moved σ (p then (q then ps)) end = refl
-stretched-moved σ (p then (q then ps)) (t then ts) = ap (p then◌) (stretched-moved σ (q then ps) ts)
+stretched-moved σ ps ts = stretched-same ps (apply_all σ ts) ts (count-stays σ ts)
 
 pub patterns-moved : (σ : Map) (rep : Bool) (ps ts : Sorts) → patterns rep ps (apply_all σ ts) ≡ patterns rep ps ts
 patterns-moved σ true ps ts = stretched-moved σ ps ts
@@ -45,6 +61,7 @@ same_count-moved σ (p then ps) (t then ts) = same_count-moved σ ps ts
 pub counts-moved : (σ : Map) (r : Rank) (ts : Sorts) → counts r (apply_all σ ts) ≡ counts r ts
 unfolding counts
 counts-moved σ (rank rep vs ps r) ts = rw (patterns-moved σ rep ps ts) (same_count-moved σ (patterns rep ps ts) ts)
+counts-moved σ (computed f) ts = takes_moved σ f ts
 
 pub some_counts-moved : (σ : Map) (rs : List Rank) (ts : Sorts) → some_counts rs (apply_all σ ts) ≡ some_counts rs ts
 unfolding some_counts
@@ -99,10 +116,28 @@ pub patterns-occurs : (rep : Bool) (v : ℕ) (ps ts : Sorts) → occurs_any v ps
 patterns-occurs true v ps ts o = stretched-occurs v ps ts o
 patterns-occurs false v ps ts o = o
 
--- A vector is the vector of its width, and stays as it is.
-pub vector-is : (s : Sort) → vector s ≡ true → s ≡ bitvec (number_in s)
-vector-is s e = same-sound s (bitvec (number_in s)) e
+-- A repeated pattern brings no Par.
+pub repeated-parless : (p : Sort) (ts : Sorts) → parless p ≡ true → parless_all (repeated p ts) ≡ true
+unfolding repeated parless
+repeated-parless p end e = refl
+repeated-parless p (t then ts) e = and-true (parless p) (parless_all (repeated p ts)) e (repeated-parless p ts e)
 
+pub stretched-parless : (ps ts : Sorts) → parless_all ps ≡ true → parless_all (stretched ps ts) ≡ true
+unfolding stretched parless
+stretched-parless end ts e = refl
+stretched-parless (p then end) end e = e
+stretched-parless (p then end) (t then ts) e =
+    let z = and_left (parless p) true e in and-true (parless p) (parless_all (repeated p ts)) z (repeated-parless p ts z)
+stretched-parless (p then (q then ps)) end e = e
+stretched-parless (p then (q then ps)) (t then ts) e =
+    and-true (parless p) (parless_all (stretched (q then ps) ts)) (and_left (parless p) (parless_all (q then ps)) e)
+    (stretched-parless (q then ps) ts (and_right (parless p) (parless_all (q then ps)) e))
+
+pub patterns-parless : (rep : Bool) (ps ts : Sorts) → parless_all ps ≡ true → parless_all (patterns rep ps ts) ≡ true
+patterns-parless true ps ts e = stretched-parless ps ts e
+patterns-parless false ps ts e = e
+
+-- A vector stays as it is.
 pub vector-still : (σ : Map) (s : Sort) → vector s ≡ true → apply σ s ≡ s
 unfolding apply
 vector-still σ s e = let q = vector-is s e in ap (apply σ) q ∙ sym q
@@ -116,8 +151,9 @@ vectors_in-moved σ (bind v s m) e =
 
 -- A rank without Par, whose result is proper and has no variable of its own.
 unfoldable pub well_rank : Rank → Bool
-unfolding closed proper parless
+unfolding closed proper parless well_form
 well_rank (rank rep vs ps r) = closed ps r && proper r && parless_all ps
+well_rank (computed f) = well_form f
 
 -- A rank that fits still fits, with the replaced result: its patterns match the replaced arguments with the replaced map.
 pub fit-moved : (σ : Map) (r : Rank) (ts : Sorts) (s : Sort) → well_rank r ≡ true → fit r ts ≡ some s → fit r (apply_all σ ts) ≡ some (apply σ s)
@@ -136,6 +172,8 @@ fit-moved σ (rank rep vs ps r) ts s e h =
         (λ w. let z : some (apply m r) ≡ some s = rw w at k in rw (vectors_in-moved σ m w, c m q, some_inj z) refl)
         (λ w. let z : none ≡ some s = rw w at k in none-some z)
     go false m q k = rw (c m q, some_inj k) refl
+fit-moved σ (computed f) ts s e h =
+    computes-when f (apply_all σ ts) (apply σ s) (computes-moved σ f ts s e (computes-only f ts s h))
 
 -- A result over proper arguments is proper.
 pub fit-proper : (r : Rank) (ts : Sorts) (s : Sort) → well_rank r ≡ true → proper_all ts ≡ true → fit r ts ≡ some s → proper s ≡ true
@@ -151,3 +189,4 @@ fit-proper (rank rep vs ps r) ts s e p h =
         (λ w. let z : some (apply m r) ≡ some s = rw w at k in rw (← some_inj z) d)
         (λ w. let z : none ≡ some s = rw w at k in none-some z)
     go false m k d = rw (← some_inj k) d
+fit-proper (computed f) ts s e p h = computes-proper f ts s e p (computes-only f ts s h)

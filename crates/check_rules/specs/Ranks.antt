@@ -1,18 +1,27 @@
 -- The ranks of the checked row: SMT-LIB 2.7's Core, Ints, Reals, Reals_Ints, ArraysEx, FixedSizeBitVectors and Strings, by the
--- number of the operator in enum Operator. Where editions differ, document 01's lines under "The rows" decide. 90 BvConcat has
--- a rule of its own (Checked); 24 to 41, 54, 78 and 110 to 134 have no rank.
-use Rattle.std.specs.Prelude.{ℕ, true, false, cond, ◌&&◌, List, [], ◌∷◌, leb}
+-- number of the operator in enum Operator, and what document 02 adds to them: Int and Real mixed (A.1).
+-- Where editions differ, document 01's lines under "The rows" decide. 24 to 41, 54, 78 and 110 to 134 have no rank.
+use Rattle.std.specs.Prelude.{ℕ, true, false, cond, ◌&&◌, List, [], ◌∷◌, leb, ◌++◌}
 use Rattle.record.specs.Sort.{Sort, Sorts, var, end, ◌then◌, bool, int, real, string, reglan, array, bitvec}
-use Rattle.check_rules.specs.Rank.{Rank, rank}
+use Rattle.check_rules.specs.Forms.{concat, mixed}
+use Rattle.check_rules.specs.Rank.{Rank, rank, computed}
 
--- The ranks of the operators from a first to a last number.
+-- The ranks of the operators from a first to a last number; in an enlarged row, those of document 01 and then later ones.
 pub data RankTable : Type 0 where
   done : RankTable
   row : (first last : ℕ) → List Rank → RankTable → RankTable
+  enlarged : (first last : ℕ) → (ranks later : List Rank) → RankTable → RankTable
 
 unfoldable pub ranks_in : RankTable → ℕ → List Rank
 ranks_in done n = []
 ranks_in (row a b rs t) n = cond (leb a n && leb n b) rs (ranks_in t n)
+ranks_in (enlarged a b rs qs t) n = cond (leb a n && leb n b) (rs ++ qs) (ranks_in t n)
+
+-- Without the later ones.
+unfoldable pub first_in : RankTable → ℕ → List Rank
+first_in done n = []
+first_in (row a b rs t) n = cond (leb a n && leb n b) rs (first_in t n)
+first_in (enlarged a b rs qs t) n = cond (leb a n && leb n b) rs (first_in t n)
 
 -- The parameters of a rank.
 abbrev pub x : Sort
@@ -43,6 +52,10 @@ vectors ps r = rank false true ps r ∷ []
 abbrev pub numbers : (Sort → Sorts) → (Sort → Sort) → List Rank
 numbers f g = rank true false (f int) (g int) ∷ rank true false (f real) (g real) ∷ []
 
+-- A rank of Int and Real mixed.
+abbrev pub mixture : Sort → List Rank
+mixture r = computed (mixed r) ∷ []
+
 unfoldable pub standard : RankTable
 standard =
     -- 0 True, 1 False
@@ -55,22 +68,22 @@ standard =
     (row 7 8 (more (two x) bool)
     -- 9 Ite
     (row 9 9 (one_rank (bool then x then x then end) x)
-    -- 10 Add
-    (row 10 10 (numbers two (λ a. a))
+    -- 10 Add; "with Int and Real mixed: Real for the sums, Bool for the orders"
+    (enlarged 10 10 (numbers two (λ a. a)) (mixture real)
     -- 11 Sub: "Sub takes one or more"
-    (row 11 11 (numbers one (λ a. a))
+    (enlarged 11 11 (numbers one (λ a. a)) (mixture real)
     -- 12 Mult
-    (row 12 12 (numbers two (λ a. a))
+    (enlarged 12 12 (numbers two (λ a. a)) (mixture real)
     -- 13 IntDiv
     (row 13 13 (more (two int) int)
-    -- 14 RealDiv
-    (row 14 14 (more (two real) real)
+    -- 14 RealDiv: "Int and Real in any mixture, all Int too, and gives Real"
+    (enlarged 14 14 (more (two real) real) (rank true false (two int) real ∷ mixture real)
     -- 15 Mod
     (row 15 15 (one_rank (two int) int)
     -- 16 Abs
     (row 16 16 (one_rank (one int) int)
     -- 17 LessThan, 18 GreaterThan, 19 LessEq, 20 GreaterEq
-    (row 17 20 (numbers two (λ a. bool))
+    (enlarged 17 20 (numbers two (λ a. bool)) (mixture bool)
     -- 21 ToReal
     (row 21 21 (one_rank (one int) real)
     -- 22 ToInt
@@ -133,6 +146,8 @@ standard =
     (row 85 88 (vectors (two x) x)
     -- 89 BvULt
     (row 89 89 (vectors (two x) bool)
+    -- 90 BvConcat
+    (row 90 90 (computed concat ∷ [])
     -- 91 BvNAnd, 92 BvNOr, 93 BvXor, 94 BvXNor
     (row 91 94 (vectors (two x) x)
     -- 95 BvComp
@@ -143,9 +158,14 @@ standard =
     (row 101 107 (vectors (two x) bool)
     -- 108 UBvToInt, 109 SBvToInt
     (row 108 109 (vectors (one x) int)
-    done))))))))))))))))))))))))))))))))))))))))))))))))
+    done)))))))))))))))))))))))))))))))))))))))))))))))))
 
 -- The ranks of an operator.
 unfoldable pub smt_lib : ℕ → List Rank
 unfolding ranks_in standard
 smt_lib n = ranks_in standard n
+
+-- The ranks of document 01 alone.
+unfoldable pub document01 : ℕ → List Rank
+unfolding first_in standard
+document01 n = first_in standard n

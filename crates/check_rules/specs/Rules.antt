@@ -21,10 +21,8 @@ pub data Applied (ts : Sorts) (s : Sort) : Type 0 where
 
 ---------------------------------------------------------------- Op
 pub data Operated (R : ℕ → List Rank) (n : ℕ) (ts : Sorts) (s : Sort) : Type 0 where
-  -- Some rank of the operator fits.
-  by_rank : (n ≡ 90 → ⊥) → EachValue ts → SomeFits (R n) ts s → Operated R n ts s
-  -- BvConcat joins two vectors.
-  concat : (i j : ℕ) → n ≡ 90 → ts ≡ bitvec i then bitvec j then end → s ≡ bitvec (i + j) → Operated R n ts s
+  -- No argument is a Par, and some rank of the operator fits: by an assignment, or as its form computes it.
+  by_rank : EachValue ts → SomeFits (R n) ts s → Operated R n ts s
 
 ---------------------------------------------------------------- Binder: the bindings' sorts bs, the body's sort
 pub data Binds (n : ℕ) (bs ts : Sorts) (s : Sort) : Type 0 where

@@ -125,7 +125,7 @@ pub space-before : (R : ℕ → List Rank) (s : List ℕ) (l : Lengths) → Byte
     → had_space (judged_before R s l) ≡ true
 space-before R s l bytes plain space = ap had_space (as_before R s l bytes plain space) ∙ space
 
--- Over document 01's ranks.
+-- Over the ranks of the table.
 pub was-judged : (s : List ℕ) (l : Lengths) → Bytes s → Unsized s l → had_space (judged s l) ≡ true → was_judged s l ≡ judged s l
 unfolding was_judged judged
 was-judged s l bytes plain space = as_before smt_lib s l bytes plain space

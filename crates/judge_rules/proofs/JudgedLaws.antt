@@ -1,6 +1,6 @@
 -- What an accepted judgement tells of a sheet: its counts, its store, and what each of its rows and answers means over the store
 -- that is left behind all of them. From the laws of the reader, of the rows and of the questions.
-use Rattle.std.specs.Prelude.{ℕ, ◌+◌, ◌*◌, ◌≤◌, ◌<◌, ◌≡◌, refl, true, false, List, ◌↔◌, length, get_or}
+use Rattle.std.specs.Prelude.{ℕ, ◌+◌, ◌*◌, ◌≤◌, ◌<◌, ◌≡◌, refl, Bool, true, false, List, ◌↔◌, length, get_or}
 use Rattle.std.proofs.Common.{sym, ap, subst, ◌∙◌, true≢false, arith}
 use Rattle.record.specs.Sort.{Sort}
 use Rattle.record.specs.Store.{room}
@@ -10,7 +10,7 @@ use Rattle.sheet.specs.Sheet.Reading.{read_refused as unread, got}
 use Rattle.sheet.specs.SheetLaws.{SheetIs, sheet-is}
 use Rattle.row_rules.specs.Verdict.{Verdict}
 use Rattle.row_rules.specs.Term.{term_at, verdict_of}
-use Rattle.row_rules.specs.Meaning.{Means, limited, free}
+use Rattle.row_rules.specs.Meaning.{Means, limited, without, free}
 use Rattle.row_rules.specs.FreeLaws.{AtOrBelow, free-exactly}
 use Rattle.row_rules.specs.Outcomes.{Grown}
 use Rattle.row_rules.proofs.OutcomeLaws.{means-stays, grown-trans}
@@ -20,7 +20,7 @@ use Rattle.check_rules.specs.Checked.{check}
 use Rattle.judge_rules.specs.Rows.{rows_of}
 use Rattle.judge_rules.specs.Questions.{answers_of}
 use Rattle.judge_rules.specs.Judged.{accepted, judged_sheet, judged_by}
-use Rattle.judge_rules.proofs.RowLaws.{judging, judging-infer, judging-check, rows-count, rows_grown, row_is}
+use Rattle.judge_rules.proofs.RowLaws.{judging, judging-infer, judging-check, MeansBy, plainly, rows-count, rows_grown, row-is-by}
 use Rattle.judge_rules.specs.QuestionLaws.{Answers, question_at, answers-grown, answers-count, answers-say}
 
 -- What an accepted judgement tells: the sheet that was read, its rows, and the store after rows and questions.
@@ -77,19 +77,25 @@ module _ (R : ℕ → List Rank) (s : List ℕ) (l : Lengths) (h : Sheet) (st : 
   abbrev ruled : List Sort
   ruled = (rows_of R l h.store h.terms).store
 
-  -- THE LAW OF THE ROWS: where no limit is met at a term or below it, its row in a column means the verdict of its tree in that
-  -- column (0 the inferred, 1 the checked one), over the store that is left behind all rows and answers.
-  pub judged-row : (column t : ℕ) → column < 2 → t < length h.terms → free rows column h.terms t ≡ true
-      → Means st (get_or rows (2 * t + column) 0) (verdict_of (judging R column) (term_at h.terms t))
-  judged-row column t col low f =
+  -- THE LAW OF THE ROWS, by any way to read codes: where no row at a term or below it has a code that is left out, its row in a column means the
+  -- verdict of its tree in that column (0 the inferred, 1 the checked one), over the store that is left behind all rows and answers.
+  pub judged-row-by : (out : ℕ → Bool) (g : Verdict → Verdict) → MeansBy out g
+      → (column t : ℕ) → column < 2 → t < length h.terms → without out rows column h.terms t ≡ true
+      → Means st (get_or rows (2 * t + column) 0) (verdict_of (λ z. g (judging R column z)) (term_at h.terms t))
+  judged-row-by out g by column t col low f =
       let k = tale in
-      let v = verdict_of (judging R column) (term_at h.terms t) in
+      let v = verdict_of (λ z. g (judging R column z)) (term_at h.terms t) in
       let codes = (rows_of R l h.store h.terms).rows in
       subst (λ (z : List ℕ). Means st (get_or z (2 * t + column) 0) v) k.rows_are
       (means-stays ruled st (get_or codes (2 * t + column) 0) v
       (subst (λ (z : List Sort). Starts ruled z) k.store_is (answers-grown l ruled h.questions).starts)
-      (row_is R l h.store h.terms k.sheet.sorted.roomy k.sheet.terms-are.below column t col low
-      (subst (λ (z : List ℕ). free z column h.terms t ≡ true) (sym k.rows_are) f)))
+      (row-is-by R l h.store out g by h.terms k.sheet.sorted.roomy k.sheet.terms-are.below column t col low
+      (subst (λ (z : List ℕ). without out z column h.terms t ≡ true) (sym k.rows_are) f)))
+
+  -- So where no limit is met there, 22 or 23, it means that verdict as it is.
+  pub judged-row : (column t : ℕ) → column < 2 → t < length h.terms → free rows column h.terms t ≡ true
+      → Means st (get_or rows (2 * t + column) 0) (verdict_of (judging R column) (term_at h.terms t))
+  judged-row = judged-row-by (λ c. limited c) (λ v. v) plainly
 
   -- Its two columns: the inferred row means what `infer` says of the tree, the checked row what `check` says.
   pub judged-inferred : (t : ℕ) → t < length h.terms → free rows 0 h.terms t ≡ true → Means st (get_or rows (2 * t + 0) 0) (infer (term_at h.terms t))

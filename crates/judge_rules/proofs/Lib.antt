@@ -1,11 +1,15 @@
 pub mod AnyRoomLaws
 pub mod BeforeTheorems
+pub mod BoundedLaws
 pub mod CarriedLaws
 pub mod CauseTheorems
 pub mod Examples
 pub mod GivenLaws
 pub mod JudgedLaws
+pub mod KeptExample
+pub mod KeptRows
 pub mod KnownLaws
+pub mod MixedInferred
 pub mod PlainLaws
 pub mod QuestionTheorems
 pub mod RoutesExample

@@ -74,7 +74,7 @@ unfoldable pub judged_before : (ℕ → List Rank) → List ℕ → Lengths → 
 unfolding room_before sorts_before judged_with
 judged_before R s l = judged_with (room_before l) (sorts_before s l (sort_count s)) R s l
 
--- Over document 01's ranks.
+-- Over the ranks of the table.
 unfoldable pub was_judged : List ℕ → Lengths → Judgement
 unfolding judged_before smt_lib
 was_judged s l = judged_before smt_lib s l

@@ -31,7 +31,7 @@ unfoldable pub judged_by : (ℕ → List Rank) → List ℕ → Lengths → Judg
 unfolding read_sheet rows_of answers_of
 judged_by R s l = judged_sheet R l (read_sheet s l)
 
--- Over document 01's ranks.
+-- Over the ranks of the table.
 unfoldable pub judged : List ℕ → Lengths → Judgement
 unfolding judged_by smt_lib
 judged s l = judged_by smt_lib s l

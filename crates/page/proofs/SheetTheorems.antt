@@ -94,7 +94,7 @@ pub refused-page : (R : ℕ → List Rank) (s : List ℕ) (l : Lengths) (x : Ref
 unfolding paged
 refused-page R s l x e = rw e refl
 
--- THE SECOND PROGRAM: document 01's ranks, the program's buffers.
+-- THE SECOND PROGRAM: the ranks of the table, the program's buffers.
 pub accepted-program : (s : List ℕ) (h : Sheet) (st : List Sort) (rows answers : List ℕ)
     → judged s program_lengths ≡ accepted h st rows answers
     → PageIs st rows (length h.terms) (paged (judged s program_lengths))

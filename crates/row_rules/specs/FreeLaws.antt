@@ -163,9 +163,10 @@ reached-low terms refs t u low itself = low
 reached-low terms refs t u low (below j m b) =
     let early = named-below terms refs t low j m in reached-low terms refs j u (omega arith) b
 
-pub free-same : (rows rows' : List ℕ) (column : ℕ) → column < 2 → (terms : List TermFields) → referring terms ≡ true
-    → ((i : ℕ) → i < 2 * length terms → get_or rows i 0 ≡ get_or rows' i 0) → (t : ℕ) → t < length terms → free rows column terms t ≡ true → free rows' column terms t ≡ true
-free-same rows rows' column col terms refs same t low f =
-    (free-exactly rows' column terms refs t low).1 (λ u b.
+pub without-same : (test : ℕ → Bool) (rows rows' : List ℕ) (column : ℕ) → column < 2 → (terms : List TermFields) → referring terms ≡ true
+    → ((i : ℕ) → i < 2 * length terms → get_or rows i 0 ≡ get_or rows' i 0) → (t : ℕ) → t < length terms
+    → without test rows column terms t ≡ true → without test rows' column terms t ≡ true
+without-same test rows rows' column col terms refs same t low f =
+    (without-exactly test rows' column terms refs t low).1 (λ u b.
     let o = reached-low terms refs t u low b in
-    subst (λ (code : ℕ). limited code ≡ false) (same (2 * u + column) (omega arith)) ((free-exactly rows column terms refs t low).0 f u b))
+    subst (λ (code : ℕ). test code ≡ false) (same (2 * u + column) (omega arith)) ((without-exactly test rows column terms refs t low).0 f u b))

@@ -33,3 +33,10 @@ without test rows column (r ∷ rs) n =
 -- NO LIMIT IS MET at the term n or at one below it: no 22 and no 23.
 abbrev pub free : List ℕ → ℕ → List TermFields → ℕ → Bool
 free rows column rs n = without (λ c. limited c) rows column rs n
+
+-- The code of a row that is refused for want of room, 23; and NO 23 IS MET at the term n or at one below it.
+abbrev pub is_full : ℕ → Bool
+is_full code = eqb code (number_of Full * 65536)
+
+abbrev pub roomed : List ℕ → ℕ → List TermFields → ℕ → Bool
+roomed rows column rs n = without (λ c. is_full c) rows column rs n

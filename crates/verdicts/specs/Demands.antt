@@ -1,5 +1,6 @@
--- DEMANDS 2 AND 3 ON THE BYTES THAT `judge` WRITES: what is proved of judgements (RowExactly and TwoRoutes of the crate judge_rules), said
--- of the lent buffers at exit as `JudgeIs` promises them, since their rows are the judgement's and their records read back as its store.
+-- DEMANDS 2 AND 3, AND THE KEPT ROWS OF A.1, ON THE BYTES THAT `judge` WRITES: what is proved of judgements (RowExactly, TwoRoutes and KeptRows of
+-- the crate judge_rules), said of the lent buffers at exit as `JudgeIs` promises them, since their rows are the judgement's and their records read
+-- back as its store.
 use Rattle.std.specs.Prelude.{ℕ, suc, ◌+◌, ◌*◌, ◌-◌, ◌<◌, ◌≡◌, true, ◌↔◌, replicate}
 use Rattle.std.proofs.Math.Path.{sym, ap}
 use Rattle.std.proofs.Common.{subst, ◌∙◌, arith}
@@ -18,11 +19,11 @@ use Rattle.row_rules.specs.declared.Cause.{Cause}
 use Rattle.row_rules.specs.declared.Cause.TheVariants.{Below, Panics}
 use Rattle.row_rules.specs.Verdict.{sort, refused, number_of}
 use Rattle.row_rules.specs.Term.{term_at}
-use Rattle.row_rules.specs.Meaning.{free}
-use Rattle.row_rules.specs.FreeLaws.{free-same}
+use Rattle.row_rules.specs.Meaning.{limited, free, is_full, roomed}
+use Rattle.row_rules.specs.FreeLaws.{without-same}
 use Rattle.row_rules.specs.Outcomes.{no_limit}
 use Rattle.infer_rules.specs.Inferred.{infer}
-use Rattle.check_rules.specs.Ranks.{smt_lib}
+use Rattle.check_rules.specs.Ranks.{smt_lib, document01}
 use Rattle.check_rules.specs.Checked.{check}
 use Rattle.check_rules.specs.Rules.{HasSort}
 use Rattle.check_rules.specs.Routes.{replace, clear_term}
@@ -32,9 +33,10 @@ use Rattle.judge_rules.specs.Judged.{Judgement, accepted, judged_sheet, judged_b
 use Rattle.judge_rules.specs.QuestionLaws.{Answers, question_at}
 use Rattle.judge_rules.proofs.JudgedLaws.{told, judged-counts, judged-answer}
 use Rattle.judge_rules.proofs.KnownLaws.{judged-rows-known}
-use Rattle.judge_rules.specs.Given.{checked_row}
+use Rattle.judge_rules.specs.Given.{checked_row, Gives}
 use Rattle.judge_rules.proofs.RowExactly.{row_has, row-exactly, row-infers, row-infers-exactly, row-refused-for, row-refused-exactly, row-panics-for, row-panics-exactly}
 use Rattle.judge_rules.proofs.TwoRoutes.{two-routes}
+use Rattle.judge_rules.proofs.KeptRows.{kept-rows}
 use Rattle.verdicts.specs.Judge.{Outcome, ReadsBack, JudgeIs}
 
 -- IN THE BUFFERS b p rw AT EXIT THE CHECKED ROW OF THE TERM t GIVES THE SORT s: it is no refusal, and the record of its number, read
@@ -80,7 +82,12 @@ module _ {s : List ℕ} {l : Lengths} {b p rw an : List ℕ} {o : Outcome} (j : 
   free-here : (column : ℕ) → column < 2 → (t : ℕ) → t < length h.terms → free rw column h.terms t ≡ true → free rows column h.terms t ≡ true
   unfolding judged
   free-here column col t low =
-      free-same rw rows column col h.terms (told smt_lib s l h st rows answers e).sheet.terms-are.below row_here t low
+      without-same (λ c. limited c) rw rows column col h.terms (told smt_lib s l h st rows answers e).sheet.terms-are.below row_here t low
+
+  roomed-here : (column : ℕ) → column < 2 → (t : ℕ) → t < length h.terms → roomed rw column h.terms t ≡ true → roomed rows column h.terms t ≡ true
+  unfolding judged
+  roomed-here column col t low =
+      without-same (λ c. is_full c) rw rows column col h.terms (told smt_lib s l h st rows answers e).sheet.terms-are.below row_here t low
 
   -- The buffers give what the judgement gives, in either column.
   module _ (column : ℕ) (col : column < 2) (t : ℕ) (low : t < length h.terms) (a : Sort) where
@@ -151,6 +158,15 @@ module _ {s : List ℕ} {l : Lengths} {b p rw an : List ℕ} {o : Outcome} (j : 
       let same = row_here j e (2 * t + 0) (omega arith) in
       let (there, back) = row-panics-exactly s l h st rows answers e t low (free-here j e 0 (omega arith) t low f) in
       (λ k. there (sym same ∙ k), λ v. same ∙ back v)
+
+  -- A.1 OF DOCUMENT 02 ON THE BYTES (`kept-rows`): where the checked row gave a sort in the judgement over the ranks of document 01, the row that
+  -- `judge` wrote gives it, unless 23 was written at the term or below it.
+  pub judge-keeps : {st : List Sort} {rows answers : List ℕ} → judged_by document01 s l ≡ accepted h st rows answers
+      → roomed rw 1 h.terms t ≡ true → (a : Sort) → Gives st rows t a → GivesIn b p rw t a
+  judge-keeps {st} {rows} {answers} was f a g =
+      let (now, codes, given, e) = judgement s l q in
+      gives-in j e 1 (omega arith) t low a
+      (kept-rows s l h st now rows codes answers given was e t low (roomed-here j e 1 (omega arith) t low f) a g).1
 
 -- THE ANSWERS ON THE BYTES: each says what its question asks, over the sorts that are read from the records: 1 or 0 as two sorts are compatible;
 -- and where it is not 22 or 23, the sort or the cause of the question's verdict (`judged-answer`).

@@ -1,16 +1,27 @@
--- The fit of numbers, for every count of the store: the first kind that all have.
-use Rattle.check_operator.proofs.FitLaws.{fit-over, numbers-int, numbers-real, numbers-no}
+-- The fit of numbers, for every count of the store: each turn has one argument more.
+use Rattle.std.proofs.Common.{ap, ◌∙◌}
+use Rattle.record.specs.KindLaws.{sort_number-same}
+use Rattle.record.specs.Numbers.{numbers_left}
+use Rattle.record.specs.declared.kinds.SortKind.TheVariants.{Int as SortInt, Real as SortReal}
+use Rattle.check_operator.proofs.NumberLaws.{sum-start, sum-asks, sum-int, sum-real, sum-other, sum-end}
 use Rattle.check_operator.proofs.op.fit_numbers.Goals as goal
 
-pub returns-then-all_kind : goal.returns-then-all_kind
-returns-then-all_kind c = λ n o. numbers-int c.args.res (fit-over c.requires o) c.all_kind.result (c.all_kind.ensures n o) c.if-all_kind.true c.unwrap_or.ensures
+pub loop-k-init : goal.loop-k-init
+loop-k-init c = sum-start (ap numbers_left c.into_iter-k-iterator.ensures.into_iter_gives ∙ c.numbers-k-items.ensures)
 
-pub returns-then-all_kind-2 : goal.returns-then-all_kind-2
-returns-then-all_kind-2 c =
-    λ n o. numbers-real c.args.res (fit-over c.requires o) c.all_kind.result (c.all_kind.ensures n o) c.if-all_kind.false c.all_kind-2.result (c.all_kind-2.ensures n o)
-    c.if-all_kind-2.true c.unwrap_or-then-all_kind-2.ensures
+pub kind-requires : goal.kind-requires
+kind-requires c = sum-asks c.loop-k.invariant c.in-Some.ensures.steps c.requires.args.many c.requires.args.over
+
+pub loop-k-preserved-in-Int : goal.loop-k-preserved-in-Int
+loop-k-preserved-in-Int c = sum-int c.loop-k.invariant c.in-Some.ensures.steps c.in-Int.ensures
+
+pub loop-k-preserved : goal.loop-k-preserved
+loop-k-preserved c = sum-real c.loop-k.invariant c.in-Some.ensures.steps c.in-Real.ensures
+
+pub returns-in_default : goal.returns-in_default
+returns-in_default c =
+    sum-other c.loop-k.invariant c.in-Some.ensures.steps c.kind.ensures
+    (λ e. c.in_default.not-Int (sort_number-same c.kind.result SortInt e)) (λ e. c.in_default.not-Real (sort_number-same c.kind.result SortReal e))
 
 pub returns : goal.returns
-returns c =
-    λ n o. numbers-no c.args.res (fit-over c.requires o) c.all_kind.result (c.all_kind.ensures n o) c.if-all_kind.false c.all_kind-2.result (c.all_kind-2.ensures n o)
-    c.if-all_kind-2.false
+returns c = sum-end c.args.res c.requires c.loop-k.invariant c.in-None.ensures.steps.0 c.unwrap_or.ensures
