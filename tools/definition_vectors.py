@@ -384,7 +384,8 @@ def types_of(s):
     """Of a source file, laid out by rt fmt, its structs and enums and the imports that these name."""
     head = re.search(r'^#!\[.*\]\n', s, re.M)
     items = re.findall(r'^(?:#\[[^\]\n]*\]\n)*(?:pub(?:\([^)\n]*\))? )?(?:struct|enum) [^\n{;]*(?:\([^\n]*\);|;|\{[^\n]*\}|\{\n(?:.*\n)*?\})\n', s, re.M)
-    words = set(re.findall(r'\w+', re.sub(r'//.*', '', ''.join(items))))
+    # a variant's own name is no import's
+    words = set(re.findall(r'\w+', re.sub(r'//.*|^    [A-Z]\w*(?=[,( ])', '', ''.join(items), flags=re.M)))
     uses = []
     for path, names in re.findall(r'^use ([\w:]+?)(?:::(\w+|\{[^}]*\}));\n', s, re.M):
         uses += [f'use {path}::{n};\n' for n in re.findall(r'\w+', names) if n in words]

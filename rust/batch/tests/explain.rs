@@ -325,10 +325,10 @@ fn the_sort_of_the_row() {
     let length = op(&mut batch, Operator::StrLen, &[s]);
     assert_eq!(batch.judge_by(&mut Giving, Limits::SHEET).checked(length), Ok(real));
     let not = op(&mut batch, Operator::Not, &[length]);
-    let sum = op(&mut batch, Operator::Add, &[r, length, s]);
+    let equal = op(&mut batch, Operator::Equals, &[r, length, s]);
     for (term, expected) in [
         (not, "(not ..): argument 1, .., has sort Real, expected Bool (!26)"),
-        (sum, "(+ r .. s): argument 3, s, has sort String, expected Real (!26)"),
+        (equal, "(= r .. s): argument 3, s, has sort String, expected Real (!26)"),
     ] {
         assert_eq!(checked(&mut batch, term).to_string(), expected);
     }

@@ -8,8 +8,9 @@ use napsilo::{Binder, Name, ParamOperator, QualifiedOperator, SheetWriter, SortI
 pub type Family = fn(usize, u64) -> Vec<u8>;
 
 /// The families by name.
-pub const FAMILIES: [(&str, Family); 11] = [
+pub const FAMILIES: [(&str, Family); 12] = [
     ("integer and real arithmetic", arithmetic),
+    ("integers and reals mixed", mixed),
     ("core", core),
     ("arrays", arrays),
     ("bit vectors of many widths", vectors),
@@ -129,6 +130,31 @@ fn arithmetic(most: usize, seed: u64) -> Vec<u8> {
         (Op::LessThan, &[0, 0], 2),
         (Op::GreaterEq, &[1, 1], 2),
         (Op::IsInt, &[1], 2),
+    ])
+}
+
+/// Integers (0), reals (1) and what is said of them (2): sums, products, quotients and orders of both beside each other.
+fn mixed(most: usize, seed: u64) -> Vec<u8> {
+    let mut make = Make::new(most, seed);
+    make.pool(SortRecord::Int);
+    make.pool(SortRecord::Real);
+    make.pool(SortRecord::Bool);
+    make.filled(&[
+        (Op::Add, &[0, 1], 1),
+        (Op::Add, &[1, 0, 0], 1),
+        (Op::Add, &[0, 0, 0, 1], 1),
+        (Op::Sub, &[1, 0], 1),
+        (Op::Sub, &[0, 1, 1], 1),
+        (Op::Mult, &[0, 1], 1),
+        (Op::Mult, &[1, 0, 1], 1),
+        (Op::RealDiv, &[0, 0], 1),
+        (Op::RealDiv, &[1, 0], 1),
+        (Op::RealDiv, &[0, 1, 0], 1),
+        (Op::ToInt, &[1], 0),
+        (Op::LessThan, &[0, 1], 2),
+        (Op::GreaterThan, &[1, 0, 0], 2),
+        (Op::LessEq, &[0, 0, 1], 2),
+        (Op::GreaterEq, &[1, 0], 2),
     ])
 }
 

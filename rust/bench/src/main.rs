@@ -188,18 +188,25 @@ fn measure_growth(runs: usize) {
     }
 }
 
+/// Whether some rows differ, and all that do are refused by the first and sorts by the second.
+fn refuses_more(first: &[u32], second: &[u32]) -> bool {
+    let mut differing = first.iter().zip(second).filter(|(first, second)| first != second).peekable();
+    differing.peek().is_some() && differing.all(|(first, second)| first >> 16 != 0 && second >> 16 == 0)
+}
+
 /// Measures another build of the library, and this one in turn with it, on the cases in whose name a text stands.
 fn measure_turns(object: &str, runs: usize, text: &str) -> Option<()> {
     let other = Other::load(object)?;
     println!("| case | other, least | median | this, least | median | by least | by median |");
     println!("|---|---|---|---|---|---|---|");
     for case in cases().into_iter().filter(|case| case.name.contains(text)) {
-        // Another build's store may have other bytes, and it may refuse what is newer than it is.
+        // Another build's store may have other bytes, and it may refuse a sheet or rows that are newer than it is.
         let mut refused = false;
         for sheet in &case.sheets {
             let (mut theirs, mut ours) = (Buffers::new(case.lent), Buffers::new(case.lent));
             refused |= other.judge(sheet, &mut theirs) != 0;
             assert_eq!(judge(sheet, &mut ours), 0);
+            refused |= refuses_more(&theirs.rows, &ours.rows);
             let same = theirs.rows == ours.rows && theirs.answers == ours.answers;
             assert!(refused || same, "{}: other rows or answers", case.name);
         }

@@ -77,7 +77,7 @@ fn run_at(place: usize, work: &mut dyn FnMut() -> Duration) -> f64 {
 fn spread(mut times: Vec<f64>) -> Spread {
     times.sort_by(f64::total_cmp);
     let half = times.len() / 2;
-    let median = if times.len() % 2 == 0 { (times[half - 1] + times[half]) / 2.0 } else { times[half] };
+    let median = if times.len().is_multiple_of(2) { (times[half - 1] + times[half]) / 2.0 } else { times[half] };
     Spread { least: times[0], median }
 }
 

@@ -237,6 +237,11 @@ pub fn repeated(random: &mut Random) -> Vec<u8> {
     sheet.finish().into_bytes()
 }
 
+/// A sheet about numbers, Int and Real beside each other.
+pub fn numbers(random: &mut Random) -> Vec<u8> {
+    compare::numbers::sheet(&mut |bound| random.under(bound))
+}
+
 /// A copy of a sheet with something changed.
 pub fn damaged(random: &mut Random, sheet: &[u8]) -> Vec<u8> {
     let mut copy = sheet.to_vec();
@@ -513,7 +518,8 @@ impl Maker<'_> {
         }
     }
 
-    /// What an operator wants: a list of wishes, by its rank or, where it has none, by what the Rust looks at.
+    /// What an operator wants: a list of wishes, by its rank or, where it has none, by what the Rust looks at. Int and Real beside each other
+    /// are left to [`numbers`].
     fn wants(&mut self, operator: Operator) -> Vec<Want> {
         let several = 2 + self.random.under(3);
         let number = *self.random.of(&[INT, REAL]);

@@ -69,6 +69,12 @@ fn tried(seed: u64, count: usize, others: usize, make: fn(&mut Random) -> Vec<u8
 }
 
 #[test]
+fn int_and_real_beside_each_other() {
+    let trial = tried(61, 300, 1, make::numbers);
+    assert!([0, 20, 25, 26].iter().all(|number| trial.checked[*number] > 100));
+}
+
+#[test]
 fn sorts_past_the_limit_with_sizes() {
     let trial = tried(9, 60, 1, make::over);
     assert!(trial.sheets[9] > 10 && trial.sheets[34] > 10);

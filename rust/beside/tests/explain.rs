@@ -72,6 +72,7 @@ fn random_sheets() {
             explained.sheet(&match at % 20 {
                 0 => make::large(&mut random),
                 1 => make::repeated(&mut random),
+                2 | 12 => make::numbers(&mut random),
                 at if at % 2 == 0 => make::sheet(&mut random),
                 _ => sheet(&mut source),
             })?;

@@ -46,7 +46,7 @@ fn what_the_example_prints() {
     let words = "no sheet can say the term: a list length, a number or a name list is outside what its kind takes";
     assert_eq!(of_step("t5")[1..], [&format!("{words} (!5)"), "and no inferred one"]);
     let part = "(=> (locked ..) (closed current))";
-    let sum = format!("(+ 5 {part}): argument 2, {part}, has sort Bool, expected Int (!26)");
+    let sum = format!("(+ 5 {part}): argument 2, {part}, has sort Bool, expected Int or Real (!26)");
     assert_eq!(of_step("t6")[1..], [&sum, "carcara infers Bool"]);
     // The steps before have sorts.
     assert_eq!(lines.first().map(String::as_str), Some(mixed[0]));

@@ -1,7 +1,8 @@
-//! Random sheets: general ones, ones about parametric functions and matching, some of both with tree sizes written, and broken ones.
+//! Random sheets: general ones, ones about parametric functions and matching, some of both with tree sizes written, broken ones, and one in ten
+//! about numbers.
 
-use crate::sizes;
 use crate::writer::{Fields, Writer};
+use crate::{numbers, sizes};
 use model::reader::{self, Lent};
 
 /// A source of random numbers (splitmix64).
@@ -24,7 +25,7 @@ impl Source {
     }
 
     /// A number under a bound that is not 0.
-    fn under(&mut self, bound: usize) -> usize {
+    pub(crate) fn under(&mut self, bound: usize) -> usize {
         (self.next() % bound as u64) as usize
     }
 
@@ -89,6 +90,11 @@ pub fn sheet(source: &mut Source) -> Vec<u8> {
             }
         }
         16 => bytes.push(0),
+        // By numbers of its own, so that the source goes on as it did before there was this kind.
+        17..27 => {
+            let mut apart = source.clone();
+            bytes = numbers::sheet(&mut |bound| apart.under(bound));
+        }
         _ => (),
     }
     bytes

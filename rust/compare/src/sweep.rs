@@ -1,6 +1,9 @@
 //! Sheets with every operator at every choice of arguments from a list of sorts, and sheets at the limits.
 
+use crate::numbers::MIXING;
 use crate::writer::{Fields, Writer};
+use model::operator::Operator;
+use model::sort::Kind;
 
 /// The terms that arguments and indices are chosen from, on a sheet that holds nothing else yet.
 struct Base {
@@ -83,6 +86,45 @@ fn relations() -> Vec<u8> {
     w.bytes()
 }
 
+/// A sheet of Int and Real beside each other: in long lists of the operators that take both, and below every operator of logic and arithmetic.
+fn numbers() -> Vec<u8> {
+    let mut w = Writer::default();
+    let [bool, int, real] = [Kind::Bool, Kind::Int, Kind::Real].map(|kind| w.plain(kind as u8));
+    let n1 = w.variable(1);
+    let function = w.parts(Kind::Function as u8, &[int, real]);
+    let par = w.par(function, &[1]);
+    let values = [int, real, bool, n1, par].map(|sort| w.var(sort));
+    let [int, real, bool, _, par] = values;
+    let mut add = |operator: u32, list: &[u16]| {
+        w.term(Fields { kind: 7, number: Some(operator), list: Some(list), ..Fields::default() })
+    };
+    for operator in MIXING.map(|operator| operator as u32) {
+        for list in [lists(&values, 3), lists(&values[..3], 4), lists(&values[..2], 5)].concat() {
+            add(operator, &list);
+        }
+        // The longest list, all of one sort but for its first, a middle or its last argument.
+        for (most, other) in [(int, real), (real, int), (int, bool), (real, par)] {
+            for place in [0, 31, 63] {
+                let mut list = [most; 64];
+                list[place] = other;
+                add(operator, &list);
+            }
+        }
+    }
+    let sums = [(Operator::Add, [int, real]), (Operator::RealDiv, [int, int]), (Operator::LessThan, [real, int])];
+    let sums = sums.map(|(operator, list)| add(operator as u32, &list));
+    let below = [&values[..3], &sums].concat();
+    for operator in Operator::True as u32..=Operator::IsInt as u32 {
+        for list in up_to(&below, 2) {
+            add(operator, &list);
+        }
+    }
+    for list in lists(&below, 3) {
+        add(Operator::Ite as u32, &list);
+    }
+    w.bytes()
+}
+
 /// A sheet at the limits of trees, lists and widths.
 fn limits() -> Vec<u8> {
     let mut w = Writer::default();
@@ -148,6 +190,7 @@ fn limits() -> Vec<u8> {
 pub fn sheets(give: &mut dyn FnMut(&[u8])) {
     give(&relations());
     give(&limits());
+    give(&numbers());
     let base = base();
     let mut writer = base.writer.clone();
     let start = writer.terms.len();

@@ -63,6 +63,19 @@ T7 Bool !26
     assert!(manual.ends_with(&format!("examples/session.sheet\n{refused}.EE\n")), "the manual shows the same");
 }
 
+/// The sum of a power and a whole number of steps is not refused, the power and the steps as equals are; the page of the examples shows the same.
+#[test]
+fn the_prism_with_names() {
+    let refused = "\
+T10 Bool !26
+  T10 (= power steps): argument 2, steps, has sort Int, expected Real (!26)
+";
+    let output = command(&["--names", "examples/prism.names", "--only-refused", "examples/prism.sheet"]).output();
+    assert_eq!(said(&output.expect("it runs")), (refused.to_owned(), Some(1)));
+    let shown: String = refused.lines().map(|line| format!("    {line}\n")).collect();
+    assert!(recorded::text("examples/README.md").contains(&format!("examples/prism.sheet)\n\n{shown}\n")));
+}
+
 /// A name that looks like a sort, an operator or two words is told from it: the session's sort is not Bool.
 #[test]
 fn names_that_look_like_something_else() {

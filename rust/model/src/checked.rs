@@ -224,6 +224,11 @@ fn rank(operator: Operator, sorts: &[Tree]) -> Option<Tree> {
     let all_are = |kind: Kind| sorts.iter().all(|sort| sort.kind == kind);
     // The result, if all arguments are of this kind.
     let all = |kind: Kind, result: Kind| all_are(kind).then(|| Sort::plain(result));
+    // The result, if each argument is Int or Real, in any mixture.
+    let numbers = |result: Kind| {
+        let fits = sorts.iter().all(|sort| matches!(sort.kind, Int | Real));
+        fits.then(|| Sort::plain(result))
+    };
     let same = sorts.windows(2).all(|two| two[0] == two[1]);
     // The first argument's sort, if all are vectors of one width.
     let vectors = || (same && all_are(BitVec)).then(|| sorts[0].clone());
@@ -232,10 +237,10 @@ fn rank(operator: Operator, sorts: &[Tree]) -> Option<Tree> {
         Not | Implies | And | Or | Xor => all(Bool, Bool),
         Equals | Distinct => same.then(|| Sort::plain(Bool)),
         Ite => (sorts[0].kind == Bool && sorts[1] == sorts[2]).then(|| sorts[1].clone()),
-        Add | Sub | Mult => all(Int, Int).or_else(|| all(Real, Real)),
-        LessThan | GreaterThan | LessEq | GreaterEq => all(Int, Bool).or_else(|| all(Real, Bool)),
+        Add | Sub | Mult => all(Int, Int).or_else(|| numbers(Real)),
+        LessThan | GreaterThan | LessEq | GreaterEq => numbers(Bool),
         IntDiv | Mod | Abs => all(Int, Int),
-        RealDiv => all(Real, Real),
+        RealDiv => numbers(Real),
         ToReal => all(Int, Real),
         ToInt => all(Real, Int),
         IsInt => all(Real, Bool),

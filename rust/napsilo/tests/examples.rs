@@ -83,6 +83,38 @@ fn k4() {
 }
 
 #[test]
+fn whole_numbers_beside_decimals() {
+    let Start { mut sheet, seven, half, .. } = start();
+    let two = sheet.add_term(TermRecord::Integer(2)).unwrap();
+    let at = |op, args: &[TermId], sort| assert_rows(sheet.clone(), TermRecord::Op(op, args), sort, sort);
+    for sum in [Operator::Add, Operator::Sub, Operator::Mult] {
+        at(sum, &[seven, two], "Int");
+        at(sum, &[half, half], "Real");
+        for mixed in [vec![seven, half], vec![half, seven], vec![seven, two, half], vec![seven, half, two, half]] {
+            at(sum, &mixed, "Real");
+        }
+    }
+    at(Operator::Sub, &[seven], "Int");
+    at(Operator::Sub, &[half], "Real");
+    for quotient in [vec![seven, two], vec![half, two], vec![seven, half], vec![seven, two, half]] {
+        at(Operator::RealDiv, &quotient, "Real");
+    }
+    for order in [Operator::LessThan, Operator::GreaterThan, Operator::LessEq, Operator::GreaterEq] {
+        for mixed in [vec![seven, half], vec![half, two], vec![seven, two, half], vec![half, seven, half]] {
+            at(order, &mixed, "Bool");
+        }
+    }
+    // What the request does not name asks for one sort as before.
+    let mixed = [seven, half];
+    for (op, inferred) in [(Operator::Equals, "Bool"), (Operator::Distinct, "Bool"), (Operator::IntDiv, "Int")] {
+        assert_rows(sheet.clone(), TermRecord::Op(op, &mixed), inferred, "!26");
+    }
+    assert_rows(sheet.clone(), TermRecord::Op(Operator::RealDiv, &[seven]), "Real", "!25");
+    let sum = sheet.add_term(TermRecord::Op(Operator::Add, &mixed)).unwrap();
+    assert_eq!(sheet.judge().unwrap().explain(sum), Ok(None));
+}
+
+#[test]
 fn k6_k7() {
     let Start { mut sheet, int, real, bool, seven, .. } = start();
     let sort = SortRecord::Function(&[int, real, bool]);
@@ -192,4 +224,28 @@ fn session_for_account() {
     let expected = "T0 n1 n1\nT1 (-> n1 n2) (-> n1 n2)\nT2 (-> n2 Bool) (-> n2 Bool)\nT3 n2 n2\n\
                     T4 Bool Bool\nT5 Bool !26\nT6 Bool !20\nT7 Bool !26\n";
     assert_eq!(print(&sheet), expected);
+}
+
+/// The rule that adds whole steps to the decimal power of a prism; the same sheet as the example.
+#[test]
+fn steps_added_to_a_power() {
+    let mut sheet = SheetWriter::new();
+    let [real, int, bool] =
+        [SortRecord::Real, SortRecord::Int, SortRecord::Bool].map(|sort| sheet.add_sort(sort).unwrap());
+    let mut add = |term: TermRecord<'_>| sheet.add_term(term).unwrap();
+    let [power, steps, limit, allowed] =
+        [(1, real), (2, int), (3, real), (4, bool)].map(|(name, sort)| add(TermRecord::Var(n(name), sort)));
+    let sum = add(TermRecord::Op(Operator::Add, &[power, steps]));
+    let within = add(TermRecord::Op(Operator::LessEq, &[sum, limit]));
+    let rule = add(TermRecord::Op(Operator::Implies, &[within, allowed]));
+    let four = add(TermRecord::Integer(4));
+    let quarter = add(TermRecord::Op(Operator::RealDiv, &[steps, four]));
+    let less = add(TermRecord::Op(Operator::LessThan, &[steps, limit]));
+    let equal = add(TermRecord::Op(Operator::Equals, &[power, steps]));
+    assert_eq!(hex(&sheet.finish()), hex(&recorded::read("examples/prism.sheet")));
+    let both = |term: TermId| rows(&sheet, term);
+    let same = |text: &str| (text.to_owned(), text.to_owned());
+    assert_eq!([sum, quarter].map(both), [same("Real"), same("Real")]);
+    assert_eq!([within, rule, less].map(both), [same("Bool"), same("Bool"), same("Bool")]);
+    assert_eq!(both(equal), ("Bool".to_owned(), "!26".to_owned()));
 }

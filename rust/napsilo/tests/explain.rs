@@ -123,8 +123,8 @@ fn arguments_of_operators() {
     let [v, w] = [("v", 8), ("w", 9)].map(|(name, width)| made.var(name, &Sort::BitVec(width)));
     let a = made.var("a", &array(Sort::Int, Sort::Real));
     made.says(op(Operator::And, &[b, b, i]), "(and b b i): argument 3, i, has sort Int, expected Bool (!26)");
-    made.says(op(Operator::Add, &[i, r]), "(+ i r): argument 2, r, has sort Real, expected Int (!26)");
-    made.says(op(Operator::Add, &[b, r]), "(+ b r): argument 1, b, has sort Bool, expected Int or Real (!26)");
+    made.says(op(Operator::IntDiv, &[i, r]), "(div i r): argument 2, r, has sort Real, expected Int (!26)");
+    made.says(op(Operator::ToReal, &[r]), "(to_real r): argument 1, r, has sort Real, expected Int (!26)");
     made.says(op(Operator::Equals, &[i, i, r]), "(= i i r): argument 3, r, has sort Real, expected Int (!26)");
     made.says(op(Operator::Ite, &[b, i, r]), "(ite b i r): argument 3, r, has sort Real, expected Int (!26)");
     made.says(op(Operator::Ite, &[i, i, r]), "(ite i i r): argument 1, i, has sort Int, expected Bool (!26)");
@@ -139,6 +139,30 @@ fn arguments_of_operators() {
         op(Operator::BvConcat, &[v, s]),
         "(concat v s): argument 2, s, has sort String, expected a bit vector (!26)",
     );
+}
+
+/// 26 of sums, differences, products, quotients and orders: the first argument that is no number. Int and Real beside each other are no fault.
+#[test]
+fn arguments_that_are_numbers() {
+    let mut made = Made::default();
+    let [i, r, b, s] = [("i", Sort::Int), ("r", Sort::Real), ("b", Sort::Bool), ("s", Sort::String)]
+        .map(|(name, sort)| made.var(name, &sort));
+    let x = made.names.name("X").unwrap();
+    let x = made.var("x", &Sort::Var(x));
+    let mixed = made.term(op(Operator::Add, &[i, r, i]));
+    made.says(op(Operator::Add, &[b, r]), "(+ b r): argument 1, b, has sort Bool, expected Int or Real (!26)");
+    made.says(op(Operator::Add, &[i, s, r]), "(+ i s r): argument 2, s, has sort String, expected Int or Real (!26)");
+    made.says(op(Operator::Sub, &[x]), "(- x): argument 1, x, has sort 'X, expected Int or Real (!26)");
+    made.says(op(Operator::Mult, &[r, i, b]), "(* r i b): argument 3, b, has sort Bool, expected Int or Real (!26)");
+    made.says(op(Operator::RealDiv, &[i, b]), "(/ i b): argument 2, b, has sort Bool, expected Int or Real (!26)");
+    for order in [Operator::LessThan, Operator::GreaterThan, Operator::LessEq, Operator::GreaterEq] {
+        let text = format!("({order} r i b): argument 3, b, has sort Bool, expected Int or Real (!26)");
+        made.says(op(order, &[r, i, b]), &text);
+    }
+    let text = "(= i (+ i r i)): argument 2, (+ i r i), has sort Real, expected Int (!26)";
+    made.says(op(Operator::Equals, &[i, mixed]), text);
+    made.says(op(Operator::RealDiv, &[i]), "(/ i): found 1, expected at least 2 arguments (!25)");
+    made.says(op(Operator::LessThan, &[r]), "(< r): found 1, expected at least 2 arguments (!25)");
 }
 
 /// 26 of a parametric variable that is no head, of bodies and of `as`.

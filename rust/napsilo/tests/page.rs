@@ -175,6 +175,7 @@ fn pages_in_the_documents() {
     shown(&sheet, behind);
 
     let readme = recorded::text("README.md");
-    let (_, behind) = readme.split_once("(cd crates/napsilo_page && rt run < ../../examples/session.sheet)\n").expect("the command");
+    let (_, behind) =
+        readme.split_once("(cd crates/napsilo_page && rt run < ../../examples/session.sheet)\n").expect("the command");
     shown(&recorded::read("examples/session.sheet"), behind);
 }

@@ -47,10 +47,11 @@ fn number(word: &str) -> usize {
     SORTS.iter().position(|(known, _, _)| *known == word).unwrap_or_else(|| panic!("no sort {word}"))
 }
 
-/// The text of a result, by the table's word for it and the first argument.
-fn result(word: &str, first: Option<&usize>) -> String {
+/// The text of a result, by the table's word for it and the arguments.
+fn result(word: &str, arguments: &[usize]) -> String {
     match word {
-        "that sort" => SORTS[*first.expect("an argument")].1.to_owned(),
+        "Real if an argument is, else Int" if arguments.contains(&number("Real")) => "Real".to_owned(),
+        "Real if an argument is, else Int" => "Int".to_owned(),
         "BV m+n" => "(_ BitVec 11)".to_owned(),
         "BV 1" => "(_ BitVec 1)".to_owned(),
         _ => SORTS[number(word)].1.to_owned(),
@@ -68,7 +69,7 @@ fn sheet(operator: u8, arguments: &[usize]) -> Vec<u8> {
     sheet
 }
 
-/// The sorts of a list without `all` in front, such as `(Array X Y) X`.
+/// The sorts of a list without `all` or `each` in front, such as `(Array X Y) X`.
 fn listed(words: &str) -> Vec<usize> {
     let mut rest = words;
     let mut found = Vec::new();
@@ -82,6 +83,13 @@ fn listed(words: &str) -> Vec<usize> {
     found
 }
 
+/// All lists of so many of these sorts.
+fn mixed(sorts: &[usize], count: usize) -> Vec<Vec<usize>> {
+    (0..count).fold(vec![Vec::new()], |lists, _| {
+        lists.iter().flat_map(|list| sorts.iter().map(|sort| [list.as_slice(), &[*sort]].concat())).collect()
+    })
+}
+
 /// The lists of arguments that an operator takes, by the columns for arguments and count; for `n+` with n and with n + 1.
 fn taken(arguments: &str, count: &str) -> Vec<Vec<usize>> {
     let least: usize = count.trim_end_matches('+').parse().expect("a count");
@@ -89,14 +97,16 @@ fn taken(arguments: &str, count: &str) -> Vec<Vec<usize>> {
         assert_eq!(count, "0");
         return vec![Vec::new()];
     }
-    let Some(one_sort) = arguments.strip_prefix("all ") else {
+    // `all A`, or `each A or B`: of these each by itself.
+    let sorts = arguments.strip_prefix("all ").or_else(|| arguments.strip_prefix("each "));
+    let Some(sorts) = sorts else {
         let list = listed(arguments);
         assert_eq!(count, list.len().to_string(), "{arguments}");
         return vec![list];
     };
     assert!(count.ends_with('+'), "{arguments}");
-    let sorts = one_sort.split(" or all ").map(number);
-    sorts.flat_map(|sort| [vec![sort; least], vec![sort; least + 1]]).collect()
+    let sorts: Vec<usize> = sorts.split(" or ").map(number).collect();
+    [least, least + 1].iter().flat_map(|count| mixed(&sorts, *count)).collect()
 }
 
 /// The sheets of an operator with a rank: what it takes, an argument less, an argument more where that is too many, and another sort last.
@@ -104,15 +114,14 @@ fn ranked(operator: u8, row: &Row) -> Vec<Ranked> {
     let [_, arguments, count, word, inferred] = &row[..] else {
         panic!("five cells: {row:?}");
     };
-    let inferred = (inferred == "same").then(|| result(word, None));
     let case = |arguments: &[usize], checked: &str| {
-        let sheet = sheet(operator, arguments);
-        Ranked { sheet, inferred: inferred.clone(), checked: checked.to_owned() }
+        let inferred = (inferred == "same").then(|| result(word, arguments));
+        Ranked { sheet: sheet(operator, arguments), inferred, checked: checked.to_owned() }
     };
     let mut all = Vec::new();
     let lists = taken(arguments, count);
     for list in &lists {
-        all.push(case(list, &result(word, list.first())));
+        all.push(case(list, &result(word, list)));
         if let Some((_, front)) = list.split_last() {
             all.push(case(&[front, &[number("another")]].concat(), "!26"));
         }

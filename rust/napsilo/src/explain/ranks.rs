@@ -13,7 +13,7 @@ pub enum Want {
     Real,
     String,
     RegLan,
-    /// Int or Real, and the same for all.
+    /// Int or Real, each by itself.
     Number,
     /// Any sort that is not parametric, and the same for all.
     Same,
@@ -55,13 +55,13 @@ impl Rank {
 
     /// The first argument that does not fit; nothing if all fit.
     pub fn misfit(&self, numbers: &[usize], sorts: &[&Arc<Sort>]) -> Option<Finding> {
-        // The sort that all of Number, Same or Vector share, from the first of them on.
+        // The sort that all of Same or Vector share, from the first of them on.
         let mut shared: Option<Arc<Sort>> = None;
         let mut array: Option<(Arc<Sort>, Arc<Sort>)> = None;
         for (at, sort) in sorts.iter().enumerate() {
             let want = self.want(at)?;
             let expected = match (want, &shared, &array) {
-                (Want::Number | Want::Same | Want::Vector, Some(sort), _) => Expected::Sort(sort.clone()),
+                (Want::Same | Want::Vector, Some(sort), _) => Expected::Sort(sort.clone()),
                 (Want::Index, _, Some((index, _))) => Expected::Sort(index.clone()),
                 (Want::Element, _, Some((_, element))) => Expected::Sort(element.clone()),
                 _ => want.expected()?,
@@ -70,7 +70,7 @@ impl Rank {
                 return Some(Finding::sort(Role::Argument, at + 1, Some(numbers[at]), sort, expected));
             }
             match (want, sort.as_ref()) {
-                (Want::Number | Want::Same | Want::Vector, _) => shared = Some(Arc::clone(sort)),
+                (Want::Same | Want::Vector, _) => shared = Some(Arc::clone(sort)),
                 (Want::Array, Sort::Array(index, element)) => array = Some((index.clone(), element.clone())),
                 _ => (),
             }
@@ -124,9 +124,8 @@ pub fn rank(operator: Operator) -> Option<Rank> {
         Equals | Distinct => Several(2, Same),
         Ite => List(&[Bool, Same, Same]),
         Sub => Several(1, Number),
-        Add | Mult | LessThan | GreaterThan | LessEq | GreaterEq => Several(2, Number),
+        Add | Mult | RealDiv | LessThan | GreaterThan | LessEq | GreaterEq => Several(2, Number),
         IntDiv => Several(2, Int),
-        RealDiv => Several(2, Real),
         Mod => List(&[Int, Int]),
         Abs | ToReal | StrFromCode | StrFromInt => List(&[Int]),
         ToInt | IsInt => List(&[Real]),
