@@ -60,6 +60,15 @@ impl Make {
         self.term(TermRecord::Var(name, sort))
     }
 
+    /// With pools of integers (0), reals (1) and what is said of them (2).
+    fn of_numbers(most: usize, seed: u64) -> Self {
+        let mut make = Self::new(most, seed);
+        make.pool(SortRecord::Int);
+        make.pool(SortRecord::Real);
+        make.pool(SortRecord::Bool);
+        make
+    }
+
     /// Adds a pool with some variables of a sort; its number.
     fn pool(&mut self, sort: SortRecord<'_>) -> SortId {
         let sort = self.sort(sort);
@@ -106,13 +115,9 @@ impl Make {
     }
 }
 
-/// Integers (0), reals (1) and what is said of them (2).
+/// Integers and reals, each by themselves.
 fn arithmetic(most: usize, seed: u64) -> Vec<u8> {
-    let mut make = Make::new(most, seed);
-    make.pool(SortRecord::Int);
-    make.pool(SortRecord::Real);
-    make.pool(SortRecord::Bool);
-    make.filled(&[
+    Make::of_numbers(most, seed).filled(&[
         (Op::Add, &[0, 0], 0),
         (Op::Add, &[0, 0, 0], 0),
         (Op::Sub, &[0, 0], 0),
@@ -133,13 +138,9 @@ fn arithmetic(most: usize, seed: u64) -> Vec<u8> {
     ])
 }
 
-/// Integers (0), reals (1) and what is said of them (2): sums, products, quotients and orders of both beside each other.
+/// Integers and reals beside each other: sums, products, quotients and orders of both.
 fn mixed(most: usize, seed: u64) -> Vec<u8> {
-    let mut make = Make::new(most, seed);
-    make.pool(SortRecord::Int);
-    make.pool(SortRecord::Real);
-    make.pool(SortRecord::Bool);
-    make.filled(&[
+    Make::of_numbers(most, seed).filled(&[
         (Op::Add, &[0, 1], 1),
         (Op::Add, &[1, 0, 0], 1),
         (Op::Add, &[0, 0, 0, 1], 1),
