@@ -7,7 +7,7 @@ use Rattle.std.proofs.Math.Bool.{◌&&◌}
 use mathlib.Core.List.{List, [], ◌∷◌}
 use Rattle.std.proofs.Math.Option.{Option, none, some}
 use Rattle.std.proofs.Math.Dec.{eqb, ltb}
-use Rattle.record.specs.Sort.{Sort, Sorts, var, par, node, end, ◌then◌, function, bool, int, reglan, array, bitvec, number_in, count, same}
+use Rattle.record.specs.Sort.{Sort, Sorts, var, par, node, end, ◌then◌, function, bool, int, reglan, array, bitvec, number_in, count, same, set}
 use Rattle.record.specs.Cases.{by_test}
 use Rattle.substitution.specs.Substitution.{Map, empty, apply}
 use Rattle.substitution.specs.Matching.{matches_all}
@@ -18,10 +18,11 @@ use Rattle.row_rules.specs.Verdict.{sort, or_cause}
 use Rattle.row_rules.specs.Lists.{firsts, others, remaining, joined, binding_sorts}
 use Rattle.row_rules.specs.Term.{Site}
 use Rattle.check_rules.specs.Rank.{Rank, vector, first_fit, some_counts}
+use Rattle.check_rules.specs.Forms.{element_of}
 use Rattle.check_rules.proofs.RankSound.{Sound}
-use Rattle.check_rules.specs.Checked.{carried, value, values, parameters, function_list, settled, settled_all, delivered, called, checked_app, nonempty, ranked, operated, only_of, bound_body, binder, inner_of, letting, new_width, indexed₁, indexed₂, indexed_by, indexed_on, indexing, constant_array, qualified, checked}
+use Rattle.check_rules.specs.Checked.{carried, value, values, parameters, function_list, settled, settled_all, delivered, called, checked_app, nonempty, ranked, operated, only_of, bound_body, binder, inner_of, letting, new_width, indexed₁, indexed₂, indexed_by, indexed_on, indexing, constant_array, whole_set, qualified, checked}
 use Rattle.abstraction.specs.Names.{Renames, new_names, renamed, renamed_all, renamed_verdict, renamed_sort, renamed_sorts, renamed_bindings}
-use Rattle.abstraction.proofs.NameLaws.{renamed_map, renamed_found, need-renamed, cond-renamed, leaf-renamed, node-renamed, same-renamed, same-stays, member-renamed, count-renamed, number-renamed, proper-renamed, proper_all-renamed, firsts-renamed, others-renamed, remaining-renamed, last-renamed, joined-renamed, bindings-renamed, bound-renamed, apply-renamed, matches_all-renamed}
+use Rattle.abstraction.proofs.NameLaws.{renamed_map, renamed_found, need-renamed, cond-renamed, leaf-renamed, node-renamed, same-renamed, same-stays, member-renamed, count-renamed, number-renamed, proper-renamed, proper_all-renamed, firsts-renamed, others-renamed, remaining-renamed, last-renamed, joined-renamed, bindings-renamed, bound-renamed, apply-renamed, matches_all-renamed, element-renamed, set-renamed}
 use Rattle.abstraction.proofs.RankNames.{unnamed_ranks, PlainRanks, vector-renamed, counts-renamed, first_fit-renamed}
 
 -- A record with its sorts renamed; its numbers and constants stay.
@@ -219,9 +220,18 @@ module _ (ρ : ℕ → ℕ) (N : Renames ρ) where
       (ap sort z)
   array-renamed (node k n w (i then (e then (r then rs)))) (a then end) = refl
 
+  whole_set-renamed : (s : Sort) (ts : Sorts) → whole_set (renamed ρ s) (renamed_all ρ ts) ≡ renamed_verdict ρ (whole_set s ts)
+  unfolding renamed
+  whole_set-renamed s end =
+      let z : set (element_of (renamed ρ s)) ≡ renamed ρ (set (element_of s)) = ap set (element-renamed ρ N s) ∙ sym (set-renamed ρ N (element_of s)) in
+      need-renamed ρ (same s (set (element_of s))) _ Misfit _ _ (ap (same (renamed ρ s)) z ∙ same-renamed ρ N s (set (element_of s))) refl
+  whole_set-renamed s (a then as') = refl
+
   qualified-renamed : (n : ℕ) (s : Sort) (ts : Sorts) → qualified n (renamed ρ s) (renamed_all ρ ts) ≡ renamed_verdict ρ (qualified n s ts)
   unfolding qualified
-  qualified-renamed n s ts = need-renamed ρ (eqb n 0) _ NoRank _ _ refl (need-renamed ρ (proper s) _ Barred _ _ (proper-renamed ρ N s) (array-renamed s ts))
+  qualified-renamed n s ts =
+      need-renamed ρ (leb n 2) _ NoRank _ _ refl
+      (need-renamed ρ (proper s) _ Barred _ _ (proper-renamed ρ N s) (cond-renamed ρ (eqb n 0) _ _ _ _ (array-renamed s ts) (whole_set-renamed s ts)))
 
   ---------------------------------------------------------------- the verdict
   -- THE CHECKED VERDICT ON A RECORD DOES NOT MIND THE NAMES.

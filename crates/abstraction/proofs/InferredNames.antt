@@ -6,7 +6,7 @@ use mathlib.Core.List.{List, [], ◌∷◌, ◌++◌}
 use Rattle.std.proofs.Math.Option.{Option, none, some}
 use Rattle.std.proofs.Math.Dec.{eqb}
 use Rattle.record.specs.Names.{member}
-use Rattle.record.specs.Sort.{Sort, Sorts, var, par, node, end, ◌then◌, function, real, bitvec, set, tuple, number_in, count, same}
+use Rattle.record.specs.Sort.{Sort, Sorts, var, par, node, end, ◌then◌, function, real, bitvec, number_in, count, same}
 use Rattle.record.specs.Cases.{by_test}
 use Rattle.sheet.specs.Sheet.{Binding}
 use Rattle.substitution.specs.Substitution.{Map, empty, find}
@@ -14,15 +14,15 @@ use Rattle.substitution.specs.Matching.{keep}
 use Rattle.substitution.specs.MatchWith.{is_param_bit_vec, is_bit_vec, param_eq, meet_with, all_members, towards, match_with, match_all_with}
 use Rattle.row_rules.specs.declared.Cause.TheVariants.{Panics}
 use Rattle.row_rules.specs.Verdict.{Verdict, sort}
-use Rattle.row_rules.specs.Lists.{firsts, others, remaining, joined, appended, binding_sorts}
+use Rattle.row_rules.specs.Lists.{firsts, others, remaining, joined, appended, binding_sorts, all_but_last}
 use Rattle.row_rules.specs.Term.{Site}
 use Rattle.infer_rules.specs.declared.Family.{Family}
 use Rattle.infer_rules.specs.declared.Family.TheVariants.{Truth, Integer, Decimal, Text, Regular, Vector, OneBit, Bits, Constant, Concat, First, Second, Last, Sum, Element, RareList, Singleton, Tuple, UnitTuple, Transpose, Join, Product}
 use Rattle.infer_rules.specs.Family.{family_of}
-use Rattle.infer_rules.specs.Inferred.{has_width, first_vector, concat_unknown, concat_from, first_of, second_of, final_of, constant_width, some_real, sum_of, element_of, rare_of, columns, relation, backwards, all_but_last, join_of, product_of, over_columns, over_both, transpose_of, selected}
+use Rattle.infer_rules.specs.Inferred.{has_width, first_vector, concat_unknown, concat_from, first_of, second_of, final_of, constant_width, some_real, sum_of, element_of, rare_of, columns, relation, backwards, join_of, product_of, over_columns, over_both, transpose_of, selected}
 use Rattle.infer_rules.specs.Inferred.{singleton_of, operated_by, substituted, plain_app, parametric_app, head_app, inferred_app, chosen, inferred_lambda, inferred_binder, matched, extracted, resized_of, resized, width_of, indexed, inferred}
 use Rattle.abstraction.specs.Names.{Renames, new_names, renamed, renamed_all, renamed_verdict, renamed_sort, renamed_sorts, renamed_bindings}
-use Rattle.abstraction.proofs.NameLaws.{renamed_map, renamed_found, need-renamed, cond-renamed, eqb-names, leaf-renamed, node-renamed, same-renamed, same-stays, member-renamed, count-renamed, number-renamed, kind-renamed, firsts-renamed, others-renamed, remaining-renamed, last-renamed, joined-renamed, appended-renamed, bindings-renamed, find-renamed, apply-renamed, then-renamed}
+use Rattle.abstraction.proofs.NameLaws.{renamed_map, renamed_found, need-renamed, cond-renamed, eqb-names, leaf-renamed, node-renamed, same-renamed, same-stays, member-renamed, count-renamed, number-renamed, kind-renamed, firsts-renamed, others-renamed, remaining-renamed, last-renamed, joined-renamed, appended-renamed, bindings-renamed, find-renamed, apply-renamed, then-renamed, set-renamed, tuples-renamed, but_last-renamed}
 use Rattle.abstraction.proofs.CheckedNames.{renamed_site}
 
 module _ (ρ : ℕ → ℕ) (N : Renames ρ) where
@@ -181,7 +181,7 @@ module _ (ρ : ℕ → ℕ) (N : Renames ρ) where
   singleton-renamed : (ss : Sorts) → singleton_of (renamed_all ρ ss) ≡ renamed_verdict ρ (singleton_of ss)
   unfolding renamed
   singleton-renamed end = refl
-  singleton-renamed (a then ss) = ap sort (sym (node-renamed ρ N 14 0 (a then end)))
+  singleton-renamed (a then ss) = ap sort (sym (set-renamed ρ N a))
 
   -- Relations.
   columns-renamed : (s : Sort) → columns (renamed ρ s) ≡ renamed_sorts ρ (columns s)
@@ -194,25 +194,18 @@ module _ (ρ : ℕ → ℕ) (N : Renames ρ) where
   columns-renamed (node k a w (node l c x cs then ss)) = by_test (eqb k 14 && eqb l 15) (λ q. rw q refl) (λ q. rw q refl)
 
   relation-renamed : (cs : Sorts) → relation (renamed_all ρ cs) ≡ renamed_verdict ρ (relation cs)
-  unfolding renamed
-  relation-renamed cs = ap sort (ap set (sym (node-renamed ρ N 15 0 cs)) ∙ sym (node-renamed ρ N 14 0 (tuple cs then end)))
+  relation-renamed cs = ap sort (sym (tuples-renamed ρ N cs))
 
   backwards-renamed : (ss acc : Sorts) → backwards (renamed_all ρ ss) (renamed_all ρ acc) ≡ renamed_all ρ (backwards ss acc)
   unfolding backwards renamed
   backwards-renamed end acc = refl
   backwards-renamed (s then ss) acc = backwards-renamed ss (s then acc)
 
-  but_last-renamed : (ss : Sorts) → all_but_last (renamed_all ρ ss) ≡ renamed_all ρ (all_but_last ss)
-  unfolding all_but_last renamed
-  but_last-renamed end = refl
-  but_last-renamed (s then end) = refl
-  but_last-renamed (s then (r then rs)) = ap (λ (xs : Sorts). renamed ρ s then xs) (but_last-renamed (r then rs))
-
   join-renamed : (xs ys : Sorts) → join_of (renamed_all ρ xs) (renamed_all ρ ys) ≡ renamed_verdict ρ (join_of xs ys)
   unfolding renamed
   join-renamed xs end = refl
   join-renamed xs (y then ys) =
-      ap relation (ap (λ (l : Sorts). appended l (renamed_all ρ ys)) (but_last-renamed xs) ∙ appended-renamed ρ N (all_but_last xs) ys) ∙ relation-renamed (appended (all_but_last xs) ys)
+      ap relation (ap (λ (l : Sorts). appended l (renamed_all ρ ys)) (but_last-renamed ρ N xs) ∙ appended-renamed ρ N (all_but_last xs) ys) ∙ relation-renamed (appended (all_but_last xs) ys)
 
   product-renamed : (xs ys : Sorts) → product_of (renamed_all ρ xs) (renamed_all ρ ys) ≡ renamed_verdict ρ (product_of xs ys)
   product-renamed xs ys = ap relation (appended-renamed ρ N xs ys) ∙ relation-renamed (appended xs ys)

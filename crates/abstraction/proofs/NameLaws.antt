@@ -7,7 +7,7 @@ use mathlib.Core.List.{List, [], ◌∷◌}
 use Rattle.std.proofs.Math.Option.{Option, none, some}
 use Rattle.std.proofs.lemmas.Bool.{eqb-false}
 use Rattle.record.specs.Names.{member}
-use Rattle.record.specs.Sort.{Sort, Sorts, var, par, node, end, ◌then◌, number_in, kind_of, count, same_names, same, same_all}
+use Rattle.record.specs.Sort.{Sort, Sorts, var, par, node, end, ◌then◌, number_in, kind_of, count, same_names, same, same_all, parts_of, set, tuple}
 use Rattle.record.specs.Cases.{by_test, by_option}
 use Rattle.sheet.specs.Sheet.{Binding}
 use Rattle.substitution.specs.Substitution.{Map, empty, bind, find, bound, left, under, apply, apply_all}
@@ -15,7 +15,8 @@ use Rattle.substitution.specs.Matching.{keep, and_then, meet, matches, matches_a
 use Rattle.substitution.specs.Premises.{proper, proper_all}
 use Rattle.row_rules.specs.declared.Cause.{Cause}
 use Rattle.row_rules.specs.Verdict.{Verdict, need}
-use Rattle.row_rules.specs.Lists.{firsts, others, remaining, last_of, joined, appended, binding_sorts}
+use Rattle.row_rules.specs.Lists.{firsts, others, remaining, last_of, joined, appended, binding_sorts, all_but_last}
+use Rattle.check_rules.specs.Forms.{backwards, first_part, element_of, columns}
 use Rattle.abstraction.specs.Names.{Renames, new_names, renamed, renamed_all, renamed_verdict, renamed_sort, renamed_bindings}
 
 -- A map with its names and images renamed, and what is found in it.
@@ -155,10 +156,46 @@ module _ (ρ : ℕ → ℕ) (N : Renames ρ) where
   appended-renamed end ts = refl
   appended-renamed (s then ss) ts = ap (λ (rs : Sorts). renamed ρ s then rs) (appended-renamed ss ts)
 
+  pub but_last-renamed : (ss : Sorts) → all_but_last (renamed_all ρ ss) ≡ renamed_all ρ (all_but_last ss)
+  unfolding all_but_last renamed
+  but_last-renamed end = refl
+  but_last-renamed (s then end) = refl
+  but_last-renamed (s then (r then rs)) = ap (λ (xs : Sorts). renamed ρ s then xs) (but_last-renamed (r then rs))
+
+  pub backwards-renamed : (ss : Sorts) → backwards (renamed_all ρ ss) ≡ renamed_all ρ (backwards ss)
+  unfolding backwards renamed
+  backwards-renamed end = refl
+  backwards-renamed (s then ss) = ap (λ (rs : Sorts). joined rs (renamed ρ s)) (backwards-renamed ss) ∙ joined-renamed (backwards ss) s
+
   pub bindings-renamed : (bs : List Binding) → binding_sorts (renamed_bindings ρ bs) ≡ renamed_all ρ (binding_sorts bs)
   unfolding binding_sorts renamed_bindings renamed
   bindings-renamed [] = refl
   bindings-renamed (b ∷ bs) = ap (λ (rs : Sorts). renamed ρ b.sort then rs) (bindings-renamed bs)
+
+  ---------------------------------------------------------------- sets and relations
+  parts-renamed : (s : Sort) → parts_of (renamed ρ s) ≡ renamed_all ρ (parts_of s)
+  unfolding renamed
+  parts-renamed (var v) = refl
+  parts-renamed (par ns b) = refl
+  parts-renamed (node k a w ss) = refl
+
+  first-renamed : (ss : Sorts) → first_part (renamed_all ρ ss) ≡ renamed ρ (first_part ss)
+  unfolding renamed
+  first-renamed end = sym (leaf-renamed 4 0)
+  first-renamed (s then ss) = refl
+
+  pub element-renamed : (s : Sort) → element_of (renamed ρ s) ≡ renamed ρ (element_of s)
+  element-renamed s = ap first_part (parts-renamed s) ∙ first-renamed (parts_of s)
+
+  pub columns-renamed : (s : Sort) → columns (renamed ρ s) ≡ renamed_all ρ (columns s)
+  columns-renamed s = ap parts_of (element-renamed s) ∙ parts-renamed (element_of s)
+
+  pub set-renamed : (s : Sort) → renamed ρ (set s) ≡ set (renamed ρ s)
+  unfolding renamed
+  set-renamed s = node-renamed 14 0 (s then end)
+
+  pub tuples-renamed : (cs : Sorts) → renamed ρ (set (tuple cs)) ≡ set (tuple (renamed_all ρ cs))
+  tuples-renamed cs = set-renamed (tuple cs) ∙ ap set (node-renamed 15 0 cs)
 
   ---------------------------------------------------------------- substitution and matching
   pub find-renamed : (m : Map) (v : ℕ) → find (renamed_map ρ m) (ρ v) ≡ renamed_sort ρ (find m v)

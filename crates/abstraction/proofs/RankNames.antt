@@ -6,20 +6,21 @@ use Rattle.std.proofs.Math.Bool.{true, false}
 use Rattle.std.proofs.lemmas.Bool.{false≢true}
 use mathlib.Core.List.{List, [], ◌∷◌, ◌++◌}
 use Rattle.std.proofs.Math.Option.{Option, none, some}
-use Rattle.record.specs.Sort.{Sort, Sorts, var, par, node, end, ◌then◌, int, real, bitvec, number_in, same}
+use Rattle.record.specs.Sort.{Sort, Sorts, var, par, node, end, ◌then◌, int, real, bitvec, number_in, same, set, tuple}
 use Rattle.record.specs.Cases.{and_left, and_right, conj, and-true, three, by_test, by_option}
 use Rattle.substitution.specs.Substitution.{Map, empty, bind, find, bound, apply, apply_all, occurs_any}
 use Rattle.substitution.specs.Matching.{keep, and_then, meet, matches, matches_all}
 use Rattle.substitution.proofs.MatchingLaws.{match_all-binds}
 use Rattle.substitution.specs.Premises.{proper, parless_all, ground, ground_all}
-use Rattle.check_rules.specs.Forms.{Form, concat, mixed, takes_count, takes, when, join_vectors, numbers, stands, computes}
+use Rattle.row_rules.specs.Lists.{last_of, appended, all_but_last}
+use Rattle.check_rules.specs.Forms.{Form, concat, mixed, insert, tupling, transpose, join, product, takes_count, takes, on_one, on_two, when, join_vectors, numbers, stands, elements, insertion, columns, relation, transposed, backwards, touch, all_but_first, join_relations, multiplied, computes}
 use Rattle.check_rules.specs.FormLaws.{well_form}
 use Rattle.check_rules.specs.Rank.{Rank, rank, computed, repeated, stretched, patterns, same_count, counts, vector, vectors_in, every_name, rank_answer, fit, or_next, first_fit, some_counts}
 use Rattle.check_rules.specs.RankLaws.{closed, closed_all, patterns-occurs, well_rank, stretched-same}
 use Rattle.check_rules.proofs.RankSound.{Sound}
 use Rattle.check_rules.specs.Ranks.{RankTable, done, row, enlarged, ranks_in, standard, smt_lib}
 use Rattle.abstraction.specs.Names.{Renames, renamed, renamed_all, renamed_sort}
-use Rattle.abstraction.proofs.NameLaws.{eqb-names, count-renamed, leaf-renamed, same-renamed, same-stays, number-renamed}
+use Rattle.abstraction.proofs.NameLaws.{eqb-names, count-renamed, leaf-renamed, node-renamed, same-renamed, same-stays, number-renamed, last-renamed, appended-renamed, backwards-renamed, columns-renamed, set-renamed, tuples-renamed, but_last-renamed}
 
 ---------------------------------------------------------------- ranks without names
 -- No node of a sort has a name.
@@ -39,6 +40,11 @@ unfolding unnamed
 unnamed_rank (rank rep vs ps r) = unnamed_all ps && unnamed r
 unnamed_rank (computed concat) = true
 unnamed_rank (computed (mixed r)) = unnamed r
+unnamed_rank (computed insert) = true
+unnamed_rank (computed tupling) = true
+unnamed_rank (computed transpose) = true
+unnamed_rank (computed join) = true
+unnamed_rank (computed product) = true
 
 unfoldable pub unnamed_ranks : List Rank → Bool
 unfolding unnamed_rank
@@ -246,15 +252,89 @@ module _ (ρ : ℕ → ℕ) (N : Renames ρ) where
       rw (vector-renamed a, vector-renamed b, number-renamed ρ N a, number-renamed ρ N b)
       (when-renamed (vector a && vector b) (bitvec (number_in a + number_in b)) _ (sym (leaf-renamed ρ N 9 (number_in a + number_in b))))
 
+  -- The element sort and its set are found where they were.
+  elements-renamed : (x : Sort) (ts : Sorts) → elements (renamed ρ x) (renamed_all ρ ts) ≡ elements x ts
+  unfolding elements renamed
+  elements-renamed x end = refl
+  elements-renamed x (t then end) = ap (same (renamed ρ t)) (sym (set-renamed ρ N x)) ∙ same-renamed ρ N t (set x)
+  elements-renamed x (t then (u then us)) = ap₂ ◌&&◌ (same-renamed ρ N t x) (elements-renamed x (u then us))
+
+  -- Relations stay relations, and their columns touch where they did.
+  is-relation : (s : Sort) → relation (renamed ρ s) ≡ relation s
+  is-relation s =
+      ap (λ (cs : Sorts). same (renamed ρ s) (set (tuple cs))) (columns-renamed ρ N s)
+      ∙ ap (same (renamed ρ s)) (sym (tuples-renamed ρ N (columns s))) ∙ same-renamed ρ N s (set (tuple (columns s)))
+
+  touch-renamed : (as' bs : Sorts) → touch (renamed_all ρ as') (renamed_all ρ bs) ≡ touch as' bs
+  unfolding touch renamed
+  touch-renamed end bs = refl
+  touch-renamed (a then as') end = refl
+  touch-renamed (a then as') (b then bs) =
+      ap (λ (s : Sort). same s (renamed ρ b)) (last-renamed ρ N a as') ∙ same-renamed ρ N (last_of a as') b
+
+  but_first-renamed : (ss : Sorts) → all_but_first (renamed_all ρ ss) ≡ renamed_all ρ (all_but_first ss)
+  unfolding renamed
+  but_first-renamed end = refl
+  but_first-renamed (s then ss) = refl
+
+  insertion-renamed : (ts : Sorts) → insertion (renamed_all ρ ts) ≡ renamed_sort ρ (insertion ts)
+  unfolding renamed
+  insertion-renamed end = refl
+  insertion-renamed (x then ts) = rw (elements-renamed x ts) (when-renamed (elements x ts) (set x) _ (sym (set-renamed ρ N x)))
+
+  transposed-renamed : (a : Sort) → transposed (renamed ρ a) ≡ renamed_sort ρ (transposed a)
+  transposed-renamed a =
+      rw (is-relation a)
+      (when-renamed (relation a) (set (tuple (backwards (columns a)))) _
+      (ap (λ (cs : Sorts). set (tuple (backwards cs))) (columns-renamed ρ N a) ∙ ap (λ (cs : Sorts). set (tuple cs)) (backwards-renamed ρ N (columns a))
+      ∙ sym (tuples-renamed ρ N (backwards (columns a)))))
+
+  -- The columns of two relations, one list behind the other.
+  columns-appended : (as' bs : Sorts) → set (tuple (appended (renamed_all ρ as') (renamed_all ρ bs))) ≡ renamed ρ (set (tuple (appended as' bs)))
+  columns-appended as' bs = ap (λ (cs : Sorts). set (tuple cs)) (appended-renamed ρ N as' bs) ∙ sym (tuples-renamed ρ N (appended as' bs))
+
+  relations-renamed : (a b : Sort) → join_relations (renamed ρ a) (renamed ρ b) ≡ renamed_sort ρ (join_relations a b)
+  relations-renamed a b =
+      let x = columns-renamed ρ N a in
+      let y = columns-renamed ρ N b in
+      rw (is-relation a, is-relation b, ap₂ touch x y ∙ touch-renamed (columns a) (columns b))
+      (when-renamed (relation a && relation b && touch (columns a) (columns b)) (set (tuple (appended (all_but_last (columns a)) (all_but_first (columns b))))) _
+      (ap₂ (λ (cs ds : Sorts). set (tuple (appended cs ds))) (ap all_but_last x ∙ but_last-renamed ρ N (columns a)) (ap all_but_first y ∙ but_first-renamed (columns b))
+      ∙ columns-appended (all_but_last (columns a)) (all_but_first (columns b))))
+
+  multiplied-renamed : (a b : Sort) → multiplied (renamed ρ a) (renamed ρ b) ≡ renamed_sort ρ (multiplied a b)
+  multiplied-renamed a b =
+      rw (is-relation a, is-relation b)
+      (when-renamed (relation a && relation b) (set (tuple (appended (columns a) (columns b)))) _
+      (ap₂ (λ (cs ds : Sorts). set (tuple (appended cs ds))) (columns-renamed ρ N a) (columns-renamed ρ N b) ∙ columns-appended (columns a) (columns b)))
+
+  -- A form of one argument, or of two.
+  one-renamed : (f : Sort → Option Sort) → ((a : Sort) → f (renamed ρ a) ≡ renamed_sort ρ (f a)) → (ts : Sorts) → on_one f (renamed_all ρ ts) ≡ renamed_sort ρ (on_one f ts)
+  unfolding renamed
+  one-renamed f h end = refl
+  one-renamed f h (a then end) = h a
+  one-renamed f h (a then (b then ss)) = refl
+
+  two-renamed : (f : Sort → Sort → Option Sort) → ((a b : Sort) → f (renamed ρ a) (renamed ρ b) ≡ renamed_sort ρ (f a b)) → (ts : Sorts)
+      → on_two f (renamed_all ρ ts) ≡ renamed_sort ρ (on_two f ts)
+  unfolding renamed
+  two-renamed f h end = refl
+  two-renamed f h (a then end) = refl
+  two-renamed f h (a then (b then end)) = h a b
+  two-renamed f h (a then (b then (c then ss))) = refl
+
   form-renamed : (f : Form) (ts : Sorts) → well_form f ≡ true → unnamed_rank (computed f) ≡ true → computes f (renamed_all ρ ts) ≡ renamed_sort ρ (computes f ts)
   unfolding computes renamed well_form unnamed_rank
-  form-renamed concat end w u = refl
-  form-renamed concat (a then end) w u = refl
-  form-renamed concat (a then (b then end)) w u = join-renamed a b
-  form-renamed concat (a then (b then (c then ss))) w u = refl
+  form-renamed concat ts w u = two-renamed join_vectors join-renamed ts
   form-renamed (mixed r) ts w u =
       rw (numbers-renamed ts, stands-renamed 4 ts, stands-renamed 5 ts)
       (when-renamed (numbers ts && stands int ts && stands real ts) r r (sym (still r (and_left (ground r) (proper r) w) u)))
+  form-renamed insert ts w u = insertion-renamed ts
+  form-renamed tupling end w u = refl
+  form-renamed tupling (a then as') w u = ap some (sym (node-renamed ρ N 15 0 (a then as')))
+  form-renamed transpose ts w u = one-renamed transposed transposed-renamed ts
+  form-renamed join ts w u = two-renamed join_relations relations-renamed ts
+  form-renamed product ts w u = two-renamed multiplied multiplied-renamed ts
 
   -- A rank that fits still fits, one that does not still does not.
   fit-renamed : (rep vs : Bool) (ps : Sorts) (r : Sort) (ts : Sorts) → closed ps r ≡ true → unnamed_all ps ≡ true → unnamed r ≡ true

@@ -113,25 +113,29 @@ module _ (b p : List ℕ) (n : ℕ) (a : List ℕ) (m : ℕ) where
   unfolding all_same sorts_of numbers_at
   none-same e = ap (λ (x : ℕ). all_same (only_of (args_of b p n a x)) (args_of b p n a x)) e
 
-  pub same_all_by : (t : Bool) → Scanned t (λ v. v ≡ arg_at a 0) (λ v. v ≡ arg_at a 0 → ⊥) (numbers_at a 3 m) → Over b p n a m → t ≡ all_same (only_of (args_of b p n a m)) (args_of b p n a m)
+  -- Every argument is the sort of the number e, by a scan of their numbers.
+  pub same_as : (e : ℕ) → e < n → (t : Bool) → Scanned t (λ v. v ≡ e) (λ v. v ≡ e → ⊥) (numbers_at a 3 m) → Over b p n a m → t ≡ all_same (sort_at b p n e) (args_of b p n a m)
   unfolding sort_at
-  same_all_by t h o = go (dec_lt 0 m)
+  same_as e k t h o = go t h ∙ sym (same_by (sort_at b p n e) (args_of b p n a m))
     where
-      on : 0 < m → (r : Bool) → Scanned r (λ v. v ≡ arg_at a 0) (λ v. v ≡ arg_at a 0 → ⊥) (numbers_at a 3 m) → r ≡ all_by (λ x. same (sort_at b p n (arg_at a 0)) x) (args_of b p n a m)
-      on l true g =
-          let s = sort_at b p n (arg_at a 0) in
+      go : (r : Bool) → Scanned r (λ v. v ≡ e) (λ v. v ≡ e → ⊥) (numbers_at a 3 m) → r ≡ all_by (λ x. same (sort_at b p n e) x) (args_of b p n a m)
+      go true g =
+          let s = sort_at b p n e in
           sym (by_all (λ x. same s x) (store_of b p n) (numbers_at a 3 m)
           (λ j w. same-complete s (get_or (store_of b p n) (get_or (numbers_at a 3 m) j 0) leaf) (ap (sort_at b p n) (sym (g j 0 (omega arith) w)))))
-      on l false g =
-          let s = sort_at b p n (arg_at a 0) in
+      go false g =
+          let s = sort_at b p n e in
           let v = get_or (numbers_at a 3 m) g.0 0 in
           let i = within-list a m g.0 g.1 in
           sym (by_one (λ x. same s x) (store_of b p n) (numbers_at a 3 m) g.0 g.1
           (same-other s (sort_at b p n v)
-          (λ e. g.2 0 (sym (sorts-one b p n o.stored o.distinct (arg_at a 0) v (o.below 0 l) (omega (arith, get-number a m g.0 0 i, o.below g.0 i)) e)))))
+          (λ q. g.2 0 (sym (sorts-one b p n o.stored o.distinct e v k (omega (arith, get-number a m g.0 0 i, o.below g.0 i)) q)))))
 
+  pub same_all_by : (t : Bool) → Scanned t (λ v. v ≡ arg_at a 0) (λ v. v ≡ arg_at a 0 → ⊥) (numbers_at a 3 m) → Over b p n a m → t ≡ all_same (only_of (args_of b p n a m)) (args_of b p n a m)
+  same_all_by t h o = go (dec_lt 0 m)
+    where
       go : Dec (0 < m) → t ≡ all_same (only_of (args_of b p n a m)) (args_of b p n a m)
-      go (yes l) = on l t h ∙ sym (ap (λ (x : Sort). all_same x (args_of b p n a m)) (first-is l) ∙ same_by (sort_at b p n (arg_at a 0)) (args_of b p n a m))
+      go (yes l) = same_as (arg_at a 0) (o.below 0 l) t h o ∙ sym (ap (λ (x : Sort). all_same x (args_of b p n a m)) (first-is l))
       go (no l) = let z : m ≡ 0 = omega arith in none t h z ∙ sym (none-same z)
         where
           none : (r : Bool) → Scanned r (λ v. v ≡ arg_at a 0) (λ v. v ≡ arg_at a 0 → ⊥) (numbers_at a 3 m) → m ≡ 0 → r ≡ true

@@ -17,14 +17,13 @@ use Rattle.record.specs.declared.kinds.SortKind.{SortKind}
 use Rattle.record.specs.declared.kinds.SortKind.TheVariants.{Bool as SortBool, BitVec as SortBitVec}
 use Rattle.record.specs.Sort.{Sort, Sorts, node, end, ◌then◌, bool, array, bitvec, kind_of, number_in, same, same_all}
 use Rattle.record.specs.SortLaws.{same-sound, same-complete, same-swap}
-use Rattle.record.specs.Record.{Fields, bit, maps, map_of, leasts, least_of, mosts, most_of, sorts_of}
+use Rattle.record.specs.Record.{Fields, maps, map_of, leasts, least_of, mosts, most_of, sorts_of}
 use Rattle.record.specs.Decode.{fields_at, store_of, sort_at, Stored, Distinct}
 use Rattle.record.specs.Codec.{length-numbers_at}
 use Rattle.record.specs.StoreLaws.{sorts-one}
 use Rattle.record.specs.Cases.{and_left, and_right, both_ways, false-second}
 use Rattle.record.specs.declared.SortRecord.{SortRecord}
 use Rattle.store.specs.Entry.{EntryIs, EntryHas}
-use Rattle.store.specs.Walk.{walk-node}
 use Rattle.row_rules.specs.declared.Cause.TheVariants.{Misfit}
 use Rattle.row_rules.specs.Verdict.{sort, need}
 use Rattle.check_rules.specs.Forms.{all_same}
@@ -35,25 +34,25 @@ use Rattle.check_operator.specs.declared.op.Fit.TheVariants.{Known, Plain, Width
 use Rattle.check_operator.specs.Rule.{Rule, All, Equal, Choose, Vectors, Concat, plain_sort, numbers_result, vectors_result, choosing, concatenated, fitted, plain_kind, one_or_two, well_rule, counts_for}
 use Rattle.check_operator.specs.Numbered.{kind_in, plain_result, result_number, fixed_numbers}
 use Rattle.check_operator.specs.Contract.{Over, args_of, KindIs, SameHas, fit_verdict, fits_verdict, FitOk, FitsOk, FitIs, FitAsks, FitHas}
-use Rattle.check_operator.specs.KindLaws.{vector-small, kind-vector, kind-same}
+use Rattle.check_operator.specs.KindLaws.{kind-parts, vector-small, kind-vector, kind-same}
 use Rattle.check_operator.proofs.ArgumentLaws.{plain_sorts, fixed-plain}
 
 ---------------------------------------------------------------- a test by which a rule fits
-module _ {n : ℕ} {st : List Sort} (f : Fit) {x : Option Fit} (t : Bool) (e : x ≡ then_some t f) where
+module _ {n : ℕ} {st : List Sort} {ts : Sorts} (f : Fit) {x : Option Fit} (t : Bool) (e : x ≡ then_some t f) where
   -- The test s of the definition is the one that the code made; where it holds, f is the fit.
-  pub by_test : {s : Bool} (v : Sort) → t ≡ s → fit_verdict st f ≡ sort v → (t ≡ true → FitOk n f) → FitIs n st (need s Misfit (sort v)) x
-  by_test {s} v q h ok = subst (λ (c : Bool). FitIs n st (need c Misfit (sort v)) x) q (go t e ok)
+  pub by_test : {s : Bool} (v : Sort) → t ≡ s → fit_verdict st ts f ≡ sort v → (t ≡ true → FitOk n f) → FitIs n st ts (need s Misfit (sort v)) x
+  by_test {s} v q h ok = subst (λ (c : Bool). FitIs n st ts (need c Misfit (sort v)) x) q (go t e ok)
     where
-      go : (c : Bool) → x ≡ then_some c f → (c ≡ true → FitOk n f) → FitIs n st (need c Misfit (sort v)) x
-      go true g k = record { is = ap (fits_verdict st) g ∙ h; ok = subst (FitsOk n) (sym g) (k refl) }
-      go false g k = record { is = ap (fits_verdict st) g; ok = subst (FitsOk n) (sym g) tt }
+      go : (c : Bool) → x ≡ then_some c f → (c ≡ true → FitOk n f) → FitIs n st ts (need c Misfit (sort v)) x
+      go true g k = record { is = ap (fits_verdict st ts) g ∙ h; ok = subst (FitsOk n) (sym g) (k refl) }
+      go false g k = record { is = ap (fits_verdict st ts) g; ok = subst (FitsOk n) (sym g) tt }
 
 -- The same of one fit, and of none.
-pub fits : {n : ℕ} {st : List Sort} {f : Fit} {s : Bool} (v : Sort) → true ≡ s → fit_verdict st f ≡ sort v → FitOk n f → FitIs n st (need s Misfit (sort v)) (Some f)
+pub fits : {n : ℕ} {st : List Sort} {ts : Sorts} {f : Fit} {s : Bool} (v : Sort) → true ≡ s → fit_verdict st ts f ≡ sort v → FitOk n f → FitIs n st ts (need s Misfit (sort v)) (Some f)
 fits {f = f} v q h ok = by_test f true refl v q h (λ e. ok)
 
-pub no_fit : {n : ℕ} {st : List Sort} {s : Bool} (v : Sort) → false ≡ s → FitIs n st (need s Misfit (sort v)) None
-no_fit {n} {st} {s} v q = subst (λ (c : Bool). FitIs n st (need c Misfit (sort v)) None) q (record { is = refl; ok = tt })
+pub no_fit : {n : ℕ} {st : List Sort} {ts : Sorts} {s : Bool} (v : Sort) → false ≡ s → FitIs n st ts (need s Misfit (sort v)) None
+no_fit {n} {st} {ts} {s} v q = subst (λ (c : Bool). FitIs n st ts (need c Misfit (sort v)) None) q (record { is = refl; ok = tt })
 
 -- The value of `t && x`, by the way that was taken.
 pub and_then : (t x : Bool) {f : Bool} → t ≡ true → f ≡ x → f ≡ (t && x)
@@ -74,6 +73,10 @@ numbers-same {b} {p} {n} i j s d hi hj =
 
 ---------------------------------------------------------------- three arguments or fewer
 module _ (b p : List ℕ) (n : ℕ) (a : List ℕ) where
+  pub one-arg : {m : ℕ} → m ≡ 1 → args_of b p n a m ≡ sort_at b p n (u16_at a 3) then end
+  unfolding sort_at sorts_of numbers_at
+  one-arg {m} e = ap (args_of b p n a) e
+
   pub two-args : {m : ℕ} → m ≡ 2 → args_of b p n a m ≡ sort_at b p n (u16_at a 3) then sort_at b p n (u16_at a 5) then end
   unfolding sort_at sorts_of numbers_at
   two-args {m} e = ap (args_of b p n a) e
@@ -82,7 +85,7 @@ module _ (b p : List ℕ) (n : ℕ) (a : List ℕ) where
   unfolding sort_at sorts_of numbers_at
   three-args {m} e = ap (args_of b p n a) e
 
-  first-arg : (m : ℕ) → 0 < m → only_of (args_of b p n a m) ≡ sort_at b p n (u16_at a 3)
+  pub first-arg : (m : ℕ) → 0 < m → only_of (args_of b p n a m) ≡ sort_at b p n (u16_at a 3)
   unfolding sort_at sorts_of numbers_at
   first-arg zero l = absurd (omega arith)
   first-arg (suc m) l = refl
@@ -123,7 +126,7 @@ pub fit-over : {b p a : List ℕ} {m : ℕ} {r : Rule} → FitAsks b p a m r →
 fit-over f o = record { over = o; well = f.well; counted = f.counted }
 
 abbrev pub FitFor : List ℕ → List ℕ → ℕ → List ℕ → ℕ → Rule → Option Fit → Type 0
-FitFor b p n a m rule r = FitIs n (store_of b p n) (fitted rule (args_of b p n a m)) r
+FitFor b p n a m rule r = FitIs n (store_of b p n) (args_of b p n a m) (fitted rule (args_of b p n a m)) r
 
 abbrev KindsAre : List ℕ → List ℕ → ℕ → List ℕ → ℕ → ℕ → Bool → Type 0
 KindsAre b p n a m k r = map_of k ≡ 1 → r ≡ all_same (plain_sort k) (args_of b p n a m)
@@ -171,7 +174,7 @@ module _ {b p : List ℕ} {n : ℕ} {a : List ℕ} {m : ℕ} where
   choose-fits o three c ec {i} {j} ei ej t h x e =
       let B = sort_at b p n (u16_at a 5) in
       let D = sort_at b p n (u16_at a 7) in
-      subst (λ (ts : Sorts). FitIs n (store_of b p n) (choosing ts) x) (sym (three-args b p n a three))
+      subst (λ (ts : Sorts). FitIs n (store_of b p n) (args_of b p n a m) (choosing ts) x) (sym (three-args b p n a three))
       (by_test (Known c) t e B
       (h ∙ ap₂ ◌&&◌ (ap (λ (k : ℕ). eqb (kind_of (sort_at b p n k)) 3) ei ∙ sym (kind-same b p n (u16_at a 3) o.stored (o.below 0 (omega arith)) 3 refl))
       (ap₂ eqb ej ec ∙ sym (numbers-same (u16_at a 7) (u16_at a 5) o.stored o.distinct (o.below 2 (omega arith)) (o.below 1 (omega arith))) ∙ same-swap D B))
@@ -198,17 +201,10 @@ module _ {b p : List ℕ} {n k : ℕ} (s : Stored b p n) (l : k < n) {r : SortRe
       omega (arith, (s.each k l).shape.least, (s.each k l).shape.most, q, x, y)
 
   pub array-sort : sort_number r.kind ≡ 8 → sort_at b p n k ≡ array (sort_at b p n (u16_at b r.parts.at)) (sort_at b p n (u16_at b (r.parts.at + 2)))
-  unfolding bit map_of maps sorts_of numbers_at sort_at
+  unfolding map_of maps sorts_of numbers_at sort_at
   array-sort h =
-      let st = store_of b p n in
-      let t : map_of (fields_at b (get_or p k 0)).kind ≡ 17 = ap map_of (read-kind ∙ h) in
-      walk-node b p n k s l r e (λ q. absurd (omega arith)) (λ q. absurd (omega arith))
-      ∙ ap (λ (i : ℕ). node i r.name r.number (sorts_of st (numbers_at b r.parts.at r.parts.count))) h
-      ∙ ap (λ (i : ℕ). node 8 i r.number (sorts_of st (numbers_at b r.parts.at r.parts.count)))
-      (sym (ap (λ (f : Fields). f.name) e.place.same) ∙ (s.each k l).shape.proper.no_name (ap (bit 2) t))
-      ∙ ap (λ (i : ℕ). node 8 0 i (sorts_of st (numbers_at b r.parts.at r.parts.count)))
-      (sym (ap (λ (f : Fields). f.number) e.place.same) ∙ (s.each k l).shape.proper.no_number (ap (bit 4) t))
-      ∙ ap (λ (i : ℕ). node 8 0 0 (sorts_of st (numbers_at b r.parts.at i))) (array-two h)
+      kind-parts b p n k s l 8 refl (sym e.kind ∙ h)
+      ∙ ap (λ (ss : Sorts). node 8 0 0 ss) (sym e.parts ∙ ap (λ (i : ℕ). sorts_of (store_of b p n) (numbers_at b r.parts.at i)) (array-two h))
 
 -- A sort is a vector by its kind.
 pub kind-is-vector : (b p : List ℕ) (n k : ℕ) → Stored b p n → k < n → vector (sort_at b p n k) ≡ eqb (kind_of (sort_at b p n k)) 9
@@ -287,7 +283,7 @@ module _ {b p : List ℕ} {n : ℕ} {a : List ℕ} {m : ℕ} (f : FitOver b p n 
     pub concat-fits : (t : Bool) → t ≡ (eqb (kind_of (sort_at b p n i)) 9 && eqb (kind_of (sort_at b p n j)) 9) → (z : Option Fit) → z ≡ then_some t (Width (x.number + y.number)) → FitFor b p n a m Concat z
     unfolding fitted
     concat-fits t h z e =
-        subst (λ (ts : Sorts). FitIs n (store_of b p n) (concatenated ts) z) (sym (two-args b p n a concat-two ∙ ap₂ (λ (c d : ℕ). sort_at b p n c then sort_at b p n d then end) (sym ei) (sym ej)))
+        subst (λ (ts : Sorts). FitIs n (store_of b p n) (args_of b p n a m) (concatenated ts) z) (sym (two-args b p n a concat-two ∙ ap₂ (λ (c d : ℕ). sort_at b p n c then sort_at b p n d then end) (sym ei) (sym ej)))
         (by_test (Width (x.number + y.number)) t e (bitvec (number_in (sort_at b p n i) + number_in (sort_at b p n j)))
         (h ∙ ap₂ ◌&&◌ (sym (kind-is-vector b p n i f.over.stored first-known)) (sym (kind-is-vector b p n j f.over.stored second-known)))
         (ap₂ (λ (c d : ℕ). sort (bitvec (c + d))) (hx n f.over.stored first-known).number (hy n f.over.stored second-known).number) (λ q. tt))

@@ -1,5 +1,7 @@
 pub mod RuleOfLaws
+pub mod SetFits
 pub mod ArgumentLaws
+pub mod SetEntries
 pub mod FitLaws
 pub mod NumberLaws
 pub mod OperatedLaws

@@ -35,7 +35,8 @@ use Rattle.check_operator.specs.declared.op.Fit.TheVariants.{Known}
 use Rattle.check_operator.specs.Rule.{Rule, Unranked, Numbers, Select, Store, Vectors, counts_for, selecting, storing, ruled_select, stored, fitted, is_ranked, ruled, rule_of, plain_kind, one_or_two, well_rule}
 use Rattle.check_operator.specs.Numbered.{result_number, vectors_numbers, rule_numbers}
 use Rattle.check_operator.specs.RuleLaws.{operated-ruled, well-rule}
-use Rattle.check_operator.specs.Contract.{Over, args_of, KindIs, fit_verdict, fits_verdict, FitsOk, FitIs, FitAsks, FitHas, TestsValues, ArrayAsks, ArrayIs, DeliverFitAsks, CheckOperatorAsks}
+use Rattle.check_operator.specs.Contract.{Over, args_of, KindIs, fit_verdict, fits_verdict, FitIs, FitAsks, FitHas, TestsValues, ArrayAsks, ArrayIs}
+use Rattle.infer_operator.specs.Asks.{ArgsAsks}
 use Rattle.check_operator.proofs.FitLaws.{by_test, numbers-same, two-args, three-args, array-two, array-sort}
 
 ---------------------------------------------------------------- arrays
@@ -166,7 +167,7 @@ module _ {b p : List ℕ} {n : ℕ} {a : List ℕ} {m : ℕ} (f : ArrayOver b p 
             record {
               two = λ q. absurd (omega arith);
               three = λ q.
-                  subst (λ (w : Verdict). FitIs n (store_of b p n) w z) (sym (stores q))
+                  subst (λ (w : Verdict). FitIs n (store_of b p n) (args_of b p n a m) w z) (sym (stores q))
                   (by_test (Known k) t ez (array (sort_at b p n i) (sort_at b p n e))
                   (et ∙ ap₂ (λ (y : ℕ) (c : Bool). c) ex (eqb_swap x e) ∙ ap (eqb e) ex
                   ∙ sym (numbers-same e (u16_at a 7) f.over.stored f.over.distinct element-known (f.over.below 2 (omega arith)))
@@ -242,8 +243,9 @@ ranked Given.Store = refl
 ranked (Given.Vectors (Exactly l) r) = refl
 ranked (Given.Vectors (AtLeast l) r) = refl
 ranked Given.Concat = refl
+ranked (Given.Sets r) = refl
 
-module _ {b p ix : List ℕ} {n u : ℕ} {a : List ℕ} {m : ℕ} (f : CheckOperatorAsks b p ix n u a m) (op : ℕ) where
+module _ {b p ix : List ℕ} {n u : ℕ} {a : List ℕ} {m : ℕ} (f : ArgsAsks b p ix n u a m) (op : ℕ) where
   args_over : Over b p n a m
   args_over = record { stored = f.good.stored; distinct = f.good.distinct; below = f.below }
 
@@ -275,7 +277,7 @@ module _ {b p ix : List ℕ} {n u : ℕ} {a : List ℕ} {m : ℕ} (f : CheckOper
         pub rule-asks : FitAsks b p a m (rule_numbers g)
         rule-asks =
             record {
-              args = record { within = f.within; many = n; over = args_over };
+              args = record { within = omega (arith, f.few, f.room); many = n; over = args_over };
               well = ap well_rule er ∙ well-rule op;
               counted = sym et ∙ on;
             }
@@ -291,14 +293,11 @@ module _ {b p ix : List ℕ} {n u : ℕ} {a : List ℕ} {m : ℕ} (f : CheckOper
           no_value e = by_values ∙ ap (λ (x : Bool). need x Misfit (fitted (rule_numbers g) (args_of b p n a m))) e
 
           module _ (all : v ≡ true) (x : Option Fit) (h : FitHas b p a m (rule_numbers g) x) where
-            by-fit : operated smt_lib op (args_of b p n a m) ≡ fits_verdict (store_of b p n) x
+            by-fit : operated smt_lib op (args_of b p n a m) ≡ fits_verdict (store_of b p n) (args_of b p n a m) x
             by-fit = by_values ∙ ap (λ (y : Bool). need y Misfit (fitted (rule_numbers g) (args_of b p n a m))) all ∙ sym (h n args_over).is
 
             pub misfit : x ≡ None → operated smt_lib op (args_of b p n a m) ≡ refused Misfit
-            misfit e = by-fit ∙ ap (fits_verdict (store_of b p n)) e
+            misfit e = by-fit ∙ ap (fits_verdict (store_of b p n) (args_of b p n a m)) e
 
-            pub fit_is : (y : Fit) → x ≡ Some y → operated smt_lib op (args_of b p n a m) ≡ fit_verdict (store_of b p n) y
-            fit_is y e = by-fit ∙ ap (fits_verdict (store_of b p n)) e
-
-            pub deliver-asks : (y : Fit) → x ≡ Some y → DeliverFitAsks b p ix n u y
-            deliver-asks y e = record { good = f.good; ok = subst (FitsOk n) e (h n args_over).ok }
+            pub fit_is : (y : Fit) → x ≡ Some y → operated smt_lib op (args_of b p n a m) ≡ fit_verdict (store_of b p n) (args_of b p n a m) y
+            fit_is y e = by-fit ∙ ap (fits_verdict (store_of b p n) (args_of b p n a m)) e

@@ -5,7 +5,10 @@ use Rattle.record.specs.Number.{u16_at, numbers_at}
 use Rattle.record.specs.Sort.{Sort, Sorts, bitvec, kind_of}
 use Rattle.record.specs.Record.{map_of, leaf, sorts_of}
 use Rattle.record.specs.Decode.{store_of, sort_at, Stored, Distinct}
-use Rattle.store.specs.Good.{Good}
+use Rattle.store.specs.declared.Store.{Store}
+use Rattle.infer_rules.specs.Inferred.{operated_by}
+use Rattle.infer_operator.specs.Asks.{ArgumentsAsk}
+use Rattle.infer_operator.specs.Operators.{no_constants, makes}
 use Rattle.store.specs.declared.entries.Entries.{Entries}
 use Rattle.matching_tables.specs.Usable.{Refs}
 use Rattle.row_rules.specs.declared.Cause.TheVariants.{Misfit}
@@ -14,8 +17,8 @@ use Rattle.check_rules.specs.Forms.{all_same}
 use Rattle.check_rules.specs.Checked.{values, only_of}
 use Rattle.row_answer.specs.declared.arguments.Args.{Args}
 use Rattle.check_operator.specs.declared.op.Fit.{Fit}
-use Rattle.check_operator.specs.declared.op.Fit.TheVariants.{Known, Plain, Width}
-use Rattle.check_operator.specs.Rule.{Rule, Select, Store, plain_sort, counts_for, fitted, well_rule}
+use Rattle.check_operator.specs.declared.op.Fit.TheVariants.{Known, Plain, Width, Gathered}
+use Rattle.check_operator.specs.Rule.{Rule, Select, Store as AtIndex, plain_sort, counts_for, fitted, well_rule}
 
 -- The store number of the argument j.
 abbrev pub arg_at : List ℕ → ℕ → ℕ
@@ -53,28 +56,30 @@ pub args-refs : (b p a : List ℕ) (n m : ℕ) → 3 + 2 * m ≤ length a → Ov
 args-refs b p a n m h o = record { within = h; below = o.below }
 
 ---------------------------------------------------------------- fits
--- The verdict of a fit over a store, and of a rule that may not fit.
-abbrev pub fit_verdict : List Sort → Fit → Verdict
-fit_verdict st (Known k) = sort (get_or st k leaf)
-fit_verdict st (Plain k) = sort (plain_sort (sort_number k))
-fit_verdict st (Width w) = sort (bitvec w)
+-- The verdict of a fit over a store and the sorts of the arguments, and of a rule that may not fit.
+abbrev pub fit_verdict : List Sort → Sorts → Fit → Verdict
+fit_verdict st ts (Known k) = sort (get_or st k leaf)
+fit_verdict st ts (Plain k) = sort (plain_sort (sort_number k))
+fit_verdict st ts (Width w) = sort (bitvec w)
+fit_verdict st ts (Gathered f) = operated_by f ts no_constants
 
-abbrev pub fits_verdict : List Sort → Option Fit → Verdict
-fits_verdict st None = refused Misfit
-fits_verdict st (Some f) = fit_verdict st f
+abbrev pub fits_verdict : List Sort → Sorts → Option Fit → Verdict
+fits_verdict st ts None = refused Misfit
+fits_verdict st ts (Some f) = fit_verdict st ts f
 
--- Its number is one of the store, its kind one without parts.
+-- Its number is one of the store, its kind one without parts, its family one that makes sets, tuples or relations.
 abbrev pub FitOk : ℕ → Fit → Type 0
 FitOk n (Known k) = k < n
 FitOk n (Plain k) = map_of (sort_number k) ≡ 1
 FitOk n (Width w) = Unit {0}
+FitOk n (Gathered f) = makes f ≡ true
 
 abbrev pub FitsOk : ℕ → Option Fit → Type 0
 FitsOk n None = Unit {0}
 FitsOk n (Some f) = FitOk n f
 
-pub record FitIs (n : ℕ) (st : List Sort) (v : Verdict) (r : Option Fit) : Type 0 where
-  pub is : fits_verdict st r ≡ v
+pub record FitIs (n : ℕ) (st : List Sort) (ts : Sorts) (v : Verdict) (r : Option Fit) : Type 0 where
+  pub is : fits_verdict st ts r ≡ v
   pub ok : FitsOk n r
 
 -- A rule of the table whose count the arguments have.
@@ -84,7 +89,7 @@ pub record FitAsks (b p a : List ℕ) (m : ℕ) (r : Rule) : Type 0 where
   pub counted : counts_for r m ≡ true
 
 abbrev pub FitHas : List ℕ → List ℕ → List ℕ → ℕ → Rule → Option Fit → Type 0
-FitHas b p a m rule r = (n : ℕ) → Over b p n a m → FitIs n (store_of b p n) (fitted rule (args_of b p n a m)) r
+FitHas b p a m rule r = (n : ℕ) → Over b p n a m → FitIs n (store_of b p n) (args_of b p n a m) (fitted rule (args_of b p n a m)) r
 
 -- For a rule the test r may stand for the one that no argument is a Par: the verdict is the same.
 abbrev pub TestsValues : List ℕ → List ℕ → List ℕ → ℕ → Rule → Bool → Type 0
@@ -97,22 +102,16 @@ pub record ArrayAsks (b p a : List ℕ) (m : ℕ) : Type 0 where
   pub few : (m ≡ 2) ⊎ (m ≡ 3)
 
 pub record ArrayIs (n : ℕ) (st : List Sort) (ts : Sorts) (m : ℕ) (r : Option Fit) : Type 0 where
-  pub two : m ≡ 2 → FitIs n st (fitted Select ts) r
-  pub three : m ≡ 3 → FitIs n st (fitted Store ts) r
+  pub two : m ≡ 2 → FitIs n st ts (fitted Select ts) r
+  pub three : m ≡ 3 → FitIs n st ts (fitted AtIndex ts) r
 
 abbrev pub ArrayHas : List ℕ → List ℕ → List ℕ → ℕ → Option Fit → Type 0
 ArrayHas b p a m r = (n : ℕ) → Over b p n a m → ArrayIs n (store_of b p n) (args_of b p n a m) m r
 
 ---------------------------------------------------------------- answers
-pub record DeliverFitAsks (b p ix : List ℕ) (n u : ℕ) (r : Fit) : Type 0 where
-  pub good : Good b p ix n u
-  pub ok : FitOk n r
-
--- m arguments that are numbers of a good store.
-pub record CheckOperatorAsks (b p ix : List ℕ) (n u : ℕ) (a : List ℕ) (m : ℕ) : Type 0 where
-  pub good : Good b p ix n u
-  pub within : 3 + 2 * m ≤ length a
-  pub below : (j : ℕ) → j < m → arg_at a j < n
+pub record DeliverFitAsked (s : Store) (r : Fit) (a : Args) : Type 0 where
+  pub args : ArgumentsAsk s a
+  pub ok : FitOk s.count r
 
 ---------------------------------------------------------------- the same of entries and the arguments as they are lent
 abbrev pub RuleAsks : Entries → Args → Rule → Type 0

@@ -1,6 +1,9 @@
+pub mod Plain
+pub mod SetRule
+pub mod SetLaws
 pub mod Rule
 pub mod RuleLaws
 pub mod Numbered
 pub mod Contract
 pub mod KindLaws
-pub mod Words
+pub mod SetContract

@@ -4,10 +4,12 @@ use Rattle.record.specs.declared.kinds.SortKind.{SortKind}
 use Rattle.check_operator.specs.declared.rule.Arity.{Arity}
 use Rattle.check_operator.specs.declared.rule.Arity.TheVariants.{Exactly, AtLeast}
 use Rattle.check_operator.specs.declared.rule.Rule.{Rule as Given}
+use Rattle.check_operator.specs.declared.sets.SetRule.{SetRule as GivenSets}
 use Rattle.record.specs.Kinds.{sort_number}
 use Rattle.record.specs.Operators.{operator_number}
 use Rattle.record.specs.declared.operators.Operator.{Operator}
-use Rattle.check_operator.specs.Rule.{Rule, Unranked, All, Fixed, Numbers, Equal, Choose, Select, Store, Vectors, Concat, rule_of}
+use Rattle.check_operator.specs.Rule.{Rule, Unranked, All, Fixed, Numbers, Equal, Choose, Select, Store, Vectors, Concat, Sets, rule_of}
+use Rattle.check_operator.specs.SetRule.{SetRule, Alike, Member, Insert, Closure, Singleton, Tuple, TupleUnit, Transpose, Join, Product}
 
 -- The kind at a place of a list; Bool past its end.
 abbrev pub kind_in : List SortKind → ℕ → ℕ
@@ -33,6 +35,18 @@ abbrev pub vectors_numbers : Arity → Option SortKind → Rule
 vectors_numbers (Exactly m) r = Vectors m 0 (result_number r)
 vectors_numbers (AtLeast m) r = Vectors m 1 (result_number r)
 
+abbrev pub set_numbers : GivenSets → SetRule
+set_numbers (GivenSets.Alike m r) = Alike m (result_number r)
+set_numbers GivenSets.Member = Member
+set_numbers GivenSets.Insert = Insert
+set_numbers GivenSets.Closure = Closure
+set_numbers GivenSets.Singleton = Singleton
+set_numbers GivenSets.Tuple = Tuple
+set_numbers GivenSets.TupleUnit = TupleUnit
+set_numbers GivenSets.Transpose = Transpose
+set_numbers GivenSets.Join = Join
+set_numbers GivenSets.Product = Product
+
 abbrev pub rule_numbers : Given → Rule
 rule_numbers (Given.All k r) = All (sort_number k) (sort_number r)
 rule_numbers (Given.Fixed ks r) = fixed_numbers ks.now r
@@ -43,6 +57,7 @@ rule_numbers Given.Select = Select
 rule_numbers Given.Store = Store
 rule_numbers (Given.Vectors a r) = vectors_numbers a r
 rule_numbers Given.Concat = Concat
+rule_numbers (Given.Sets r) = Sets (set_numbers r)
 
 -- Without a rule there are no ranks.
 abbrev pub ruled_numbers : Option Given → Rule

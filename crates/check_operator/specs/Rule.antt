@@ -4,11 +4,13 @@ use Rattle.std.specs.Prelude.{ℕ, zero, suc, ◌+◌, Bool, true, false, cond, 
 use Rattle.record.specs.Sort.{Sort, Sorts, var, par, node, end, ◌then◌, bool, int, real, array, bitvec, number_in, count, same, same_all}
 use Rattle.record.specs.Record.{map_of}
 use Rattle.row_rules.specs.declared.Cause.TheVariants.{NoRank, Count, Misfit}
-use Rattle.row_rules.specs.Verdict.{Verdict, sort, refused, need}
+use Rattle.row_rules.specs.Verdict.{Verdict, sort, refused, need, or_cause}
 use Rattle.check_rules.specs.Forms.{concat, vector, numbers, stands, sum_of, all_same}
 use Rattle.check_rules.specs.Rank.{Rank, rank, computed}
-use Rattle.check_rules.specs.Ranks.{x, y, one, two, one_rank, more, mixture}
+use Rattle.check_rules.specs.Ranks.{x, y, two, one_rank, more, mixture}
 use Rattle.check_rules.specs.Checked.{values, only_of}
+use Rattle.check_operator.specs.SetRule.{SetRule, Alike, Member, Insert, Closure, Singleton, Tuple, TupleUnit, Transpose, Join, Product, set_ranks, set_counts, set_computes, well_set}
+pub use Rattle.check_operator.specs.Plain.{plain_sort, plain_kind, one_or_two, as_many_of, numbers_result}
 
 ---------------------------------------------------------------- rules
 -- What arguments an operator takes and what sort it then has, over the numbers of kinds; `Numbered` has those of the code.
@@ -28,12 +30,10 @@ pub data Rule : Type 0 where
   -- so many vectors of one width, or more where the second number is 1; the result is of this kind, 0 where it is theirs
   Vectors : (many more result : ℕ) → Rule
   Concat : Rule
+  -- sets, tuples and relations
+  Sets : SetRule → Rule
 
 ---------------------------------------------------------------- the ranks of a rule
--- The sort of a kind without parts.
-abbrev pub plain_sort : ℕ → Sort
-plain_sort k = node k 0 0 end
-
 -- The first m of three kinds.
 abbrev pub fixed_of : ℕ → ℕ → ℕ → ℕ → Sorts
 fixed_of zero a b c = end
@@ -41,17 +41,7 @@ fixed_of (suc zero) a b c = plain_sort a then end
 fixed_of (suc (suc zero)) a b c = plain_sort a then plain_sort b then end
 fixed_of (suc (suc (suc m))) a b c = plain_sort a then plain_sort b then plain_sort c then end
 
--- One or two of a sort.
-abbrev pub as_many_of : ℕ → Sort → Sorts
-as_many_of zero s = two s
-as_many_of (suc zero) s = one s
-as_many_of (suc (suc m)) s = two s
-
--- The result: this sort, or the sort of a kind; of vectors, 9 stands for one bit.
-abbrev pub numbers_result : ℕ → Sort → Sort
-numbers_result zero s = s
-numbers_result (suc r) s = plain_sort (suc r)
-
+-- The result of vectors: their sort, or the sort of a kind; 9 stands for one bit.
 abbrev pub vectors_result : ℕ → Sort → Sort
 vectors_result r s = cond (eqb r 0) s (cond (eqb r 9) (bitvec 1) (plain_sort r))
 
@@ -66,6 +56,7 @@ number_ranks m r =
 
 -- THE RANKS that a rule stands for.
 unfoldable pub ranks_of : Rule → List Rank
+unfolding set_ranks
 ranks_of Unranked = []
 ranks_of (All k r) = more (two (plain_sort k)) (plain_sort r)
 ranks_of (Fixed m a b c r) = one_rank (fixed_of m a b c) (plain_sort r)
@@ -76,6 +67,7 @@ ranks_of Select = one_rank (array x y then x then end) y
 ranks_of Store = one_rank (array x y then x then y then end) (array x y)
 ranks_of (Vectors m o r) = rank (eqb o 1) true (as_many_of m x) (vectors_result r x) ∷ []
 ranks_of Concat = computed concat ∷ []
+ranks_of (Sets r) = set_ranks r
 
 ---------------------------------------------------------------- the rule of an operator
 -- The rules of the operators from a first to a last number.
@@ -139,7 +131,21 @@ rules =
     (range 96 100 (Vectors 2 0 0)
     (range 101 107 (Vectors 2 0 3)
     (range 108 109 (Vectors 1 0 4)
-    none)))))))))))))))))))))))))))))))))))))))))))))))))
+    (range 118 120 (Sets (Alike 2 0))
+    (range 121 121 (Sets Member)
+    (range 122 122 (Sets (Alike 2 3))
+    (range 123 123 (Sets Singleton)
+    (range 124 125 (Sets (Alike 1 3))
+    (range 126 126 (Sets (Alike 1 4))
+    (range 127 127 (Sets Insert)
+    (range 128 128 (Sets (Alike 1 0))
+    (range 129 129 (Sets Tuple)
+    (range 130 130 (Sets TupleUnit)
+    (range 131 131 (Sets Transpose)
+    (range 132 132 (Sets Closure)
+    (range 133 133 (Sets Join)
+    (range 134 134 (Sets Product)
+    none)))))))))))))))))))))))))))))))))))))))))))))))))))))))))))))))
 
 -- THE RULE of the operator n.
 unfoldable pub rule_of : ℕ → Rule
@@ -159,6 +165,7 @@ counts_for Select n = eqb n 2
 counts_for Store n = eqb n 3
 counts_for (Vectors m o r) n = cond (eqb o 1) (leb m n) (eqb n m)
 counts_for Concat n = eqb n 2
+counts_for (Sets r) n = set_counts r n
 
 abbrev pub choosing : Sorts → Verdict
 choosing (c then (a then (b then end))) = need (same bool c && same a b) Misfit (sort a)
@@ -205,7 +212,7 @@ concatenated (a then (b then (c then ts))) = refused Misfit
 
 -- What a rule gives at arguments of its count, none of them a Par.
 unfoldable pub fitted : Rule → Sorts → Verdict
-unfolding same all_same numbers stands
+unfolding same all_same numbers stands set_computes
 fitted Unranked ts = refused Misfit
 fitted (All k r) ts = need (all_same (plain_sort k) ts) Misfit (sort (plain_sort r))
 fitted (Fixed m a b c r) ts = need (same_all (fixed_of m a b c) ts) Misfit (sort (plain_sort r))
@@ -216,6 +223,7 @@ fitted Select ts = ruled_select ts
 fitted Store ts = stored ts
 fitted (Vectors m o r) ts = need (vector (only_of ts) && all_same (only_of ts) ts) Misfit (sort (vectors_result r (only_of ts)))
 fitted Concat ts = concatenated ts
+fitted (Sets r) ts = or_cause (set_computes r ts) Misfit
 
 abbrev pub is_ranked : Rule → Bool
 is_ranked Unranked = false
@@ -228,6 +236,7 @@ is_ranked Select = true
 is_ranked Store = true
 is_ranked (Vectors m o r) = true
 is_ranked Concat = true
+is_ranked (Sets r) = true
 
 -- THE VERDICT OF A RULE: 24 without a rank, 25 with another count, 26 where an argument is a Par or does not fit.
 unfoldable pub ruled : Rule → Sorts → Verdict
@@ -235,15 +244,9 @@ unfolding fitted values count
 ruled r ts = need (is_ranked r) NoRank (need (counts_for r (count ts)) Count (need (values ts) Misfit (fitted r ts)))
 
 ---------------------------------------------------------------- rules as the table has them
-abbrev pub plain_kind : ℕ → Bool
-plain_kind k = eqb (map_of k) 1
-
-abbrev pub one_or_two : ℕ → Bool
-one_or_two m = eqb m 1 || eqb m 2
-
 -- Kinds are those of sorts without parts, and counts as the comments of `Rule` say.
 unfoldable pub well_rule : Rule → Bool
-unfolding map_of
+unfolding map_of well_set
 well_rule Unranked = true
 well_rule (All k r) = plain_kind k && plain_kind r
 well_rule (Fixed m a b c r) = leb m 3 && (plain_kind a && (plain_kind b && (plain_kind c && plain_kind r)))
@@ -254,3 +257,4 @@ well_rule Select = true
 well_rule Store = true
 well_rule (Vectors m o r) = one_or_two m && (eqb r 0 || eqb r 9 || plain_kind r)
 well_rule Concat = true
+well_rule (Sets r) = well_set r

@@ -1,13 +1,13 @@
 -- The verdict of an operator by its ranks is that of its rule, proved for each kind of rule.
 use Rattle.std.specs.Prelude.{ℕ, zero, suc, ◌+◌, ◌≤◌, ◌<◌, ◌≡◌, ◌⊎◌, refl, Bool, true, false, cond, ◌&&◌, ◌||◌, List, ◌∷◌, ◌++◌, eqb, leb, ltb}
-use Rattle.std.proofs.Common.{sym, ap, ap₂, ◌∙◌, inl, inr, arith, le-leb, eq-eqb, eqb-true, ne_eqb, leb-true}
+use Rattle.std.proofs.Common.{sym, ap, ap₂, ◌∙◌, inl, inr, arith, le-leb, eqb-true, leb-true}
 use Rattle.std.proofs.Math.Bool.{not}
 use Rattle.std.proofs.lemmas.Bool.{false≢true, leb-false, le-ltb}
 use Rattle.std.proofs.Math.Option.{Option, none as nothing, some}
 use mathlib.Core.Bool.{or-false}
 use Rattle.record.specs.Sort.{Sort, Sorts, var, par, node, end, ◌then◌, bool, int, real, array, bitvec, number_in, count, same, same_all}
 use Rattle.record.specs.SortLaws.{same_refl}
-use Rattle.record.specs.Cases.{and_left, and_right, or_cases, both_ways, by_test}
+use Rattle.record.specs.Cases.{and_left, and_right, or_cases, by_test}
 use Rattle.substitution.specs.Substitution.{Map, empty, bind, find, apply}
 use Rattle.substitution.specs.Matching.{matches, matches_all, keep, and_then}
 use Rattle.row_rules.specs.declared.Cause.TheVariants.{NoRank, Count, Misfit}
@@ -18,7 +18,9 @@ use Rattle.check_rules.specs.Rank.{Rank, repeated, stretched, patterns, same_cou
 use Rattle.check_rules.specs.Ranks.{RankTable, done, row, enlarged, ranks_in, standard, smt_lib, x, y, one, two, mixture}
 use Rattle.check_rules.specs.Checked.{values, only_of, nonempty, ranked, operated}
 use Rattle.check_rules.proofs.RankTheorems.{repeated-count}
-use Rattle.check_operator.specs.Rule.{Rule, Unranked, All, Fixed, Numbers, Equal, Choose, Select, Store, Vectors, Concat, Rules, none, range, rules_in, rules, rule_of, plain_sort, fixed_of, as_many_of, number_rank, number_ranks, numbers_result, vectors_result, ranks_of, well_rule, counts_for, choosing, selecting, storing, ruled_select, stored, concatenated, fitted, is_ranked, ruled, one_or_two}
+use Rattle.check_operator.specs.SetRule.{set_ranks}
+use Rattle.check_operator.specs.SetLaws.{same-count, counted, exact-count, set-counts, set-nonempty, set-fits}
+use Rattle.check_operator.specs.Rule.{Rule, Unranked, All, Fixed, Numbers, Equal, Choose, Select, Store, Vectors, Concat, Sets, Rules, none, range, rules_in, rules, rule_of, plain_sort, fixed_of, as_many_of, number_rank, number_ranks, numbers_result, vectors_result, ranks_of, well_rule, counts_for, choosing, selecting, storing, ruled_select, stored, concatenated, fitted, is_ranked, ruled, one_or_two}
 
 -- The table of ranks, its enlarged rows put together, is the table of rules.
 unfoldable plain_table : RankTable → RankTable
@@ -38,7 +40,7 @@ ranks_table none = done
 ranks_table (range a b r t) = row a b (ranks_of r) (ranks_table t)
 
 tables : ranks_table rules ≡ plain_table standard
-unfolding ranks_table plain_table rules standard ranks_of
+unfolding ranks_table plain_table rules standard ranks_of set_ranks
 tables = refl
 
 ranks-pick : (b : Bool) (r s : Rule) → cond b (ranks_of r) (ranks_of s) ≡ ranks_of (cond b r s)
@@ -92,21 +94,6 @@ unfolding same_count stretched count
 one-count p end = refl
 one-count p (t then ts) = repeated-count p ts ∙ sym (le-leb 1 (suc (count ts)) (omega arith))
 
-eqb-suc : (m n : ℕ) → eqb (suc m) (suc n) ≡ eqb m n
-eqb-suc m n = both_ways (eqb (suc m) (suc n)) (eqb m n)
-    (λ e. eq-eqb m n (let z = eqb-true (suc m) (suc n) e in omega arith)) (λ e. eq-eqb (suc m) (suc n) (ap suc (eqb-true m n e)))
-
--- As many patterns as arguments.
-same-count : (ps ts : Sorts) → same_count ps ts ≡ eqb (count ts) (count ps)
-unfolding same_count count
-same-count end end = refl
-same-count end (t then ts) = sym (ne_eqb (suc (count ts)) 0 (λ e. absurd (omega arith)))
-same-count (p then ps) end = sym (ne_eqb 0 (suc (count ps)) (λ e. absurd (omega arith)))
-same-count (p then ps) (t then ts) = same-count ps ts ∙ sym (eqb-suc (count ts) (count ps))
-
-counted : (ps ts : Sorts) (m : ℕ) → count ps ≡ m → same_count ps ts ≡ eqb (count ts) m
-counted ps ts m e = same-count ps ts ∙ ap (eqb (count ts)) e
-
 fixed-count : (m a b c : ℕ) → leb m 3 ≡ true → count (fixed_of m a b c) ≡ m
 unfolding count
 fixed-count zero a b c e = refl
@@ -134,15 +121,6 @@ least-count (suc (suc (suc m))) s ts e =
     or_cases (eqb (suc (suc (suc m))) 1) (eqb (suc (suc (suc m))) 2) e
     (λ f. let z = eqb-true (suc (suc (suc m))) 1 f in absurd (omega arith)) (λ f. let z = eqb-true (suc (suc (suc m))) 2 f in absurd (omega arith))
 
-exact-count : (m : ℕ) (s : Sort) (ts : Sorts) → one_or_two m ≡ true → same_count (as_many_of m s) ts ≡ eqb (count ts) m
-unfolding count
-exact-count zero s ts e = absurd (false≢true e)
-exact-count (suc zero) s ts e = same-count (one s) ts
-exact-count (suc (suc zero)) s ts e = same-count (two s) ts
-exact-count (suc (suc (suc m))) s ts e =
-    or_cases (eqb (suc (suc (suc m))) 1) (eqb (suc (suc (suc m))) 2) e
-    (λ f. let z = eqb-true (suc (suc (suc m))) 1 f in absurd (omega arith)) (λ f. let z = eqb-true (suc (suc (suc m))) 2 f in absurd (omega arith))
-
 vectors-count : (o : Bool) (m : ℕ) (s : Sort) (ts : Sorts) → one_or_two m ≡ true → same_count (patterns o (as_many_of m s) ts) ts ≡ cond o (leb m (count ts)) (eqb (count ts) m)
 vectors-count true m s ts e = least-count m s ts e
 vectors-count false m s ts e = exact-count m s ts e
@@ -167,6 +145,7 @@ rule-counts Store ts w = or-false (same_count (array x y then x then y then end)
 rule-counts (Vectors m o r) ts w =
     or-false (same_count (patterns (eqb o 1) (as_many_of m x) ts) ts) ∙ vectors-count (eqb o 1) m x ts (and_left (one_or_two m) _ w)
 rule-counts Concat ts w = or-false (eqb (count ts) 2)
+rule-counts (Sets r) ts w = set-counts r ts w
 
 ---------------------------------------------------------------- fits
 and-then-keep : (b : Bool) (m : Map) (f : Map → Option Map) → and_then (keep b (some m)) f ≡ keep b (f m)
@@ -450,6 +429,7 @@ rule_fits (Vectors m o r) ts w e =
     (vector-matches (eqb o 1) m ts (and_left (one_or_two m) _ w) e)
     ∙ ap (λ (s : Sort). need (vector (only_of ts) && all_same (only_of ts) ts) Misfit (sort s)) (vector-result (eqb r 0) (eqb r 9) r (only_of ts))
 rule_fits Concat ts w e = concat-fit ts
+rule_fits (Sets r) ts w e = ap (λ (o : Option Sort). or_cause o Misfit) (set-fits r ts w e)
 
 ---------------------------------------------------------------- the verdict
 need-last : (b c : Bool) (v w : Verdict) → (b ≡ true → v ≡ w) → need b Count (need c Misfit v) ≡ need b Count (need c Misfit w)
@@ -469,6 +449,7 @@ is-ranked Select = refl
 is-ranked Store = refl
 is-ranked (Vectors m o r) = refl
 is-ranked Concat = refl
+is-ranked (Sets r) = set-nonempty r
 
 rule-ranked : (r : Rule) (ts : Sorts) → well_rule r ≡ true → ranked (ranks_of r) ts ≡ ruled r ts
 unfolding ranked ruled

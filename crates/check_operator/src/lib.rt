@@ -3,3 +3,4 @@
 
 pub mod op;
 pub mod rule;
+pub mod sets;

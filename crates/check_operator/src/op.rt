@@ -10,10 +10,14 @@ ghost use Rattle.row_answer.specs.Heads.{HeadAsks};
 ghost use Rattle.row_answer.specs.Words.{args_in};
 ghost use Rattle.check_operator.specs.Rule.{All, Numbers, Equal, Choose, Vectors, Concat};
 ghost use Rattle.check_operator.specs.Numbered.{result_number, fixed_numbers, rule_numbers};
-ghost use Rattle.check_operator.specs.Contract.{ArgsAsk, KindIs, KindsHave, SameHas, RuleAsks, RuleFits, ValuesFor, ArrayAsks, ArrayHas, fit_verdict};
-ghost use Rattle.check_operator.specs.Words.{DeliverFitAsked, CheckOperatorAsked};
+ghost use Rattle.check_operator.specs.Contract.{ArgsAsk, KindIs, KindsHave, SameHas, RuleAsks, RuleFits, ValuesFor, ArrayAsks, ArrayHas, fit_verdict, DeliverFitAsked};
+ghost use Rattle.infer_operator.specs.Asks.{ArgumentsAsk};
+ghost use Rattle.row_answer.specs.Args.{SameArgs};
 
 use super::rule::{Rule, counts, rule_of};
+use super::sets::fit_sets;
+use infer_operator::op::gathered;
+use infer_rules::Family;
 use record::kinds::SortKind;
 use row_answer::arguments::Args;
 use row_answer::values::all_values;
@@ -22,12 +26,14 @@ use row_rules::{Cause, Row};
 use store::Store;
 use store::entries::Entries;
 
-// The result of a rule that fits: a sort of the store, the sort of a kind without parts, or a vector of a width.
+// The result of a rule that fits: a sort of the store, the sort of a kind without parts, a vector of a width, or what the
+// inferred row's family makes of the arguments.
 #[derive(Clone, Copy, Debug, PartialEq, Eq)]
 pub enum Fit {
     Known(usize),
     Plain(SortKind),
     Width(usize),
+    Gathered(Family),
 }
 
 // Whether the sort k is of this kind.
@@ -176,6 +182,7 @@ pub fn fit_rule(entries: Entries<'_>, rule: Rule, args: &Args<'_>) -> Option<Fit
         Rule::Select | Rule::Store => fit_array(entries, args),
         Rule::Vectors(_, result) => fit_vectors(entries, args, result),
         Rule::Concat => fit_concat(entries, args),
+        Rule::Sets(rule) => fit_sets(entries, rule, args),
     }
 }
 
@@ -192,24 +199,27 @@ pub fn values_for(entries: Entries<'_>, rule: Rule, args: &Args<'_>) -> bool
 }
 
 // The answer of a fit: its sort, made where it is not in the store.
-pub fn delivered_fit(store: &mut Store<'_>, made: Fit) -> Row
-    requires { DeliverFitAsked store.old made }
+pub fn delivered_fit(store: &mut Store<'_>, made: Fit, args: &mut Args<'_>) -> Row
+    requires { DeliverFitAsked store.old made args.old }
     ensures same { Same store.old store.new }
-    ensures answer { Answered store.old (fit_verdict (store_in store.old) made) store.new result }
+    ensures same_args { SameArgs args.old args.new }
+    ensures answer { Answered store.old (fit_verdict (store_in store.old) (args_in store.old args.old) made) store.new result }
 {
     match made {
         Fit::Known(k) => Ok(k),
         Fit::Plain(kind) => leaf(store, kind),
         Fit::Width(width) => bit_vector(store, width),
+        Fit::Gathered(family) => gathered(store, family, args),
     }
 }
 
 // The checked sort of the operator: NoRank without a rule, Count where the rule has another count of arguments, Misfit where
-// an argument is a Par or the rule does not fit.
-pub fn checked_operator(store: &mut Store<'_>, op: usize, args: &Args<'_>) -> Row
-    requires { CheckOperatorAsked store.old args.now }
+// an argument is a Par or the rule does not fit. The arguments may be used up by what is made of them.
+pub fn checked_operator(store: &mut Store<'_>, op: usize, args: &mut Args<'_>) -> Row
+    requires { ArgumentsAsk store.old args.old }
     ensures same { Same store.old store.new }
-    ensures answer { Answered store.old (operated smt_lib op (args_in store.old args.now)) store.new result }
+    ensures same_args { SameArgs args.old args.new }
+    ensures answer { Answered store.old (operated smt_lib op (args_in store.old args.old)) store.new result }
 {
     let rule = rule_of(op).ok_or(Cause::NoRank)?;
     if !counts(rule, args.count) {
@@ -220,5 +230,5 @@ pub fn checked_operator(store: &mut Store<'_>, op: usize, args: &Args<'_>) -> Ro
         return Err(Cause::Misfit);
     }
     let made = fit_rule(entries, rule, args).ok_or(Cause::Misfit)?;
-    delivered_fit(store, made)
+    delivered_fit(store, made, args)
 }

@@ -5,6 +5,7 @@ ghost use Rattle.record.specs.declared.operators.Operator.{Operator};
 ghost use Rattle.check_operator.specs.Rule.{rule_of, counts_for};
 ghost use Rattle.check_operator.specs.Numbered.{arity_counts, rule_numbers, ruled_numbers, rule_within};
 
+use super::sets::{SetRule, counts_of_sets};
 use record::kinds::SortKind;
 use record::operators::Operator;
 
@@ -47,6 +48,8 @@ pub enum Rule {
     Vectors(Arity, Option<SortKind>),
     // Two vectors; the result is as wide as both.
     Concat,
+    // Sets, tuples and relations.
+    Sets(SetRule),
 }
 
 // The rule of an operator of Core, Ints, Reals, Reals_Ints or ArraysEx; None for one without ranks and for the other operators.
@@ -113,7 +116,7 @@ pub fn rule_of_text(op: Operator) -> Option<Rule>
 // The rule of an operator of FixedSizeBitVectors; None for one without ranks and for the other operators.
 #[tactic(auto, unfolding(crate::specs::Rule::rule_of, crate::specs::Rule::rules_in, crate::specs::Rule::rules))]
 pub fn rule_of_vectors(op: Operator) -> Option<Rule>
-    ensures { ruled_numbers result ≡ rule_within Operator.BvNot Operator.RelProduct (operator_number op) }
+    ensures { ruled_numbers result ≡ rule_within Operator.BvNot Operator.Delete (operator_number op) }
 {
     use Operator::*;
     match op {
@@ -142,6 +145,40 @@ pub fn rule_of_vectors(op: Operator) -> Option<Rule>
     }
 }
 
+// The rule of an operator on sets, tuples and relations; None for the other operators.
+#[tactic(auto, unfolding(crate::specs::Rule::rule_of, crate::specs::Rule::rules_in, crate::specs::Rule::rules))]
+pub fn rule_of_sets(op: Operator) -> Option<Rule>
+    ensures { ruled_numbers result ≡ rule_within Operator.SetUnion Operator.RelProduct (operator_number op) }
+{
+    use Operator::*;
+    let rule = match op {
+        SetUnion | SetInter | SetMinus => SetRule::Alike(2, None),
+        SetMember => SetRule::Member,
+        SetSubset => SetRule::Alike(2, Some(SortKind::Bool)),
+        SetSingleton => SetRule::Singleton,
+        SetIsEmpty | SetIsSingleton => SetRule::Alike(1, Some(SortKind::Bool)),
+        SetCard => SetRule::Alike(1, Some(SortKind::Int)),
+        SetInsert => SetRule::Insert,
+        SetComplement => SetRule::Alike(1, None),
+        Tuple => SetRule::Tuple,
+        TupleUnit => SetRule::TupleUnit,
+        RelTranspose => SetRule::Transpose,
+        RelTclosure => SetRule::Closure,
+        RelJoin => SetRule::Join,
+        RelProduct => SetRule::Product,
+        _ => return None,
+    };
+    Some(Rule::Sets(rule))
+}
+
+// The rule of an operator of FixedSizeBitVectors, or on sets, tuples and relations; None without ranks and for the other operators.
+#[tactic(auto, unfolding(crate::specs::Rule::rule_of, crate::specs::Rule::rules_in, crate::specs::Rule::rules))]
+pub fn rule_of_vectors_or_sets(op: Operator) -> Option<Rule>
+    ensures { ruled_numbers result ≡ rule_within Operator.BvNot Operator.RelProduct (operator_number op) }
+{
+    rule_of_vectors(op).or_else(|| rule_of_sets(op))
+}
+
 // The rule of the operator with this number in enum Operator; None without ranks, and where no operator has the number.
 #[tactic(auto, using(crate::proofs::RuleOfLaws::rule_past))]
 pub fn rule_of(op: usize) -> Option<Rule>
@@ -150,7 +187,7 @@ pub fn rule_of(op: usize) -> Option<Rule>
     let op = Operator::try_from(op).ok()?;
     rule_of_theory(op)
         .or_else(|| rule_of_text(op))
-        .or_else(|| rule_of_vectors(op))
+        .or_else(|| rule_of_vectors_or_sets(op))
 }
 
 // Whether a rule has this count of arguments.
@@ -164,5 +201,6 @@ pub fn counts(rule: Rule, n: usize) -> bool
         Rule::Choose | Rule::Store => n == 3,
         Rule::Select | Rule::Concat => n == 2,
         Rule::Vectors(arity, _) => arity.allows(n),
+        Rule::Sets(rule) => counts_of_sets(rule, n),
     }
 }

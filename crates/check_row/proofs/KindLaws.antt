@@ -25,6 +25,7 @@ use Rattle.row_rules.specs.Term.{Site}
 use Rattle.check_rules.specs.Ranks.{smt_lib}
 use Rattle.check_rules.specs.Checked.{checked_app, operated, binder, letting, indexing, qualified, checked}
 use Rattle.row_answer.specs.Arguments.{bound_numbers, constants_in}
+use Rattle.infer_operator.specs.Asks.{ArgsAsks}
 use Rattle.check_operator.specs.Contract.{ArgsAsk, args_of}
 use Rattle.check_row.specs.Single.{constant_verdict, variable_verdict, OverAsks}
 use Rattle.row_parts.specs.Site.{site_over, SiteAsks}
@@ -120,6 +121,9 @@ module _ {b p ix : List ℕ} {n u : ℕ} {prm imgs bnd s tbl xs : List ℕ} {r :
 
   pub app-is : term_number r.kind ≡ 6 → checked smt_lib site ≡ checked_app (args_of b p n a m)
   app-is e = checked-app site e ∙ ap checked_app many
+
+  pub op-asks : ArgsAsks b p ix n u a m
+  op-asks = record { good = good; few = omega (arith, few, count); room = f.asks.room; below = below }
 
   pub op-is : term_number r.kind ≡ 7 → checked smt_lib site ≡ operated smt_lib r.number (args_of b p n a m)
   op-is e = checked-op site e ∙ ap (operated smt_lib r.number) many

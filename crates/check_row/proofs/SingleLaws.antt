@@ -1,19 +1,19 @@
--- The verdicts on constants, Vars, Lets and (as const), by what was read.
+-- The verdicts on constants, Vars, Lets and AsOps, by what was read.
 use Prim.Native.Nat.{ℕ, zero, suc, ◌+◌, ◌*◌, ◌-◌, ◌≤◌, ◌<◌}
 use mathlib.Core.Path.{◌≡◌, refl, sym, ap, ap₂, subst, ◌∙◌}
-use mathlib.Core.Bool.{Bool, true, false, not, ◌&&◌}
+use mathlib.Core.Bool.{Bool, true, false, not, cond, ◌&&◌}
 use mathlib.Core.List.{List, [], ◌∷◌}
 use native.Mathlib.Omega.{arith}
 use lib.ListN.{length, get_or}
-use lib.Dec.{eqb, ltb}
-use borrow.Author.Tests.{eq-eqb, eqb-true, eqb-false, ne_eqb, lt-ltb, le-ltb}
+use lib.Dec.{eqb, leb, ltb}
+use borrow.Author.Tests.{eq-eqb, eqb-true, eqb-false, ne_eqb, le-leb, lt-ltb, le-ltb}
+use Rattle.std.proofs.lemmas.Bool.{lt-leb}
 use Rattle.record.specs.Number.{u16_at, numbers_at}
-use Rattle.record.specs.Sort.{Sort, var, par, node, end, ◌then◌, array, bitvec, kind_of, same}
+use Rattle.record.specs.Sort.{Sort, Sorts, var, par, node, end, ◌then◌, array, bitvec, kind_of, same}
 use Rattle.record.specs.SortLaws.{same_refl}
 use Rattle.record.specs.Record.{Fields, leaf, sorts_of}
 use Rattle.record.specs.Decode.{store_of, sort_at, Stored}
-use Rattle.record.specs.Kinds.{sort_number, term_number, as_number}
-use Rattle.record.specs.declared.kinds.AsOp.{AsOp}
+use Rattle.record.specs.Kinds.{sort_number, term_number}
 use Rattle.record.specs.declared.kinds.TermKind.{TermKind}
 use Rattle.record.specs.Codec.{length-numbers_at}
 use Rattle.record.specs.Sizes.{count-sorts}
@@ -25,7 +25,7 @@ use Rattle.matching_tables.specs.Usable.{OneAsks}
 use Rattle.row_rules.specs.declared.Cause.TheVariants.{NoRank, Count, Misfit, Barred}
 use Rattle.row_rules.specs.Verdict.{Verdict, sort, refused, need}
 use Rattle.row_rules.specs.Lists.{last_of}
-use Rattle.check_rules.specs.Checked.{carried, values, inner_of, letting, constant_array, qualified}
+use Rattle.check_rules.specs.Checked.{carried, values, inner_of, letting, constant_array, whole_set, qualified}
 use Rattle.row_answer.specs.Values.{ValuesHave}
 use Rattle.row_rules.specs.declared.Cause.{Cause}
 use Rattle.row_answer.specs.Answer.{AnswerIs}
@@ -33,7 +33,8 @@ use Rattle.row_answer.specs.AnswerLaws.{judged-as, made-refused, answer-known}
 use Rattle.std.specs.Prelude.{Result, Ok, Err}
 use Rattle.check_operator.specs.Contract.{Over, ArgsAsk, args_of, args-refs}
 use Rattle.check_row.specs.Single.{ReadIs, OverAsks, constant_verdict}
-use Rattle.check_operator.proofs.FitLaws.{numbers-same, array-two, array-sort}
+use Rattle.check_operator.proofs.SetEntries.{kind-is-set}
+use Rattle.check_operator.proofs.FitLaws.{one-arg, numbers-same, array-two, array-sort}
 
 ---------------------------------------------------------------- constants
 -- The kinds behind the first four.
@@ -141,6 +142,10 @@ module _ {b p : List ℕ} {n k : ℕ} (f : OneAsks b p n k) {par_test : Bool} (e
             ∙ ap carried (sym own-par)
 
 ---------------------------------------------------------------- rows that change nothing
+-- What answers a verdict answers an equal one.
+pub reads-as : {b p : List ℕ} {n : ℕ} {v w : Verdict} {r : Result ℕ Cause} → v ≡ w → ReadIs b p n w r → ReadIs b p n v r
+reads-as e h ix u g = judged-as e (h ix u g)
+
 -- Refused, and of a sort that the store has.
 pub reads-refused : {b p : List ℕ} {n : ℕ} {v : Verdict} {r : Result ℕ Cause} (c : Cause) → v ≡ refused c → r ≡ Err c → ReadIs b p n v r
 reads-refused {b} {p} {n} {v} {r} c e h ix u g =
@@ -219,78 +224,97 @@ constant-kind (node k n w (i then (e then end))) t h =
     ap (λ (c : Bool). need (c && eqb n 0 && eqb w 0 && (same i i && (same e e && true)) && same t e) Misfit (sort (array i e))) (ne_eqb k 8 h)
 constant-kind (node k n w (i then (e then (r then rs)))) t h = refl
 
--- The number of another operator than `const`.
-pub other-number : {n : ℕ} (k : AsOp) → as_number k ≡ n → (k ≡ AsOp.Const → ⊥) → n ≡ 0 → ⊥
-other-number AsOp.Const h d e = d refl
-other-number AsOp.SetEmpty h d e = absurd (omega (arith, h, e))
-other-number AsOp.SetUniverse h d e = absurd (omega (arith, h, e))
+module _ {b p : List ℕ} {n k : ℕ} {a : List ℕ} {m : ℕ} (f : OverAsks b p n a m) (own : OneAsks b p n k) where
+  pub const-count : (m ≡ 1 → ⊥) → constant_array (sort_at b p n k) (args_of b p n a m) ≡ refused Count
+  const-count h = constant-count (sort_at b p n k) (store_of b p n) a m h
 
-module _ {b p : List ℕ} {n k : ℕ} {a : List ℕ} {m : ℕ} (f : OverAsks b p n a m) (own : OneAsks b p n k) {q : ℕ} where
-  pub qualified-other : (q ≡ 0 → ⊥) → qualified q (sort_at b p n k) (args_of b p n a m) ≡ refused NoRank
+  module _ (e : m ≡ 1) {array_test : Bool} (ea : array_test ≡ eqb (kind_of (sort_at b p n k)) 8) where
+    pub const-kind : array_test ≡ false → constant_array (sort_at b p n k) (args_of b p n a m) ≡ refused Misfit
+    const-kind d =
+        ap (constant_array (sort_at b p n k)) (one-arg b p n a e) ∙ constant-kind (sort_at b p n k) (sort_at b p n (u16_at a 3)) (eqb-false (kind_of (sort_at b p n k)) 8 (sym ea ∙ d))
+
+    module _ (array_on : array_test ≡ true) (r : SortRecord) (h : EntryHas b p k r) where
+      array-read : EntryIs b p n k r
+      array-read = h n own.usable.stored own.known
+
+      x : sort_number r.kind ≡ 8
+      x = array-read.kind ∙ eqb-true (kind_of (sort_at b p n k)) 8 (sym ea ∙ array_on)
+
+      array_count : r.parts.count ≡ 2
+      array_count = array-two own.usable.stored own.known array-read x
+
+      pub element_place : r.parts.at + 4 ≤ length b
+      element_place = omega (arith, array-read.place.list, array_count)
+
+      module _ {i j : ℕ} (ei : i ≡ u16_at b (r.parts.at + 2)) (ej : j ≡ u16_at a 3) where
+        element-below : i < n
+        element-below =
+            let y : r.parts.at + 2 * 1 ≡ r.parts.at + 2 = omega arith in
+            omega (arith, ei, ap (u16_at b) y, array-read.below 1 (omega (arith, array_count)), own.known)
+
+        argument-below : j < n
+        argument-below = subst (λ (y : ℕ). y < n) (sym ej) (f.over.below 0 (omega arith))
+
+        array-is : sort_at b p n k ≡ array (sort_at b p n (u16_at b r.parts.at)) (sort_at b p n i)
+        array-is = array-sort own.usable.stored own.known array-read x ∙ ap (λ (y : ℕ). array (sort_at b p n (u16_at b r.parts.at)) (sort_at b p n y)) (sym ei)
+
+        const-is : (s u t : Sort) → constant_array (array s u) (t then end) ≡ need (same t u) Misfit (sort (array s u))
+        const-is s u t = ap (λ (c : Bool). need (c && same t u) Misfit (sort (array s u))) (same_refl (array s u))
+
+        const-array : constant_array (sort_at b p n k) (args_of b p n a m) ≡ need (eqb j i) Misfit (sort (sort_at b p n k))
+        const-array =
+            ap₂ constant_array array-is (one-arg b p n a e ∙ ap (λ (y : ℕ). sort_at b p n y then end) (sym ej))
+            ∙ const-is (sort_at b p n (u16_at b r.parts.at)) (sort_at b p n i) (sort_at b p n j)
+            ∙ ap₂ (λ (c : Bool) (s : Sort). need c Misfit (sort s))
+            (numbers-same j i own.usable.stored own.usable.distinct argument-below element-below) (sym array-is)
+
+        pub const-misfit : (j ≡ i → ⊥) → constant_array (sort_at b p n k) (args_of b p n a m) ≡ refused Misfit
+        const-misfit d = const-array ∙ ap (λ (c : Bool). need c Misfit (sort (sort_at b p n k))) (ne_eqb j i d)
+
+        pub const-fits : j ≡ i → constant_array (sort_at b p n k) (args_of b p n a m) ≡ sort (sort_at b p n k)
+        const-fits d = const-array ∙ ap (λ (c : Bool). need c Misfit (sort (sort_at b p n k))) (eq-eqb j i d)
+
+---------------------------------------------------------------- SetEmpty, SetUniverse
+set-args : (s : Sort) (st : List Sort) (a : List ℕ) (m : ℕ) → (m ≡ 0 → ⊥) → whole_set s (sorts_of st (numbers_at a 3 m)) ≡ refused Count
+unfolding sorts_of numbers_at
+set-args s st a zero h = absurd (h refl)
+set-args s st a (suc m) h = refl
+
+module _ {b p : List ℕ} {n k : ℕ} (own : OneAsks b p n k) (a : List ℕ) (m : ℕ) where
+  pub set-count : (m ≡ 0 → ⊥) → whole_set (sort_at b p n k) (args_of b p n a m) ≡ refused Count
+  set-count h = set-args (sort_at b p n k) (store_of b p n) a m h
+
+  module _ (z : m ≡ 0) {t : Bool} (et : t ≡ eqb (kind_of (sort_at b p n k)) 14) where
+    set-by : whole_set (sort_at b p n k) (args_of b p n a m) ≡ need t Misfit (sort (sort_at b p n k))
+    unfolding sorts_of numbers_at
+    set-by =
+        ap (λ (i : ℕ). whole_set (sort_at b p n k) (args_of b p n a i)) z
+        ∙ ap (λ (c : Bool). need c Misfit (sort (sort_at b p n k))) (kind-is-set b p n k own.usable.stored own.known ∙ sym et)
+
+    pub set-misfit : t ≡ false → whole_set (sort_at b p n k) (args_of b p n a m) ≡ refused Misfit
+    set-misfit d = set-by ∙ ap (λ (c : Bool). need c Misfit (sort (sort_at b p n k))) d
+
+    pub set-fits : t ≡ true → whole_set (sort_at b p n k) (args_of b p n a m) ≡ sort (sort_at b p n k)
+    set-fits d = set-by ∙ ap (λ (c : Bool). need c Misfit (sort (sort_at b p n k))) d
+
+---------------------------------------------------------------- AsOp
+module _ (q : ℕ) (s : Sort) (ts : Sorts) where
+  as-by : {c d : Bool} → leb q 2 ≡ c → proper s ≡ d → qualified q s ts ≡ need c NoRank (need d Barred (cond (eqb q 0) (constant_array s ts) (whole_set s ts)))
   unfolding qualified
-  qualified-other h = ap (λ (c : Bool). need c NoRank (need (proper (sort_at b p n k)) Barred (constant_array (sort_at b p n k) (args_of b p n a m)))) (ne_eqb q 0 h)
+  as-by g h = ap₂ (λ (c d : Bool). need c NoRank (need d Barred (cond (eqb q 0) (constant_array s ts) (whole_set s ts)))) g h
 
-  module _ (z : q ≡ 0) {t : Bool} (et : t ≡ proper (sort_at b p n k)) where
-    qualified-by : qualified q (sort_at b p n k) (args_of b p n a m) ≡ need t Barred (constant_array (sort_at b p n k) (args_of b p n a m))
-    unfolding qualified
-    qualified-by = ap₂ (λ (c d : Bool). need c NoRank (need d Barred (constant_array (sort_at b p n k) (args_of b p n a m)))) (eq-eqb q 0 z) (sym et)
+  pub qualified-other : 3 ≤ q → qualified q s ts ≡ refused NoRank
+  qualified-other l = as-by (lt-leb q 2 (omega arith)) refl
 
-    pub qualified-barred : t ≡ false → qualified q (sort_at b p n k) (args_of b p n a m) ≡ refused Barred
-    qualified-barred e = qualified-by ∙ ap (λ (c : Bool). need c Barred (constant_array (sort_at b p n k) (args_of b p n a m))) e
+  module _ (l : q ≤ 2) {t : Bool} (et : t ≡ proper s) where
+    pub qualified-barred : t ≡ false → qualified q s ts ≡ refused Barred
+    qualified-barred d = as-by (le-leb q 2 l) (sym et ∙ d)
 
-    module _ (go : t ≡ true) where
-      qualified-on : qualified q (sort_at b p n k) (args_of b p n a m) ≡ constant_array (sort_at b p n k) (args_of b p n a m)
-      qualified-on = qualified-by ∙ ap (λ (c : Bool). need c Barred (constant_array (sort_at b p n k) (args_of b p n a m))) go
+    qualified-on : t ≡ true → {c : Bool} → eqb q 0 ≡ c → qualified q s ts ≡ cond c (constant_array s ts) (whole_set s ts)
+    qualified-on d h = as-by (le-leb q 2 l) (sym et ∙ d) ∙ ap (λ (c : Bool). cond c (constant_array s ts) (whole_set s ts)) h
 
-      pub qualified-count : (m ≡ 1 → ⊥) → qualified q (sort_at b p n k) (args_of b p n a m) ≡ refused Count
-      qualified-count h = qualified-on ∙ constant-count (sort_at b p n k) (store_of b p n) a m h
+    pub qualified-const : t ≡ true → q ≡ 0 → qualified q s ts ≡ constant_array s ts
+    qualified-const d z = qualified-on d (eq-eqb q 0 z)
 
-      module _ (e : m ≡ 1) {array_test : Bool} (ea : array_test ≡ eqb (kind_of (sort_at b p n k)) 8) where
-        one-arg : args_of b p n a m ≡ sort_at b p n (u16_at a 3) then end
-        unfolding sort_at sorts_of numbers_at
-        one-arg = ap (args_of b p n a) e
-
-        pub qualified-kind : array_test ≡ false → qualified q (sort_at b p n k) (args_of b p n a m) ≡ refused Misfit
-        qualified-kind d =
-            qualified-on ∙ ap (constant_array (sort_at b p n k)) one-arg ∙ constant-kind (sort_at b p n k) (sort_at b p n (u16_at a 3)) (eqb-false (kind_of (sort_at b p n k)) 8 (sym ea ∙ d))
-
-        module _ (array_on : array_test ≡ true) (r : SortRecord) (h : EntryHas b p k r) where
-          array-read : EntryIs b p n k r
-          array-read = h n own.usable.stored own.known
-
-          x : sort_number r.kind ≡ 8
-          x = array-read.kind ∙ eqb-true (kind_of (sort_at b p n k)) 8 (sym ea ∙ array_on)
-
-          array_count : r.parts.count ≡ 2
-          array_count = array-two own.usable.stored own.known array-read x
-
-          pub element_place : r.parts.at + 4 ≤ length b
-          element_place = omega (arith, array-read.place.list, array_count)
-
-          module _ {i j : ℕ} (ei : i ≡ u16_at b (r.parts.at + 2)) (ej : j ≡ u16_at a 3) where
-            element-below : i < n
-            element-below =
-                let y : r.parts.at + 2 * 1 ≡ r.parts.at + 2 = omega arith in
-                omega (arith, ei, ap (u16_at b) y, array-read.below 1 (omega (arith, array_count)), own.known)
-
-            argument-below : j < n
-            argument-below = subst (λ (y : ℕ). y < n) (sym ej) (f.over.below 0 (omega arith))
-
-            array-is : sort_at b p n k ≡ array (sort_at b p n (u16_at b r.parts.at)) (sort_at b p n i)
-            array-is = array-sort own.usable.stored own.known array-read x ∙ ap (λ (y : ℕ). array (sort_at b p n (u16_at b r.parts.at)) (sort_at b p n y)) (sym ei)
-
-            const-is : (s u t : Sort) → constant_array (array s u) (t then end) ≡ need (same t u) Misfit (sort (array s u))
-            const-is s u t = ap (λ (c : Bool). need (c && same t u) Misfit (sort (array s u))) (same_refl (array s u))
-
-            qualified-array : qualified q (sort_at b p n k) (args_of b p n a m) ≡ need (eqb j i) Misfit (sort (sort_at b p n k))
-            qualified-array =
-                qualified-on ∙ ap₂ constant_array array-is (one-arg ∙ ap (λ (y : ℕ). sort_at b p n y then end) (sym ej))
-                ∙ const-is (sort_at b p n (u16_at b r.parts.at)) (sort_at b p n i) (sort_at b p n j)
-                ∙ ap₂ (λ (c : Bool) (s : Sort). need c Misfit (sort s))
-                (numbers-same j i own.usable.stored own.usable.distinct argument-below element-below) (sym array-is)
-
-            pub qualified-misfit : (j ≡ i → ⊥) → qualified q (sort_at b p n k) (args_of b p n a m) ≡ refused Misfit
-            qualified-misfit d = qualified-array ∙ ap (λ (c : Bool). need c Misfit (sort (sort_at b p n k))) (ne_eqb j i d)
-
-            pub qualified-fits : j ≡ i → qualified q (sort_at b p n k) (args_of b p n a m) ≡ sort (sort_at b p n k)
-            qualified-fits d = qualified-array ∙ ap (λ (c : Bool). need c Misfit (sort (sort_at b p n k))) (eq-eqb j i d)
+    pub qualified-set : t ≡ true → 0 < q → qualified q s ts ≡ whole_set s ts
+    qualified-set d z = qualified-on d (ne_eqb q 0 (λ h. omega arith))

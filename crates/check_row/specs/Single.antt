@@ -1,4 +1,4 @@
--- What the functions on constants, Vars, Lets and (as const) ask and promise.
+-- What the functions on constants, Vars, Lets and AsOps ask and promise.
 use Rattle.std.specs.Prelude.{ℕ, ◌+◌, ◌*◌, ◌≤◌, not, cond, List, length, Result, eqb}
 use Rattle.record.specs.Sort.{Sort, int, real, string, reglan, bitvec}
 use Rattle.store.specs.Good.{Good}

@@ -1,9 +1,9 @@
-// The checked sort of a constant, a Var, a Let and an (as const).
+// The checked sort of a constant, a Var, a Let and an AsOp.
 ghost use Rattle.std.specs.Prelude.{◌≡◌, ◌<◌};
 ghost use Rattle.record.specs.Kinds.{term_number};
 ghost use Rattle.store.specs.Changes.{Same};
 ghost use Rattle.matching_tables.specs.Words.{sort_in};
-ghost use Rattle.check_rules.specs.Checked.{carried, qualified};
+ghost use Rattle.check_rules.specs.Checked.{carried, constant_array, qualified, whole_set};
 ghost use Rattle.row_answer.specs.Answer.{Answered};
 ghost use Rattle.check_operator.specs.Contract.{ArgsAsk};
 ghost use Rattle.check_row.specs.Single.{Reads, constant_verdict, LetHas, QualifiedAsks, variable_verdict};
@@ -72,18 +72,12 @@ pub fn checked_let(entries: Entries<'_>, args: &Args<'_>) -> Row
     Ok(args.number(args.count - 1))
 }
 
-// (as const) with the sort k: k, where it is an Array and the one argument is of its element sort; NoRank for the other
-// operators, Barred where k is not proper, Count, Misfit.
-pub fn checked_as(sorts: &Sorts<'_>, number: usize, k: usize, args: &Args<'_>) -> Row
+// An (as const) with the sort k: k, where it is an Array and the one argument is of its element sort; Count where there is not
+// one argument, else Misfit.
+fn as_const(sorts: &Sorts<'_>, k: usize, args: &Args<'_>) -> Row
     requires { QualifiedAsks sorts.now k args.now }
-    ensures { Reads sorts.now (qualified number (sort_in sorts.now k) (args_among sorts.now args.now)) result }
+    ensures { Reads sorts.now (constant_array (sort_in sorts.now k) (args_among sorts.now args.now)) result }
 {
-    let Ok(AsOp::Const) = AsOp::try_from(number) else {
-        return Err(Cause::NoRank);
-    };
-    if !is_proper(sorts, k) {
-        return Err(Cause::Barred);
-    }
     if args.count != 1 {
         return Err(Cause::Count);
     }
@@ -95,4 +89,36 @@ pub fn checked_as(sorts: &Sorts<'_>, number: usize, k: usize, args: &Args<'_>) -
         return Err(Cause::Misfit);
     }
     Ok(k)
+}
+
+// A SetEmpty or SetUniverse with the sort k: k, where it is a Set; Count where there is an argument, else Misfit.
+fn as_set(sorts: &Sorts<'_>, k: usize, args: &Args<'_>) -> Row
+    requires { QualifiedAsks sorts.now k args.now }
+    ensures { Reads sorts.now (whole_set (sort_in sorts.now k) (args_among sorts.now args.now)) result }
+{
+    if args.count != 0 {
+        return Err(Cause::Count);
+    }
+    if sorts.kind(k) != SortKind::Set {
+        return Err(Cause::Misfit);
+    }
+    Ok(k)
+}
+
+// An AsOp with the sort k: NoRank for a number that no AsOp has, Barred where k is not proper, else k where its own rule takes k
+// and the arguments, or the cause that this rule gives, Count or Misfit.
+pub fn checked_as(sorts: &Sorts<'_>, number: usize, k: usize, args: &Args<'_>) -> Row
+    requires { QualifiedAsks sorts.now k args.now }
+    ensures { Reads sorts.now (qualified number (sort_in sorts.now k) (args_among sorts.now args.now)) result }
+{
+    let Ok(operator) = AsOp::try_from(number) else {
+        return Err(Cause::NoRank);
+    };
+    if !is_proper(sorts, k) {
+        return Err(Cause::Barred);
+    }
+    match operator {
+        AsOp::Const => as_const(sorts, k, args),
+        AsOp::SetEmpty | AsOp::SetUniverse => as_set(sorts, k, args),
+    }
 }

@@ -1,5 +1,6 @@
--- WHAT A.1 OF DOCUMENT 02 ADDS, exactly: an operator's verdict over the ranks of document 01 is its verdict over all ranks, refusals with their
--- cause, but for the mixtures that A.1 names, which were 26 and have a sort now; and a term without A.1's operators keeps its verdict.
+-- WHAT DOCUMENT 02 ADDS, exactly: an operator's verdict over the ranks of document 01 is its verdict over all ranks, refusals with their cause,
+-- but for the mixtures that A.1 names, which were 26 and have a sort now, and for the operators that A.2 names, which were 24 and have the verdict
+-- that A.2 says; and a term without these operators, SetEmpty and SetUniverse keeps its verdict.
 use Rattle.std.specs.Prelude.{ℕ, ◌≤◌, ◌≡◌, refl, ◌↔◌, ◌⊎◌, Bool, true, false, not, cond, ◌&&◌, ◌||◌, List, [], ◌∷◌, ◌++◌, eqb, leb}
 use Rattle.std.proofs.Common.{sym, ap, subst, ◌∙◌, inl, inr, ⊎_elim, arith, eqb-true, leb-true, le-leb, ltb-true}
 use Rattle.std.proofs.lemmas.Bool.{false≢true}
@@ -8,7 +9,7 @@ use Rattle.std.proofs.Math.Option.{Option, none, some}
 use Rattle.record.specs.Sort.{Sort, Sorts, end, bool, int, real, count}
 use Rattle.record.specs.Cases.{three-right, and_left, and_right, and-true, or_left, or_right, or-first, or-second, or_cases, not-true, not-true-false, by_test, by_option, none-some, some_inj, clash}
 use Rattle.sheet.specs.Sheet.{Binding}
-use Rattle.row_rules.specs.declared.Cause.TheVariants.{Misfit}
+use Rattle.row_rules.specs.declared.Cause.TheVariants.{NoRank, Misfit}
 use Rattle.row_rules.specs.Verdict.{sort, refused}
 use Rattle.row_rules.specs.Term.{Site, Term, Terms, term, stop, ◌also◌, constants_of, over_parts, verdict_of, verdicts_of}
 use Rattle.row_rules.proofs.OutcomeLaws.{sort-inj}
@@ -17,7 +18,10 @@ use Rattle.check_rules.specs.Forms.{Numbers, Stands, mixed, takes, sum_of, all_s
 use Rattle.check_rules.specs.FormLaws.{stands-only, stands-when, stands-two, computes-only, int-real}
 use Rattle.check_rules.specs.Rank.{Rank, rank, computed, counts, some_counts, fit, first_fit}
 use Rattle.check_rules.specs.Ranks.{RankTable, done, row, enlarged, ranks_in, first_in, standard, one, two, more, numbers, mixture, smt_lib, document01}
-use Rattle.check_rules.specs.Added.{Mixes, sum, order, quotient, mixing, spared, spared_all}
+use Rattle.check_rules.specs.Added.{Mixes, sum, order, quotient, mixing, Relates, relational, named, touched, spared, spared_all}
+use Rattle.check_rules.specs.Parts.{EachValue}
+use Rattle.check_rules.proofs.Runs.{run, run-at}
+use Rattle.check_rules.proofs.RelationTheorems.{relates-exactly, relates-sort}
 use Rattle.check_rules.specs.Checked.{nonempty, ranked, operated, checked, check}
 use Rattle.check_rules.proofs.FitLaws.{by_ranked, ranked-miscounted, ranked-par, ranked-values, first_fit-find, some_counts-when, fit-fits, fit-counts}
 use Rattle.check_rules.specs.RankLaws.{well_rank}
@@ -25,6 +29,7 @@ use Rattle.check_rules.specs.Fits.{Fits}
 use Rattle.check_rules.proofs.RankTheorems.{counts-more}
 use Rattle.check_rules.proofs.RefusalLaws.{by_equal}
 use Rattle.check_rules.proofs.NumberTheorems.{are-stand, ints-only, reals-only, numbers-values, two_fits, as-many-fit, each-order, smt_lib-orders, sum-accepted, sub-accepted, divide-accepted, order-accepted}
+use Rattle.check_rules.proofs.RelationRefusals.{RelationVerdict, relation-verdict}
 use Rattle.check_rules.proofs.More.{first_fit-more, some_counts-more, nonempty-more, smt_lib-more}
 
 ---------------------------------------------------------------- ranks behind others
@@ -83,50 +88,66 @@ ranks-later (row a b rs t) n =
     by_test (leb a n && leb n b) (λ q. rw q (sym (append-nil rs))) (λ q. rw q (ranks-later t n))
 ranks-later (enlarged a b rs qs t) n = by_test (leb a n && leb n b) (λ q. rw q refl) (λ q. rw q (ranks-later t n))
 
--- Only rows of operators that A.1 names are enlarged, by a test of the table.
-abbrev mixing_row : ℕ → ℕ → Bool
-mixing_row a b = (eqb a b && mixing a) || (leb 17 a && leb b 20)
+-- Only rows of operators that the requests name are enlarged, by a test of the table: a row of one, or one of the orders, or of A.2's.
+abbrev named_row : ℕ → ℕ → Bool
+named_row a b = (eqb a b && mixing a) || ((leb 17 a && leb b 20) || (leb 118 a && leb b 134))
 
-unfoldable all_mixing : RankTable → Bool
-all_mixing done = true
-all_mixing (row a b rs t) = all_mixing t
-all_mixing (enlarged a b rs qs t) = mixing_row a b && all_mixing t
+unfoldable all_named : RankTable → Bool
+all_named done = true
+all_named (row a b rs t) = all_named t
+all_named (enlarged a b rs qs t) = named_row a b && all_named t
 
-row-mixing : (a b n : ℕ) → mixing_row a b ≡ true → (leb a n && leb n b) ≡ true → mixing n ≡ true
-row-mixing a b n h k =
-    let lo = leb-true a n (and_left (leb a n) (leb n b) k) in
-    let hi = leb-true n b (and_right (leb a n) (leb n b) k) in
-    or_cases (eqb a b && mixing a) (leb 17 a && leb b 20) h
+row-named : (a b n : ℕ) → named_row a b ≡ true → (leb a n && leb n b) ≡ true → named n ≡ true
+row-named a b n h k =
+    or_cases (eqb a b && mixing a) ((leb 17 a && leb b 20) || (leb 118 a && leb b 134)) h
     (λ q. let e = eqb-true a b (and_left (eqb a b) (mixing a) q) in
-    let z : n ≡ a = omega arith in rw z (and_right (eqb a b) (mixing a) q))
-    (λ q. let x = leb-true 17 a (and_left (leb 17 a) (leb b 20) q) in
-    let y = leb-true b 20 (and_right (leb 17 a) (leb b 20) q) in
-    or-second (eqb n 10 || eqb n 11 || eqb n 12 || eqb n 14) (leb 17 n && leb n 20) (and-true (leb 17 n) (leb n 20) (le-leb 17 n (omega arith)) (le-leb n 20 (omega arith))))
+    let z : n ≡ a = omega (arith, lo, hi, e) in or-first (mixing n) (relational n) (rw z (and_right (eqb a b) (mixing a) q)))
+    (λ h. or_cases (leb 17 a && leb b 20) (leb 118 a && leb b 134) h
+    (λ q. or-first (mixing n) (relational n) (or-second (eqb n 10 || eqb n 11 || eqb n 12 || eqb n 14) (leb 17 n && leb n 20) (inside 17 20 q)))
+    (λ q. or-second (mixing n) (relational n) (inside 118 134 q)))
+  where
+    lo : a ≤ n
+    lo = leb-true a n (and_left (leb a n) (leb n b) k)
 
-later-mixing : (t : RankTable) (n : ℕ) → all_mixing t ≡ true → mixing n ≡ false → later_in t n ≡ []
-unfolding later_in all_mixing
-later-mixing done n e u = refl
-later-mixing (row a b rs t) n e u = by_test (leb a n && leb n b) (λ q. rw q refl) (λ q. rw q (later-mixing t n e u))
-later-mixing (enlarged a b rs qs t) n e u =
+    hi : n ≤ b
+    hi = leb-true n b (and_right (leb a n) (leb n b) k)
+
+    inside : (c d : ℕ) → (leb c a && leb b d) ≡ true → (leb c n && leb n d) ≡ true
+    inside c d q =
+        let x = leb-true c a (and_left (leb c a) (leb b d) q) in
+        let y = leb-true b d (and_right (leb c a) (leb b d) q) in
+        and-true (leb c n) (leb n d) (le-leb c n (omega (arith, lo))) (le-leb n d (omega (arith, hi)))
+
+later-named : (t : RankTable) (n : ℕ) → all_named t ≡ true → named n ≡ false → later_in t n ≡ []
+unfolding later_in all_named
+later-named done n e u = refl
+later-named (row a b rs t) n e u = by_test (leb a n && leb n b) (λ q. rw q refl) (λ q. rw q (later-named t n e u))
+later-named (enlarged a b rs qs t) n e u =
     by_test (leb a n && leb n b)
-    (λ q. clash (row-mixing a b n (and_left (mixing_row a b) (all_mixing t) e) q) u)
-    (λ q. rw q (later-mixing t n (and_right (mixing_row a b) (all_mixing t) e) u))
+    (λ q. clash (row-named a b n (and_left (named_row a b) (all_named t) e) q) u)
+    (λ q. rw q (later-named t n (and_right (named_row a b) (all_named t) e) u))
 
--- AN OPERATOR THAT A.1 DOES NOT NAME has the ranks of document 01.
-pub others-stay : (n : ℕ) → mixing n ≡ false → smt_lib n ≡ document01 n
-unfolding smt_lib document01 standard all_mixing
-others-stay n u = ranks-later standard n ∙ ap (first_in standard n ++◌) (later-mixing standard n refl u) ∙ append-nil (first_in standard n)
+-- AN OPERATOR THAT NEITHER A.1 NOR A.2 NAMES has the ranks of document 01.
+pub others-stay : (n : ℕ) → named n ≡ false → smt_lib n ≡ document01 n
+unfolding smt_lib document01 standard all_named
+others-stay n u = ranks-later standard n ∙ ap (first_in standard n ++◌) (later-named standard n refl u) ∙ append-nil (first_in standard n)
+
+-- AN OPERATOR ON SETS AND RELATIONS was refused by 24 before, whatever its arguments.
+pub relates-before : (n : ℕ) (ts : Sorts) → 118 ≤ n → n ≤ 134 → operated document01 n ts ≡ refused NoRank
+unfolding operated ranked document01 run
+relates-before n ts lo hi =
+    rw (not-true (nonempty (document01 n)) (run-at (λ m. not (nonempty (document01 m))) 118 17 n refl lo (omega arith))) refl
 
 ---------------------------------------------------------------- one operator
-abbrev Added : ℕ → Sorts → Type 0
-Added n ts =
+abbrev Mixed : ℕ → Sorts → Type 0
+Mixed n ts =
     (operated smt_lib n ts ≡ operated document01 n ts)
     ⊎ ((operated document01 n ts ≡ refused Misfit) × ((s : Sort) × (operated smt_lib n ts ≡ sort s) × Mixes n ts s))
 
 module _ (ts : Sorts) where
   -- Over two ranks of one sort each, as A.1's operators have them.
   added : (n : ℕ) (rs qs : List Rank) → smt_lib n ≡ rs ++ qs → document01 n ≡ rs → nonempty rs ≡ true → (some_counts qs ts ≡ true → some_counts rs ts ≡ true)
-      → ((s : Sort) → first_fit qs ts ≡ some s → Mixes n ts s) → Added n ts
+      → ((s : Sort) → first_fit qs ts ≡ some s → Mixes n ts s) → Mixed n ts
   unfolding operated
   added n rs qs e d some-rank covered mixes =
       rw (e, d) (⊎_elim (λ q. inl q) (λ q. let (s, a, f) = q.1 in inr (q.0, (s, a, mixes s f))) (ranked-added rs qs ts some-rank covered))
@@ -141,13 +162,13 @@ module _ (ts : Sorts) where
 
   -- 10 Add, 12 Mult, and the four orders: two or more; 11 Sub: one or more.
   added-two : (n : ℕ) (f : Sort → Sort) (r : Sort) → smt_lib n ≡ numbers two f ++ mixture r → document01 n ≡ numbers two f
-      → (Numbers ts → Stands int ts → Stands real ts → Mixes n ts r) → Added n ts
+      → (Numbers ts → Stands int ts → Stands real ts → Mixes n ts r) → Mixed n ts
   added-two n f r e d mixes =
       added n (numbers two f) (mixture r) e d refl
       (λ q. two-covered int (f int) r _ (mixture-counts r ts q))
       (λ s q. let (a, b, c, u) = mixture-gives r ts s q in subst (λ (x : Sort). Mixes n ts x) (sym u) (mixes a b c))
 
-  added-sub : Added 11 ts
+  added-sub : Mixed 11 ts
   unfolding smt_lib document01 some_counts counts
   added-sub =
       added 11 (numbers one (λ a. a)) (mixture real) refl refl refl
@@ -155,7 +176,7 @@ module _ (ts : Sorts) where
       (λ s q. let (a, b, c, u) = mixture-gives real ts s q in sum (inr (inl refl)) a b c u)
 
   -- 14 RealDiv: all Int before the mixture.
-  added-quotient : Added 14 ts
+  added-quotient : Mixed 14 ts
   unfolding smt_lib document01 first_fit well_rank some_counts counts ground
   added-quotient =
       added 14 (more (two real) real) (rank true false (two int) real ∷ mixture real) refl refl refl
@@ -204,27 +225,42 @@ module _ (ts : Sorts) where
       rw x (ranked-none (more (two real) real) (two-covered real real real [] c) N
       (rw (fit-none (rank true false (two real) real) real int refl (λ s F. ((two_fits real real refl refl refl ts s).0 F).1) (λ a. ((reals-only ts).0 a).1) i) refl))
 
-  -- WHAT A.1 CHANGES OF AN OPERATOR: nothing, neither a sort nor a cause, but that a mixture which it names has its sort where it was 26.
+  -- WHAT THE REQUESTS CHANGE OF AN OPERATOR: nothing, neither a sort nor a cause, but that a mixture which A.1 names has its sort where it was
+  -- 26, and that an operator which A.2 names had 24, and has the verdict that A.2 says.
   pub op-added : (n : ℕ) → (operated smt_lib n ts ≡ operated document01 n ts)
-      ⊎ ((operated document01 n ts ≡ refused Misfit) × ((s : Sort) × (operated smt_lib n ts ≡ sort s) × Mixes n ts s))
+      ⊎ (((operated document01 n ts ≡ refused Misfit) × ((s : Sort) × (operated smt_lib n ts ≡ sort s) × Mixes n ts s))
+      ⊎ ((118 ≤ n) × (n ≤ 134) × (operated document01 n ts ≡ refused NoRank) × RelationVerdict n ts))
   unfolding operated smt_lib document01
   op-added n =
-      by_equal n 10 (λ q e. rw e (added-two 10 (λ a. a) real refl refl (λ a b c. sum (inl refl) a b c refl)))
-      (λ q10 d10. by_equal n 11 (λ q e. rw e added-sub)
-      (λ q11 d11. by_equal n 12 (λ q e. rw e (added-two 12 (λ a. a) real refl refl (λ a b c. sum (inr (inr refl)) a b c refl)))
-      (λ q12 d12. by_equal n 14 (λ q e. rw e added-quotient)
+      by_equal n 10 (λ q e. by_mixture (rw e (added-two 10 (λ a. a) real refl refl (λ a b c. sum (inl refl) a b c refl))))
+      (λ q10 d10. by_equal n 11 (λ q e. by_mixture (rw e added-sub))
+      (λ q11 d11. by_equal n 12 (λ q e. by_mixture (rw e (added-two 12 (λ a. a) real refl refl (λ a b c. sum (inr (inr refl)) a b c refl))))
+      (λ q12 d12. by_equal n 14 (λ q e. by_mixture (rw e added-quotient))
       (λ q14 d14. by_test (leb 17 n && leb n 20)
       (λ q.
       let lo = leb-true 17 n (and_left (leb 17 n) (leb n 20) q) in
       let hi = leb-true n 20 (and_right (leb 17 n) (leb n 20) q) in
-      added-two n (λ a. bool) bool (smt_lib-orders n lo hi) (each-order document01 _ refl refl refl refl n lo hi) (λ a b c. order lo hi a b c refl))
-      (λ q. inl (ap (λ (rs : List Rank). ranked rs ts) (others-stay n (rw (q10, q11, q12, q14, q) refl))))))))
+      by_mixture (added-two n (λ a. bool) bool (smt_lib-orders n lo hi) (each-order document01 _ refl refl refl refl n lo hi) (λ a b c. order lo hi a b c refl)))
+      (λ q17. by_test (relational n)
+      (λ q.
+      let lo = leb-true 118 n (and_left (leb 118 n) (leb n 134) q) in
+      let hi = leb-true n 134 (and_right (leb 118 n) (leb n 134) q) in inr (inr (lo, hi, relates-before n ts lo hi, relation-verdict n ts lo hi)))
+      (λ q. inl (ap (λ (rs : List Rank). ranked rs ts) (others-stay n (rw (q10, q11, q12, q14, q17, q) refl)))))))))
+    where
+      by_mixture : {n : ℕ} → Mixed n ts → (operated smt_lib n ts ≡ operated document01 n ts)
+          ⊎ (((operated document01 n ts ≡ refused Misfit) × ((s : Sort) × (operated smt_lib n ts ≡ sort s) × Mixes n ts s))
+          ⊎ ((118 ≤ n) × (n ≤ 134) × (operated document01 n ts ≡ refused NoRank) × RelationVerdict n ts))
+      by_mixture (inl e) = inl e
+      by_mixture (inr g) = inr (inl g)
 
-  -- SO AN OPERATOR IS ACCEPTED with a sort exactly where it was, or where A.1 says so.
-  pub added-exactly : (n : ℕ) (s : Sort) → operated smt_lib n ts ≡ sort s ↔ (operated document01 n ts ≡ sort s) ⊎ Mixes n ts s
+  -- SO AN OPERATOR IS ACCEPTED with a sort exactly where it was, or where A.1 or A.2 says so.
+  pub added-exactly : (n : ℕ) (s : Sort) → operated smt_lib n ts ≡ sort s
+      ↔ (operated document01 n ts ≡ sort s) ⊎ (Mixes n ts s ⊎ (EachValue ts × Relates n ts s))
   added-exactly n s = (
-    λ h. ⊎_elim (λ e. inl (sym e ∙ h)) (λ g. let (u, e, M) = g.1 in inr (subst (λ (x : Sort). Mixes n ts x) (sort-inj (sym e ∙ h)) M)) (op-added n),
-    ⊎_elim (smt_lib-more n ts s) (given n),
+    λ h. ⊎_elim (λ e. inl (sym e ∙ h))
+        (⊎_elim (λ g. let (u, e, M) = g.1 in inr (inl (subst (λ (x : Sort). Mixes n ts x) (sort-inj (sym e ∙ h)) M)))
+        (λ g. inr (inr ((relates-exactly ts s n g.0 g.1).0 h)))) (op-added n),
+    ⊎_elim (smt_lib-more n ts s) (⊎_elim (given n) (λ g. relates-sort ts s n g.0 g.1)),
   )
     where
       given : (n : ℕ) → Mixes n ts s → operated smt_lib n ts ≡ sort s
@@ -237,28 +273,28 @@ module _ (ts : Sorts) where
       given n (quotient x a i c e) = rw x ((divide-accepted ts s).1 (a, c, e))
 
 ---------------------------------------------------------------- terms
-record-spared : (z : Site) → (eqb z.kind 7 && mixing z.number) ≡ false → checked smt_lib z ≡ checked document01 z
+record-spared : (z : Site) → (eqb z.kind 7 && named z.number) ≡ false → checked smt_lib z ≡ checked document01 z
 unfolding checked operated
 record-spared z h =
     by_test (eqb z.kind 7)
     (λ q. rw (q, others-stay z.number (rw q at h)) refl)
     (λ q. rw q refl)
 
-over-spared : (k n : ℕ) (o : Sort) (bs : List Binding) (cs is : List (Option ℕ)) (a b : Option Sorts) → (eqb k 7 && mixing n) ≡ false
+over-spared : (k n : ℕ) (o : Sort) (bs : List Binding) (cs is : List (Option ℕ)) (a b : Option Sorts) → (eqb k 7 && named n) ≡ false
     → over_parts (checked smt_lib) k n o bs cs is a b ≡ over_parts (checked document01) k n o bs cs is a b
 over-spared k n o bs cs is none b h = refl
 over-spared k n o bs cs is (some ts) none h = refl
 over-spared k n o bs cs is (some ts) (some js) h = record-spared (record { kind = k; number = n; own = o; args = ts; bindings = bs; constants = cs; indices = is }) h
 
--- A TERM WITHOUT THEM HAS THE VERDICT THAT IT HAD, sort or refusal with its cause.
+-- A TERM WITHOUT THEM, SETEMPTY AND SETUNIVERSE HAS THE VERDICT THAT IT HAD, sort or refusal with its cause.
 mutual
   unfolding spared check verdict_of
 
   pub term-spared : (t : Term) → spared t ≡ true → check smt_lib t ≡ check document01 t
   term-spared (term k a n o ts bs ns is) h =
-      let (p, q, r) = three-right (not (eqb k 7 && mixing n)) (spared_all ts) (spared_all is) h in
+      let (p, q, r) = three-right (not (touched k n)) (spared_all ts) (spared_all is) h in
       rw (terms-spared ts q, terms-spared is r)
-      (over-spared k n o bs (constants_of ts) (constants_of is) (verdicts_of (checked document01) ts) (verdicts_of (checked document01) is) (not-true (eqb k 7 && mixing n) p))
+      (over-spared k n o bs (constants_of ts) (constants_of is) (verdicts_of (checked document01) ts) (verdicts_of (checked document01) is) (or_left (eqb k 7 && named n) (eqb k 12 && not (eqb n 0)) (not-true (touched k n) p)))
 
   terms-spared : (ts : Terms) → spared_all ts ≡ true → verdicts_of (checked smt_lib) ts ≡ verdicts_of (checked document01) ts
   terms-spared stop h = refl

@@ -5,7 +5,7 @@
 use Rattle.std.specs.Prelude.{◌≡◌, Bool, true, false, not, ◌&&◌, ◌||◌, eqb}
 use Rattle.std.proofs.Math.Option.{some}
 use Rattle.record.specs.Sort.{Sort, Sorts, var, par, node, end, ◌then◌, int, real}
-use Rattle.check_rules.specs.Forms.{Form, concat, mixed, all_same}
+use Rattle.check_rules.specs.Forms.{Form, concat, mixed, all_same, insert, tupling, transpose, join, product}
 use Rattle.check_rules.specs.Rank.{Rank, rank, computed, stretched, patterns, fit}
 
 -- NO LIST OF ARGUMENT SORTS FITS BOTH.
@@ -29,10 +29,15 @@ unfoldable mutual
   differ_any (p then ps) (q then qs) = differ p q || differ_any ps qs
 
 ---------------------------------------------------------------- a rank of patterns and a form
--- All Int or all Real is not mixed. BvConcat stands alone.
+-- All Int or all Real is not mixed. The other forms stand alone.
 abbrev pub unlike : Sorts → Form → Bool
 unlike ps concat = false
 unlike ps (mixed r) = all_same int ps || all_same real ps
+unlike ps insert = false
+unlike ps tupling = false
+unlike ps transpose = false
+unlike ps join = false
+unlike ps product = false
 
 ---------------------------------------------------------------- the test
 unfoldable pub disjoint : Rank → Rank → Bool

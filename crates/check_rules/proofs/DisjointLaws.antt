@@ -10,7 +10,7 @@ use Rattle.substitution.specs.Substitution.{Map, empty, apply, apply_all}
 use Rattle.substitution.specs.Premises.{proper, parless_all}
 use Rattle.substitution.specs.Matching.{matches_all}
 use Rattle.substitution.proofs.MatchingLaws.{matching_all}
-use Rattle.check_rules.specs.Forms.{Form, concat, mixed, Stands, Computes, all_same}
+use Rattle.check_rules.specs.Forms.{Form, concat, mixed, Stands, Computes, all_same, insert, tupling, transpose, join, product}
 use Rattle.check_rules.specs.FormLaws.{computes-only, int-real}
 use Rattle.check_rules.specs.Rank.{Rank, rank, computed, repeated, stretched, patterns, same_count, every_name, rank_answer, fit}
 use Rattle.check_rules.specs.RankLaws.{closed, patterns-parless, well_rank, stretched-same}
@@ -173,6 +173,11 @@ unlike-sound θ b ps ts u (mixed r) d h c =
     or_cases (all_same int ps) (all_same real ps) d
     (λ t. int-real (are-stands θ int real (patterns b ps ts) ts refl (patterns-are b int ps ts t) h c.2))
     (λ t. int-real (sym (are-stands θ real int (patterns b ps ts) ts refl (patterns-are b real ps ts t) h c.1)))
+unlike-sound θ b ps ts u insert d h c = false≢true d
+unlike-sound θ b ps ts u tupling d h c = false≢true d
+unlike-sound θ b ps ts u transpose d h c = false≢true d
+unlike-sound θ b ps ts u join d h c = false≢true d
+unlike-sound θ b ps ts u product d h c = false≢true d
 
 ---------------------------------------------------------------- the test
 -- RANKS THAT THE TEST TELLS APART fit no list together.

@@ -1,7 +1,7 @@
 -- EVERY CAUSE OF THE CHECKED ROW of the operators that take Int and Real mixed (document 02, A.1), exactly when it is given: 25 for the count alone,
 -- else 26 where an argument is neither Int nor Real. Never 24, 28 or 27.
 use Rattle.std.specs.Prelude.{ℕ, ◌≤◌, ◌≡◌, refl, ◌↔◌, ◌⊎◌, true, false, [], ◌∷◌}
-use Rattle.std.proofs.Common.{sym, ap, ◌∙◌, ⊎_elim, true≢false, arith, ltb-true}
+use Rattle.std.proofs.Common.{⊎_elim, arith, ltb-true}
 use Rattle.std.proofs.lemmas.Bool.{false≢true}
 use Rattle.record.specs.Sort.{Sort, Sorts, end, bool, int, real, count}
 use Rattle.record.specs.Cases.{or_cases, or-first}
@@ -12,11 +12,8 @@ use Rattle.check_rules.specs.Rank.{rank, computed, counts, some_counts}
 use Rattle.check_rules.specs.Ranks.{one, two, smt_lib}
 use Rattle.check_rules.specs.Checked.{nonempty, operated, checked}
 use Rattle.check_rules.specs.Refusals.{Exactly}
-use Rattle.check_rules.proofs.RankSound.{smt_lib-sound}
-use Rattle.check_rules.proofs.RankTheorems.{accepted-smt_lib, counts-more}
-use Rattle.check_rules.proofs.PartTheorems.{each_value-exactly}
-use Rattle.check_rules.proofs.RefusalLaws.{exactly-same}
-use Rattle.check_rules.proofs.RefusalTheorems.{some_takes-exactly, op-refusals}
+use Rattle.check_rules.proofs.RankTheorems.{counts-more}
+use Rattle.check_rules.proofs.RefusalTheorems.{table-refusals}
 use Rattle.check_rules.proofs.NumberTheorems.{smt_lib-orders, sum-accepted, sub-accepted, divide-accepted, order-accepted}
 
 -- An operator that is accepted with k numbers or more and nothing else, and whose ranks take k or more.
@@ -25,14 +22,9 @@ numbers-refusals : (n k : ℕ) (f : Sorts → Sort) → nonempty (smt_lib n) ≡
     → ((ts : Sorts) (s : Sort) → operated smt_lib n ts ≡ sort s ↔ Numbers ts × (k ≤ count ts) × (s ≡ f ts))
     → (z : Site) → z.kind ≡ 7 → z.number ≡ n → Exactly (checked smt_lib z) Unit Unit (k ≤ count z.args) (Numbers z.args) Unit
 numbers-refusals n k f some C A z e m =
-    exactly-same (op-refusals smt_lib z (smt_lib-sound z.number) e)
-    (λ h. tt, λ h. rw m (λ q. true≢false (sym some ∙ ap nonempty q)))
-    (rw m (λ T. (C z.args).0 ((some_takes-exactly (smt_lib n) z.args).1 T), λ c. (some_takes-exactly (smt_lib n) z.args).0 ((C z.args).1 c)))
-    (λ T. rw m (
-      λ h. ((A z.args h.1.0).0 ((accepted-smt_lib n z.args h.1.0).1 ((each_value-exactly z.args).1 h.0, h.1.1))).0,
-      λ N. let c = (C z.args).0 ((some_takes-exactly (smt_lib n) z.args).1 (rw m at T)) in
-          let (v, F) = (accepted-smt_lib n z.args (f z.args)).0 ((A z.args (f z.args)).1 (N, c, refl)) in
-          ((each_value-exactly z.args).0 v, (f z.args, F)),
+    table-refusals z e (rw m some) (rw m (C z.args)) (λ c. rw m (
+      λ h. ((A z.args h.0).0 h.1).0,
+      λ N. (f z.args, (A z.args (f z.args)).1 (N, c, refl)),
     ))
 
 ---------------------------------------------------------------- counts

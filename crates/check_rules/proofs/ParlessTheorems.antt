@@ -4,7 +4,7 @@ use Rattle.std.specs.Prelude.{ℕ, suc, ◌+◌, ◌*◌, ◌-◌, ◌≡◌, re
 use Rattle.std.proofs.lemmas.Bool.{false≢true}
 use Rattle.std.proofs.Math.Option.{Option, none, some}
 use Rattle.std.proofs.Math.Dec.{eqb}
-use Rattle.record.specs.Sort.{Sort, Sorts, var, par, node, end, ◌then◌, bool, int, reglan, array, number_in, count, same}
+use Rattle.record.specs.Sort.{Sort, Sorts, var, par, node, end, ◌then◌, bool, int, reglan, array, set, number_in, count, same}
 use Rattle.record.specs.Cases.{and_left, and_right, conj, and-true, by_test, by_option, none-some, some_inj}
 use Rattle.substitution.specs.Substitution.{Map, empty, bind, find, apply, apply_all}
 use Rattle.substitution.proofs.SubstitutionLaws.{proper-parless}
@@ -17,12 +17,13 @@ use Rattle.row_rules.specs.Lists.{firsts, others, remaining, binding_sorts}
 use Rattle.row_rules.specs.Term.{Site}
 use Rattle.row_rules.specs.Parless.{ParlessVerdict, ParlessSite}
 use Rattle.row_rules.proofs.ParlessLaws.{parless-cond, parless-need, parless-others, parless-remaining, parless-last, parless-joined}
-use Rattle.check_rules.specs.Forms.{Form, concat, mixed, Computes, vector}
+use Rattle.check_rules.specs.Forms.{Form, concat, mixed, insert, tupling, transpose, join, product, Computes, vector, element_of}
+use Rattle.check_rules.specs.FormParts.{ByParts, parts-hold}
 use Rattle.check_rules.specs.FormLaws.{well_form, computes-only}
 use Rattle.check_rules.specs.Rank.{Rank, rank, computed, vectors_in, patterns, every_name, rank_answer, fit, first_fit, some_counts}
 use Rattle.check_rules.specs.RankLaws.{well_rank}
 use Rattle.check_rules.proofs.RankSound.{Sound}
-use Rattle.check_rules.specs.Checked.{carried, value, values, settled, called, checked_app, nonempty, ranked, operated, only_of, bound_body, binder, inner_of, letting, new_width, indexed₁, indexed₂, indexed_by, indexed_on, indexing, constant_array, qualified, checked}
+use Rattle.check_rules.specs.Checked.{carried, value, values, settled, called, checked_app, nonempty, ranked, operated, only_of, bound_body, binder, inner_of, letting, new_width, indexed₁, indexed₂, indexed_by, indexed_on, indexing, constant_array, whole_set, qualified, checked}
 
 ---------------------------------------------------------------- maps
 -- No image of a map has a Par.
@@ -77,11 +78,20 @@ mutual
       match_all-parless l ps ts k m' (search conj) (match-parless l p t m k (search conj) d g) r
 
 ---------------------------------------------------------------- operators
+parless-parts : ByParts parless parless_all
+unfolding parless
+parless-parts = record { entries = record { none = refl; each = λ s ss. refl }; of_set = λ s. refl; of_tuple = λ ss. refl }
+
 -- What a form gives holds no Par.
-form-parless : (f : Form) (ts : Sorts) (s : Sort) → well_form f ≡ true → Computes f ts s → parless s ≡ true
+form-parless : (f : Form) (ts : Sorts) (s : Sort) → well_form f ≡ true → parless_all ts ≡ true → Computes f ts s → parless s ≡ true
 unfolding well_form parless
-form-parless concat ts s w h = let (i, j, e, r) = h in rw r refl
-form-parless (mixed t) ts s w h = let (a, b, c, e) = h in rw e (proper-parless t (and_right (ground t) (proper t) w))
+form-parless concat ts s w p h = let (i, j, e, r) = h in rw r refl
+form-parless (mixed t) ts s w p h = let (a, b, c, e) = h in rw e (proper-parless t (and_right (ground t) (proper t) w))
+form-parless insert ts s w p h = parts-hold parless parless_all parless-parts insert ts s tt p h
+form-parless tupling ts s w p h = parts-hold parless parless_all parless-parts tupling ts s tt p h
+form-parless transpose ts s w p h = parts-hold parless parless_all parless-parts transpose ts s tt p h
+form-parless join ts s w p h = parts-hold parless parless_all parless-parts join ts s tt p h
+form-parless product ts s w p h = parts-hold parless parless_all parless-parts product ts s tt p h
 
 fit-parless : (r : Rank) (ts : Sorts) (s : Sort) → well_rank r ≡ true → parless_all ts ≡ true → fit r ts ≡ some s → parless s ≡ true
 unfolding fit well_rank parless_map
@@ -96,7 +106,7 @@ fit-parless (rank rep vs ps r) ts s e p h =
         (λ w. let z : some (apply m r) ≡ some s = rw w at k in rw (← some_inj z) d)
         (λ w. let z : none ≡ some s = rw w at k in none-some z)
     go false m k d = rw (← some_inj k) d
-fit-parless (computed f) ts s e p h = form-parless f ts s e (computes-only f ts s h)
+fit-parless (computed f) ts s e p h = form-parless f ts s e p (computes-only f ts s h)
 
 first-parless : (rs : List Rank) (ts : Sorts) → Sound rs → parless_all ts ≡ true → ParlessVerdict (or_cause (first_fit rs ts) Misfit)
 unfolding first_fit
@@ -200,6 +210,10 @@ array-parless (node k n w (i then (e then end))) (a then end) h =
     parless-need (same (node k n w (i then e then end)) (array i e) && same a e) Misfit _ h
 array-parless (node k n w (i then (e then (r then rs)))) (a then end) h = tt
 
+whole-parless : (s : Sort) (ts : Sorts) → parless s ≡ true → ParlessVerdict (whole_set s ts)
+whole-parless s end h = parless-need (same s (set (element_of s))) Misfit _ h
+whole-parless s (a then ss) h = tt
+
 ---------------------------------------------------------------- every record
 -- For all sound ranks, those of the table among them (`smt_lib-sound`).
 pub checked-parless : (R : ℕ → List Rank) → ((n : ℕ) → Sound (R n)) → (z : Site) → ParlessSite z → ParlessVerdict (checked R z)
@@ -221,5 +235,6 @@ checked-parless R S z h =
     (parless-cond (eqb z.kind 11) _ _
     (unfold indexing in parless-need (not (eqb z.number 1 || eqb z.number 2 || eqb z.number 8)) NoRank _ (on-parless z.number z.indices z.args))
     (parless-cond (eqb z.kind 12) _ _
-    (unfold qualified in parless-need (eqb z.number 0) NoRank _ (parless-need (proper z.own) Barred _ (array-parless z.own z.args h.own)))
+    (unfold qualified in parless-need (leb z.number 2) NoRank _ (parless-need (proper z.own) Barred _
+    (parless-cond (eqb z.number 0) _ _ (array-parless z.own z.args h.own) (whole-parless z.own z.args h.own))))
     tt)))))))))))

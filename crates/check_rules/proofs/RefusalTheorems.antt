@@ -1,31 +1,31 @@
 -- EVERY CAUSE 24 TO 28 OF THE CHECKED ROW of a constant, a Var, a Match, a binder, a Let, an AsOp and an operator, exactly when it is given:
 -- one theorem a kind, over the record with the sorts of its parts. IndexRefusals has ParamOp, AppRefusals App.
-use Rattle.std.specs.Prelude.{ℕ, suc, ◌+◌, ◌≤◌, ◌<◌, ◌≡◌, refl, ◌↔◌, Bool, true, false, ◌&&◌, List, [], ◌∷◌, eqb, ltb}
-use Rattle.std.proofs.Common.{sym, ap, ◌∙◌, true≢false, arith, eqb-true, eq-eqb, ltb-true, lt-ltb}
+use Rattle.std.specs.Prelude.{ℕ, suc, ◌+◌, ◌≤◌, ◌<◌, ◌≡◌, refl, ◌↔◌, Bool, true, false, ◌&&◌, List, [], ◌∷◌, eqb, leb, ltb}
+use Rattle.std.proofs.Common.{sym, ap, ◌∙◌, true≢false, arith, eqb-true, eq-eqb, leb-true, ltb-true, lt-ltb, leb-false}
 use Rattle.std.proofs.lemmas.Bool.{false≢true}
 use Rattle.std.proofs.Math.Option.{some}
-use Rattle.record.specs.Sort.{Sort, Sorts, var, par, node, end, ◌then◌, function, bool, int, real, string, reglan, array, bitvec, count, same}
-use Rattle.record.specs.SortLaws.{same-sound, same-complete}
+use Rattle.record.specs.Sort.{Sort, Sorts, var, par, node, end, ◌then◌, function, bool, int, real, string, reglan, array, bitvec, set, count, same}
+use Rattle.record.specs.SortLaws.{same-sound, same-complete, same_refl}
 use Rattle.record.specs.Cases.{and_left, and_right, and-true, or_cases, by_test, none-some, clash, positive}
 use Rattle.sheet.specs.Sheet.{Binding}
 use Rattle.substitution.specs.Premises.{proper, proper_all}
 use Rattle.row_rules.specs.declared.Cause.{Cause}
 use Rattle.row_rules.specs.declared.Cause.TheVariants.{Below}
-use Rattle.row_rules.specs.Verdict.{refused}
+use Rattle.row_rules.specs.Verdict.{sort, refused}
 use Rattle.row_rules.specs.Lists.{last_of, joined, binding_sorts}
 use Rattle.row_rules.specs.Term.{Site, Terms, term, constants_of, verdict_of, verdicts_of}
-use Rattle.check_rules.specs.Forms.{Form, concat, mixed, takes}
+use Rattle.check_rules.specs.Forms.{Form, concat, mixed, takes, element_of, insert, tupling, transpose, join, product}
 use Rattle.check_rules.specs.Rank.{Rank, rank, computed, stretched, counts, some_counts}
 use Rattle.check_rules.specs.Ranks.{smt_lib}
 use Rattle.check_rules.proofs.RankSound.{Sound, smt_lib-sound}
 use Rattle.check_rules.specs.Fits.{rank_at, SomeFits}
-use Rattle.check_rules.specs.Checked.{carried, value, values, only_of, binder, letting, constant_array, qualified, nonempty, operated, checked, check}
+use Rattle.check_rules.specs.Checked.{carried, value, values, only_of, binder, letting, constant_array, whole_set, qualified, nonempty, operated, checked, check}
 use Rattle.check_rules.proofs.FitLaws.{some_counts-nonempty, first_fit-some, some-first_fit, some_counts-when, fit-counts, some_fit, operated-ranked, by_ranked}
 use Rattle.check_rules.specs.Parts.{first, Proper, Carried, EachProper, EachValue}
 use Rattle.check_rules.proofs.PartTheorems.{proper-exactly, carried-exactly, value-exactly, each_proper-exactly, each_value-exactly}
 use Rattle.check_rules.specs.Refusals.{Exactly}
 use Rattle.check_rules.specs.Rules.{HaveSorts}
-use Rattle.check_rules.proofs.RankTheorems.{no_ranks, same_count-number, counts-more, alone-fits}
+use Rattle.check_rules.proofs.RankTheorems.{accepted-smt_lib, no_ranks, same_count-number, counts-more, alone-fits}
 use Rattle.check_rules.proofs.RuleTheorems.{have-only, have-when}
 use Rattle.check_rules.proofs.RefusalLaws.{as-unranked, as-barred, as-miscounted, as-misfit, as-accepted, exactly-same, tests, cleaned, by_equal, parts-cause}
 
@@ -145,19 +145,33 @@ const-way r (node k n w (x then (y then end))) (a then end) p =
     )
 const-way r (node k n w (x then (y then (t then ts)))) (a then end) p = as-misfit refl r p refl (λ h. let (i, e, q, f) = h in let z : true ≡ false = cc in true≢false z)
 
--- AN ASOP: 24 exactly for 1 SetEmpty and 2 SetUniverse; else 28 exactly where a part of its sort is Type, ParamBitVec, BitVec 0 or a
--- Par; else 25 exactly where it has not one argument; else 26 exactly where its sort is no Array or the argument is not of its
--- element sort. Never 27.
+whole-way : {A : Type 0} → A → (s : Sort) (ts : Sorts) → Proper s → Exactly (whole_set s ts) A (Proper s) (count ts ≡ 0) ((e : Sort) × (s ≡ set e)) Unit
+unfolding count
+whole-way r s (a then ss) p = as-miscounted refl r p (λ h. omega arith)
+whole-way r s end p =
+    tests true (same s (set (element_of s))) s refl r p (λ h. refl, λ h. refl)
+    (λ h. (element_of s, same-sound s (set (element_of s)) h), λ h. let (e, q) = h in rw q (same_refl (set e)))
+
+-- AN ASOP: 24 exactly for a number that is none of 0 Const, 1 SetEmpty, 2 SetUniverse, which no sheet has; else 28 exactly where a part of its sort is Type,
+-- ParamBitVec, BitVec 0 or a Par; else 25 exactly where Const has not one argument, or another an argument; else 26 exactly where Const's
+-- sort is no Array or the argument not of its element sort, or another's sort is no Set. Never 27.
 pub as-refusals : (R : ℕ → List Rank) (z : Site) → z.kind ≡ 12
-    → Exactly (checked R z) (z.number ≡ 0) (Proper z.own) (count z.args ≡ 1)
-    ((i : Sort) × (e : Sort) × (z.own ≡ array i e) × (z.args ≡ e then end)) Unit
+    → Exactly (checked R z) (z.number ≤ 2) (Proper z.own)
+    ((z.number ≡ 0 → count z.args ≡ 1) × ((z.number ≡ 0 → ⊥) → count z.args ≡ 0))
+    ((z.number ≡ 0 → (i : Sort) × (e : Sort) × (z.own ≡ array i e) × (z.args ≡ e then end)) × ((z.number ≡ 0 → ⊥) → (e : Sort) × (z.own ≡ set e))) Unit
 unfolding checked qualified
 as-refusals R z k = rw k (
+    by_test (leb z.number 2)
+    (λ l. let low = leb-true z.number 2 l in
+    by_test (proper z.own)
+    (λ p. let P = (proper-exactly z.own).0 p in
     by_equal z.number 0
-    (λ q e. by_test (proper z.own)
-    (λ p. rw (q, p) (const-way e z.own z.args ((proper-exactly z.own).0 p)))
-    (λ p. as-barred (rw (q, p) refl) e (λ P. clash ((proper-exactly z.own).1 P) p)))
-    (λ q d. as-unranked (rw q refl) d)
+    (λ q e. rw (l, p, q)
+    (exactly-same (const-way low z.own z.args P) (λ h. h, λ h. h) ((λ h. (λ x. h, λ x. absurd (x e))), λ h. h.0 e) (λ c. ((λ h. (λ x. h, λ x. absurd (x e))), λ h. h.0 e))))
+    (λ q d. rw (l, p, q)
+    (exactly-same (whole-way low z.own z.args P) (λ h. h, λ h. h) ((λ h. (λ x. absurd (d x), λ x. h)), λ h. h.1 d) (λ c. ((λ h. (λ x. absurd (d x), λ x. h)), λ h. h.1 d)))))
+    (λ p. as-barred (rw (l, p) refl) low (λ P. clash ((proper-exactly z.own).1 P) p)))
+    (λ l. let high = leb-false z.number 2 l in as-unranked (rw l refl) (λ a. omega arith))
     )
 
 ---------------------------------------------------------------- Op
@@ -166,6 +180,11 @@ as-refusals R z k = rw k (
 abbrev pub FormTakes : Form → ℕ → Type 0
 FormTakes concat k = k ≡ 2
 FormTakes (mixed r) k = 2 ≤ k
+FormTakes insert k = 2 ≤ k
+FormTakes tupling k = 1 ≤ k
+FormTakes transpose k = k ≡ 1
+FormTakes join k = k ≡ 2
+FormTakes product k = k ≡ 2
 
 pub data Takes (k : ℕ) : Rank → Type 0 where
   exact : {rep vs : Bool} {ps : Sorts} {r : Sort} → count ps ≡ k → Takes k (rank rep vs ps r)
@@ -182,12 +201,22 @@ counts-takes (rank true vs end r) ts e = exact ((same_count-number end ts).0 e)
 counts-takes (rank true vs (p then ps) r) ts e = more ((counts-more vs p ps r ts).0 e)
 counts-takes (computed concat) ts e = form (eqb-true (count ts) 2 (unfold takes in e))
 counts-takes (computed (mixed r)) ts e = form (ltb-true 1 (count ts) (unfold takes in e))
+counts-takes (computed insert) ts e = form (ltb-true 1 (count ts) (unfold takes in e))
+counts-takes (computed tupling) ts e = form (ltb-true 0 (count ts) (unfold takes in e))
+counts-takes (computed transpose) ts e = form (eqb-true (count ts) 1 (unfold takes in e))
+counts-takes (computed join) ts e = form (eqb-true (count ts) 2 (unfold takes in e))
+counts-takes (computed product) ts e = form (eqb-true (count ts) 2 (unfold takes in e))
 
 takes-counts : {r : Rank} (ts : Sorts) → Takes (count ts) r → counts r ts ≡ true
 unfolding counts stretched count
 takes-counts ts (more {vs} {p} {ps} {r} l) = (counts-more vs p ps r ts).1 l
 takes-counts ts (form {f = concat} e) = unfold takes in eq-eqb (count ts) 2 e
 takes-counts ts (form {f = mixed r} l) = unfold takes in lt-ltb 1 (count ts) l
+takes-counts ts (form {f = insert} l) = unfold takes in lt-ltb 1 (count ts) l
+takes-counts ts (form {f = tupling} l) = unfold takes in lt-ltb 0 (count ts) l
+takes-counts ts (form {f = transpose} e) = unfold takes in eq-eqb (count ts) 1 e
+takes-counts ts (form {f = join} e) = unfold takes in eq-eqb (count ts) 2 e
+takes-counts ts (form {f = product} e) = unfold takes in eq-eqb (count ts) 2 e
 takes-counts ts (exact {rep} {vs} {ps} {r} e) = alike rep ps e
   where
     alike : (rep : Bool) (ps : Sorts) → count ps ≡ count ts → counts (rank rep vs ps r) ts ≡ true
@@ -229,6 +258,23 @@ pub op-refusals : (R : ℕ → List Rank) (z : Site) → Sound (R z.number) → 
     (EachValue z.args × ((s : Sort) × SomeFits (R z.number) z.args s)) Unit
 unfolding checked
 op-refusals R z S k = rw k (op-way R z.number z.args S)
+
+-- AN OPERATOR OF THE TABLE, in its own words C for the counts that its ranks take and F for the arguments of such a count that are
+-- accepted: 25 exactly where C fails, else 26 exactly where F fails. Never 24, 28 or 27.
+pub table-refusals : (z : Site) {C F : Type 0} → z.kind ≡ 7 → nonempty (smt_lib z.number) ≡ true
+    → some_counts (smt_lib z.number) z.args ≡ true ↔ C
+    → (C → ((s : Sort) × (operated smt_lib z.number z.args ≡ sort s)) ↔ F)
+    → Exactly (checked smt_lib z) Unit Unit C F Unit
+table-refusals z e any c a =
+    let S = some_takes-exactly (smt_lib z.number) z.args in
+    exactly-same (op-refusals smt_lib z (smt_lib-sound z.number) e)
+    (λ h. tt, λ h q. true≢false (sym any ∙ ap nonempty q))
+    (λ T. c.0 (S.1 T), λ h. S.0 (c.1 h))
+    (λ T. let A = a (c.0 (S.1 T)) in (
+      λ h. A.0 (h.1.0, (accepted-smt_lib z.number z.args h.1.0).1 ((each_value-exactly z.args).1 h.0, h.1.1)),
+      λ f. let (s, g) = A.1 f in
+          let (v, F) = (accepted-smt_lib z.number z.args s).0 g in ((each_value-exactly z.args).0 v, (s, F)),
+    ))
 
 -- 90 BvConcat: 25 exactly where it has not two arguments; else 26 exactly where they are not two vectors of known width.
 pub concat-refusals : (z : Site) → z.kind ≡ 7 → z.number ≡ 90

@@ -1,11 +1,11 @@
 -- THE CHECKED VERDICT IS A SORT EXACTLY BY THE RULES of Rules: for every record, and by induction for every term. The tests of
 -- Checked are taken apart one after the other, each giving a premise of a rule; and the premises make the tests pass.
-use Rattle.std.specs.Prelude.{ℕ, suc, ◌+◌, ◌*◌, ◌-◌, ◌<◌, ◌≡◌, ◌↔◌, Bool, true, false, not, ◌&&◌, ◌||◌, List, [], ◌∷◌, eqb, leb, ltb}
+use Rattle.std.specs.Prelude.{ℕ, suc, ◌+◌, ◌*◌, ◌-◌, ◌<◌, ◌≡◌, ◌↔◌, Bool, true, false, not, ◌&&◌, ◌||◌, List, [], ◌∷◌, eqb, leb, ltb, ◌⊎◌, cond}
 use Rattle.std.proofs.Common.{sym, ap, ◌∙◌, inl, inr, arith, add-one, eqb-true, ne_eqb, leb-true, ltb-true, lt-ltb}
 use Rattle.std.proofs.Math.Path.{refl}
 use Rattle.std.proofs.lemmas.Bool.{false≢true, eqb-false}
 use Rattle.std.proofs.Math.Option.{Option, none, some}
-use Rattle.record.specs.Sort.{Sort, Sorts, var, par, node, end, ◌then◌, function, bool, int, reglan, array, bitvec, number_in, count, same}
+use Rattle.record.specs.Sort.{Sort, Sorts, var, par, node, end, ◌then◌, function, bool, int, reglan, array, bitvec, number_in, count, same, set}
 use Rattle.record.specs.SortLaws.{same-sound, same-complete, same_refl}
 use Rattle.record.specs.Cases.{and_left, and_right, conj, and-true, not-true, by_test, some_inj, positive}
 use Rattle.substitution.specs.Substitution.{empty}
@@ -21,7 +21,7 @@ use Rattle.check_rules.specs.Rank.{Rank, vector}
 use Rattle.check_rules.specs.RankLaws.{vector-is}
 use Rattle.check_rules.proofs.RankSound.{Sound, smt_lib-sound}
 use Rattle.check_rules.specs.Ranks.{smt_lib}
-use Rattle.check_rules.specs.Checked.{carried, value, values, called, checked_app, operated, only_of, bound_body, binder, letting, new_width, indexed₁, indexed₂, indexed_on, indexing, constant_array, qualified, checked, check}
+use Rattle.check_rules.specs.Checked.{carried, value, values, called, checked_app, operated, only_of, bound_body, binder, letting, new_width, indexed₁, indexed₂, indexed_on, indexing, constant_array, qualified, checked, check, whole_set}
 use Rattle.check_rules.specs.Routes.{clear_bindings, clear_term, clear_terms}
 use Rattle.check_rules.proofs.Kept.{carried_all}
 use Rattle.check_rules.proofs.RouteLaws.{verdicts-kept, parts, besides-parts}
@@ -30,7 +30,8 @@ use Rattle.check_rules.specs.Fits.{one_of}
 use Rattle.check_rules.proofs.RankTheorems.{rank-accepted}
 use Rattle.check_rules.proofs.AppTheorems.{called-accepted, called-plain}
 use Rattle.check_rules.proofs.Widths.{checked-extend-width, rotate-width, checked-repeat-width, extract-accepted, int-width}
-use Rattle.check_rules.specs.Rules.{Applied, parametric, plain, Operated, by_rank, Binds, quantifier, choice, lambda, Indexes, extract, extend, rotate, repeat, int_to_bv, power, loop, Rule, integer_constant, real_constant, string_constant, reglan_constant, vector_constant, variable, by_app, by_op, by_binder, by_let, by_index, by_const, HasSort, HaveSorts}
+use Rattle.check_rules.specs.Rules.{Applied, parametric, plain, Operated, by_rank, Binds, quantifier, choice, lambda, Indexes, extract, extend, rotate, repeat, int_to_bv, power, loop, Rule, integer_constant, real_constant, string_constant, reglan_constant, vector_constant, variable, by_app, by_op, by_binder, by_let, by_index, by_const, HasSort, HaveSorts, by_set}
+use Rattle.check_rules.specs.Forms.{element_of}
 
 ---------------------------------------------------------------- tests taken apart
 pub need-sort : (b : Bool) (c : Cause) (v : Verdict) (s : Sort) → need b c v ≡ sort s → (b ≡ true) × (v ≡ sort s)
@@ -223,6 +224,17 @@ const-only (node k n w (i then (e then end))) (a then end) s h =
     (i, e, z, ap (◌then end) (same-sound a e (and_right (same o (array i e)) (same a e) y)), sym (sort-inj g) ∙ sym z)
 const-only (node k n w (i then (e then (r then rs)))) (a then end) s h = refused-sort h
 
+pub set-only : (o : Sort) (ts : Sorts) (s : Sort) → whole_set o ts ≡ sort s → (e : Sort) × (o ≡ set e) × (ts ≡ end) × (s ≡ o)
+set-only o (a then as') s h = refused-sort h
+set-only o end s h =
+    let (y, g) = need-sort (same o (set (element_of o))) Misfit (sort o) s h in
+    (element_of o, same-sound o (set (element_of o)) y, refl, sym (sort-inj g))
+
+pub one-or-two : (n : ℕ) → leb n 2 ≡ true → eqb n 0 ≡ false → (n ≡ 1) ⊎ (n ≡ 2)
+one-or-two n a b =
+    by_test (eqb n 1) (λ q. inl (eqb-true n 1 q))
+    (λ q. inr (let x = leb-true n 2 a in let y = eqb-false n 0 b in let z = eqb-false n 1 q in omega (arith, x, y, z)))
+
 ---------------------------------------------------------------- one record
 -- ONE RECORD: the checked verdict is the sort s exactly when a rule gives s. The sorts of the record's parts are such as a Var may
 -- carry, as all checked sorts are.
@@ -251,10 +263,15 @@ rule-only R S z s c h =
     (λ q9. by_test (eqb z.kind 11)
     (λ q. by_index (eqb-true z.kind 11 q) (indexing-only z.number z.indices z.args s (rw (q0, q1, q2, q3, q4, q5, q6, q7, q8, q9, q) at h)))
     (λ q11. by_test (eqb z.kind 12)
-    (λ q. let (x, g) = need-sort (eqb z.number 0) NoRank (need (proper z.own) Barred (constant_array z.own z.args)) s (rw (q0, q1, q2, q3, q4, q5, q6, q7, q8, q9, q11, q) at h) in
-    let (y, k) = need-sort (proper z.own) Barred (constant_array z.own z.args) s g in
-    let (i, e, a, b, d) = const-only z.own z.args s k in
-    by_const i e (eqb-true z.kind 12 q) (eqb-true z.number 0 x) a ((proper-exactly z.own).0 y) b d)
+    (λ q.
+    let v : Verdict = cond (eqb z.number 0) (constant_array z.own z.args) (whole_set z.own z.args) in
+    let (x, g) = need-sort (leb z.number 2) NoRank (need (proper z.own) Barred v) s (rw (q0, q1, q2, q3, q4, q5, q6, q7, q8, q9, q11, q) at h) in
+    let (y, k) = need-sort (proper z.own) Barred v s g in
+    by_test (eqb z.number 0)
+    (λ w. let (i, e, a, b, d) = const-only z.own z.args s (rw w at k) in
+    by_const i e (eqb-true z.kind 12 q) (eqb-true z.number 0 w) a ((proper-exactly z.own).0 y) b d)
+    (λ w. let (e, a, b, d) = set-only z.own z.args s (rw w at k) in
+    by_set e (eqb-true z.kind 12 q) (one-or-two z.number x w) a ((proper-exactly z.own).0 y) b d))
     (λ q12. refused-sort (rw (q0, q1, q2, q3, q4, q5, q6, q7, q8, q9, q11, q12) at h)))))))))))))
 
 pub rule-when : (R : ℕ → List Rank) → ((n : ℕ) → Sound (R n)) → (z : Site) (s : Sort) → carried_all z.args ≡ true → Rule R z s → checked R z ≡ sort s
@@ -271,6 +288,8 @@ rule-when R S z s c (by_binder k a) = rw k (binder-when z.number (binding_sorts 
 rule-when R S z s c (by_let t ts k e x y r) = rw (k, e) (letting-when t ts s x ((each_value-exactly (t then ts)).1 y) r)
 rule-when R S z s c (by_index k a) = rw k (indexing-when z.number z.indices z.args s a)
 rule-when R S z s c (by_const i e k n o p a r) = rw (k, n, (proper-exactly z.own).1 p, r, o, a, same_refl (array i e), same_refl e) refl
+rule-when R S z s c (by_set e k (inl n) o p a r) = rw (k, n, (proper-exactly z.own).1 p, r, o, a, same_refl (set e)) refl
+rule-when R S z s c (by_set e k (inr n) o p a r) = rw (k, n, (proper-exactly z.own).1 p, r, o, a, same_refl (set e)) refl
 
 ---------------------------------------------------------------- terms
 -- The empty map touches nothing.

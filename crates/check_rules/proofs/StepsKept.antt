@@ -5,7 +5,7 @@ use Rattle.std.proofs.Common.{sym, ap, ◌∙◌, true≢false, arith, mul-pos, 
 use Rattle.std.proofs.lemmas.Bool.{false≢true}
 use Rattle.std.proofs.Math.Option.{Option, none, some}
 use Rattle.record.specs.Names.{member}
-use Rattle.record.specs.Sort.{Sort, Sorts, var, par, node, end, ◌then◌, function, bool, int, reglan, array, bitvec, number_in, count, same}
+use Rattle.record.specs.Sort.{Sort, Sorts, var, par, node, end, ◌then◌, function, bool, int, reglan, array, bitvec, number_in, count, same, set}
 use Rattle.record.specs.SortLaws.{same-sound, same-complete}
 use Rattle.record.specs.Cases.{and_left, conj, and-true, or_left, or_right, not-true, eqb-self, by_test, by_option, none-some}
 use Rattle.substitution.specs.Substitution.{Map, empty, find, bound, apply, apply_all, through, occurs, occurs_any}
@@ -21,9 +21,10 @@ use Rattle.row_rules.proofs.OutcomeLaws.{refused-sort}
 use Rattle.check_rules.specs.Rank.{Rank, vector, first_fit, some_counts}
 use Rattle.check_rules.specs.RankLaws.{some_counts-moved, vector-is, vector-still}
 use Rattle.check_rules.proofs.RankSound.{Sound, first_fit-moved, first_fit-proper}
-use Rattle.check_rules.specs.Checked.{carried, value, values, settled, settled_all, called, checked_app, nonempty, ranked, operated, only_of, bound_body, binder, inner_of, letting, new_width, indexed₁, indexed₂, indexed_by, indexed_on, indexing, constant_array, qualified}
+use Rattle.check_rules.specs.Checked.{carried, value, values, settled, settled_all, called, checked_app, nonempty, ranked, operated, only_of, bound_body, binder, inner_of, letting, new_width, indexed₁, indexed₂, indexed_by, indexed_on, indexing, constant_array, qualified, whole_set}
 use Rattle.check_rules.proofs.Kept.{StepKept, need-kept, cond-kept, kept, carried_all, carried-value, carried-values, proper-value, values_moved, last_of-moved, last_of-proper}
 use Rattle.check_rules.specs.FormLaws.{width-proper, proper-positive}
+use Rattle.check_rules.specs.Forms.{element_of}
 
 ---------------------------------------------------------------- operators
 -- Ranks: the counts stay, values stay values, and the rank that fits is the one that fits.
@@ -351,9 +352,21 @@ unfolding indexing
 indexing-kept σ n is ts s c =
     need-kept σ s (not (eqb n 1 || eqb n 2 || eqb n 8)) (not (eqb n 1 || eqb n 2 || eqb n 8)) NoRank _ _ (λ q. q) (λ q. indexed_on-kept σ n is ts s c)
 
+-- A set stays a set.
+pub whole_set-kept : (σ : Map) (o : Sort) (ts : Sorts) (s : Sort) → proper o ≡ true → whole_set o ts ≡ sort s → StepKept σ s (whole_set (apply σ o) (apply_all σ ts))
+unfolding apply
+whole_set-kept σ o (a then as') s p h = refused-sort h
+whole_set-kept σ o end s p h =
+    need-kept σ s (same o (set (element_of o))) (same (apply σ o) (set (element_of (apply σ o)))) Misfit _ _
+    (λ q. let z : apply σ o ≡ set (apply σ (element_of o)) = ap (apply σ) (same-sound o (set (element_of o)) q) in
+    same-complete (apply σ o) (set (element_of (apply σ o))) (z ∙ sym (ap (λ (r : Sort). set (element_of r)) z)))
+    (λ q. kept σ o s (sort (apply σ o)) p refl)
+    h
+
 pub qualified-kept : (σ : Map) (n : ℕ) (o : Sort) (ts : Sorts) (s : Sort) → proper_map σ ≡ true
     → qualified n o ts ≡ sort s → StepKept σ s (qualified n (apply σ o) (apply_all σ ts))
 unfolding qualified
 qualified-kept σ n o ts s e =
-    need-kept σ s (eqb n 0) (eqb n 0) NoRank _ _ (λ q. q) (λ q.
-    need-kept σ s (proper o) (proper (apply σ o)) Barred _ _ (apply-proper σ o e) (λ p. constant_array-kept σ o ts s e p))
+    need-kept σ s (leb n 2) (leb n 2) NoRank _ _ (λ q. q) (λ q.
+    need-kept σ s (proper o) (proper (apply σ o)) Barred _ _ (apply-proper σ o e) (λ p.
+    cond-kept σ s (eqb n 0) _ _ _ _ (constant_array-kept σ o ts s e p) (whole_set-kept σ o ts s p)))

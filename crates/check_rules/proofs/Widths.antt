@@ -1,8 +1,8 @@
 -- FACTS ABOUT WIDTHS, stated over the width: what the vector operators of document 01 give on vectors of widths w and v. The
 -- operators of one family are told by their numbers; that they share a rank is a computed test of the table.
 use Rattle.std.specs.Prelude.{ℕ, zero, suc, ◌+◌, ◌*◌, ◌-◌, ◌≤◌, ◌<◌, ◌≡◌, refl, ◌↔◌, ◌⊎◌, Bool, true, false, not, ◌&&◌, List, [], ◌∷◌, eqb, leb, ltb}
-use Rattle.std.proofs.Common.{sym, ap, ◌∙◌, inl, inr, ⊎_elim, arith, add-one, eqb-true, ne_eqb, leb-true, leb-false, ltb-true, lt-ltb, le-leb}
-use Rattle.std.proofs.lemmas.Bool.{false≢true, eqb-false}
+use Rattle.std.proofs.Common.{sym, ap, ◌∙◌, inl, inr, ⊎_elim, arith, add-one, ne_eqb, leb-true, leb-false, ltb-true, lt-ltb, le-leb}
+use Rattle.std.proofs.lemmas.Bool.{false≢true}
 use Rattle.std.proofs.Math.Option.{some}
 use Rattle.record.specs.Sort.{Sort, Sorts, end, ◌then◌, bool, int, bitvec, same, same_all}
 use Rattle.record.specs.SortLaws.{same-sound, same_all-sound}
@@ -16,6 +16,7 @@ use Rattle.check_rules.specs.Ranks.{x, one, two, smt_lib}
 use Rattle.check_rules.specs.Fits.{rank_at}
 use Rattle.check_rules.specs.Checked.{values, ranked, operated, indexing}
 use Rattle.check_rules.proofs.FitLaws.{sort-refused, operated-ranked}
+use Rattle.check_rules.proofs.Runs.{run, run-at}
 use Rattle.check_rules.proofs.RankTheorems.{accepted-smt_lib, concat-accepted}
 
 ---------------------------------------------------------------- the operators that share a rank
@@ -37,9 +38,8 @@ only r (q ∷ (p ∷ ps)) = false
 
 -- The operators from n on, k of them, have this one rank.
 unfoldable pub share : Rank → ℕ → ℕ → Bool
-unfolding only smt_lib
-share r n zero = true
-share r n (suc k) = only r (smt_lib n) && share r (suc n) k
+unfolding only smt_lib run
+share r n k = run (λ m. only r (smt_lib m)) n k
 
 pub same_bool-sound : (a b : Bool) → same_bool a b ≡ true → a ≡ b
 same_bool-sound true true e = refl
@@ -66,11 +66,7 @@ only-sound r (q ∷ (p ∷ ps)) e = absurd (false≢true e)
 
 pub shared : (r : Rank) (lo k n : ℕ) → share r lo k ≡ true → lo ≤ n → n < lo + k → smt_lib n ≡ r ∷ []
 unfolding share
-shared r lo zero n e a b = absurd (omega arith)
-shared r lo (suc k) n e a b =
-    by_test (eqb lo n)
-    (λ q. let z = eqb-true lo n q in rw (← z) (only-sound r (smt_lib lo) (and_left (only r (smt_lib lo)) (share r (suc lo) k) e)))
-    (λ q. let z = eqb-false lo n q in shared r (suc lo) k n (and_right (only r (smt_lib lo)) (share r (suc lo) k) e) (omega (arith, z)) (omega arith))
+shared r lo k n e a b = only-sound r (smt_lib n) (run-at (λ m. only r (smt_lib m)) lo k n e a b)
 
 -- Two-place operators over vectors of one width: 81 BvAnd, 82 BvOr, 83 BvAdd, 84 BvMul (these take more, too).
 abbrev pub many : Rank

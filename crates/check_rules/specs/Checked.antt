@@ -1,9 +1,9 @@
--- The checked sort of one record (document 01, "Checked"), with its causes in the order 20, 24, 28, 25, 26, 27. The ranks are a
+-- The checked sort of one record (document 01, "Checked", and what A.2 says of SetEmpty and SetUniverse), with its causes in the order 20, 24, 28, 25, 26, 27. The ranks are a
 -- parameter R; those of the table are `smt_lib`.
 use Rattle.std.specs.Prelude.{ℕ, suc, ◌+◌, ◌*◌, ◌-◌, Bool, true, false, not, cond, ◌&&◌, ◌||◌, List, [], ◌∷◌, eqb, leb, ltb}
 use Rattle.std.proofs.Math.Option.{Option, none, some}
 use Rattle.record.specs.Names.{member}
-use Rattle.record.specs.Sort.{Sort, Sorts, var, par, node, end, ◌then◌, function, bool, int, real, string, reglan, array, bitvec, number_in, count, same}
+use Rattle.record.specs.Sort.{Sort, Sorts, var, par, node, end, ◌then◌, function, bool, int, real, string, reglan, array, bitvec, number_in, count, same, set}
 use Rattle.substitution.specs.Substitution.{Map, empty, find, bound, apply}
 use Rattle.substitution.specs.Matching.{matches_all}
 use Rattle.substitution.specs.Premises.{proper, proper_all}
@@ -12,6 +12,7 @@ use Rattle.row_rules.specs.Verdict.{Verdict, sort, refused, need, or_cause}
 use Rattle.row_rules.specs.Lists.{firsts, others, remaining, last_of, joined, binding_sorts}
 use Rattle.row_rules.specs.Term.{Site, Term, verdict_of}
 use Rattle.check_rules.specs.Rank.{Rank, vector, first_fit, some_counts}
+use Rattle.check_rules.specs.Forms.{element_of}
 
 ---------------------------------------------------------------- Par-sorted variables
 -- The sort that a Var may carry: "A Par sort may stand only outermost in a Var's sort, over a Function"; no Type, ParamBitVec or
@@ -180,10 +181,15 @@ constant_array (node k n w (i then (e then end))) (a then end) =
     need (same (node k n w (i then e then end)) (array i e) && same a e) Misfit (sort (array i e))
 constant_array (node k n w (i then (e then (r then rs)))) (a then end) = refused Misfit
 
--- 0 Const; 1 SetEmpty and 2 SetUniverse are unranked.
+-- "SetEmpty and SetUniverse take no argument and a Set sort; another sort is 26."
+abbrev pub whole_set : Sort → Sorts → Verdict
+whole_set s (a then as') = refused Count
+whole_set s end = need (same s (set (element_of s))) Misfit (sort s)
+
+-- 0 Const, 1 SetEmpty, 2 SetUniverse; no sheet has another.
 unfoldable pub qualified : ℕ → Sort → Sorts → Verdict
 unfolding proper same
-qualified n s ts = need (eqb n 0) NoRank (need (proper s) Barred (constant_array s ts))
+qualified n s ts = need (leb n 2) NoRank (need (proper s) Barred (cond (eqb n 0) (constant_array s ts) (whole_set s ts)))
 
 ---------------------------------------------------------------- the verdict
 -- THE CHECKED VERDICT ON ONE RECORD, by its kind: 0 integer, 1 real, 2 string, 3 RegLan constant, 4 bit-vector constant, 5 Var,

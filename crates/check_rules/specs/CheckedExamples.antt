@@ -1,7 +1,7 @@
 -- Examples of the checked verdict that tell readings of document 01 apart, as tables: the terms beside their verdicts, each table
 -- proved by computation.
 use Rattle.std.specs.Prelude.{ℕ, ◌≡◌, refl, List, [], ◌∷◌}
-use Rattle.record.specs.Sort.{Sort, Sorts, var, par, end, ◌then◌, function, bool, int, real, reglan, array, bitvec, type, set}
+use Rattle.record.specs.Sort.{tuple, Sort, Sorts, var, par, end, ◌then◌, function, bool, int, real, reglan, array, bitvec, type, set}
 use Rattle.sheet.specs.Sheet.{Binding}
 use Rattle.row_rules.specs.declared.Cause.TheVariants.{NoRank, Count, Misfit, Barred}
 use Rattle.row_rules.specs.Verdict.{Verdict, sort, refused}
@@ -56,7 +56,7 @@ abbrev pub test : Sort
 test = par (1 ∷ []) (function (var 1 then bool then end))
 
 ---------------------------------------------------------------- the tables
--- 28: what a Var, a binding, an AsOp may not carry; and 24 before it.
+-- 28: what a Var, a binding, an AsOp may not carry.
 pub barred :
     verdicts (
     of (array int (bitvec 0)) ∷ of (par (1 ∷ []) (function (type then int then end))) ∷ of (par (1 ∷ []) int)
@@ -64,7 +64,7 @@ pub barred :
     ∷ bind₁ 2 (real then type then end) bool ∷ as_op 2 type end ∷ as_op 0 type end ∷ [])
     ≡ refused Barred ∷ refused Barred ∷ refused Barred
     ∷ refused Barred ∷ refused Barred ∷ sort (par (1 ∷ []) (function end))
-    ∷ refused Barred ∷ refused NoRank ∷ refused Barred ∷ []
+    ∷ refused Barred ∷ refused Barred ∷ refused Barred ∷ []
 unfolding verdicts
 barred = refl
 
@@ -86,12 +86,12 @@ applied = refl
 -- Op: counts, equality of sorts, Int and Real mixed only where document 02 says so; a Par as an argument gets 26 (K2, K3, K4, K5, K10).
 pub operators :
     verdicts (
-    op 83 end ∷ op 90 end ∷ op 83 (bitvec 8 then int then end) ∷ op 115 end ∷ op 133 (set int then set int then end)
+    op 83 end ∷ op 90 end ∷ op 83 (bitvec 8 then int then end) ∷ op 115 end ∷ op 133 (set (tuple end) then set (tuple (int then real then end)) then end)
     ∷ op 7 (var 1 then int then end) ∷ op 7 (var 1 then var 1 then end) ∷ op 7 (reglan then reglan then end) ∷ op 7 (test then test then end)
     ∷ op 74 (reglan then reglan then reglan then end) ∷ op 13 (int then int then int then end) ∷ op 15 (int then int then int then end)
     ∷ op 93 (bitvec 8 then bitvec 8 then bitvec 8 then end) ∷ op 83 (bitvec 8 then bitvec 8 then bitvec 9 then end)
     ∷ op 10 (int then real then end) ∷ op 13 (real then real then end) ∷ op 14 (int then int then end) ∷ op 16 (real then end) ∷ op 11 (real then end) ∷ [])
-    ≡ refused Count ∷ refused Count ∷ refused Misfit ∷ refused NoRank ∷ refused NoRank
+    ≡ refused Count ∷ refused Count ∷ refused Misfit ∷ refused NoRank ∷ refused Misfit
     ∷ refused Misfit ∷ sort bool ∷ sort bool ∷ refused Misfit
     ∷ sort reglan ∷ sort int ∷ refused Count
     ∷ refused Count ∷ refused Misfit

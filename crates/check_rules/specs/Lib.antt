@@ -7,7 +7,9 @@ pub mod CheckedExamples
 pub mod Parts
 pub mod Fits
 pub mod Rules
+pub mod FormParts
 pub mod FormLaws
 pub mod RankLaws
 pub mod Refusals
 pub mod Added
+pub mod Columns

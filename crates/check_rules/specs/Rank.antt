@@ -7,7 +7,7 @@ use Rattle.substitution.specs.Matching.{matches_all}
 use Rattle.check_rules.specs.Forms.{Form, takes, computes}
 pub use Rattle.check_rules.specs.Forms.{vector}
 
--- A rank as the theories of SMT-LIB print it: the sorts of the arguments, whether the last one may repeat, and the sort of the
+-- A rank as theories print it: the sorts of the arguments, whether the last one may repeat, and the sort of the
 -- result. Every variable in it is the rank's own parameter; in a vector rank each stands for a vector of some known width.
 -- Where arguments or result are no pattern, a form says both.
 pub data Rank : Type 0 where

@@ -1,9 +1,9 @@
 -- The ranks of the checked row: SMT-LIB 2.7's Core, Ints, Reals, Reals_Ints, ArraysEx, FixedSizeBitVectors and Strings, by the
--- number of the operator in enum Operator, and what document 02 adds to them: Int and Real mixed (A.1).
--- Where editions differ, document 01's lines under "The rows" decide. 24 to 41, 54, 78 and 110 to 134 have no rank.
+-- number of the operator in enum Operator, and what document 02 adds to them: Int and Real mixed (A.1), sets and relations (A.2).
+-- Where editions differ, document 01's lines under "The rows" decide. 24 to 41, 54, 78 and 110 to 117 have no rank.
 use Rattle.std.specs.Prelude.{ℕ, true, false, cond, ◌&&◌, List, [], ◌∷◌, leb, ◌++◌}
-use Rattle.record.specs.Sort.{Sort, Sorts, var, end, ◌then◌, bool, int, real, string, reglan, array, bitvec}
-use Rattle.check_rules.specs.Forms.{concat, mixed}
+use Rattle.record.specs.Sort.{Sort, Sorts, var, end, ◌then◌, bool, int, real, string, reglan, array, bitvec, set, tuple}
+use Rattle.check_rules.specs.Forms.{concat, mixed, insert, tupling, transpose, join, product}
 use Rattle.check_rules.specs.Rank.{Rank, rank, computed}
 
 -- The ranks of the operators from a first to a last number; in an enlarged row, those of document 01 and then later ones.
@@ -158,14 +158,42 @@ standard =
     (row 101 107 (vectors (two x) bool)
     -- 108 UBvToInt, 109 SBvToInt
     (row 108 109 (vectors (one x) int)
-    done)))))))))))))))))))))))))))))))))))))))))))))))))
+    -- 118 SetUnion, 119 SetInter, 120 SetMinus: "Union, intersection and difference take two equal sets"
+    (enlarged 118 120 [] (one_rank (two (set x)) (set x))
+    -- 121 SetMember: "an element and its set"
+    (enlarged 121 121 [] (one_rank (x then set x then end) bool)
+    -- 122 SetSubset: "two equal sets"
+    (enlarged 122 122 [] (one_rank (two (set x)) bool)
+    -- 123 SetSingleton
+    (enlarged 123 123 [] (one_rank (one x) (set x))
+    -- 124 SetIsEmpty, 125 SetIsSingleton: "the two tests Bool"
+    (enlarged 124 125 [] (one_rank (one (set x)) bool)
+    -- 126 SetCard
+    (enlarged 126 126 [] (one_rank (one (set x)) int)
+    -- 127 SetInsert
+    (enlarged 127 127 [] (computed insert ∷ [])
+    -- 128 SetComplement
+    (enlarged 128 128 [] (one_rank (one (set x)) (set x))
+    -- 129 Tuple
+    (enlarged 129 129 [] (computed tupling ∷ [])
+    -- 130 TupleUnit
+    (enlarged 130 130 [] (one_rank end (tuple end))
+    -- 131 RelTranspose
+    (enlarged 131 131 [] (computed transpose ∷ [])
+    -- 132 RelTclosure: "a set of pairs of one sort"
+    (enlarged 132 132 [] (one_rank (one (set (tuple (two x)))) (set (tuple (two x))))
+    -- 133 RelJoin
+    (enlarged 133 133 [] (computed join ∷ [])
+    -- 134 RelProduct
+    (enlarged 134 134 [] (computed product ∷ [])
+    done)))))))))))))))))))))))))))))))))))))))))))))))))))))))))))))))
 
 -- The ranks of an operator.
 unfoldable pub smt_lib : ℕ → List Rank
 unfolding ranks_in standard
 smt_lib n = ranks_in standard n
 
--- The ranks of document 01 alone.
+-- The ranks of document 01 alone. SetEmpty and SetUniverse are no operators: their rule, A.2's, is the same over either table.
 unfoldable pub document01 : ℕ → List Rank
 unfolding first_in standard
 document01 n = first_in standard n

@@ -1,9 +1,9 @@
--- THE CHECKED SORT AS RULES, one for each sentence of document 01 under "Checked", free of tests and of their order: a term has a
+-- THE CHECKED SORT AS RULES, one for each sentence of document 01 under "Checked" and `by_set` for one of A.2, free of tests and of their order: a term has a
 -- sort when its parts have sorts and a rule gives it one. What a sort may hold is said of its parts (Parts). Definitions only;
 -- RuleTheorems proves that the checked verdict is a sort exactly by these rules.
 use Rattle.std.specs.Prelude.{ℕ, ◌+◌, ◌*◌, ◌-◌, ◌≤◌, ◌<◌, ◌≡◌, ◌⊎◌, List, [], ◌∷◌}
 use Rattle.std.proofs.Math.Option.{Option, some}
-use Rattle.record.specs.Sort.{Sort, Sorts, par, node, end, ◌then◌, function, bool, int, real, string, reglan, array, bitvec, count}
+use Rattle.record.specs.Sort.{Sort, Sorts, par, node, end, ◌then◌, function, bool, int, real, string, reglan, array, bitvec, count, set}
 use Rattle.row_rules.specs.Lists.{firsts, last_of, joined, binding_sorts}
 use Rattle.row_rules.specs.Term.{Site, Term, Terms, term, stop, ◌also◌, constants_of}
 use Rattle.check_rules.specs.Rank.{Rank}
@@ -59,6 +59,8 @@ pub data Rule (R : ℕ → List Rank) (z : Site) (s : Sort) : Type 0 where
   by_index : z.kind ≡ 11 → Indexes z.number z.indices z.args s → Rule R z s
   -- (as const): sort Array, one argument of its element sort.
   by_const : (i e : Sort) → z.kind ≡ 12 → z.number ≡ 0 → z.own ≡ array i e → Proper z.own → z.args ≡ e then end → s ≡ z.own → Rule R z s
+  -- "SetEmpty and SetUniverse take no argument and a Set sort" (A.2).
+  by_set : (e : Sort) → z.kind ≡ 12 → (z.number ≡ 1) ⊎ (z.number ≡ 2) → z.own ≡ set e → Proper z.own → z.args ≡ end → s ≡ z.own → Rule R z s
 
 ---------------------------------------------------------------- terms
 -- A TERM HAS A SORT: every part of it has one, and a rule gives it one.

@@ -30,8 +30,8 @@ use Rattle.store.specs.Walk.{entry-asks, walk-node}
 use Rattle.row_rules.specs.declared.Cause.{Cause}
 use Rattle.row_rules.specs.declared.Cause.TheVariants.{Panics}
 use Rattle.row_rules.specs.Verdict.{Verdict, sort, refused}
-use Rattle.row_rules.specs.Lists.{appended}
-use Rattle.infer_rules.specs.Inferred.{columns, backwards, all_but_last, join_of, product_of, over_columns, over_both}
+use Rattle.row_rules.specs.Lists.{appended, all_but_last}
+use Rattle.infer_rules.specs.Inferred.{columns, backwards, join_of, product_of, over_columns, over_both}
 use Rattle.row_answer.specs.Arguments.{put_at, Filled, filled_more}
 use Rattle.store.specs.declared.Store.{Store}
 use Rattle.store.specs.declared.entries.Entries.{Entries}

@@ -125,7 +125,7 @@ last-has a m i {k} l e b p ix n u h =
 
 ---------------------------------------------------------------- Real
 -- A sort of the store of the kind Real is Real.
-no-parts : (ss : Sorts) → count ss ≡ 0 → ss ≡ end
+pub no-parts : (ss : Sorts) → count ss ≡ 0 → ss ≡ end
 unfolding count
 no-parts end h = refl
 no-parts (s then ss) h = absurd (omega arith)

@@ -11,7 +11,8 @@ use Rattle.row_rules.specs.Lists.{joined, appended}
 use Rattle.infer_rules.specs.declared.Family.{Family}
 use Rattle.infer_rules.specs.declared.Family.TheVariants.{Truth, Integer, Decimal, Text, Regular, Vector, OneBit, Bits, Constant, Concat, First, Second, Last, Sum, Element, RareList, Singleton, Tuple, UnitTuple, Transpose, Join, Product}
 use Rattle.infer_rules.specs.Family.{family_of}
-use Rattle.infer_rules.specs.Inferred.{concat_from, all_but_last, operated_by, indexed}
+use Rattle.infer_rules.specs.Inferred.{concat_from, operated_by, indexed}
+use Rattle.row_rules.proofs.ListLaws.{last-dropped}
 use Rattle.infer_rules.proofs.WidthTheorems.{width_sum}
 
 ---------------------------------------------------------------- the group of nineteen
@@ -102,12 +103,6 @@ unfolding indexed
 convert-width i is ss = refl
 
 ---------------------------------------------------------------- RelJoin
-last-dropped : (xs : Sorts) (x : Sort) → all_but_last (joined xs x) ≡ xs
-unfolding all_but_last joined
-last-dropped end x = refl
-last-dropped (a then end) x = refl
-last-dropped (a then (b then xs)) x = ap (a then◌) (last-dropped (b then xs) x)
-
 -- The join of two relations drops the shared column from both: the last of the left side, the first of the right side.
 pub join-columns : (xs ys : Sorts) (x y : Sort) (ss : Sorts) (cs : List (Option ℕ))
     → operated_by Join (set (tuple (joined xs x)) then set (tuple (y then ys)) then ss) cs ≡ sort (set (tuple (appended xs ys)))

@@ -12,13 +12,13 @@ use Rattle.substitution.specs.MatchWith.{match_all_with}
 use Rattle.row_rules.specs.declared.Cause.{Cause}
 use Rattle.row_rules.specs.declared.Cause.TheVariants.{Panics}
 use Rattle.row_rules.specs.Verdict.{Verdict, sort, refused}
-use Rattle.row_rules.specs.Lists.{firsts, others, remaining, last_of, joined, appended, binding_sorts}
+use Rattle.row_rules.specs.Lists.{firsts, others, remaining, last_of, joined, appended, binding_sorts, all_but_last}
 use Rattle.row_rules.specs.Term.{Site}
 use Rattle.row_rules.proofs.OutcomeLaws.{refused-sort}
 use Rattle.infer_rules.specs.declared.Family.{Family}
 use Rattle.infer_rules.specs.declared.Family.TheVariants.{Truth, Integer, Decimal, Text, Regular, Vector, OneBit, Bits, Constant, Concat, First, Second, Last, Sum, Element, RareList, Singleton, Tuple, UnitTuple, Transpose, Join, Product}
 use Rattle.infer_rules.specs.Family.{family_of}
-use Rattle.infer_rules.specs.Inferred.{first_of, second_of, final_of, some_real, sum_of, selected, rare_of, singleton_of, columns, backwards, all_but_last, join_of, product_of, over_both, transpose_of, operated_by, indexed, plain_app, parametric_app, head_app, chosen, inferred_lambda, inferred_binder, matched, inferred}
+use Rattle.infer_rules.specs.Inferred.{first_of, second_of, final_of, some_real, sum_of, selected, rare_of, singleton_of, columns, backwards, join_of, product_of, over_both, transpose_of, operated_by, indexed, plain_app, parametric_app, head_app, chosen, inferred_lambda, inferred_binder, matched, inferred}
 use Rattle.infer_rules.proofs.PanicLaws.{PanicsWhen, Behind, Some, Unknown, Other, bad, good, panics-said, width-panics}
 use Rattle.infer_rules.proofs.WidthTheorems.{nineteen-way, concat-way, const-way, extract-exactly, extend-exactly, repeat-exactly, convert-exactly}
 

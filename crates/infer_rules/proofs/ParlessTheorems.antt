@@ -10,14 +10,14 @@ use Rattle.substitution.specs.Premises.{parless, parless_all}
 use Rattle.substitution.specs.MatchWith.{is_param_bit_vec, is_bit_vec}
 use Rattle.row_rules.specs.declared.Cause.TheVariants.{Panics}
 use Rattle.row_rules.specs.Verdict.{Verdict, sort}
-use Rattle.row_rules.specs.Lists.{others, remaining, appended, binding_sorts}
+use Rattle.row_rules.specs.Lists.{others, remaining, appended, binding_sorts, all_but_last}
 use Rattle.row_rules.specs.Term.{Site}
 use Rattle.row_rules.specs.Parless.{ParlessVerdict, ParlessSite}
 use Rattle.row_rules.proofs.ParlessLaws.{parless-cond, parless-need, parless-others, parless-remaining, parless-last, parless-joined, parless-appended}
 use Rattle.infer_rules.specs.declared.Family.{Family}
 use Rattle.infer_rules.specs.declared.Family.TheVariants.{Truth, Integer, Decimal, Text, Regular, Vector, OneBit, Bits, Constant, Concat, First, Second, Last, Sum, Element, RareList, Singleton, Tuple, UnitTuple, Transpose, Join, Product}
 use Rattle.infer_rules.specs.Family.{family_of}
-use Rattle.infer_rules.specs.Inferred.{has_width, first_vector, concat_unknown, concat_from, first_of, second_of, final_of, constant_width, some_real, sum_of, rare_of, columns, over_columns, over_both, relation, backwards, all_but_last}
+use Rattle.infer_rules.specs.Inferred.{has_width, first_vector, concat_unknown, concat_from, first_of, second_of, final_of, constant_width, some_real, sum_of, rare_of, columns, over_columns, over_both, relation, backwards}
 use Rattle.infer_rules.specs.Inferred.{join_of, product_of, transpose_of, selected, singleton_of, operated_by, plain_app, inferred_app, chosen, inferred_lambda, inferred_binder, matched, extracted, resized, width_of, indexed, inferred}
 
 ---------------------------------------------------------------- operators

@@ -8,7 +8,7 @@ use Rattle.substitution.specs.Substitution.{Map, empty, apply}
 use Rattle.substitution.specs.MatchWith.{is_param_bit_vec, is_bit_vec, match_all_with}
 use Rattle.row_rules.specs.declared.Cause.TheVariants.{Panics}
 use Rattle.row_rules.specs.Verdict.{Verdict, sort, refused, need}
-use Rattle.row_rules.specs.Lists.{firsts, others, remaining, last_of, joined, appended, binding_sorts}
+use Rattle.row_rules.specs.Lists.{firsts, others, remaining, last_of, joined, appended, binding_sorts, all_but_last}
 use Rattle.row_rules.specs.Term.{Site, Term, verdict_of}
 use Rattle.infer_rules.specs.declared.Family.{Family}
 use Rattle.infer_rules.specs.declared.Family.TheVariants.{Truth, Integer, Decimal, Text, Regular, Vector, OneBit, Bits, Constant, Concat, First, Second, Last, Sum, Element, RareList, Singleton, Tuple, UnitTuple, Transpose, Join, Product}
@@ -97,11 +97,6 @@ backwards (s then ss) acc = backwards ss (s then acc)
 
 -- left.pop() drops the last column of the left side, if there is one; right[1..] the first of the right side, a panic
 -- if there is none.
-unfoldable pub all_but_last : Sorts → Sorts
-all_but_last end = end
-all_but_last (s then end) = end
-all_but_last (s then (r then rs)) = s then all_but_last (r then rs)
-
 abbrev pub join_of : Sorts → Sorts → Verdict
 join_of xs end = refused Panics
 join_of xs (y then ys) = relation (appended (all_but_last xs) ys)

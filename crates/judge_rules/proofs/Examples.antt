@@ -99,7 +99,7 @@ pub k_table : (verdicts k_terms
     ∷ refused Panics ∷ refused Count
     ∷ refused Panics ∷ refused Misfit
     ∷ sort (var 2) ∷ refused Unassigned
-    ∷ sort (set (tuple (real then end))) ∷ refused NoRank
+    ∷ sort (set (tuple (real then end))) ∷ refused Misfit
     ∷ [])
     × (apply_answer (1 ∷ []) opened (int then end) ≡ sort (par (2 ∷ []) (function (int then var 2 then end))))
 unfolding k_terms verdicts apply_answer

@@ -7,9 +7,9 @@ use Rattle.std.proofs.lemmas.Bool.{false≢true, eqb-false}
 use mathlib.Core.List.{List, [], ◌∷◌}
 use Rattle.std.proofs.Math.Option.{Option, none, some}
 use Rattle.std.proofs.Math.ListN.{length, get_or}
-use Rattle.record.specs.Sort.{Sort, Sorts}
+use Rattle.record.specs.Sort.{Sort, Sorts, ◌then◌}
 use Rattle.record.specs.Names.{member}
-use Rattle.record.specs.Cases.{three-right, or_cases, by_test, by_option, none-some, below_other}
+use Rattle.record.specs.Cases.{three-right, or_cases, by_test, by_option, none-some, some_inj, below_other}
 use Rattle.reader.specs.Reader.{all_below}
 use Rattle.sheet.specs.Sheet.{Lengths, Sheet, TermFields}
 use Rattle.sheet.specs.SheetLaws.{referring}
@@ -30,21 +30,21 @@ use Rattle.judge_rules.proofs.JudgedLaws.{told}
 
 ---------------------------------------------------------------- one row
 -- Where a row has a sort, it is no refusal; and where all terms of a list have one, each has.
-row_low : (st : List Sort) (rows : List ℕ) (column i : ℕ) (s : Sort) → row_sort st rows column i ≡ some s → get_or rows (2 * i + column) 0 < 65536
+pub row_low : (st : List Sort) (rows : List ℕ) (column i : ℕ) (s : Sort) → row_sort st rows column i ≡ some s → get_or rows (2 * i + column) 0 < 65536
 unfolding row_sort
 row_low st rows column i s e =
     by_test (ltb (get_or rows (2 * i + column) 0) 65536) (λ q. ltb-true (get_or rows (2 * i + column) 0) 65536 q) (λ q. none-some (rw q at e))
 
-consed-some : (o : Option Sort) (p : Option Sorts) (ss : Sorts) → consed o p ≡ some ss → (s : Sort) × (ts : Sorts) × (o ≡ some s) × (p ≡ some ts)
+pub consed-some : (o : Option Sort) (p : Option Sorts) (ss : Sorts) → consed o p ≡ some ss → (s : Sort) × (ts : Sorts) × (o ≡ some s) × (p ≡ some ts) × (s then ts ≡ ss)
 consed-some none p ss e = none-some e
 consed-some (some s) none ss e = none-some e
-consed-some (some s) (some ts) ss e = (s, ts, refl, refl)
+consed-some (some s) (some ts) ss e = (s, ts, refl, refl, some_inj e)
 
 sorts-member : (row : ℕ → Option Sort) (is : List ℕ) (ss : Sorts) → sorts_given row is ≡ some ss → (j : ℕ) → member j is ≡ true → (s : Sort) × (row j ≡ some s)
 unfolding sorts_given member
 sorts-member row [] ss e j m = absurd (false≢true m)
 sorts-member row (i ∷ is) ss e j m =
-    let (s, ts, p, q) = consed-some (row i) (sorts_given row is) ss e in
+    let (s, ts, p, q, z) = consed-some (row i) (sorts_given row is) ss e in
     by_test (eqb i j)
     (λ k. (s, subst (λ (x : ℕ). row x ≡ some s) (eqb-true i j k) p))
     (λ k. sorts-member row is ts q j (rw k at m))

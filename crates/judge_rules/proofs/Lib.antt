@@ -4,6 +4,8 @@ pub mod BoundedLaws
 pub mod CarriedLaws
 pub mod CauseTheorems
 pub mod Examples
+pub mod FamilyRanks
+pub mod FormsInferred
 pub mod GivenLaws
 pub mod JudgedLaws
 pub mod KeptExample
@@ -15,4 +17,7 @@ pub mod QuestionTheorems
 pub mod RoutesExample
 pub mod RowExactly
 pub mod RowLaws
+pub mod SameExample
+pub mod SameRows
+pub mod SameSorts
 pub mod TwoRoutes

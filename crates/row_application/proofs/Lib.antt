@@ -6,7 +6,6 @@ pub mod ExactLaws
 pub mod HeadLaws
 pub mod DeliveredLaws
 pub mod ListLaws
-pub mod NearLaws
 pub mod ParametricLaws
 pub mod PlainLaws
 pub mod SettledLaws

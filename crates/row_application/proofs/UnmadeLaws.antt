@@ -41,7 +41,7 @@ use Rattle.row_application.specs.Words.{call_in}
 use Rattle.row_application.proofs.DeliveredLaws.{call-bound}
 use Rattle.row_application.proofs.BothLaws.{no_own, withs-fit}
 use Rattle.row_application.proofs.ListLaws.{refs-behind}
-use Rattle.row_application.proofs.NearLaws.{withs-alike}
+use Rattle.check_rules.proofs.NearLaws.{withs-alike}
 
 ---------------------------------------------------------------- the variable of a name
 module _ {b p : List ℕ} {n k : ℕ} (h : OneAsks b p n k) (v : ℕ) {r : SortRecord} (e : EntryHas b p k r) where

@@ -1,3 +1,4 @@
+pub mod ListLaws
 pub mod OutcomeLaws
 pub mod ParlessLaws
 pub mod TermLaws

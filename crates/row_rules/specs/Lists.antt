@@ -36,6 +36,12 @@ unfoldable pub appended : Sorts → Sorts → Sorts
 appended end ts = ts
 appended (s then ss) ts = s then appended ss ts
 
+-- A list without its last entry.
+unfoldable pub all_but_last : Sorts → Sorts
+all_but_last end = end
+all_but_last (s then end) = end
+all_but_last (s then (r then rs)) = s then all_but_last (r then rs)
+
 -- The sorts of bindings.
 unfoldable pub binding_sorts : List Binding → Sorts
 binding_sorts [] = end

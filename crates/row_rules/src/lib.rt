@@ -23,7 +23,7 @@ pub enum Cause {
     NoRank = 24,
     // A wrong count of arguments, bindings or indices, or an index that is no integer constant or out of range.
     Count = 25,
-    // An argument sort fits no rank, or the head is no function.
+    // An argument sort fits no rank, the head is no function, or the sort of Const is no Array, of SetEmpty or SetUniverse no Set.
     Misfit = 26,
     // The result keeps an unassigned parameter.
     Unassigned = 27,

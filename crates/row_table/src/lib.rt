@@ -1,7 +1,9 @@
 // The rows: each term in order gets its inferred row, then its checked row, both over one store.
 #![tactic(auto)]
 
+ghost use Rattle.std.specs.Prelude.{◌≤◌, length};
 ghost use Rattle.store.specs.Changes.{Same};
+ghost use Rattle.row_answer.specs.Args.{SameArgs};
 ghost use Rattle.matching_tables.specs.Names.{SameNames};
 ghost use Rattle.row_table.specs.Words.{BothAsked, BothWritten, TurnAsked, TurnWritten, RowsAsked, RowsWritten};
 ghost use Rattle.row_memo.specs.Words.{PastTrue};
@@ -18,7 +20,7 @@ use sheet::ReadSheet;
 use store::Store;
 
 // Writes both rows of the term `t`, which has this record, at 2 t: the inferred one, then the checked one over the store after it.
-// `past` notes what Apps were found to be, as of each below.
+// `args` is used up; `past` notes what Apps were found to be; both as of each below.
 pub fn rows_of(
     store: &mut Store<'_>,
     names: &mut Names<'_>,
@@ -26,23 +28,21 @@ pub fn rows_of(
     rows: &mut [u32],
     term: TermRecord,
     t: usize,
+    args: &mut Args<'_>,
     past: &mut Past<'_>,
 )
     requires asked { BothAsked store.old names.old sheet.now rows.old term t }
+    requires room { 259 ≤ length args.old.bytes.now }
     requires past { PastTrue store.old past.old }
     ensures same { Same store.old store.new }
     ensures names { SameNames names.old names.new }
     ensures rows { BothWritten store.old names.old sheet.now rows.old term t store.new names.new rows.new }
+    ensures args { SameArgs args.old args.new }
     ensures past { PastTrue store.new past.new }
     ensures same_past { SamePast past.old past.new }
 {
-    let mut buffer = [0u8; LONGEST_RECORD];
-    let mut args = Args {
-        bytes: &mut buffer,
-        count: 0,
-    };
-    let inferred = row::<Inferred>(store, names, sheet, rows, term, &mut args, past);
-    let checked = row::<Checked>(store, names, sheet, rows, term, &mut args, past);
+    let inferred = row::<Inferred>(store, names, sheet, rows, term, args, past);
+    let checked = row::<Checked>(store, names, sheet, rows, term, args, past);
     rows[2 * t] = code(inferred);
     rows[2 * t + 1] = code(checked);
 }
@@ -54,13 +54,16 @@ pub fn term_rows(
     sheet: &ReadSheet<'_>,
     rows: &mut [u32],
     t: usize,
+    args: &mut Args<'_>,
     past: &mut Past<'_>,
 )
     requires asked { TurnAsked store.old names.old sheet.now rows.old t }
+    requires room { 259 ≤ length args.old.bytes.now }
     requires past { PastTrue store.old past.old }
     ensures same { Same store.old store.new }
     ensures names { SameNames names.old names.new }
     ensures rows { TurnWritten store.old names.old sheet.now rows.old t store.new names.new rows.new }
+    ensures args { SameArgs args.old args.new }
     ensures past { PastTrue store.new past.new }
     ensures same_past { SamePast past.old past.new }
 {
@@ -68,7 +71,7 @@ pub fn term_rows(
         at: sheet.starts[t] as usize,
     };
     let (term, _) = cursor.term(sheet.bytes, sheet.sorts, t).unwrap();
-    rows_of(store, names, sheet, rows, term, t, past);
+    rows_of(store, names, sheet, rows, term, t, args, past);
 }
 
 // Writes both rows of each of the first `terms` terms of the sheet into `rows`.
@@ -78,18 +81,21 @@ pub fn rows_past(
     sheet: &ReadSheet<'_>,
     terms: usize,
     rows: &mut [u32],
+    args: &mut Args<'_>,
     past: &mut Past<'_>,
 )
     requires asked { RowsAsked store.old names.old sheet.now terms rows.old }
+    requires room { 259 ≤ length args.old.bytes.now }
     requires past { PastTrue store.old past.old }
     ensures same { Same store.old store.new }
     ensures names { SameNames names.old names.new }
     ensures rows { RowsWritten store.old names.old sheet.now terms rows.old store.new names.new rows.new }
+    ensures args { SameArgs args.old args.new }
     ensures past { PastTrue store.new past.new }
     ensures same_past { SamePast past.old past.new }
 {
     for t in 0..terms {
-        term_rows(store, names, sheet, rows, t, past);
+        term_rows(store, names, sheet, rows, t, args, past);
     }
 }
 
@@ -107,13 +113,18 @@ pub fn rows_all(
     ensures names { SameNames names.old names.new }
     ensures rows { RowsWritten store.old names.old sheet.now terms rows.old store.new names.new rows.new }
 {
+    let mut buffer = [0u8; LONGEST_RECORD];
+    let mut args = Args {
+        bytes: &mut buffer,
+        count: 0,
+    };
     if names.params.len() < NAMES {
         let mut bytes = [0u8; 1];
         let mut past = Past { bytes: &mut bytes };
-        rows_past(store, names, sheet, terms, rows, &mut past);
+        rows_past(store, names, sheet, terms, rows, &mut args, &mut past);
     } else {
         let mut bytes = [0u8; TABLE];
         let mut past = Past { bytes: &mut bytes };
-        rows_past(store, names, sheet, terms, rows, &mut past);
+        rows_past(store, names, sheet, terms, rows, &mut args, &mut past);
     }
 }

@@ -37,6 +37,7 @@ use Rattle.judge_rules.specs.Given.{checked_row, Gives}
 use Rattle.judge_rules.proofs.RowExactly.{row_has, row-exactly, row-infers, row-infers-exactly, row-refused-for, row-refused-exactly, row-panics-for, row-panics-exactly}
 use Rattle.judge_rules.proofs.TwoRoutes.{two-routes}
 use Rattle.judge_rules.proofs.KeptRows.{kept-rows}
+use Rattle.judge_rules.proofs.SameRows.{same-number, same-limit}
 use Rattle.verdicts.specs.Judge.{Outcome, ReadsBack, JudgeIs}
 
 -- IN THE BUFFERS b p rw AT EXIT THE CHECKED ROW OF THE TERM t GIVES THE SORT s: it is no refusal, and the record of its number, read
@@ -167,6 +168,19 @@ module _ {s : List ℕ} {l : Lengths} {b p rw an : List ℕ} {o : Outcome} (j : 
       let (now, codes, given, e) = judgement s l q in
       gives-in j e 1 (omega arith) t low a
       (kept-rows s l h st now rows codes answers given was e t low (roomed-here j e 1 (omega arith) t low f) a g).1
+
+  -- THE CHECKED ROW THAT WAS WRITTEN IS THE INFERRED ROW beside it where it is a store number, and where it is 22 or 23 (`same-number`, `same-limit`).
+  pub judge-same : checked_row rw t < 65536 → get_or rw (2 * t + 0) 0 ≡ checked_row rw t
+  judge-same k =
+      let (st, rows, answers, e) = judgement s l q in
+      let own = row_here j e (2 * t + 1) (omega arith) in
+      row_here j e (2 * t + 0) (omega arith) ∙ same-number s l h st rows answers e t low (subst (λ (c : ℕ). c < 65536) own k) ∙ sym own
+
+  pub judge-same-limit : limited (checked_row rw t) ≡ true → get_or rw (2 * t + 0) 0 ≡ checked_row rw t
+  judge-same-limit k =
+      let (st, rows, answers, e) = judgement s l q in
+      let own = row_here j e (2 * t + 1) (omega arith) in
+      row_here j e (2 * t + 0) (omega arith) ∙ same-limit s l h st rows answers e t low (sym (ap (λ (c : ℕ). limited c) own) ∙ k) ∙ sym own
 
 -- THE ANSWERS ON THE BYTES: each says what its question asks, over the sorts that are read from the records: 1 or 0 as two sorts are compatible;
 -- and where it is not 22 or 23, the sort or the cause of the question's verdict (`judged-answer`).

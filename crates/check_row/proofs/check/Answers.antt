@@ -6,7 +6,7 @@ use Rattle.row_rules.specs.declared.Cause.TheVariants.{NoRank}
 use Rattle.row_answer.specs.AnswerLaws.{judged-as}
 use Rattle.row_parts.specs.Site.{site_over}
 use Rattle.check_operator.proofs.RowLaws.{refused_row}
-use Rattle.check_row.proofs.KindLaws.{checked-constant, checked-match, five_kinds, known-args, let-asks, app-is, op-is, binder-asks, binder-kind, let-is, index-asks, index-kind, var-inside, var-known, var-is, as-inside, as_asks, as_is}
+use Rattle.check_row.proofs.KindLaws.{checked-constant, checked-match, five_kinds, known-args, let-asks, app-is, op-asks, op-is, binder-asks, binder-kind, let-is, index-asks, index-kind, var-inside, var-known, var-is, as-inside, as_asks, as_is}
 use Rattle.check_row.proofs.check.Goals as goal
 
 pub returns-in-Integer-clause-answer : goal.returns-in-Integer-clause-answer
@@ -33,6 +33,9 @@ pub returns-in-App-clause-answer : goal.returns-in-App-clause-answer
 returns-in-App-clause-answer c =
     let h = c.checked_app.ensures.answer in
     record { answer = judged-as (app-is c.requires.site c.requires.count (ap term_number c.in-App.is)) h.answer; params = h.params; images = h.images; bound = h.bound }
+
+pub checked_operator-requires : goal.checked_operator-requires
+checked_operator-requires c = op-asks c.requires.site c.requires.count
 
 pub returns-in-Op-clause-answer : goal.returns-in-Op-clause-answer
 returns-in-Op-clause-answer c = record { answer = judged-as (op-is c.requires.site c.requires.count (ap term_number c.in-Op.is)) c.checked_operator.ensures.answer; params = refl; images = refl; bound = refl }

@@ -7,7 +7,7 @@ use Rattle.row_table.proofs.PastRows.{checked-asks, rows_written}
 use Rattle.row_table.proofs.rows_of.Goals as goal
 
 pub row-checked-requires : goal.row-checked-requires
-row-checked-requires c = checked-asks c.requires.asked c.row-inferred.ensures.row c.row-inferred.new.args.bytes.now (omega (arith, c.row-inferred.ensures.args.1))
+row-checked-requires c = checked-asks c.requires.asked c.row-inferred.ensures.row c.row-inferred.new.args.bytes.now (omega (arith, c.row-inferred.ensures.args.1, c.requires.room))
 
 pub code-requires : goal.code-requires
 code-requires c = answer-code _ _ _ _ _ _ _ (answer c.row-inferred.new.store c.row-inferred.result) c.row-inferred.ensures.row.row.answer

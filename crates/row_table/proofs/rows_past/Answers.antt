@@ -3,7 +3,7 @@ use Rattle.row_table.proofs.TableLaws.{tabling-start, turn-asks, tabling-step, t
 use Rattle.row_table.proofs.rows_past.Goals as goal
 
 pub loop-t-init : goal.loop-t-init
-loop-t-init c = ((refl, refl, refl), (refl, refl, refl), tabling-start c.requires.asked, c.requires.past, (refl, refl))
+loop-t-init c = ((refl, refl, refl), (refl, refl, refl), tabling-start c.requires.asked, c.requires.past, (refl, refl), (refl, refl))
 
 pub term_rows-requires-clause-asked : goal.term_rows-requires-clause-asked
 term_rows-requires-clause-asked c = turn-asks c.requires.asked c.loop-t.invariant.2 c.loop-t-test.true
@@ -21,6 +21,7 @@ loop-t-preserved c =
       tabling-step c.requires.asked i.2 c.loop-t-test.true w.store.records.now w.store.places.now w.store.index.now w.names.params.now w.names.images.now w.names.bound.now w.rows _ e.rows,
       e.past,
       (e.same_past.0 ∙ i.4.0, e.same_past.1 ∙ i.4.1),
+      (e.args.0 ∙ i.5.0, e.args.1 ∙ i.5.1),
     )
 
 pub returns-clause-same : goal.returns-clause-same
@@ -31,6 +32,12 @@ returns-clause-names c = c.loop-t.invariant.1
 
 pub returns-clause-rows : goal.returns-clause-rows
 returns-clause-rows c = tabling-end c.requires.asked c.loop-t.invariant.2 (omega (arith, c.loop-t.auto.t-end, c.loop-t-test.false))
+
+pub term_rows-requires-clause-room : goal.term_rows-requires-clause-room
+term_rows-requires-clause-room c = omega (arith, c.requires.room, c.loop-t.invariant.5.1)
+
+pub returns-clause-args : goal.returns-clause-args
+returns-clause-args c = c.loop-t.invariant.5
 
 pub returns-clause-past : goal.returns-clause-past
 returns-clause-past c = c.loop-t.invariant.3

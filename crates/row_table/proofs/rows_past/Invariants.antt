@@ -4,6 +4,7 @@ use Rattle.store.specs.Changes.{Same}
 use Rattle.matching_tables.specs.Names.{SameNames}
 use Rattle.row_slots.specs.Slots.{SamePast}
 use Rattle.row_memo.specs.Words.{PastTrue}
+use Rattle.row_answer.specs.Args.{SameArgs}
 use Rattle.row_table.proofs.TableLaws.{Tabling}
 use Rattle.row_table.proofs.rows_past.Given as goal
 
@@ -15,3 +16,4 @@ invariant-loop-t l =
     l.store.records.now l.store.places.now l.store.index.now l.names.params.now l.names.images.now l.names.bound.now l.rows l.store.count l.store.used l.t
     × PastTrue l.store l.past
     × SamePast l.initial.past l.past
+    × SameArgs l.initial.args l.args
