@@ -131,7 +131,7 @@ fn tree_sizes() {
         (qualified, [TREE; 2]),
         (above, [BELOW; 2]),
         (fine, [Ok(bool); 2]),
-        (answer, [Err(Refused::Row(Cause::Limit)), Err(Refused::Row(Cause::NoRank))]),
+        (answer, [Err(Refused::Row(Cause::Limit)); 2]),
     ];
     assert_rows(&mut batch, &expected);
 }

@@ -314,14 +314,39 @@ fn strings(most: usize, seed: u64) -> Vec<u8> {
     ])
 }
 
+/// The operators on sets and relations, over the pools of [`sets`].
+const SET_RULES: [Rule; 21] = [
+    (Op::SetUnion, &[1, 1], 1),
+    (Op::SetInter, &[1, 1], 1),
+    (Op::SetMinus, &[2, 2], 2),
+    (Op::SetComplement, &[1], 1),
+    (Op::SetMember, &[0, 1], 7),
+    (Op::SetSubset, &[2, 2], 7),
+    (Op::SetSingleton, &[0], 1),
+    (Op::SetInsert, &[0, 1], 1),
+    (Op::SetInsert, &[6, 6, 6, 2], 2),
+    (Op::SetCard, &[1], 0),
+    (Op::SetIsEmpty, &[3], 7),
+    (Op::SetIsSingleton, &[2], 7),
+    (Op::Tuple, &[0, 5], 6),
+    (Op::TupleUnit, &[], 7),
+    (Op::SetSingleton, &[6], 2),
+    (Op::RelTranspose, &[2], 3),
+    (Op::RelTranspose, &[3], 2),
+    (Op::RelTclosure, &[4], 4),
+    (Op::RelJoin, &[2, 3], 4),
+    (Op::RelJoin, &[4, 2], 2),
+    (Op::RelProduct, &[2, 3], 7),
+];
+
 /// Integers (0), sets (1), relations of Int and Real (2), Real and Int (3), Int and Int (4), reals (5), pairs (6), and the rest (7).
 fn sets(most: usize, seed: u64) -> Vec<u8> {
     let mut make = Make::new(most, seed);
     let int = make.pool(SortRecord::Int);
-    make.pool(SortRecord::Set(int));
+    let set = make.pool(SortRecord::Set(int));
     let real = make.sort(SortRecord::Real);
     let pair = make.sort(SortRecord::Tuple(&[int, real]));
-    make.pool(SortRecord::Set(pair));
+    let relation = make.pool(SortRecord::Set(pair));
     for pool in [3, 4] {
         make.pools.push(Vec::new());
         let relation: Rule = if pool == 3 { (Op::RelTranspose, &[2], 3) } else { (Op::RelJoin, &[2, 3], 4) };
@@ -330,25 +355,20 @@ fn sets(most: usize, seed: u64) -> Vec<u8> {
     make.pool_of(real);
     make.pool_of(pair);
     make.pools.push(Vec::new());
-    make.filled(&[
-        (Op::SetUnion, &[1, 1], 1),
-        (Op::SetInter, &[1, 1], 1),
-        (Op::SetMinus, &[2, 2], 2),
-        (Op::SetComplement, &[1], 1),
-        (Op::SetMember, &[0, 1], 7),
-        (Op::SetSubset, &[2, 2], 7),
-        (Op::SetSingleton, &[0], 1),
-        (Op::SetInsert, &[0, 1], 1),
-        (Op::SetCard, &[1], 0),
-        (Op::SetIsEmpty, &[3], 7),
-        (Op::Tuple, &[0, 5], 6),
-        (Op::SetSingleton, &[6], 2),
-        (Op::RelTranspose, &[2], 3),
-        (Op::RelTranspose, &[3], 2),
-        (Op::RelTclosure, &[4], 4),
-        (Op::RelJoin, &[2, 3], 4),
-        (Op::RelProduct, &[2, 3], 7),
-    ])
+    let constants = [QualifiedOperator::SetEmpty, QualifiedOperator::SetUniverse];
+    while make.more() {
+        match make.random.under(12) {
+            0 => {
+                let (op, (pool, sort)) = (*make.random.of(&constants), *make.random.of(&[(1, set), (2, relation)]));
+                make.put(pool, TermRecord::AsOp(op, sort, &[]));
+            }
+            _ => {
+                let rule = *make.random.of(&SET_RULES);
+                make.by(rule);
+            }
+        }
+    }
+    make.sheet.finish().into_bytes()
 }
 
 /// Bool (0), integers (1), reals (2) and functions (3).

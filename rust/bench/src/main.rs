@@ -36,7 +36,7 @@ use beside::random::Random;
 use compare::sizes;
 use families::{FAMILIES, parametric};
 use measure::in_turn;
-use napsilo::{Lent, judge_into};
+use napsilo::{Lent, Operator, judge_into};
 use pool::Decoded;
 use special::Asked;
 use std::fs;
@@ -86,6 +86,12 @@ fn cases() -> Vec<Case> {
         ("worst: 20 heads give 4,033 nodes, 2,000 sorts in one bucket", special::great_collisions(20)),
         ("480 sorts of 64 parts", special::wide_sorts()),
         ("240 lambdas of 63 bindings", special::wide_lambdas()),
+        ("240 tuples of 64 arguments", special::wide_tuples()),
+        ("480 sets that get 63 elements", special::wide_inserts()),
+        ("400 joins of 33 and 33 columns", special::wide_pairs(Operator::RelJoin, 33)),
+        ("400 products of 32 and 32 columns", special::wide_pairs(Operator::RelProduct, 32)),
+        ("200 transposes of 64 columns", special::wide_transposes()),
+        ("worst: 4,000 joins of 33 and 33 columns, one sort", special::joined_again()),
         ("parametric applications, 4,096 terms, sizes written", sizes::all(&parametric(4_096, 1))),
         ("480 sorts of 64 parts, sizes written", sizes::all(&special::wide_sorts())),
         ("worst: 1 Bool, 2,047 sorts in one bucket, sizes written", sizes::all(&special::collisions(2_047, 1))),

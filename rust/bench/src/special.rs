@@ -75,6 +75,83 @@ pub fn wide() -> Vec<u8> {
     make.sheet.finish().into_bytes()
 }
 
+/// Small leaves of 16 sorts, a variable of each.
+fn of_widths(make: &mut Make) -> Vec<(SortId, TermId)> {
+    let sorts: Vec<SortId> = (1..=16).map(|width| make.sort(SortRecord::BitVec(width))).collect();
+    sorts.into_iter().map(|sort| (sort, make.var(sort))).collect()
+}
+
+/// Tuples of 64 arguments, of which each has a sort of 64 parts that is new in the store.
+pub fn wide_tuples() -> Vec<u8> {
+    let mut make = Make::new(0, SEED);
+    let leaves = of_widths(&mut make);
+    for _ in 0..240 {
+        let arguments: Vec<TermId> = (0..64).map(|_| make.random.of(&leaves).1).collect();
+        make.term(TermRecord::Op(Operator::Tuple, &arguments));
+    }
+    make.sheet.finish().into_bytes()
+}
+
+/// Sets that get 63 elements each.
+pub fn wide_inserts() -> Vec<u8> {
+    let mut make = Make::new(0, SEED);
+    let int = make.sort(SortRecord::Int);
+    let set = make.sort(SortRecord::Set(int));
+    let elements: Vec<TermId> = (0..64).map(|_| make.var(int)).collect();
+    let mut last = make.var(set);
+    for _ in 0..480 {
+        let mut arguments: Vec<TermId> = (0..63).map(|_| *make.random.of(&elements)).collect();
+        arguments.push(last);
+        last = make.term(TermRecord::Op(Operator::SetInsert, &arguments));
+    }
+    make.sheet.finish().into_bytes()
+}
+
+/// So many variables of relations with so many columns each, of which the first and the last have one sort, and no two are alike.
+fn relations(make: &mut Make, count: usize, columns: usize) -> Vec<TermId> {
+    let leaves = of_widths(make);
+    let mut relations = Vec::new();
+    for _ in 0..count {
+        let mut sorts: Vec<SortId> = (0..columns).map(|_| make.random.of(&leaves).0).collect();
+        (sorts[0], sorts[columns - 1]) = (leaves[0].0, leaves[0].0);
+        let tuple = make.sort(SortRecord::Tuple(&sorts));
+        let relation = make.sort(SortRecord::Set(tuple));
+        relations.push(make.var(relation));
+    }
+    relations
+}
+
+/// An operator on relations at each two of 20 relations with so many columns, whose answer has 64, new in the store.
+pub fn wide_pairs(operator: Operator, columns: usize) -> Vec<u8> {
+    let mut make = Make::new(0, SEED);
+    let relations = relations(&mut make, 20, columns);
+    for left in &relations {
+        for right in &relations {
+            make.term(TermRecord::Op(operator, &[*left, *right]));
+        }
+    }
+    make.sheet.finish().into_bytes()
+}
+
+/// Relations of 64 columns turned round, each of which gives a sort that is new in the store.
+pub fn wide_transposes() -> Vec<u8> {
+    let mut make = Make::new(0, SEED);
+    for relation in relations(&mut make, 200, 64) {
+        make.term(TermRecord::Op(Operator::RelTranspose, &[relation]));
+    }
+    make.sheet.finish().into_bytes()
+}
+
+/// The same two relations of 33 columns joined 4,000 times: the answer's 64 columns are in the store.
+pub fn joined_again() -> Vec<u8> {
+    let mut make = Make::new(0, SEED);
+    let relations = relations(&mut make, 2, 33);
+    for _ in 0..4_000 {
+        make.term(TermRecord::Op(Operator::RelJoin, &relations));
+    }
+    make.sheet.finish().into_bytes()
+}
+
 /// A tree of arrays of this height over a leaf.
 fn arrays(make: &mut Make, leaf: SortId, height: usize) -> SortId {
     (0..height).fold(leaf, |part, _| make.sort(SortRecord::Array(part, part)))

@@ -242,6 +242,11 @@ pub fn numbers(random: &mut Random) -> Vec<u8> {
     compare::numbers::sheet(&mut |bound| random.under(bound))
 }
 
+/// A sheet about sets and relations.
+pub fn relations(random: &mut Random) -> Vec<u8> {
+    compare::relations::sheet(&mut |bound| random.under(bound))
+}
+
 /// A copy of a sheet with something changed.
 pub fn damaged(random: &mut Random, sheet: &[u8]) -> Vec<u8> {
     let mut copy = sheet.to_vec();
@@ -519,7 +524,7 @@ impl Maker<'_> {
     }
 
     /// What an operator wants: a list of wishes, by its rank or, where it has none, by what the Rust looks at. Int and Real beside each other
-    /// are left to [`numbers`].
+    /// are left to [`numbers`], sets with several elements put into them, pairs of one sort and relations that touch to [`relations`].
     fn wants(&mut self, operator: Operator) -> Vec<Want> {
         let several = 2 + self.random.under(3);
         let number = *self.random.of(&[INT, REAL]);

@@ -53,10 +53,14 @@ pub fn mend(case: &mut Case, explanation: &Explanation) -> bool {
             case.indices[argument.position - 1] = Part::Integer(value);
             true
         }
-        (_, Some(Argument { role: Role::Sort, .. })) => {
+        (Expected::Array, Some(Argument { role: Role::Sort, .. })) => {
             let element = value(&case.list[0]);
             case.sort = Some(Arc::new(Sort::Array(Arc::new(Sort::Int), element)));
-            *expected == Expected::Array
+            true
+        }
+        (_, Some(Argument { role: Role::Sort, .. })) => {
+            case.sort = instance(case, expected);
+            *expected == Expected::Set
         }
         (_, Some(argument)) => match instance(case, expected) {
             Some(sort) => {
@@ -107,7 +111,10 @@ fn instance(case: &Case, expected: &Expected) -> Option<Arc<Sort>> {
             _ => Arc::new(Sort::BitVec(8)),
         },
         Expected::Array => Arc::new(Sort::Array(int, Arc::new(Sort::Bool))),
-        Expected::Relation(columns) => Arc::new(Sort::Set(Arc::new(Sort::Tuple(vec![int; *columns])))),
+        Expected::Set => Arc::new(Sort::Set(int)),
+        Expected::Relation(columns) => relation(&vec![int; *columns]),
+        Expected::Starting(sort) => relation(&[sort.clone(), int]),
+        Expected::Pairs => relation(&[int.clone(), int]),
         Expected::Function | Expected::Taking(_) => {
             let mut list: Vec<Arc<Sort>> = case.list[1..].iter().map(value).collect();
             list.push(Arc::new(Sort::Bool));
@@ -115,6 +122,22 @@ fn instance(case: &Case, expected: &Expected) -> Option<Arc<Sort>> {
         }
         _ => return None,
     })
+}
+
+/// The sort of a set of tuples of these sorts.
+fn relation(entries: &[Arc<Sort>]) -> Arc<Sort> {
+    Arc::new(Sort::Set(Arc::new(Sort::Tuple(entries.to_vec()))))
+}
+
+/// The sorts of the tuples of a set; nothing of another sort.
+fn entries(sort: &Sort) -> Option<&[Arc<Sort>]> {
+    match sort {
+        Sort::Set(part) => match part.as_ref() {
+            Sort::Tuple(entries) => Some(entries),
+            _ => None,
+        },
+        _ => None,
+    }
 }
 
 /// How many parts of a role there are.
@@ -226,12 +249,12 @@ fn round(least: u64, most: Option<u64>) -> Vec<(u64, bool)> {
 
 /// Sorts of several kinds.
 fn candidates() -> Vec<Arc<Sort>> {
-    let int = Arc::new(Sort::Int);
-    let array = Sort::Array(int.clone(), Arc::new(Sort::Bool));
-    let unit = Arc::new(Sort::Tuple(vec![]));
-    let row = Arc::new(Sort::Tuple(vec![int.clone()]));
+    let [int, bool] = [Sort::Int, Sort::Bool].map(Arc::new);
+    let array = Sort::Array(int.clone(), bool.clone());
     let several = [Sort::Bool, Sort::Real, Sort::String, Sort::RegLan, Sort::BitVec(7), Sort::BitVec(8), array];
-    several.into_iter().chain([Sort::Set(int), Sort::Set(unit), Sort::Set(row), Sort::Int]).map(Arc::new).collect()
+    let several = several.into_iter().chain([Sort::Set(int.clone()), Sort::Int]).map(Arc::new);
+    let rows = [vec![], vec![int.clone()], vec![bool.clone()], vec![int.clone(), int.clone()], vec![int, bool]];
+    several.chain(rows.iter().map(|entries| relation(entries))).collect()
 }
 
 /// Whether a sort without variables is as expected; nothing if no sort was expected, or one of a form.
@@ -241,10 +264,10 @@ fn admits(expected: &Expected, sort: &Sort) -> Option<bool> {
         Expected::IntOrReal => matches!(sort, Sort::Int | Sort::Real),
         Expected::BitVec => matches!(sort, Sort::BitVec(_)),
         Expected::Array => matches!(sort, Sort::Array(..)),
-        Expected::Relation(columns) => match sort {
-            Sort::Set(part) => matches!(&**part, Sort::Tuple(list) if list.len() >= *columns),
-            _ => false,
-        },
+        Expected::Set => matches!(sort, Sort::Set(_)),
+        Expected::Relation(columns) => entries(sort).is_some_and(|entries| entries.len() >= *columns),
+        Expected::Starting(first) => entries(sort).is_some_and(|entries| entries.first() == Some(first)),
+        Expected::Pairs => matches!(entries(sort), Some([from, to]) if from == to),
         Expected::Function => false,
         Expected::NotPar => true,
         _ => return None,

@@ -75,6 +75,13 @@ fn int_and_real_beside_each_other() {
 }
 
 #[test]
+fn sets_and_relations() {
+    let trial = tried(62, 300, 1, make::relations);
+    assert!([0, 25, 26].iter().all(|number| trial.checked[*number] > 100));
+    assert!([20, 22, 28].iter().all(|number| trial.checked[*number] > 10));
+}
+
+#[test]
 fn sorts_past_the_limit_with_sizes() {
     let trial = tried(9, 60, 1, make::over);
     assert!(trial.sheets[9] > 10 && trial.sheets[34] > 10);

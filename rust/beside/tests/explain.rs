@@ -73,6 +73,7 @@ fn random_sheets() {
                 0 => make::large(&mut random),
                 1 => make::repeated(&mut random),
                 2 | 12 => make::numbers(&mut random),
+                4 | 14 => make::relations(&mut random),
                 at if at % 2 == 0 => make::sheet(&mut random),
                 _ => sheet(&mut source),
             })?;

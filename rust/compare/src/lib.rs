@@ -4,14 +4,18 @@
 //! - [`sweep`]: sheets with every operator at every choice of arguments from a list of sorts;
 //! - [`random`]: random sheets, some of them broken;
 //! - [`numbers`]: random sheets about numbers, Int and Real beside each other;
+//! - [`relations`]: random sheets about sets and relations;
 //! - [`sizes`]: writes tree sizes into the sort records of a sheet;
 //! - [`vectors`]: writes sheets with what they must give.
 //!
 //! The oracle and the model are compared in the inferred column and in the answers, and in whether a sheet is refused; the model and the
 //! program in the whole printout, and the model and the program of pages in all pages.
 
+mod choice;
 pub mod numbers;
 pub mod random;
+pub mod relations;
+mod shapes;
 pub mod sizes;
 pub mod sweep;
 pub mod vectors;

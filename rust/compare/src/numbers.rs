@@ -3,6 +3,7 @@
 //!
 //! Arguments are chosen by their inferred sorts, which the operators tell; nothing is asked of the model, of carcara or of a library.
 
+use crate::choice::Choice;
 use crate::writer::{Fields, Writer};
 use model::operator::Operator;
 use model::sort::Kind;
@@ -40,8 +41,7 @@ const OTHER: usize = 3;
 
 /// A sheet in the making.
 struct Maker<'a> {
-    /// Gives a random number under one that is not 0.
-    under: &'a mut dyn FnMut(usize) -> usize,
+    choice: Choice<'a>,
     writer: Writer,
     /// The terms of each pool.
     pools: [Vec<u16>; 4],
@@ -60,8 +60,8 @@ struct Sorts {
 /// A sheet about numbers. `under` gives a random number under one that is not 0.
 pub fn sheet(under: &mut dyn FnMut(usize) -> usize) -> Vec<u8> {
     let mut maker = Maker::new(under);
-    for _ in 0..8 + maker.below(16) {
-        match maker.below(12) {
+    for _ in 0..8 + maker.choice.below(16) {
+        match maker.choice.below(12) {
             0..7 => maker.mixing(),
             7..10 => maker.strict(),
             10 => maker.application(),
@@ -92,23 +92,12 @@ impl<'a> Maker<'a> {
             vec![w.var(bool)],
             vec![w.var(string), w.var(own), heads[1].0],
         ];
-        Maker { under, writer, pools, heads, sorts: Sorts { real, array } }
-    }
-
-    /// A number under this one.
-    fn below(&mut self, bound: usize) -> usize {
-        (self.under)(bound)
-    }
-
-    /// One of some values.
-    fn one<T: Copy>(&mut self, values: &[T]) -> T {
-        values[self.below(values.len())]
+        Maker { choice: Choice(under), writer, pools, heads, sorts: Sorts { real, array } }
     }
 
     /// A term of a pool.
     fn of(&mut self, pool: usize) -> u16 {
-        let at = self.below(self.pools[pool].len());
-        self.pools[pool][at]
+        self.choice.one(&self.pools[pool])
     }
 
     /// Whether a term stands among those of sort Real.
@@ -118,12 +107,12 @@ impl<'a> Maker<'a> {
 
     /// So many numbers: each Int or Real by itself, or all of one of these sorts but one.
     fn numbers(&mut self, count: usize) -> Vec<u16> {
-        let (most, other) = self.one(&[(INT, REAL), (REAL, INT)]);
-        let single = self.below(2 * count + 1);
+        let (most, other) = self.choice.one(&[(INT, REAL), (REAL, INT)]);
+        let single = self.choice.below(2 * count + 1);
         let mut list = Vec::new();
         for at in 0..count {
             let pool = match at {
-                _ if single >= count => self.one(&[INT, REAL]),
+                _ if single >= count => self.choice.one(&[INT, REAL]),
                 _ if at == single => other,
                 _ => most,
             };
@@ -134,24 +123,24 @@ impl<'a> Maker<'a> {
 
     /// Adds an operator, and puts it into the pool of its inferred sort; now and then one argument is no number.
     fn operator(&mut self, operator: Operator, mut list: Vec<u16>, pool: usize) {
-        let spoiled = !list.is_empty() && self.below(7) == 0;
+        let spoiled = !list.is_empty() && self.choice.below(7) == 0;
         if spoiled {
-            let at = self.below(list.len());
-            let pool = self.one(&[BOOL, OTHER]);
+            let at = self.choice.below(list.len());
+            let pool = self.choice.one(&[BOOL, OTHER]);
             list[at] = self.of(pool);
         }
         let number = Some(operator as u32);
         let term = self.writer.term(Fields { kind: 7, number, list: Some(&list), ..Fields::default() });
         // What stands over a refused term is refused for it: not too often.
-        if !spoiled || self.below(3) == 0 {
+        if !spoiled || self.choice.below(3) == 0 {
             self.pools[pool].push(term);
         }
     }
 
     /// Adds an operator that takes Int and Real beside each other, at none to five numbers.
     fn mixing(&mut self) {
-        let operator = self.one(&MIXING);
-        let count = self.one(&[0, 1, 1, 2, 2, 2, 2, 3, 3, 3, 4, 5]);
+        let operator = self.choice.one(&MIXING);
+        let count = self.choice.one(&[0, 1, 1, 2, 2, 2, 2, 3, 3, 3, 4, 5]);
         let list = self.numbers(count);
         let pool = match operator {
             Operator::RealDiv => REAL,
@@ -164,8 +153,8 @@ impl<'a> Maker<'a> {
 
     /// Adds an operator that asks for one sort, or for one of the two, at numbers of both.
     fn strict(&mut self) {
-        let operator = self.one(&STRICT);
-        let several = 2 + self.below(2);
+        let operator = self.choice.one(&STRICT);
+        let several = 2 + self.choice.below(2);
         let mut list = match operator {
             Operator::Equals | Operator::Distinct | Operator::IntDiv => self.numbers(several),
             Operator::Ite | Operator::Mod => self.numbers(2),
@@ -186,8 +175,7 @@ impl<'a> Maker<'a> {
 
     /// Adds an application of a head that asks for Int and Real, or for one sort twice.
     fn application(&mut self) {
-        let heads = self.heads;
-        let (head, pool) = self.one(&heads);
+        let (head, pool) = self.choice.one(&self.heads);
         let list = [&[head], self.numbers(2).as_slice()].concat();
         let term = self.writer.term(Fields { kind: 6, list: Some(&list), ..Fields::default() });
         self.pools[pool].push(term);
@@ -199,7 +187,7 @@ impl<'a> Maker<'a> {
         let (number, said) = list.split_at(1);
         let pairs = [(2, self.sorts.real)];
         let empty = Fields::default();
-        let (fields, pool) = match self.below(4) {
+        let (fields, pool) = match self.choice.below(4) {
             0 => (Fields { kind: 8, number: Some(0), list: Some(said), pairs: Some(&pairs), ..empty }, BOOL),
             1 => (Fields { kind: 8, number: Some(3), list: Some(number), pairs: Some(&pairs), ..empty }, OTHER),
             2 => (Fields { kind: 9, list: Some(&list), second: Some(&[2]), ..empty }, BOOL),
@@ -216,9 +204,8 @@ impl<'a> Maker<'a> {
 #[cfg(test)]
 mod tests {
     use super::*;
-    use crate::random::Source;
+    use crate::random::judged;
     use model::operator::OPERATORS;
-    use model::reader::{self, Lent};
     use std::collections::BTreeMap;
 
     /// The sorts of arguments in a word: I for Int, R for Real, o for another; nothing if one of them is refused.
@@ -233,21 +220,16 @@ mod tests {
 
     /// What is met on so many sheets.
     fn met(sheets: usize) -> Met {
-        let all = Lent { records: 1_024, places: 64, rows: 64, answers: 0 };
-        let mut source = Source::new(1);
         let mut met = Met::new();
-        for _ in 0..sheets {
-            let sheet = sheet(&mut |bound| source.under(bound));
-            let (read, _) = reader::read(&sheet, &all).expect("a sheet within the limits");
-            let judged = model::judge(&sheet, all.records, all.places, all.rows, all.answers);
+        judged(sheets, sheet, &mut |terms, judged| {
             let checked: Vec<u32> = judged.rows.iter().skip(1).step_by(2).copied().collect();
-            for (term, row) in read.terms.iter().zip(&checked).filter(|(term, _)| term.kind == 7) {
+            for (term, row) in terms.iter().zip(&checked).filter(|(term, _)| term.kind == 7) {
                 let operator = OPERATORS[term.number as usize];
                 if let Some(word) = word(&term.list, &checked) {
                     *met.entry((operator, word, row >> 16)).or_default() += 1;
                 }
             }
-        }
+        });
         met
     }
 

@@ -1,8 +1,8 @@
-//! Random sheets: general ones, ones about parametric functions and matching, some of both with tree sizes written, broken ones, and one in ten
-//! about numbers.
+//! Random sheets: general ones, ones about parametric functions and matching, some of both with tree sizes written, broken ones, one in ten
+//! about numbers, and one in ten about sets and relations.
 
 use crate::writer::{Fields, Writer};
-use crate::{numbers, sizes};
+use crate::{numbers, relations, sizes};
 use model::reader::{self, Lent};
 
 /// A source of random numbers (splitmix64).
@@ -90,10 +90,14 @@ pub fn sheet(source: &mut Source) -> Vec<u8> {
             }
         }
         16 => bytes.push(0),
-        // By numbers of its own, so that the source goes on as it did before there was this kind.
+        // By numbers of their own, so that the source goes on as it did before there were these kinds.
         17..27 => {
             let mut apart = source.clone();
             bytes = numbers::sheet(&mut |bound| apart.under(bound));
+        }
+        27..37 => {
+            let mut apart = source.clone();
+            bytes = relations::sheet(&mut |bound| apart.under(bound));
         }
         _ => (),
     }
@@ -106,6 +110,22 @@ pub fn sheet_or_wrong(source: &mut Source) -> Vec<u8> {
     match source.under(8) {
         0 => sizes::wrong(&sheet, &mut |bound| source.under(bound)),
         _ => sheet,
+    }
+}
+
+/// Gives `see` the terms of so many sheets, which `make` makes of random numbers, with what the model gives for them.
+#[cfg(test)]
+pub(crate) fn judged(
+    sheets: usize,
+    make: fn(&mut dyn FnMut(usize) -> usize) -> Vec<u8>,
+    see: &mut dyn FnMut(&[reader::Term], &model::Judged),
+) {
+    let all = Lent { records: 65_536, places: 4_096, rows: 256, answers: 0 };
+    let mut source = Source::new(1);
+    for _ in 0..sheets {
+        let sheet = make(&mut |bound| source.under(bound));
+        let (read, _) = reader::read(&sheet, &all).expect("a sheet within the limits");
+        see(&read.terms, &model::judge(&sheet, all.records, all.places, all.rows, all.answers));
     }
 }
 

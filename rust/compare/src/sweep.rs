@@ -1,6 +1,7 @@
 //! Sheets with every operator at every choice of arguments from a list of sorts, and sheets at the limits.
 
 use crate::numbers::MIXING;
+use crate::relations::SETS;
 use crate::writer::{Fields, Writer};
 use model::operator::Operator;
 use model::sort::Kind;
@@ -125,6 +126,93 @@ fn numbers() -> Vec<u8> {
     w.bytes()
 }
 
+/// A sheet of the operators on sets and relations at up to two arguments: elements, a Par, sets, sets of sets, tuples, relations of up to three
+/// columns.
+fn sets() -> Vec<u8> {
+    let mut w = Writer::default();
+    let [bool, int] = [Kind::Bool, Kind::Int].map(|kind| w.plain(kind as u8));
+    let n1 = w.variable(1);
+    let function = w.parts(Kind::Function as u8, &[n1, bool]);
+    let par = w.par(function, &[1]);
+    let tuples = [vec![], vec![int], vec![int, int], vec![int, bool], vec![bool, n1, bool]];
+    let tuples = tuples.map(|columns| w.parts(Kind::Tuple as u8, &columns));
+    let elements = [int, n1].into_iter().chain(tuples).collect::<Vec<u16>>();
+    let sets: Vec<u16> = elements.iter().map(|element| w.parts(Kind::Set as u8, &[*element])).collect();
+    let set_of_sets = w.parts(Kind::Set as u8, &sets[..1]);
+    let sorts = [[int, n1, par, tuples[1], function].as_slice(), &sets, &[set_of_sets]].concat();
+    let values: Vec<u16> = sorts.iter().map(|sort| w.var(*sort)).collect();
+    for operator in SETS {
+        for list in up_to(&values, 2) {
+            w.term(Fields { kind: 7, number: Some(operator as u32), list: Some(&list), ..Fields::default() });
+        }
+    }
+    for number in 1..=2 {
+        for sort in 0..u16::try_from(w.sorts.len()).expect("few") {
+            for list in up_to(&values[..2], 1) {
+                w.term(Fields {
+                    kind: 12,
+                    number: Some(number),
+                    sort: Some(sort),
+                    list: Some(&list),
+                    ..Fields::default()
+                });
+            }
+        }
+    }
+    w.bytes()
+}
+
+/// A sheet of sets and relations in long lists and at the limits: many elements put into a set, long tuples, relations that are as wide as they may
+/// be or have trees of the greatest size.
+fn wide_sets() -> Vec<u8> {
+    let mut w = Writer::default();
+    let [bool, int] = [Kind::Bool, Kind::Int].map(|kind| w.plain(kind as u8));
+    let n1 = w.variable(1);
+    let function = w.parts(Kind::Function as u8, &[n1, bool]);
+    let par = w.par(function, &[1]);
+    let set = w.parts(Kind::Set as u8, &[int]);
+    let mut tree = int;
+    for _ in 0..10 {
+        tree = w.parts(Kind::Array as u8, &[tree, tree]);
+    }
+    // Relations by their columns: of Int, and of trees of 2,047.
+    let mut relation = |columns: &[u16]| {
+        let tuple = w.parts(Kind::Tuple as u8, columns);
+        w.parts(Kind::Set as u8, &[tuple])
+    };
+    let wide = [0, 1, 2, 31, 32, 33, 34, 62, 63, 64].map(|count| relation(&vec![int; count]));
+    let great = [vec![tree], vec![int, tree], vec![tree, int], vec![tree, tree]].map(|columns| relation(&columns));
+    let relations: Vec<u16> = wide.into_iter().chain(great).map(|sort| w.var(sort)).collect();
+    let values = [int, set, bool, par].map(|sort| w.var(sort));
+    for operator in [Operator::SetInsert, Operator::Tuple] {
+        for list in lists(&values, 3).into_iter().chain(long_lists(values)) {
+            w.term(Fields { kind: 7, number: Some(operator as u32), list: Some(&list), ..Fields::default() });
+        }
+    }
+    for operator in SETS {
+        let most = if operator >= Operator::RelTranspose { 2 } else { 1 };
+        for list in up_to(&relations, most) {
+            w.term(Fields { kind: 7, number: Some(operator as u32), list: Some(&list), ..Fields::default() });
+        }
+    }
+    w.bytes()
+}
+
+/// The longest list of an Int and last of a set, and the same with another of these first, in the middle, or at one of the last two places.
+fn long_lists(values: [u16; 4]) -> Vec<Vec<u16>> {
+    let [int, set, ..] = values;
+    let most = [[int; 63].as_slice(), &[set]].concat();
+    let mut all = vec![most.clone()];
+    for place in [0, 31, 62, 63] {
+        for other in values {
+            let mut list = most.clone();
+            list[place] = other;
+            all.push(list);
+        }
+    }
+    all
+}
+
 /// A sheet at the limits of trees, lists and widths.
 fn limits() -> Vec<u8> {
     let mut w = Writer::default();
@@ -191,6 +279,8 @@ pub fn sheets(give: &mut dyn FnMut(&[u8])) {
     give(&relations());
     give(&limits());
     give(&numbers());
+    give(&sets());
+    give(&wide_sets());
     let base = base();
     let mut writer = base.writer.clone();
     let start = writer.terms.len();

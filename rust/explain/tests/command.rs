@@ -76,6 +76,18 @@ T10 Bool !26
     assert!(recorded::text("examples/README.md").contains(&format!("examples/prism.sheet)\n\n{shown}\n")));
 }
 
+/// The join whose touching columns do not agree is refused, and what stands over it; the page of the examples shows the same.
+#[test]
+fn the_branches_with_names() {
+    let join = "(rel.join (set.union runs leases) (set.union runs leases)): argument 2, (set.union runs leases), \
+                has sort (Set (Tuple Shop Branch)), expected a set of tuples whose first entry has sort Branch (!26)";
+    let refused = format!("T14 (Set (Tuple Shop Branch)) !26\n  T14 {join}\nT15 Bool !20\n  T15 holds T14 {join}\n");
+    let output = command(&["--names", "examples/branches.names", "--only-refused", "examples/branches.sheet"]).output();
+    assert_eq!(said(&output.expect("it runs")), (refused.clone(), Some(1)));
+    let shown: String = refused.lines().map(|line| format!("    {line}\n")).collect();
+    assert!(recorded::text("examples/README.md").contains(&format!("examples/branches.sheet)\n\n{shown}\n")));
+}
+
 /// A name that looks like a sort, an operator or two words is told from it: the session's sort is not Bool.
 #[test]
 fn names_that_look_like_something_else() {

@@ -1,4 +1,4 @@
-//! The checked row: the ranks of SMT-LIB, and the order of what can be wrong.
+//! The checked row: the ranks of SMT-LIB, those of sets and relations, and the order of what can be wrong.
 //!
 //! After 20 come 24 (no rank), 28 (what a record's own sorts may not hold), 25 (counts and indices), 26 (arguments) and 27 (a parameter
 //! that nothing assigns). A sort fits where it is equal; a parametric sort fits nowhere but as an App's head.
@@ -28,12 +28,7 @@ pub fn check(terms: &[Term], term: &Term, sorts: &[Tree]) -> Result<Tree, Cause>
             Ok(sorts[sorts.len() - 1].clone())
         }
         11 => indexed(terms, term, sorts),
-        12 => {
-            let sort = own(term);
-            expect(sorts.len() == 1, Cause::Count)?;
-            expect(sort.kind == Kind::Array && sorts[0] == sort.parts[1], Cause::Unfit)?;
-            Ok(sort)
-        }
+        12 => qualified(term, sorts),
         _ => Ok(own(term)),
     }
 }
@@ -56,10 +51,9 @@ fn value(sort: &Tree) -> bool {
 /// Whether a term's operator has a rank.
 fn ranked(term: &Term) -> bool {
     match term.kind {
-        7 => !matches!(term.number, 24..=41 | 54 | 78 | 110..=134),
+        7 => !matches!(term.number, 24..=41 | 54 | 78 | 110..=117),
         10 => false,
         11 => !matches!(term.number, 1 | 2 | 8),
-        12 => term.number == 0,
         _ => true,
     }
 }
@@ -142,6 +136,19 @@ fn bound(term: &Term, body: &Tree) -> Result<Tree, Cause> {
     }
 }
 
+/// The sort of `as const`, which takes an element of the Array it gives, or of the empty set or the set of all, of a Set sort.
+fn qualified(term: &Term, sorts: &[Tree]) -> Result<Tree, Cause> {
+    let sort = own(term);
+    let constant = term.number == 0;
+    expect(sorts.len() == usize::from(constant), Cause::Count)?;
+    let fits = match constant {
+        true => sort.kind == Kind::Array && sorts[0] == sort.parts[1],
+        false => sort.kind == Kind::Set,
+    };
+    expect(fits, Cause::Unfit)?;
+    Ok(sort)
+}
+
 /// The sort of an indexed operator: one argument, and one index or two.
 fn indexed(terms: &[Term], term: &Term, sorts: &[Tree]) -> Result<Tree, Cause> {
     let operator = INDEXED[term.number as usize];
@@ -187,13 +194,14 @@ fn takes(operator: Operator) -> Takes {
     use Operator::*;
     use Takes::{AtLeast, Exactly};
     match operator {
-        True | False | ReNone | ReAll | ReAllChar => Exactly(0),
-        Sub => AtLeast(1),
+        True | False | ReNone | ReAll | ReAllChar | TupleUnit => Exactly(0),
+        Sub | Tuple => AtLeast(1),
         Implies | And | Or | Xor | Equals | Distinct | Add | Mult | IntDiv | RealDiv | LessThan | GreaterThan
         | LessEq | GreaterEq | StrConcat | StrLessThan | StrLessEq | ReConcat | ReUnion | ReIntersection | ReDiff
-        | BvAnd | BvOr | BvAdd | BvMul => AtLeast(2),
+        | BvAnd | BvOr | BvAdd | BvMul | SetInsert => AtLeast(2),
         Not | Abs | ToReal | ToInt | IsInt | StrLen | StrIsDigit | StrToCode | StrFromCode | StrToInt | StrFromInt
-        | StrToRe | ReKleeneClosure | ReComplement | ReKleeneCross | ReOption | BvNot | BvNeg | UBvToInt | SBvToInt => {
+        | StrToRe | ReKleeneClosure | ReComplement | ReKleeneCross | ReOption | BvNot | BvNeg | UBvToInt | SBvToInt
+        | SetSingleton | SetIsEmpty | SetIsSingleton | SetCard | SetComplement | RelTranspose | RelTclosure => {
             Exactly(1)
         }
         Ite | Store | Substring | IndexOf | Replace | ReplaceAll | ReplaceRe | ReplaceReAll => Exactly(3),
@@ -270,6 +278,41 @@ fn rank(operator: Operator, sorts: &[Tree]) -> Option<Tree> {
         BvComp => vectors().map(|_| Sort::bit_vec(1)),
         BvConcat => all_are(BitVec).then(|| Sort::bit_vec(sorts[0].width + sorts[1].width)),
         UBvToInt | SBvToInt => all(BitVec, Int),
+        _ => set_rank(operator, sorts),
+    }
+}
+
+/// The same for the operators over sets and relations; nothing for others.
+fn set_rank(operator: Operator, sorts: &[Tree]) -> Option<Tree> {
+    use Operator::*;
+    let (last, before) = sorts.split_last().map_or((None, sorts), |(last, before)| (Some(last), before));
+    // The last argument's sort, if it is a Set.
+    let set = || last.filter(|sort| sort.kind == Kind::Set);
+    // The same, if all arguments have one sort.
+    let one_set = || set().filter(|set| before.iter().all(|sort| sort == *set));
+    // The same, if all arguments before it are elements of it.
+    let set_of = || set().filter(|set| before.iter().all(|sort| *sort == set.parts[0]));
+    let plain = |kind: Kind| move |_: &Tree| Sort::plain(kind);
+    match operator {
+        SetUnion | SetInter | SetMinus | SetComplement => one_set().cloned(),
+        SetSubset => one_set().map(plain(Kind::Bool)),
+        SetIsEmpty | SetIsSingleton => set().map(plain(Kind::Bool)),
+        SetCard => set().map(plain(Kind::Int)),
+        SetMember => set_of().map(plain(Kind::Bool)),
+        SetInsert => set_of().cloned(),
+        SetSingleton => Some(Sort::of(Kind::Set, sorts.to_vec())),
+        Tuple | TupleUnit => Some(Sort::of(Kind::Tuple, sorts.to_vec())),
+        RelTranspose => Some(Sort::relation(sorts[0].columns()?.iter().rev().cloned().collect())),
+        RelTclosure => match sorts[0].columns()? {
+            [from, to] if from == to => Some(sorts[0].clone()),
+            _ => None,
+        },
+        RelJoin => {
+            let (end, left) = sorts[0].columns()?.split_last()?;
+            let (start, right) = sorts[1].columns()?.split_first()?;
+            (end == start).then(|| Sort::relation([left, right].concat()))
+        }
+        RelProduct => Some(Sort::relation([sorts[0].columns()?, sorts[1].columns()?].concat())),
         _ => None,
     }
 }

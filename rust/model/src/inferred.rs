@@ -115,13 +115,13 @@ fn operated(terms: &[Term], term: &Term, sorts: &[Tree]) -> Option<Tree> {
         SetSingleton => Some(Sort::of(Kind::Set, vec![sorts.first()?.clone()])),
         Tuple => Some(Sort::of(Kind::Tuple, sorts.to_vec())),
         TupleUnit => Some(Sort::of(Kind::Tuple, Vec::new())),
-        RelTranspose => Some(relation(columns(sorts.first()?)?.iter().rev().cloned().collect())),
+        RelTranspose => Some(Sort::relation(sorts.first()?.columns()?.iter().rev().cloned().collect())),
         RelJoin => {
-            let (left, right) = (columns(sorts.first()?)?, columns(sorts.get(1)?)?);
+            let (left, right) = (sorts.first()?.columns()?, sorts.get(1)?.columns()?);
             let left = &left[..left.len().saturating_sub(1)];
-            Some(relation([left, right.get(1..)?].concat()))
+            Some(Sort::relation([left, right.get(1..)?].concat()))
         }
-        RelProduct => Some(relation([columns(sorts.first()?)?, columns(sorts.get(1)?)?].concat())),
+        RelProduct => Some(Sort::relation([sorts.first()?.columns()?, sorts.get(1)?.columns()?].concat())),
     }
 }
 
@@ -147,17 +147,6 @@ fn joined(sorts: &[Tree]) -> Option<Tree> {
         true => Some(Sort::plain(Kind::ParamBitVec)),
         false => Some(Sort::bit_vec(sorts.iter().map(|sort| sort.width).sum())),
     }
-}
-
-/// The columns of a relation, that is, of a set of tuples.
-fn columns(sort: &Tree) -> Option<&[Tree]> {
-    let tuple = sort.parts.first().filter(|_| sort.kind == Kind::Set)?;
-    (tuple.kind == Kind::Tuple).then_some(&tuple.parts)
-}
-
-/// The relation with these columns.
-fn relation(columns: Vec<Tree>) -> Tree {
-    Sort::of(Kind::Set, vec![Sort::of(Kind::Tuple, columns)])
 }
 
 /// The value of a term that is an integer constant.

@@ -48,7 +48,7 @@ pub enum Cause {
     Unranked = 24,
     /// A wrong count of arguments, bindings or indices, or an index that is no integer constant or out of range.
     Count = 25,
-    /// An argument's sort fits no rank, or the head is no function.
+    /// An argument's sort fits no rank, the head is no function, or the sort of a `const` is no Array, of a `set.empty` or `set.universe` no Set.
     Unfit = 26,
     /// The result keeps an unassigned parameter.
     Unassigned = 27,

@@ -105,6 +105,17 @@ impl Sort {
         Sort::new(kind, 0, 0, parts, Vec::new())
     }
 
+    /// The relation with these columns: a set of tuples.
+    pub fn relation(columns: Vec<Tree>) -> Tree {
+        Sort::of(Kind::Set, vec![Sort::of(Kind::Tuple, columns)])
+    }
+
+    /// The columns of a relation; nothing of another sort.
+    pub fn columns(&self) -> Option<&[Tree]> {
+        let tuple = self.parts.first().filter(|_| self.kind == Kind::Set)?;
+        (tuple.kind == Kind::Tuple).then_some(&tuple.parts)
+    }
+
     /// This sort with other parts.
     pub fn with_parts(&self, parts: Vec<Tree>) -> Tree {
         Sort::new(self.kind, self.name, self.width, parts, self.names.clone())

@@ -3,7 +3,7 @@
 //! A *sheet* lists sorts, terms over them, and questions. Each term gets two rows:
 //!
 //! - the *inferred* row: the sort that carcara's `Pool::compute_sort` gives, or 21 where that panics;
-//! - the *checked* row: the sort that the ranks of SMT-LIB give, or why no rank fits.
+//! - the *checked* row: the sort that the ranks of SMT-LIB give, for sets and relations those of cvc5, or why no rank fits.
 //!
 //! carcara does not look at the arguments of a plain function, so a term may have an inferred sort and no checked one. A rule should go
 //! live only if its checked row is a sort.

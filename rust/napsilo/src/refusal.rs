@@ -78,7 +78,8 @@ refusals! {
         Full = 23, "the store cannot hold the answer's sorts";
         NoRank = 24, "the operator has no rank";
         Count = 25, "a wrong count of arguments, bindings or indices, or an index that is no integer constant or out of range";
-        Misfit = 26, "an argument's sort fits no rank, or the head is no function";
+        Misfit = 26, "an argument's sort fits no rank, the head is no function, or the sort of a `const` is no Array, \
+            of a `set.empty` or `set.universe` no Set";
         Unassigned = 27, "the result keeps an unassigned parameter";
         Barred = 28, "a sort holds what it may not hold here, or a question to match is outside its premise";
         NoAssignment = 29, "no assignment turns the pattern into the target";

@@ -70,7 +70,7 @@ fn the_examples() {
         assert_eq!(done.status.code(), Some(i32::from(refused)), "{}", file.display());
         files += 1;
     }
-    assert_eq!(files, 5);
+    assert_eq!(files, 6);
 }
 
 #[test]

@@ -171,7 +171,7 @@ fn k10() {
     let left = sheet.add_term(TermRecord::Var(n(1), units)).unwrap();
     let right = sheet.add_term(TermRecord::Var(n(2), pairs)).unwrap();
     let join = TermRecord::Op(Operator::RelJoin, &[left, right]);
-    assert_rows(sheet, join, "(Set (Tuple Real))", "!24");
+    assert_rows(sheet, join, "(Set (Tuple Real))", "!26");
 }
 
 #[test]
@@ -248,4 +248,45 @@ fn steps_added_to_a_power() {
     assert_eq!([sum, quarter].map(both), [same("Real"), same("Real")]);
     assert_eq!([within, rule, less].map(both), [same("Bool"), same("Bool"), same("Bool")]);
     assert_eq!(both(equal), ("Bool".to_owned(), "!26".to_owned()));
+}
+
+/// The rule on shops that share branches, and a join whose touching columns do not agree; the same sheet as the example.
+#[test]
+fn branches_of_shops() {
+    let mut sheet = SheetWriter::new();
+    let mut sort = |record: SortRecord<'_>| sheet.add_sort(record).unwrap();
+    let [shop, branch] = [1, 2].map(|name| sort(SortRecord::Atom(n(name), &[])));
+    let shops = sort(SortRecord::Set(shop));
+    let pair = sort(SortRecord::Tuple(&[shop, branch]));
+    let relation = sort(SortRecord::Set(pair));
+    let mut var = |name, sort| sheet.add_term(TermRecord::Var(n(name), sort)).unwrap();
+    let [here, there] = [3, 4].map(|name| var(name, shop));
+    let open = var(5, shops);
+    let [runs, leases] = [6, 7].map(|name| var(name, relation));
+    let mut add = |operator, list: &[TermId]| sheet.add_term(TermRecord::Op(operator, list)).unwrap();
+    let there_open = add(Operator::SetMember, &[there, open]);
+    let has = add(Operator::SetUnion, &[runs, leases]);
+    let back = add(Operator::RelTranspose, &[has]);
+    let share = add(Operator::RelJoin, &[has, back]);
+    let linked = add(Operator::RelTclosure, &[share]);
+    let both = add(Operator::Tuple, &[here, there]);
+    let are_linked = add(Operator::SetMember, &[both, linked]);
+    let rule = add(Operator::Implies, &[are_linked, there_open]);
+    let product = add(Operator::RelProduct, &[runs, leases]);
+    let apart = add(Operator::RelJoin, &[has, has]);
+    let above = add(Operator::SetMember, &[both, apart]);
+    assert_eq!(hex(&sheet.finish()), hex(&recorded::read("examples/branches.sheet")));
+    let agrees = |terms: &[TermId], text: &str| {
+        for term in terms {
+            assert_eq!(rows(&sheet, *term), (text.to_owned(), text.to_owned()));
+        }
+    };
+    agrees(&[there_open, are_linked, rule], "Bool");
+    agrees(&[has], "(Set (Tuple n1 n2))");
+    agrees(&[back], "(Set (Tuple n2 n1))");
+    agrees(&[share, linked], "(Set (Tuple n1 n1))");
+    agrees(&[both], "(Tuple n1 n1)");
+    agrees(&[product], "(Set (Tuple n1 n2 n1 n2))");
+    assert_eq!(rows(&sheet, apart), ("(Set (Tuple n1 n2))".to_owned(), "!26".to_owned()));
+    assert_eq!(rows(&sheet, above), ("Bool".to_owned(), "!20".to_owned()));
 }

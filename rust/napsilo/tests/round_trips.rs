@@ -276,7 +276,7 @@ fn every_kind_of_term() {
         "(_ BitVec 11) (_ BitVec 11)",
     );
     add(TermRecord::AsOp(QualifiedOperator::Const, array, &[holds]), "(Array Int Bool) (Array Int Bool)");
-    add(TermRecord::AsOp(QualifiedOperator::SetEmpty, set, &[]), "(Set Int) !24");
+    add(TermRecord::AsOp(QualifiedOperator::SetEmpty, set, &[]), "(Set Int) (Set Int)");
     let expected: String = lines.iter().enumerate().map(|(k, line)| format!("T{k} {line}\n")).collect();
     assert_eq!(print(&sheet.finish()), expected);
 }

@@ -9,8 +9,13 @@ use crate::{Buffers, Printed, text};
 const PAGE: &str = "docs/FORMAT.md";
 
 /// The example files that the page takes apart.
-pub const TAKEN_APART: [&str; 4] =
-    ["examples/k1.sheet", "examples/session.sheet", "examples/sizes.sheet", "examples/prism.sheet"];
+pub const TAKEN_APART: [&str; 5] = [
+    "examples/k1.sheet",
+    "examples/session.sheet",
+    "examples/sizes.sheet",
+    "examples/prism.sheet",
+    "examples/branches.sheet",
+];
 
 /// The lengths that the program lends: bytes of records, places, rows, answers.
 const PROGRAM: [usize; 4] = [65_536, 4_096, 8_192, 1_024];

@@ -40,7 +40,10 @@ fn count(view: &View<'_>, term: &Term) -> Option<Finding> {
         }
         Term::Let(values, _) => Finding::count(Role::Value, values.len(), 1, None),
         Term::ParamOp { op, op_args, args } => indices(view, *op, op_args, args),
-        Term::AsOp(_, _, args) => Finding::count(Role::Argument, args.len(), 1, Some(1)),
+        Term::AsOp(op, _, args) => {
+            let wanted = usize::from(*op == QualifiedOperator::Const);
+            Finding::count(Role::Argument, args.len(), wanted, Some(wanted))
+        }
         _ => None,
     }
 }
@@ -103,6 +106,9 @@ fn misfit(view: &View<'_>, term: &Term) -> Option<Finding> {
             Sort::Array(_, element) => unfit(view, Role::Argument, *args.first()?, Expected::Sort(element.clone())),
             _ => Some(Finding::sort(Role::Sort, 1, None, sort, Expected::Array)),
         },
+        Term::AsOp(_, sort, _) => {
+            (!Expected::Set.fits(sort)).then(|| Finding::sort(Role::Sort, 1, None, sort, Expected::Set))
+        }
         _ => None,
     }
 }

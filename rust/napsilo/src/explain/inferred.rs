@@ -1,6 +1,7 @@
 //! What a refused inferred row is about: where carcara's `Pool::compute_sort` panics.
 
 use super::matching::{self, Map};
+use super::ranks::entries;
 use super::{Expected, Finding, Found, Role, Term, View, limits};
 use crate::{Binder, Cause, Operator, ParamOperator, Sort};
 use std::sync::Arc;
@@ -95,10 +96,7 @@ fn operator(view: &View<'_>, op: Operator, args: &[usize]) -> Option<Finding> {
 
 /// Whether a sort is a set of tuples of at least so many columns.
 fn relation(columns: usize) -> impl Fn(&Sort) -> bool {
-    move |sort| match sort {
-        Sort::Set(part) => matches!(&**part, Sort::Tuple(list) if list.len() >= columns),
-        _ => false,
-    }
+    move |sort| entries(sort).is_some_and(|entries| entries.len() >= columns)
 }
 
 /// An indexed operator: its indices, and the argument whose sort it takes apart.

@@ -1,6 +1,7 @@
 //! 22: which limit an answer would pass.
 
 use super::matching::{self, Map, Takes};
+use super::ranks::entries;
 use super::{Expected, Finding, Found, Term, View};
 use crate::sort::fold;
 use crate::{Binder, GREATEST_WIDTH, LONGEST_LIST, Operator, ParamOperator, Sort};
@@ -71,13 +72,7 @@ fn width(view: &View<'_>, term: &Term) -> Option<u64> {
 
 /// The answer of a term whose answer is a sort made of others; nothing of other terms.
 fn answer(view: &View<'_>, term: &Term, takes: Takes) -> Option<Arc<Sort>> {
-    let columns = |number: &usize| match view.sort(*number)?.as_ref() {
-        Sort::Set(part) => match part.as_ref() {
-            Sort::Tuple(list) => Some(list.clone()),
-            _ => None,
-        },
-        _ => None,
-    };
+    let columns = |number: &usize| entries(view.sort(*number)?).map(<[Arc<Sort>]>::to_vec);
     let relation = |columns| Some(Arc::new(Sort::Set(Arc::new(Sort::Tuple(columns)))));
     match term {
         Term::App(head, args) => {

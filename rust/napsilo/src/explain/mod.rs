@@ -119,12 +119,18 @@ pub enum Expected {
     BitVec,
     /// An array.
     Array,
+    /// A set.
+    Set,
     /// A function.
     Function,
     /// A function that takes so many arguments.
     Taking(usize),
     /// A set of tuples, of at least so many columns.
     Relation(usize),
+    /// A set of tuples whose first column has this sort.
+    Starting(Arc<Sort>),
+    /// A set of pairs of one sort.
+    Pairs,
     /// Any sort that is not parametric.
     NotPar,
     /// So many parts of a role: at least the first number, at most the second, if there is one.

@@ -2,7 +2,7 @@
 
 use super::phrase::{write_name, write_sort};
 use super::{Argument, Column, Expected, Explanation, Found, Role};
-use crate::{Cause, Names};
+use crate::{Cause, Name, Names, Sort};
 use std::fmt::{self, Display, Formatter};
 
 impl Explanation {
@@ -167,29 +167,25 @@ impl Expected {
         match self {
             Expected::Sort(sort) => write_sort(f, sort, names),
             Expected::IntOrReal => f.write_str("Int or Real"),
-            Expected::Form(sort, parameters) => {
-                write_sort(f, sort, names)?;
-                f.write_str(" for some ")?;
-                for (at, name) in parameters.iter().enumerate() {
-                    f.write_str(if at == 0 { "'" } else { ", '" })?;
-                    write_name(f, *name, names)?;
-                }
-                Ok(())
-            }
+            Expected::Form(sort, parameters) => form(f, sort, parameters, names),
             Expected::BitVec => f.write_str("a bit vector"),
             Expected::Array => f.write_str("an array"),
+            Expected::Set => f.write_str("a set"),
             Expected::Function => f.write_str("a function"),
             Expected::Taking(1) => f.write_str("a function that takes an argument"),
             Expected::Taking(count) => write!(f, "a function that takes {count} arguments"),
             Expected::Relation(0) => f.write_str("a set of tuples"),
             Expected::Relation(1) => f.write_str("a set of tuples with at least 1 entry"),
             Expected::Relation(columns) => write!(f, "a set of tuples with at least {columns} entries"),
+            Expected::Starting(sort) => {
+                f.write_str("a set of tuples whose first entry has sort ")?;
+                write_sort(f, sort, names)
+            }
+            Expected::Pairs => f.write_str("a set of pairs of one sort"),
             Expected::NotPar => f.write_str("a sort that is not parametric"),
             Expected::Count(role, least, most) => count(f, *role, *least, *most),
             Expected::Constant => f.write_str("an integer constant"),
-            Expected::Number(least, None) => write!(f, "at least {least}"),
-            Expected::Number(least, Some(most)) if least == most => write!(f, "{least}"),
-            Expected::Number(least, Some(most)) => write!(f, "{least} to {most}"),
+            Expected::Number(least, most) => number(f, *least, *most),
             Expected::Assigned(name) => {
                 f.write_str("an argument that assigns ")?;
                 write_name(f, *name, names)
@@ -203,6 +199,17 @@ impl Expected {
     }
 }
 
+/// Writes a sort, and the parameters in it that may be any sort.
+fn form(f: &mut Formatter<'_>, sort: &Sort, parameters: &[Name], names: Option<&Names>) -> fmt::Result {
+    write_sort(f, sort, names)?;
+    f.write_str(" for some ")?;
+    for (at, name) in parameters.iter().enumerate() {
+        f.write_str(if at == 0 { "'" } else { ", '" })?;
+        write_name(f, *name, names)?;
+    }
+    Ok(())
+}
+
 /// Writes how many parts were asked for.
 fn count(f: &mut Formatter<'_>, role: Role, least: usize, most: Option<usize>) -> fmt::Result {
     let words = |count: usize| if count == 1 { role.word() } else { role.words() };
@@ -211,6 +218,15 @@ fn count(f: &mut Formatter<'_>, role: Role, least: usize, most: Option<usize>) -
         Some(most) if most == least => write!(f, "{most} {}", words(most)),
         Some(most) if most == least + 1 => write!(f, "{least} or {most} {}", role.words()),
         Some(most) => write!(f, "{least} to {most} {}", role.words()),
+    }
+}
+
+/// Writes from what number to what number was asked for.
+fn number(f: &mut Formatter<'_>, least: u64, most: Option<u64>) -> fmt::Result {
+    match most {
+        None => write!(f, "at least {least}"),
+        Some(most) if most == least => write!(f, "{least}"),
+        Some(most) => write!(f, "{least} to {most}"),
     }
 }
 

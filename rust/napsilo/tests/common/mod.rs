@@ -2,6 +2,8 @@
 
 #![allow(dead_code)]
 
+pub mod explained;
+
 use napsilo::{Lent, Name, Refusal, judge_into};
 
 /// The bytes of a hexadecimal text; blanks are passed over.
