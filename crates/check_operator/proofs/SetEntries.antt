@@ -6,10 +6,9 @@ use Rattle.record.specs.Number.{u16_at, numbers_at}
 use Rattle.record.specs.Kinds.{sort_number}
 use Rattle.record.specs.Sort.{Sort, Sorts, var, par, node, end, ◌then◌, set, tuple, kind_of, parts_of}
 use Rattle.record.specs.SortLaws.{same-sound, same-other, same_refl}
-use Rattle.record.specs.Record.{Fields, maps, map_of, leasts, least_of, mosts, most_of, sorts_of, leaf}
+use Rattle.record.specs.Record.{maps, map_of, leasts, least_of, mosts, most_of, sorts_of, leaf}
 use Rattle.record.specs.Decode.{fields_at, store_of, sort_at, Stored}
 use Rattle.record.specs.StoreLaws.{sort-node}
-use Rattle.record.specs.Codec.{length-numbers_at}
 use Rattle.record.specs.Cases.{and_left, and_right, both_ways, by_test, none-some, some_inj}
 use Rattle.record.specs.declared.SortRecord.{SortRecord}
 use Rattle.record.specs.declared.span.Span.{Span}
@@ -20,6 +19,7 @@ use Rattle.infer_operator.specs.Relations.{ColumnsStand, ColumnsHas}
 use Rattle.check_rules.specs.Forms.{relation, element_of, columns as columns_of}
 use Rattle.check_operator.specs.SetRule.{is_set}
 use Rattle.check_operator.specs.SetContract.{ElementHas}
+use Rattle.row_answer.specs.SetParts.{one-part}
 use Rattle.check_operator.specs.KindLaws.{kind-read, parts-fields, kind-parts}
 
 ---------------------------------------------------------------- kinds with parts and nothing else
@@ -67,23 +67,10 @@ module _ {b p : List ℕ} {k : ℕ} (r : SortRecord) (q : EntryHas b p k r) wher
   element-none h n s l = set-not (sort_at b p n k) (λ e. h ((q n s l).kind ∙ e))
 
   module _ (i : sort_number r.kind ≡ 14) where
-    one-part : {n : ℕ} → Stored b p n → k < n → r.parts.count ≡ 1
-    unfolding least_of leasts most_of mosts
-    one-part {n} s l =
-        let f = fields_at b (get_or p k 0) in
-        let e = (q n s l).place.same in
-        let c : f.kind ≡ 14 = ap (λ (g : Fields). g.kind) e ∙ i in
-        let x : 1 ≤ length f.list = subst (λ (c : ℕ). least_of c ≤ length f.list) c (s.each k l).shape.least in
-        let y : length f.list ≤ 1 = subst (λ (c : ℕ). length f.list ≤ most_of c) c (s.each k l).shape.most in
-        omega (arith, x, y, ap (λ (g : Fields). length g.list) e, length-numbers_at b r.parts.at r.parts.count)
-
-    pub element-place : {n : ℕ} → Stored b p n → k < n → r.parts.at + 2 ≤ length b
-    element-place {n} s l = omega (arith, one-part s l, (q n s l).place.list)
-
     pub element-some : {v : ℕ} → v ≡ u16_at b (r.parts.at + 0) → ElementHas b p k (Some v)
     unfolding sorts_of numbers_at sort_at
     element-some {v} e n s l =
-        let c = one-part s l in
+        let c = one-part r q i s l in
         let (j, o, z) = kind-set b p n k s l (sym (q n s l).kind ∙ i) in
         let w : r.parts.at + 0 ≡ r.parts.at = omega arith in
         let y : r.parts.at + 2 * 0 ≡ r.parts.at = omega arith in

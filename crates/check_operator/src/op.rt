@@ -198,8 +198,8 @@ pub fn values_for(entries: Entries<'_>, rule: Rule, args: &Args<'_>) -> bool
     }
 }
 
-// The answer of a fit: its sort, made where it is not in the store.
-pub fn delivered_fit(store: &mut Store<'_>, made: Fit, args: &mut Args<'_>) -> Row
+// The answer of a fit: its sort, which `near` may be the number of, made where it is not in the store.
+pub fn delivered_fit(store: &mut Store<'_>, made: Fit, args: &mut Args<'_>, near: usize) -> Row
     requires { DeliverFitAsked store.old made args.old }
     ensures same { Same store.old store.new }
     ensures same_args { SameArgs args.old args.new }
@@ -207,15 +207,15 @@ pub fn delivered_fit(store: &mut Store<'_>, made: Fit, args: &mut Args<'_>) -> R
 {
     match made {
         Fit::Known(k) => Ok(k),
-        Fit::Plain(kind) => leaf(store, kind),
-        Fit::Width(width) => bit_vector(store, width),
-        Fit::Gathered(family) => gathered(store, family, args),
+        Fit::Plain(kind) => leaf(store, kind, near),
+        Fit::Width(width) => bit_vector(store, width, near),
+        Fit::Gathered(family) => gathered(store, family, args, near),
     }
 }
 
 // The checked sort of the operator: NoRank without a rule, Count where the rule has another count of arguments, Misfit where
-// an argument is a Par or the rule does not fit. The arguments may be used up by what is made of them.
-pub fn checked_operator(store: &mut Store<'_>, op: usize, args: &mut Args<'_>) -> Row
+// an argument is a Par or the rule does not fit. The arguments may be used up by what is made of them; `near` may be the answer, and is looked at first.
+pub fn checked_operator(store: &mut Store<'_>, op: usize, args: &mut Args<'_>, near: usize) -> Row
     requires { ArgumentsAsk store.old args.old }
     ensures same { Same store.old store.new }
     ensures same_args { SameArgs args.old args.new }
@@ -230,5 +230,5 @@ pub fn checked_operator(store: &mut Store<'_>, op: usize, args: &mut Args<'_>) -
         return Err(Cause::Misfit);
     }
     let made = fit_rule(entries, rule, args).ok_or(Cause::Misfit)?;
-    delivered_fit(store, made, args)
+    delivered_fit(store, made, args, near)
 }

@@ -13,7 +13,7 @@ ghost use Rattle.check_row.specs.Words.{OneIndexAsked, CheckIndexedAsked, Indexi
 use record::kinds::{ParamOp, SortKind};
 use record::span::Span;
 use row_answer::arguments::{Args, index_at};
-use row_answer::bit_vector;
+use row_answer::{ANEW, bit_vector};
 use row_rules::{Cause, Row};
 use sheet::ReadSheet;
 use store::Store;
@@ -59,7 +59,7 @@ pub fn widened(store: &mut Store<'_>, kind: SortKind, wanted: SortKind, width: u
     if kind != wanted {
         return Err(Cause::Misfit);
     }
-    bit_vector(store, width)
+    bit_vector(store, width, ANEW)
 }
 
 // One index i at the argument a; Count for an operator with two, and where i is 0 for Repeat and IntToBv; Misfit where the
@@ -98,7 +98,7 @@ pub fn checked_extract(store: &mut Store<'_>, i: usize, j: usize, a: usize) -> R
     if e.number <= i {
         return Err(Cause::Count);
     }
-    bit_vector(store, i - j + 1)
+    bit_vector(store, i - j + 1, ANEW)
 }
 
 // Two indices i, j at the argument a, for Extract and ReLoop; Count for another operator.

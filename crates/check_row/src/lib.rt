@@ -23,14 +23,15 @@ use sheet::ReadSheet;
 use single::{checked_as, checked_constant, checked_let, checked_variable};
 use store::Store;
 
-// The checked sort of a record whose arguments' sorts are in `args`, NoRank for a Match. `args` is used up; the tables of names
-// come back as they were.
+// The checked sort of a record whose arguments' sorts are in `args`, NoRank for a Match. `args` is used up; `near` may be
+// the answer of a constant or an operator, and is looked at first; the tables of names come back as they were.
 pub fn check(
     store: &mut Store<'_>,
     names: &mut Names<'_>,
     sheet: &ReadSheet<'_>,
     term: TermRecord,
     args: &mut Args<'_>,
+    near: usize,
 ) -> Row
     requires { CheckAsks store.old names.old sheet.now term args.old }
     ensures same { Same store.old store.new }
@@ -43,10 +44,10 @@ pub fn check(
         | TermKind::Real
         | TermKind::String
         | TermKind::RegLan
-        | TermKind::BitVector => checked_constant(store, term.kind, term.number),
+        | TermKind::BitVector => checked_constant(store, term.kind, term.number, near),
         TermKind::Var => checked_variable(&store.sorts(), sheet.table[term.sort] as usize),
         TermKind::App => checked_app(store, names, args, false),
-        TermKind::Op => checked_operator(store, term.number, args),
+        TermKind::Op => checked_operator(store, term.number, args, near),
         TermKind::Binder => checked_binder(store, sheet, term.pairs, term.number, args),
         TermKind::Let => checked_let(store.entries(), args),
         TermKind::Match => Err(Cause::NoRank),

@@ -21,17 +21,17 @@ use store::entries::{Entries, Sorts};
 // A constant: the sort of an integer, real, string or RegLan constant, else that of a bit-vector constant, which is Barred with
 // the width 0.
 #[tactic(auto, unfolding(record::specs::Record::map_of, record::specs::Record::maps))]
-pub fn checked_constant(store: &mut Store<'_>, kind: TermKind, number: usize) -> Row
+pub fn checked_constant(store: &mut Store<'_>, kind: TermKind, number: usize, near: usize) -> Row
     ensures same { Same store.old store.new }
     ensures answer { Answered store.old (constant_verdict (term_number kind) number) store.new result }
 {
     match kind {
-        TermKind::Integer => leaf(store, SortKind::Int),
-        TermKind::Real => leaf(store, SortKind::Real),
-        TermKind::String => leaf(store, SortKind::String),
-        TermKind::RegLan => leaf(store, SortKind::RegLan),
+        TermKind::Integer => leaf(store, SortKind::Int, near),
+        TermKind::Real => leaf(store, SortKind::Real, near),
+        TermKind::String => leaf(store, SortKind::String, near),
+        TermKind::RegLan => leaf(store, SortKind::RegLan, near),
         _ if number == 0 => Err(Cause::Barred),
-        _ => bit_vector(store, number),
+        _ => bit_vector(store, number, near),
     }
 }
 

@@ -19,9 +19,8 @@ use Rattle.record.specs.declared.span.Span.{Span}
 use Rattle.record.specs.contracts.kinds.SortKind.{the_type}
 use Rattle.record.specs.declared.kinds.SortKind.TheVariants.{Tuple}
 use Rattle.record.specs.Sort.{Sort, Sorts, var, par, node, end, ◌then◌, set, tuple, kind_of}
-use Rattle.record.specs.Record.{Fields, leaf, leasts, least_of, sorts_of}
-use Rattle.record.specs.Decode.{fields_at, store_of, sort_at, Stored}
-use Rattle.record.specs.Codec.{length-numbers_at}
+use Rattle.record.specs.Record.{leaf, sorts_of}
+use Rattle.record.specs.Decode.{store_of, sort_at, Stored}
 use Rattle.record.specs.StoreLaws.{parts_more}
 use Rattle.record.specs.declared.SortRecord.{SortRecord}
 use Rattle.store.specs.Good.{Good}
@@ -38,6 +37,7 @@ use Rattle.store.specs.declared.entries.Entries.{Entries}
 use Rattle.row_answer.specs.declared.arguments.Args.{Args}
 use Rattle.row_answer.specs.Heads.{HeadAsks}
 use Rattle.row_answer.specs.Asks.{StoredListAsks}
+use Rattle.row_answer.specs.SetParts.{one-part, part-place}
 use Rattle.infer_operator.specs.Asks.{Referring, sorts_in, ReadArgumentsAsk, ArgumentsAsk, refer-rest, sorts-first}
 use Rattle.infer_operator.specs.Single.{argument_of}
 use Rattle.infer_operator.specs.Relations.{ColumnsIs, ColumnsHas, ColumnsStand, Having, BothIs, BothHas, PutHas, BackwardsIs, SideAsks}
@@ -53,21 +53,12 @@ not-tuple a w (node l c x cs) ss d = rw (ne_eqb l 15 d) refl
 module _ {b p : List ℕ} {k : ℕ} (r : SortRecord) (q : EntryHas b p k r) where
   -- The sort inside a Set, by the number that was read.
   module _ (i : sort_number r.kind ≡ 14) where
-    one-part : {n : ℕ} → Stored b p n → k < n → 1 ≤ r.parts.count
-    unfolding least_of leasts
-    one-part {n} st l =
-        let f = fields_at b (get_or p k 0) in
-        let e = (q n st l).place.same in
-        let kind : f.kind ≡ 14 = ap (λ (g : Fields). g.kind) e ∙ i in
-        let least : 1 ≤ length f.list = subst (λ (j : ℕ). least_of j ≤ length f.list) kind (st.each k l).shape.least in
-        omega (arith, ap (λ (g : Fields). length g.list) e, length-numbers_at b r.parts.at r.parts.count)
-
     pub inner-place : HeadAsks b p k → r.parts.at + 2 ≤ length b
-    inner-place (n, h) = omega (arith, one-part h.stored h.known, (q n h.stored h.known).place.list)
+    inner-place (n, h) = part-place r q i h.stored h.known
 
     module _ {v : ℕ} (z : v ≡ u16_at b (r.parts.at + 2 * 0)) where
       inner_below : {n : ℕ} → Stored b p n → k < n → v < n
-      inner_below {n} st l = omega (arith, l, z, (q n st l).below 0 (one-part st l))
+      inner_below {n} st l = omega (arith, l, z, (q n st l).below 0 (omega (arith, one-part r q i st l)))
 
       pub inner-entry : HeadAsks b p k → EntryAsks b p v
       inner-entry (n, h) = entry-asks b p n v h.stored (inner_below h.stored h.known)
@@ -78,7 +69,7 @@ module _ {b p : List ℕ} {k : ℕ} (r : SortRecord) (q : EntryHas b p k r) wher
           let o : r.parts.at + 2 * 0 ≡ r.parts.at = omega arith in
           walk-node b p n k st l r (q n st l) (λ y. absurd (omega arith)) (λ y. absurd (omega arith))
           ∙ ap₂ (λ (j : ℕ) (ss : Sorts). node j r.name r.number ss) i
-          (parts_more (store_of b p n) b r.parts.at r.parts.count (one-part st l)
+          (parts_more (store_of b p n) b r.parts.at r.parts.count (omega (arith, one-part r q i st l))
           ∙ ap (λ (j : ℕ). get_or (store_of b p n) j leaf then sorts_in b p n b (r.parts.at + 2) (r.parts.count - 1)) (sym (z ∙ ap (u16_at b) o)))
 
       module _ (c : SortRecord) (d : EntryHas b p v c) where

@@ -17,29 +17,29 @@ use record::kinds::SortKind;
 use record::span::Span;
 use row_answer::arguments::Args;
 use row_answer::lists::listed;
-use row_answer::{bit_vector, leaf};
+use row_answer::{ANEW, bit_vector, leaf};
 use row_rules::Row;
 use sheet::ReadSheet;
 use store::Store;
 
-// What the families that make sets, tuples and relations answer.
+// What the families that make sets, tuples and relations answer; `near` may be its number.
 #[tactic(auto, unfolding(infer_rules::specs::Inferred::operated_by, record::specs::Record::map_of, record::specs::Record::maps, record::specs::Record::least_of, record::specs::Record::leasts, record::specs::Record::most_of, record::specs::Record::mosts, record::specs::Record::sorts_of, record::specs::Number::numbers_at))]
-pub fn gathered(store: &mut Store<'_>, family: Family, args: &mut Args<'_>) -> Row
+pub fn gathered(store: &mut Store<'_>, family: Family, args: &mut Args<'_>, near: usize) -> Row
     requires { MadeAsks store.old family args.old }
     ensures same { Same store.old store.new }
     ensures same_args { SameArgs args.old args.new }
     ensures answer { Answered store.old (operated_by family (arguments store.old args.old) no_constants) store.new result }
 {
     match family {
-        Family::Singleton => singleton(store, args),
-        Family::Tuple => listed(store, SortKind::Tuple, args),
+        Family::Singleton => singleton(store, args, near),
+        Family::Tuple => listed(store, SortKind::Tuple, args, near),
         Family::UnitTuple => {
             args.clear();
-            listed(store, SortKind::Tuple, args)
+            listed(store, SortKind::Tuple, args, near)
         }
-        Family::Transpose => transpose(store, args),
-        Family::Join => join(store, args),
-        _ => product(store, args),
+        Family::Transpose => transpose(store, args, near),
+        Family::Join => join(store, args, near),
+        _ => product(store, args, near),
     }
 }
 
@@ -60,7 +60,7 @@ pub fn looked(store: &mut Store<'_>, family: Family, args: &mut Args<'_>) -> Row
         Family::Sum => sum(store, args),
         Family::Element => element(store.entries(), args),
         Family::RareList => rare_list(store, args),
-        _ => gathered(store, family, args),
+        _ => gathered(store, family, args, ANEW),
     }
 }
 
@@ -81,8 +81,8 @@ pub fn inferred_operator(
 {
     let family = family_of(op);
     match plain_of(family, args.count) {
-        Plain::Kind(kind) => leaf(store, kind),
-        Plain::Width(width) => bit_vector(store, width),
+        Plain::Kind(kind) => leaf(store, kind, ANEW),
+        Plain::Width(width) => bit_vector(store, width, ANEW),
         Plain::Written => constant_width(store, sheet, list),
         Plain::Other => looked(store, family, args),
     }

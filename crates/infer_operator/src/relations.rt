@@ -1,4 +1,4 @@
-// The operators of relations. The columns of an answer are put together in place of the arguments.
+// The operators of relations. The columns of an answer are put together in place of the arguments; `near` may be its number.
 ghost use Rattle.std.specs.Prelude.{◌≡◌, ◌+◌};
 ghost use Rattle.store.specs.Changes.{Same};
 ghost use Rattle.infer_rules.specs.Inferred.{transpose_of, over_both, join_of, product_of};
@@ -57,7 +57,7 @@ pub fn put_backwards(records: &[u8], columns: Span, args: &mut Args<'_>)
 }
 
 // RelTranspose: the relation with the columns of the first argument backwards; Panics where it is no relation, or missing.
-pub fn transpose(store: &mut Store<'_>, args: &mut Args<'_>) -> Row
+pub fn transpose(store: &mut Store<'_>, args: &mut Args<'_>, near: usize) -> Row
     requires { ArgumentsAsk store.old args.old }
     ensures same { Same store.old store.new }
     ensures same_args { SameArgs args.old args.new }
@@ -67,11 +67,17 @@ pub fn transpose(store: &mut Store<'_>, args: &mut Args<'_>) -> Row
     let entries = store.entries();
     let columns = columns_of(entries, k).ok_or(Cause::Panics)?;
     put_backwards(entries.records, columns, args);
-    relation(store, args)
+    relation(store, args, near)
 }
 
 // The relation with the columns on the left and then those on the right.
-pub fn side_by_side(store: &mut Store<'_>, args: &mut Args<'_>, left: Span, right: Span) -> Row
+pub fn side_by_side(
+    store: &mut Store<'_>,
+    args: &mut Args<'_>,
+    left: Span,
+    right: Span,
+    near: usize,
+) -> Row
     requires { SideAsked store.old args.old left right }
     ensures same { Same store.old store.new }
     ensures same_args { SameArgs args.old args.new }
@@ -81,11 +87,17 @@ pub fn side_by_side(store: &mut Store<'_>, args: &mut Args<'_>, left: Span, righ
     args.clear();
     put_columns(records, left, args);
     put_columns(records, right, args);
-    relation(store, args)
+    relation(store, args, near)
 }
 
 // RelJoin of these columns: without the last on the left, if there is one, and the first on the right, Panics if there is none.
-pub fn join_columns(store: &mut Store<'_>, args: &mut Args<'_>, left: Span, right: Span) -> Row
+pub fn join_columns(
+    store: &mut Store<'_>,
+    args: &mut Args<'_>,
+    left: Span,
+    right: Span,
+    near: usize,
+) -> Row
     requires { SideAsked store.old args.old left right }
     ensures same { Same store.old store.new }
     ensures same_args { SameArgs args.old args.new }
@@ -98,7 +110,7 @@ pub fn join_columns(store: &mut Store<'_>, args: &mut Args<'_>, left: Span, righ
         count: left.count.saturating_sub(1),
         ..left
     };
-    side_by_side(store, args, before, right.skip(1))
+    side_by_side(store, args, before, right.skip(1), near)
 }
 
 // The columns of the first two arguments; None where one is missing or no relation.
@@ -115,23 +127,23 @@ pub fn both_columns(entries: Entries<'_>, args: &Args<'_>) -> Option<(Span, Span
 }
 
 // RelJoin of the first two arguments; Panics where one is missing or no relation.
-pub fn join(store: &mut Store<'_>, args: &mut Args<'_>) -> Row
+pub fn join(store: &mut Store<'_>, args: &mut Args<'_>, near: usize) -> Row
     requires { ArgumentsAsk store.old args.old }
     ensures same { Same store.old store.new }
     ensures same_args { SameArgs args.old args.new }
     ensures answer { Answered store.old (over_both join_of (arguments store.old args.old)) store.new result }
 {
     let (left, right) = both_columns(store.entries(), args).ok_or(Cause::Panics)?;
-    join_columns(store, args, left, right)
+    join_columns(store, args, left, right, near)
 }
 
 // RelProduct of the first two arguments: their columns side by side; Panics where one is missing or no relation.
-pub fn product(store: &mut Store<'_>, args: &mut Args<'_>) -> Row
+pub fn product(store: &mut Store<'_>, args: &mut Args<'_>, near: usize) -> Row
     requires { ArgumentsAsk store.old args.old }
     ensures same { Same store.old store.new }
     ensures same_args { SameArgs args.old args.new }
     ensures answer { Answered store.old (over_both product_of (arguments store.old args.old)) store.new result }
 {
     let (left, right) = both_columns(store.entries(), args).ok_or(Cause::Panics)?;
-    side_by_side(store, args, left, right)
+    side_by_side(store, args, left, right, near)
 }

@@ -18,7 +18,7 @@ use record::numbers::Numbers;
 use record::span::Span;
 use row_answer::arguments::{Args, index_at};
 use row_answer::lists::set_of;
-use row_answer::{leaf, variable};
+use row_answer::{ANEW, leaf, variable};
 use row_rules::{Cause, Row};
 use sheet::ReadSheet;
 use store::Store;
@@ -66,9 +66,9 @@ pub fn sum(store: &mut Store<'_>, args: &Args<'_>) -> Row
     ensures answer { Answered store.old (sum_of (some_real (arguments store.old args.now))) store.new result }
 {
     if some_real(store.entries(), args.numbers()) {
-        leaf(store, SortKind::Real)
+        leaf(store, SortKind::Real, ANEW)
     } else {
-        leaf(store, SortKind::Int)
+        leaf(store, SortKind::Int, ANEW)
     }
 }
 
@@ -97,14 +97,14 @@ pub fn rare_list(store: &mut Store<'_>, args: &Args<'_>) -> Row
     }
 }
 
-// SetSingleton: the Set of the first argument's sort; Panics without one.
-pub fn singleton(store: &mut Store<'_>, args: &Args<'_>) -> Row
+// SetSingleton: the Set of the first argument's sort, which `near` may be the number of; Panics without one.
+pub fn singleton(store: &mut Store<'_>, args: &Args<'_>, near: usize) -> Row
     requires { ArgumentsAsk store.old args.now }
     ensures same { Same store.old store.new }
     ensures answer { Answered store.old (singleton_of (arguments store.old args.now)) store.new result }
 {
     let k = argument(args, 0)?;
-    set_of(store, k)
+    set_of(store, k, near)
 }
 
 // BvConst: the vector of the width that the second argument writes; ParamBitVec where it is no integer constant; Panics

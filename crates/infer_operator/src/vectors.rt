@@ -13,7 +13,7 @@ ghost use Rattle.infer_operator.specs.Vectors.{ScanHas, VectorsHas, WidthAsks, W
 use record::kinds::SortKind;
 use record::numbers::Numbers;
 use row_answer::arguments::Args;
-use row_answer::{bit_vector, leaf};
+use row_answer::{ANEW, bit_vector, leaf};
 use row_rules::{Cause, Row};
 use store::Store;
 use store::entries::Entries;
@@ -25,8 +25,8 @@ pub fn vector(store: &mut Store<'_>, width: Option<usize>) -> Row
     ensures answer { Answered store.old (vector_of width) store.new result }
 {
     match width {
-        Some(w) => bit_vector(store, w),
-        None => leaf(store, SortKind::ParamBitVec),
+        Some(w) => bit_vector(store, w, ANEW),
+        None => leaf(store, SortKind::ParamBitVec, ANEW),
     }
 }
 
@@ -55,7 +55,7 @@ pub fn first_vector(store: &mut Store<'_>, args: &Args<'_>) -> Row
 {
     match scan_vectors(store.entries(), args.numbers())? {
         Some(k) => Ok(k),
-        None => leaf(store, SortKind::ParamBitVec),
+        None => leaf(store, SortKind::ParamBitVec, ANEW),
     }
 }
 

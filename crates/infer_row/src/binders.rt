@@ -9,8 +9,8 @@ ghost use Rattle.infer_row.specs.Terms.{BoundAsks, bindings};
 use reader::TermRecord;
 use record::kinds::{Binder, SortKind};
 use row_answer::arguments::Args;
-use row_answer::leaf;
 use row_answer::lists::lambda;
+use row_answer::{ANEW, leaf};
 use row_rules::{Cause, Row};
 use sheet::ReadSheet;
 use store::Store;
@@ -39,6 +39,6 @@ pub fn inferred_binder(
             let (_, sort) = pairs.next().ok_or(Cause::Panics)?;
             Ok(sheet.table[sort] as usize)
         }
-        Binder::Forall | Binder::Exists => leaf(store, SortKind::Bool),
+        Binder::Forall | Binder::Exists => leaf(store, SortKind::Bool, ANEW),
     }
 }

@@ -12,7 +12,7 @@ use infer_operator::single::argument;
 use record::kinds::{ParamOp, SortKind};
 use record::span::Span;
 use row_answer::arguments::{Args, index_at};
-use row_answer::{bit_vector, leaf};
+use row_answer::{ANEW, bit_vector, leaf};
 use row_rules::{Cause, Row};
 use sheet::ReadSheet;
 use store::Store;
@@ -30,8 +30,8 @@ pub fn inferred_extract(store: &mut Store<'_>, sheet: &ReadSheet<'_>, second: Sp
     }
     match index_at(sheet, second, 1) {
         Some(j) if i < j => Err(Cause::Panics),
-        Some(j) => bit_vector(store, i - j + 1),
-        None => leaf(store, SortKind::ParamBitVec),
+        Some(j) => bit_vector(store, i - j + 1, ANEW),
+        None => leaf(store, SortKind::ParamBitVec, ANEW),
     }
 }
 
@@ -47,8 +47,8 @@ pub fn resized<F: FnOnce(usize) -> usize>(store: &mut Store<'_>, args: &Args<'_>
     let k = argument(args, 0)?;
     let vector = store.entry(k);
     match vector.kind {
-        SortKind::BitVec => bit_vector(store, resize(vector.number)),
-        SortKind::ParamBitVec => leaf(store, SortKind::ParamBitVec),
+        SortKind::BitVec => bit_vector(store, resize(vector.number), ANEW),
+        SortKind::ParamBitVec => leaf(store, SortKind::ParamBitVec, ANEW),
         _ => Err(Cause::Panics),
     }
 }
@@ -71,7 +71,7 @@ pub fn by_index(
         ParamOp::Extract => inferred_extract(store, sheet, second, i),
         ParamOp::ZeroExtend | ParamOp::SignExtend => resized(store, args, |w| i + w),
         ParamOp::Repeat => resized(store, args, |w| i * w),
-        _ => bit_vector(store, i),
+        _ => bit_vector(store, i, ANEW),
     }
 }
 
@@ -93,7 +93,7 @@ pub fn first_index(
     }
     match index_at(sheet, second, 0) {
         Some(i) => by_index(store, sheet, second, op, args, i),
-        None => leaf(store, SortKind::ParamBitVec),
+        None => leaf(store, SortKind::ParamBitVec, ANEW),
     }
 }
 
@@ -117,10 +117,10 @@ pub fn inferred_indexed(
         | ParamOp::SignExtend
         | ParamOp::Repeat
         | ParamOp::IntToBv => first_index(store, sheet, second, op, args),
-        ParamOp::BitOf => leaf(store, SortKind::Bool),
-        ParamOp::IntOf => leaf(store, SortKind::Int),
+        ParamOp::BitOf => leaf(store, SortKind::Bool, ANEW),
+        ParamOp::IntOf => leaf(store, SortKind::Int, ANEW),
         ParamOp::RotateLeft | ParamOp::RotateRight => argument(args, 0),
-        ParamOp::RePower | ParamOp::ReLoop => leaf(store, SortKind::RegLan),
+        ParamOp::RePower | ParamOp::ReLoop => leaf(store, SortKind::RegLan, ANEW),
         ParamOp::BvConst => Err(Cause::Panics),
     }
 }

@@ -18,7 +18,7 @@ use matching_tables::names::Names;
 use reader::TermRecord;
 use record::kinds::{SortKind, TermKind};
 use row_answer::arguments::Args;
-use row_answer::{bit_vector, leaf};
+use row_answer::{ANEW, bit_vector, leaf};
 use row_application::inferred_app;
 use row_rules::Row;
 use sheet::ReadSheet;
@@ -33,11 +33,11 @@ pub fn inferred_plain(store: &mut Store<'_>, sheet: &ReadSheet<'_>, term: TermRe
     ensures answer { PlainTermIs store.old sheet.now term store.new result }
 {
     match term.kind {
-        TermKind::Integer => leaf(store, SortKind::Int),
-        TermKind::Real => leaf(store, SortKind::Real),
-        TermKind::String => leaf(store, SortKind::String),
-        TermKind::RegLan => leaf(store, SortKind::RegLan),
-        TermKind::BitVector => bit_vector(store, term.number),
+        TermKind::Integer => leaf(store, SortKind::Int, ANEW),
+        TermKind::Real => leaf(store, SortKind::Real, ANEW),
+        TermKind::String => leaf(store, SortKind::String, ANEW),
+        TermKind::RegLan => leaf(store, SortKind::RegLan, ANEW),
+        TermKind::BitVector => bit_vector(store, term.number, ANEW),
         _ => Ok(sheet.table[term.sort] as usize),
     }
 }

@@ -1,12 +1,13 @@
 -- The words of the contracts over a store, a sheet and the numbers of sorts in an array as they are lent.
-use Rattle.std.specs.Prelude.{ℕ, List, Result}
+use Rattle.std.specs.Prelude.{ℕ, ◌<◌, ◌≡◌, Bool, true, List, Result, Option as Maybe, Some, None}
 use Rattle.std.proofs.Math.Option.{Option}
 use Rattle.record.specs.Number.{numbers_at}
 use Rattle.record.specs.Sort.{Sorts}
-use Rattle.record.specs.Record.{sorts_of}
+use Rattle.record.specs.Record.{sort_of, sorts_of}
+use Rattle.record.specs.Decode.{fields_at}
 use Rattle.record.specs.declared.span.Span.{Span}
 use Rattle.store.specs.declared.Store.{Store}
-use Rattle.store.specs.Words.{store_in}
+use Rattle.store.specs.Words.{store_in, sort_in}
 use Rattle.sheet.specs.declared.ReadSheet.{ReadSheet}
 use Rattle.row_rules.specs.declared.Cause.{Cause}
 use Rattle.row_answer.specs.declared.arguments.Args.{Args}
@@ -35,6 +36,14 @@ constants z l = constants_in z.bytes.now z.starts.now l.at l.count
 -- The sort of the record r is to be made.
 abbrev pub MakeAsked : Store → List ℕ → Type 0
 MakeAsked s r = MakeAsks s.records.now s.places.now s.index.now s.count s.used r
+
+-- Where the answer is yes, the number is that of the record's sort; and so of a number, if there is one.
+abbrev pub NearIs : Store → List ℕ → ℕ → Bool → Type 0
+NearIs s r near t = t ≡ true → (near < s.count) × (sort_in s near ≡ sort_of (store_in s) (fields_at r 0))
+
+abbrev pub PartIs : Store → List ℕ → Maybe ℕ → Type 0
+PartIs s r None = Unit {0}
+PartIs s r (Some k) = NearIs s r k true
 
 -- The sort of a kind without fields, a variable.
 abbrev pub LeafAsked : Store → ℕ → Type 0

@@ -15,7 +15,7 @@ ghost use Rattle.store.specs.Changes.{Same};
 ghost use Rattle.store.specs.Words.{store_in};
 ghost use Rattle.row_rules.specs.Verdict.{sort, code_of};
 ghost use Rattle.row_answer.specs.Answer.{Answered};
-ghost use Rattle.row_answer.specs.Words.{MakeAsked, LeafAsked, VariableAsked};
+ghost use Rattle.row_answer.specs.Words.{MakeAsked, NearIs, LeafAsked, VariableAsked};
 
 use record::kinds::SortKind;
 use record::limits::{LARGEST_TREE, LARGEST_WIDTH, REFUSED};
@@ -32,6 +32,9 @@ const MAP_NUMBER: u8 = (KIND_BIT | NUMBER_BIT) as u8;
 
 const MAP_LIST: u8 = (KIND_BIT | LIST_BIT) as u8;
 
+// As the number near at hand: past every store, so that it is nothing's.
+pub const ANEW: usize = REFUSED;
+
 // A row as it is written: the store number, or the number of the cause times 65,536.
 pub fn code(row: Row) -> u32
     requires { code_of row < 4294967296 }
@@ -43,12 +46,24 @@ pub fn code(row: Row) -> u32
     }
 }
 
-// The sort of a record: found or added; Limit where its tree is over 4,096; Full where the store cannot hold it.
-pub fn make(store: &mut Store<'_>, rec: &[u8]) -> Row
+// Whether the sort of the number `near`, which may be any number, is that of a record.
+pub fn is_near(store: &Store<'_>, rec: &[u8], near: usize) -> bool
+    requires { MakeAsked store.now rec.now }
+    ensures { NearIs store.now rec.now near result }
+{
+    near < store.count && store.entries().record_is(near, rec)
+}
+
+// The sort of a record: `near` where it is that one's, else found or added; Limit where its tree is over 4,096; Full where the store
+// cannot hold it.
+pub fn make(store: &mut Store<'_>, rec: &[u8], near: usize) -> Row
     requires { MakeAsked store.old rec.now }
     ensures same { Same store.old store.new }
     ensures answer { Answered store.old (sort (sort_of (store_in store.old) (fields_at rec.now 0))) store.new result }
 {
+    if is_near(store, rec, near) {
+        return Ok(near);
+    }
     let weight = store.tree_size(rec);
     if LARGEST_TREE < weight {
         return Err(Cause::Limit);
@@ -57,12 +72,12 @@ pub fn make(store: &mut Store<'_>, rec: &[u8]) -> Row
 }
 
 // The sort of a kind without name, number and parts, as Bool; or Full.
-pub fn leaf(store: &mut Store<'_>, kind: SortKind) -> Row
+pub fn leaf(store: &mut Store<'_>, kind: SortKind, near: usize) -> Row
     requires { LeafAsked store.old (sort_number kind) }
     ensures same { Same store.old store.new }
     ensures answer { Answered store.old (sort (node (sort_number kind) 0 0 end)) store.new result }
 {
-    make(store, &[MAP_KIND, kind as u8])
+    make(store, &[MAP_KIND, kind as u8], near)
 }
 
 // The variable with this name; or Full.
@@ -72,11 +87,11 @@ pub fn variable(store: &mut Store<'_>, name: usize) -> Row
     ensures answer { Answered store.old (sort (var name)) store.new result }
 {
     let [low, high] = (name as u16).to_le_bytes();
-    make(store, &[MAP_NAME, SortKind::Var as u8, low, high])
+    make(store, &[MAP_NAME, SortKind::Var as u8, low, high], ANEW)
 }
 
 // The vector of this width; Limit where it is over 65,535; or Full.
-pub fn bit_vector(store: &mut Store<'_>, width: usize) -> Row
+pub fn bit_vector(store: &mut Store<'_>, width: usize, near: usize) -> Row
     ensures same { Same store.old store.new }
     ensures answer { Answered store.old (sort (bitvec width)) store.new result }
 {
@@ -87,5 +102,6 @@ pub fn bit_vector(store: &mut Store<'_>, width: usize) -> Row
     make(
         store,
         &[MAP_NUMBER, SortKind::BitVec as u8, low, high, 0, 0],
+        near,
     )
 }

@@ -11,10 +11,10 @@ ghost use Rattle.row_rules.specs.Verdict.{sort};
 ghost use Rattle.row_rules.specs.Lists.{remaining, joined};
 ghost use Rattle.row_answer.specs.Answer.{Answered};
 ghost use Rattle.row_answer.specs.Args.{SameArgs};
-ghost use Rattle.row_answer.specs.Words.{args_in, parts_in, bound_in, MakeAsked, SetOverAsked, StoredListAsked, ListedAsked, RemainingAsked, LambdaAsked, SetOver};
+ghost use Rattle.row_answer.specs.Words.{PartIs, args_in, parts_in, bound_in, MakeAsked, SetOverAsked, StoredListAsked, ListedAsked, RemainingAsked, LambdaAsked, SetOver};
 
 use super::arguments::Args;
-use super::{MAP_LIST, make};
+use super::{ANEW, MAP_LIST, is_near, make};
 use record::kinds::SortKind;
 use record::limits::{LARGEST_PARTS, LONGEST_LIST};
 use record::span::Span;
@@ -24,7 +24,7 @@ use store::Store;
 
 // The sort of this kind (Function or Tuple) over the sorts in `list`; Limit where they are more than 64 or the tree is over
 // 4,096; or Full.
-pub fn listed(store: &mut Store<'_>, kind: SortKind, list: &mut Args<'_>) -> Row
+pub fn listed(store: &mut Store<'_>, kind: SortKind, list: &mut Args<'_>, near: usize) -> Row
     requires { ListedAsked store.old (sort_number kind) list.old }
     ensures same { Same store.old store.new }
     ensures same_list { SameArgs list.old list.new }
@@ -34,17 +34,17 @@ pub fn listed(store: &mut Store<'_>, kind: SortKind, list: &mut Args<'_>) -> Row
         return Err(Cause::Limit);
     }
     list.put_head(kind);
-    make(store, list.record())
+    make(store, list.record(), near)
 }
 
 // The Set of the sort k.
-pub fn set_of(store: &mut Store<'_>, k: usize) -> Row
+pub fn set_of(store: &mut Store<'_>, k: usize, near: usize) -> Row
     requires { k < store.old.count }
     ensures same { Same store.old store.new }
     ensures answer { Answered store.old (sort (set (sort_in store.old k))) store.new result }
 {
     let [low, high] = (k as u16).to_le_bytes();
-    make(store, &[MAP_LIST, SortKind::Set as u8, 1, low, high])
+    make(store, &[MAP_LIST, SortKind::Set as u8, 1, low, high], near)
 }
 
 // The Set of the sort k that was made last, over the store of `from` sorts before: of the sorts that were made since, and the
@@ -54,19 +54,38 @@ pub fn set_over(store: &mut Store<'_>, k: usize, from: usize) -> Row
     ensures same { Same store.old store.new }
     ensures answer { SetOver store.old k from store.new result }
 {
-    let outer = set_of(store, k);
+    let outer = set_of(store, k, ANEW);
     if outer.is_err() {
         store.undo(from);
     }
     outer
 }
 
-// The Set of the sort of a record; Limit where its tree is over 4,096; or Full.
-pub fn set_of_tuple(store: &mut Store<'_>, rec: &[u8]) -> Row
+// The part of the Set with the number `near`, where it is the sort of a record; None where it is not, and where `near` is no Set's.
+pub fn near_part(store: &Store<'_>, rec: &[u8], near: usize) -> Option<usize>
+    requires { MakeAsked store.now rec.now }
+    ensures { PartIs store.now rec.now result }
+{
+    if store.count <= near {
+        return None;
+    }
+    let outer = store.entry(near);
+    if outer.kind != SortKind::Set {
+        return None;
+    }
+    let inner = store.number(outer.parts.at);
+    is_near(store, rec, inner).then_some(inner)
+}
+
+// The Set of the sort of a record: `near` where it is that, by its part; Limit where its tree is over 4,096; or Full.
+pub fn set_of_tuple(store: &mut Store<'_>, rec: &[u8], near: usize) -> Row
     requires { MakeAsked store.old rec.now }
     ensures same { Same store.old store.new }
     ensures answer { Answered store.old (sort (set (sort_of (store_in store.old) (fields_at rec.now 0)))) store.new result }
 {
+    if let Some(inner) = near_part(store, rec, near) {
+        return set_of(store, inner, near);
+    }
     let weight = store.tree_size(rec);
     if LARGEST_PARTS < weight {
         return Err(Cause::Limit);
@@ -78,7 +97,7 @@ pub fn set_of_tuple(store: &mut Store<'_>, rec: &[u8]) -> Row
 
 // The relation with the columns in `list`, a Set of a Tuple; Limit where they are more than 64 or the tree is over 4,096; or
 // Full.
-pub fn relation(store: &mut Store<'_>, list: &mut Args<'_>) -> Row
+pub fn relation(store: &mut Store<'_>, list: &mut Args<'_>, near: usize) -> Row
     requires { StoredListAsked store.old list.old }
     ensures same { Same store.old store.new }
     ensures same_list { SameArgs list.old list.new }
@@ -88,7 +107,7 @@ pub fn relation(store: &mut Store<'_>, list: &mut Args<'_>) -> Row
         return Err(Cause::Limit);
     }
     list.put_head(SortKind::Tuple);
-    set_of_tuple(store, list.record())
+    set_of_tuple(store, list.record(), near)
 }
 
 // What is left of a Function's list, the sorts that the store names in `left`: the last one by itself, or the Function of what
@@ -105,7 +124,7 @@ pub fn remaining(store: &mut Store<'_>, list: &mut Args<'_>, left: Span) -> Row
     }
     let sorts = store.sorts();
     list.copy(sorts.records, left);
-    listed(store, SortKind::Function, list)
+    listed(store, SortKind::Function, list, ANEW)
 }
 
 // The Function of the sorts of pairs of the sheet and the sort `body`, put together in `list`.
@@ -123,5 +142,5 @@ pub fn lambda(
 {
     list.put_bindings(sheet, pairs);
     list.push(body);
-    listed(store, SortKind::Function, list)
+    listed(store, SortKind::Function, list, ANEW)
 }

@@ -32,7 +32,8 @@ pub trait Judge {
     fn column() -> Column
         ensures { column_number result ≡ column };
 
-    // The row of a record whose parts are gathered in `args`. `look` is what the look-up in `past` gave of it.
+    // The row of a record whose parts are gathered in `args`. `look` is what the look-up in `past` gave of it; `near` may
+    // be the row, or any number.
     fn judge(
         store: &mut Store<'_>,
         names: &mut Names<'_>,
@@ -41,6 +42,7 @@ pub trait Judge {
         args: &mut Args<'_>,
         past: &Past<'_>,
         look: Look,
+        near: usize,
     ) -> Row
         requires { JudgeAsked store.old names.old sheet.now term args.old past.now look }
         ensures same { Same store.old store.new }
@@ -68,6 +70,7 @@ impl Judge for Inferred {
         args: &mut Args<'_>,
         _past: &Past<'_>,
         _look: Look,
+        _near: usize,
     ) -> Row {
         infer(store, names, sheet, term, args)
     }
@@ -93,12 +96,13 @@ impl Judge for Checked {
         args: &mut Args<'_>,
         past: &Past<'_>,
         look: Look,
+        near: usize,
     ) -> Row {
         if term.kind == TermKind::App {
             let crowded = past.lacks_room(look, args);
             return checked_app(store, names, args, crowded);
         }
-        check(store, names, sheet, term, args)
+        check(store, names, sheet, term, args, near)
     }
 }
 
@@ -112,6 +116,7 @@ pub fn row<J: Judge>(
     term: TermRecord,
     args: &mut Args<'_>,
     past: &mut Past<'_>,
+    near: usize,
 ) -> Row
     requires { RowAsked J.column store.old names.old sheet.now rows.now term args.old past.old }
     ensures same { Same store.old store.new }
@@ -126,7 +131,7 @@ pub fn row<J: Judge>(
     if let Look::Noted(code) = look {
         return row_again(code);
     }
-    let made = J::judge(store, names, sheet, term, args, past, look);
+    let made = J::judge(store, names, sheet, term, args, past, look, near);
     past.row_noted(term.list.count, look, made);
     made
 }

@@ -13,13 +13,14 @@ use matching_tables::names::Names;
 use reader::{Cursor, TermRecord};
 use record::limits::{LONGEST_RECORD, NAMES};
 use row_answer::arguments::Args;
-use row_answer::code;
+use row_answer::{ANEW, code};
 use row_memo::{Checked, Inferred, row};
 use row_slots::{Past, TABLE};
 use sheet::ReadSheet;
 use store::Store;
 
-// Writes both rows of the term `t`, which has this record, at 2 t: the inferred one, then the checked one over the store after it.
+// Writes both rows of the term `t`, which has this record, at 2 t: the inferred one, then the checked one over the store after it,
+// which is mostly the same number, and is looked for there first.
 // `args` is used up; `past` notes what Apps were found to be; both as of each below.
 pub fn rows_of(
     store: &mut Store<'_>,
@@ -41,8 +42,9 @@ pub fn rows_of(
     ensures past { PastTrue store.new past.new }
     ensures same_past { SamePast past.old past.new }
 {
-    let inferred = row::<Inferred>(store, names, sheet, rows, term, args, past);
-    let checked = row::<Checked>(store, names, sheet, rows, term, args, past);
+    let inferred = row::<Inferred>(store, names, sheet, rows, term, args, past, ANEW);
+    let near = inferred.unwrap_or(ANEW);
+    let checked = row::<Checked>(store, names, sheet, rows, term, args, past, near);
     rows[2 * t] = code(inferred);
     rows[2 * t + 1] = code(checked);
 }

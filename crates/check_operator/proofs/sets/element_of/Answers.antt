@@ -3,7 +3,8 @@ use Rattle.std.proofs.Common.{refl, ◌≡◌, arith}
 use Rattle.record.specs.Kinds.{sort_number}
 use Rattle.record.specs.declared.kinds.SortKind.TheVariants.{Set}
 use Rattle.matching_tables.specs.KindTests.{kinds-same, kinds-differ}
-use Rattle.check_operator.proofs.SetEntries.{element-none, element-place, element-some}
+use Rattle.check_operator.proofs.SetEntries.{element-none, element-some}
+use Rattle.row_answer.specs.SetParts.{part-place}
 use Rattle.check_operator.proofs.sets.element_of.Goals as goal
 use Rattle.check_operator.proofs.sets.element_of.Goals.{Else-ne}
 
@@ -16,7 +17,7 @@ returns-then-ne c = element-none c.entry-set.result c.entry-set.ensures (kinds-d
 pub get-requires : goal.get-requires
 get-requires c =
     let (n, h) = c.requires in
-    omega (arith, element-place c.entry-set.result c.entry-set.ensures (is-set (goal.at.get-requires c).Else-ne) h.stored h.known)
+    omega (arith, part-place c.entry-set.result c.entry-set.ensures (is-set (goal.at.get-requires c).Else-ne) h.stored h.known)
 
 pub returns : goal.returns
 returns c = element-some c.entry-set.result c.entry-set.ensures (is-set (goal.at.returns c).Else-ne) c.get.ensures.value
