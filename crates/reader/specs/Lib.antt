@@ -6,3 +6,4 @@ pub mod TermWas
 pub mod QuestionWas
 pub mod Examples
 pub mod Scans
+pub mod Again

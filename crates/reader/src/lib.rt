@@ -1,8 +1,9 @@
 // The records of a sheet, read field by field: each method of a cursor reads one field and returns what it read with the next
 // cursor, or the refusal. Here stand the types; fields.rt has the methods for single fields, records.rt those for whole records,
-// tables.rt the limits of each kind and scans.rt the tests of the numbers of a list.
+// again.rt reads a term record a second time, tables.rt has the limits of each kind and scans.rt the tests of the numbers of a list.
 #![tactic(auto)]
 
+mod again;
 mod fields;
 mod records;
 pub mod scans;
