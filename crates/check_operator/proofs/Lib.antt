@@ -6,3 +6,4 @@ pub mod FitLaws
 pub mod NumberLaws
 pub mod OperatedLaws
 pub mod RowLaws
+pub mod ValueLaws

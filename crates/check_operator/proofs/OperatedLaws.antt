@@ -17,16 +17,13 @@ use Rattle.record.specs.Sort.{Sort, var, par, node, end, ◌then◌, array, kind
 use Rattle.record.specs.Decode.{store_of, sort_at}
 use Rattle.record.specs.Codec.{length-numbers_at}
 use Rattle.record.specs.Sizes.{count-sorts}
-use Rattle.record.specs.Cases.{and_left, and_right, or_cases, eqb_swap, by_test as test}
+use Rattle.record.specs.Cases.{and_left, and_right, or_cases, eqb_swap}
 use Rattle.record.specs.declared.SortRecord.{SortRecord}
 use Rattle.store.specs.Entry.{EntryIs, EntryHas}
 use Rattle.row_rules.specs.declared.Cause.TheVariants.{NoRank, Count, Misfit}
 use Rattle.row_rules.specs.Verdict.{Verdict, sort, refused, need}
 use Rattle.check_rules.specs.Ranks.{smt_lib}
 use Rattle.check_rules.specs.Checked.{values, operated}
-use Rattle.check_rules.specs.Forms.{numbers}
-use Rattle.check_rules.specs.FormLaws.{numbers-only}
-use Rattle.check_rules.proofs.NumberTheorems.{numbers-values}
 use Rattle.check_operator.specs.declared.rule.Rule.{Rule as Given}
 use Rattle.check_operator.specs.declared.rule.Arity.{Arity}
 use Rattle.check_operator.specs.declared.rule.Arity.TheVariants.{Exactly, AtLeast}
@@ -215,20 +212,6 @@ module _ (b p a : List ℕ) (m : ℕ) where
   unfolding fitted
   vectors_has (Exactly l) o t h = h
   vectors_has (AtLeast l) o t h = h
-
----------------------------------------------------------------- values
-module _ {b p a : List ℕ} {m : ℕ} where
-  -- Numbers are values.
-  pub numbers_tested : (l r : ℕ) → TestsValues b p a m (Numbers l r) true
-  unfolding fitted
-  numbers_tested l r n o =
-      test (numbers (args_of b p n a m))
-      (λ e. rw (e, numbers-values (args_of b p n a m) (numbers-only (args_of b p n a m) e)) refl)
-      (λ e. rw e (go (values (args_of b p n a m))))
-    where
-      go : (c : Bool) → need c Misfit (refused Misfit) ≡ refused Misfit
-      go true = refl
-      go false = refl
 
 ---------------------------------------------------------------- the answer
 -- A rule of the code has ranks.

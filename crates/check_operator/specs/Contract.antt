@@ -14,7 +14,7 @@ use Rattle.matching_tables.specs.Usable.{Refs}
 use Rattle.row_rules.specs.declared.Cause.TheVariants.{Misfit}
 use Rattle.row_rules.specs.Verdict.{Verdict, sort, refused, need}
 use Rattle.check_rules.specs.Forms.{all_same}
-use Rattle.check_rules.specs.Checked.{values, only_of}
+use Rattle.check_rules.specs.Checked.{value, values, only_of}
 use Rattle.row_answer.specs.declared.arguments.Args.{Args}
 use Rattle.check_operator.specs.declared.op.Fit.{Fit}
 use Rattle.check_operator.specs.declared.op.Fit.TheVariants.{Known, Plain, Width, Gathered}
@@ -50,6 +50,10 @@ KindsHave b p a m k r = (n : ℕ) → Over b p n a m → map_of k ≡ 1 → r �
 -- Every argument is the first one.
 abbrev pub SameHas : List ℕ → List ℕ → List ℕ → ℕ → Bool → Type 0
 SameHas b p a m r = (n : ℕ) → Over b p n a m → r ≡ all_same (only_of (args_of b p n a m)) (args_of b p n a m)
+
+-- Whether the first argument is no Par; true where there is none.
+abbrev pub FirstHas : List ℕ → List ℕ → List ℕ → ℕ → Bool → Type 0
+FirstHas b p a m r = (n : ℕ) → Over b p n a m → r ≡ value (only_of (args_of b p n a m))
 
 -- They are references to its sorts.
 pub args-refs : (b p a : List ℕ) (n m : ℕ) → 3 + 2 * m ≤ length a → Over b p n a m → Refs a 3 m n

@@ -10,15 +10,16 @@ ghost use Rattle.row_answer.specs.Heads.{HeadAsks};
 ghost use Rattle.row_answer.specs.Words.{args_in};
 ghost use Rattle.check_operator.specs.Rule.{All, Numbers, Equal, Choose, Vectors, Concat};
 ghost use Rattle.check_operator.specs.Numbered.{result_number, fixed_numbers, rule_numbers};
-ghost use Rattle.check_operator.specs.Contract.{ArgsAsk, KindIs, KindsHave, SameHas, RuleAsks, RuleFits, ValuesFor, ArrayAsks, ArrayHas, fit_verdict, DeliverFitAsked};
+ghost use Rattle.check_operator.specs.Contract.{ArgsAsk, KindIs, KindsHave, SameHas, FirstHas, RuleAsks, RuleFits, ValuesFor, ArrayAsks, ArrayHas, fit_verdict, DeliverFitAsked};
 ghost use Rattle.infer_operator.specs.Asks.{ArgumentsAsk};
 ghost use Rattle.row_answer.specs.Args.{SameArgs};
 
 use super::rule::{Rule, counts, rule_of};
-use super::sets::fit_sets;
+use super::sets::{SetRule, fit_sets};
 use infer_operator::op::gathered;
 use infer_rules::Family;
 use record::kinds::SortKind;
+use record::span::Span;
 use row_answer::arguments::Args;
 use row_answer::values::all_values;
 use row_answer::{bit_vector, leaf};
@@ -186,14 +187,39 @@ pub fn fit_rule(entries: Entries<'_>, rule: Rule, args: &Args<'_>) -> Option<Fit
     }
 }
 
-// Whether none of the arguments is a Par; true for numbers, whose fit finds it out: what is Int or Real is none.
-#[tactic(auto, using(crate::proofs::OperatedLaws::numbers_tested))]
+// Whether the first argument is no Par; true where there is none.
+pub fn first_value(entries: Entries<'_>, args: &Args<'_>) -> bool
+    requires { ArgsAsk entries.records.now entries.places.now args.now.bytes.now args.now.count }
+    ensures { FirstHas entries.entry.records.now entries.entry.places.now args.now.bytes.now args.now.count result }
+{
+    let first = Span {
+        count: args.count.min(1),
+        ..args.span()
+    };
+    all_values(entries, args.bytes, first)
+}
+
+// Whether none of the arguments is a Par, as far as the fit does not find one out by itself: true for a rule that takes no Par at
+// all; of the first argument for Equal, Member and Insert, where the others are to be equal to it or the set of it; else of all.
+#[tactic(auto, using(crate::proofs::ValueLaws::taken_tested, crate::proofs::ValueLaws::vectors_take, crate::proofs::ValueLaws::equal_tested, crate::proofs::ValueLaws::member_tested, crate::proofs::ValueLaws::insert_tested))]
 pub fn values_for(entries: Entries<'_>, rule: Rule, args: &Args<'_>) -> bool
     requires { ArgsAsk entries.records.now entries.places.now args.now.bytes.now args.now.count }
     ensures { ValuesFor entries.entry args.now (rule_numbers rule) result }
 {
     match rule {
-        Rule::Numbers(_, _) => true,
+        Rule::All(_, _)
+        | Rule::Fixed(_, _)
+        | Rule::Numbers(_, _)
+        | Rule::Vectors(_, _)
+        | Rule::Concat
+        | Rule::Sets(
+            SetRule::Alike(_, _)
+            | SetRule::Closure
+            | SetRule::Transpose
+            | SetRule::Join
+            | SetRule::Product,
+        ) => true,
+        Rule::Equal | Rule::Sets(SetRule::Member | SetRule::Insert) => first_value(entries, args),
         _ => all_values(entries, args.bytes, args.span()),
     }
 }
