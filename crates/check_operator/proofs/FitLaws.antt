@@ -34,7 +34,8 @@ use Rattle.check_operator.specs.declared.op.Fit.TheVariants.{Known, Plain, Width
 use Rattle.check_operator.specs.Rule.{Rule, All, Equal, Choose, Vectors, Concat, plain_sort, numbers_result, vectors_result, choosing, concatenated, fitted, plain_kind, one_or_two, well_rule, counts_for}
 use Rattle.check_operator.specs.Numbered.{kind_in, plain_result, result_number, fixed_numbers}
 use Rattle.check_operator.specs.Contract.{Over, args_of, KindIs, SameHas, fit_verdict, fits_verdict, FitOk, FitsOk, FitIs, FitAsks, FitHas}
-use Rattle.check_operator.specs.KindLaws.{kind-parts, vector-small, kind-vector, kind-same}
+use Rattle.row_answer.specs.StoredKinds.{kind-parts}
+use Rattle.check_operator.specs.KindLaws.{vector-small, kind-vector, kind-same}
 use Rattle.check_operator.proofs.ArgumentLaws.{plain_sorts, fixed-plain}
 
 ---------------------------------------------------------------- a test by which a rule fits

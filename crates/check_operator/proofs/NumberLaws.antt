@@ -20,7 +20,7 @@ use Rattle.check_operator.specs.declared.op.Fit.TheVariants.{Plain}
 use Rattle.check_operator.specs.Rule.{Numbers, plain_sort, numbers_result, fitted, well_rule, plain_kind, one_or_two}
 use Rattle.check_operator.specs.Numbered.{result_number}
 use Rattle.check_operator.specs.Contract.{Over, args_of, FitAsks, FitHas}
-use Rattle.check_operator.specs.KindLaws.{kind-plain}
+use Rattle.row_answer.specs.StoredKinds.{kind-plain}
 use Rattle.check_operator.proofs.ArgumentLaws.{within-list, get-number}
 use Rattle.check_operator.proofs.FitLaws.{result-is}
 

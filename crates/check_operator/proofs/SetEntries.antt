@@ -20,7 +20,7 @@ use Rattle.check_rules.specs.Forms.{relation, element_of, columns as columns_of}
 use Rattle.check_operator.specs.SetRule.{is_set}
 use Rattle.check_operator.specs.SetContract.{ElementHas}
 use Rattle.row_answer.specs.SetParts.{one-part}
-use Rattle.check_operator.specs.KindLaws.{kind-read, parts-fields, kind-parts}
+use Rattle.row_answer.specs.StoredKinds.{kind-read, parts-fields, kind-parts}
 
 ---------------------------------------------------------------- kinds with parts and nothing else
 one-number : (ks : List ℕ) → 1 ≤ length ks → length ks ≤ 1 → ks ≡ get_or ks 0 0 ∷ []

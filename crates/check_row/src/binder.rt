@@ -42,6 +42,7 @@ pub fn bound_body(
     binder: Binder,
     args: &mut Args<'_>,
     body: usize,
+    near: usize,
 ) -> Row
     requires { BodyAsked store.old sheet.now pairs args.old body }
     ensures same { Same store.old store.new }
@@ -57,7 +58,7 @@ pub fn bound_body(
             if kind == SortKind::Par {
                 return Err(Cause::Misfit);
             }
-            lambda(store, sheet, pairs, args, body)
+            lambda(store, sheet, pairs, args, body, near)
         }
         Binder::Choice => {
             if pairs.count != 1 {
@@ -81,6 +82,7 @@ pub fn checked_binder(
     pairs: Span,
     number: usize,
     args: &mut Args<'_>,
+    near: usize,
 ) -> Row
     requires { BinderAsked store.old sheet.now pairs args.old }
     ensures same { Same store.old store.new }
@@ -92,5 +94,5 @@ pub fn checked_binder(
     }
     let binder = Binder::try_from(number).unwrap_or(Binder::Forall);
     let body = args.number(0);
-    bound_body(store, sheet, pairs, binder, args, body)
+    bound_body(store, sheet, pairs, binder, args, body, near)
 }

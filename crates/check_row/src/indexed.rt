@@ -13,7 +13,7 @@ ghost use Rattle.check_row.specs.Words.{OneIndexAsked, CheckIndexedAsked, Indexi
 use record::kinds::{ParamOp, SortKind};
 use record::span::Span;
 use row_answer::arguments::{Args, index_at};
-use row_answer::{ANEW, bit_vector};
+use row_answer::bit_vector;
 use row_rules::{Cause, Row};
 use sheet::ReadSheet;
 use store::Store;
@@ -52,19 +52,25 @@ pub fn kept(a: usize, kind: SortKind, wanted: SortKind) -> Row
 }
 
 // The vector of this width where the argument's kind is the one wanted, else Misfit.
-pub fn widened(store: &mut Store<'_>, kind: SortKind, wanted: SortKind, width: usize) -> Row
+pub fn widened(
+    store: &mut Store<'_>,
+    kind: SortKind,
+    wanted: SortKind,
+    width: usize,
+    near: usize,
+) -> Row
     ensures same { Same store.old store.new }
     ensures answer { Answered store.old (widened_verdict (sort_number kind) (sort_number wanted) width) store.new result }
 {
     if kind != wanted {
         return Err(Cause::Misfit);
     }
-    bit_vector(store, width, ANEW)
+    bit_vector(store, width, near)
 }
 
 // One index i at the argument a; Count for an operator with two, and where i is 0 for Repeat and IntToBv; Misfit where the
 // argument is of another kind.
-pub fn with_one(store: &mut Store<'_>, op: ParamOp, i: usize, a: usize) -> Row
+pub fn with_one(store: &mut Store<'_>, op: ParamOp, i: usize, a: usize, near: usize) -> Row
     requires { OneIndexAsked store.old i a }
     ensures same { Same store.old store.new }
     ensures answer { Answered store.old (indexed₁ (param_number op) i (sort_in store.old a)) store.new result }
@@ -72,18 +78,18 @@ pub fn with_one(store: &mut Store<'_>, op: ParamOp, i: usize, a: usize) -> Row
     let e = store.entry(a);
     match op {
         ParamOp::ZeroExtend | ParamOp::SignExtend => {
-            widened(store, e.kind, SortKind::BitVec, e.number + i)
+            widened(store, e.kind, SortKind::BitVec, e.number + i, near)
         }
         ParamOp::RotateLeft | ParamOp::RotateRight => kept(a, e.kind, SortKind::BitVec),
         ParamOp::RePower => kept(a, e.kind, SortKind::RegLan),
-        ParamOp::Repeat if i != 0 => widened(store, e.kind, SortKind::BitVec, i * e.number),
-        ParamOp::IntToBv if i != 0 => widened(store, e.kind, SortKind::Int, i),
+        ParamOp::Repeat if i != 0 => widened(store, e.kind, SortKind::BitVec, i * e.number, near),
+        ParamOp::IntToBv if i != 0 => widened(store, e.kind, SortKind::Int, i, near),
         _ => Err(Cause::Count),
     }
 }
 
 // Extract i, j at the argument a: Count unless j <= i and, of a vector, i under its width; Misfit where it is no vector.
-pub fn checked_extract(store: &mut Store<'_>, i: usize, j: usize, a: usize) -> Row
+pub fn checked_extract(store: &mut Store<'_>, i: usize, j: usize, a: usize, near: usize) -> Row
     requires { a < store.old.count }
     ensures same { Same store.old store.new }
     ensures answer { Answered store.old (indexed₂ 0 i j (sort_in store.old a)) store.new result }
@@ -98,31 +104,44 @@ pub fn checked_extract(store: &mut Store<'_>, i: usize, j: usize, a: usize) -> R
     if e.number <= i {
         return Err(Cause::Count);
     }
-    bit_vector(store, i - j + 1, ANEW)
+    bit_vector(store, i - j + 1, near)
 }
 
 // Two indices i, j at the argument a, for Extract and ReLoop; Count for another operator.
-pub fn with_two(store: &mut Store<'_>, op: ParamOp, i: usize, j: usize, a: usize) -> Row
+pub fn with_two(
+    store: &mut Store<'_>,
+    op: ParamOp,
+    i: usize,
+    j: usize,
+    a: usize,
+    near: usize,
+) -> Row
     requires { a < store.old.count }
     ensures same { Same store.old store.new }
     ensures answer { Answered store.old (indexed₂ (param_number op) i j (sort_in store.old a)) store.new result }
 {
     match op {
-        ParamOp::Extract => checked_extract(store, i, j, a),
+        ParamOp::Extract => checked_extract(store, i, j, a, near),
         ParamOp::ReLoop => kept(a, store.entry(a).kind, SortKind::RegLan),
         _ => Err(Cause::Count),
     }
 }
 
 // The indices at the argument a: two for Extract and ReLoop, one for the others; Count where they are not so.
-pub fn indexed_by(store: &mut Store<'_>, op: ParamOp, indices: Indices, a: usize) -> Row
+pub fn indexed_by(
+    store: &mut Store<'_>,
+    op: ParamOp,
+    indices: Indices,
+    a: usize,
+    near: usize,
+) -> Row
     requires { CheckIndexedAsked store.old indices a }
     ensures same { Same store.old store.new }
     ensures answer { Answered store.old (indexed_with (param_number op) indices (sort_in store.old a)) store.new result }
 {
     match indices {
-        Indices::One(i) => with_one(store, op, i, a),
-        Indices::Two(i, j) => with_two(store, op, i, j, a),
+        Indices::One(i) => with_one(store, op, i, a, near),
+        Indices::Two(i, j) => with_two(store, op, i, j, a, near),
     }
 }
 
@@ -141,6 +160,7 @@ pub fn checked_indexed(
     second: Span,
     op: usize,
     args: &Args<'_>,
+    near: usize,
 ) -> Row
     requires { IndexingAsked store.old sheet.now second args.now }
     ensures same { Same store.old store.new }
@@ -154,5 +174,5 @@ pub fn checked_indexed(
         return Err(Cause::Count);
     }
     let indices = indices_of(sheet, second).ok_or(Cause::Count)?;
-    indexed_by(store, op, indices, args.number(0))
+    indexed_by(store, op, indices, args.number(0), near)
 }

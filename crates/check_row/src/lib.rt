@@ -24,7 +24,7 @@ use single::{checked_as, checked_constant, checked_let, checked_variable};
 use store::Store;
 
 // The checked sort of a record whose arguments' sorts are in `args`, NoRank for a Match. `args` is used up; `near` may be
-// the answer of a constant or an operator, and is looked at first; the tables of names come back as they were.
+// the answer, and is looked at first where a sort is made; the tables of names come back as they were.
 pub fn check(
     store: &mut Store<'_>,
     names: &mut Names<'_>,
@@ -48,10 +48,10 @@ pub fn check(
         TermKind::Var => checked_variable(&store.sorts(), sheet.table[term.sort] as usize),
         TermKind::App => checked_app(store, names, args, false),
         TermKind::Op => checked_operator(store, term.number, args, near),
-        TermKind::Binder => checked_binder(store, sheet, term.pairs, term.number, args),
+        TermKind::Binder => checked_binder(store, sheet, term.pairs, term.number, args, near),
         TermKind::Let => checked_let(store.entries(), args),
         TermKind::Match => Err(Cause::NoRank),
-        TermKind::ParamOp => checked_indexed(store, sheet, term.second, term.number, args),
+        TermKind::ParamOp => checked_indexed(store, sheet, term.second, term.number, args, near),
         TermKind::AsOp => {
             let k = sheet.table[term.sort] as usize;
             checked_as(&store.sorts(), term.number, k, args)

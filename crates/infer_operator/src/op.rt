@@ -17,7 +17,7 @@ use record::kinds::SortKind;
 use record::span::Span;
 use row_answer::arguments::Args;
 use row_answer::lists::listed;
-use row_answer::{ANEW, bit_vector, leaf};
+use row_answer::{bit_vector, leaf};
 use row_rules::Row;
 use sheet::ReadSheet;
 use store::Store;
@@ -43,29 +43,29 @@ pub fn gathered(store: &mut Store<'_>, family: Family, args: &mut Args<'_>, near
     }
 }
 
-// What the families that look at vectors and at single arguments answer, and those of `gathered`.
+// What the families that look at vectors and at single arguments answer, and those of `gathered`; `near` may be its number.
 #[tactic(auto, unfolding(infer_rules::specs::Inferred::operated_by))]
-pub fn looked(store: &mut Store<'_>, family: Family, args: &mut Args<'_>) -> Row
+pub fn looked(store: &mut Store<'_>, family: Family, args: &mut Args<'_>, near: usize) -> Row
     requires { LookedAsks store.old family args.old }
     ensures same { Same store.old store.new }
     ensures same_args { SameArgs args.old args.new }
     ensures answer { Answered store.old (operated_by family (arguments store.old args.old) no_constants) store.new result }
 {
     match family {
-        Family::Vector => first_vector(store, args),
-        Family::Concat => concat(store, args),
+        Family::Vector => first_vector(store, args, near),
+        Family::Concat => concat(store, args, near),
         Family::First => argument(args, 0),
         Family::Second => argument(args, 1),
         Family::Last => last_of(args, 0),
-        Family::Sum => sum(store, args),
+        Family::Sum => sum(store, args, near),
         Family::Element => element(store.entries(), args),
         Family::RareList => rare_list(store, args),
-        _ => gathered(store, family, args, ANEW),
+        _ => gathered(store, family, args, near),
     }
 }
 
 // The inferred sort of the operator at its arguments, which the sheet names in `list`: the number of that sort, which is made
-// where it is not there yet, or the refusal that its family, a limit or the store's room gives.
+// where it is not there yet and is not `near`, or the refusal that its family, a limit or the store's room gives.
 #[tactic(auto, unfolding(infer_rules::specs::Inferred::operated_by))]
 pub fn inferred_operator(
     store: &mut Store<'_>,
@@ -73,6 +73,7 @@ pub fn inferred_operator(
     list: Span,
     op: usize,
     args: &mut Args<'_>,
+    near: usize,
 ) -> Row
     requires { InferOperatorAsks store.old sheet.now.bytes.now sheet.now.starts.now list args.old }
     ensures same { Same store.old store.new }
@@ -81,9 +82,9 @@ pub fn inferred_operator(
 {
     let family = family_of(op);
     match plain_of(family, args.count) {
-        Plain::Kind(kind) => leaf(store, kind, ANEW),
-        Plain::Width(width) => bit_vector(store, width, ANEW),
-        Plain::Written => constant_width(store, sheet, list),
-        Plain::Other => looked(store, family, args),
+        Plain::Kind(kind) => leaf(store, kind, near),
+        Plain::Width(width) => bit_vector(store, width, near),
+        Plain::Written => constant_width(store, sheet, list, near),
+        Plain::Other => looked(store, family, args, near),
     }
 }

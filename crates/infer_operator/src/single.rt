@@ -18,7 +18,7 @@ use record::numbers::Numbers;
 use record::span::Span;
 use row_answer::arguments::{Args, index_at};
 use row_answer::lists::set_of;
-use row_answer::{ANEW, leaf, variable};
+use row_answer::{leaf, variable};
 use row_rules::{Cause, Row};
 use sheet::ReadSheet;
 use store::Store;
@@ -58,17 +58,17 @@ pub fn some_real(entries: Entries<'_>, mut numbers: Numbers<'_>) -> bool
     numbers.any(|k| is_real(entries, k))
 }
 
-// Add, Sub, Mult: Real where an argument is Real, else Int.
+// Add, Sub, Mult: Real where an argument is Real, else Int; `near` may be its number.
 #[tactic(auto, unfolding(record::specs::Record::map_of, record::specs::Record::maps))]
-pub fn sum(store: &mut Store<'_>, args: &Args<'_>) -> Row
+pub fn sum(store: &mut Store<'_>, args: &Args<'_>, near: usize) -> Row
     requires { ArgumentsAsk store.old args.now }
     ensures same { Same store.old store.new }
     ensures answer { Answered store.old (sum_of (some_real (arguments store.old args.now))) store.new result }
 {
     if some_real(store.entries(), args.numbers()) {
-        leaf(store, SortKind::Real, ANEW)
+        leaf(store, SortKind::Real, near)
     } else {
-        leaf(store, SortKind::Int, ANEW)
+        leaf(store, SortKind::Int, near)
     }
 }
 
@@ -108,8 +108,8 @@ pub fn singleton(store: &mut Store<'_>, args: &Args<'_>, near: usize) -> Row
 }
 
 // BvConst: the vector of the width that the second argument writes; ParamBitVec where it is no integer constant; Panics
-// without a second argument. The sheet names the arguments in `list`.
-pub fn constant_width(store: &mut Store<'_>, sheet: &ReadSheet<'_>, list: Span) -> Row
+// without a second argument. The sheet names the arguments in `list`; `near` may be the answer.
+pub fn constant_width(store: &mut Store<'_>, sheet: &ReadSheet<'_>, list: Span, near: usize) -> Row
     requires { WrittenAsked store.old sheet.now list }
     ensures same { Same store.old store.new }
     ensures answer { Answered store.old (constant_width (constants sheet.now list)) store.new result }
@@ -117,5 +117,5 @@ pub fn constant_width(store: &mut Store<'_>, sheet: &ReadSheet<'_>, list: Span) 
     if list.count < 2 {
         return Err(Cause::Panics);
     }
-    vector(store, index_at(sheet, list, 1))
+    vector(store, index_at(sheet, list, 1), near)
 }

@@ -13,20 +13,20 @@ ghost use Rattle.infer_operator.specs.Vectors.{ScanHas, VectorsHas, WidthAsks, W
 use record::kinds::SortKind;
 use record::numbers::Numbers;
 use row_answer::arguments::Args;
-use row_answer::{ANEW, bit_vector, leaf};
+use row_answer::{bit_vector, leaf};
 use row_rules::{Cause, Row};
 use store::Store;
 use store::entries::Entries;
 
-// The vector of a width; ParamBitVec where it is unknown.
+// The vector of a width, ParamBitVec where it is unknown; `near` may be its number.
 #[tactic(auto, unfolding(record::specs::Record::map_of, record::specs::Record::maps))]
-pub fn vector(store: &mut Store<'_>, width: Option<usize>) -> Row
+pub fn vector(store: &mut Store<'_>, width: Option<usize>, near: usize) -> Row
     ensures same { Same store.old store.new }
     ensures answer { Answered store.old (vector_of width) store.new result }
 {
     match width {
-        Some(w) => bit_vector(store, w, ANEW),
-        None => leaf(store, SortKind::ParamBitVec, ANEW),
+        Some(w) => bit_vector(store, w, near),
+        None => leaf(store, SortKind::ParamBitVec, near),
     }
 }
 
@@ -48,14 +48,14 @@ pub fn scan_vectors(entries: Entries<'_>, numbers: Numbers<'_>) -> Result<Option
 
 // The group of nineteen: the first vector of known width; ParamBitVec without one; Panics at another sort before it.
 #[tactic(auto, unfolding(record::specs::Record::map_of, record::specs::Record::maps))]
-pub fn first_vector(store: &mut Store<'_>, args: &Args<'_>) -> Row
+pub fn first_vector(store: &mut Store<'_>, args: &Args<'_>, near: usize) -> Row
     requires { ArgumentsAsk store.old args.now }
     ensures same { Same store.old store.new }
     ensures answer { Answered store.old (first_vector (arguments store.old args.now)) store.new result }
 {
     match scan_vectors(store.entries(), args.numbers())? {
         Some(k) => Ok(k),
-        None => leaf(store, SortKind::ParamBitVec, ANEW),
+        None => leaf(store, SortKind::ParamBitVec, near),
     }
 }
 
@@ -96,11 +96,11 @@ pub fn add_widths(entries: Entries<'_>, mut numbers: Numbers<'_>) -> Result<Opti
 }
 
 // BvConcat: the vector of all widths together; ParamBitVec where one is unknown; Panics where an argument is no vector.
-pub fn concat(store: &mut Store<'_>, args: &Args<'_>) -> Row
+pub fn concat(store: &mut Store<'_>, args: &Args<'_>, near: usize) -> Row
     requires { ArgumentsAsk store.old args.now }
     ensures same { Same store.old store.new }
     ensures answer { Answered store.old (concat_from 0 (arguments store.old args.now)) store.new result }
 {
     let width = add_widths(store.entries(), args.numbers())?;
-    vector(store, width)
+    vector(store, width, near)
 }

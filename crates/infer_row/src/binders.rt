@@ -9,8 +9,8 @@ ghost use Rattle.infer_row.specs.Terms.{BoundAsks, bindings};
 use reader::TermRecord;
 use record::kinds::{Binder, SortKind};
 use row_answer::arguments::Args;
+use row_answer::leaf;
 use row_answer::lists::lambda;
-use row_answer::{ANEW, leaf};
 use row_rules::{Cause, Row};
 use sheet::ReadSheet;
 use store::Store;
@@ -23,6 +23,7 @@ pub fn inferred_binder(
     sheet: &ReadSheet<'_>,
     term: TermRecord,
     args: &mut Args<'_>,
+    near: usize,
 ) -> Row
     requires { BoundAsks store.old sheet.now term args.old }
     ensures same { Same store.old store.new }
@@ -32,13 +33,13 @@ pub fn inferred_binder(
     match Binder::try_from(term.number).unwrap_or(Binder::Forall) {
         Binder::Lambda => {
             let body = args.number(0);
-            lambda(store, sheet, term.pairs, args, body)
+            lambda(store, sheet, term.pairs, args, body, near)
         }
         Binder::Choice => {
             let mut pairs = term.pairs.pairs(sheet.bytes);
             let (_, sort) = pairs.next().ok_or(Cause::Panics)?;
             Ok(sheet.table[sort] as usize)
         }
-        Binder::Forall | Binder::Exists => leaf(store, SortKind::Bool, ANEW),
+        Binder::Forall | Binder::Exists => leaf(store, SortKind::Bool, near),
     }
 }

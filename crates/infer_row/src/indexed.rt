@@ -12,7 +12,7 @@ use infer_operator::single::argument;
 use record::kinds::{ParamOp, SortKind};
 use record::span::Span;
 use row_answer::arguments::{Args, index_at};
-use row_answer::{ANEW, bit_vector, leaf};
+use row_answer::{bit_vector, leaf};
 use row_rules::{Cause, Row};
 use sheet::ReadSheet;
 use store::Store;
@@ -20,7 +20,13 @@ use store::Store;
 // BvExtract's width from its second index and the first, i; ParamBitVec where it is no integer; Panics where it is missing or
 // over i.
 #[tactic(auto, unfolding(record::specs::Record::map_of, record::specs::Record::maps))]
-pub fn inferred_extract(store: &mut Store<'_>, sheet: &ReadSheet<'_>, second: Span, i: usize) -> Row
+pub fn inferred_extract(
+    store: &mut Store<'_>,
+    sheet: &ReadSheet<'_>,
+    second: Span,
+    i: usize,
+    near: usize,
+) -> Row
     requires { ExtractAsks sheet.now second i }
     ensures same { Same store.old store.new }
     ensures answer { Answered store.old (extracted (some i ∷ others sheet.now second)) store.new result }
@@ -30,15 +36,20 @@ pub fn inferred_extract(store: &mut Store<'_>, sheet: &ReadSheet<'_>, second: Sp
     }
     match index_at(sheet, second, 1) {
         Some(j) if i < j => Err(Cause::Panics),
-        Some(j) => bit_vector(store, i - j + 1, ANEW),
-        None => leaf(store, SortKind::ParamBitVec, ANEW),
+        Some(j) => bit_vector(store, i - j + 1, near),
+        None => leaf(store, SortKind::ParamBitVec, near),
     }
 }
 
 // The vector whose width is what `resize` makes of the first argument's width; ParamBitVec where that is unknown; Panics where it
 // is no vector, or missing.
 #[tactic(auto, unfolding(record::specs::Record::map_of, record::specs::Record::maps))]
-pub fn resized<F: FnOnce(usize) -> usize>(store: &mut Store<'_>, args: &Args<'_>, resize: F) -> Row
+pub fn resized<F: FnOnce(usize) -> usize>(
+    store: &mut Store<'_>,
+    args: &Args<'_>,
+    near: usize,
+    resize: F,
+) -> Row
     requires asked { ArgumentsAsk store.old args.now }
     requires callable { (w : ℕ) → w ≤ 65535 → F.pre resize w }
     ensures same { Same store.old store.new }
@@ -47,8 +58,8 @@ pub fn resized<F: FnOnce(usize) -> usize>(store: &mut Store<'_>, args: &Args<'_>
     let k = argument(args, 0)?;
     let vector = store.entry(k);
     match vector.kind {
-        SortKind::BitVec => bit_vector(store, resize(vector.number), ANEW),
-        SortKind::ParamBitVec => leaf(store, SortKind::ParamBitVec, ANEW),
+        SortKind::BitVec => bit_vector(store, resize(vector.number), near),
+        SortKind::ParamBitVec => leaf(store, SortKind::ParamBitVec, near),
         _ => Err(Cause::Panics),
     }
 }
@@ -62,16 +73,17 @@ pub fn by_index(
     op: ParamOp,
     args: &Args<'_>,
     i: usize,
+    near: usize,
 ) -> Row
     requires { GivenAsks store.old sheet.now second op args.now i }
     ensures same { Same store.old store.new }
     ensures answer { Answered store.old (indexed (param_number op) (some i ∷ others sheet.now second) (arguments store.old args.now)) store.new result }
 {
     match op {
-        ParamOp::Extract => inferred_extract(store, sheet, second, i),
-        ParamOp::ZeroExtend | ParamOp::SignExtend => resized(store, args, |w| i + w),
-        ParamOp::Repeat => resized(store, args, |w| i * w),
-        _ => bit_vector(store, i, ANEW),
+        ParamOp::Extract => inferred_extract(store, sheet, second, i, near),
+        ParamOp::ZeroExtend | ParamOp::SignExtend => resized(store, args, near, |w| i + w),
+        ParamOp::Repeat => resized(store, args, near, |w| i * w),
+        _ => bit_vector(store, i, near),
     }
 }
 
@@ -83,6 +95,7 @@ pub fn first_index(
     second: Span,
     op: ParamOp,
     args: &Args<'_>,
+    near: usize,
 ) -> Row
     requires { FirstAsks store.old sheet.now second op args.now }
     ensures same { Same store.old store.new }
@@ -92,8 +105,8 @@ pub fn first_index(
         return Err(Cause::Panics);
     }
     match index_at(sheet, second, 0) {
-        Some(i) => by_index(store, sheet, second, op, args, i),
-        None => leaf(store, SortKind::ParamBitVec, ANEW),
+        Some(i) => by_index(store, sheet, second, op, args, i, near),
+        None => leaf(store, SortKind::ParamBitVec, near),
     }
 }
 
@@ -105,6 +118,7 @@ pub fn inferred_indexed(
     second: Span,
     op: usize,
     args: &Args<'_>,
+    near: usize,
 ) -> Row
     requires { InferIndexedAsks store.old sheet.now second args.now }
     ensures same { Same store.old store.new }
@@ -116,11 +130,11 @@ pub fn inferred_indexed(
         | ParamOp::ZeroExtend
         | ParamOp::SignExtend
         | ParamOp::Repeat
-        | ParamOp::IntToBv => first_index(store, sheet, second, op, args),
-        ParamOp::BitOf => leaf(store, SortKind::Bool, ANEW),
-        ParamOp::IntOf => leaf(store, SortKind::Int, ANEW),
+        | ParamOp::IntToBv => first_index(store, sheet, second, op, args, near),
+        ParamOp::BitOf => leaf(store, SortKind::Bool, near),
+        ParamOp::IntOf => leaf(store, SortKind::Int, near),
         ParamOp::RotateLeft | ParamOp::RotateRight => argument(args, 0),
-        ParamOp::RePower | ParamOp::ReLoop => leaf(store, SortKind::RegLan, ANEW),
+        ParamOp::RePower | ParamOp::ReLoop => leaf(store, SortKind::RegLan, near),
         ParamOp::BvConst => Err(Cause::Panics),
     }
 }

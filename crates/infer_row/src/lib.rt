@@ -18,7 +18,7 @@ use matching_tables::names::Names;
 use reader::TermRecord;
 use record::kinds::{SortKind, TermKind};
 use row_answer::arguments::Args;
-use row_answer::{ANEW, bit_vector, leaf};
+use row_answer::{bit_vector, leaf};
 use row_application::inferred_app;
 use row_rules::Row;
 use sheet::ReadSheet;
@@ -27,17 +27,22 @@ use store::Store;
 // A term whose sort needs no argument: a constant, Limit where the width of a bit vector is over 65,535; a Var and an AsOp have
 // a sort of their own, which the sheet's table names in the store.
 #[tactic(auto, unfolding(record::specs::Record::map_of, record::specs::Record::maps, infer_rules::specs::Inferred::inferred))]
-pub fn inferred_plain(store: &mut Store<'_>, sheet: &ReadSheet<'_>, term: TermRecord) -> Row
+pub fn inferred_plain(
+    store: &mut Store<'_>,
+    sheet: &ReadSheet<'_>,
+    term: TermRecord,
+    near: usize,
+) -> Row
     requires { PlainTermAsks store.old sheet.now term }
     ensures same { Same store.old store.new }
     ensures answer { PlainTermIs store.old sheet.now term store.new result }
 {
     match term.kind {
-        TermKind::Integer => leaf(store, SortKind::Int, ANEW),
-        TermKind::Real => leaf(store, SortKind::Real, ANEW),
-        TermKind::String => leaf(store, SortKind::String, ANEW),
-        TermKind::RegLan => leaf(store, SortKind::RegLan, ANEW),
-        TermKind::BitVector => bit_vector(store, term.number, ANEW),
+        TermKind::Integer => leaf(store, SortKind::Int, near),
+        TermKind::Real => leaf(store, SortKind::Real, near),
+        TermKind::String => leaf(store, SortKind::String, near),
+        TermKind::RegLan => leaf(store, SortKind::RegLan, near),
+        TermKind::BitVector => bit_vector(store, term.number, near),
         _ => Ok(sheet.table[term.sort] as usize),
     }
 }
@@ -49,6 +54,7 @@ pub fn inferred_composed(
     sheet: &ReadSheet<'_>,
     term: TermRecord,
     args: &mut Args<'_>,
+    near: usize,
 ) -> Row
     requires { InferComposedAsks store.old sheet.now term args.old }
     ensures same { Same store.old store.new }
@@ -56,22 +62,23 @@ pub fn inferred_composed(
     ensures answer { ComposedIs store.old sheet.now term args.old store.new result }
 {
     match term.kind {
-        TermKind::Op => inferred_operator(store, sheet, term.list, term.number, args),
-        TermKind::Binder => inferred_binder(store, sheet, term, args),
+        TermKind::Op => inferred_operator(store, sheet, term.list, term.number, args, near),
+        TermKind::Binder => inferred_binder(store, sheet, term, args, near),
         TermKind::Let => last_of(args, 0),
         TermKind::Match => last_of(args, 1),
-        _ => inferred_indexed(store, sheet, term.second, term.number, args),
+        _ => inferred_indexed(store, sheet, term.second, term.number, args, near),
     }
 }
 
 // The inferred sort of a record over the sorts of its arguments: for an App what remains of the head's sort; else as
-// `inferred_composed` and `inferred_plain`. `args` is used up; the tables of names come back as they were.
+// `inferred_composed` and `inferred_plain`, whose answer `near` may be. `args` is used up; the tables of names come back as they were.
 pub fn infer(
     store: &mut Store<'_>,
     names: &mut Names<'_>,
     sheet: &ReadSheet<'_>,
     term: TermRecord,
     args: &mut Args<'_>,
+    near: usize,
 ) -> Row
     requires { InferAsks store.old names.old sheet.now term args.old }
     ensures same { Same store.old store.new }
@@ -82,7 +89,7 @@ pub fn infer(
     match term.kind {
         TermKind::App => inferred_app(store, names, args),
         TermKind::Op | TermKind::Binder | TermKind::Let | TermKind::Match | TermKind::ParamOp =>
-            inferred_composed(store, sheet, term, args),
-        _ => inferred_plain(store, sheet, term),
+            inferred_composed(store, sheet, term, args, near),
+        _ => inferred_plain(store, sheet, term, near),
     }
 }

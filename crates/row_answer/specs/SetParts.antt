@@ -1,12 +1,15 @@
--- A record of kind Set has one part, which stands within the bytes.
+-- A record of kind Set has one part, which stands within the bytes; its sort is the Set of that part's sort.
 use Rattle.std.specs.Prelude.{ℕ, ◌+◌, ◌≤◌, ◌<◌, ◌≡◌, List, length, get_or}
-use Rattle.std.proofs.Common.{ap, subst, ◌∙◌, arith}
+use Rattle.std.proofs.Common.{refl, sym, ap, subst, ◌∙◌, arith}
 use Rattle.record.specs.Kinds.{sort_number}
-use Rattle.record.specs.Record.{Fields, leasts, least_of, mosts, most_of}
-use Rattle.record.specs.Decode.{fields_at, Stored}
+use Rattle.record.specs.Number.{u16_at, numbers_at}
+use Rattle.record.specs.Sort.{set, node}
+use Rattle.record.specs.Record.{Fields, maps, map_of, leasts, least_of, mosts, most_of, sorts_of}
+use Rattle.record.specs.Decode.{fields_at, store_of, sort_at, Stored}
 use Rattle.record.specs.Codec.{length-numbers_at}
 use Rattle.record.specs.declared.SortRecord.{SortRecord}
 use Rattle.store.specs.Entry.{EntryHas}
+use Rattle.row_answer.specs.StoredKinds.{kind-parts}
 
 module _ {b p : List ℕ} {k : ℕ} (r : SortRecord) (q : EntryHas b p k r) (i : sort_number r.kind ≡ 14) {n : ℕ} (s : Stored b p n) (l : k < n) where
   pub one-part : r.parts.count ≡ 1
@@ -21,3 +24,10 @@ module _ {b p : List ℕ} {k : ℕ} (r : SortRecord) (q : EntryHas b p k r) (i :
 
   pub part-place : r.parts.at + 2 ≤ length b
   part-place = omega (arith, one-part, (q n s l).place.list)
+
+  pub part-sort : sort_at b p n k ≡ set (sort_at b p n (u16_at b r.parts.at))
+  unfolding map_of maps sort_at sorts_of numbers_at
+  part-sort =
+      let o = q n s l in
+      kind-parts b p n k s l 14 refl (sym o.kind ∙ i)
+      ∙ ap (node 14 0 0) (sym o.parts ∙ ap (λ (c : ℕ). sorts_of (store_of b p n) (numbers_at b r.parts.at c)) one-part)

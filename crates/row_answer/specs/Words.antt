@@ -2,7 +2,7 @@
 use Rattle.std.specs.Prelude.{ℕ, ◌<◌, ◌≡◌, Bool, true, List, Result, Option as Maybe, Some, None}
 use Rattle.std.proofs.Math.Option.{Option}
 use Rattle.record.specs.Number.{numbers_at}
-use Rattle.record.specs.Sort.{Sorts}
+use Rattle.record.specs.Sort.{Sorts, end, node, set}
 use Rattle.record.specs.Record.{sort_of, sorts_of}
 use Rattle.record.specs.Decode.{fields_at}
 use Rattle.record.specs.declared.span.Span.{Span}
@@ -37,13 +37,16 @@ constants z l = constants_in z.bytes.now z.starts.now l.at l.count
 abbrev pub MakeAsked : Store → List ℕ → Type 0
 MakeAsked s r = MakeAsks s.records.now s.places.now s.index.now s.count s.used r
 
--- Where the answer is yes, the number is that of the record's sort; and so of a number, if there is one.
+-- Where the answer is yes, the number is that of the record's sort; or that of the kind's. Where a number is given, `near` is the Set of its sort.
 abbrev pub NearIs : Store → List ℕ → ℕ → Bool → Type 0
 NearIs s r near t = t ≡ true → (near < s.count) × (sort_in s near ≡ sort_of (store_in s) (fields_at r 0))
 
-abbrev pub PartIs : Store → List ℕ → Maybe ℕ → Type 0
-PartIs s r None = Unit {0}
-PartIs s r (Some k) = NearIs s r k true
+abbrev pub LeafIs : Store → ℕ → ℕ → Bool → Type 0
+LeafIs s kind near t = t ≡ true → (near < s.count) × (sort_in s near ≡ node kind 0 0 end)
+
+abbrev pub PartIs : Store → ℕ → Maybe ℕ → Type 0
+PartIs s near None = Unit {0}
+PartIs s near (Some k) = (near < s.count) × (sort_in s near ≡ set (sort_in s k))
 
 -- The sort of a kind without fields, a variable.
 abbrev pub LeafAsked : Store → ℕ → Type 0

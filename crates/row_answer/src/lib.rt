@@ -15,7 +15,7 @@ ghost use Rattle.store.specs.Changes.{Same};
 ghost use Rattle.store.specs.Words.{store_in};
 ghost use Rattle.row_rules.specs.Verdict.{sort, code_of};
 ghost use Rattle.row_answer.specs.Answer.{Answered};
-ghost use Rattle.row_answer.specs.Words.{MakeAsked, NearIs, LeafAsked, VariableAsked};
+ghost use Rattle.row_answer.specs.Words.{MakeAsked, NearIs, LeafAsked, LeafIs, VariableAsked};
 
 use record::kinds::SortKind;
 use record::limits::{LARGEST_TREE, LARGEST_WIDTH, REFUSED};
@@ -71,13 +71,24 @@ pub fn make(store: &mut Store<'_>, rec: &[u8], near: usize) -> Row
     Ok(store.intern(rec, weight)?)
 }
 
-// The sort of a kind without name, number and parts, as Bool; or Full.
+// Whether the sort of the number `near`, which may be any number, is that of a kind without name, number and parts.
+pub fn is_leaf(store: &Store<'_>, kind: SortKind, near: usize) -> bool
+    requires { LeafAsked store.now (sort_number kind) }
+    ensures { LeafIs store.now (sort_number kind) near result }
+{
+    near < store.count && store.kind(near) == kind
+}
+
+// The sort of a kind without name, number and parts, as Bool: `near` where that is of this kind, else found or added; or Full.
 pub fn leaf(store: &mut Store<'_>, kind: SortKind, near: usize) -> Row
     requires { LeafAsked store.old (sort_number kind) }
     ensures same { Same store.old store.new }
     ensures answer { Answered store.old (sort (node (sort_number kind) 0 0 end)) store.new result }
 {
-    make(store, &[MAP_KIND, kind as u8], near)
+    if is_leaf(store, kind, near) {
+        return Ok(near);
+    }
+    make(store, &[MAP_KIND, kind as u8], ANEW)
 }
 
 // The variable with this name; or Full.

@@ -37,14 +37,33 @@ pub fn listed(store: &mut Store<'_>, kind: SortKind, list: &mut Args<'_>, near: 
     make(store, list.record(), near)
 }
 
-// The Set of the sort k.
+// The part of the sort `near`, where that is a Set of the store; None for any other number.
+pub fn set_part(store: &Store<'_>, near: usize) -> Option<usize>
+    ensures { PartIs store.now near result }
+{
+    if store.count <= near {
+        return None;
+    }
+    let outer = store.entry(near);
+    if outer.kind != SortKind::Set {
+        return None;
+    }
+    Some(store.number(outer.parts.at))
+}
+
+// The Set of the sort k: `near` where it is that, by its part; else found or added; Limit where its tree is over 4,096; or Full.
 pub fn set_of(store: &mut Store<'_>, k: usize, near: usize) -> Row
     requires { k < store.old.count }
     ensures same { Same store.old store.new }
     ensures answer { Answered store.old (sort (set (sort_in store.old k))) store.new result }
 {
+    if let Some(part) = set_part(store, near) {
+        if part == k {
+            return Ok(near);
+        }
+    }
     let [low, high] = (k as u16).to_le_bytes();
-    make(store, &[MAP_LIST, SortKind::Set as u8, 1, low, high], near)
+    make(store, &[MAP_LIST, SortKind::Set as u8, 1, low, high], ANEW)
 }
 
 // The Set of the sort k that was made last, over the store of `from` sorts before: of the sorts that were made since, and the
@@ -61,30 +80,16 @@ pub fn set_over(store: &mut Store<'_>, k: usize, from: usize) -> Row
     outer
 }
 
-// The part of the Set with the number `near`, where it is the sort of a record; None where it is not, and where `near` is no Set's.
-pub fn near_part(store: &Store<'_>, rec: &[u8], near: usize) -> Option<usize>
-    requires { MakeAsked store.now rec.now }
-    ensures { PartIs store.now rec.now result }
-{
-    if store.count <= near {
-        return None;
-    }
-    let outer = store.entry(near);
-    if outer.kind != SortKind::Set {
-        return None;
-    }
-    let inner = store.number(outer.parts.at);
-    is_near(store, rec, inner).then_some(inner)
-}
-
 // The Set of the sort of a record: `near` where it is that, by its part; Limit where its tree is over 4,096; or Full.
 pub fn set_of_tuple(store: &mut Store<'_>, rec: &[u8], near: usize) -> Row
     requires { MakeAsked store.old rec.now }
     ensures same { Same store.old store.new }
     ensures answer { Answered store.old (sort (set (sort_of (store_in store.old) (fields_at rec.now 0)))) store.new result }
 {
-    if let Some(inner) = near_part(store, rec, near) {
-        return set_of(store, inner, near);
+    if let Some(part) = set_part(store, near) {
+        if is_near(store, rec, part) {
+            return Ok(near);
+        }
     }
     let weight = store.tree_size(rec);
     if LARGEST_PARTS < weight {
@@ -127,13 +132,14 @@ pub fn remaining(store: &mut Store<'_>, list: &mut Args<'_>, left: Span) -> Row
     listed(store, SortKind::Function, list, ANEW)
 }
 
-// The Function of the sorts of pairs of the sheet and the sort `body`, put together in `list`.
+// The Function of the sorts of pairs of the sheet and the sort `body`, put together in `list`; `near` may be its number.
 pub fn lambda(
     store: &mut Store<'_>,
     sheet: &ReadSheet<'_>,
     pairs: Span,
     list: &mut Args<'_>,
     body: usize,
+    near: usize,
 ) -> Row
     requires { LambdaAsked store.old sheet.now pairs list.old body }
     ensures same { Same store.old store.new }
@@ -142,5 +148,5 @@ pub fn lambda(
 {
     list.put_bindings(sheet, pairs);
     list.push(body);
-    listed(store, SortKind::Function, list, ANEW)
+    listed(store, SortKind::Function, list, near)
 }

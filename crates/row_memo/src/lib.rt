@@ -70,9 +70,9 @@ impl Judge for Inferred {
         args: &mut Args<'_>,
         _past: &Past<'_>,
         _look: Look,
-        _near: usize,
+        near: usize,
     ) -> Row {
-        infer(store, names, sheet, term, args)
+        infer(store, names, sheet, term, args, near)
     }
 }
 

@@ -20,6 +20,7 @@ use Rattle.record.specs.StoreLaws.{store_of-length}
 use Rattle.record.specs.SortLists.{Starts, starts-self, starts-trans, starts-count}
 use Rattle.record.specs.Cases.{by_test, below_other}
 use Rattle.reader.specs.Reader.{read_term}
+use Rattle.reader.specs.Again.{ReadBefore, ReadAgain}
 use Rattle.reader.specs.TermWas.{TermWas}
 use Rattle.reader.specs.declared.Cursor.{Cursor}
 use Rattle.reader.specs.declared.TermRecord.{TermRecord}
@@ -43,7 +44,7 @@ use Rattle.check_rules.proofs.ParlessTheorems.{checked-parless}
 use Rattle.row_answer.specs.Answer.{Answer}
 use Rattle.row_answer.specs.Answer.{AnswerIs}
 use Rattle.row_answer.specs.AnswerLaws.{answer-more, answer-number}
-use Rattle.row_answer.specs.Arguments.{arguments_of}
+use Rattle.row_answer.specs.Arguments.{JudgedAsks, arguments_of}
 use Rattle.row_answer.specs.Lent.{Lent}
 use Rattle.row_parts.specs.Site.{own_over, bindings_over, constants_over, indices_over, term_verdict, Standing, TermAsks, TermIs}
 use Rattle.row_parts.specs.SiteLaws.{verdict-at}
@@ -188,6 +189,10 @@ module _ {b p ix : List ℕ} {n u : ℕ} {prm imgs bnd s tbl xs rows : List ℕ}
   pub first-asks : (a : List ℕ) → 259 ≤ length a → TermAsks b p ix n u prm imgs bnd s tbl xs rows r a
   first-asks a o = record { good = h.good; tables = h.tables; standing = h.standing; room = o }
 
+  -- The rows of the terms that it names can be looked at.
+  pub first-judged : JudgedAsks s r.list.at r.list.count rows 0
+  first-judged = let k = h.standing in record { within = k.was.list; side = omega arith; row = λ j l. omega (arith, k.was.references j l, k.lent) }
+
   module _ {c q jx prm₁ imgs₁ bnd₁ : List ℕ} {v : Answer} (f : TermIs inferred 0 b p n prm imgs bnd s tbl xs rows r c q jx prm₁ imgs₁ bnd₁ v) where
     more : n ≤ v.count
     more = answer-more b p n (term_verdict inferred (store_of b p n) s tbl xs rows 0 r) c q jx v f.answer
@@ -278,6 +283,13 @@ module _ {b p ix : List ℕ} {n u : ℕ} {prm imgs bnd s tbl xs rows : List ℕ}
 module _ {b p ix : List ℕ} {n u : ℕ} {prm imgs bnd s tbl : List ℕ} {m : ℕ} {xs rows : List ℕ} {t : ℕ} (h : TurnAsks b p ix n u prm imgs bnd s tbl m xs rows t) where
   pub stands_here : TermStands s m t (get_or xs t 0)
   stands_here = h.stands t (omega arith)
+
+  -- So it was read before, and what is read again is what was read.
+  pub before_here : ReadBefore s (get_or xs t 0)
+  before_here = let o = stands_here in record { sorts = m; t = t; fields = o.fields; next = o.next; read = o.read }
+
+  pub again-read : {r : TermRecord} → ReadAgain s (get_or xs t 0) r → read_term s m t (get_or xs t 0) ≡ Ok (r, stands_here.next)
+  again-read {r} a = let o = stands_here in rw (a m t o.fields o.next o.read) o.read
 
   module _ (r : TermRecord) (c : Cursor) (e : read_term s m t (get_or xs t 0) ≡ Ok (r, c)) where
     abbrev standing : Standing n s tbl xs rows r

@@ -4,7 +4,11 @@ use Rattle.std.proofs.Common.{arith}
 use Rattle.row_answer.specs.Answer.{answer}
 use Rattle.row_answer.specs.AnswerLaws.{answer-code}
 use Rattle.row_table.proofs.PastRows.{checked-asks, rows_written}
+use Rattle.row_table.proofs.TableLaws.{first-judged}
 use Rattle.row_table.proofs.rows_of.Goals as goal
+
+pub guess_at-place-requires : goal.guess_at-place-requires
+guess_at-place-requires c = first-judged c.requires.asked
 
 pub row-checked-requires : goal.row-checked-requires
 row-checked-requires c = checked-asks c.requires.asked c.row-inferred.ensures.row c.row-inferred.new.args.bytes.now (omega (arith, c.row-inferred.ensures.args.1, c.requires.room))

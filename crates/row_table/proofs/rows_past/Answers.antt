@@ -3,7 +3,7 @@ use Rattle.row_table.proofs.TableLaws.{tabling-start, turn-asks, tabling-step, t
 use Rattle.row_table.proofs.rows_past.Goals as goal
 
 pub loop-t-init : goal.loop-t-init
-loop-t-init c = ((refl, refl, refl), (refl, refl, refl), tabling-start c.requires.asked, c.requires.past, (refl, refl), (refl, refl))
+loop-t-init c = ((refl, refl, refl), (refl, refl, refl), tabling-start c.requires.asked, c.requires.past, (refl, refl), (refl, refl), refl)
 
 pub term_rows-requires-clause-asked : goal.term_rows-requires-clause-asked
 term_rows-requires-clause-asked c = turn-asks c.requires.asked c.loop-t.invariant.2 c.loop-t-test.true
@@ -22,6 +22,7 @@ loop-t-preserved c =
       e.past,
       (e.same_past.0 ∙ i.4.0, e.same_past.1 ∙ i.4.1),
       (e.args.0 ∙ i.5.0, e.args.1 ∙ i.5.1),
+      e.guesses ∙ i.6,
     )
 
 pub returns-clause-same : goal.returns-clause-same
@@ -44,3 +45,9 @@ returns-clause-past c = c.loop-t.invariant.3
 
 pub returns-clause-same_past : goal.returns-clause-same_past
 returns-clause-same_past c = c.loop-t.invariant.4
+
+pub term_rows-requires-clause-guesses : goal.term_rows-requires-clause-guesses
+term_rows-requires-clause-guesses c = c.loop-t.invariant.6 ∙ c.requires.guesses
+
+pub returns-clause-guesses : goal.returns-clause-guesses
+returns-clause-guesses c = c.loop-t.invariant.6

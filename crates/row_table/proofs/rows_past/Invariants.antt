@@ -1,5 +1,6 @@
 -- The loop keeps: the first terms have their rows, and what was noted of Apps is true.
 -- A turn adds the rows of one term more.
+use Rattle.std.specs.Prelude.{◌≡◌, length}
 use Rattle.store.specs.Changes.{Same}
 use Rattle.matching_tables.specs.Names.{SameNames}
 use Rattle.row_slots.specs.Slots.{SamePast}
@@ -17,3 +18,4 @@ invariant-loop-t l =
     × PastTrue l.store l.past
     × SamePast l.initial.past l.past
     × SameArgs l.initial.args l.args
+    × length l.guesses ≡ length l.initial.guesses
