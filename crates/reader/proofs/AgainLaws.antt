@@ -1,7 +1,7 @@
 -- A term record that was read lies where the second reading looks for it: each field behind the one before it, and all of them in
 -- the slice.
-use Rattle.std.specs.Prelude.{◌≡◌, ℕ, ◌+◌, ◌*◌, ◌≤◌, ◌<◌, Bool, true, false, cond, List, length, get_or, leb, eqb, Some, Err}
-use Rattle.std.proofs.Common.{sym, ap, ap₂, refl, ◌∙◌, arith, leb-true}
+use Rattle.std.specs.Prelude.{◌≡◌, ℕ, ◌+◌, ◌*◌, ◌≤◌, ◌<◌, Bool, true, false, List, length, get_or, eqb, Some}
+use Rattle.std.proofs.Common.{sym, ap, ap₂, refl, ◌∙◌, arith}
 use Rattle.std.proofs.Math.Path.{subst}
 use Rattle.std.proofs.lemmas.Option.{slice_get_within}
 use Rattle.record.specs.Number.{u16_at, u32_at}
@@ -12,12 +12,12 @@ use Rattle.record.specs.KindLaws.{term_kind-found}
 use Rattle.record.specs.declared.kinds.TermKind.{TermKind}
 use Rattle.record.specs.declared.kinds.TermKind.TheVariants.{Integer, Real, String, RegLan, BitVector, Var, App, Op, Binder, Let, Match, ParamOp, AsOp}
 use Rattle.record.specs.declared.span.Span.{Span}
-use Rattle.reader.specs.declared.Refusal.TheVariants.{PastEnd, Value, Reference}
 use Rattle.reader.specs.declared.Cursor.{Cursor}
 use Rattle.reader.specs.declared.TermRecord.{TermRecord}
-use Rattle.reader.specs.Tables.{term_map_of, term_number_of, term_least_of, term_most_of}
-use Rattle.reader.specs.Reader.{demand, then_read, gave, got, span, all_below, pair_sorts_at, read_byte, read_head, read_name, read_number, read_own, read_references, read_pairs, read_second, read_term_fields, read_term}
-use Rattle.reader.specs.Was.{no-value, by-need, by-read, by-kind, read-value, read-next, NumberWas, byte-was, HeadWas, head-was, name-was, number-was, own-was, ListWas, references-were, second-was}
+use Rattle.reader.specs.Tables.{term_map_of}
+use Rattle.reader.specs.Reader.{gave, span, read_head, read_term}
+use Rattle.reader.specs.TermWas.{FieldsWere, fields-read}
+use Rattle.reader.specs.Was.{PairsWere, no-value, by-need, by-read, by-kind, NumberWas, HeadWas, head-was, ListWas}
 use Rattle.reader.specs.Again.{ReadBefore}
 
 ---------------------------------------------------------------- the kind
@@ -64,48 +64,8 @@ list-span false h =
       inside = h.inside;
     }
 
-span-start : {a n : ℕ} {l : Span} {c d : Cursor} → gave (span a n) c ≡ gave l d → l.at ≡ a
-span-start h = sym (ap (λ (i : Span). i.at) (read-value h))
-
-span-count : {a n : ℕ} {l : Span} {c d : Cursor} → gave (span a n) c ≡ gave l d → l.count ≡ n
-span-count h = sym (ap (λ (i : Span). i.count) (read-value h))
-
-pairs-by : (s : List ℕ) (sorts x : ℕ) {l : Span} {c : Cursor} (t : Bool)
-    → cond t
-    (then_read (read_byte s x) (λ k y.
-    demand (leb (y + 4 * k) (length s)) (Err PastEnd)
-    (demand (leb k 64) (Err Value)
-    (demand (all_below sorts (pair_sorts_at s y k)) (Err Reference)
-    (got (span y k) (y + 4 * k))))))
-    (got (span x 0) x) ≡ gave l c
-    → SpanWas s t 4 x l c
-pairs-by s sorts x false r =
-    record {
-      start = omega (arith, span-start r);
-      count = span-count r;
-      next = omega (arith, read-next r, span-start r, span-count r);
-      inside = λ h. omega (arith, read-next r);
-    }
-pairs-by s sorts x true r =
-    by-read _ (read_byte s x) r
-    (λ k d p r1.
-    by-need (leb (d.at + 4 * k) (length s)) r1 no-value
-    (λ l1 r2.
-    by-need (leb k 64) r2 no-value
-    (λ l2 r3.
-    by-need (all_below sorts (pair_sorts_at s d.at k)) r3 no-value
-    (λ l3 q.
-    let w = byte-was s x p in
-    record {
-      start = omega (arith, span-start q, w.next);
-      count = span-count q ∙ w.value;
-      next = omega (arith, read-next q, span-start q, span-count q);
-      inside = λ h. omega (arith, read-next q, leb-true (d.at + 4 * k) (length s) l1);
-    }))))
-
-pairs-span : (s : List ℕ) (m sorts x : ℕ) {l : Span} {c : Cursor} → read_pairs s m sorts x ≡ gave l c → SpanWas s (bit 32 m) 4 x l c
-unfolding read_pairs
-pairs-span s m sorts x r = pairs-by s sorts x (bit 32 m) r
+pairs-span : {s : List ℕ} {sorts x : ℕ} {l : Span} {c : Cursor} {t : Bool} → PairsWere s t sorts x l.at l.count c → SpanWas s t 4 x l c
+pairs-span h = record { start = h.start; count = h.count; next = sym h.ends; inside = h.inside }
 
 ---------------------------------------------------------------- the record
 -- The fields of r lie one behind the other from x on, by the map m.
@@ -128,40 +88,25 @@ pub record Lies (s : List ℕ) (x m : ℕ) (r : TermRecord) : Type 0 where
 
 module _ (s : List ℕ) (sorts t x : ℕ) (r : TermRecord) (c : Cursor) where
   fields-lie : (m : ℕ) (k : TermKind) (c2 : Cursor) → HeadWas s x m (term_number k) c2 → term_kind (get_or s (x + 1) 0) ≡ Some k
-      → read_term_fields s m k sorts t c2.at ≡ gave r c → Lies s x m r
-  unfolding read_term_fields
-  fields-lie m k c2 head kind h =
-      by-read _ (read_name s m c2.at) h
-      (λ a c3 p3 h3.
-      by-read _ (read_number s m (term_number_of (term_number k)) c3.at) h3
-      (λ w c4 p4 h4.
-      by-read _ (read_own s m sorts c4.at) h4
-      (λ o c5 p5 h5.
-      by-read _ (read_references s m (term_least_of (term_number k)) (term_most_of (term_number k)) t c5.at) h5
-      (λ l c6 p6 h6.
-      by-read _ (read_pairs s m sorts c6.at) h6
-      (λ ps c7 p7 h7.
-      by-read _ (read_second s m (term_number k) l.count t c7.at) h7
-      (λ z c8 p8 h8.
-      let here : c2.at ≡ x + 2 = head.next in
-      subst (Lies s x m) (read-value h8)
-      (record {
+      → FieldsWere s sorts t m k c2.at r c → Lies s x m r
+  fields-lie m k c2 head kind f =
+      record {
         map = head.map;
-        kind = kind;
+        kind = kind ∙ ap Some f.kind;
         head = head.inside;
-        second_place = c3;
-        third_place = c4;
-        list_place = c5;
-        pairs_place = c6;
-        last_place = c7;
-        end = c8;
-        name = subst (λ (i : ℕ). NumberWas s i (given (bit 2 m) (u16_at s i)) (given (bit 2 m) 2) a c3) here (name-was s m c2.at p3);
-        number = (number-was s m (term_number_of (term_number k)) c3.at p4).0;
-        sort = (own-was s m sorts c4.at p5).0;
-        list = list-span (bit 16 m) (references-were s m (term_least_of (term_number k)) (term_most_of (term_number k)) t c5.at p6).0;
-        pairs = pairs-span s m sorts c6.at p7;
-        second = list-span (bit 64 m) (second-was s m (term_number k) l.count t c7.at p8).0;
-      })))))))
+        second_place = f.number_place;
+        third_place = f.sort_place;
+        list_place = f.list_place;
+        pairs_place = f.pairs_place;
+        last_place = f.second_place;
+        end = c;
+        name = subst (λ (i : ℕ). NumberWas s i (given (bit 2 m) (u16_at s i)) (given (bit 2 m) 2) r.name f.number_place) head.next f.name;
+        number = f.number;
+        sort = f.sort;
+        list = list-span (bit 16 m) f.list;
+        pairs = pairs-span f.pairs;
+        second = list-span (bit 64 m) f.second;
+      }
 
   -- A TERM RECORD THAT WAS READ lies at its place.
   pub term-lies : read_term s sorts t x ≡ gave r c → Lies s x (get_or s x 0) r
@@ -176,7 +121,7 @@ module _ (s : List ℕ) (sorts t x : ℕ) (r : TermRecord) (c : Cursor) where
       let was = head-was s x d c2 p in
       let is : d.kind ≡ term_number k = term_kind-found d.kind k q in
       subst (λ (i : ℕ). Lies s x i r) was.map
-      (fields-lie d.map k c2 (subst (λ (j : ℕ). HeadWas s x d.map j c2) is was) (sym (ap term_kind was.kind) ∙ q) h3))))
+      (fields-lie d.map k c2 (subst (λ (j : ℕ). HeadWas s x d.map j c2) is was) (sym (ap term_kind was.kind) ∙ q) (fields-read s sorts t d.map k c2.at h3)))))
 
 pub before-lies : {s : List ℕ} {x : ℕ} (a : ReadBefore s x) → Lies s x (get_or s x 0) a.fields
 before-lies {s} {x} a = term-lies s a.sorts a.t x a.fields a.next a.read

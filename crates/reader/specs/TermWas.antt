@@ -160,31 +160,74 @@ module _ (s : List ℕ) (bytes : Bytes s) (sorts t x m : ℕ) (kind : TermKind) 
         inside = r8.inside in7;
       }
 
--- EVERY ACCEPTED TERM RECORD is such a one; the chain of its fields, taken apart
+---------------------------------------------------------------- the chain of the fields
+-- THE FIELDS THAT WERE READ from x on, by the map m, each behind the one before it: r has them, and is of the kind k.
+pub record FieldsWere (s : List ℕ) (sorts t m : ℕ) (k : TermKind) (x : ℕ) (r : TermRecord) (c : Cursor) : Type 0 where
+  pub kind : k ≡ r.kind
+  pub number_place : Cursor
+  pub sort_place : Cursor
+  pub list_place : Cursor
+  pub pairs_place : Cursor
+  pub second_place : Cursor
+  pub name : NumberWas s x (given (bit 2 m) (u16_at s x)) (given (bit 2 m) 2) r.name number_place
+  pub number : NumberWas s number_place.at (given (bit 4 m) (u32_at s number_place.at)) (given (bit 4 m) 4) r.number sort_place
+  pub small : r.number ≤ term_number_of (term_number r.kind)
+  pub sort : NumberWas s sort_place.at (given (bit 8 m) (u16_at s sort_place.at)) (given (bit 8 m) 2) r.sort list_place
+  pub there : bit 8 m ≡ true → r.sort < sorts
+  pub list : ListWas s (bit 16 m) (term_least_of (term_number r.kind)) (term_most_of (term_number r.kind)) list_place.at r.list.at r.list.count pairs_place
+  pub below : all_below t (numbers_at s r.list.at r.list.count) ≡ true
+  pub pairs : PairsWere s (bit 32 m) sorts pairs_place.at r.pairs.at r.pairs.count second_place
+  pub second : ListWas s (bit 64 m) (second_least_of (term_number r.kind) r.list.count) (second_most_of (term_number r.kind) r.list.count) second_place.at r.second.at r.second.count c
+  pub indexed : (eqb (term_number r.kind) 9 || all_below t (numbers_at s r.second.at r.second.count)) ≡ true
+
+pub fields-read : (s : List ℕ) (sorts t m : ℕ) (k : TermKind) (x : ℕ) {r : TermRecord} {c : Cursor} → read_term_fields s m k sorts t x ≡ gave r c → FieldsWere s sorts t m k x r c
+unfolding read_term_fields
+fields-read s sorts t m k x {r} {c} h =
+    by-read _ (read_name s m x) h
+    (λ a c3 p3 h3.
+    by-read _ (read_number s m (term_number_of (term_number k)) c3.at) h3
+    (λ w c4 p4 h4.
+    by-read _ (read_own s m sorts c4.at) h4
+    (λ o c5 p5 h5.
+    by-read _ (read_references s m (term_least_of (term_number k)) (term_most_of (term_number k)) t c5.at) h5
+    (λ l c6 p6 h6.
+    by-read _ (read_pairs s m sorts c6.at) h6
+    (λ ps c7 p7 h7.
+    by-read _ (read_second s m (term_number k) l.count t c7.at) h7
+    (λ z c8 p8 h8.
+    let r4 = number-was s m (term_number_of (term_number k)) c3.at p4 in
+    let r5 = own-was s m sorts c4.at p5 in
+    let r6 = references-were s m (term_least_of (term_number k)) (term_most_of (term_number k)) t c5.at p6 in
+    let r8 = second-was s m (term_number k) l.count t c7.at p8 in
+    subst (FieldsWere s sorts t m k x r) (read-cursor h8)
+    (subst (λ (j : TermRecord). FieldsWere s sorts t m k x j c8) (read-value h8)
+    (record {
+      kind = refl;
+      number_place = c3;
+      sort_place = c4;
+      list_place = c5;
+      pairs_place = c6;
+      second_place = c7;
+      name = name-was s m x p3;
+      number = r4.0;
+      small = r4.1;
+      sort = r5.0;
+      there = r5.1;
+      list = r6.0;
+      below = r6.1;
+      pairs = pairs-were s m sorts c6.at p7;
+      second = r8.0;
+      indexed = r8.1;
+    }))))))))
+
+-- EVERY ACCEPTED TERM RECORD is such a one
 module _ (s : List ℕ) (bytes : Bytes s) (sorts t x : ℕ) (r : TermRecord) (c : Cursor) where
-  fields-gave : (m : ℕ) (kind : TermKind) (c2 : Cursor) → HeadWas s x m (term_number kind) c2 → m ≡ term_map_of (term_number kind)
-      → read_term_fields s m kind sorts t c2.at ≡ gave r c → TermWas s sorts t x r c
-  unfolding read_term_fields
-  fields-gave m kind c2 head mk h =
-      by-read _ (read_name s m c2.at) h
-      (λ a c3 p3 h3.
-      by-read _ (read_number s m (term_number_of (term_number kind)) c3.at) h3
-      (λ w c4 p4 h4.
-      by-read _ (read_own s m sorts c4.at) h4
-      (λ o c5 p5 h5.
-      by-read _ (read_references s m (term_least_of (term_number kind)) (term_most_of (term_number kind)) t c5.at) h5
-      (λ l c6 p6 h6.
-      by-read _ (read_pairs s m sorts c6.at) h6
-      (λ ps c7 p7 h7.
-      by-read _ (read_second s m (term_number kind) l.count t c7.at) h7
-      (λ z c8 p8 h8.
-      let r4 = number-was s m (term_number_of (term_number kind)) c3.at p4 in
-      let r5 = own-was s m sorts c4.at p5 in
-      let r6 = references-were s m (term_least_of (term_number kind)) (term_most_of (term_number kind)) t c5.at p6 in
-      let r8 = second-was s m (term_number kind) l.count t c7.at p8 in
-      subst (TermWas s sorts t x r) (read-cursor h8)
-      (subst (λ (j : TermRecord). TermWas s sorts t x j c8) (read-value h8)
-      (fields-were s bytes sorts t x m kind c2 head mk a c3 w c4 o c5 l.at l.count c6 ps.at ps.count c7 z.at z.count c8 (name-was s m c2.at p3) r4.0 r4.1 r5.0 r5.1 r6.0 r6.1 (pairs-were s m sorts c6.at p7) r8.0 r8.1))))))))
+  fields-gave : (m : ℕ) (k : TermKind) (c2 : Cursor) → HeadWas s x m (term_number k) c2 → m ≡ term_map_of (term_number k)
+      → FieldsWere s sorts t m k c2.at r c → TermWas s sorts t x r c
+  fields-gave m k c2 head mk f =
+      let n : term_number k ≡ term_number r.kind = ap term_number f.kind in
+      fields-were s bytes sorts t x m r.kind c2 (subst (λ (j : ℕ). HeadWas s x m j c2) n head) (mk ∙ ap term_map_of n) r.name f.number_place r.number f.sort_place r.sort f.list_place
+      r.list.at r.list.count f.pairs_place r.pairs.at r.pairs.count f.second_place r.second.at r.second.count c f.name f.number f.small f.sort f.there f.list f.below f.pairs f.second f.indexed
 
   pub term-was : read_term s sorts t x ≡ gave r c → TermWas s sorts t x r c
   unfolding read_term
@@ -196,4 +239,4 @@ module _ (s : List ℕ) (bytes : Bytes s) (sorts t x : ℕ) (r : TermRecord) (c 
       let is : d.kind ≡ term_number kind = term_kind-found d.kind kind q in
       by-need (eqb d.map (term_map_of (term_number kind))) h2 no-value
       (λ e h3.
-      fields-gave d.map kind c2 (subst (λ (j : ℕ). HeadWas s x d.map j c2) is (head-was s x d c2 p)) (eqb-true d.map (term_map_of (term_number kind)) e) h3)))
+      fields-gave d.map kind c2 (subst (λ (j : ℕ). HeadWas s x d.map j c2) is (head-was s x d c2 p)) (eqb-true d.map (term_map_of (term_number kind)) e) (fields-read s sorts t d.map kind c2.at h3))))

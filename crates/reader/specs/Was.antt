@@ -274,6 +274,8 @@ pub record PairsWere (s : List ℕ) (t : Bool) (sorts x a n : ℕ) (c : Cursor) 
   pub inside : x ≤ length s → c.at ≤ length s
   pub few : n ≤ 64
   pub empty : t ≡ false → n ≡ 0
+  pub start : a ≡ x + given t 1
+  pub count : n ≡ given t (get_or s x 0)
   pub after : x ≤ a
   pub ends : a + 4 * n ≡ c.at
 
@@ -293,6 +295,8 @@ pairs-by s sorts x {l} false r =
       inside = λ h. omega (arith, read-next r);
       few = omega (arith, span-count r);
       empty = λ e. sym (span-count r);
+      start = omega (arith, span-place r);
+      count = sym (span-count r);
       after = omega (arith, span-place r);
       ends = omega (arith, span-place r, read-next r, span-count r);
     }
@@ -310,6 +314,8 @@ pairs-by s sorts x true r =
       inside = λ h. omega (arith, read-next q, leb-true (d.at + 4 * k) (length s) l1);
       few = omega (arith, span-count q, leb-true k 64 l2);
       empty = λ e. false-true (sym e);
+      start = omega (arith, span-place q, (byte-was s x p).next);
+      count = sym (span-count q) ∙ (byte-was s x p).value;
       after = omega (arith, span-place q, (byte-was s x p).next);
       ends = omega (arith, span-place q, read-next q, span-count q);
     }))))

@@ -6,16 +6,16 @@ use Rattle.std.proofs.Math.Bool.{true, false, cond}
 use Rattle.std.proofs.Math.Option.{Option, none, some}
 use Rattle.record.specs.Kinds.{term_number, term_kind}
 use Rattle.record.specs.KindLaws.{term_kind-found}
-use Rattle.record.specs.declared.kinds.TermKind.{TermKind}
 use Rattle.record.specs.Number.{u16_at, u32_at}
 use Rattle.record.specs.Sort.{Sort}
 use Rattle.record.specs.Record.{bit}
 use Rattle.record.specs.Store.{given}
-use Rattle.reader.specs.Tables.{term_maps, term_map_of, term_number_of, term_least_of, term_most_of}
+use Rattle.reader.specs.Tables.{term_maps, term_map_of}
 use Rattle.reader.specs.declared.Cursor.{Cursor}
 use Rattle.reader.specs.declared.TermRecord.{TermRecord}
-use Rattle.reader.specs.Reader.{gave, read_head, read_name, read_number, read_own, read_references, read_pairs, read_second, read_term_fields, read_term}
-use Rattle.reader.specs.Was.{no-value, by-need, by-read, by-kind, read-value, NumberWas, HeadWas, head-was, name-was, number-was}
+use Rattle.reader.specs.Reader.{gave, read_head, read_term}
+use Rattle.reader.specs.TermWas.{fields-read}
+use Rattle.reader.specs.Was.{no-value, by-need, by-read, by-kind, NumberWas, HeadWas, head-was}
 use Rattle.sheet.specs.Sheet.{TermFields, term_fields}
 use Rattle.sheet.specs.Contract.{each_at, term_read_at, terms_at, TermStands}
 use Rattle.sheet.specs.Stands.{each-length, term_is}
@@ -45,28 +45,6 @@ module _ (s : List ℕ) (sorts t x : ℕ) (r : TermRecord) (c : Cursor) (integer
         value = sym ew ∙ r4.value ∙ ap (λ (b : Bool). given b (u32_at s c3.at)) b4 ∙ ap (u32_at s) e3;
       }
 
-  fields-gave : (m : ℕ) (kind : TermKind) (c2 : Cursor) → HeadWas s x m (term_number kind) c2 → m ≡ term_map_of (term_number kind)
-      → read_term_fields s m kind sorts t c2.at ≡ gave r c → IntegerWas s x r
-  unfolding read_term_fields
-  fields-gave m kind c2 head mk h =
-      let k = term_number kind in
-      by-read _ (read_name s m c2.at) h
-      (λ a c3 p3 h3.
-      by-read _ (read_number s m (term_number_of k) c3.at) h3
-      (λ w c4 p4 h4.
-      by-read _ (read_own s m sorts c4.at) h4
-      (λ o c5 p5 h5.
-      by-read _ (read_references s m (term_least_of k) (term_most_of k) t c5.at) h5
-      (λ l c6 p6 h6.
-      by-read _ (read_pairs s m sorts c6.at) h6
-      (λ ps c7 p7 h7.
-      by-read _ (read_second s m k l.count t c7.at) h7
-      (λ z c8 p8 h8.
-      let er = read-value h8 in
-      let ek : k ≡ 0 = ap (λ (j : TermRecord). term_number j.kind) er ∙ integer in
-      let ew : w ≡ r.number = ap (λ (j : TermRecord). j.number) er in
-      number-first m k a w c2 c3 c4 head mk ek ew (name-was s m c2.at p3) (number-was s m (term_number_of k) c3.at p4).0))))))
-
   -- Every record of kind 0 that was read is such a one.
   pub integer-was : read_term s sorts t x ≡ gave r c → IntegerWas s x r
   unfolding read_term
@@ -78,7 +56,9 @@ module _ (s : List ℕ) (sorts t x : ℕ) (r : TermRecord) (c : Cursor) (integer
       let is : d.kind ≡ term_number kind = term_kind-found d.kind kind q in
       by-need (eqb d.map (term_map_of (term_number kind))) h2 no-value
       (λ e h3.
-      fields-gave d.map kind c2 (subst (λ (j : ℕ). HeadWas s x d.map j c2) is (head-was s x d c2 p)) (eqb-true d.map (term_map_of (term_number kind)) e) h3)))
+      let f = fields-read s sorts t d.map kind c2.at h3 in
+      number-first d.map (term_number kind) r.name r.number c2 f.number_place f.sort_place (subst (λ (j : ℕ). HeadWas s x d.map j c2) is (head-was s x d c2 p))
+      (eqb-true d.map (term_map_of (term_number kind)) e) (ap term_number f.kind ∙ integer) refl f.name f.number)))
 
 some_same : (b : Bool) (v w : ℕ) → (b ≡ true → v ≡ w) → cond b (some v) none ≡ cond b (some w) none
 some_same true v w h = ap some (h refl)
