@@ -92,6 +92,8 @@ fn cases() -> Vec<Case> {
         ("400 products of 32 and 32 columns", special::wide_pairs(Operator::RelProduct, 32)),
         ("200 transposes of 64 columns", special::wide_transposes()),
         ("worst: 4,000 joins of 33 and 33 columns, one sort", special::joined_again()),
+        ("worst: 4,000 pairs of two sorts in turn", special::tuples_in_turn(4_000, 2)),
+        ("worst: 480 tuples of 64 arguments, of two sorts in turn", special::tuples_in_turn(480, 64)),
         ("parametric applications, 4,096 terms, sizes written", sizes::all(&parametric(4_096, 1))),
         ("480 sorts of 64 parts, sizes written", sizes::all(&special::wide_sorts())),
         ("worst: 1 Bool, 2,047 sorts in one bucket, sizes written", sizes::all(&special::collisions(2_047, 1))),

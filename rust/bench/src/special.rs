@@ -107,6 +107,20 @@ pub fn wide_inserts() -> Vec<u8> {
     make.sheet.finish().into_bytes()
 }
 
+/// So many tuples of so many arguments, all Int but the last, which is Int and Real in turn: each of them has the operator and the first
+/// argument of the one before it, and another sort, so that what was found last is never what is found next.
+pub fn tuples_in_turn(count: usize, arguments: usize) -> Vec<u8> {
+    let mut make = Make::new(0, SEED);
+    let sorts = [SortRecord::Int, SortRecord::Real].map(|sort| make.sort(sort));
+    let last = sorts.map(|sort| make.var(sort));
+    for i in 0..count {
+        let mut list = vec![last[0]; arguments];
+        list[arguments - 1] = last[i % 2];
+        make.term(TermRecord::Op(Operator::Tuple, &list));
+    }
+    make.sheet.finish().into_bytes()
+}
+
 /// So many variables of relations with so many columns each, of which the first and the last have one sort, and no two are alike.
 fn relations(make: &mut Make, count: usize, columns: usize) -> Vec<TermId> {
     let leaves = of_widths(make);
