@@ -2,7 +2,7 @@
 use Rattle.std.specs.Prelude.{◌≡◌, refl, [], ◌∷◌, replicate, Some, None, Err}
 use Rattle.record.specs.declared.kinds.SortKind.TheVariants.{Int, Par}
 use Rattle.record.specs.declared.kinds.TermKind.TheVariants.{Op, Let}
-use Rattle.record.specs.declared.kinds.QuestionKind.TheVariants.{Compatible}
+use Rattle.record.specs.declared.kinds.QuestionKind.TheVariants.{Compatible, Continue}
 use Rattle.reader.specs.declared.Refusal.TheVariants.{PastEnd, Map, Value, Reference}
 use Rattle.reader.specs.Reader.{got, span, read_sort, read_term, read_question}
 
@@ -108,7 +108,7 @@ k1-term : read_term (21 ∷ 7 ∷ 10 ∷ 0 ∷ 0 ∷ 0 ∷ 2 ∷ 0 ∷ 0 ∷ 0 �
 unfolding read_term
 k1-term = refl
 
-k1-question : read_question (17 ∷ 0 ∷ 2 ∷ 0 ∷ 0 ∷ 0 ∷ 0 ∷ []) 1 0 ≡ got (record { kind = Compatible; list = span 3 2; names = span 7 0 }) 7
+k1-question : read_question (17 ∷ 0 ∷ 2 ∷ 0 ∷ 0 ∷ 0 ∷ 0 ∷ []) 1 0 ≡ got (record { kind = Compatible; list = span 3 2; pairs = span 7 0; names = span 7 0 }) 7
 unfolding read_question
 k1-question = refl
 
@@ -121,3 +121,36 @@ let-name = refl
 apply-twice : read_question (81 ∷ 2 ∷ 3 ∷ 0 ∷ 0 ∷ 0 ∷ 0 ∷ 0 ∷ 0 ∷ 2 ∷ 4 ∷ 0 ∷ 4 ∷ 0 ∷ []) 1 0 ≡ Err Value
 unfolding read_question
 apply-twice = refl
+
+-- document 02, A.8: a question that continues, sort 0 given for the one parameter 4, and one with nothing given and no parameters
+continue-one : read_question (113 ∷ 3 ∷ 3 ∷ 0 ∷ 0 ∷ 0 ∷ 0 ∷ 0 ∷ 0 ∷ 1 ∷ 4 ∷ 0 ∷ 0 ∷ 0 ∷ 1 ∷ 4 ∷ 0 ∷ []) 1 0
+    ≡ got (record { kind = Continue; list = span 3 3; pairs = span 10 1; names = span 15 1 }) 17
+unfolding read_question
+continue-one = refl
+
+continue-none : read_question (113 ∷ 3 ∷ 3 ∷ 0 ∷ 0 ∷ 0 ∷ 0 ∷ 0 ∷ 0 ∷ 0 ∷ 0 ∷ []) 1 0
+    ≡ got (record { kind = Continue; list = span 3 3; pairs = span 10 0; names = span 11 0 }) 11
+unfolding read_question
+continue-none = refl
+
+-- two sorts: 5; a given sort that is not there: 6, before its name is no parameter
+continue-two : read_question (113 ∷ 3 ∷ 2 ∷ 0 ∷ 0 ∷ 0 ∷ 0 ∷ 0 ∷ 0 ∷ []) 1 0 ≡ Err Value
+unfolding read_question
+continue-two = refl
+
+given-missing : read_question (113 ∷ 3 ∷ 3 ∷ 0 ∷ 0 ∷ 0 ∷ 0 ∷ 0 ∷ 0 ∷ 1 ∷ 4 ∷ 0 ∷ 1 ∷ 0 ∷ 0 ∷ []) 1 0 ≡ Err Reference
+unfolding read_question
+given-missing = refl
+
+-- a given name that is no parameter, or that is given twice: 5, after the parameters are all there, 3
+given-other : read_question (113 ∷ 3 ∷ 3 ∷ 0 ∷ 0 ∷ 0 ∷ 0 ∷ 0 ∷ 0 ∷ 1 ∷ 4 ∷ 0 ∷ 0 ∷ 0 ∷ 1 ∷ 5 ∷ 0 ∷ []) 1 0 ≡ Err Value
+unfolding read_question
+given-other = refl
+
+given-twice : read_question (113 ∷ 3 ∷ 3 ∷ 0 ∷ 0 ∷ 0 ∷ 0 ∷ 0 ∷ 0 ∷ 2 ∷ 4 ∷ 0 ∷ 0 ∷ 0 ∷ 4 ∷ 0 ∷ 0 ∷ 0 ∷ 1 ∷ 4 ∷ 0 ∷ []) 1 0 ≡ Err Value
+unfolding read_question
+given-twice = refl
+
+given-cut : read_question (113 ∷ 3 ∷ 3 ∷ 0 ∷ 0 ∷ 0 ∷ 0 ∷ 0 ∷ 0 ∷ 2 ∷ 4 ∷ 0 ∷ 0 ∷ 0 ∷ 4 ∷ 0 ∷ 0 ∷ 0 ∷ 1 ∷ 4 ∷ []) 1 0 ≡ Err PastEnd
+unfolding read_question
+given-cut = refl

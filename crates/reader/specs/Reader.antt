@@ -2,7 +2,7 @@
 -- other 4; per field, all its bytes, 3, 5, 6". A field whose bit does not stand is 0 or empty and takes no bytes.
 use Rattle.std.specs.Prelude.{◌≡◌, ℕ, zero, suc, ◌+◌, ◌*◌, ◌%◌, Bool, true, false, cond, ◌&&◌, ◌||◌, List, [], ◌∷◌, length, get_or, leb, ltb, eqb, Option, Some, None, Result, Ok, Err}
 use Rattle.record.specs.Number.{u16_at, u32_at, numbers_at}
-use Rattle.record.specs.Names.{distinct}
+use Rattle.record.specs.Names.{all_members, distinct}
 use Rattle.record.specs.Record.{bit, map_of, least_of, most_of}
 use Rattle.record.specs.Kinds.{sort_number, sort_kind, term_number, term_kind, question_number, question_kind}
 use Rattle.record.specs.declared.kinds.SortKind.{SortKind}
@@ -171,6 +171,11 @@ unfolding u16_at
 pair_sorts_at s x zero = []
 pair_sorts_at s x (suc n) = u16_at s (x + 2) ∷ pair_sorts_at s (x + 4) n
 
+-- Names given with sorts beside parameters (document 02, A.8): "each name among the parameters and given once".
+unfoldable pub rightly_given : List ℕ → List ℕ → Bool
+unfolding all_members distinct
+rightly_given vs ns = all_members vs ns && distinct vs
+
 -- Bit 32: pairs of name and sort: all their bytes, 3; at most 64, 5; each sort one of the sheet's, 6.
 unfoldable pub read_pairs : List ℕ → ℕ → ℕ → ℕ → Read Span
 unfolding read_byte bit all_below pair_sorts_at
@@ -226,13 +231,16 @@ read_term s sorts t x =
     of_kind (term_kind h.kind) (λ k.
     demand (eqb h.map (term_map_of (term_number k))) (Err Map) (read_term_fields s h.map k sorts t y)))
 
--- THE QUESTION RECORD at x; "questions may name every sort".
+-- THE QUESTION RECORD at x; "questions may name every sort". A given name that is no parameter or is given twice "counts as 5 where
+-- the parameters are read".
 unfoldable pub read_question_fields : List ℕ → ℕ → QuestionKind → ℕ → ℕ → Read QuestionRecord
-unfolding read_references read_names question_least_of question_most_of names_least_of names_most_of
+unfolding read_references read_pairs read_names rightly_given pair_names_at numbers_at question_least_of question_most_of names_least_of names_most_of
 read_question_fields s m k sorts x =
     then_read (read_references s m (question_least_of (question_number k)) (question_most_of (question_number k)) sorts x) (λ l x4.
-    then_read (read_names s m (names_least_of (question_number k) l.count) (names_most_of (question_number k) l.count) x4) (λ ns x5.
-    got (record { kind = k; list = l; names = ns }) x5))
+    then_read (read_pairs s m sorts x4) (λ ps x5.
+    then_read (read_names s m (names_least_of (question_number k) l.count) (names_most_of (question_number k) l.count) x5) (λ ns x6.
+    demand (rightly_given (pair_names_at s ps.at ps.count) (numbers_at s ns.at ns.count)) (Err Value)
+    (got (record { kind = k; list = l; pairs = ps; names = ns }) x6))))
 
 unfoldable pub read_question : List ℕ → ℕ → ℕ → Read QuestionRecord
 unfolding read_head read_question_fields question_map_of

@@ -1,4 +1,4 @@
--- The bit maps and limits of term and question records, by kind (document 01, "Term records" and "Questions").
+-- The bit maps and limits of term and question records, by kind (document 01, "Term records" and "Questions"; document 02, A.8).
 -- Those of sort records stand in the crate record.
 use Rattle.std.specs.Prelude.{ℕ, ◌-◌, cond, List, [], ◌∷◌, get_or, eqb}
 
@@ -44,19 +44,19 @@ unfoldable pub second_most_of : ℕ → ℕ → ℕ
 second_most_of k n = cond (eqb k 9) (n - 1) 64
 
 -- Question kinds: 0 compatible [17, two sorts], 1 match [81: pattern, target, result; names], 2 apply [81: sort, then
--- one image per name].
+-- one image per name], 3 continue [113: pattern, target, result; pairs of given name and sort; names].
 unfoldable pub question_maps : List ℕ
-question_maps = 17 ∷ 81 ∷ 81 ∷ []
+question_maps = 17 ∷ 81 ∷ 81 ∷ 113 ∷ []
 
 unfoldable pub question_map_of : ℕ → ℕ
 unfolding question_maps
 question_map_of k = get_or question_maps k 0
 
 unfoldable pub question_leasts : List ℕ
-question_leasts = 2 ∷ 3 ∷ 1 ∷ []
+question_leasts = 2 ∷ 3 ∷ 1 ∷ 3 ∷ []
 
 unfoldable pub question_mosts : List ℕ
-question_mosts = 2 ∷ 3 ∷ 64 ∷ []
+question_mosts = 2 ∷ 3 ∷ 64 ∷ 3 ∷ []
 
 unfoldable pub question_least_of : ℕ → ℕ
 unfolding question_leasts

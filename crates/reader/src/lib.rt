@@ -95,10 +95,11 @@ pub struct TermRecord {
     pub second: Span,
 }
 
-// The fields of a question record: its list of sorts and its list of names come last.
+// The fields of a question record: its list of sorts, its pairs of given name and sort, and its list of names.
 #[derive(Clone, Copy, Debug, PartialEq, Eq)]
 pub struct QuestionRecord {
     pub kind: QuestionKind,
     pub list: Span,
+    pub pairs: Span,
     pub names: Span,
 }

@@ -1,8 +1,9 @@
 // Whole records: the bit map and the kind, then the fields one after the other. A method returns the record with the next
 // cursor, or the first refusal.
-ghost use Rattle.std.specs.Prelude.{◌≡◌};
+ghost use Rattle.std.specs.Prelude.{◌≡◌, ◌≤◌, length};
 ghost use Rattle.reader.specs.Reader.{read_sort_fields, read_sort, read_term_fields, read_term, read_question_fields, read_question};
 
+use super::scans::are_rightly_given;
 use super::tables::{
     Limits, names_limits, question_limits, question_map_of, sort_limits, term_limits, term_map_of,
     term_number_of,
@@ -93,7 +94,7 @@ impl Cursor {
     }
 
     // The fields behind the kind of a question record, one after the other, or the first refusal.
-    #[tactic(auto, unfolding(crate::specs::Reader::read_question_fields))]
+    #[tactic(auto, using(crate::specs::Scans::pair_names_are), unfolding(crate::specs::Reader::read_question_fields))]
     fn question_fields(
         self,
         s: &[u8],
@@ -101,11 +102,22 @@ impl Cursor {
         kind: QuestionKind,
         sorts: usize,
     ) -> Read<QuestionRecord>
+        requires { self.at ≤ length s.now }
         ensures { result ≡ read_question_fields s.now map kind sorts self.at }
     {
         let (list, next) = self.references(s, map, question_limits(kind), sorts)?;
+        let (pairs, next) = next.pairs(s, map, sorts)?;
         let (names, next) = next.names(s, map, names_limits(kind, list.count))?;
-        Ok((QuestionRecord { kind, list, names }, next))
+        if !are_rightly_given(pairs.pairs(s), names.numbers(s)) {
+            return Err(Refusal::Value);
+        }
+        let question = QuestionRecord {
+            kind,
+            list,
+            pairs,
+            names,
+        };
+        Ok((question, next))
     }
 
     // The question record here on a sheet of `sorts` sorts: Map where the kind is unknown or the bit map is not the kind's.

@@ -154,6 +154,7 @@ pub fn question_map_of(kind: QuestionKind) -> usize
     match kind {
         QuestionKind::Compatible => KIND_BIT | LIST_BIT,
         QuestionKind::Match | QuestionKind::Apply => KIND_BIT | LIST_BIT | NAMES_BIT,
+        QuestionKind::Continue => KIND_BIT | LIST_BIT | PAIRS_BIT | NAMES_BIT,
     }
 }
 
@@ -165,7 +166,7 @@ pub fn question_limits(kind: QuestionKind) -> Limits
 {
     match kind {
         QuestionKind::Compatible => Limits::exactly(2),
-        QuestionKind::Match => Limits::exactly(3),
+        QuestionKind::Match | QuestionKind::Continue => Limits::exactly(3),
         QuestionKind::Apply => Limits::SOME,
     }
 }

@@ -13,7 +13,7 @@ use Rattle.record.specs.declared.kinds.AsOp.TheVariants.{Const as AsConst, SetEm
 use Rattle.record.specs.declared.kinds.ParamOp.{ParamOp}
 use Rattle.record.specs.declared.kinds.ParamOp.TheVariants.{Extract as ParamExtract, BitOf as ParamBitOf, IntOf as ParamIntOf, ZeroExtend as ParamZeroExtend, SignExtend as ParamSignExtend, RotateLeft as ParamRotateLeft, RotateRight as ParamRotateRight, Repeat as ParamRepeat, BvConst as ParamBvConst, IntToBv as ParamIntToBv, RePower as ParamRePower, ReLoop as ParamReLoop}
 use Rattle.record.specs.declared.kinds.QuestionKind.{QuestionKind}
-use Rattle.record.specs.declared.kinds.QuestionKind.TheVariants.{Compatible as QuestionCompatible, Match as QuestionMatch, Apply as QuestionApply}
+use Rattle.record.specs.declared.kinds.QuestionKind.TheVariants.{Compatible as QuestionCompatible, Match as QuestionMatch, Apply as QuestionApply, Continue as QuestionContinue}
 
 abbrev pub sort_number : SortKind → ℕ
 sort_number SortFunction = 0
@@ -110,12 +110,13 @@ abbrev pub question_number : QuestionKind → ℕ
 question_number QuestionCompatible = 0
 question_number QuestionMatch = 1
 question_number QuestionApply = 2
+question_number QuestionContinue = 3
 
 abbrev pub question_kinds : List QuestionKind
-question_kinds = QuestionCompatible ∷ QuestionMatch ∷ QuestionApply ∷ []
+question_kinds = QuestionCompatible ∷ QuestionMatch ∷ QuestionApply ∷ QuestionContinue ∷ []
 
 abbrev pub question_kind : ℕ → Option QuestionKind
 question_kind n = slice_get question_kinds n
 
 abbrev pub QuestionDecodes : ℕ → Result QuestionKind UnknownKind → Type 0
-QuestionDecodes n r = MatchResult r (λ k. question_number k ≡ n) (λ e. (e.0 ≡ n) × (3 ≤ n))
+QuestionDecodes n r = MatchResult r (λ k. question_number k ≡ n) (λ e. (e.0 ≡ n) × (4 ≤ n))

@@ -1,6 +1,6 @@
-// The kinds of records by name (document 01, "Sort records and the store", "Term records" and "Questions"), and the operations that
-// a term record's number names; operators.rt has the operators of an Op. `kind as usize` is the number that stands in a record,
-// and `try_from` goes back.
+// The kinds of records by name (document 01, "Sort records and the store", "Term records" and "Questions"; document 02, A.8), and
+// the operations that a term record's number names; operators.rt has the operators of an Op. `kind as usize` is the number that
+// stands in a record, and `try_from` goes back.
 ghost use Rattle.record.specs.Kinds.{SortDecodes, TermDecodes, BinderDecodes, AsDecodes, ParamDecodes, QuestionDecodes};
 
 // A number that none of a kind's names has.
@@ -193,12 +193,13 @@ impl TryFrom<usize> for ParamOp {
     }
 }
 
-// The kinds of questions.
+// The kinds of questions; Continue is document 02's, A.8.
 #[derive(Clone, Copy, Debug, PartialEq, Eq)]
 pub enum QuestionKind {
     Compatible,
     Match,
     Apply,
+    Continue,
 }
 
 impl TryFrom<usize> for QuestionKind {
@@ -212,6 +213,7 @@ impl TryFrom<usize> for QuestionKind {
             0 => Ok(QuestionKind::Compatible),
             1 => Ok(QuestionKind::Match),
             2 => Ok(QuestionKind::Apply),
+            3 => Ok(QuestionKind::Continue),
             _ => Err(UnknownKind(number)),
         }
     }

@@ -36,8 +36,8 @@ pub const LARGEST_PARTS: usize = LARGEST_TREE - 1;
 // The most sorts in a store.
 pub const MOST_SORTS: usize = 4096;
 
-// The most names that are bound at a time: each is a variable of the store.
-pub const MOST_BOUND: usize = MOST_SORTS;
+// The most names that are bound at a time: each is a variable of the store, but for as many as are given beside a list.
+pub const MOST_BOUND: usize = MOST_SORTS + LONGEST_LIST;
 
 // How many names there are.
 pub const NAMES: usize = 65536;
