@@ -5,13 +5,13 @@ use Rattle.std.proofs.Common.{ap₂, ◌∙◌}
 use mathlib.Core.List.{List, [], ◌∷◌, ◌++◌}
 use Rattle.std.proofs.Math.Option.{Option, none, some}
 use Rattle.std.proofs.Math.Dec.{eqb}
-use Rattle.record.specs.Names.{member}
+use Rattle.record.specs.Names.{member, all_members}
 use Rattle.record.specs.Sort.{Sort, Sorts, var, par, node, end, ◌then◌, function, real, bitvec, number_in, count, same}
 use Rattle.record.specs.Cases.{by_test}
 use Rattle.sheet.specs.Sheet.{Binding}
 use Rattle.substitution.specs.Substitution.{Map, empty, find}
 use Rattle.substitution.specs.Matching.{keep}
-use Rattle.substitution.specs.MatchWith.{is_param_bit_vec, is_bit_vec, param_eq, meet_with, all_members, towards, match_with, match_all_with}
+use Rattle.substitution.specs.MatchWith.{is_param_bit_vec, is_bit_vec, param_eq, meet_with, towards, match_with, match_all_with}
 use Rattle.row_rules.specs.declared.Cause.TheVariants.{Panics}
 use Rattle.row_rules.specs.Verdict.{Verdict, sort}
 use Rattle.row_rules.specs.Lists.{firsts, others, remaining, joined, appended, binding_sorts, all_but_last}

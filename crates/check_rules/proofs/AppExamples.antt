@@ -1,9 +1,12 @@
--- Examples of App that tell readings of document 01 apart, by computation: whose parameter a variable is, and what 27 looks at.
+-- Examples of App that tell readings of document 01 apart, by computation: whose parameter a variable is, what 27 looks at, and that the
+-- arguments may be matched in another order.
 use Rattle.std.specs.Prelude.{◌≡◌, refl, [], ◌∷◌}
-use Rattle.record.specs.Sort.{Sort, var, par, end, ◌then◌, function, bool, int, real, set}
+use Rattle.record.specs.Sort.{Sort, var, par, end, ◌then◌, function, bool, int, real, array, set}
 use Rattle.row_rules.specs.declared.Cause.TheVariants.{Misfit, Unassigned}
 use Rattle.row_rules.specs.Verdict.{sort, refused}
 use Rattle.check_rules.specs.Checked.{checked_app}
+use Rattle.check_rules.specs.Fits.{one_of}
+use Rattle.check_rules.specs.Orders.{called_in}
 
 ---------------------------------------------------------------- "A variable in an argument's sort is never the head's parameter."
 -- The head (par (n1) (-> 'n1 'n1 (Set 'n1))). At 'n1, 'n1 the parameter is assigned the argument's variable; at 'n1, Int and at
@@ -46,3 +49,14 @@ parameter-later = refl
 pub parameter-gone : checked_app (par (1 ∷ 2 ∷ []) (function (var 1 then bool then end)) then int then end) ≡ sort bool
 unfolding checked_app
 parameter-gone = refl
+
+---------------------------------------------------------------- another order
+-- (par (n1 n2) (-> 'n1 'n2 (Array 'n1 'n2))) at Int, Real, the second argument matched before the first; and at Int, Real where both
+-- declared sorts are 'n1.
+pub second-before : (checked_app (par (1 ∷ 2 ∷ []) (function (var 1 then var 2 then array (var 1) (var 2) then end)) then int then real then end) ≡ sort (array int real))
+    × (called_in (one_of (1 ∷ 2 ∷ [])) (var 1 then var 2 then array (var 1) (var 2) then end) (int then real then end)
+    (record { pattern = var 2; target = real } ∷ record { pattern = var 1; target = int } ∷ []) ≡ sort (array int real))
+    × (called_in (one_of (1 ∷ [])) (var 1 then var 1 then set (var 1) then end) (int then real then end)
+    (record { pattern = var 1; target = real } ∷ record { pattern = var 1; target = int } ∷ []) ≡ refused Misfit)
+unfolding checked_app called_in
+second-before = (refl, refl, refl)

@@ -15,7 +15,7 @@ use Rattle.substitution.specs.Substitution.{Map, empty, find, bound, apply, appl
 use Rattle.substitution.proofs.SubstitutionLaws.{proper-parless, proper_all-parless_all, parless-named, parless_all-named, apply-outside, apply_all-outside}
 use Rattle.substitution.specs.Premises.{proper, proper_all, parless, parless_all}
 use Rattle.substitution.specs.Matching.{matches_all, Within}
-use Rattle.substitution.proofs.MatchingLaws.{MatchingAll, matching_all}
+use Rattle.substitution.proofs.MatchingTheorems.{MatchingAll, matching_all}
 use Rattle.row_rules.specs.declared.Cause.TheVariants.{Count, Misfit, Unassigned}
 use Rattle.row_rules.specs.Verdict.{sort, refused}
 use Rattle.row_rules.specs.Lists.{firsts, others}

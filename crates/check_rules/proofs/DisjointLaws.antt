@@ -9,7 +9,7 @@ use Rattle.record.specs.Cases.{and_left, and_right, and-true, or_cases, not-true
 use Rattle.substitution.specs.Substitution.{Map, empty, apply, apply_all}
 use Rattle.substitution.specs.Premises.{proper, parless_all}
 use Rattle.substitution.specs.Matching.{matches_all}
-use Rattle.substitution.proofs.MatchingLaws.{matching_all}
+use Rattle.substitution.proofs.MatchingTheorems.{matching_all}
 use Rattle.check_rules.specs.Forms.{Form, concat, mixed, Stands, Computes, all_same, insert, tupling, transpose, join, product}
 use Rattle.check_rules.specs.FormLaws.{computes-only, int-real}
 use Rattle.check_rules.specs.Rank.{Rank, rank, computed, repeated, stretched, patterns, same_count, every_name, rank_answer, fit}

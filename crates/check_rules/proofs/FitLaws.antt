@@ -12,7 +12,8 @@ use Rattle.substitution.specs.Substitution.{Map, empty, bind, find, apply, apply
 use Rattle.substitution.proofs.SubstitutionLaws.{proper-parless}
 use Rattle.substitution.specs.Premises.{proper, parless, parless_all}
 use Rattle.substitution.specs.Matching.{matches, matches_all}
-use Rattle.substitution.proofs.MatchingLaws.{keep-rest, and_then-middle, matching_all}
+use Rattle.substitution.proofs.MatchingLaws.{keep-rest, and_then-middle}
+use Rattle.substitution.proofs.MatchingTheorems.{matching_all}
 use Rattle.row_rules.specs.declared.Cause.{Cause}
 use Rattle.row_rules.specs.declared.Cause.TheVariants.{NoRank, Count, Misfit}
 use Rattle.row_rules.specs.Verdict.{sort, refused, or_cause, number_of}

@@ -13,6 +13,7 @@ pub mod More
 pub mod NearLaws
 pub mod NumberRefusals
 pub mod NumberTheorems
+pub mod OrderTheorems
 pub mod ParlessTheorems
 pub mod PartTheorems
 pub mod RelationColumns

@@ -6,6 +6,7 @@ pub mod Routes
 pub mod CheckedExamples
 pub mod Parts
 pub mod Fits
+pub mod Orders
 pub mod Rules
 pub mod FormParts
 pub mod FormLaws

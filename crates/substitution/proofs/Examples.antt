@@ -1,10 +1,13 @@
 -- Worked examples, each by computation: K11 of document 01, and cases that tell readings of substitution, match_with and is_compatible apart.
-use Rattle.std.specs.Prelude.{◌≡◌, refl, true, false, [], ◌∷◌}
+use Rattle.std.specs.Prelude.{◌≡◌, refl, true, false, [], ◌∷◌, eqb}
+use Rattle.std.proofs.Common.{eqb-true}
 use Rattle.std.proofs.Math.Option.{none, some}
+use Rattle.record.specs.Cases.{by_test, clash}
 use Rattle.record.specs.Sort.{var, par, end, ◌then◌, function, atom, bool, int, real, array, bitvec, param_bit_vec, datatype, set}
 use Rattle.record.specs.Names.{member}
-use Rattle.substitution.specs.Substitution.{empty, bind, apply}
-use Rattle.substitution.specs.Matching.{matches, matches_all, listed_in, premise}
+use Rattle.substitution.specs.Substitution.{empty, bind, find, apply}
+use Rattle.substitution.specs.Matching.{matches, matches_all, Alike, listed_in, premise}
+use Rattle.substitution.specs.Orders.{pairs_of, matches_pairs}
 use Rattle.substitution.specs.MatchWith.{match_with, match_all_with}
 use Rattle.substitution.specs.Compatible.{compatible}
 
@@ -35,6 +38,29 @@ pub second-meeting : (matches_all (listed_in (1 ∷ [])) (var 1 then var 1 then 
     × (matches_all (listed_in (1 ∷ [])) (var 1 then var 1 then end) (int then int then end) empty ≡ some (bind 1 int empty))
 unfolding matches member
 second-meeting = (refl, refl)
+
+-- From a map: a given name is compared at its first meeting, another is found; a given name that the pattern lacks stays.
+pub from-given : (matches (listed_in (1 ∷ 2 ∷ [])) (array (var 1) (var 2)) (array int real) (bind 1 int empty) ≡ some (bind 2 real (bind 1 int empty)))
+    × (matches (listed_in (1 ∷ 2 ∷ [])) (array (var 1) (var 2)) (array int real) (bind 1 bool empty) ≡ none)
+    × (matches (listed_in (1 ∷ 2 ∷ [])) (var 2) real (bind 1 int empty) ≡ some (bind 2 real (bind 1 int empty)))
+unfolding matches member
+from-given = (refl, refl, refl)
+
+-- In another order the pairs are bound in another order, so the maps are other lists; name by name they agree. Where a name meets two
+-- sorts there is none in either order.
+pub other-order : (matches_pairs (listed_in (1 ∷ 2 ∷ [])) (pairs_of (var 1 then var 2 then end) (int then real then end)) empty ≡ some (bind 2 real (bind 1 int empty)))
+    × (matches_pairs (listed_in (1 ∷ 2 ∷ [])) (pairs_of (var 2 then var 1 then end) (real then int then end)) empty ≡ some (bind 1 int (bind 2 real empty)))
+    × Alike (some (bind 2 real (bind 1 int empty))) (some (bind 1 int (bind 2 real empty)))
+    × (matches_pairs (listed_in (1 ∷ [])) (pairs_of (var 1 then set (var 1) then end) (int then set real then end)) empty ≡ none)
+    × (matches_pairs (listed_in (1 ∷ [])) (pairs_of (set (var 1) then var 1 then end) (set real then int then end)) empty ≡ none)
+unfolding matches_pairs pairs_of matches member find
+other-order = (
+  refl,
+  refl,
+  λ v. by_test (eqb 1 v) (λ q. by_test (eqb 2 v) (λ r. clash q (rw (← eqb-true 2 v r) refl)) (λ r. rw (q, r) refl)) (λ q. rw q refl),
+  refl,
+  refl,
+)
 
 -- A variable that is not listed stands for itself; a listed one in the target is outside the premise.
 pub unlisted-variable : (matches (listed_in []) (var 1) int empty ≡ none) × (matches (listed_in []) (var 1) (var 1) empty ≡ some empty)

@@ -6,11 +6,13 @@ use Rattle.std.proofs.Math.Option.{Option, none, some}
 use Rattle.record.specs.Sort.{Sort, Sorts, var, par, node, end, ◌then◌, kind_of, same}
 use Rattle.record.specs.SortLaws.{same-sound, same_refl}
 use Rattle.record.specs.Cases.{and_left, and_right, and-true, or_left, or_right, not-true, three, eqb-self, by_test, by_option, none-some, some_inj}
-use Rattle.record.specs.Names.{member}
+use Rattle.record.specs.Names.{member, all_members}
 use Rattle.substitution.specs.Substitution.{Map, empty, bind, find, occurs, occurs_any}
-use Rattle.substitution.specs.Matching.{keep, meet, matches, matches_all, listed_in, known, known_all, unlisted, unlisted_all, premise}
-use Rattle.substitution.proofs.MatchingLaws.{keep-rest, and_then-middle, match-self, known-parless, known_all-parless, unlisted-free, unlisted_all-free, Matching, MatchingAll, matching, matching_all}
-use Rattle.substitution.specs.MatchWith.{is_param_bit_vec, is_bit_vec, param_eq, meet_with, all_members, match_with, match_all_with}
+use Rattle.substitution.specs.Matching.{keep, meet, matches, matches_all, Within, listed_in, known, known_all, unlisted, unlisted_all, premise}
+use Rattle.substitution.proofs.MatchingLaws.{keep-rest, and_then-middle, match-self}
+use Rattle.substitution.proofs.PremiseLaws.{known-parless, known_all-parless, unlisted-free, unlisted_all-free}
+use Rattle.substitution.proofs.MatchingTheorems.{MatchingFrom, MatchingAllFrom, matching_all-from, matching-premise-from, Matching, MatchingAll, matching-premise, matching_all}
+use Rattle.substitution.specs.MatchWith.{is_param_bit_vec, is_bit_vec, param_eq, meet_with, match_with, match_all_with}
 
 ---------------------------------------------------------------- param_eq
 -- Its two tests look at the kind.
@@ -146,16 +148,29 @@ mutual
       (λ n g. rw g (with_all-is ns ps ts n (and_right (known p) (known_all ps) e) (and_right (known t) (known_all ts) q)
       (match-known (listed_in ns) p t m n (and_left (known t) (known_all ts) q) d g) (λ v i. or_right (occurs v t) (occurs_any v ts) (f v i)))))
 
--- Document 01's definition of matching, of match_with itself: from an empty map, for every pattern and target of the premise.
+-- From a map of listed names whose images are without Par and ParamBitVec, match_with is matching from that map.
+pub match_with-from : (ns : List ℕ) (m : Map) (p t : Sort) → premise ns p t ≡ true → known_map m ≡ true → Within (listed_in ns) m
+    → (match_with ns p t m ≡ matches (listed_in ns) p t m) × MatchingFrom (listed_in ns) m p t
+unfolding premise
+match_with-from ns m p t h d w =
+    let (e, q, u) = three (known p) (known t) (unlisted ns t) h in
+    (with-is ns p t m e q d (λ v i. unlisted-free ns t v u i), matching-premise-from ns m p t h w)
+
+-- And so it is of lists.
+pub match_all_with-from : (ns : List ℕ) (m : Map) (ps ts : Sorts) → known_all ps ≡ true → known_all ts ≡ true → unlisted_all ns ts ≡ true
+    → known_map m ≡ true → Within (listed_in ns) m
+    → (match_all_with ns ps ts m ≡ matches_all (listed_in ns) ps ts m) × MatchingAllFrom (listed_in ns) m ps ts
+match_all_with-from ns m ps ts e q u d w =
+    (with_all-is ns ps ts m e q d (λ v i. unlisted_all-free ns ts v u i), matching_all-from (listed_in ns) m ps ts (known_all-parless ps e) w)
+
+-- Document 01's definition of matching, of match_with itself: from the empty map, for every pattern and target of the premise.
 pub match_with-spec : (ns : List ℕ) (p t : Sort) → premise ns p t ≡ true
     → (match_with ns p t empty ≡ matches (listed_in ns) p t empty) × Matching (listed_in ns) p t
-unfolding known_map premise
-match_with-spec ns p t h =
-    let (e, q, u) = three (known p) (known t) (unlisted ns t) h in
-    (with-is ns p t empty e q refl (λ v i. unlisted-free ns t v u i), matching (listed_in ns) p t (known-parless p e))
+unfolding known_map find
+match_with-spec ns p t h = ((match_with-from ns empty p t h refl (λ v q. refl)).0, matching-premise ns p t h)
 
 pub match_all_with-spec : (ns : List ℕ) (ps ts : Sorts) → known_all ps ≡ true → known_all ts ≡ true → unlisted_all ns ts ≡ true
     → (match_all_with ns ps ts empty ≡ matches_all (listed_in ns) ps ts empty) × MatchingAll (listed_in ns) ps ts
-unfolding known_map
+unfolding known_map find
 match_all_with-spec ns ps ts e q u =
-    (with_all-is ns ps ts empty e q refl (λ v i. unlisted_all-free ns ts v u i), matching_all (listed_in ns) ps ts (known_all-parless ps e))
+    ((match_all_with-from ns empty ps ts e q u refl (λ v q. refl)).0, matching_all (listed_in ns) ps ts (known_all-parless ps e))

@@ -1,16 +1,16 @@
--- Laws of matching: it finds an assignment exactly where there is one, the only one; it stays a match under substitution.
-use Rattle.std.specs.Prelude.{ℕ, ◌≡◌, refl, Bool, true, false, not, ◌&&◌, ◌||◌, List, [], ◌∷◌, eqb}
+-- Laws of matching, by its induction: what a match means, that a pattern without Par finds each assignment that turns it into the target,
+-- what is bound, and that a match stays one under substitution.
+use Rattle.std.specs.Prelude.{ℕ, ◌≡◌, refl, Bool, true, false, ◌&&◌, eqb}
 use Rattle.std.proofs.Common.{sym, ap, ◌∙◌, true≢false, eqb-true}
 use Rattle.std.proofs.lemmas.Bool.{false≢true}
 use Rattle.std.proofs.Math.Option.{Option, none, some}
-use Rattle.record.specs.Sort.{Sort, Sorts, var, par, node, end, ◌then◌, same, tuple}
+use Rattle.record.specs.Sort.{Sort, Sorts, var, par, node, end, ◌then◌, same}
 use Rattle.record.specs.SortLaws.{same-sound, same_refl, same-complete}
-use Rattle.record.specs.Cases.{and_left, and_right, conj, and-true, or_left, or_right, or-second, not-true, three, eqb-self, by_test, by_option, none-some, some_inj, clash}
-use Rattle.record.specs.Names.{member}
-use Rattle.substitution.specs.Substitution.{Map, empty, bind, find, or_else, bound, apply, apply_all, through, occurs, occurs_any}
+use Rattle.record.specs.Cases.{conj, and-true, or_left, or_right, or-second, three, eqb-self, by_test, by_option, none-some, some_inj, clash}
+use Rattle.substitution.specs.Substitution.{Map, bind, find, or_else, bound, apply, apply_all, through, occurs, occurs_any}
 use Rattle.substitution.specs.Premises.{touches, proper, proper_all, proper_map, parless, parless_all}
-use Rattle.substitution.proofs.SubstitutionLaws.{proper-parless, find-untouched, image-untouched, image-proper, find-through, find-through-none, apply-keeps}
-use Rattle.substitution.specs.Matching.{keep, and_then, meet, matches, matches_all, Within, listed_in, known, known_all, apart, unlisted, unlisted_all, premise}
+use Rattle.substitution.proofs.SubstitutionLaws.{proper-parless, find-untouched, image-untouched, image-proper, find-through, find-through-none}
+use Rattle.substitution.specs.Matching.{keep, and_then, meet, matches, matches_all, Within, Keeps}
 
 ---------------------------------------------------------------- taking a success apart
 pub keep-test : (b : Bool) (o : Option Map) (m : Map) → keep b o ≡ some m → b ≡ true
@@ -43,7 +43,7 @@ Agrees m θ = (v : ℕ) (s : Sort) → find m v ≡ some s → apply θ (var v) 
 
 -- The map found holds what was held before.
 pub meet-extends : (o : Option Sort) (v : ℕ) (t : Sort) (m m' : Map) → find m v ≡ o → meet o v t m ≡ some m'
-    → (u : ℕ) (s : Sort) → find m u ≡ some s → find m' u ≡ some s
+    → Keeps m m'
 unfolding find
 meet-extends none v t m m' q e u s f =
     rw (← some_inj e) (by_test (eqb v u)
@@ -56,7 +56,7 @@ mutual
   unfolding matches
 
   pub match-extends : (ns : ℕ → Bool) (p t : Sort) (m m' : Map) → matches ns p t m ≡ some m'
-      → (u : ℕ) (s : Sort) → find m u ≡ some s → find m' u ≡ some s
+      → Keeps m m'
   match-extends ns (var v) t m m' e u s f =
       by_test (ns v)
       (λ q. meet-extends (find m v) v t m m' refl (rw q at e) u s f)
@@ -68,7 +68,7 @@ mutual
       match_all-extends ns ps ts m m' (keep-rest (eqb k l && eqb a c && eqb w x) (matches_all ns ps ts m) m' e) u s f
 
   pub match_all-extends : (ns : ℕ → Bool) (ps ts : Sorts) (m m' : Map) → matches_all ns ps ts m ≡ some m'
-      → (u : ℕ) (s : Sort) → find m u ≡ some s → find m' u ≡ some s
+      → Keeps m m'
   match_all-extends ns end end m m' e u s f = rw (← some_inj e) f
   match_all-extends ns end (t then ts) m m' e u s f = none-some e
   match_all-extends ns (p then ps) end m m' e u s f = none-some e
@@ -177,7 +177,7 @@ unfolding apply
 agrees-self m v s f = rw f refl
 
 -- Each listed variable of the pattern is bound.
-pub bound-kept : (m m' : Map) (v : ℕ) → ((u : ℕ) (s : Sort) → find m u ≡ some s → find m' u ≡ some s) → bound m v ≡ true → bound m' v ≡ true
+pub bound-kept : (m m' : Map) (v : ℕ) → Keeps m m' → bound m v ≡ true → bound m' v ≡ true
 bound-kept m m' v k b =
     by_option (find m v) (λ q. let z : false ≡ true = rw q at b in absurd (false≢true z)) (λ s q. rw (k v s q) refl)
 
@@ -348,172 +348,3 @@ mutual
       by_test (bound k v)
       (λ q. let (l, o) = match-only ns p t m k v g f q in (l, rw o refl))
       (λ q. let (l, o) = match_all-only ns ps ts k m' v h q b in (l, or-second (occurs v p) (occurs_any v ps) o))
-
----------------------------------------------------------------- the statement of document 01
--- "Success exactly when some assignment turns pattern into target; other variables stand for themselves", from an empty map.
--- An assignment is a map that binds listed names only (`Within`).
-pub record Matching (ns : ℕ → Bool) (p t : Sort) : Type 0 where
-  -- A success is an assignment that turns pattern into target.
-  pub success : (m : Map) → matches ns p t empty ≡ some m → Within ns m × (apply m p ≡ t)
-  -- It binds the listed variables of the pattern, each of them and nothing else.
-  pub binds : (m : Map) → matches ns p t empty ≡ some m → (v : ℕ) → ns v ≡ true → occurs v p ≡ true → bound m v ≡ true
-  pub only : (m : Map) → matches ns p t empty ≡ some m → (v : ℕ) → bound m v ≡ true → (ns v ≡ true) × (occurs v p ≡ true)
-  -- Where an assignment turns pattern into target, there is a success, and it is that assignment on the listed variables of the pattern.
-  pub found : (θ : Map) → Within ns θ → apply θ p ≡ t
-      → (m : Map) × (matches ns p t empty ≡ some m) × ((v : ℕ) → ns v ≡ true → occurs v p ≡ true → find m v ≡ some (apply θ (var v)))
-  -- So any two such assignments agree there.
-  pub unique : (θ η : Map) → Within ns θ → Within ns η → apply θ p ≡ t → apply η p ≡ t
-      → (v : ℕ) → ns v ≡ true → occurs v p ≡ true → apply θ (var v) ≡ apply η (var v)
-  -- There is no success exactly when there is no such assignment.
-  pub refusal : matches ns p t empty ≡ none → (θ : Map) → Within ns θ → apply θ p ≡ t → ⊥
-  pub refused : ((θ : Map) → Within ns θ → apply θ p ≡ t → ⊥) → matches ns p t empty ≡ none
-
--- The same for lists of patterns and targets, with one assignment for all.
-pub record MatchingAll (ns : ℕ → Bool) (ps ts : Sorts) : Type 0 where
-  pub success : (m : Map) → matches_all ns ps ts empty ≡ some m → Within ns m × (apply_all m ps ≡ ts)
-  pub binds : (m : Map) → matches_all ns ps ts empty ≡ some m → (v : ℕ) → ns v ≡ true → occurs_any v ps ≡ true → bound m v ≡ true
-  pub only : (m : Map) → matches_all ns ps ts empty ≡ some m → (v : ℕ) → bound m v ≡ true → (ns v ≡ true) × (occurs_any v ps ≡ true)
-  pub found : (θ : Map) → Within ns θ → apply_all θ ps ≡ ts
-      → (m : Map) × (matches_all ns ps ts empty ≡ some m) × ((v : ℕ) → ns v ≡ true → occurs_any v ps ≡ true → find m v ≡ some (apply θ (var v)))
-  pub unique : (θ η : Map) → Within ns θ → Within ns η → apply_all θ ps ≡ ts → apply_all η ps ≡ ts
-      → (v : ℕ) → ns v ≡ true → occurs_any v ps ≡ true → apply θ (var v) ≡ apply η (var v)
-  pub refusal : matches_all ns ps ts empty ≡ none → (θ : Map) → Within ns θ → apply_all θ ps ≡ ts → ⊥
-  pub refused : ((θ : Map) → Within ns θ → apply_all θ ps ≡ ts → ⊥) → matches_all ns ps ts empty ≡ none
-
-pub match-success : (ns : ℕ → Bool) (p t : Sort) (m : Map) → matches ns p t empty ≡ some m → Within ns m × (apply m p ≡ t)
-unfolding find
-match-success ns p t m h =
-    let w : Within ns m = match-within ns p t empty m h (λ v q. refl) in
-    (w, match-sound ns p t empty m m h w (agrees-self m))
-
-pub match-found : (ns : ℕ → Bool) (p t : Sort) → parless p ≡ true → (θ : Map) → Within ns θ → apply θ p ≡ t
-    → (m : Map) × (matches ns p t empty ≡ some m) × ((v : ℕ) → ns v ≡ true → occurs v p ≡ true → find m v ≡ some (apply θ (var v)))
-unfolding find
-match-found ns p t e θ w h =
-    let (m, f, g) = match-complete ns p empty θ e w (λ v s q. none-some q) in (
-      m,
-      rw h at f,
-      λ v l o. let b = match-binds ns p (apply θ p) empty m v f l o in
-          by_option (find m v) (λ q. let z : false ≡ true = rw q at b in absurd (false≢true z)) (λ s q. q ∙ ap some (sym (g v s q))),
-    )
-
--- Document 01 asks it for a pattern and target without Par and ParamBitVec, the target without listed names; it holds for every pattern without Par.
-pub matching : (ns : ℕ → Bool) (p t : Sort) → parless p ≡ true → Matching ns p t
-unfolding find
-matching ns p t e = record {
-  success = λ m h. match-success ns p t m h;
-  binds = λ m h v l o. match-binds ns p t empty m v h l o;
-  only = λ m h v b. match-only ns p t empty m v h refl b;
-  found = λ θ w h. match-found ns p t e θ w h;
-  unique = λ θ η w x h k v l o.
-      let (m, f, g) = match-found ns p t e θ w h in
-      let (n, i, j) = match-found ns p t e η x k in
-      let q : m ≡ n = some_inj (sym f ∙ i) in
-      some_inj (sym (g v l o) ∙ ap (λ (z : Map). find z v) q ∙ j v l o);
-  refusal = λ h θ w k. let (m, f, g) = match-found ns p t e θ w k in none-some (sym h ∙ f);
-  refused = λ h. by_option (matches ns p t empty) (λ q. q) (λ m q. let (w, s) = match-success ns p t m q in absurd (h m w s));
-}
-
--- A list of patterns is matched as one Tuple of them.
-pub matching_all : (ns : ℕ → Bool) (ps ts : Sorts) → parless_all ps ≡ true → MatchingAll ns ps ts
-unfolding matches apply occurs parless
-matching_all ns ps ts e =
-    let all = matching ns (tuple ps) (tuple ts) e in record {
-      success = λ m h. let (w, s) = all.success m h in (w, cc);
-      binds = λ m h v l o. all.binds m h v l o;
-      only = λ m h v b. all.only m h v b;
-      found = λ θ w h. all.found θ w (ap tuple h);
-      unique = λ θ η w x h k v l o. all.unique θ η w x (ap tuple h) (ap tuple k) v l o;
-      refusal = λ h θ w k. all.refusal h θ w (ap tuple k);
-      refused = λ h. all.refused (λ θ w k. h θ w (cc));
-    }
-
----------------------------------------------------------------- the premise, read off
-mutual
-  unfolding known parless
-
-  pub known-parless : (s : Sort) → known s ≡ true → parless s ≡ true
-  known-parless (var v) e = refl
-  known-parless (par ns b) e = e
-  known-parless (node k a w ss) e = known_all-parless ss (and_right (not (eqb k 10)) (known_all ss) e)
-
-  pub known_all-parless : (ss : Sorts) → known_all ss ≡ true → parless_all ss ≡ true
-  known_all-parless end e = refl
-  known_all-parless (s then ss) e =
-      and-true (parless s) (parless_all ss) (known-parless s (and_left (known s) (known_all ss) e)) (known_all-parless ss (and_right (known s) (known_all ss) e))
-
--- A name of the first list is none of a list apart from it.
-pub apart-free : (ns us : List ℕ) (v : ℕ) → apart ns us ≡ true → member v ns ≡ true → member v us ≡ false
-unfolding apart member
-apart-free ns [] v e i = refl
-apart-free ns (u ∷ us) v e i =
-    by_test (eqb u v)
-    (λ q. let z : member u ns ≡ true = rw (eqb-true u v q) i in clash z (not-true (member u ns) (and_left (not (member u ns)) (apart ns us) e)))
-    (λ q. rw q (apart-free ns us v (and_right (not (member u ns)) (apart ns us) e) i))
-
--- No listed name stands in an unlisted sort.
-mutual
-  unfolding unlisted occurs
-
-  pub unlisted-free : (ns : List ℕ) (t : Sort) (v : ℕ) → unlisted ns t ≡ true → member v ns ≡ true → occurs v t ≡ false
-  unlisted-free ns (var u) v e i =
-      by_test (eqb u v)
-      (λ q. let z : member u ns ≡ true = rw (eqb-true u v q) i in clash z (not-true (member u ns) e))
-      (λ q. q)
-  unlisted-free ns (par us b) v e i =
-      rw (apart-free ns us v (and_left (apart ns us) (unlisted ns b) e) i)
-      (unlisted-free ns b v (and_right (apart ns us) (unlisted ns b) e) i)
-  unlisted-free ns (node k a w ts) v e i = unlisted_all-free ns ts v e i
-
-  pub unlisted_all-free : (ns : List ℕ) (ts : Sorts) (v : ℕ) → unlisted_all ns ts ≡ true → member v ns ≡ true → occurs_any v ts ≡ false
-  unlisted_all-free ns end v e i = refl
-  unlisted_all-free ns (t then ts) v e i =
-      rw (unlisted-free ns t v (and_left (unlisted ns t) (unlisted_all ns ts) e) i)
-      (unlisted_all-free ns ts v (and_right (unlisted ns t) (unlisted_all ns ts) e) i)
-
--- And a sort in which none stands is unlisted.
-pub free-apart : (ns us : List ℕ) → ((v : ℕ) → member v ns ≡ true → member v us ≡ false) → apart ns us ≡ true
-unfolding apart member
-free-apart ns [] h = refl
-free-apart ns (u ∷ us) h =
-    by_test (member u ns)
-    (λ q. let z : (eqb u u || member u us) ≡ false = h u q in clash (eqb-self u) (or_left (eqb u u) (member u us) z))
-    (λ q. rw q (free-apart ns us (λ v i. or_right (eqb u v) (member v us) (h v i))))
-
-mutual
-  unfolding unlisted occurs
-
-  pub free-unlisted : (ns : List ℕ) (t : Sort) → ((v : ℕ) → member v ns ≡ true → occurs v t ≡ false) → unlisted ns t ≡ true
-  free-unlisted ns (var u) h = by_test (member u ns) (λ q. clash (eqb-self u) (h u q)) (λ q. rw q refl)
-  free-unlisted ns (par us b) h =
-      and-true (apart ns us) (unlisted ns b)
-      (free-apart ns us (λ v i. or_left (member v us) (occurs v b) (h v i)))
-      (free-unlisted ns b (λ v i. or_right (member v us) (occurs v b) (h v i)))
-  free-unlisted ns (node k a w ts) h = free-unlisted_all ns ts h
-
-  pub free-unlisted_all : (ns : List ℕ) (ts : Sorts) → ((v : ℕ) → member v ns ≡ true → occurs_any v ts ≡ false) → unlisted_all ns ts ≡ true
-  free-unlisted_all ns end h = refl
-  free-unlisted_all ns (t then ts) h =
-      and-true (unlisted ns t) (unlisted_all ns ts)
-      (free-unlisted ns t (λ v i. or_left (occurs v t) (occurs_any v ts) (h v i)))
-      (free-unlisted_all ns ts (λ v i. or_right (occurs v t) (occurs_any v ts) (h v i)))
-
--- Matching on document 01's premise.
-pub matching-premise : (ns : List ℕ) (p t : Sort) → premise ns p t ≡ true → Matching (listed_in ns) p t
-unfolding premise
-matching-premise ns p t h =
-    let (e, q, u) = three (known p) (known t) (unlisted ns t) h in matching (listed_in ns) p t (known-parless p e)
-
--- There the map found is every assignment that turns pattern into target, on the listed variables of the pattern: such an assignment binds
--- them all, since one that it left would stand in the target.
-pub match-exact : (ns : List ℕ) (p t : Sort) (m θ : Map) → premise ns p t ≡ true → matches (listed_in ns) p t empty ≡ some m
-    → Within (listed_in ns) θ → apply θ p ≡ t → (v : ℕ) → member v ns ≡ true → occurs v p ≡ true → find m v ≡ find θ v
-unfolding premise apply
-match-exact ns p t m θ h f w k v l o =
-    let (e, q, u) = three (known p) (known t) (unlisted ns t) h in
-    let (n, g, j) = match-found (listed_in ns) p t (known-parless p e) θ w k in
-    let y : m ≡ n = some_inj (sym f ∙ g) in
-    let x : find m v ≡ some (apply θ (var v)) = ap (λ (z : Map). find z v) y ∙ j v l o in
-    by_option (find θ v)
-    (λ i. let z : occurs v t ≡ true = ap (occurs v) (sym k) ∙ apply-keeps θ v p i o in clash z (unlisted-free ns t v u l))
-    (λ r i. x ∙ rw i refl)

@@ -1,8 +1,8 @@
 -- Sort::match_with and Sort::param_eq of src/ast/sort.rs, on all sorts. Definitions only.
-use Rattle.std.specs.Prelude.{ℕ, Bool, true, false, cond, ◌&&◌, ◌||◌, List, [], ◌∷◌, ◌++◌, eqb}
+use Rattle.std.specs.Prelude.{ℕ, Bool, false, cond, ◌&&◌, ◌||◌, List, ◌++◌, eqb}
 use Rattle.std.proofs.Math.Option.{Option, none, some}
 use Rattle.record.specs.Sort.{Sort, Sorts, var, par, node, end, ◌then◌, same}
-use Rattle.record.specs.Names.{member}
+use Rattle.record.specs.Names.{member, all_members}
 use Rattle.substitution.specs.Substitution.{Map, bind, find}
 use Rattle.substitution.specs.Matching.{keep, and_then}
 
@@ -27,12 +27,6 @@ param_eq s t = same s t || is_param_bit_vec s && is_bit_vec t || is_param_bit_ve
 abbrev pub meet_with : Option Sort → ℕ → Sort → Map → Option Map
 meet_with none v t m = some (bind v t m)
 meet_with (some s) v t m = keep (param_eq s t) (some m)
-
--- vars.iter().all(|v| params.contains(v))
-unfoldable pub all_members : List ℕ → List ℕ → Bool
-unfolding member
-all_members [] ns = true
-all_members (u ∷ us) ns = member u ns && all_members us ns
 
 -- match_with where the pattern p is a node of kind k, name a and number w, whose parts are matched by f: the test of equality
 -- first, then the target's Pars are opened if all their names are parameters, then kinds and fields are compared and the

@@ -1,5 +1,5 @@
 -- Matching by its definition: "success exactly when some assignment turns pattern into target; other variables stand for
--- themselves". Definitions only.
+-- themselves"; from a map, success exactly when some assignment that keeps it turns pattern into target. Definitions only.
 use Rattle.std.specs.Prelude.{ℕ, ◌≡◌, Bool, true, false, not, cond, ◌&&◌, List, [], ◌∷◌, eqb}
 use Rattle.std.proofs.Math.Option.{Option, none, some}
 use Rattle.record.specs.Sort.{Sort, Sorts, var, par, node, end, ◌then◌, same}
@@ -43,6 +43,17 @@ unfoldable mutual
 abbrev pub Within : (ℕ → Bool) → Map → Type 0
 Within ns θ = (v : ℕ) → ns v ≡ false → find θ v ≡ none
 
+-- "An assignment that keeps the given pairs": what the first map gives a name, the second gives it too.
+abbrev pub Keeps : Map → Map → Type 0
+Keeps m θ = (v : ℕ) (s : Sort) → find m v ≡ some s → find θ v ≡ some s
+
+-- "The same assignment, or none": two searches with one outcome, none in both, or maps that agree name by name.
+abbrev pub Alike : Option Map → Option Map → Type 0
+Alike none none = Unit {0}
+Alike none (some n) = ⊥
+Alike (some m) none = ⊥
+Alike (some m) (some n) = (v : ℕ) → find m v ≡ find n v
+
 -- The test that a name is one of a list.
 abbrev pub listed_in : List ℕ → ℕ → Bool
 listed_in ns v = member v ns
@@ -77,7 +88,7 @@ unfoldable mutual
   unlisted_all ns end = true
   unlisted_all ns (s then ss) = unlisted ns s && unlisted_all ns ss
 
--- Matching's premise; question 1 outside it is refused with 28.
+-- Matching's premise; questions 1 and 3 outside it are refused with 28.
 unfoldable pub premise : List ℕ → Sort → Sort → Bool
 unfolding known unlisted
 premise ns p t = known p && known t && unlisted ns t
