@@ -8,7 +8,7 @@ use Rattle.matching_tables.specs.declared.notes.Seen.{Seen}
 use Rattle.matching_tables.specs.Contract.{TestAsks}
 use Rattle.matching_tables.specs.Notes.{NoteTable}
 use Rattle.matching_each.specs.Every.{Test, PassIs, EachAsks, AllEachAsks, EachIs, AllEachIs}
-use Rattle.matching_each.specs.Premises.{UnlistedAsks, UnlistedIs, PremiseIs, KnownAt, UnlistedAt}
+use Rattle.matching_each.specs.Premises.{UnlistedAsks, UnlistedIs, TargetIs, PremiseIs, KnownAt, UnlistedAt}
 
 ---------------------------------------------------------------- a node
 -- A node without names to look at passes the test t, or not.
@@ -42,6 +42,17 @@ UnlistedAsked s x k = UnlistedAsks s.records.now s.places.now s.count x.params.n
 
 abbrev pub UnlistedAnswered : Sorts → Names → ℕ → Bool → Type 0
 UnlistedAnswered s x k r = UnlistedIs s.records.now s.places.now s.count x.params.now k r
+
+-- One sort that may be a target, with the tables of both tests.
+pub record TargetAsked (s : Sorts) (x : Names) (o f : Seen) (k : ℕ) : Type 0 where
+  pub asked : UnlistedAsked s x k
+  pub known : KnownSeen s o
+  pub free : UnlistedSeen s x f
+
+pub record TargetAnswered (s : Sorts) (x : Names) (k : ℕ) (o' f' : Seen) (r : Bool) : Type 0 where
+  pub answer : TargetIs s.records.now s.places.now s.count x.params.now k r
+  pub known : KnownSeen s o'
+  pub free : UnlistedSeen s x f'
 
 abbrev pub PremiseAsked : Sorts → Names → ℕ → ℕ → Type 0
 PremiseAsked s x k j = TestAsks s.records.now s.places.now s.count x.params.now k j

@@ -1,10 +1,11 @@
 // What is asked of sorts before matching: known (no Par, no ParamBitVec), proper (no Par, Type, ParamBitVec or BitVec 0),
-// unlisted (no listed name), and matching's premise. Each is a test of every node, with a table of the sorts found so.
+// unlisted (no listed name), a target's two, and matching's premise. Each is a test of every node, with a table of the sorts found
+// so.
 ghost use Rattle.std.specs.Prelude.{◌≡◌, ◌<◌};
 ghost use Rattle.substitution.specs.Matching.{known};
 ghost use Rattle.substitution.specs.Premises.{proper};
 ghost use Rattle.matching_tables.specs.Words.{sort_in};
-ghost use Rattle.matching_each.specs.Words.{KnownSeen, UnlistedSeen, UnlistedAsked, UnlistedAnswered, PremiseAsked, PremiseAnswered};
+ghost use Rattle.matching_each.specs.Words.{KnownSeen, UnlistedSeen, UnlistedAsked, UnlistedAnswered, TargetAsked, TargetAnswered, PremiseAsked, PremiseAnswered};
 
 use super::each::each;
 use super::nodes::{known, proper, unlisted};
@@ -41,14 +42,26 @@ pub fn is_unlisted(sorts: &Sorts<'_>, names: &Names<'_>, seen: &mut Seen, k: usi
     each(sorts, &|a| unlisted(names, sorts.records, a), seen, k)
 }
 
-// Matching's premise for the pattern `p` and the target `t`: both are known, and no listed name stands in the target.
+// Whether the sort `k` may be a target: it is known, and no listed name stands in it.
+pub fn is_target(
+    sorts: &Sorts<'_>,
+    names: &Names<'_>,
+    seen: &mut Seen,
+    free: &mut Seen,
+    k: usize,
+) -> bool
+    requires { TargetAsked sorts.now names.now seen.old free.old k }
+    ensures { TargetAnswered sorts.now names.now k seen.new free.new result }
+{
+    is_known(sorts, seen, k) && is_unlisted(sorts, names, free, k)
+}
+
+// Matching's premise for the pattern `p` and the target `t`: the pattern is known, and the target may be one.
 pub fn in_premise(sorts: &Sorts<'_>, names: &Names<'_>, p: usize, t: usize) -> bool
     requires { PremiseAsked sorts.now names.now p t }
     ensures { PremiseAnswered sorts.now names.now p t result }
 {
     let mut seen = Seen::new();
     let mut free = Seen::new();
-    is_known(sorts, &mut seen, p)
-        && is_known(sorts, &mut seen, t)
-        && is_unlisted(sorts, names, &mut free, t)
+    is_known(sorts, &mut seen, p) && is_target(sorts, names, &mut seen, &mut free, t)
 }

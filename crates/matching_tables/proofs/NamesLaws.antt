@@ -12,12 +12,11 @@ use borrow.Author.Tests.{eq-eqb, ne_eqb}
 use Rattle.std.specs.Bool.{MatchBool}
 use Rattle.std.specs.List.{AllWithin, HoldsAt, FoldsTo}
 use Rattle.std.specs.Iterator.{Yields, YieldsFirst, CallableAtEachTurn}
-use Rattle.record.specs.Names.{member}
+use Rattle.record.specs.Names.{member, all_members}
 use Rattle.record.specs.Number.{numbers_at}
 use Rattle.record.specs.Numbers.{numbers_left, numbers-small}
 use Rattle.record.specs.Decode.{Zeros}
 use Rattle.record.specs.declared.numbers.Numbers.{Numbers}
-use Rattle.substitution.specs.MatchWith.{all_members}
 use Rattle.matching_tables.specs.Tables.{times, Lists, Added}
 use Rattle.matching_tables.specs.Contract.{none_of}
 use Rattle.matching_tables.specs.TableLaws.{times-first, times-other, listed-is, listed-some, listed-none}
@@ -171,8 +170,8 @@ none-answer prm us false (k, l, a) = sym (none-fail prm us k l a)
 -- The names before i are unbound again.
 pub record Clearing (m : ℕ) (imgs bnd : List ℕ) (i : ℕ) : Type 0 where
   pub names : length imgs ≡ 65536
-  pub order : length bnd ≡ 4096
-  pub few : m ≤ 4096
+  pub order : length bnd ≡ 4160
+  pub few : m ≤ 4160
   pub only : (v : ℕ) → 0 < get_or imgs v 0 → (j : ℕ) × (i ≤ j) × (j < m) × (get_or bnd j 0 ≡ v)
   pub done : (j : ℕ) → j < i → get_or bnd j 0 ≡ 0
   pub rest : Zeros bnd m

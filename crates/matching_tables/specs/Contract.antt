@@ -1,12 +1,12 @@
 -- What the tables of names and of the map ask and promise. Definitions only.
 use Rattle.std.specs.Prelude.{ℕ, ◌+◌, ◌*◌, ◌≤◌, ◌<◌, ◌≡◌, Bool, true, ◌&&◌, List, [], ◌∷◌, length, get_or, set, eqb}
 use Rattle.std.proofs.Math.Option.{Option, none, some}
+use Rattle.record.specs.Names.{all_members}
 use Rattle.record.specs.Number.{numbers_at}
 use Rattle.record.specs.Sort.{Sort}
 use Rattle.record.specs.Decode.{store_of, sort_at}
 use Rattle.substitution.specs.Substitution.{Map, find}
 use Rattle.substitution.specs.Matching.{meet}
-use Rattle.substitution.specs.MatchWith.{all_members}
 use Rattle.matching_tables.specs.Tables.{times, Lists, image_of, table_map, VarIn, Mapped}
 use Rattle.matching_tables.specs.Matched.{Matched, Fits, Misfits}
 use Rattle.matching_tables.specs.Usable.{PairAsks, Usable}
@@ -73,10 +73,10 @@ pub record Answered (b p : List ℕ) (n : ℕ) (imgs bnd : List ℕ) (r : Matche
 -- A listed name of a Var of the store, met against the sort j: with room for one more bound name where it has no image.
 pub record MeetAsks (imgs bnd : List ℕ) (m v j : ℕ) : Type 0 where
   pub names : length imgs ≡ 65536
-  pub order : length bnd ≡ 4096
+  pub order : length bnd ≡ 4160
   pub name : v < 65536
   pub target : j < 65535
-  pub room : get_or imgs v 0 ≡ 0 → m < 4096
+  pub room : get_or imgs v 0 ≡ 0 → m < 4160
 
 abbrev pub MeetIs : List ℕ → List ℕ → ℕ → ℕ → ℕ → List ℕ → List ℕ → Matched → Type 0
 MeetIs imgs bnd m v j imgs' bnd' r =

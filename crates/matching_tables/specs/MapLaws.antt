@@ -57,8 +57,8 @@ find-some st {imgs} {bnd} {m} v t d =
 pub find_none : (st : List Sort) {imgs bnd : List ℕ} {m : ℕ} (v : ℕ) → Tabled imgs bnd m → get_or imgs v 0 ≡ 0 → find (table_map st imgs bnd m) v ≡ none
 find_none st {imgs} {bnd} {m} v t e = find-is st imgs bnd m v t ∙ ap (image_of st) e
 
-module _ {b p : List ℕ} {n : ℕ} {imgs bnd : List ℕ} {m : ℕ} (v j : ℕ) (u : Usable b p n) (h : Mapped b p n imgs bnd m) (below : j < n) (own : VarIn b p n v) where
-  -- Bound now.
+module _ {b p : List ℕ} {n : ℕ} {imgs bnd : List ℕ} {m : ℕ} (v j : ℕ) (u : Usable b p n) (h : Mapped b p n imgs bnd m) (below : j < n) (own : 64 ≤ m → VarIn b p n v) where
+  -- Bound now; one of the first 64 names may be any.
   pub answered-bound : v < 65536 → get_or imgs v 0 ≡ 0 → {imgs' bnd' : List ℕ} {q : ℕ} → BindIs imgs bnd m v j imgs' bnd' q
       → Answered b p n imgs' bnd' (Fits q) (some (bind v (sort_at b p n j) (table_map (store_of b p n) imgs bnd m)))
   answered-bound small free {imgs'} {bnd'} {q} s =
@@ -93,13 +93,13 @@ module _ {b p : List ℕ} {n : ℕ} {imgs bnd : List ℕ} {m : ℕ} (v j : ℕ) 
 pub meet-free : {imgs bnd : List ℕ} {m v j : ℕ} → v < 65536 → get_or imgs v 0 ≡ 0 → {imgs' bnd' : List ℕ} {q : ℕ} → BindIs imgs bnd m v j imgs' bnd' q
     → MeetIs imgs bnd m v j imgs' bnd' (Fits q)
 meet-free {imgs} {bnd} {m} {v} {j} small e {imgs'} {bnd'} {q} s b p n u h below own =
-    rw (find_none (store_of b p n) v h.tabled e) (answered-bound v j u h below own small e s)
+    rw (find_none (store_of b p n) v h.tabled e) (answered-bound v j u h below (λ w. own) small e s)
 
 pub meet-same : (imgs bnd : List ℕ) (m v j : ℕ) → get_or imgs v 0 ≡ j + 1 → MeetIs imgs bnd m v j imgs bnd (Fits m)
-meet-same imgs bnd m v j e b p n u h below own = met-same v j u h below own e
+meet-same imgs bnd m v j e b p n u h below own = met-same v j u h below (λ w. own) e
 
 pub meet-other : (imgs bnd : List ℕ) (m v j : ℕ) → (get_or imgs v 0 ≡ 0 → ⊥) → (get_or imgs v 0 ≡ j + 1 → ⊥) → MeetIs imgs bnd m v j imgs bnd (Misfits m)
-meet-other imgs bnd m v j d w b p n u h below own = met-other v j u h below own d w
+meet-other imgs bnd m v j d w b p n u h below own = met-other v j u h below (λ z. own) d w
 
 -- By whether the number of its image is the target's.
 pub meet-bound : (imgs bnd : List ℕ) (m v j : ℕ) {k : ℕ} → get_or imgs v 0 ≡ suc k → MeetIs imgs bnd m v j imgs bnd (found m (eqb k j))

@@ -1,9 +1,5 @@
 -- The lent tables of what a walk has found already. Definitions only.
 use Rattle.std.specs.Prelude.{ℕ, ◌+◌, ◌*◌, ◌%◌, ◌<◌, ◌≡◌, Bool, true, List, length, get_or, set}
-use Rattle.std.proofs.Math.Option.{some}
-use Rattle.substitution.specs.Substitution.{Map}
-use Rattle.record.specs.Sort.{Sort}
-use Rattle.substitution.specs.Substitution.{find}
 
 ---------------------------------------------------------------- sorts by their numbers
 -- A table of 64 entries in which P holds of each number noted: one less than the entry, where that is not 0.
@@ -36,7 +32,3 @@ PairIs l k j l' = l' ≡ set l (k % 32) (pair_of k j)
 pub record Pairs (G : ℕ → ℕ → Type 0) (l : List ℕ) : Type 0 where
   pub long : length l ≡ 32
   pub each : (i k j : ℕ) → j < 65536 → get_or l i 0 ≡ pair_of k j → G k j
-
--- θ binds what m binds.
-abbrev pub Holds : Map → Map → Type 0
-Holds m θ = (u : ℕ) (s : Sort) → find m u ≡ some s → find θ u ≡ some s

@@ -1,5 +1,5 @@
 -- Laws of the tables: listing names and taking them off, one look for membership, what a name is bound to, one more name
--- bound, and that there is always room for it, since each bound name has a Var of its own in the store.
+-- bound, and that there is always room for it, since each bound name but 64 has a Var of its own in the store.
 use Rattle.std.specs.Prelude.{ℕ, zero, suc, ◌+◌, ◌-◌, ◌≤◌, ◌<◌, ◌≡◌, Bool, true, false, not, cond, List, [], ◌∷◌, ◌++◌, length, set, replicate, eqb}
 use Rattle.std.proofs.Math.Path.{refl}
 use Rattle.std.proofs.Common.{sym, ap, subst, ◌∙◌, arith, not-suc-le-zero, length-set, ext_get_or, get_or-set_same, eqb-true, eq-eqb, ne_eqb}
@@ -260,7 +260,7 @@ behind-set bnd m v i r =
     (get_or-set_same bnd m v 0 r ∙ sym (behind-new bnd m v))
     i
 
-module _ (b p : List ℕ) (n : ℕ) (imgs bnd : List ℕ) (m : ℕ) (h : Mapped b p n imgs bnd m) (v : ℕ) (free : get_or imgs v 0 ≡ 0) (own : VarIn b p n v)
+module _ (b p : List ℕ) (n : ℕ) (imgs bnd : List ℕ) (m : ℕ) (h : Mapped b p n imgs bnd m) (v : ℕ) (free : get_or imgs v 0 ≡ 0) (own : 64 ≤ m → VarIn b p n v)
   where
     -- An unbound name differs from those bound before.
     more-apart : (i : ℕ) → i < m → get_or bnd i 0 ≡ v → ⊥
@@ -277,15 +277,19 @@ module _ (b p : List ℕ) (n : ℕ) (imgs bnd : List ℕ) (m : ℕ) (h : Mapped 
         (λ q. refl))
         i li j lj e
 
-    more-vars : (i : ℕ) → i < suc m → VarIn b p n (behind bnd m v i)
+    more-vars : (i : ℕ) → i < suc m → 64 ≤ i → VarIn b p n (behind bnd m v i)
     more-vars =
-        below_suc (λ (i : ℕ). VarIn b p n (behind bnd m v i)) m
-        (λ i l. subst (λ (u : ℕ). VarIn b p n u) (sym (behind-old bnd m v i l)) (h.vars i l))
-        (subst (λ (u : ℕ). VarIn b p n u) (sym (behind-new bnd m v)) own)
+        below_suc (λ (i : ℕ). 64 ≤ i → VarIn b p n (behind bnd m v i)) m
+        (λ i l w. subst (λ (u : ℕ). VarIn b p n u) (sym (behind-old bnd m v i l)) (h.vars i l w))
+        (λ w. subst (λ (u : ℕ). VarIn b p n u) (sym (behind-new bnd m v)) (own w))
 
-    -- THERE IS ROOM: an unbound name of a Var and the bound ones have as many Vars in the store.
-    pub bind-room : n ≤ 4096 → m < 4096
-    bind-room few = let z = names-few b p n (suc m) (behind bnd m v) more-vars more-once in omega arith
+    -- THERE IS ROOM: an unbound name and the bound ones have as many Vars in the store, but for the first 64.
+    pub bind-room : n ≤ 4096 → m < 4160
+    bind-room few =
+        let z = names-few b p n (suc m - 64) (λ i. behind bnd m v (64 + i))
+        (λ i l. more-vars (64 + i) (omega arith) (omega arith))
+        (λ i k li lk e. let w = more-once (64 + i) (64 + k) (omega arith) (omega arith) e in omega arith)
+        in omega arith
 
     module _ (few : n ≤ 4096) (j : ℕ) (below : j < n) (small : v < 65536) where
       more_room : m < length bnd
@@ -339,7 +343,7 @@ module _ (b p : List ℕ) (n : ℕ) (imgs bnd : List ℕ) (m : ℕ) (h : Mapped 
                   rest = λ i l. get_or-set_other bnd m i v 0 (λ e. omega arith) ∙ h.tabled.rest i (omega arith);
                 };
             below = more-below;
-            vars = λ i l. subst (λ (u : ℕ). VarIn b p n u) (sym (behind-set bnd m v i more_room l)) (more-vars i l);
+            vars = λ i l w. subst (λ (u : ℕ). VarIn b p n u) (sym (behind-set bnd m v i more_room l)) (more-vars i l w);
           }
 
       pub bind-map : table_map (store_of b p n) (set imgs v (j + 1)) (set bnd m v) (suc m) ≡ bind v (sort_at b p n j) (table_map (store_of b p n) imgs bnd m)
@@ -369,7 +373,7 @@ cleared-mapped b p n imgs bnd c =
             rest = c.bound;
           };
       below = λ v. omega (arith, c.images v (omega arith));
-      vars = λ i l. absurd (not-suc-le-zero l);
+      vars = λ i l w. absurd (not-suc-le-zero l);
     }
 
 pub cleared-map : (st : List Sort) (imgs bnd : List ℕ) → table_map st imgs bnd 0 ≡ empty

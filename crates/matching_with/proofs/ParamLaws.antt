@@ -57,7 +57,7 @@ module _ {b p : List ℕ} {n : ℕ} {imgs bnd : List ℕ} {m v j : ℕ} (a : Mee
   pub with-free : get_or imgs v 0 ≡ 0 → {imgs' bnd' : List ℕ} {q : ℕ} → BindIs imgs bnd m v j imgs' bnd' q → MeetWithIs b p n imgs bnd m v j imgs' bnd' (Fits q)
   with-free e {imgs'} {bnd'} {q} s =
       rw (find_none (store_of b p n) v a.mapped.tabled e)
-      (answered-bound v j a.usable a.mapped a.target a.own a.name e s)
+      (answered-bound v j a.usable a.mapped a.target (λ w. a.own) a.name e s)
 
   module _ (d : get_or imgs v 0 ≡ 0 → ⊥) where
     pub with_pair : PairAsks b p n (get_or imgs v 0 - 1) j

@@ -9,24 +9,23 @@ use lib.ListN.{get_or}
 use lib.Dec.{eqb}
 use borrow.Author.Tests.{eqb-true}
 use Rattle.record.specs.Cases.{by_test, by_option, none-some, some_inj, eqb-self}
-use Rattle.record.specs.Names.{member}
+use Rattle.record.specs.Names.{member, all_members}
 use Rattle.record.specs.Sort.{Sort, Sorts, var, par, node, end, ◌then◌, same}
 use Rattle.record.specs.Decode.{store_of, sort_at}
 use Rattle.substitution.specs.Substitution.{Map, bind, find}
-use Rattle.substitution.specs.Matching.{keep}
+use Rattle.substitution.specs.Matching.{keep, Keeps}
 use Rattle.substitution.proofs.CompatibleLaws.{param_eq-refl}
 use Rattle.substitution.proofs.MatchingLaws.{keep-test, keep-rest, and_then-middle}
-use Rattle.substitution.specs.MatchWith.{param_eq, meet_with, all_members, towards, match_with, match_all_with}
+use Rattle.substitution.specs.MatchWith.{param_eq, meet_with, towards, match_with, match_all_with}
 use Rattle.matching_tables.specs.Matched.{Matched, Fits, Misfits}
 use Rattle.matching_tables.specs.Tables.{table_map}
 use Rattle.matching_with.specs.Contract.{WithAsks, WithIs, PairWith}
 use Rattle.matching_tables.specs.Notes.{pair_of, PairIs}
 use Rattle.matching_with.specs.Met.{MatchedWith, WithBefore, WithAfter}
 use Rattle.matching_tables.specs.NoteLaws.{pairs-more, pairs-put}
-use Rattle.matching_tables.specs.Notes.{Holds}
 
 ---------------------------------------------------------------- the map found holds what was held before
-meet-extends : (o : Option Sort) (v : ℕ) (t : Sort) (m m' : Map) → find m v ≡ o → meet_with o v t m ≡ some m' → Holds m m'
+meet-extends : (o : Option Sort) (v : ℕ) (t : Sort) (m m' : Map) → find m v ≡ o → meet_with o v t m ≡ some m' → Keeps m m'
 unfolding find
 meet-extends none v t m m' q e u s f =
     rw (← some_inj e) (by_test (eqb v u)
@@ -35,13 +34,13 @@ meet-extends none v t m m' q e u s f =
 meet-extends (some r) v t m m' q e u s f = rw (← some_inj (keep-rest (param_eq r t) (some m) m' e)) f
 
 -- Two nodes by the tests of match_with: equality, kinds, fields, param_eq.
-arms-extends : (c d t u : Bool) (o : Option Map) (m m' : Map) → (o ≡ some m' → Holds m m') → cond c (some m) (cond d (keep t o) (keep u (some m))) ≡ some m' → Holds m m'
+arms-extends : (c d t u : Bool) (o : Option Map) (m m' : Map) → (o ≡ some m' → Keeps m m') → cond c (some m) (cond d (keep t o) (keep u (some m))) ≡ some m' → Keeps m m'
 arms-extends true d t u o m m' h e v s g = rw (← some_inj e) g
 arms-extends false true t u o m m' h e v s g = h (keep-rest t o m' e) v s g
 arms-extends false false t u o m m' h e v s g = rw (← some_inj (keep-rest u (some m) m' e)) g
 
-towards-extends : (ns : List ℕ) (p : Sort) (k a w : ℕ) (f : Sorts → Map → Option Map) → ((ts : Sorts) (m m' : Map) → f ts m ≡ some m' → Holds m m')
-    → (t : Sort) (m m' : Map) → towards ns p k a w f t m ≡ some m' → Holds m m'
+towards-extends : (ns : List ℕ) (p : Sort) (k a w : ℕ) (f : Sorts → Map → Option Map) → ((ts : Sorts) (m m' : Map) → f ts m ≡ some m' → Keeps m m')
+    → (t : Sort) (m m' : Map) → towards ns p k a w f t m ≡ some m' → Keeps m m'
 unfolding towards
 towards-extends ns p k a w f h (var v) m m' e = none-some e
 towards-extends ns p k a w f h (par us b) m m' e =
@@ -52,7 +51,7 @@ towards-extends ns p k a w f h (node l c x ts) m m' e =
 mutual
   unfolding match_with
 
-  with-extends : (ns : List ℕ) (p t : Sort) (m m' : Map) → match_with ns p t m ≡ some m' → Holds m m'
+  with-extends : (ns : List ℕ) (p t : Sort) (m m' : Map) → match_with ns p t m ≡ some m' → Keeps m m'
   with-extends ns (var v) t m m' e u s f =
       by_test (same (var v) t)
       (λ q. let y : some m ≡ some m' = rw q at e in rw (← some_inj y) f)
@@ -66,7 +65,7 @@ mutual
   with-extends ns (node k a w ps) t m m' e u s f =
       towards-extends ns (node k a w ps) k a w (λ ts n. match_all_with ns ps ts n) (λ ts n n' q v r g. with_all-extends ns ps ts n n' q v r g) t m m' e u s f
 
-  with_all-extends : (ns : List ℕ) (ps ts : Sorts) (m m' : Map) → match_all_with ns ps ts m ≡ some m' → Holds m m'
+  with_all-extends : (ns : List ℕ) (ps ts : Sorts) (m m' : Map) → match_all_with ns ps ts m ≡ some m' → Keeps m m'
   with_all-extends ns end end m m' e u s f = rw (← some_inj e) f
   with_all-extends ns end (t then ts) m m' e u s f = none-some e
   with_all-extends ns (p then ps) end m m' e u s f = none-some e
@@ -82,8 +81,8 @@ arms-again false true t u o o' m m' θ h e = rw (keep-test t o m' e) (h (keep-re
 arms-again false false t u o o' m m' θ h e = rw (keep-test u (some m) m' e) refl
 
 towards-again : (ns : List ℕ) (p : Sort) (k a w : ℕ) (f : Sorts → Map → Option Map)
-    → ((ts : Sorts) (m m' θ : Map) → f ts m ≡ some m' → Holds m' θ → f ts θ ≡ some θ)
-    → (t : Sort) (m m' θ : Map) → towards ns p k a w f t m ≡ some m' → Holds m' θ → towards ns p k a w f t θ ≡ some θ
+    → ((ts : Sorts) (m m' θ : Map) → f ts m ≡ some m' → Keeps m' θ → f ts θ ≡ some θ)
+    → (t : Sort) (m m' θ : Map) → towards ns p k a w f t m ≡ some m' → Keeps m' θ → towards ns p k a w f t θ ≡ some θ
 unfolding towards
 towards-again ns p k a w f h (var v) m m' θ e g = none-some e
 towards-again ns p k a w f h (par us b) m m' θ e g =
@@ -95,7 +94,7 @@ towards-again ns p k a w f h (node l c x ts) m m' θ e g =
 mutual
   unfolding match_with find
 
-  with-again : (ns : List ℕ) (p t : Sort) (m m' θ : Map) → match_with ns p t m ≡ some m' → Holds m' θ → match_with ns p t θ ≡ some θ
+  with-again : (ns : List ℕ) (p t : Sort) (m m' θ : Map) → match_with ns p t m ≡ some m' → Keeps m' θ → match_with ns p t θ ≡ some θ
   with-again ns (var v) t m m' θ e g =
       by_test (same (var v) t)
       (λ q. rw q refl)
@@ -115,7 +114,7 @@ mutual
   with-again ns (node k a w ps) t m m' θ e g =
       towards-again ns (node k a w ps) k a w (λ ts n. match_all_with ns ps ts n) (λ ts n n' η q h. with_all-again ns ps ts n n' η q h) t m m' θ e g
 
-  with_all-again : (ns : List ℕ) (ps ts : Sorts) (m m' θ : Map) → match_all_with ns ps ts m ≡ some m' → Holds m' θ → match_all_with ns ps ts θ ≡ some θ
+  with_all-again : (ns : List ℕ) (ps ts : Sorts) (m m' θ : Map) → match_all_with ns ps ts m ≡ some m' → Keeps m' θ → match_all_with ns ps ts θ ≡ some θ
   with_all-again ns end end m m' θ e g = refl
   with_all-again ns end (t then ts) m m' θ e g = none-some e
   with_all-again ns (p then ps) end m m' θ e g = none-some e

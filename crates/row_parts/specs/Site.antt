@@ -27,9 +27,13 @@ use Rattle.row_answer.specs.Arguments.{GatherAsks, JudgedAsks, arguments_of, bou
 abbrev pub own_over : List Sort → List ℕ → TermRecord → Sort
 own_over st tbl r = cond (eqb (term_number r.kind) 5) (get_or st (get_or tbl r.sort 0) leaf) (cond (eqb (term_number r.kind) 12) (get_or st (get_or tbl r.sort 0) leaf) bool)
 
+-- The n pairs of name and sort at x.
+abbrev pub pairs_over : List Sort → List ℕ → List ℕ → ℕ → ℕ → List Binding
+pairs_over st tbl s x n = bindings_of st (pair_names_at s x n) (bound_numbers tbl s x n)
+
 -- The bindings of a Binder.
 abbrev pub bindings_over : List Sort → List ℕ → List ℕ → TermRecord → List Binding
-bindings_over st tbl s r = bindings_of st (pair_names_at s r.pairs.at r.pairs.count) (bound_numbers tbl s r.pairs.at r.pairs.count)
+bindings_over st tbl s r = pairs_over st tbl s r.pairs.at r.pairs.count
 
 -- The integer constants among the terms of its list, and among the index terms of a ParamOp (11).
 abbrev pub constants_over : List ℕ → List ℕ → TermRecord → List (Option ℕ)

@@ -27,7 +27,7 @@ use Rattle.row_rules.specs.Outcome.{row_sort}
 use Rattle.row_answer.specs.Answer.{Answer, refusing}
 use Rattle.row_answer.specs.AnswerLaws.{judged-as, answered-as, made-refused}
 use Rattle.row_answer.specs.Arguments.{arguments_of, looked, bound_numbers, binding_at, constants_in, ConstantsAsk}
-use Rattle.row_parts.specs.Site.{own_over, bindings_over, term_verdict, Standing, TermAsks, TermIs, SiteAsks, SiteIs, PartsJudgedAsk, PartsJudgedIs}
+use Rattle.row_parts.specs.Site.{own_over, pairs_over, bindings_over, term_verdict, Standing, TermAsks, TermIs, SiteAsks, SiteIs, PartsJudgedAsk, PartsJudgedIs}
 use Rattle.row_parts.specs.Constants.{constant-asks, constants-by}
 
 ---------------------------------------------------------------- the parts and the row
@@ -74,26 +74,28 @@ pub bindings-sorts : (st : List Sort) (tbl s : List ℕ) (r : TermRecord) → bi
 bindings-sorts st tbl s r = pair-sorts st tbl s r.pairs.at r.pairs.count
 
 -- Without pairs there is no binding.
-pub bindings-none : (st : List Sort) (tbl s : List ℕ) (r : TermRecord) → r.pairs.count ≡ 0 → bindings_over st tbl s r ≡ []
+pub pairs-none : (st : List Sort) (tbl s : List ℕ) (x n : ℕ) → n ≡ 0 → pairs_over st tbl s x n ≡ []
 unfolding bindings_of pair_names_at
-bindings-none st tbl s r e = ap (λ (n : ℕ). bindings_of st (pair_names_at s r.pairs.at n) (bound_numbers tbl s r.pairs.at n)) e
+pairs-none st tbl s x n e = ap (pairs_over st tbl s x) e
 
-first-binding : (st : List Sort) (tbl s : List ℕ) (x n : ℕ) → 0 < n
-    → bindings_of st (pair_names_at s x n) (bound_numbers tbl s x n)
-    ≡ record { name = u16_at s x; sort = get_or st (binding_at s x tbl 0) leaf } ∷ bindings_of st (pair_names_at s (x + 4) (n - 1)) (bound_numbers tbl s (x + 4) (n - 1))
+pub bindings-none : (st : List Sort) (tbl s : List ℕ) (r : TermRecord) → r.pairs.count ≡ 0 → bindings_over st tbl s r ≡ []
+bindings-none st tbl s r e = pairs-none st tbl s r.pairs.at r.pairs.count e
+
+pub first-binding : (st : List Sort) (tbl s : List ℕ) (x n : ℕ) → 0 < n
+    → pairs_over st tbl s x n ≡ record { name = u16_at s x; sort = get_or st (binding_at s x tbl 0) leaf } ∷ pairs_over st tbl s (x + 4) (n - 1)
 unfolding bindings_of pair_names_at pair_sorts_at looked
 first-binding st tbl s x zero l = absurd (omega arith)
 first-binding st tbl s x (suc n) l =
     let e : x + 2 ≡ x + 4 * 0 + 2 = omega arith in
     let f : n ≡ suc n - 1 = omega arith in
     ap₂
-    (λ (y m : ℕ). record { name = u16_at s x; sort = get_or st (get_or tbl (u16_at s y) 0) leaf } ∷ bindings_of st (pair_names_at s (x + 4) m) (bound_numbers tbl s (x + 4) m)) e f
+    (λ (y m : ℕ). record { name = u16_at s x; sort = get_or st (get_or tbl (u16_at s y) 0) leaf } ∷ pairs_over st tbl s (x + 4) m) e f
 
 -- The first binding.
 pub bindings-first : (st : List Sort) (tbl s : List ℕ) (r : TermRecord) → 0 < r.pairs.count
     → bindings_over st tbl s r
     ≡ record { name = u16_at s r.pairs.at; sort = get_or st (binding_at s r.pairs.at tbl 0) leaf }
-    ∷ bindings_of st (pair_names_at s (r.pairs.at + 4) (r.pairs.count - 1)) (bound_numbers tbl s (r.pairs.at + 4) (r.pairs.count - 1))
+    ∷ pairs_over st tbl s (r.pairs.at + 4) (r.pairs.count - 1)
 bindings-first st tbl s r l = first-binding st tbl s r.pairs.at r.pairs.count l
 
 ---------------------------------------------------------------- what a record that stands tells
@@ -214,8 +216,8 @@ module _ {n : ℕ} {s tbl xs rows : List ℕ} {r : TermRecord} (h : Standing n s
 
 ---------------------------------------------------------------- the verdict on the sheet's record
 -- Bindings over store numbers are those over the sheet's sorts.
-bindings-by : (st : List Sort) (tbl s : List ℕ) (m x n : ℕ) → ((j : ℕ) → j < n → u16_at s (x + 4 * j + 2) < m)
-    → bindings_of st (pair_names_at s x n) (bound_numbers tbl s x n) ≡ bindings_of (trees_of st tbl m) (pair_names_at s x n) (pair_sorts_at s x n)
+pub bindings-by : (st : List Sort) (tbl s : List ℕ) (m x n : ℕ) → ((j : ℕ) → j < n → u16_at s (x + 4 * j + 2) < m)
+    → pairs_over st tbl s x n ≡ bindings_of (trees_of st tbl m) (pair_names_at s x n) (pair_sorts_at s x n)
 unfolding bindings_of pair_names_at pair_sorts_at looked
 bindings-by st tbl s m x zero h = refl
 bindings-by st tbl s m x (suc n) h =

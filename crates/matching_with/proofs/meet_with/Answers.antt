@@ -14,7 +14,7 @@ bind-requires c =
     let few = pre.usable.count in
     record {
       name = omega (arith, pre.name, pre.mapped.tabled.names);
-      place = omega (arith, bind-room s.records.now s.places.now s.count i.images.now i.bound.now i.many pre.mapped c.args.name e pre.own few, pre.mapped.tabled.order);
+      place = omega (arith, bind-room s.records.now s.places.now s.count i.images.now i.bound.now i.many pre.mapped c.args.name e (λ w. pre.own) few, pre.mapped.tabled.order);
       small = pre.name;
       image = omega (arith, pre.target, few);
     }
