@@ -19,7 +19,7 @@ use Rattle.infer_rules.specs.Inferred.{inferred}
 use Rattle.check_rules.specs.Rank.{Rank}
 use Rattle.check_rules.specs.Checked.{checked}
 use Rattle.judge_rules.specs.Rows.{row_of, rows_added, rows_of}
-use Rattle.judge_rules.specs.Questions.{first_sort, rest_sorts, match_answer, apply_answer, answer_added, answer_of, answers_of}
+use Rattle.judge_rules.specs.Questions.{answer_verdict, answer_added, answer_of, answers_of}
 use Rattle.judge_rules.specs.Judged.{with_answers, judged_sheet, judged_by}
 use Rattle.judge_rules.specs.AnyRoom.{sheet_from, outcome_with, row_with, checked_with, both_rows_with, rows_with, answer_with, one_answer_with, answers_with, ruled_with, judged_sheet_with, judged_with, room_in, space_for, had_space, space_read}
 
@@ -84,12 +84,10 @@ answer-same st s true true t' more h = rw (more refl) refl
 answer-same st s true false t' more h = absurd (false≢true h)
 answer-same st s false t t' more h = refl
 
--- One of three, by two tests of the question's kind.
-one_same : (a b : Bool) (o v v' w w' : CodedStore) → (space_for v.code ≡ true → v' ≡ v) → (space_for w.code ≡ true → w' ≡ w)
-    → space_for (cond a o (cond b v w)).code ≡ true → cond a o (cond b v' w') ≡ cond a o (cond b v w)
-one_same true b o v v' w w' f g h = refl
-one_same false true o v v' w w' f g h = f h
-one_same false false o v v' w w' f g h = g h
+-- One of two, by the test of the question's kind.
+one_same : (a : Bool) (o v v' : CodedStore) → (space_for v.code ≡ true → v' ≡ v) → space_for (cond a o v).code ≡ true → cond a o v' ≡ cond a o v
+one_same true o v v' f h = refl
+one_same false o v v' f h = f h
 
 -- Two tests of room of which the second passes wherever the first does.
 module _ (ρ ρ' : List Sort → Bool) (more : (st : List Sort) → ρ st ≡ true → ρ' st ≡ true) where
@@ -115,10 +113,7 @@ module _ (ρ ρ' : List Sort → Bool) (more : (st : List Sort) → ρ st ≡ tr
       (outcome-same i.store (verdict_at (checked R) (λ k. row_sort i.store m.rows 1 k) rs r) (and_left (space_for c.code) true last))
 
   answer-with-same : (q : QuestionFields) (st : List Sort) → space_for (answer_with ρ q st).code ≡ true → answer_with ρ' q st ≡ answer_with ρ q st
-  answer-with-same q st h =
-      one_same (eqb q.kind 0) (eqb q.kind 1) _ _ _ _ _
-      (outcome-same st (match_answer q.names (first_sort q.sorts) (first_sort (rest_sorts q.sorts)) (first_sort (rest_sorts (rest_sorts q.sorts)))))
-      (outcome-same st (apply_answer q.names (first_sort q.sorts) (rest_sorts q.sorts))) h
+  answer-with-same q st h = one_same (eqb q.kind 0) _ _ _ (outcome-same st (answer_verdict q)) h
 
   answers-same : (st : List Sort) (qs : List QuestionFields) → all_of (λ c. space_for c) (answers_with ρ st qs).answers ≡ true
       → answers_with ρ' st qs ≡ answers_with ρ st qs

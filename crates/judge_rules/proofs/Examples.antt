@@ -134,9 +134,42 @@ pub kind_table : (verdicts kind_terms
     ∷ sort (array int real) ∷ sort (array int real)
     ∷ refused Below ∷ refused Below
     ∷ [])
-    × (match_answer (1 ∷ []) (set (var 1)) int real ≡ refused NoAssignment)
+    × (match_answer (1 ∷ []) [] (set (var 1)) int real ≡ refused NoAssignment)
 unfolding kind_terms verdicts match_answer
 kind_table = (refl, refl)
+
+---------------------------------------------------------------- question 3 (document 02, A.8)
+abbrev pub given : ℕ → Sort → Binding
+given n s = record { name = n; sort = s }
+
+-- A kept pair, and one that clashes; a given name that the pattern lacks is assigned all the same, and a Par in the result loses it; a given
+-- variable is compared as it stands; 28 for a given sort with a listed parameter, a Par or a ParamBitVec, also where nothing would match;
+-- Type may be given.
+pub given_table :
+    match_answer (1 ∷ 2 ∷ []) (given 1 int ∷ []) (array (var 1) (var 2)) (array int real) (tuple (var 2 then var 1 then var 3 then end))
+    ∷ match_answer (1 ∷ 2 ∷ []) (given 1 bool ∷ []) (array (var 1) (var 2)) (array int real) (var 2)
+    ∷ match_answer (1 ∷ []) (given 1 bool ∷ []) int int (var 1)
+    ∷ match_answer (1 ∷ []) (given 1 bool ∷ []) int int (par (1 ∷ 2 ∷ []) (var 1))
+    ∷ match_answer (1 ∷ []) (given 1 (var 3) ∷ []) (set (var 1)) (set int) (var 1)
+    ∷ match_answer (1 ∷ []) (given 1 (var 3) ∷ []) (set (var 1)) (set (var 3)) (var 1)
+    ∷ match_answer (1 ∷ []) (given 1 (var 1) ∷ []) (set (var 1)) int (var 1)
+    ∷ match_answer (1 ∷ []) (given 1 (par (2 ∷ []) int) ∷ []) (set (var 1)) int (var 1)
+    ∷ match_answer (1 ∷ []) (given 1 (set param_bit_vec) ∷ []) (set (var 1)) int (var 1)
+    ∷ match_answer (1 ∷ []) (given 1 type ∷ []) (set (var 1)) (set type) (var 1)
+    ∷ []
+    ≡ sort (tuple (real then int then var 3 then end))
+    ∷ refused NoAssignment
+    ∷ sort bool
+    ∷ sort (par (2 ∷ []) bool)
+    ∷ refused NoAssignment
+    ∷ sort (var 3)
+    ∷ refused Barred
+    ∷ refused Barred
+    ∷ refused Barred
+    ∷ sort type
+    ∷ []
+unfolding match_answer
+given_table = refl
 
 ---------------------------------------------------------------- refused sheets
 -- Buffers as the program lends them, with fewer places or rows.

@@ -14,10 +14,10 @@ use Rattle.infer_rules.specs.Inferred.{inferred}
 use Rattle.check_rules.specs.Rank.{Rank}
 use Rattle.check_rules.specs.Checked.{checked}
 use Rattle.judge_rules.specs.Rows.{RowsSoFar, row_of, rows_of}
-use Rattle.judge_rules.specs.Questions.{answers_of}
+use Rattle.judge_rules.specs.Questions.{answer_verdict, answers_of}
 use Rattle.judge_rules.specs.Judged.{accepted, judged_by}
 use Rattle.judge_rules.proofs.RowLaws.{row-grown, rows_more, rows_new, rows-old, turn-grown}
-use Rattle.judge_rules.specs.QuestionLaws.{question_at, answer_verdict, answers-grown}
+use Rattle.judge_rules.specs.QuestionLaws.{question_at, answers-grown}
 use Rattle.judge_rules.proofs.JudgedLaws.{told, judged-answer}
 
 -- A code that means a verdict and names a sort names one of the store.

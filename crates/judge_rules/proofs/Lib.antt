@@ -1,4 +1,5 @@
 pub mod AnyRoomLaws
+pub mod AskedTheorems
 pub mod BeforeTheorems
 pub mod BoundedLaws
 pub mod CarriedLaws
@@ -12,7 +13,9 @@ pub mod KeptExample
 pub mod KeptRows
 pub mod KnownLaws
 pub mod MixedInferred
+pub mod PairLaws
 pub mod PlainLaws
+pub mod PremiseTheorems
 pub mod QuestionTheorems
 pub mod RoutesExample
 pub mod RowExactly

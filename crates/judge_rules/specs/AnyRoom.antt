@@ -18,7 +18,7 @@ use Rattle.check_rules.specs.Rank.{Rank}
 use Rattle.check_rules.specs.Checked.{checked}
 use Rattle.substitution.specs.Compatible.{compatible}
 use Rattle.judge_rules.specs.Rows.{RowsSoFar, rows_added}
-use Rattle.judge_rules.specs.Questions.{AnswersSoFar, first_sort, rest_sorts, yes_no, match_answer, apply_answer, answer_added}
+use Rattle.judge_rules.specs.Questions.{AnswersSoFar, first_sort, rest_sorts, yes_no, answer_verdict, answer_added}
 use Rattle.judge_rules.specs.Judged.{Judgement, sheet_refused, accepted, with_answers}
 
 ---------------------------------------------------------------- the judgement over a test of room ρ
@@ -64,15 +64,13 @@ module _ (ρ : List Sort → Bool) where
   answer_with q st =
       cond (eqb q.kind 0)
       (record { store = st; code = yes_no (compatible (first_sort q.sorts) (first_sort (rest_sorts q.sorts))) })
-      (cond (eqb q.kind 1)
-      (outcome_with st (match_answer q.names (first_sort q.sorts) (first_sort (rest_sorts q.sorts)) (first_sort (rest_sorts (rest_sorts q.sorts)))))
-      (outcome_with st (apply_answer q.names (first_sort q.sorts) (rest_sorts q.sorts))))
+      (outcome_with st (answer_verdict q))
 
   abbrev pub one_answer_with : QuestionFields → AnswersSoFar → AnswersSoFar
   one_answer_with q a = answer_added a.answers (answer_with q a.store)
 
   unfoldable pub answers_with : List Sort → List QuestionFields → AnswersSoFar
-  unfolding within intern index_of compatible match_answer apply_answer
+  unfolding within intern index_of compatible answer_verdict
   answers_with st [] = record { store = st; answers = [] }
   answers_with st (q ∷ qs) = one_answer_with q (answers_with st qs)
 

@@ -5,3 +5,4 @@ pub mod Judged
 pub mod AnyRoom
 pub mod Before
 pub mod Given
+pub mod QuestionRules

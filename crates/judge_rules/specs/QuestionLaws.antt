@@ -1,6 +1,6 @@
 -- What an answer leaves: question 0 adds nothing and answers 1 or 0; the others are outcomes of their verdicts, with 22 and 23
 -- exactly where document 01 says. Over all questions the store only grows.
-use Rattle.std.specs.Prelude.{ℕ, ◌*◌, ◌≤◌, ◌<◌, ◌≡◌, refl, Bool, true, false, cond, List, [], ◌∷◌, ◌↔◌, length, get_or, eqb}
+use Rattle.std.specs.Prelude.{ℕ, ◌*◌, ◌≤◌, ◌<◌, ◌≡◌, refl, Bool, true, false, cond, ◌&&◌, List, [], ◌∷◌, ◌↔◌, length, get_or, eqb}
 use Rattle.std.proofs.Common.{sym, ap, subst, ◌∙◌, arith, not-suc-le-zero, length-append, eqb-true}
 use Rattle.std.proofs.Math.Option.{Option, none, some}
 use Rattle.std.proofs.Math.ListN.{get_or-append}
@@ -8,25 +8,17 @@ use Rattle.std.proofs.lemmas.List.{get_or_at}
 use Rattle.std.proofs.lemmas.Bool.{eqb-false}
 use Rattle.record.specs.Sort.{Sort, end}
 use Rattle.record.specs.Cases.{by_test, below_other}
-use Rattle.sheet.specs.Sheet.{Lengths, QuestionFields}
-use Rattle.substitution.specs.Substitution.{Map, empty}
+use Rattle.sheet.specs.Sheet.{Lengths, Binding, QuestionFields}
+use Rattle.substitution.specs.Substitution.{Map}
 use Rattle.substitution.specs.Matching.{matches, listed_in, premise}
 use Rattle.substitution.specs.Compatible.{compatible}
 use Rattle.row_rules.specs.declared.Cause.TheVariants.{Limit, Full, Barred}
-use Rattle.row_rules.specs.Verdict.{Verdict, sort, need, number_of}
+use Rattle.row_rules.specs.Verdict.{sort, need, number_of}
 use Rattle.row_rules.specs.Outcome.{CodedStore, outcome}
 use Rattle.row_rules.specs.Meaning.{Means, limited}
 use Rattle.row_rules.specs.Outcomes.{no_limit, Accepted, Passes, Overflows, Grown}
 use Rattle.row_rules.proofs.OutcomeLaws.{any-accepted, outcome-refused, plain-limit, plain-full, grown-self, grown-trans, outcome-grown, outcome-means, means-stays}
-use Rattle.judge_rules.specs.Questions.{first_sort, rest_sorts, yes_no, assigned, match_answer, apply_answer, answer_of, answers_of}
-
--- The verdict of a question 1 or 2.
-unfoldable pub answer_verdict : QuestionFields → Verdict
-unfolding match_answer apply_answer
-answer_verdict q =
-    cond (eqb q.kind 1)
-    (match_answer q.names (first_sort q.sorts) (first_sort (rest_sorts q.sorts)) (first_sort (rest_sorts (rest_sorts q.sorts))))
-    (apply_answer q.names (first_sort q.sorts) (rest_sorts q.sorts))
+use Rattle.judge_rules.specs.Questions.{first_sort, rest_sorts, yes_no, pattern_of, target_of, result_of, given_map, given_premise, assigned, match_answer, match_verdict, apply_answer, answer_verdict, answer_of, answers_of}
 
 -- QUESTION 0 ADDS NOTHING AND ANSWERS 1 OR 0, as the two sorts are compatible or not.
 pub answer-compatible : (l : Lengths) (q : QuestionFields) (st : List Sort) → eqb q.kind 0 ≡ true
@@ -34,10 +26,10 @@ pub answer-compatible : (l : Lengths) (q : QuestionFields) (st : List Sort) → 
 unfolding answer_of
 answer-compatible l q st e = simp e
 
--- QUESTIONS 1 AND 2 ARE ANSWERED BY THEIR VERDICTS.
+-- THE OTHERS ARE ANSWERED BY THEIR VERDICTS.
 pub answer-is : (l : Lengths) (q : QuestionFields) (st : List Sort) → eqb q.kind 0 ≡ false → answer_of l q st ≡ outcome l st (answer_verdict q)
-unfolding answer_of answer_verdict
-answer-is l q st e = by_test (eqb q.kind 1) (λ f. simp (e, f)) (λ f. simp (e, f))
+unfolding answer_of
+answer-is l q st e = simp e
 
 -- No verdict of a question is 22 or 23 by itself.
 assigned-plain : (b : Bool) (r : Sort) (o : Option Map) → no_limit (need b Barred (assigned r o)) ≡ true
@@ -46,15 +38,18 @@ assigned-plain true r none = refl
 assigned-plain true r (some m) = refl
 assigned-plain false r o = refl
 
+match-plain : (ns : List ℕ) (gs : List Binding) (p t r : Sort) → no_limit (match_answer ns gs p t r) ≡ true
+unfolding match_answer
+match-plain ns gs p t r = assigned-plain (premise ns p t && given_premise ns gs) r (matches (listed_in ns) p t (given_map gs))
+
 pub answer-plain : (q : QuestionFields) → no_limit (answer_verdict q) ≡ true
-unfolding answer_verdict match_answer apply_answer no_limit
+unfolding answer_verdict match_verdict apply_answer no_limit
 answer-plain q =
-    by_test (eqb q.kind 1)
-    (λ f. rw f (assigned-plain
-    (premise q.names (first_sort q.sorts) (first_sort (rest_sorts q.sorts)))
-    (first_sort (rest_sorts (rest_sorts q.sorts)))
-    (matches (listed_in q.names) (first_sort q.sorts) (first_sort (rest_sorts q.sorts)) empty)))
-    (λ f. rw f refl)
+    by_test (eqb q.kind 1) (λ f. rw f (match-plain q.names [] (pattern_of q) (target_of q) (result_of q)))
+    (λ f.
+    by_test (eqb q.kind 3)
+    (λ g. rw (f, g) (match-plain q.names q.pairs (pattern_of q) (target_of q) (result_of q)))
+    (λ g. rw (f, g) refl))
 
 -- A REFUSED ANSWER LEAVES THE STORE AS IT WAS.
 pub answer-refused : (l : Lengths) (q : QuestionFields) (st : List Sort) → 65536 ≤ (answer_of l q st).code → (answer_of l q st).store ≡ st
@@ -65,7 +60,7 @@ answer-refused l q st h =
     let i = answer-is l q st e in
     ap (λ (o : CodedStore). o.store) i ∙ outcome-refused l st (answer_verdict q) (subst (λ (o : CodedStore). 65536 ≤ o.code) i h))
 
--- AN ACCEPTED ANSWER to question 1 or 2 adds only the sorts inside it, and its code is its number.
+-- AN ACCEPTED ANSWER to a question of another kind than 0 adds only the sorts inside it, and its code is its number.
 pub answer-accepted : (l : Lengths) (q : QuestionFields) (st : List Sort) → eqb q.kind 0 ≡ false → (answer_of l q st).code < 65536
     → (s : Sort) × (answer_verdict q ≡ sort s) × Accepted l st s (answer_of l q st)
 answer-accepted l q st e h =
@@ -104,7 +99,7 @@ answers-count l st (q ∷ qs) = simp length-append (omega (arith, answers-count 
 ---------------------------------------------------------------- all answers
 -- THE QUESTION WITH THE NUMBER k of a sheet's questions, the latest first; what stands for one that is not there is never asked.
 unfoldable pub question_at : List QuestionFields → ℕ → QuestionFields
-question_at [] k = record { kind = 0; sorts = end; names = [] }
+question_at [] k = record { kind = 0; sorts = end; pairs = []; names = [] }
 question_at (q ∷ qs) k = cond (eqb k (length qs)) q (question_at qs k)
 
 -- An answer stays while further questions are answered, and the next one stands behind it.
@@ -150,3 +145,16 @@ answers-say l st (q ∷ qs) k h =
       λ o f. means-stays (answers_of l st qs).store (answer_of l q (answers_of l st qs).store).store (get_or (answers_of l st qs).answers k 0)
           (answer_verdict (question_at qs k)) (answer-grown l q (answers_of l st qs).store).starts (s.1 o f),
     ))
+
+-- AN ANSWER IS ITS QUESTION'S over the store of its turn.
+pub answers-at : (l : Lengths) (st : List Sort) (qs : List QuestionFields) (k : ℕ) → k < length qs
+    → (now : List Sort) × (get_or (answers_of l st qs).answers k 0 ≡ (answer_of l (question_at qs k) now).code)
+unfolding question_at
+answers-at l st [] k h = absurd (not-suc-le-zero h)
+answers-at l st (q ∷ qs) k h =
+    by_test (eqb k (length qs))
+    (λ e. ((answers_of l st qs).store, rw (e, eqb-true k (length qs) e) (answers-new l st q qs)))
+    (λ e.
+    let low : k < length qs = below_other k (length qs) h (eqb-false k (length qs) e) in
+    let (now, s) = answers-at l st qs k low in
+    (now, rw (e, answers-old l st q qs k low) s))

@@ -1,11 +1,12 @@
--- The questions (document 01): 0 compatible, 1 match, 2 apply, with the causes in the order 28, 29, 22, 23.
-use Rattle.std.specs.Prelude.{ℕ, Bool, true, false, cond, List, [], ◌∷◌, ◌++◌, eqb}
+-- The questions: 0 compatible, 1 match, 2 apply (document 01), 3 match from given pairs (document 02, A.8), with the causes in the
+-- order 28, 29, 22, 23.
+use Rattle.std.specs.Prelude.{ℕ, Bool, true, false, cond, ◌&&◌, List, [], ◌∷◌, ◌++◌, eqb}
 use Rattle.std.proofs.Math.Option.{Option, none, some}
 use Rattle.record.specs.Sort.{Sort, Sorts, end, ◌then◌}
 use Rattle.record.specs.Record.{leaf}
-use Rattle.sheet.specs.Sheet.{Lengths, QuestionFields}
+use Rattle.sheet.specs.Sheet.{Lengths, Binding, QuestionFields}
 use Rattle.substitution.specs.Substitution.{Map, empty, bind, apply}
-use Rattle.substitution.specs.Matching.{matches, listed_in, premise}
+use Rattle.substitution.specs.Matching.{matches, listed_in, known, unlisted, premise}
 use Rattle.substitution.specs.Compatible.{compatible}
 use Rattle.row_rules.specs.declared.Cause.TheVariants.{Barred, NoAssignment}
 use Rattle.row_rules.specs.Verdict.{Verdict, sort, refused, need}
@@ -25,15 +26,27 @@ abbrev pub yes_no : Bool → ℕ
 yes_no true = 1
 yes_no false = 0
 
--- 1: "the result, of any form, after Substitution by the assignment, unassigned names kept"; 28 outside matching's premise, 29
--- without an assignment.
+-- 3: "question 1 with pairs of given name and sort, each name among the parameters and given once": the reader tests the names
+-- (`rightly_given`). The pairs as a map; matching continues from it.
+unfoldable pub given_map : List Binding → Map
+given_map [] = empty
+given_map (g ∷ gs) = bind g.name g.sort (given_map gs)
+
+-- "A given sort outside the target's premise as 28": each is without Par, ParamBitVec and listed parameters.
+unfoldable pub given_premise : List ℕ → List Binding → Bool
+unfolding known unlisted
+given_premise ns [] = true
+given_premise ns (g ∷ gs) = known g.sort && unlisted ns g.sort && given_premise ns gs
+
+-- 1 and 3: "the result, of any form, after Substitution by the assignment, unassigned names kept"; 28 outside matching's premise, 29
+-- without an assignment. The assignment of question 3 keeps the given pairs, and a given name that the pattern lacks is assigned all the same.
 abbrev pub assigned : Sort → Option Map → Verdict
 assigned r none = refused NoAssignment
 assigned r (some m) = sort (apply m r)
 
-unfoldable pub match_answer : List ℕ → Sort → Sort → Sort → Verdict
-unfolding premise matches apply
-match_answer ns p t r = need (premise ns p t) Barred (assigned r (matches (listed_in ns) p t empty))
+unfoldable pub match_answer : List ℕ → List Binding → Sort → Sort → Sort → Verdict
+unfolding premise given_premise given_map matches apply
+match_answer ns gs p t r = need (premise ns p t && given_premise ns gs) Barred (assigned r (matches (listed_in ns) p t (given_map gs)))
 
 -- 2: "apply [81: sort, then one image per name]".
 unfoldable pub images_given : List ℕ → Sorts → Map
@@ -45,15 +58,35 @@ unfoldable pub apply_answer : List ℕ → Sort → Sorts → Verdict
 unfolding apply images_given
 apply_answer ns s images = sort (apply (images_given ns images) s)
 
+-- "list (pattern, target, result)": the first three sorts of a question.
+abbrev pub pattern_of : QuestionFields → Sort
+pattern_of q = first_sort q.sorts
+
+abbrev pub target_of : QuestionFields → Sort
+target_of q = first_sort (rest_sorts q.sorts)
+
+abbrev pub result_of : QuestionFields → Sort
+result_of q = first_sort (rest_sorts (rest_sorts q.sorts))
+
+unfoldable pub match_verdict : QuestionFields → List Binding → Verdict
+unfolding match_answer
+match_verdict q gs = match_answer q.names gs (pattern_of q) (target_of q) (result_of q)
+
+-- The verdict of a question of another kind than 0; question 1 is question 3 without pairs.
+unfoldable pub answer_verdict : QuestionFields → Verdict
+unfolding match_verdict apply_answer
+answer_verdict q =
+    cond (eqb q.kind 1) (match_verdict q [])
+    (cond (eqb q.kind 3) (match_verdict q q.pairs)
+    (apply_answer q.names (first_sort q.sorts) (rest_sorts q.sorts)))
+
 -- THE ANSWER TO A QUESTION over a store.
 unfoldable pub answer_of : Lengths → QuestionFields → List Sort → CodedStore
-unfolding compatible match_answer apply_answer outcome
+unfolding compatible answer_verdict outcome
 answer_of l q st =
     cond (eqb q.kind 0)
     (record { store = st; code = yes_no (compatible (first_sort q.sorts) (first_sort (rest_sorts q.sorts))) })
-    (cond (eqb q.kind 1)
-    (outcome l st (match_answer q.names (first_sort q.sorts) (first_sort (rest_sorts q.sorts)) (first_sort (rest_sorts (rest_sorts q.sorts)))))
-    (outcome l st (apply_answer q.names (first_sort q.sorts) (rest_sorts q.sorts))))
+    (outcome l st (answer_verdict q))
 
 -- The store and the answers after some questions.
 pub record AnswersSoFar : Type 0 where

@@ -27,9 +27,9 @@ pub enum Cause {
     Misfit = 26,
     // The result keeps an unassigned parameter.
     Unassigned = 27,
-    // A sort holds what it may not; or question 1 is outside matching's premise.
+    // A sort holds what it may not; or question 1 or 3 is outside matching's premise.
     Barred = 28,
-    // No assignment turns the pattern into the target.
+    // No assignment that keeps the given pairs turns the pattern into the target.
     NoAssignment = 29,
 }
 
