@@ -1,3 +1,4 @@
 pub mod ApplyLaws
+pub mod GivenLaws
 pub mod MatchLaws
 pub mod WordLaws

@@ -1,28 +1,31 @@
 -- All questions of a sheet: what a question record at a place and the loop over all of them ask and promise, and that one
 -- answer more is the definition's.
-use Rattle.std.specs.Prelude.{ℕ, suc, Ok, ◌+◌, ◌*◌, ◌≤◌, ◌<◌, ◌≡◌, refl, length, get_or, set, take, drop}
+use Rattle.std.specs.Prelude.{ℕ, suc, Ok, ◌+◌, ◌*◌, ◌≤◌, ◌<◌, ◌≡◌, refl, true, length, get_or, set, take, drop}
 use Rattle.std.proofs.Math.Path.{sym, ap, ap₂}
 use Rattle.std.proofs.Common.{subst, ◌∙◌, arith, length-set, take-append-drop, take-suc-set, drop-set-lt, drop-drop}
 use mathlib.Core.List.{List, ◌++◌}
 use Rattle.record.specs.Number.{u16_at, numbers_at}
 use Rattle.record.specs.Kinds.{question_number}
 use Rattle.record.specs.Codec.{length-numbers_at, number_at}
+use Rattle.record.specs.Cases.{and_right}
+use Rattle.record.specs.Names.{all_members, distinct}
 use Rattle.record.specs.Sort.{Sort, Sorts}
 use Rattle.record.specs.Decode.{store_of}
 use Rattle.record.specs.StoreLaws.{store_of-length}
 use Rattle.record.specs.SortLists.{Starts, starts-self, starts-trans, starts-at, starts-count}
-use Rattle.reader.specs.Reader.{read_question}
+use Rattle.reader.specs.Reader.{pair_names_at, rightly_given, read_question}
 use Rattle.reader.specs.QuestionWas.{QuestionWas}
 use Rattle.reader.specs.declared.Cursor.{Cursor}
 use Rattle.reader.specs.declared.QuestionRecord.{QuestionRecord}
 use Rattle.sheet.specs.declared.SheetCounts.{SheetCounts}
-use Rattle.sheet.specs.Sheet.{Lengths, QuestionFields, question_fields}
+use Rattle.sheet.specs.Sheet.{Lengths, Binding, QuestionFields, question_fields}
 use Rattle.sheet.specs.Trees.{trees_of, trees-length, trees-same, mapped-sorts}
 use Rattle.sheet.specs.Contract.{each_at, question_read_at, questions_at, QuestionStands, SheetStands}
 use Rattle.sheet.specs.Stands.{Numbered, question-again, question-is}
 use Rattle.store.specs.Good.{Good}
 use Rattle.matching_tables.specs.Tables.{Blank}
 use Rattle.row_rules.specs.Outcome.{CodedStore}
+use Rattle.row_parts.specs.SiteLaws.{bindings-by}
 use Rattle.judge_rules.specs.Questions.{answer_of, AnswersSoFar, answer_added, answers_of}
 use Rattle.questions.specs.Word.{Word, Counts}
 use Rattle.questions.specs.Contract.{question_over, QuestionAsks, QuestionIs}
@@ -102,6 +105,13 @@ module _ (b p ix : List ℕ) (n u : ℕ) (prm imgs bnd s tbl : List ℕ) (m x : 
   was : QuestionWas s m x r c
   was = question-again s m x h.stands r c e
 
+  -- No name is given twice.
+  given-once : distinct (pair_names_at s r.pairs.at r.pairs.count) ≡ true
+  unfolding rightly_given
+  given-once =
+      let vs = pair_names_at s r.pairs.at r.pairs.count in
+      and_right (all_members vs (numbers_at s r.names.at r.names.count)) (distinct vs) was.given
+
   pub question-asks : QuestionAsks b p ix n u prm imgs bnd s tbl r
   question-asks =
       record {
@@ -116,11 +126,21 @@ module _ (b p ix : List ℕ) (n u : ℕ) (prm imgs bnd s tbl : List ℕ) (m x : 
               known = λ j o. h.numbered.known (u16_at s (r.list.at + 2 * j)) (was.references j o);
               names = was.names;
               few = was.named;
+              given =
+                  record {
+                    within = was.pairs;
+                    few = was.paired;
+                    inside = λ j o. omega (arith, was.bindings j o, h.numbered.inside);
+                    known = λ j o. h.numbered.known (u16_at s (r.pairs.at + 4 * j + 2)) (was.bindings j o);
+                    once = given-once;
+                  };
               short = h.numbered.short;
             };
         two = was.two;
         three = was.three;
-        pairs = was.images;
+        images = was.images;
+        continued = was.continued;
+        none_given = was.none_given;
       }
 
   -- The question over the store is the sheet's.
@@ -130,12 +150,13 @@ module _ (b p ix : List ℕ) (n u : ℕ) (prm imgs bnd s tbl : List ℕ) (m x : 
       let st = store_of b p n in
       let rs = numbers_at s r.list.at r.list.count in
       question-is s m x h.stands r c e i (trees_of st tbl m) (trees-length st tbl m)
-      ∙ ap (λ (ss : Sorts). record { kind = question_number r.kind; sorts = ss; names = numbers_at s r.names.at r.names.count })
+      ∙ ap₂ (λ (ss : Sorts) (gs : List Binding). record { kind = question_number r.kind; sorts = ss; pairs = gs; names = numbers_at s r.names.at r.names.count })
       (sym
       (mapped-sorts st tbl m rs
       (λ j o.
       let y : j < r.list.count = omega (arith, length-numbers_at s r.list.at r.list.count) in
       omega (arith, number_at s r.list.at r.list.count j y, was.references j y))))
+      (sym (bindings-by st tbl s m r.pairs.at r.pairs.count was.bindings))
 
   pub at-is : (b' p' ix' prm' imgs' bnd' : List ℕ) (w : Word) → QuestionIs b p n prm imgs bnd s tbl r b' p' ix' prm' imgs' bnd' w
       → AtIs b p n prm imgs bnd s tbl m x b' p' ix' prm' imgs' bnd' w

@@ -1,7 +1,8 @@
-// The questions of a sheet: 0 compatible, 1 match, 2 apply, with the causes in the order 28, 29, 22, 23.
+// The questions of a sheet: 0 compatible, 1 match, 2 apply, 3 match from given pairs, with the causes in the order 28, 29, 22, 23.
 #![tactic(auto)]
 
 pub mod all;
+pub mod given;
 pub mod images;
 pub mod matched;
 
@@ -51,7 +52,9 @@ pub fn answer_question(
             let t = sort_at(sheet, question.list.at + 2);
             answer_compatible(&store.sorts(), p, t)
         }
-        QuestionKind::Match => code(answer_match(store, names, sheet, question)),
+        QuestionKind::Match | QuestionKind::Continue => {
+            code(answer_match(store, names, sheet, question))
+        }
         QuestionKind::Apply => code(answer_apply(store, names, sheet, question)),
     }
 }

@@ -48,7 +48,7 @@ over_zeros vs {w} {w'} k z e h =
     ∙ ap (λ (j : ℕ). vs ++ replicate (length w - j) 0) (sym e)
 
 -- THE LIBRARY'S OWN TABLES, all zeros: those of names, and those that a sheet is read with.
-pub blank-tables : Blank (replicate 65536 0) (replicate 65536 0) (replicate 4096 0)
+pub blank-tables : Blank (replicate 65536 0) (replicate 65536 0) (replicate 4160 0)
 blank-tables =
     record {
       table = length-replicate {A = ℕ} 65536 0;
@@ -56,9 +56,9 @@ blank-tables =
       cleared =
           record {
             names = length-replicate {A = ℕ} 65536 0;
-            order = length-replicate {A = ℕ} 4096 0;
+            order = length-replicate {A = ℕ} 4160 0;
             images = zeros-all 65536;
-            bound = zeros-all 4096;
+            bound = zeros-all 4160;
           };
     }
 

@@ -1,7 +1,7 @@
--- DEMANDS 2 AND 3, AND THE KEPT ROWS OF A.1, ON THE BYTES THAT `judge` WRITES: what is proved of judgements (RowExactly, TwoRoutes and KeptRows of
--- the crate judge_rules), said of the lent buffers at exit as `JudgeIs` promises them, since their rows are the judgement's and their records read
--- back as its store.
-use Rattle.std.specs.Prelude.{ℕ, suc, ◌+◌, ◌*◌, ◌-◌, ◌<◌, ◌≡◌, true, ◌↔◌, replicate}
+-- DEMANDS 2 AND 3, THE KEPT ROWS OF A.1 AND THE ANSWERS OF QUESTIONS 1 AND 3, ON THE BYTES THAT `judge` WRITES: what is proved of judgements
+-- (RowExactly, TwoRoutes, KeptRows and AskedTheorems of the crate judge_rules), said of the lent buffers at exit as `JudgeIs` promises them,
+-- since their rows and answers are the judgement's and their records read back as its store.
+use Rattle.std.specs.Prelude.{ℕ, suc, ◌+◌, ◌*◌, ◌-◌, ◌<◌, ◌≡◌, true, false, ◌↔◌, replicate}
 use Rattle.std.proofs.Math.Path.{sym, ap}
 use Rattle.std.proofs.Common.{subst, ◌∙◌, arith}
 use mathlib.Core.List.{List}
@@ -11,30 +11,34 @@ use Rattle.record.specs.Record.{leaf}
 use Rattle.record.specs.Store.{padded}
 use Rattle.record.specs.Decode.{store_of, sort_at}
 use Rattle.record.specs.StoreLaws.{sort-made}
-use Rattle.sheet.specs.Sheet.{Lengths, Sheet, read_sheet}
+use Rattle.sheet.specs.Sheet.{Lengths, Binding, QuestionFields, Sheet, read_sheet}
 use Rattle.sheet.specs.Sheet.Reading.{got}
 use Rattle.substitution.specs.Substitution.{Map, apply}
 use Rattle.substitution.specs.Premises.{proper_map}
 use Rattle.row_rules.specs.declared.Cause.{Cause}
-use Rattle.row_rules.specs.declared.Cause.TheVariants.{Below, Panics}
+use Rattle.row_rules.specs.declared.Cause.TheVariants.{Below, Panics, Barred, NoAssignment}
 use Rattle.row_rules.specs.Verdict.{sort, refused, number_of}
 use Rattle.row_rules.specs.Term.{term_at}
 use Rattle.row_rules.specs.Meaning.{limited, free, is_full, roomed}
 use Rattle.row_rules.specs.FreeLaws.{without-same}
 use Rattle.row_rules.specs.Outcomes.{no_limit}
+use Rattle.row_rules.proofs.OutcomeLaws.{room-few}
 use Rattle.infer_rules.specs.Inferred.{infer}
 use Rattle.check_rules.specs.Ranks.{smt_lib, document01}
 use Rattle.check_rules.specs.Checked.{check}
 use Rattle.check_rules.specs.Rules.{HasSort}
 use Rattle.check_rules.specs.Routes.{replace, clear_term}
 use Rattle.judge_rules.specs.Rows.{rows_of}
-use Rattle.judge_rules.specs.Questions.{answers_of}
+use Rattle.judge_rules.specs.Questions.{pattern_of, target_of, result_of, answers_of}
+use Rattle.judge_rules.specs.QuestionRules.{Premise, Turns, Spares}
 use Rattle.judge_rules.specs.Judged.{Judgement, accepted, judged_sheet, judged_by, judged, rows_after, answers_after}
 use Rattle.judge_rules.specs.QuestionLaws.{Answers, question_at}
-use Rattle.judge_rules.proofs.JudgedLaws.{told, judged-counts, judged-answer}
-use Rattle.judge_rules.proofs.KnownLaws.{judged-rows-known}
+use Rattle.judge_rules.proofs.JudgedLaws.{told, judged-counts, judged-answer, judged-store}
+use Rattle.judge_rules.proofs.KnownLaws.{judged-rows-known, judged-answers-known}
 use Rattle.judge_rules.specs.Given.{checked_row, Gives}
 use Rattle.judge_rules.proofs.RowExactly.{row_has, row-exactly, row-infers, row-infers-exactly, row-refused-for, row-refused-exactly, row-panics-for, row-panics-exactly}
+use Rattle.judge_rules.proofs.QuestionTheorems.{MatchFrom, match-kind}
+use Rattle.judge_rules.proofs.AskedTheorems.{asked-barred, asked-unassigned, asked-answered}
 use Rattle.judge_rules.proofs.TwoRoutes.{two-routes}
 use Rattle.judge_rules.proofs.KeptRows.{kept-rows}
 use Rattle.judge_rules.proofs.SameRows.{same-number, same-limit}
@@ -194,6 +198,50 @@ judge-answers {s} {l} {b} {p} {rw} {an} j {h} q k low =
           (subst (λ (c : ℕ). Answers st c (question_at h.questions k)) (sym (answer-here j e k low))
           (judged-answer smt_lib s l h st rows answers e k low)),
     )
+
+-- QUESTIONS 1 AND 3 ON THE BYTES (`asked-barred`, `asked-unassigned`, `asked-answered`): with gs the given pairs, none for a question 1, an answer
+-- is 28 exactly outside matching's premise, 29 exactly on it where no assignment keeps the given pairs and turns pattern into target, and
+-- where it is not 22 or 23, it names the sort a exactly where a is the result after Substitution by the one such assignment that binds given
+-- names and variables of the pattern only (`Spares`).
+module _ {s : List ℕ} {l : Lengths} {b p rw an : List ℕ} {o : Outcome} (j : JudgeIs s l b p rw an o) {h : Sheet} {x : ℕ} (q : read_sheet s l ≡ got h x)
+    (k : ℕ) (low : k < length h.questions) (gs : List Binding) (f : MatchFrom (question_at h.questions k) gs) where
+  abbrev asked : QuestionFields
+  asked = question_at h.questions k
+
+  pub judge-barred : get_or an k 0 ≡ number_of Barred * 65536 ↔ (Premise asked.names gs (pattern_of asked) (target_of asked) → ⊥)
+  unfolding judged
+  judge-barred =
+      let (st, rows, answers, e) = judgement s l q in
+      subst (λ (c : ℕ). c ≡ number_of Barred * 65536 ↔ (Premise asked.names gs (pattern_of asked) (target_of asked) → ⊥)) (sym (answer-here j e k low))
+      (asked-barred smt_lib s l h st rows answers e k low gs f)
+
+  pub judge-unassigned : get_or an k 0 ≡ number_of NoAssignment * 65536
+      ↔ Premise asked.names gs (pattern_of asked) (target_of asked) × ((θ : Map) → Turns asked.names gs (pattern_of asked) (target_of asked) θ → ⊥)
+  unfolding judged
+  judge-unassigned =
+      let (st, rows, answers, e) = judgement s l q in
+      subst (λ (c : ℕ). c ≡ number_of NoAssignment * 65536 ↔ Premise asked.names gs (pattern_of asked) (target_of asked) × ((θ : Map) → Turns asked.names gs (pattern_of asked) (target_of asked) θ → ⊥))
+      (sym (answer-here j e k low))
+      (asked-unassigned smt_lib s l h st rows answers e k low gs f)
+
+  pub judge-answered : limited (get_or an k 0) ≡ false → (a : Sort)
+      → (get_or an k 0 < 65536) × (sort_at b p (suc (get_or an k 0)) (get_or an k 0) ≡ a)
+      ↔ Premise asked.names gs (pattern_of asked) (target_of asked) × ((θ : Map) × Turns asked.names gs (pattern_of asked) (target_of asked) θ × Spares gs (pattern_of asked) θ × (apply θ (result_of asked) ≡ a))
+  unfolding judged
+  judge-answered n a =
+      let (st, rows, answers, e) = judgement s l q in
+      let c = get_or answers k 0 in
+      let same = answer-here j e k low in
+      let few = room-few l.records l.places st (judged-store smt_lib s l h st rows answers e).3 in
+      let (there, back) = asked-answered smt_lib s l h st rows answers e k low gs f (subst (λ (i : ℕ). limited i ≡ false) same n) a in (
+        λ g.
+            let d = subst (λ (i : ℕ). (i < 65536) × (sort_at b p (suc i) i ≡ a)) same g in
+            let known : c < length st = judged-answers-known smt_lib s l h st rows answers e k low (match-kind (question_at h.questions k) gs f) d.0 in
+            there (known, sym (sort-here j e c known) ∙ d.1),
+        λ g.
+            let m = back g in
+            subst (λ (i : ℕ). (i < 65536) × (sort_at b p (suc i) i ≡ a)) (sym same) (omega (arith, m.0, few), sort-here j e c m.0 ∙ m.1),
+      )
 
 -- DEMAND 3 ON THE BYTES (`two-routes`): for any two calls of `judge`, with bytes A and B that are read as the sheets h_a and h_b, so that it
 -- accepts both; any term t of A, and t' of B whose tree is that of t with its sort variables replaced by σ; where σ's images hold no

@@ -4,7 +4,7 @@ use Rattle.std.proofs.Common.{◌+◌, ◌*◌, ◌≡◌, arith, ap, refl}
 use Rattle.record.specs.Kinds.{question_number}
 use Rattle.row_answer.specs.Answer.{answer}
 use Rattle.row_answer.specs.AnswerLaws.{answer-code}
-use Rattle.questions.proofs.WordLaws.{pair-asked, answered-0, answered-1, answered-2}
+use Rattle.questions.proofs.WordLaws.{pair-asked, answered-0, answered-matched, answered-2}
 use Rattle.questions.proofs.answer_question.Goals as goal
 
 pub sort_at-p-requires : goal.sort_at-p-requires
@@ -32,7 +32,7 @@ pub returns-in-Match-clause-answer : goal.returns-in-Match-clause-answer
 returns-in-Match-clause-answer c =
     let t = c.answer_match.new.store in
     let y = c.answer_match.new.names in
-    answered-1 c.requires t.records.now t.places.now t.index.now y.params.now y.images.now y.bound.now (record { code = c.code.ensures; count = refl; used = refl }) (ap question_number c.in-Match.is) c.answer_match.ensures.answer
+    answered-matched c.requires t.records.now t.places.now t.index.now y.params.now y.images.now y.bound.now (record { code = c.code.ensures; count = refl; used = refl }) c.in-Match.is c.answer_match.ensures.answer
 
 pub code-requires-in-Apply : goal.code-requires-in-Apply
 code-requires-in-Apply c = answer-code _ _ _ _ _ _ _ (answer c.answer_apply.new.store c.answer_apply.result) c.answer_apply.ensures.answer.0.answer
