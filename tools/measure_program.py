@@ -16,7 +16,8 @@ import sys
 import tempfile
 
 from sheets import (
-    APP, APPLY, ARRAY, BINDER, BITS, BV, FUN, INTEGER, LEAF, MATCH, OP, PAR, SET, TUPLE, TVAR, VAR, equal_hashes, sheet
+    APP, APPLY, ARRAY, BINDER, BITS, BV, CONTINUE, FUN, INTEGER, LEAF, MATCH, OP, PAR, SET, TUPLE, TVAR, VAR, equal_hashes,
+    sheet
 )
 
 
@@ -243,6 +244,56 @@ def matches():
     return sheet(sorts, [INTEGER(0)], [MATCH(pattern, target, pattern, [1])] * 1024)
 
 
+def greatest(sorts, count):
+    """Appends so many sorts of 4,096 nodes, and gives their numbers. Nearly all nodes are one variable, and the part that all share is the last one at every
+    level, so that it is walked from each."""
+    sorts.append(VAR(200))
+    leaf = top = len(sorts) - 1
+    for leaves in [63] * 63 + [60]:
+        sorts.append(TUPLE(*[leaf] * leaves, top))
+        top = len(sorts) - 1
+    roots = []
+    for i in range(count):
+        sorts += [BV(1 + i), ARRAY(len(sorts), top)]
+        roots.append(len(sorts) - 1)
+    return roots
+
+
+def given():
+    """140 questions in which 64 such sorts are given for parameters that the pattern lacks: each is tested for each question."""
+    sorts = [LEAF(4), VAR(1)]
+    roots = greatest(sorts, 64)
+    pairs = list(enumerate(roots, 1))
+    return sheet(sorts, [INTEGER(0)], [CONTINUE(0, 0, 1, pairs, range(1, 65))] * 140)
+
+
+def given_variables():
+    """120 questions to match a pattern of 4,096 nodes, nearly all of them 64 parameters that are given, and to replace in it."""
+    sorts = [LEAF(4)] + [VAR(i) for i in range(1, 65)] + [BV(i) for i in range(1, 65)]
+    rows = [[first + (i + j) % 64 for j in range(64)] for first in (1, 65) for i in range(63)]
+    sorts += [TUPLE(*row) for row in rows] + [TUPLE(*range(129 + i, 129 + i + 63)) for i in (0, 63)]
+    pattern, target = len(sorts) - 2, len(sorts) - 1
+    pairs = [(i, 64 + i) for i in range(1, 65)]
+    return sheet(sorts, [INTEGER(0)], [CONTINUE(pattern, target, pattern, pairs, range(1, 65))] * 120)
+
+
+def given_matches():
+    """The questions of `matches`, with what is found given, and such a sort of 4,096 nodes for another parameter."""
+    sorts = [LEAF(4), LEAF(3), VAR(1)]
+    pattern, target = over(sorts, 2, 980), over(sorts, 1, 980)
+    root, = greatest(sorts, 1)
+    return sheet(sorts, [INTEGER(0)], [CONTINUE(pattern, target, pattern, [(2, root), (1, 1)], [1, 2])] * 1024)
+
+
+def given_full():
+    """1,024 questions whose answer, a chain over what is given, has no room in the store; such a sort is given too."""
+    sorts = [LEAF(4), VAR(1)]
+    root, = greatest(sorts, 1)
+    top = over(sorts, 1, 2048 - len(sorts))
+    terms = [BITS(1000 + i) for i in range(200)]
+    return sheet(sorts, terms, [CONTINUE(0, 0, top, [(1, 0), (2, root)], [1, 2])] * 1024)
+
+
 def names():
     """Apps of 20 heads and 180 arguments that replace below 250 Pars of 64 names."""
     sorts = [LEAF(4), VAR(1), VAR(2), PAR(range(100, 164), 1)]
@@ -315,7 +366,8 @@ def alike_in_turns(programs, data, runs):
 CASES = [(mixed, 256), (mixed, 4096), (deep, 256), (deep, 4096), (wide, 4096), (long, 256)]
 LONGEST = [(mixed, 4096), (deep, 4096), (sets, 4096), (wide, 4096), (both, 4096), (sunk, 256), (long, 256), (long, 4096)]
 PAGE = 60 * 81
-WORST = [own, turns_and_questions, turns, unlike, equal, too_large, binders, matches, variables, unassigned, misfit, names, again, read]
+WORST = [own, turns_and_questions, turns, unlike, equal, too_large, binders, matches, variables, unassigned, misfit, names, again, read,
+         given, given_variables, given_matches, given_full]
 
 
 def write(folder):

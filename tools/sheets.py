@@ -41,6 +41,7 @@ BINDER = lambda k, pairs, b: bytes([53, 8]) + struct.pack("<I", k) + items([b]) 
 # questions
 COMPATIBLE = lambda a, b: bytes([17, 0]) + items([a, b])
 MATCH = lambda p, t, r, names: bytes([81, 1]) + items([p, t, r]) + items(names)
+CONTINUE = lambda p, t, r, given, names: bytes([113, 3]) + items([p, t, r]) + bytes([len(given)]) + b"".join(u16(n) + u16(s) for n, s in given) + items(names)
 APPLY = lambda s, names, images: bytes([81, 2]) + items([s] + images) + items(names)
 
 

@@ -75,6 +75,14 @@ fn cases() -> Vec<Case> {
         ("1,024 questions: compatible", special::questions(Asked::Compatible)),
         ("1,024 questions: match", special::questions(Asked::Match)),
         ("1,024 questions: apply", special::questions(Asked::Apply)),
+        ("1,024 questions: continue, none of two given", special::questions(Asked::Continue(0))),
+        ("1,024 questions: continue, one of two given", special::questions(Asked::Continue(1))),
+        ("1,024 questions: continue, both given", special::questions(Asked::Continue(2))),
+        ("refused: 1,024 questions: continue, another sort given", special::questions(Asked::Refused)),
+        ("150 questions: continue, none of 64 given", special::many_given(0)),
+        ("150 questions: continue, 32 of 64 given", special::many_given(32)),
+        ("150 questions: continue, all 64 given", special::many_given(64)),
+        ("worst: 140 questions: continue, 64 sorts of 4,096 nodes given", special::great_given()),
         ("worst: 2,000 heads match 4,033 nodes", special::great_match()),
         ("worst: 2,000 heads give 4,033 nodes", special::great_result()),
         ("worst: 2,000 heads match and give 2,017 nodes", special::great_both()),
@@ -137,7 +145,7 @@ fn pool(case: &Case) -> Side<'_> {
     Box::new(move || decoded.iter().map(Decoded::infer).sum())
 }
 
-/// Compares on the sheets of a case, of which no term and no answer may be refused.
+/// Compares on the sheets of a case, of which no term may be refused, and no answer but of one whose name says so.
 fn compared(case: &Case) {
     let mut trial = Trial::default();
     for sheet in &case.sheets {
@@ -145,7 +153,8 @@ fn compared(case: &Case) {
     }
     let terms = trial.inferred.iter().sum();
     assert_eq!((trial.inferred[0], trial.sheets[0]), (terms, case.sheets.len()), "{}: refused", case.name);
-    assert_eq!(trial.answers[0], trial.answers.iter().sum(), "{}: an answer is refused", case.name);
+    let given = if case.name.starts_with("refused") { 0 } else { trial.answers.iter().sum() };
+    assert_eq!(trial.answers[0], given, "{}: an answer is refused, or none is", case.name);
 }
 
 /// A time in microseconds.

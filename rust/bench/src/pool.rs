@@ -46,19 +46,19 @@ impl Decoded {
             rows.push(pool.sort(&built));
             terms.push(Some(built));
         }
-        let mut yes = 0_usize;
+        let mut others = 0_usize;
         for record in &self.sheet.questions {
             match self.answer(record, &sorts, &mut pool) {
-                None => yes += 1,
+                None => others += 1,
                 Some(sort) => rows.push(sort),
             }
         }
         let took = start.elapsed();
-        black_box((rows, yes));
+        black_box((rows, others));
         took
     }
 
-    /// The answer to a question; nothing for one that is answered by yes or no.
+    /// The answer to a question; nothing for one that is answered by yes or no, or whose pattern does not match.
     fn answer(&self, record: &Record, sorts: &[Rc<Sort>], pool: &mut Pool) -> Option<Rc<Sort>> {
         let list: Vec<Rc<Sort>> = numbered(&record.list, sorts).collect();
         let names = || record.second.iter().map(|number| self.names[usize::from(*number)].clone());
@@ -68,9 +68,14 @@ impl Decoded {
                 black_box(list[0].is_compatible(&list[1]));
                 return None;
             }
-            1 => {
+            1 | 3 => {
                 let names: Vec<String> = names().collect();
-                assert!(list[0].match_with(&names, &list[1], &mut map), "every pattern matches");
+                for (name, sort) in &record.pairs {
+                    map.insert(self.names[usize::from(*name)].clone(), sorts[usize::from(*sort)].clone());
+                }
+                if !list[0].match_with(&names, &list[1], &mut map) {
+                    return None;
+                }
                 &list[2]
             }
             _ => {

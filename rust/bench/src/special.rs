@@ -180,6 +180,10 @@ pub enum Asked {
     Match,
     /// Substitution.
     Apply,
+    /// Matching with sorts given for the first so many names.
+    Continue(usize),
+    /// The same with another sort given for both, so that there is no assignment.
+    Refused,
 }
 
 /// 1,024 questions of a kind about trees of 95 nodes over two names and what they become by some images.
@@ -200,21 +204,73 @@ pub fn questions(asked: Asked) -> Vec<u8> {
         let mut targets = Vec::new();
         for one in &images {
             for two in &images[..2] {
-                targets.push(tree(&mut make, mark, [*one, *two]));
+                targets.push((tree(&mut make, mark, [*one, *two]), [*one, *two]));
             }
         }
         patterns.push((pattern, targets));
     }
     for _ in 0..1_024 {
         let (pattern, targets) = make.random.of(&patterns).clone();
-        let target = *make.random.of(&targets);
+        let (target, found) = *make.random.of(&targets);
         let (result, _) = make.random.of(&patterns).clone();
         let map = names.map(|name| (name, *make.random.of(&images)));
+        let given = [(names[0], found[0]), (names[1], found[1])];
+        let other = names.map(|name| (name, target));
         let question = match asked {
             Asked::Compatible => QuestionRecord::Compatible(pattern, target),
             Asked::Match => QuestionRecord::Match { pattern, target, result, names: &names },
             Asked::Apply => QuestionRecord::Apply { sort: pattern, map: &map },
+            Asked::Continue(count) => {
+                QuestionRecord::Continue { pattern, target, result, given: &given[..count], names: &names }
+            }
+            Asked::Refused => QuestionRecord::Continue { pattern, target, result, given: &other, names: &names },
         };
+        make.sheet.add_question(question).expect("a question within the limits");
+    }
+    make.sheet.finish().into_bytes()
+}
+
+/// 150 questions to match a tuple of 64 parameters with one of 64 sorts, in which the first so many are given, and to replace in it.
+pub fn many_given(count: usize) -> Vec<u8> {
+    let mut make = Make::new(0, SEED);
+    let names: Vec<Name> = (1..=64).map(Name::new).collect();
+    let variables: Vec<SortId> = names.iter().map(|name| make.sort(SortRecord::Var(*name))).collect();
+    let pattern = make.sort(SortRecord::Tuple(&variables));
+    let leaves: Vec<SortId> = (1..=16).map(|width| make.sort(SortRecord::BitVec(width))).collect();
+    let mut targets = Vec::new();
+    for _ in 0..16 {
+        let images: Vec<SortId> = names.iter().map(|_| *make.random.of(&leaves)).collect();
+        targets.push((make.sort(SortRecord::Tuple(&images)), images));
+    }
+    for _ in 0..150 {
+        let (target, images) = make.random.of(&targets).clone();
+        let given: Vec<(Name, SortId)> = names.iter().copied().zip(images).take(count).collect();
+        let question = QuestionRecord::Continue { pattern, target, result: pattern, given: &given, names: &names };
+        make.sheet.add_question(question).expect("a question within the limits");
+    }
+    make.sheet.finish().into_bytes()
+}
+
+/// 140 questions in which 64 sorts are given for parameters that the pattern lacks, each of 4,096 nodes, nearly all of them in a part that all share.
+pub fn great_given() -> Vec<u8> {
+    let (mut make, variable, int) = begun();
+    let names: Vec<Name> = (1..=64).map(Name::new).collect();
+    let other = make.sort(SortRecord::Var(Name::new(200)));
+    // The part below is the last one at every level: 63 levels of 64 nodes, and one of 61.
+    let mut great = other;
+    for leaves in [vec![63; 63], vec![60]].concat() {
+        let mut parts = vec![other; leaves];
+        parts.push(great);
+        great = make.sort(SortRecord::Tuple(&parts));
+    }
+    let mut given = Vec::new();
+    for (name, width) in names.iter().zip(1..) {
+        let width = make.sort(SortRecord::BitVec(width));
+        given.push((*name, make.sort(SortRecord::Array(width, great))));
+    }
+    for _ in 0..140 {
+        let question =
+            QuestionRecord::Continue { pattern: int, target: int, result: variable, given: &given, names: &names };
         make.sheet.add_question(question).expect("a question within the limits");
     }
     make.sheet.finish().into_bytes()

@@ -171,8 +171,8 @@ fn explain(arguments: &[String]) -> ExitCode {
 }
 
 /// A random sheet: one in 500 fills the store, one in 500 its bytes, one in 50 has great sorts, one in 50 sorts past the limit and a wrong tree
-/// size, one in 20 applications that were there before, one in 10 is about numbers, one in 10 about sets and relations. In three of ten tree sizes are
-/// written, and a wrong one in one of ten.
+/// size, one in 20 applications that were there before, one in 10 is about numbers, one in 10 about sets and relations, one in 10 about matching. In
+/// three of ten tree sizes are written, and a wrong one in one of ten.
 fn random_sheet(random: &mut Random, at: u64) -> Vec<u8> {
     let sheet = match at % 500 {
         0 => make::crowded(random),
@@ -182,6 +182,7 @@ fn random_sheet(random: &mut Random, at: u64) -> Vec<u8> {
         by if by % 20 == 2 => make::repeated(random),
         by if by % 10 == 7 => make::numbers(random),
         by if by % 10 == 4 => make::relations(random),
+        by if by % 10 == 9 => make::continued(random),
         _ => make::sheet(random),
     };
     match random.under(10) {

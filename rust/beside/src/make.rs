@@ -43,6 +43,12 @@ pub fn sheet(random: &mut Random) -> Vec<u8> {
     for _ in 0..maker.random.under(8) {
         maker.question();
     }
+    // By numbers of their own, so that all else of a seed is as it was before there were such questions.
+    let mut apart = maker.random.clone();
+    let mut maker = Maker { random: &mut apart, ..maker };
+    for _ in 0..maker.random.under(16).saturating_sub(10) {
+        maker.continued();
+    }
     maker.sheet.finish().into_bytes()
 }
 
@@ -74,9 +80,17 @@ pub fn crowded(random: &mut Random) -> Vec<u8> {
             false => *random.of(&deep),
         };
         let sort = *random.of(&deep);
-        let question = match random.under(4) {
+        let given = &[(Name::new(2), image), (name, image)];
+        let question = match random.under(5) {
             0 => QuestionRecord::Match { pattern: top, target: top, result: sort, names: &[] },
             1 => QuestionRecord::Compatible(sort, image),
+            2 => QuestionRecord::Continue {
+                pattern: int,
+                target: int,
+                result: sort,
+                given: &given[..1 + random.under(2)],
+                names: &[name, Name::new(2)],
+            },
             _ => QuestionRecord::Apply { sort, map: &[(name, image)] },
         };
         sheet.add_question(question).expect("under the limits");
@@ -178,9 +192,23 @@ fn up_to(random: &mut Random, most: usize) -> Vec<u8> {
     }
     for _ in 0..10 {
         let [sort, image, third] = [0; 3].map(|_| random.of(&sorts).0);
-        let question = match random.under(4) {
+        let question = match random.under(6) {
             0 => QuestionRecord::Match { pattern: var, target: int, result: sort, names: &[name] },
             1 => QuestionRecord::Match { pattern: sort, target: image, result: third, names: &[] },
+            2 => QuestionRecord::Continue {
+                pattern: var,
+                target: int,
+                result: sort,
+                given: &[(name, int)],
+                names: &[name],
+            },
+            3 => QuestionRecord::Continue {
+                pattern: sort,
+                target: sort,
+                result: third,
+                given: &[(Name::new(2), image)],
+                names: &[Name::new(2)],
+            },
             _ => QuestionRecord::Apply { sort, map: &[(name, image)] },
         };
         sheet.add_question(question).expect("under the limits");
@@ -245,6 +273,11 @@ pub fn numbers(random: &mut Random) -> Vec<u8> {
 /// A sheet about sets and relations.
 pub fn relations(random: &mut Random) -> Vec<u8> {
     compare::relations::sheet(&mut |bound| random.under(bound))
+}
+
+/// A sheet about matching, with names given or not.
+pub fn continued(random: &mut Random) -> Vec<u8> {
+    compare::continued::sheet(&mut |bound| random.under(bound))
 }
 
 /// A copy of a sheet with something changed.
@@ -798,6 +831,36 @@ impl Maker<'_> {
                 let _ = self.sheet.add_question(QuestionRecord::Apply { sort: one, map: &map });
             }
         }
+    }
+
+    /// Adds a question to match a pattern with what it mostly becomes, some names being given: mostly as they are there, now and then names that may
+    /// not be given, which the writer refuses.
+    fn continued(&mut self) {
+        let (pattern, sort) = self.random.of(&self.sorts).clone();
+        let other = self.random.of(&self.sorts).0;
+        let names = self.names(4);
+        let mut map = self.map();
+        map.retain(|name, _| names.contains(name));
+        let target = match self.random.percent(80) {
+            true => self.add_sort(&replaced(&sort, &map)).unwrap_or(other),
+            false => other,
+        };
+        let mut given = Vec::new();
+        for name in &names {
+            if self.random.percent(50) {
+                let image = match (map.get(name), self.random.percent(85)) {
+                    (Some(image), true) => self.add_sort(&image.clone()).unwrap_or(other),
+                    _ => self.random.of(&self.sorts).0,
+                };
+                given.push((*name, image));
+            }
+        }
+        if self.random.percent(4) {
+            given.push((self.name(), other));
+        }
+        let result = self.random.of(&self.sorts).0;
+        let question = QuestionRecord::Continue { pattern, target, result, given: &given, names: &names };
+        let _ = self.sheet.add_question(question);
     }
 
     /// Images for all names but the highest, mostly without variables.

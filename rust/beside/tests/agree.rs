@@ -82,6 +82,13 @@ fn sets_and_relations() {
 }
 
 #[test]
+fn matching_that_continues() {
+    let trial = tried(63, 400, 2, make::continued);
+    assert!([0, 28, 29].iter().all(|number| trial.answers[*number] > 100));
+    assert!(trial.answers[22] > 0 && trial.lent_rows[23] > 10 && trial.sheets[5] > 10);
+}
+
+#[test]
 fn sorts_past_the_limit_with_sizes() {
     let trial = tried(9, 60, 1, make::over);
     assert!(trial.sheets[9] > 10 && trial.sheets[34] > 10);

@@ -5,6 +5,7 @@
 //! - [`random`]: random sheets, some of them broken;
 //! - [`numbers`]: random sheets about numbers, Int and Real beside each other;
 //! - [`relations`]: random sheets about sets and relations;
+//! - [`continued`]: random sheets about matching, with names given or not;
 //! - [`sizes`]: writes tree sizes into the sort records of a sheet;
 //! - [`vectors`]: writes sheets with what they must give.
 //!
@@ -12,6 +13,7 @@
 //! program in the whole printout, and the model and the program of pages in all pages.
 
 mod choice;
+pub mod continued;
 pub mod numbers;
 pub mod random;
 pub mod relations;

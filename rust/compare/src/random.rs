@@ -1,8 +1,8 @@
 //! Random sheets: general ones, ones about parametric functions and matching, some of both with tree sizes written, broken ones, one in ten
-//! about numbers, and one in ten about sets and relations.
+//! about numbers, one in ten about sets and relations, and one in ten about matching.
 
 use crate::writer::{Fields, Writer};
-use crate::{numbers, relations, sizes};
+use crate::{continued, numbers, relations, sizes};
 use model::reader::{self, Lent};
 
 /// A source of random numbers (splitmix64).
@@ -98,6 +98,10 @@ pub fn sheet(source: &mut Source) -> Vec<u8> {
         27..37 => {
             let mut apart = source.clone();
             bytes = relations::sheet(&mut |bound| apart.under(bound));
+        }
+        37..47 => {
+            let mut apart = source.clone();
+            bytes = continued::sheet(&mut |bound| apart.under(bound));
         }
         _ => (),
     }

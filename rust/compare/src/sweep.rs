@@ -274,6 +274,37 @@ fn limits() -> Vec<u8> {
     w.bytes()
 }
 
+/// A sheet of questions to match: each of some patterns at each of some targets, with each of some sorts given for neither, either or both of
+/// its parameters.
+fn continued() -> Vec<u8> {
+    let mut w = Writer::default();
+    let [bool, int] = [Kind::Bool, Kind::Int].map(|kind| w.plain(kind as u8));
+    let [n1, n2] = [1, 2].map(|name| w.variable(name));
+    let [pair, other] = [[n1, n2], [int, bool]].map(|list| w.parts(Kind::Array as u8, &list));
+    let set = w.parts(Kind::Set as u8, &[n1]);
+    let function = w.parts(Kind::Function as u8, &[n1, n2]);
+    let result = w.par(function, &[1, 2]);
+    let unknown = w.plain(Kind::ParamBitVec as u8);
+    let none: Vec<(u16, u16)> = Vec::new();
+    let of_first = [int, bool, n1, n2, set, result, unknown].map(|sort| vec![(1, sort)]);
+    let of_second = [int, bool, n1].map(|sort| vec![(2, sort)]);
+    let of_both = [[int, int], [int, bool], [bool, int], [n2, int]].map(|[one, two]| vec![(2, two), (1, one)]);
+    let given: Vec<_> = [none].into_iter().chain(of_first).chain(of_second).chain(of_both).collect();
+    for pattern in [int, n1, pair, set, n2] {
+        for target in [int, bool, other, n2, pair] {
+            for names in [[1].as_slice(), &[1, 2]] {
+                let stand = given.iter().filter(|pairs| pairs.iter().all(|(name, _)| names.contains(name)));
+                for pairs in stand {
+                    let list = [pattern, target, result];
+                    let (list, pairs, second) = (Some(list.as_slice()), Some(pairs.as_slice()), Some(names));
+                    w.question(Fields { kind: 3, list, pairs, second, ..Fields::default() });
+                }
+            }
+        }
+    }
+    w.bytes()
+}
+
 /// Gives a function all sheets of the sweep, one after the other.
 pub fn sheets(give: &mut dyn FnMut(&[u8])) {
     give(&relations());
@@ -334,4 +365,5 @@ pub fn sheets(give: &mut dyn FnMut(&[u8])) {
         add(Fields { kind: 10, list: Some(list), ..Fields::default() });
     }
     give(&writer.bytes());
+    give(&continued());
 }

@@ -111,7 +111,10 @@ impl<W: Write> Report<'_, W> {
 /// Why a question has no answer. Of [`Cause::Barred`] only what can be true of a question.
 fn why_no_answer(cause: Cause) -> &'static str {
     match cause {
-        Cause::Barred => "pattern or target holds a par or a bit vector of unknown width, or the target a listed name",
+        Cause::Barred => {
+            "pattern, target or a given sort holds a par or a bit vector of unknown width, \
+                or the target or a given sort a listed name"
+        }
         other => other.meaning(),
     }
 }

@@ -162,6 +162,24 @@ fn only_what_is_refused() {
 }
 
 #[test]
+fn questions_that_continue() {
+    // Int, 'n1 and Bool; 'n1 against Int, with n1 given as Int, as Bool and as 'n1.
+    let ask = |given: &str| format!("71 03 03 01 00 00 00 01 00 01 01 00 {given} 01 01 00 ");
+    let sheet =
+        "03 00 00 00 03 00 01 04 03 02 01 00 01 03 ".to_owned() + &["00 00", "02 00", "01 00"].map(ask).concat();
+    let barred = "pattern, target or a given sort holds a par or a bit vector of unknown width, \
+        or the target or a given sort a listed name";
+    let unassigned = "no assignment that keeps what is given turns the pattern into the target";
+    let text = format!("Q0 Int\nQ1 !29\n  {unassigned} (!29)\nQ2 !28\n  {barred} (!28)\n");
+    assert_eq!(said(&run(&[], &recorded::bytes(&sheet))), (text, Some(0)));
+    // A given name that is no parameter.
+    let sheet = "01 00 00 00 01 00 01 04 71 03 03 00 00 00 00 00 00 01 01 00 00 00 01 02 00";
+    let words =
+        "a list length, a number or a name list is outside what its kind takes: question 0, which starts at byte 8";
+    assert_eq!(said(&run(&[], &recorded::bytes(sheet))), (format!("!5\n  {words}\n"), Some(2)));
+}
+
+#[test]
 fn refused_sheets_say_why_and_where() {
     let why = |hex: &str| said(&run(&[], &recorded::bytes(hex)));
     let told = |number: u32, words: &str| (format!("!{number}\n  {words}\n"), Some(2));

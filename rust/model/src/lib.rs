@@ -52,7 +52,7 @@ pub enum Cause {
     Unfit = 26,
     /// The result keeps an unassigned parameter.
     Unassigned = 27,
-    /// A sort holds what it may not hold, or question 1 is outside matching's premise.
+    /// A sort holds what it may not hold, or a question to match is outside matching's premise.
     Held = 28,
     /// There is no assignment.
     Unmatched = 29,

@@ -18,7 +18,7 @@ pub fn answer(question: &Question) -> Answer {
     let list = &question.list;
     match question.kind {
         0 => Answer::Compatible(substitution::compatible(&list[0], &list[1])),
-        1 => Answer::Row(matched(&list[0], &list[1], &list[2], &question.names)),
+        1 | 3 => Answer::Row(matched(question)),
         _ => {
             let images = list[1..].iter().cloned();
             let map: Map = question.names.iter().copied().zip(images).collect();
@@ -27,15 +27,18 @@ pub fn answer(question: &Question) -> Answer {
     }
 }
 
-/// The result after Substitution by the assignment that turns the pattern into the target.
-fn matched(pattern: &Tree, target: &Tree, result: &Tree, names: &[u16]) -> Result<Tree, Cause> {
+/// The result after Substitution by the assignment that keeps what is given and turns the pattern into the target. It has the given names even
+/// where the pattern lacks them; nothing is given by question 1.
+fn matched(question: &Question) -> Result<Tree, Cause> {
+    let (pattern, target, result) = (&question.list[0], &question.list[1], &question.list[2]);
     let outside = |sort: &Sort| matches!(sort.kind, Kind::Par | Kind::ParamBitVec);
-    let listed = |sort: &Sort| sort.kind == Kind::Var && names.contains(&sort.name);
-    if pattern.holds(&outside) || target.holds(&outside) || target.holds(&listed) {
+    let listed = |sort: &Sort| sort.kind == Kind::Var && question.names.contains(&sort.name);
+    let barred = |sort: &Tree| sort.holds(&outside) || sort.holds(&listed);
+    if pattern.holds(&outside) || barred(target) || question.given.iter().any(|(_, sort)| barred(sort)) {
         return Err(Cause::Held);
     }
-    let mut assignment = Map::new();
-    if !substitution::assign(pattern, target, names, &mut assignment) {
+    let mut assignment: Map = question.given.iter().cloned().collect();
+    if !substitution::assign(pattern, target, &question.names, &mut assignment) {
         return Err(Cause::Unmatched);
     }
     Ok(substitution::apply(&assignment, result))

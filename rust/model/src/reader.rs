@@ -21,7 +21,7 @@ pub enum Refusal {
     Past = 3,
     /// The lowest bit of the map is missing, the kind is unknown, or the map is not the kind's.
     Map = 4,
-    /// A list's length, a number or a list of names is not as it must be.
+    /// A list's length, a number or a list of names is not as it must be, or given names do not fit the parameters.
     Field = 5,
     /// A reference is not to an earlier record.
     Reference = 6,
@@ -74,6 +74,8 @@ pub struct Question {
     pub kind: u8,
     /// The sorts in the list.
     pub list: Vec<Tree>,
+    /// The given names with their sorts.
+    pub given: Vec<(u16, Tree)>,
     /// The names.
     pub names: Vec<u16>,
 }
@@ -94,7 +96,7 @@ pub const SORT_MAPS: [u8; 16] = [17, 19, 3, 1, 1, 1, 1, 1, 17, 5, 1, 19, 81, 1, 
 const TERM_MAPS: [u8; 13] = [5, 1, 1, 1, 5, 11, 17, 21, 53, 81, 17, 85, 29];
 
 /// The map of each kind of question.
-const QUESTION_MAPS: [u8; 3] = [17, 81, 81];
+const QUESTION_MAPS: [u8; 4] = [17, 81, 81, 113];
 
 /// The bits of a map, in the order of the fields.
 pub mod field {
@@ -158,19 +160,16 @@ impl<'a> Cursor<'a> {
     /// A list of distinct names.
     fn distinct(&mut self, allowed: impl Fn(usize) -> bool) -> Result<Vec<u16>, Refusal> {
         let names = self.list(allowed)?;
-        let mut sorted = names.clone();
-        sorted.sort_unstable();
-        sorted.dedup();
-        expect(sorted.len() == names.len(), Refusal::Field)?;
+        expect(all_distinct(&names), Refusal::Field)?;
         Ok(names)
     }
 
-    /// The sorts of a list of pairs; every one under a bound.
-    fn pairs(&mut self, bound: usize) -> Result<Vec<usize>, Refusal> {
+    /// A list of pairs, of a name and a sort's number each; every number under a bound.
+    fn pairs(&mut self, bound: usize) -> Result<Vec<(u16, usize)>, Refusal> {
         let count = usize::from(self.byte()?);
         let bytes = self.take(4 * count)?;
         expect(count <= LONGEST, Refusal::Field)?;
-        shorts(bytes).chunks(2).map(|pair| reference(pair[1], bound)).collect()
+        shorts(bytes).chunks(2).map(|pair| Ok((pair[0], reference(pair[1], bound)?))).collect()
     }
 
     /// A number up to a greatest one.
@@ -193,6 +192,14 @@ impl<'a> Cursor<'a> {
 /// Refuses what is not as it must be.
 fn expect(stands: bool, refusal: Refusal) -> Result<(), Refusal> {
     if stands { Ok(()) } else { Err(refusal) }
+}
+
+/// Whether no name stands twice.
+fn all_distinct(names: &[u16]) -> bool {
+    let mut sorted = names.to_vec();
+    sorted.sort_unstable();
+    sorted.dedup();
+    sorted.len() == names.len()
 }
 
 /// Little-endian shorts.
@@ -298,8 +305,8 @@ fn term(cursor: &mut Cursor, own: usize, sorts: &[Tree]) -> Result<Term, Refusal
         term.list = cursor.references(allowed, own)?;
     }
     if map & field::PAIRS != 0 {
-        let numbers = cursor.pairs(sorts.len())?;
-        term.bindings = numbers.into_iter().map(|number| sorts[number].clone()).collect();
+        let pairs = cursor.pairs(sorts.len())?;
+        term.bindings = pairs.into_iter().map(|(_, number)| sorts[number].clone()).collect();
     }
     if map & field::SECOND != 0 {
         if kind == 9 {
@@ -316,14 +323,22 @@ fn question(cursor: &mut Cursor, sorts: &[Tree]) -> Result<Question, Refusal> {
     let (map, kind) = cursor.head(&QUESTION_MAPS, 0)?;
     let allowed = |count| match kind {
         0 => count == 2,
-        1 => count == 3,
+        1 | 3 => count == 3,
         _ => count >= 1,
     };
     let list = cursor.references(allowed, sorts.len())?;
+    let mut pairs = Vec::new();
+    if map & field::PAIRS != 0 {
+        pairs = cursor.pairs(sorts.len())?;
+    }
     let mut names = Vec::new();
     if map & field::SECOND != 0 {
         names = cursor.distinct(|count| kind != 2 || count + 1 == list.len())?;
     }
+    // A given name is a parameter, and is given once.
+    let given: Vec<u16> = pairs.iter().map(|(name, _)| *name).collect();
+    expect(all_distinct(&given) && given.iter().all(|name| names.contains(name)), Refusal::Field)?;
     let list = list.into_iter().map(|number| sorts[number].clone()).collect();
-    Ok(Question { kind, list, names })
+    let given = pairs.into_iter().map(|(name, number)| (name, sorts[number].clone())).collect();
+    Ok(Question { kind, list, given, names })
 }

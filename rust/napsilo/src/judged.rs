@@ -43,6 +43,8 @@ pub enum QuestionKind {
     Match,
     /// What does a sort become by a substitution?
     Apply,
+    /// What does a sort become by a match that keeps what is given?
+    Continue,
 }
 
 impl QuestionKind {
@@ -52,6 +54,7 @@ impl QuestionKind {
             0 => Some(QuestionKind::Compatible),
             1 => Some(QuestionKind::Match),
             2 => Some(QuestionKind::Apply),
+            3 => Some(QuestionKind::Continue),
             _ => None,
         }
     }
@@ -257,7 +260,7 @@ fn decode(sheet: SheetRef<'_>, records: &[u8], places: &[u32], rows: &[u32], ans
     let answers = answers.map(|(word, question)| match (QuestionKind::from_number(question.kind)?, word) {
         (QuestionKind::Compatible, 0 | 1) => Some(Answer::Compatible(*word == 1)),
         (QuestionKind::Compatible, _) => None,
-        (QuestionKind::Match | QuestionKind::Apply, _) => Some(Answer::Sort(sort(*word)?)),
+        (QuestionKind::Match | QuestionKind::Apply | QuestionKind::Continue, _) => Some(Answer::Sort(sort(*word)?)),
     });
     let answers = answers.collect::<Option<_>>()?;
     let (inferred, checked) = (column(0)?, column(1)?);

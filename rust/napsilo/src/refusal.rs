@@ -82,6 +82,6 @@ refusals! {
             of a `set.empty` or `set.universe` no Set";
         Unassigned = 27, "the result keeps an unassigned parameter";
         Barred = 28, "a sort holds what it may not hold here, or a question to match is outside its premise";
-        NoAssignment = 29, "no assignment turns the pattern into the target";
+        NoAssignment = 29, "no assignment that keeps what is given turns the pattern into the target";
     }
 }

@@ -213,6 +213,34 @@ fn questions() {
     assert!(print(&sheet.finish()).ends_with(lines));
 }
 
+/// A match that keeps what is given for some names.
+#[test]
+fn questions_that_continue() {
+    let Start { mut sheet, int, real, bool, .. } = start();
+    let [one, two] = [1, 2].map(|name| sheet.add_sort(SortRecord::Var(n(name))).unwrap());
+    let pattern = sheet.add_sort(SortRecord::Array(one, bool)).unwrap();
+    let target = sheet.add_sort(SortRecord::Array(int, bool)).unwrap();
+    let pair = sheet.add_sort(SortRecord::Tuple(&[one, two])).unwrap();
+    let result = sheet.add_sort(SortRecord::Par(&[n(1), n(2), n(3)], pair)).unwrap();
+    let mut ask = |given| {
+        let question = QuestionRecord::Continue { pattern, target, result, given, names: &[n(2), n(1)] };
+        sheet.add_question(question).unwrap()
+    };
+    // Nothing is given; what the match would find; a name that the pattern lacks; another sort; a parameter; a sort with one.
+    let given: [&[_]; 6] =
+        [&[], &[(n(1), int)], &[(n(2), real)], &[(n(2), real), (n(1), bool)], &[(n(1), two)], &[(n(2), pattern)]];
+    let asked = given.map(&mut ask);
+    let judged = sheet.judge().unwrap();
+    let answer = |question| judged.answer(question).unwrap().sort().unwrap().as_ref().map(|sort| sort.to_string());
+    for question in &asked[..2] {
+        assert_eq!(answer(*question), Ok("(par (n2 n3) (Tuple Int 'n2))".to_owned()));
+    }
+    assert_eq!(answer(asked[2]), Ok("(par (n3) (Tuple Int Real))".to_owned()));
+    assert_eq!(answer(asked[3]), Err(&Cause::NoAssignment));
+    assert_eq!((answer(asked[4]), answer(asked[5])), (Err(&Cause::Barred), Err(&Cause::Barred)));
+    assert!(print(&sheet.finish()).ends_with("\nQ3 !29\nQ4 !28\nQ5 !28\n"));
+}
+
 /// The rule that takes a session for its account; the same sheet as the program's example.
 #[test]
 fn session_for_account() {

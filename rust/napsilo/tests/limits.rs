@@ -45,6 +45,13 @@ fn list(numbers: &[u16]) -> Vec<u8> {
     bytes
 }
 
+/// Pairs of a name and the number of a sort.
+fn pairs(pairs: &[(u16, u16)]) -> Vec<u8> {
+    let count = u8::try_from(pairs.len()).expect("pairs have one byte for their count");
+    let numbers = pairs.iter().flat_map(|(name, sort)| [*name, *sort]);
+    [count].into_iter().chain(numbers.flat_map(u16::to_le_bytes)).collect()
+}
+
 /// The sort of a writer with this number; past its last one that of a copy that has more.
 fn sort_id(writer: &SheetWriter, number: u16) -> SortId {
     let mut copy = writer.clone();
@@ -153,6 +160,17 @@ impl Source {
         names
     }
 
+    /// Some of these names with sorts; now and then one twice, or another name.
+    fn given(&mut self, names: &[u16]) -> Vec<(u16, u16)> {
+        let share = self.random.under(3);
+        let mut given: Vec<u16> = names.iter().copied().filter(|_| self.random.under(2) < share).collect();
+        if !given.is_empty() && self.random.once_in(4) {
+            let at = self.random.under(given.len());
+            given[at] = self.random.of(&[given[0], 65_535]);
+        }
+        given.into_iter().map(|name| (name, self.sort())).collect()
+    }
+
     fn width(&mut self) -> u32 {
         let near = u32::try_from(self.random.under(4)).expect("small");
         let any = [near, GREATEST_WIDTH - 2 + near, u32::MAX];
@@ -231,13 +249,9 @@ impl Source {
             8 => {
                 let op = self.random.of(Binder::ALL);
                 let names = self.names(several.len());
-                let sorts: Vec<u16> = names.iter().map(|_| self.sort()).collect();
-                let pairs: Vec<u16> = names.iter().zip(&sorts).flat_map(|p| [*p.0, *p.1]).collect();
-                let pairs: Vec<u8> = pairs.iter().flat_map(|k| k.to_le_bytes()).collect();
-                let count = u8::try_from(names.len()).expect("under 256");
-                let record = [vec![53, 8], long(u32::from(op.number())), list(&[term]), vec![count], pairs].concat();
-                let bindings = names.iter().zip(&sorts);
-                let bindings: Vec<_> = bindings.map(|(k, s)| (n(*k), sort_id(&before, *s))).collect();
+                let bound: Vec<(u16, u16)> = names.into_iter().map(|name| (name, self.sort())).collect();
+                let record = [vec![53, 8], long(u32::from(op.number())), list(&[term]), pairs(&bound)].concat();
+                let bindings: Vec<_> = bound.iter().map(|(k, s)| (n(*k), sort_id(&before, *s))).collect();
                 let binder = TermRecord::Binder(op, &bindings, own_term);
                 (record, writer.add_term(binder))
             }
@@ -284,7 +298,7 @@ impl Source {
         let [first, second, third] = [one, two, three].map(|number| sort_id(&before, number));
         let length = self.length().min(254);
         let names = self.names(length);
-        let (record, written) = match self.random.under(3) {
+        let (record, written) = match self.random.under(4) {
             0 => (
                 [vec![17, 0], list(&[one, two])].concat(),
                 writer.add_question(QuestionRecord::Compatible(first, second)),
@@ -293,6 +307,15 @@ impl Source {
                 let record = [vec![81, 1], list(&[one, two, three]), list(&names)].concat();
                 let names: Vec<Name> = names.into_iter().map(n).collect();
                 let question = QuestionRecord::Match { pattern: first, target: second, result: third, names: &names };
+                (record, writer.add_question(question))
+            }
+            2 => {
+                let given = self.given(&names);
+                let record = [vec![113, 3], list(&[one, two, three]), pairs(&given), list(&names)].concat();
+                let given: Vec<_> = given.iter().map(|(k, s)| (n(*k), sort_id(&before, *s))).collect();
+                let names: Vec<Name> = names.into_iter().map(n).collect();
+                let (pattern, target, result) = (first, second, third);
+                let question = QuestionRecord::Continue { pattern, target, result, given: &given, names: &names };
                 (record, writer.add_question(question))
             }
             _ => {
@@ -447,6 +470,35 @@ fn lists_past_a_byte() {
     }
     let full = TermRecord::App(one, &[one; 63]);
     assert!(writer.add_term(full).is_ok());
+}
+
+#[test]
+fn given_names() {
+    let mut writer = SheetWriter::new();
+    let int = writer.add_sort(SortRecord::Int).unwrap();
+    let before = writer.finish();
+    let mut ask = |given: &[u16], names: &[u16]| {
+        let given: Vec<_> = given.iter().map(|name| (n(*name), int)).collect();
+        let names: Vec<Name> = names.iter().copied().map(n).collect();
+        let (pattern, target, result) = (int, int, int);
+        let question = QuestionRecord::Continue { pattern, target, result, given: &given, names: &names };
+        writer.add_question(question).map(|_| ())
+    };
+    let all: Vec<u16> = (1..=65).collect();
+    assert_eq!(ask(&[1], &[]), Err(WriteError::NoSuchParameter(n(1))));
+    assert_eq!(ask(&[1, 3], &[2, 1]), Err(WriteError::NoSuchParameter(n(3))));
+    assert_eq!(ask(&[1, 2, 1], &[1, 2]), Err(WriteError::RepeatedName(n(1))));
+    assert_eq!(ask(&[1], &[1, 2, 2]), Err(WriteError::RepeatedName(n(2))));
+    assert_eq!(ask(&all, &all), Err(WriteError::LongList(65)));
+    assert_eq!(ask(&all[1..], &all), Err(WriteError::LongList(65)));
+    for error in [WriteError::NoSuchParameter(n(1)), WriteError::RepeatedName(n(1))] {
+        assert_eq!(error.refusal(), Some(Refusal::Value));
+    }
+    assert_eq!(ask(&[], &[]), Ok(()));
+    assert_eq!(ask(&all[..64], &all[..64]), Ok(()));
+    let sheet = writer.finish();
+    assert_eq!(outcome(&sheet), Ok(()));
+    assert_eq!(sheet.len() - before.len(), 11 + 11 + 64 * 6);
 }
 
 #[test]

@@ -97,6 +97,11 @@ fn every_kind_and_its_text() {
     }
 }
 
+/// Whether a sort stands outside the premise of matching, whatever the parameters are.
+fn outside(sort: &Sort) -> bool {
+    matches!(sort, Sort::Par(..) | Sort::ParamBitVec) || sort.parts().any(|part| outside(part))
+}
+
 /// Sorts that are given as trees come back as they were, as rows and as answers.
 #[test]
 fn random_trees() {
@@ -105,20 +110,27 @@ fn random_trees() {
         let sorts: Vec<Sort> = (0..8).map(|_| random_sort(&mut random, 4)).collect();
         let mut sheet = SheetWriter::new();
         let mut asked = Vec::new();
+        // A name that none of them has.
+        let own = n(8);
+        let var = sheet.add_sort(SortRecord::Var(own)).unwrap();
         for sort in &sorts {
             let id = sheet.sort(sort).unwrap();
             let term = sheet.add_term(TermRecord::Var(n(1), id)).unwrap();
             let same = QuestionRecord::Apply { sort: id, map: &[] };
             let same = sheet.add_question(same).unwrap();
             let twice = QuestionRecord::Compatible(id, id);
-            asked.push((sort, term, same, sheet.add_question(twice).unwrap()));
+            let twice = sheet.add_question(twice).unwrap();
+            let given = &[(own, id)];
+            let given = QuestionRecord::Continue { pattern: var, target: id, result: var, given, names: &[own] };
+            asked.push((sort, term, same, twice, sheet.add_question(given).unwrap()));
         }
         let judged = judge(&sheet.finish()).unwrap();
-        for (sort, term, same, twice) in asked {
+        for (sort, term, same, twice, given) in asked {
             assert_eq!(judged.inferred(term).unwrap().as_deref(), Ok(sort));
-            let answer = judged.answer(same).unwrap().sort().unwrap();
-            assert_eq!(answer.as_deref(), Ok(sort));
+            let answer = |question| judged.answer(question).unwrap().sort().unwrap().as_deref();
+            assert_eq!(answer(same), Ok(sort));
             assert_eq!(judged.answer(twice).unwrap().yes_or_no(), Some(true));
+            assert_eq!(answer(given), if outside(sort) { Err(&Cause::Barred) } else { Ok(sort) });
         }
         let distinct: HashSet<&Sort> = judged.store().iter().map(Arc::as_ref).collect();
         assert_eq!(distinct.len(), judged.store().len());
@@ -145,12 +157,17 @@ fn deep_sorts() {
     let compatible = sheet.add_question(question).unwrap();
     let question = QuestionRecord::Match { pattern: deep, target: deep, result: deep, names: &[n(2)] };
     let matched = sheet.add_question(question).unwrap();
+    let given = &[(n(2), deep)];
+    let question = QuestionRecord::Continue { pattern: deep, target: deep, result: deep, given, names: &[n(2)] };
+    let continued = sheet.add_question(question).unwrap();
     let term = sheet.add_term(TermRecord::Var(n(1), deep)).unwrap();
     let judged = judge(&sheet.finish()).unwrap();
     assert_eq!(judged.checked(term).unwrap().as_deref(), Ok(&sort));
     assert_eq!(judged.answer(compatible).unwrap().yes_or_no(), Some(true));
-    let answer = judged.answer(matched).unwrap().sort().unwrap();
-    assert_eq!(answer.as_deref(), Ok(&sort));
+    for question in [matched, continued] {
+        let answer = judged.answer(question).unwrap().sort().unwrap();
+        assert_eq!(answer.as_deref(), Ok(&sort));
+    }
     let answer = judged.answer(applied).unwrap().sort().unwrap().clone().unwrap();
     drop(judged);
     assert_eq!(answer.tree_size(), 4_095);

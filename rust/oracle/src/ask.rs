@@ -203,8 +203,10 @@ fn answer(record: &Record, sorts: &[Rc<Sort>], pool: &mut Pool, sizes: &mut Size
     let mut map = RapidHashMap::new();
     let sort = match record.kind {
         0 => return Answer::Compatible(list[0].is_compatible(&list[1])),
-        1 => {
-            if !premise(&list[0], &list[1], &names) {
+        1 | 3 => {
+            // The Rust's match goes on from any map; question 1 begins with an empty one.
+            map.extend(record.pairs.iter().map(|&(given, sort)| (name(given), sorts[usize::from(sort)].clone())));
+            if !plain(&list[0]) || !map.values().chain([&list[1]]).all(|sort| premise(sort, &names)) {
                 return Answer::Row(Row::Refused(28));
             }
             if !list[0].match_with(&names, &list[1], &mut map) {
@@ -221,11 +223,14 @@ fn answer(record: &Record, sorts: &[Rc<Sort>], pool: &mut Pool, sizes: &mut Size
     Answer::Row(limited(sizes, sort))
 }
 
-/// The premise of matching: no Par and no ParamBitVec in pattern and target, and no listed name in the target.
-fn premise(pattern: &Sort, target: &Sort, names: &[String]) -> bool {
-    let plain = |sort: &Sort| !matches!(sort, Sort::Par(..) | Sort::ParamBitVec);
-    let unlisted = |sort: &Sort| !matches!(sort, Sort::Var(name) if names.contains(name));
-    every(pattern, &plain) && every(target, &|sort| plain(sort) && unlisted(sort))
+/// The premise of matching for a pattern: no Par and no ParamBitVec.
+fn plain(sort: &Sort) -> bool {
+    every(sort, &|part| !matches!(part, Sort::Par(..) | Sort::ParamBitVec))
+}
+
+/// The premise of matching for the target and for each given sort: beside that, no listed name.
+fn premise(sort: &Sort, names: &[String]) -> bool {
+    plain(sort) && every(sort, &|part| !matches!(part, Sort::Var(name) if names.contains(name)))
 }
 
 /// Whether something holds of a sort and of all sorts inside it.

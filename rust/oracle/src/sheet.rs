@@ -41,7 +41,7 @@ const SORT_MAPS: [u8; 16] = [17, 19, 3, 1, 1, 1, 1, 1, 17, 5, 1, 19, 81, 1, 17, 
 const TERM_MAPS: [u8; 13] = [5, 1, 1, 1, 5, 11, 17, 21, 53, 81, 17, 85, 29];
 
 /// Bit maps of the questions, by kind.
-const QUESTION_MAPS: [u8; 3] = [17, 81, 81];
+const QUESTION_MAPS: [u8; 4] = [17, 81, 81, 113];
 
 /// The bit of a written tree size, which sort records alone may have.
 const SIZE: u8 = 128;
@@ -158,10 +158,12 @@ fn term_stands(record: &Record, own: usize, sorts: usize) -> bool {
 fn question_stands(record: &Record, sorts: usize) -> bool {
     let lengths = match record.kind {
         0 => record.list.len() == 2,
-        1 => record.list.len() == 3,
+        1 | 3 => record.list.len() == 3,
         _ => record.list.len() == record.second.len() + 1,
     };
-    lengths && distinct(&record.second) && under(&record.list, sorts)
+    let (given, numbers): (Vec<u16>, Vec<u16>) = record.pairs.iter().copied().unzip();
+    let names = distinct(&record.second) && distinct(&given) && given.iter().all(|name| record.second.contains(name));
+    lengths && names && under(&record.list, sorts) && under(&numbers, sorts)
 }
 
 /// Reads a sheet; nothing if it is not well-formed. The tree sizes of its sorts, and what is written of them, are not judged here.

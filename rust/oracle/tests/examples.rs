@@ -2,8 +2,9 @@
 
 use oracle::ask::over_unsorted;
 use oracle::ast::lists::{BINDERS, INDEXED, OPERATORS, QUALIFIED};
-use oracle::ast::{Binder, Operator, ParamOperator, QualifiedOperator};
+use oracle::ast::{Binder, Operator, ParamOperator, Pool, QualifiedOperator, Sort};
 use oracle::text;
+use rapidhash::{HashMapExt, RapidHashMap};
 
 /// Little-endian bytes of shorts.
 fn shorts(numbers: &[u16]) -> Vec<u8> {
@@ -146,6 +147,27 @@ fn k10_to_k12() {
     let lines = lines(&sorts, &terms, &[question]);
     assert_eq!(lines[2], "T2 (Set (Tuple Real))");
     assert_eq!(lines[5..], ["T5 !22", "Q0 (par (n2) (-> Int 'n2))"]);
+}
+
+/// What carcara's match says from a map that has n1 already, within the premise of question 3 and outside it.
+#[test]
+fn matching_goes_on_from_a_map() {
+    let (n1, n2) = ("n1".to_owned(), Sort::Var("n2".to_owned()));
+    let mut pool = Pool::new();
+    let mut fits = |given: Sort, target: Sort| {
+        let mut map = RapidHashMap::new();
+        map.insert(n1.clone(), pool.add_sort(given));
+        Sort::Var(n1.clone()).match_with(std::slice::from_ref(&n1), &pool.add_sort(target), &mut map)
+    };
+    assert!(fits(Sort::Int, Sort::Int) && !fits(Sort::Bool, Sort::Int));
+    assert!(fits(n2.clone(), n2.clone()) && !fits(n2, Sort::Int));
+    // Outside the premise: a width that is not known is taken for any. On a sheet that is 28.
+    assert!(fits(Sort::ParamBitVec, Sort::BitVec(8)) && !fits(Sort::BitVec(9), Sort::BitVec(8)));
+    // The given name is replaced in the result, whether the pattern has it or not.
+    let sorts = [plain(4), plain(3), variable(1), par(2, &[1, 2])];
+    let ask = |list_: [u16; 3]| [vec![113, 3], list(&list_), vec![1], shorts(&[1, 1]), list(&[1])].concat();
+    let questions = [ask([0, 0, 2]), ask([0, 0, 3]), ask([2, 0, 2]), ask([2, 1, 2]), ask([2, 2, 2])];
+    assert_eq!(lines(&sorts, &[], &questions), ["Q0 Bool", "Q1 (par (n2) Bool)", "Q2 !29", "Q3 Bool", "Q4 !28"]);
 }
 
 #[test]

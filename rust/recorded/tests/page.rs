@@ -29,7 +29,7 @@ fn every_number_has_an_example_that_shows_it() {
 
 #[test]
 fn the_recorded_files_are_whole() {
-    assert!(recorded::printed().len() > 1_723);
-    assert!(recorded::buffers().len() > 250);
+    assert!(recorded::printed().len() > 1_830);
+    assert!(recorded::buffers().len() > 244);
     assert_eq!(recorded::paged().len(), 104);
 }

@@ -67,6 +67,11 @@ impl Record {
         let record = self.count(numbers.len());
         numbers.fold(record, Record::short)
     }
+
+    /// Adds a list of distinct names.
+    fn names(self, names: impl ExactSizeIterator<Item = Name> + Clone) -> Self {
+        self.list(names.clone().map(|name| name.number())).fault(repeated(names))
+    }
 }
 
 impl SheetWriter {
@@ -85,6 +90,13 @@ impl SheetWriter {
     /// Adds a list of sorts to a record.
     fn sort_list(&self, record: Record, ids: &[SortId]) -> Record {
         record.list(ids.iter().map(|id| id.number())).fault(self.no_sort(ids.iter().copied()))
+    }
+
+    /// Adds pairs of a name and a sort to a record.
+    fn pair_list(&self, record: Record, pairs: &[(Name, SortId)]) -> Record {
+        let record = record.count(pairs.len());
+        let record = pairs.iter().fold(record, |record, (name, sort)| record.short(name.number()).short(sort.number()));
+        record.fault(self.no_sort(pairs.iter().map(|(_, sort)| *sort)))
     }
 
     /// Adds a list of terms to a record.
@@ -124,10 +136,7 @@ impl SheetWriter {
             SortRecord::Datatype(name, ids) => named(11, name, ids),
             SortRecord::Par(names, part) => {
                 let none = names.is_empty().then_some(WriteError::NoParameter);
-                self.sort_list(Record::new(81, 12), &[part])
-                    .list(names.iter().map(|name| name.number()))
-                    .fault(none)
-                    .fault(repeated(names.iter().copied()))
+                self.sort_list(Record::new(81, 12), &[part]).names(names.iter().copied()).fault(none)
             }
             SortRecord::Type => plain(13),
             SortRecord::Set(part) => parts(14, &[part]),
@@ -150,11 +159,7 @@ impl SheetWriter {
             TermRecord::Op(op, args) => self.term_list(Record::new(21, 7).long(u32::from(op.number())), args),
             TermRecord::Binder(binder, bindings, body) => {
                 let record = Record::new(53, 8).long(u32::from(binder.number()));
-                let record = self.term_list(record, &[body]).count(bindings.len());
-                bindings
-                    .iter()
-                    .fold(record, |record, (name, sort)| record.short(name.number()).short(sort.number()))
-                    .fault(self.no_sort(bindings.iter().map(|(_, sort)| *sort)))
+                self.pair_list(self.term_list(record, &[body]), bindings)
             }
             TermRecord::Let(values, inner) => {
                 let list: Vec<TermId> = values.iter().map(|(_, id)| *id).chain([inner]).collect();
@@ -177,16 +182,20 @@ impl SheetWriter {
     pub(super) fn question_record(&self, question: QuestionRecord<'_>) -> Record {
         match question {
             QuestionRecord::Compatible(one, two) => self.sort_list(Record::new(17, 0), &[one, two]),
-            QuestionRecord::Match { pattern, target, result, names } => self
-                .sort_list(Record::new(81, 1), &[pattern, target, result])
-                .list(names.iter().map(|name| name.number()))
-                .fault(repeated(names.iter().copied())),
+            QuestionRecord::Match { pattern, target, result, names } => {
+                self.sort_list(Record::new(81, 1), &[pattern, target, result]).names(names.iter().copied())
+            }
             QuestionRecord::Apply { sort, map } => {
                 let images = map.iter().map(|(_, image)| *image);
                 let list: Vec<SortId> = [sort].into_iter().chain(images).collect();
-                self.sort_list(Record::new(81, 2), &list)
-                    .list(map.iter().map(|(name, _)| name.number()))
-                    .fault(repeated(map.iter().map(|(name, _)| *name)))
+                self.sort_list(Record::new(81, 2), &list).names(map.iter().map(|(name, _)| *name))
+            }
+            QuestionRecord::Continue { pattern, target, result, given, names } => {
+                let record = self.sort_list(Record::new(113, 3), &[pattern, target, result]);
+                self.pair_list(record, given)
+                    .names(names.iter().copied())
+                    .fault(no_parameter(given, names))
+                    .fault(repeated(given.iter().map(|(name, _)| *name)))
             }
         }
     }
@@ -197,7 +206,13 @@ fn too_wide(width: u32) -> Option<WriteError> {
     (width > GREATEST_WIDTH).then_some(WriteError::Width(width))
 }
 
-/// The fault of names of which one stands twice. Names past the longest list are a fault already.
+/// The fault of given names of which one is no parameter. Names past the longest list are a fault already.
+fn no_parameter(given: &[(Name, SortId)], names: &[Name]) -> Option<WriteError> {
+    let (name, _) = given.iter().take(LONGEST_LIST).find(|(name, _)| !names.contains(name))?;
+    Some(WriteError::NoSuchParameter(*name))
+}
+
+/// The fault of names of which one stands twice; those past the longest list as above.
 fn repeated(names: impl Iterator<Item = Name> + Clone) -> Option<WriteError> {
     let names = names.take(LONGEST_LIST);
     let twice = |(at, name): &(usize, Name)| names.clone().take(*at).any(|other| other == *name);

@@ -40,8 +40,10 @@ pub enum WriteError {
     Width(u32),
     /// A Par has no parameter.
     NoParameter,
-    /// A name stands twice in the parameters of a Par or in the names of a question.
+    /// A name stands twice in the parameters of a Par, in the names of a question or in what a question gives.
     RepeatedName(Name),
+    /// A question gives a sort for this name, which is none of those that may be assigned.
+    NoSuchParameter(Name),
     /// The sort is not of this sheet: another writer gave the id.
     ForeignSort(SortId),
     /// The term is not of this sheet: another writer gave the id.
@@ -57,9 +59,8 @@ impl WriteError {
         match self {
             WriteError::TooLong => Some(Refusal::Length),
             WriteError::TooManySorts | WriteError::TooManyTerms | WriteError::TooManyQuestions => Some(Refusal::Header),
-            WriteError::LongList(_) | WriteError::Width(_) | WriteError::NoParameter | WriteError::RepeatedName(_) => {
-                Some(Refusal::Value)
-            }
+            WriteError::LongList(_) | WriteError::Width(_) | WriteError::NoParameter => Some(Refusal::Value),
+            WriteError::RepeatedName(_) | WriteError::NoSuchParameter(_) => Some(Refusal::Value),
             WriteError::ForeignSort(_) | WriteError::ForeignTerm(_) | WriteError::TooManyNames => None,
         }
     }
@@ -78,6 +79,7 @@ impl fmt::Display for WriteError {
             WriteError::Width(width) => write!(f, "width {width}, over {GREATEST_WIDTH}"),
             WriteError::NoParameter => write!(f, "a Par without a parameter"),
             WriteError::RepeatedName(name) => write!(f, "the name {name} stands twice"),
+            WriteError::NoSuchParameter(name) => write!(f, "a sort is given for {name}, which is no parameter"),
             WriteError::ForeignSort(sort) => write!(f, "sort {} is of another sheet", sort.number()),
             WriteError::ForeignTerm(term) => write!(f, "term {} is of another sheet", term.number()),
             WriteError::TooManyNames => write!(f, "all 65,535 names are given out"),

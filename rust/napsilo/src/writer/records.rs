@@ -116,4 +116,18 @@ pub enum QuestionRecord<'a> {
         /// The names that are replaced, each once, with their images.
         map: &'a [(Name, SortId)],
     },
+    /// What does a sort become by the assignment that keeps what is given for some names and turns a pattern into a target? It is
+    /// `Sort::match_with` from a map that has these already. The given names are replaced in the result also where the pattern lacks them.
+    Continue {
+        /// The pattern.
+        pattern: SortId,
+        /// The target.
+        target: SortId,
+        /// The sort that is asked for, before the assignment.
+        result: SortId,
+        /// Some of the names, each once, with the sorts that they stand for.
+        given: &'a [(Name, SortId)],
+        /// The names that may be assigned, each once.
+        names: &'a [Name],
+    },
 }
