@@ -1,6 +1,6 @@
 -- What an answer leaves: question 0 adds nothing and answers 1 or 0; the others are outcomes of their verdicts, with 22 and 23
 -- exactly where document 01 says. Over all questions the store only grows.
-use Rattle.std.specs.Prelude.{ℕ, ◌*◌, ◌≤◌, ◌<◌, ◌≡◌, refl, Bool, true, false, cond, ◌&&◌, List, [], ◌∷◌, ◌↔◌, length, get_or, eqb}
+use Rattle.std.specs.Prelude.{ℕ, ◌*◌, ◌≤◌, ◌<◌, ◌≡◌, refl, Bool, true, false, cond, List, [], ◌∷◌, ◌↔◌, length, get_or, eqb}
 use Rattle.std.proofs.Common.{sym, ap, subst, ◌∙◌, arith, not-suc-le-zero, length-append, eqb-true}
 use Rattle.std.proofs.Math.Option.{Option, none, some}
 use Rattle.std.proofs.Math.ListN.{get_or-append}
@@ -10,7 +10,6 @@ use Rattle.record.specs.Sort.{Sort, end}
 use Rattle.record.specs.Cases.{by_test, below_other}
 use Rattle.sheet.specs.Sheet.{Lengths, Binding, QuestionFields}
 use Rattle.substitution.specs.Substitution.{Map}
-use Rattle.substitution.specs.Matching.{matches, listed_in, premise}
 use Rattle.substitution.specs.Compatible.{compatible}
 use Rattle.row_rules.specs.declared.Cause.TheVariants.{Limit, Full, Barred}
 use Rattle.row_rules.specs.Verdict.{sort, need, number_of}
@@ -18,7 +17,7 @@ use Rattle.row_rules.specs.Outcome.{CodedStore, outcome}
 use Rattle.row_rules.specs.Meaning.{Means, limited}
 use Rattle.row_rules.specs.Outcomes.{no_limit, Accepted, Passes, Overflows, Grown}
 use Rattle.row_rules.proofs.OutcomeLaws.{any-accepted, outcome-refused, plain-limit, plain-full, grown-self, grown-trans, outcome-grown, outcome-means, means-stays}
-use Rattle.judge_rules.specs.Questions.{first_sort, rest_sorts, yes_no, pattern_of, target_of, result_of, given_map, given_premise, assigned, match_answer, match_verdict, apply_answer, answer_verdict, answer_of, answers_of}
+use Rattle.judge_rules.specs.Questions.{first_sort, rest_sorts, yes_no, pattern_of, target_of, result_of, assigned, match_answer, match_verdict, apply_answer, answer_verdict, answer_of, answers_of}
 
 -- QUESTION 0 ADDS NOTHING AND ANSWERS 1 OR 0, as the two sorts are compatible or not.
 pub answer-compatible : (l : Lengths) (q : QuestionFields) (st : List Sort) → eqb q.kind 0 ≡ true
@@ -40,7 +39,7 @@ assigned-plain false r o = refl
 
 match-plain : (ns : List ℕ) (gs : List Binding) (p t r : Sort) → no_limit (match_answer ns gs p t r) ≡ true
 unfolding match_answer
-match-plain ns gs p t r = assigned-plain (premise ns p t && given_premise ns gs) r (matches (listed_in ns) p t (given_map gs))
+match-plain ns gs p t r = assigned-plain _ r _
 
 pub answer-plain : (q : QuestionFields) → no_limit (answer_verdict q) ≡ true
 unfolding answer_verdict match_verdict apply_answer no_limit
