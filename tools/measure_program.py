@@ -286,12 +286,12 @@ def given_matches():
 
 
 def given_full():
-    """1,024 questions whose answer, a chain over what is given, has no room in the store; such a sort is given too."""
+    """1,024 questions whose answer, a chain over what is given, has no room in the store; four such sorts are given too."""
     sorts = [LEAF(4), VAR(1)]
-    root, = greatest(sorts, 1)
+    roots = greatest(sorts, 4)
     top = over(sorts, 1, 2048 - len(sorts))
     terms = [BITS(1000 + i) for i in range(200)]
-    return sheet(sorts, terms, [CONTINUE(0, 0, top, [(1, 0), (2, root)], [1, 2])] * 1024)
+    return sheet(sorts, terms, [CONTINUE(0, 0, top, [(1, 0), *enumerate(roots, 2)], range(1, 6))] * 1024)
 
 
 def names():

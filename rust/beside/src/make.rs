@@ -304,8 +304,11 @@ pub fn damaged(random: &mut Random, sheet: &[u8]) -> Vec<u8> {
     copy
 }
 
+/// Sorts for names.
+pub type Images = HashMap<Name, Arc<Sort>>;
+
 /// A sort with names replaced; a Par binds its own.
-pub fn replaced(sort: &Arc<Sort>, map: &HashMap<Name, Arc<Sort>>) -> Arc<Sort> {
+pub fn replaced(sort: &Arc<Sort>, map: &Images) -> Arc<Sort> {
     let all = |list: &[Arc<Sort>]| -> Vec<Arc<Sort>> { list.iter().map(|part| replaced(part, map)).collect() };
     Arc::new(match sort.as_ref() {
         Sort::Var(name) => return map.get(name).unwrap_or(sort).clone(),
@@ -713,7 +716,7 @@ impl Maker<'_> {
             _ => (vec![], head_sort.clone()),
         };
         let images = names.into_iter().map(|name| (name, self.any_sort()));
-        let images: HashMap<Name, Arc<Sort>> = images.collect();
+        let images: Images = images.collect();
         let Sort::Function(list) = function.as_ref() else {
             return;
         };
@@ -811,13 +814,7 @@ impl Maker<'_> {
                 let _ = self.sheet.add_question(QuestionRecord::Compatible(pair.0, pair.1));
             }
             1 => {
-                let names = self.names(3);
-                let mut map = self.map();
-                map.retain(|name, _| names.contains(name));
-                let target = match self.random.percent(75) {
-                    true => self.add_sort(&replaced(&one_sort, &map)).unwrap_or(other),
-                    false => other,
-                };
+                let (names, _, target) = self.matchable(&one_sort, other, 3, 75);
                 let result = self.random.of(&self.sorts).0;
                 let question = QuestionRecord::Match { pattern: one, target, result, names: &names };
                 let _ = self.sheet.add_question(question);
@@ -838,13 +835,7 @@ impl Maker<'_> {
     fn continued(&mut self) {
         let (pattern, sort) = self.random.of(&self.sorts).clone();
         let other = self.random.of(&self.sorts).0;
-        let names = self.names(4);
-        let mut map = self.map();
-        map.retain(|name, _| names.contains(name));
-        let target = match self.random.percent(80) {
-            true => self.add_sort(&replaced(&sort, &map)).unwrap_or(other),
-            false => other,
-        };
+        let (names, map, target) = self.matchable(&sort, other, 4, 80);
         let mut given = Vec::new();
         for name in &names {
             if self.random.percent(50) {
@@ -863,8 +854,27 @@ impl Maker<'_> {
         let _ = self.sheet.add_question(question);
     }
 
+    /// Distinct names, of so many at most, images for some of them, and a target for a pattern: what it becomes by these, as often as is asked, else
+    /// the other sort.
+    fn matchable(
+        &mut self,
+        pattern: &Arc<Sort>,
+        other: SortId,
+        most: usize,
+        fits: usize,
+    ) -> (Vec<Name>, Images, SortId) {
+        let names = self.names(most);
+        let mut map = self.map();
+        map.retain(|name, _| names.contains(name));
+        let target = match self.random.percent(fits) {
+            true => self.add_sort(&replaced(pattern, &map)).unwrap_or(other),
+            false => other,
+        };
+        (names, map, target)
+    }
+
     /// Images for all names but the highest, mostly without variables.
-    fn map(&mut self) -> HashMap<Name, Arc<Sort>> {
+    fn map(&mut self) -> Images {
         let mut map = HashMap::new();
         for number in 0..5 {
             let depth = self.random.under(2);
