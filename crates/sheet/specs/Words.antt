@@ -37,11 +37,10 @@ SameTables v w =
     (w.table.ghost_name ≡ v.table.ghost_name) × (w.terms.ghost_name ≡ v.terms.ghost_name) × (w.questions.ghost_name ≡ v.questions.ghost_name)
     × (w.scratch.ghost_name ≡ v.scratch.ghost_name)
 
--- All records of the sheet z are to be read; they were, or one was refused.
-abbrev pub RecordsAsked : List ℕ → Store → SheetTables → Header → Type 0
-RecordsAsked z s w h =
-    ReadRecordsAsks z s.records.now s.places.now s.index.now s.count s.used w.table.now w.terms.now w.questions.now w.scratch.now h
+-- All records of the sheet z are to be read, the places of its terms and questions into xs and ys; they were, or one was refused.
+abbrev pub RecordsAsked : List ℕ → Store → List ℕ → List ℕ → List ℕ → List ℕ → Header → Type 0
+RecordsAsked z s tbl xs ys rec h = ReadRecordsAsks z s.records.now s.places.now s.index.now s.count s.used tbl xs ys rec h
 
-abbrev pub AllRecordsRead : List ℕ → Store → Header → Store → SheetTables → Result SheetCounts Refusal → Type 0
-AllRecordsRead z s h t w q =
-    ReadRecordsIs z s.records.now s.places.now h t.records.now t.places.now t.index.now w.table.now w.terms.now w.questions.now q
+abbrev pub AllRecordsRead : List ℕ → Store → Header → Store → List ℕ → List ℕ → List ℕ → Result SheetCounts Refusal → Type 0
+AllRecordsRead z s h t tbl' xs' ys' q =
+    ReadRecordsIs z s.records.now s.places.now h t.records.now t.places.now t.index.now tbl' xs' ys' q
