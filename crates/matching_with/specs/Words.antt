@@ -10,6 +10,7 @@ use Rattle.record.specs.declared.numbers.Numbers.{Numbers}
 use Rattle.store.specs.declared.entries.Sorts.{Sorts}
 use Rattle.matching_tables.specs.Contract.{TestAsks}
 use Rattle.matching_tables.specs.Matched.{found}
+use Rattle.matching_tables.specs.Names.{SameMap}
 use Rattle.matching_tables.specs.Notes.{Pairs}
 use Rattle.matching_tables.specs.Usable.{ListsAsk}
 use Rattle.matching_tables.specs.declared.names.Names.{Names}
@@ -20,6 +21,7 @@ use Rattle.matching_with.specs.Met.{WithBefore, WithAfter, CompatibleAt}
 use Rattle.matching_with.specs.Way.{CloseAsks, CloseIs, MoveIs, WalkIs}
 use Rattle.matching_with.specs.declared.Turn.{Turn}
 use Rattle.matching_with.specs.declared.Move.{Move}
+use Rattle.matching_with.specs.declared.Move.TheVariants.{Ends, Under, Past, Parts}
 use Rattle.matching_with.specs.declared.Walked.{Walked}
 use Rattle.matching_with.specs.declared.compatible.Compared.{Compared}
 
@@ -43,6 +45,13 @@ TurnTaken s x k j z = TurnIs s.records.now s.places.now s.count x.params.now k j
 abbrev pub MoveTaken : Sorts → Names → ℕ → ℕ → Names → Met → Move → Type 0
 MoveTaken s x k j y l z =
     MoveIs s.records.now s.places.now s.count x.params.now x.images.now x.bound.now x.many k j y.params.now y.images.now y.bound.now y.many l.slots z
+
+-- A turn that goes on binds no name: the map, with the count of bound names, is as it was.
+abbrev pub MoveKeeps : Names → Names → Move → Type 0
+MoveKeeps x y (Ends q) = Unit {0}
+MoveKeeps x y (Under i) = SameMap x y
+MoveKeeps x y (Past i) = SameMap x y
+MoveKeeps x y (Parts u w) = SameMap x y
 
 ---------------------------------------------------------------- two sorts
 abbrev pub WithAsked : Sorts → Names → ℕ → ℕ → Type 0

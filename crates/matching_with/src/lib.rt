@@ -3,7 +3,7 @@
 #![tactic(auto)]
 
 ghost use Rattle.matching_tables.specs.Names.{SameNames, SameParams, SameMap};
-ghost use Rattle.matching_with.specs.Words.{MeetWithAsked, MeetWithAnswered, TurnAsked, TurnTaken, NodeAsked, MoveTaken, CloseAsked, Closed, WithAsked, WithAnswered, WithRight, WithKept, WalkTaken, ListsAsked, ListsAnswered};
+ghost use Rattle.matching_with.specs.Words.{MeetWithAsked, MeetWithAnswered, TurnAsked, TurnTaken, NodeAsked, MoveTaken, MoveKeeps, CloseAsked, Closed, WithAsked, WithAnswered, WithRight, WithKept, WalkTaken, ListsAsked, ListsAnswered};
 
 use compatible::param_eq;
 use matching_tables::heads::same_head;
@@ -119,7 +119,8 @@ pub fn node_turn(sorts: &Sorts<'_>, names: &Names<'_>, a: SortRecord, p: usize, 
 }
 
 // One turn on the pattern `p` and the target `t`, past the pairs noted in `met`: what is found if it ends here, else what
-// is matched next. Under a Par of the pattern, whose names it lists, other names are parameters, so nothing is noted there.
+// is matched next, and then no name is bound. Under a Par of the pattern, whose names it lists, other names are parameters, so
+// nothing is noted there.
 pub fn take_turn(
     sorts: &Sorts<'_>,
     names: &mut Names<'_>,
@@ -128,6 +129,7 @@ pub fn take_turn(
     t: usize,
 ) -> Move
     requires { WithAsked sorts.now names.old p t × WithRight sorts.now names.old met.old }
+    ensures kept { MoveKeeps names.old names.new result }
     ensures done { MoveTaken sorts.now names.old p t names.new met.new result }
     ensures same { SameNames names.old names.new }
 {
