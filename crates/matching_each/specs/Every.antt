@@ -1,5 +1,7 @@
 -- Every node of a sort passes a test: what that is on trees, the five tests, and what the walk asks and promises. Definitions only.
-use Rattle.std.specs.Prelude.{ℕ, ◌+◌, ◌*◌, ◌≤◌, ◌<◌, ◌≡◌, Bool, true, false, not, ◌&&◌, ◌||◌, List, length, get_or, eqb}
+use Rattle.std.specs.Prelude.{ℕ, ◌+◌, ◌*◌, ◌≤◌, ◌<◌, ◌≡◌, Bool, true, false, cond, not, ◌&&◌, ◌||◌, List, length, get_or, eqb}
+use Rattle.record.specs.Kinds.{sort_number}
+use Rattle.record.specs.Number.{numbers_at}
 use Rattle.record.specs.Sort.{Sort, Sorts, var, par, node, end, ◌then◌}
 use Rattle.record.specs.Decode.{sort_at}
 use Rattle.record.specs.declared.SortRecord.{SortRecord}
@@ -64,6 +66,14 @@ abbrev pub passing : Test → List ℕ → List ℕ → Sort → Bool
 passing t l d (var v) = on_var t l d v
 passing t l d (par us b) = on_par t l us
 passing t l d (node k a w ss) = on_node t k w
+
+-- THE TEST of a node by the fields of its record r, one of a store or not: a Var by its name, a Par by the names that r points to
+-- in the bytes b, any other kind by its number.
+abbrev pub on_record : Test → List ℕ → List ℕ → List ℕ → SortRecord → Bool
+on_record t l d b r =
+    cond (eqb (sort_number r.kind) 2) (on_var t l d r.name)
+    (cond (eqb (sort_number r.kind) 12) (on_par t l (numbers_at b r.names.at r.names.count))
+    (on_node t (sort_number r.kind) r.number))
 
 ---------------------------------------------------------------- one node
 -- The tables that a test looks at have all names.

@@ -5,8 +5,8 @@ use Rattle.matching_tables.specs.Entered.{entry-var}
 use Rattle.matching_each.specs.Every.{Settled, passing}
 use Rattle.matching_each.proofs.nodes.settled.Goals as goal
 
-pub returns-else-not-is_listed : goal.returns-else-not-is_listed
-returns-else-not-is_listed c p n k o e =
+pub returns-else-not-is_listed-clause-node : goal.returns-else-not-is_listed-clause-node
+returns-else-not-is_listed-clause-node c p n k o e =
     let a = c.args in
     let z = entry-var a.records.now p n k o.usable o.known a.a e (ap sort_number c.in-Var.is) in
     let h = sym c.is_listed.ensures ∙ c.if-not-is_listed.false in

@@ -14,7 +14,7 @@ pub returns-then-a-eq0 : goal.returns-then-a-eq0
 returns-then-a-eq0 c =
     let s = c.args.sorts.now in
     let one = one-in s c.requires in
-    let h = c.proper.ensures s.records.now s.places.now s.count c.args.k one c.entry-a.ensures in
+    let h = c.proper.ensures.node s.records.now s.places.now s.count c.args.k one c.entry-a.ensures in
     node-only one c.entry-a.ensures (passing Proper [] []) h c.if-a-eq0.true ∙ every-is (proper-tests [] []) (sort_at s.records.now s.places.now s.count c.args.k)
 
 pub each-requires : goal.each-requires
