@@ -86,11 +86,36 @@ unfolding unbound
 names-end {l} {all} {left} {first} {out} i e =
     sym (append-nil out) ∙ ap (λ (ns : List ℕ). out ++ unbound l ns) (sym e) ∙ i.whole
 
--- The names that are left are those that a test keeps.
-pub unbound-filter : (l vs : List ℕ) → filter (λ (v : ℕ). eqb (get_or l v 0) 0) vs ≡ unbound l vs
+-- So many names were counted, and those that are still counted among the ones left make the whole.
+pub record CountInv (l all left : List ℕ) (n : ℕ) : Type 0 where
+  pub few : n + length left ≤ 64
+  pub whole : n + length (unbound l left) ≡ length (unbound l all)
+
+pub count-start : (b : List ℕ) (x n : ℕ) (l : List ℕ) {left : List ℕ} → left ≡ numbers_at b x n → n ≤ 64 → CountInv l (numbers_at b x n) left 0
+count-start b x n l e r =
+    record {
+      few = omega (arith, ap length e, length-numbers_at b x n);
+      whole = omega (arith, ap (λ (vs : List ℕ). length (unbound l vs)) e);
+    }
+
+module _ {l all left : List ℕ} {n : ℕ} (i : CountInv l all left n) {v : ℕ} {vs : List ℕ} (e : left ≡ v ∷ vs) where
+  pub count-free : eqb (get_or l v 0) 0 ≡ true → CountInv l all vs (n + 1)
+  count-free z =
+      record {
+        few = omega (arith, i.few, ap length e);
+        whole = omega (arith, i.whole, ap length (ap (unbound l) e ∙ unbound-free l v vs z));
+      }
+
+  pub count-gone : eqb (get_or l v 0) 0 ≡ false → CountInv l all vs n
+  count-gone z =
+      record {
+        few = omega (arith, i.few, ap length e);
+        whole = omega (arith, i.whole, ap length (ap (unbound l) e ∙ unbound-gone l v vs z));
+      }
+
+pub count-end : {l all left : List ℕ} {n : ℕ} → CountInv l all left n → left ≡ [] → n ≡ length (unbound l all)
 unfolding unbound
-unbound-filter l [] = refl
-unbound-filter l (v ∷ vs) = ap (λ (r : List ℕ). cond (eqb (get_or l v 0) 0) (v ∷ r) r) (unbound-filter l vs)
+count-end {l} {all} {left} {n} i e = omega (arith, i.whole, ap (λ (vs : List ℕ). length (unbound l vs)) e)
 
 -- No more names are left than there were.
 few-by : (t : Bool) (v : ℕ) (r : List ℕ) (n : ℕ) → length r ≤ n → length (cond t (v ∷ r) r) ≤ suc n

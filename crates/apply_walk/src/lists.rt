@@ -54,5 +54,11 @@ pub fn names_kept(bytes: &[u8], span: Span, images: &[u16]) -> usize
     requires { NamesKeptAsk bytes.now span.at span.count images.now }
     ensures { result ≡ length (unbound images.now (numbers_at bytes.now span.at span.count)) }
 {
-    span.numbers(bytes).filter(|v| is_free(images, *v)).count()
+    let mut kept = 0;
+    for v in span.numbers(bytes) {
+        if is_free(images, v) {
+            kept += 1;
+        }
+    }
+    kept
 }
