@@ -1,11 +1,14 @@
 -- Laws of the numbers of a list, and of the names without an image.
 use Rattle.std.proofs.Common.{Fits, w8, ◌≡◌, ℕ, suc, ◌+◌, ◌*◌, ◌<◌, ◌≤◌, List, [], ◌∷◌, ◌++◌, length, get_or, cond, refl, sym, ap, subst, ◌∙◌, arith, append_assoc, append-nil, length-append, eqb, Bool, true, false, filter, ap₂, eqb-true, eq-eqb, ◌&&◌}
 use Rattle.std.specs.List.{list_all, zip}
+use Rattle.std.proofs.lemmas.Bool.{false≢true}
 use Rattle.std.proofs.lemmas.Grind.{same_number_lists}
 use Rattle.record.specs.Number.{u16_at, numbers_at}
 use Rattle.record.specs.Codec.{length-numbers_at, number_at}
 use Rattle.record.specs.Cases.{and_left, and_right}
 use Rattle.record.specs.Numbers.{numbers-small}
+use Rattle.std.proofs.Common.{Result, Ok, Err}
+use Rattle.std.specs.Result.{IsOk, OnOk}
 use Rattle.apply_walk.specs.Lists.{unbound}
 
 -- The numbers of a list, each at its place.
@@ -127,6 +130,10 @@ unfolding unbound
 unbound-few l [] = omega arith
 unbound-few l (v ∷ vs) = few-by (eqb (get_or l v 0) 0) v (unbound l vs) (length vs) (unbound-few l vs)
 
+-- So are no more kept than there are.
+pub names-few : {l all left out : List ℕ} → NamesInv l all left [] out → left ≡ [] → length out ≤ length all
+names-few {l} {all} i e = omega (arith, ap length (names-end i e), unbound-few l all)
+
 all-by : (t : Bool) (v : ℕ) (r vs : List ℕ) → length r ≤ length vs → (length r ≡ length vs → r ≡ vs) → length (cond t (v ∷ r) r) ≡ suc (length vs)
     → cond t (v ∷ r) r ≡ v ∷ vs
 all-by true v r vs h f e = ap (λ (ws : List ℕ). v ∷ ws) (f (omega arith))
@@ -137,3 +144,8 @@ pub unbound-all : (l vs : List ℕ) → length (unbound l vs) ≡ length vs → 
 unfolding unbound
 unbound-all l [] e = refl
 unbound-all l (v ∷ vs) e = all-by (eqb (get_or l v 0) 0) v (unbound l vs) vs (unbound-few l vs) (unbound-all l vs) e
+
+-- What holds where there is a value, where there is one.
+pub at-value : {T E P : Type 0} (r : Result T E) → IsOk r → OnOk r P → P
+at-value (Ok v) h p = p
+at-value (Err e) h p = absurd (false≢true h)

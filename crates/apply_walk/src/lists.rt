@@ -42,11 +42,15 @@ pub fn names_left(bytes: &[u8], span: Span, images: &[u16], out: &mut ArrayVec<u
     requires room { array_vec_len out.old + span.count ≤ 64 }
     ensures { out.new.items ≡ out.old.items ++ unbound images.now (numbers_at bytes.now span.at span.count) }
 {
+    let mut names = [0u16; LONGEST_LIST];
+    let mut kept = 0;
     for v in span.numbers(bytes) {
         if is_free(images, v) {
-            out.push(v as u16);
+            names[kept] = v as u16;
+            kept += 1;
         }
     }
+    let _ = out.try_extend_from_slice(&names[..kept]);
 }
 
 // How many of the names of the list `span` have no image.
