@@ -79,15 +79,17 @@ pub fn print_input<R: Read, W: Write, P: Printer>(
     }
 }
 
-// Reads a sheet and prints what it gives, as `print_input` promises. A read or a write that failed is told on standard error; nothing is
-// printed of a sheet that was not read to its end. The streams are not given back, so that no clause of its own can speak of them.
+// Reads a sheet and prints what it gives, as `print_input` promises. A read or a write that failed is told on standard error, in the words
+// of the failure that the stream kept; nothing is printed of a sheet that was not read to its end. The streams are not given back, so
+// that no clause of its own can speak of them.
 pub fn run<R: Read + Drop, W: Write + Drop, P: Printer>(
     rt: &impl Eprint,
     streams: Streams<'_>,
-    mut input: R,
+    input: R,
     output: W,
     printer: &P,
 ) {
+    let mut input = Watched::new(input);
     let mut output = Watched::new(output);
     match print_input(&mut input, &mut output, printer) {
         Ok(written) => {
@@ -95,6 +97,6 @@ pub fn run<R: Read + Drop, W: Write + Drop, P: Printer>(
                 failure::tell(rt, streams.output, output.failure());
             }
         }
-        Err(e) => failure::tell(rt, streams.input, Some(e)),
+        Err(_) => failure::tell(rt, streams.input, input.failure()),
     }
 }

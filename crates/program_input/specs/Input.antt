@@ -1,5 +1,5 @@
 -- What a call of read gave, and what is promised of the bytes that were read. Definitions only.
-use Rattle.std.specs.Prelude.{ℕ, zero, suc, ◌≤◌, ◌<◌, List, [], length, take, Option, Some, None, Result, Ok, Err}
+use Rattle.std.specs.Prelude.{ℕ, zero, suc, ◌≤◌, ◌<◌, min, List, [], length, take, Option, Some, None, Result, Ok, Err}
 use Rattle.std.specs.Io.KnownBytes.{Consumes, IsAtEnd}
 
 -- A count of bytes: none is the end of the input.
@@ -11,6 +11,11 @@ counted (suc n) = Some (suc n)
 abbrev pub told : {E : Type 0} → Result ℕ E → Result (Option ℕ) E
 told (Ok n) = Ok (counted n)
 told (Err e) = Err e
+
+-- A READ COUNTS NO MORE BYTES THAN ITS BUFFER HAS, which holds `room`, whatever count it gave.
+abbrev pub told_within : {E : Type 0} → Result ℕ E → ℕ → Result (Option ℕ) E
+told_within (Ok n) room = told (Ok (min n room))
+told_within (Err e) room = told (Err e)
 
 -- Bytes that were read lie in a slice with so much room, and there is one at least.
 abbrev pub ReadWithin : {E : Type 0} → ℕ → Result (Option ℕ) E → Type 0

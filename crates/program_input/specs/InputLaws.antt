@@ -1,5 +1,5 @@
--- What two reads into a buffer did, one after the other.
-use Rattle.std.specs.Prelude.{ℕ, ◌+◌, ◌≤◌, ◌≡◌, refl, List, ◌++◌, length, take, drop, Option}
+-- What a read into a buffer did, and what two did, one after the other.
+use Rattle.std.specs.Prelude.{ℕ, zero, suc, ◌+◌, ◌≤◌, min, ◌≡◌, refl, List, ◌++◌, length, take, Option, Result, Ok, Err}
 use Rattle.std.proofs.Common.{ap₂, arith, sym, subst, ◌∙◌, drop_at, length-take-le}
 use Rattle.std.proofs.Math.Seq.{take-add}
 use Rattle.std.proofs.lemmas.List.{take-append-le}
@@ -7,6 +7,16 @@ use Rattle.std.proofs.lemmas.Slice.{take-put_mid_below}
 use Rattle.std.specs.Io.KnownBytes.{Consumes}
 use Rattle.std.proofs.KnownBytes.{Consumes-trans}
 use borrow.Rule.Slice.PartMut.{put_mid, post_of}
+use Rattle.program_input.specs.Input.{counted, told_within, ReadWithin}
+
+-- What is told of a read lies in its buffer, whatever count the read gave.
+pub told_lies_within : {E : Type 0} (r : Result ℕ E) (room : ℕ) → ReadWithin room (told_within r room)
+told_lies_within {E} (Ok n) room = go (min n room) (omega arith)
+  where
+    go : (m : ℕ) → m ≤ room → ReadWithin {E = E} room (Ok (counted m))
+    go zero h = tt
+    go (suc m) h = (omega arith, h)
+told_lies_within (Err e) room = tt
 
 -- A further read, into the part y of the buffer behind its first n bytes.
 pub read-more : (a b c : Option (List ℕ)) (o y : List ℕ) (n k m : ℕ) → n ≤ length o → m ≤ length y → Consumes a b (take n o) → Consumes b c (take m y)

@@ -2,7 +2,7 @@
 #![tactic(auto)]
 
 ghost use Rattle.std.specs.Prelude.{◌≡◌, ◌<◌, ◌≤◌, length, IfOk};
-ghost use Rattle.program_input.specs.Input.{told, ReadWithin, ReadFrom, InputRead};
+ghost use Rattle.program_input.specs.Input.{told, told_within, ReadWithin, ReadFrom, InputRead};
 
 use std::io;
 use std::io::Read;
@@ -17,6 +17,15 @@ pub fn told(read: io::Result<usize>) -> io::Result<Option<usize>>
     }
 }
 
+// What a call of read into this buffer gave, as `told`, but never more bytes than the buffer has, whatever count the read gave: how many,
+// one at least, or none at the end of the input; or its failure.
+pub fn told_within(read: io::Result<usize>, buffer: &[u8]) -> io::Result<Option<usize>>
+    ensures told { result ≡ told_within read (length buffer.now) }
+    ensures within { ReadWithin (length buffer.now) result }
+{
+    told(Ok(read?.min(buffer.len())))
+}
+
 // Reads once into the slice, which is not empty: how many bytes that gave, one at least, or none at the end of the input; or the read's
 // failure. The bytes are the next ones of the input, and stand at the start of the slice.
 pub fn read_once<R: Read>(reader: &mut R, rest: &mut [u8]) -> io::Result<Option<usize>>
@@ -24,7 +33,8 @@ pub fn read_once<R: Read>(reader: &mut R, rest: &mut [u8]) -> io::Result<Option<
     ensures within { ReadWithin (length rest.new) result }
     ensures bytes { ReadFrom (R.remaining reader.old) (R.remaining reader.new) rest.new result }
 {
-    told(reader.read(rest))
+    let read = reader.read(rest);
+    told_within(read, rest)
 }
 
 // Reads until the buffer is full or the input is at its end: how many bytes of the input stand at the start of the buffer, all that there
