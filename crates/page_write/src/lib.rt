@@ -24,13 +24,14 @@ use written::{Lines, Printer, Written, print_refusal, write_lines};
 // The bytes of 2,048 lines.
 const OUT_ROOM: usize = 2048 * LINE;
 
-// The lines of an accepted sheet's pages from the number `next` on. Only the contracts read the sheet's bytes.
+// The lines of an accepted sheet's pages from the number `next` on. Only the contracts read the sheet's bytes. Who has the text of some of
+// them hands it over by `hand_lines`, which asks nothing of the other fields.
 #[derive(Drop)]
-struct PageLines<'a, 'w> {
-    bytes: &'a [u8],
-    page: PagedRows<'a>,
-    windows: Windows<'w>,
-    next: usize,
+pub struct PageLines<'a, 'w> {
+    pub bytes: &'a [u8],
+    pub page: PagedRows<'a>,
+    pub windows: Windows<'w>,
+    pub next: usize,
 }
 
 impl Lines for PageLines<'_, '_> {

@@ -25,12 +25,13 @@ fn line_buffer() -> [u8; LINE_ROOM] {
     [0; LINE_ROOM]
 }
 
-// The lines of an accepted sheet from the number `next` on. Only the contracts read the sheet's bytes.
+// The lines of an accepted sheet from the number `next` on. Only the contracts read the sheet's bytes. Who has the text of some of them
+// hands it over by `hand_lines`, which asks nothing of the other fields.
 #[derive(Clone, Copy)]
-struct SheetLines<'a> {
-    bytes: &'a [u8],
-    printable: Printable<'a>,
-    next: usize,
+pub struct SheetLines<'a> {
+    pub bytes: &'a [u8],
+    pub printable: Printable<'a>,
+    pub next: usize,
 }
 
 impl Lines for SheetLines<'_> {

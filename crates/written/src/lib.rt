@@ -108,9 +108,10 @@ fn hand<W: Write>(output: &mut W, done: Written, next: usize, text: &[u8]) -> Wr
     }
 }
 
-// Hands the text of these lines, from the first unwritten one up to the line `next`, to the output. Where the write took all, they are
-// written too; else it failed, and the lines written are those of before.
-fn hand_lines<W: Write, L: Lines>(
+// Hands one piece of the printout, or of the pages, to the output: the text of these lines from the first unwritten one, wherever that is,
+// up to the line `next`. Where the write took all, they are written too; else it failed, and the lines written are those of before. Only
+// the contract reads the lines.
+pub fn hand_lines<W: Write, L: Lines>(
     output: &mut W,
     lines: &L,
     done: Written,
