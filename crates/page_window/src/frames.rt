@@ -40,7 +40,7 @@ fn number_of(form: Form) -> usize
 
 // A frame, as the number that stands on the stack.
 #[derive(Clone, Copy)]
-pub(super) struct Frame {
+pub struct Frame {
     pub slot: u32,
 }
 
@@ -68,12 +68,19 @@ impl Frame {
         self.slot as usize / LEFT_UNIT % LEFTS
     }
 
+    // The number of the form whose bracket closes the sort; in any frame, also one that has the number of no form.
+    pub fn form_in(self) -> usize
+        ensures { result ≡ form_in self.slot }
+    {
+        self.slot as usize % LEFT_UNIT
+    }
+
     // The form whose bracket closes the sort.
     pub fn form(self) -> Form
         requires { form_in self.slot < 17 }
         ensures { form_number result ≡ form_in self.slot }
     {
-        SortKind::try_from(self.slot as usize % LEFT_UNIT).map_or(Form::BareAtom, Form::Of)
+        SortKind::try_from(self.form_in()).map_or(Form::BareAtom, Form::Of)
     }
 
     // The frame when its first part is done.
@@ -106,7 +113,7 @@ fn open_entry(
 }
 
 // Writes what the text of the sort `k` has before its parts; its frame.
-pub(super) fn open_sort(entries: Entries<'_>, k: usize, out: &mut TextBuffer<'_>) -> Frame
+pub fn open_sort(entries: Entries<'_>, k: usize, out: &mut TextBuffer<'_>) -> Frame
     requires { OpenAsks entries.records.now entries.places.now k out.old.bytes.now out.old.end }
     ensures same { Same out.old out.new }
     ensures open { OpenIs entries.entry.records.now entries.entry.places.now k out.old.bytes.now out.old.end out.new.bytes.now (record { frame = result.slot; end = out.new.end }) }

@@ -33,7 +33,7 @@ pub fn start(entries: Entries<'_>, k: usize, skip: usize, stack: &mut [u32], out
 
 impl Walk {
     // The walk at `depth`; where nothing of what is written is wanted, it is forgotten.
-    fn settled(depth: usize, lead: usize, end: usize) -> Walk
+    pub fn settled(depth: usize, lead: usize, end: usize) -> Walk
         ensures { Settled depth lead end result }
     {
         if end <= lead {
