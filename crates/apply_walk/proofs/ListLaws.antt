@@ -1,8 +1,9 @@
 -- Laws of the numbers of a list, and of the names without an image.
-use Rattle.std.proofs.Common.{Fits, w8, ◌≡◌, ℕ, suc, ◌+◌, ◌*◌, ◌<◌, ◌≤◌, List, [], ◌∷◌, ◌++◌, length, get_or, cond, refl, sym, ap, subst, ◌∙◌, arith, append_assoc, append-nil, length-append, eqb, Bool, true, false, filter, ap₂, eqb-true, eq-eqb, ◌&&◌}
+use Rattle.std.proofs.Common.{Fits, w8, ◌≡◌, ℕ, suc, ◌+◌, ◌*◌, ◌<◌, ◌≤◌, List, [], ◌∷◌, ◌++◌, length, take, get_or, cond, refl, sym, ap, subst, ◌∙◌, arith, append_assoc, append-nil, length-append, eqb, Bool, true, false, filter, ap₂, eqb-true, eq-eqb, ◌&&◌}
 use Rattle.std.specs.List.{list_all, zip}
 use Rattle.std.proofs.lemmas.Bool.{false≢true}
 use Rattle.std.proofs.lemmas.Grind.{same_number_lists}
+use lib.Seq.{take-length}
 use Rattle.record.specs.Number.{u16_at, numbers_at}
 use Rattle.record.specs.Codec.{length-numbers_at, number_at}
 use Rattle.record.specs.Cases.{and_left, and_right}
@@ -88,6 +89,10 @@ pub names-end : {l all left first out : List ℕ} → NamesInv l all left first 
 unfolding unbound
 names-end {l} {all} {left} {first} {out} i e =
     sym (append-nil out) ∙ ap (λ (ns : List ℕ). out ++ unbound l ns) (sym e) ∙ i.whole
+
+-- A table of all names is what is cut from it for them.
+pub table-whole : {l : List ℕ} → length l ≡ 65536 → take 65536 l ≡ l
+table-whole {l} e = sym (ap (λ (n : ℕ). take n l) e) ∙ take-length l
 
 -- So many names were counted, and those that are still counted among the ones left make the whole.
 pub record CountInv (l all left : List ℕ) (n : ℕ) : Type 0 where

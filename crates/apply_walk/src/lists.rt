@@ -5,7 +5,7 @@ ghost use Rattle.record.specs.Number.{numbers_at};
 ghost use Rattle.apply_walk.specs.Lists.{unbound, ReadAsks, NamesKeptAsk, SameAsks};
 
 use arrayvec::ArrayVec;
-use record::limits::LONGEST_LIST;
+use record::limits::{LONGEST_LIST, NAMES};
 use record::span::Span;
 
 // Writes the numbers of the list `span` into `out`, which is as long.
@@ -42,6 +42,7 @@ pub fn names_left(bytes: &[u8], span: Span, images: &[u16], out: &mut ArrayVec<u
     requires room { array_vec_len out.old + span.count ≤ 64 }
     ensures { out.new.items ≡ out.old.items ++ unbound images.now (numbers_at bytes.now span.at span.count) }
 {
+    let images = &images[..NAMES];
     let mut names = [0u16; LONGEST_LIST];
     let mut kept = 0;
     for v in span.numbers(bytes) {
@@ -58,6 +59,7 @@ pub fn names_kept(bytes: &[u8], span: Span, images: &[u16]) -> usize
     requires { NamesKeptAsk bytes.now span.at span.count images.now }
     ensures { result ≡ length (unbound images.now (numbers_at bytes.now span.at span.count)) }
 {
+    let images = &images[..NAMES];
     let mut kept = 0;
     for v in span.numbers(bytes) {
         if is_free(images, v) {

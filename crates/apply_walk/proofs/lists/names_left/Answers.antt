@@ -3,14 +3,16 @@ use Rattle.std.proofs.Common.{ℕ, List, [], ◌++◌, ◌+◌, ◌≤◌, refl,
 use Rattle.std.proofs.lemmas.List.{take_more_set}
 use lib.ListN.{length-set}
 use Rattle.arrayvec.specs.ArrayVec.{array_vec_len}
+use Rattle.record.specs.Number.{numbers_at}
 use Rattle.record.specs.Numbers.{numbers_left}
+use Rattle.apply_walk.specs.Lists.{unbound}
 use Rattle.record.specs.Codec.{length-numbers_at}
-use Rattle.apply_walk.proofs.ListLaws.{names-start, names-head, names-room, names-kept, names-gone, names-end, names-few, at-value}
+use Rattle.apply_walk.proofs.ListLaws.{names-start, names-head, names-room, names-kept, names-gone, names-end, names-few, at-value, table-whole}
 use Rattle.apply_walk.proofs.lists.names_left.Goals as goal
 
 pub loop-v-init : goal.loop-v-init
 loop-v-init c = let a = c.args in
-    (names-start a.bytes.now a.span.at a.span.count a.images.now [] c.type_inv.bytes (ap numbers_left c.into_iter-v-iterator.ensures.into_iter_gives ∙ c.numbers-v-items.ensures) (omega (arith, c.requires.asks.read.few)), omega arith, refl)
+    (names-start a.bytes.now a.span.at a.span.count _ [] c.type_inv.bytes (ap numbers_left c.into_iter-v-iterator.ensures.into_iter_gives ∙ c.numbers-v-items.ensures) (omega (arith, c.requires.asks.read.few)), omega arith, refl)
 
 pub overflow_cast-names : goal.overflow_cast-names
 overflow_cast-names c =
@@ -47,4 +49,7 @@ returns c =
     let e = c.in-None.ensures.steps.0 in
     let few : array_vec_len a.out.now + length (take c.loop-v.kept c.loop-v.names) ≤ 64 = omega (arith, names-few i.0 e, i.1, i.2, length-take c.loop-v.kept c.loop-v.names, length-numbers_at a.bytes.now a.span.at a.span.count, c.requires.room) in
     at-value c.try_extend_from_slice.result (c.try_extend_from_slice.ensures.variant.1 few) c.try_extend_from_slice.ensures.ok
-    ∙ ap (λ (vs : List ℕ). a.out.now.items ++ vs) (names-end i.0 e)
+    ∙ ap (λ (vs : List ℕ). a.out.now.items ++ vs) (names-end i.0 e ∙ ap (λ (l : List ℕ). unbound l (numbers_at a.bytes.now a.span.at a.span.count)) (table-whole c.requires.asks.table))
+
+pub slice_bounds-images-end : goal.slice_bounds-images-end
+slice_bounds-images-end c = omega (arith, c.requires.asks.table, ap length (table-whole c.requires.asks.table))
