@@ -1,5 +1,5 @@
 -- Laws of the numbers of a list, and of the names without an image.
-use Rattle.std.proofs.Common.{Fits, w8, ◌≡◌, ℕ, suc, ◌+◌, ◌*◌, ◌<◌, ◌≤◌, List, [], ◌∷◌, ◌++◌, length, take, get_or, cond, refl, sym, ap, subst, ◌∙◌, arith, append_assoc, append-nil, length-append, eqb, Bool, true, false, filter, ap₂, eqb-true, eq-eqb, ◌&&◌}
+use Rattle.std.proofs.Common.{Fits, w8, ◌≡◌, ℕ, suc, ◌+◌, ◌*◌, ◌<◌, ◌≤◌, List, [], ◌∷◌, ◌++◌, length, take, get_or, cond, refl, sym, ap, subst, ◌∙◌, arith, append_assoc, append-nil, length-append, eqb, Bool, true, false, ap₂, eqb-true, eq-eqb, ◌&&◌}
 use Rattle.std.specs.List.{list_all, zip}
 use Rattle.std.proofs.lemmas.Bool.{false≢true}
 use Rattle.std.proofs.lemmas.Grind.{same_number_lists}
@@ -135,9 +135,9 @@ unfolding unbound
 unbound-few l [] = omega arith
 unbound-few l (v ∷ vs) = few-by (eqb (get_or l v 0) 0) v (unbound l vs) (length vs) (unbound-few l vs)
 
--- So are no more kept than there are.
-pub names-few : {l all left out : List ℕ} → NamesInv l all left [] out → left ≡ [] → length out ≤ length all
-names-few {l} {all} i e = omega (arith, ap length (names-end i e), unbound-few l all)
+-- So no more stand behind the first ones than there are.
+pub names-few : {l all left first out : List ℕ} → NamesInv l all left first out → left ≡ [] → length out ≤ length first + length all
+names-few {l} {all} {left} {first} i e = omega (arith, ap length (names-end i e), length-append first (unbound l all), unbound-few l all)
 
 all-by : (t : Bool) (v : ℕ) (r vs : List ℕ) → length r ≤ length vs → (length r ≡ length vs → r ≡ vs) → length (cond t (v ∷ r) r) ≡ suc (length vs)
     → cond t (v ∷ r) r ≡ v ∷ vs
